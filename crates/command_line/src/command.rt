@@ -13,7 +13,7 @@ use std::alloc::Global;
 
 /// What stands at the top of the help.
 const ABOUT: &str =
-    "Counts the lines of a file, and those that are refused: not a JSON object that fits the columns";
+    "Counts the lines of a file, and those refused: no JSON object that fits the columns";
 
 /// What help says of the columns.
 const COLUMNS_HELP: &str = "The columns that each line has to fit, as NAME:TYPE,NAME:TYPE,..";
@@ -70,8 +70,10 @@ fn program_command<'a>(alloc: Global) -> Result<Command<'a>, Error>
 /// `WordsFault::Clap` where the words have a fault under the command, where they ask for help,
 /// and where memory runs out.
 pub fn settings<'a>(alloc: Global, words: &'a [&'a str]) -> Result<Settings<'a>, WordsFault>
-    ensures columns { IfOk result (λ s. value_of (codes "columns") (texts words.now) ≡ Some s.columns.now) }
-    ensures file { IfOk result (λ s. value_of (codes "file") (texts words.now) ≡ Some s.file.now) }
+    ensures columns { IfOk result (λ s.
+        value_of (codes "columns") (texts words.now) ≡ Some s.columns.now) }
+    ensures file { IfOk result (λ s.
+        value_of (codes "file") (texts words.now) ≡ Some s.file.now) }
     ensures taken { IfOk result (λ _. fault_of command (texts words.now) ≡ []) }
     ensures refused { IfErr result (IsRefusalOf (texts words.now)) }
 {

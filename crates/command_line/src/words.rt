@@ -17,7 +17,7 @@ pub struct Settings<'a> {
 /// Why there are no settings.
 #[derive(Debug, Drop)]
 pub enum WordsFault {
-    /// What `clap` answers in place of settings: a refusal, help, or want of memory, as its kind tells.
+    /// What `clap` answers in place of settings. Its kind tells a refusal, help and want of memory.
     Clap(Error),
 }
 

@@ -12,7 +12,8 @@ pub(crate) struct WriteFault;
 /// Writes a text whole, and flushes it.
 pub(crate) fn put<W: Write>(writer: &mut W, text: &[u8]) -> Result<(), WriteFault>
     ensures ok { OnOk result (Appends (W.contents writer.old) (W.contents writer.new) text.now) }
-    ensures err { OnErr result (AppendsBeginning (W.contents writer.old) (W.contents writer.new) text.now) }
+    ensures err { OnErr result
+        (AppendsBeginning (W.contents writer.old) (W.contents writer.new) text.now) }
 {
     let mut rest = text;
     while !rest.is_empty() {

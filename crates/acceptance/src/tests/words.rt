@@ -45,8 +45,8 @@ fn taken_words(rt: HostRuntime) {
     assert_taken(&rt, rt.alloc(), like_options.as_slice(), "-x", "--help");
 }
 
-const HELP: &str = "Counts the lines of a file, and those that are refused: \
-not a JSON object that fits the columns
+const HELP: &str =
+    "Counts the lines of a file, and those refused: no JSON object that fits the columns
 
 Usage: jlreport --columns <SPEC> <FILE>
 
