@@ -5,6 +5,7 @@ use super::*;
 use std::alloc::Global;
 use std::process::Abort;
 use std::test::Fail;
+use values::{Schema, Value};
 
 /// Eight bytes with four lines, one of them empty and the last without a line feed.
 const FOUR_LINES: &[u8] = b"ab\ncd\n\ne";
@@ -31,6 +32,48 @@ fn check_stops(rt: &impl Abort, alloc: Global, target: usize, stops: &[usize]) -
         start = *stop;
     }
     Ok(())
+}
+
+/// Checks that a line is read as a record of these values, which fits the schema.
+fn check_values(
+    rt: &impl Abort,
+    alloc: Global,
+    columns: &str,
+    line: &[u8],
+    expected: &[Value],
+) -> Result<(), Fail> {
+    let schema = Schema::parse(alloc, columns)?;
+    match read_record(alloc, &schema, line) {
+        Ok(record) => {
+            assert!(rt; schema.fits(&record));
+            assert_eq!(rt; record.values(), expected);
+        }
+        Err(refusal) => panic!(rt; "{refusal:?}"),
+    }
+    Ok(())
+}
+
+/// Checks that a line is refused for this fault.
+fn check_fault(
+    rt: &impl Abort,
+    alloc: Global,
+    columns: &str,
+    line: &[u8],
+    fault: LineFault,
+) -> Result<(), Fail> {
+    let schema = Schema::parse(alloc, columns)?;
+    match read_record(alloc, &schema, line) {
+        Ok(record) => panic!(rt; "{record:?}"),
+        Err(refusal) => assert_eq!(rt; refusal, LineRefusal::Fault(fault)),
+    }
+    Ok(())
+}
+
+/// `{"q":1}` with white space behind it, `len` bytes in all.
+fn padded(alloc: Global, len: usize) -> Result<Vec<u8>, Fail> {
+    let mut line = b"{\"q\":1}".to_vec(alloc)?;
+    line.resize(len, b' ')?;
+    Ok(line)
 }
 
 #[test]
@@ -64,11 +107,108 @@ fn cut_of_nothing(rt: HostRuntime) -> Result<(), Fail> {
     Ok(())
 }
 
-/// With memory refused at any point, a cut answers the refusal or the whole list.
 #[test]
-fn refusal_of_a_cut(rt: HostRuntime) {
+fn records(rt: HostRuntime) -> Result<(), Fail> {
+    let alloc = rt.alloc();
+    let text = Value::Text("a\"b".to_string(alloc)?);
+    let all = [text, Value::Int(7), Value::Bool(true)];
+    let line = b"{\"v\": true, \"other\": [1, {}], \"d\": \"a\\\"b\", \"q\": 7}\r";
+    check_values(&rt, alloc, "d:text,q:int,v:bool", line, &all)?;
+    let nulls = [Value::Null, Value::Null, Value::Null];
+    check_values(&rt, alloc, "d:text,q:int,v:bool", b"{\"q\":null}", &nulls)?;
+    let least = [Value::Int(-9_223_372_036_854_775_808)];
+    check_values(&rt, alloc, "q:int", b"{\"q\":-9223372036854775808}", &least)?;
+    let greatest = [Value::Int(9_223_372_036_854_775_807)];
+    check_values(
+        &rt,
+        alloc,
+        "q:int",
+        b"{\"q\":9223372036854775807}",
+        &greatest,
+    )
+}
+
+#[test]
+fn faults(rt: HostRuntime) -> Result<(), Fail> {
+    let alloc = rt.alloc();
+    check_fault(&rt, alloc, "q:int", b"", LineFault::NoJson)?;
+    check_fault(&rt, alloc, "q:int", b"{\"q\":1", LineFault::NoJson)?;
+    check_fault(&rt, alloc, "q:int", b"[1]", LineFault::NoObject)?;
+    check_fault(&rt, alloc, "q:int", b"{\"q\":true}", LineFault::BadValue(0))?;
+    let too_great = b"{\"q\":9223372036854775808}";
+    check_fault(&rt, alloc, "q:int", too_great, LineFault::BadValue(0))?;
+    let not_utf8 = b"{\"d\":\"\xff\"}";
+    check_fault(&rt, alloc, "d:text", not_utf8, LineFault::NoJson)?;
+    check_fault(&rt, alloc, "q:int", not_utf8, LineFault::NoJson)?;
+    let two_bad = b"{\"v\":1,\"d\":2,\"q\":3}";
+    check_fault(
+        &rt,
+        alloc,
+        "q:int,d:text,v:bool",
+        two_bad,
+        LineFault::BadValue(1),
+    )
+}
+
+#[test]
+fn longest_line(rt: HostRuntime) -> Result<(), Fail> {
+    let alloc = rt.alloc();
+    let longest = padded(alloc, 1_048_576)?;
+    check_values(&rt, alloc, "q:int", longest.as_slice(), &[Value::Int(1)])?;
+    let too_long = padded(alloc, 1_048_577)?;
+    check_fault(&rt, alloc, "q:int", too_long.as_slice(), LineFault::TooLong)
+}
+
+#[test]
+fn nested_too_deep(rt: HostRuntime) -> Result<(), Fail> {
+    let alloc = rt.alloc();
+    let mut line = vec![in alloc; b'['; 200]?;
+    line.resize(400, b']')?;
+    check_fault(&rt, alloc, "q:int", line.as_slice(), LineFault::NoJson)
+}
+
+/// For the loop that refuses each allocation in turn: all pieces, or want of memory.
+#[test]
+fn refusal_of_cut(rt: HostRuntime) {
     match cut(rt.alloc(), FOUR_LINES, 1) {
         Ok(pieces) => assert_eq!(rt; pieces.len(), 4),
         Err(_) => {}
+    }
+}
+
+/// The same of a good line: its record, or want of memory.
+#[test]
+fn refusal_of_a_record(rt: HostRuntime) {
+    let Ok(schema) = Schema::parse(rt.alloc(), "d:text,q:int") else {
+        return;
+    };
+    let line = b"{\"d\":\"a text that is long enough\",\"q\":7,\"more\":[1,2,{\"a\":null}]}";
+    match read_record(rt.alloc(), &schema, line) {
+        Ok(record) => assert_eq!(rt; record.values().get(1), Some(&Value::Int(7))),
+        Err(refusal) => assert_eq!(rt; refusal, LineRefusal::Memory),
+    }
+}
+
+/// The same of lines that are refused: their fault, or want of memory.
+#[test]
+fn refusal_of_bad_lines(rt: HostRuntime) {
+    let Ok(schema) = Schema::parse(rt.alloc(), "d:text,q:int") else {
+        return;
+    };
+    let refused: [(&[u8], LineFault); 3] = [
+        (b"{\"d\":\"a text that is long enough\"", LineFault::NoJson),
+        (b"[\"a text that is long enough\"]", LineFault::NoObject),
+        (
+            b"{\"d\":\"a text that is long enough\",\"q\":\"b\"}",
+            LineFault::BadValue(1),
+        ),
+    ];
+    for (line, fault) in refused {
+        match read_record(rt.alloc(), &schema, line) {
+            Ok(record) => panic!(rt; "{record:?}"),
+            Err(refusal) => assert!(rt;
+                refusal == LineRefusal::Fault(fault) || refusal == LineRefusal::Memory
+            ),
+        }
     }
 }
