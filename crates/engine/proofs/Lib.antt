@@ -1,1 +1,2 @@
 mod Fronts
+pub mod Tallies
