@@ -1,1 +1,4 @@
+mod counting;
+mod serving;
+mod streams;
 mod words;

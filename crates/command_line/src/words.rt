@@ -19,6 +19,8 @@ pub struct Settings<'a> {
 pub enum WordsFault {
     /// What `clap` answers in place of settings. Its kind tells a refusal, help and want of memory.
     Clap(Error),
+    /// A word is not UTF-8. Only the program itself meets it, before the words are read.
+    NotUtf8,
 }
 
 impl From<Error> for WordsFault {

@@ -12,6 +12,9 @@ use values::{Schema, SchemaFault};
 /// Why the program ends without its report. Its text goes to standard error.
 #[derive(Clone, Copy, Debug, PartialEq, Eq, Error)]
 enum Ending {
+    /// A word of the command line is not UTF-8.
+    #[error("a word is not UTF-8")]
+    NotUtf8,
     /// The schema is refused.
     #[error("{0}")]
     Schema(SchemaFault),
@@ -31,7 +34,7 @@ impl Ending {
     fn status(self) -> u8 {
         match self {
             Ending::Schema(SchemaFault::OutOfMemory) | Ending::Run(RunFault::OutOfMemory) => 4,
-            Ending::Schema(_) => 2,
+            Ending::NotUtf8 | Ending::Schema(_) => 2,
             Ending::NotOpened | Ending::Run(RunFault::Reading | RunFault::WritingReport) => 3,
         }
     }
@@ -63,6 +66,7 @@ pub fn serve<R: Read + Drop, O: Write, E: Write, F: FnMut(&str) -> Option<R>>(
             Err(ending) => ended(alloc, ending, err),
         },
         Err(WordsFault::Clap(error)) => answered(alloc, &error, out, err),
+        Err(WordsFault::NotUtf8) => ended(alloc, Ending::NotUtf8, err),
     }
 }
 

@@ -1,39 +1,51 @@
 //! The program `jlreport`: hands its words, the file and the standard streams to the engine.
 #![tactic(auto)]
 
-use command_line::{WordsFault, settings};
+use command_line::{Settings, WordsFault, settings};
 use engine::serve;
-use std::alloc::AllocError;
+use std::alloc::{AllocError, Global};
 use std::env;
 use std::fs::File;
+use std::io;
 use std::process::ExitCode;
 
+/// Want of memory, in place of settings.
+fn out_of_memory(error: AllocError) -> WordsFault {
+    WordsFault::Clap(clap::Error::from(error))
+}
+
 /// The words of the command line, the program's name first.
-fn words_of(rt: &HostRuntime) -> Result<Vec<String>, AllocError> {
+fn words_of(rt: &HostRuntime) -> Result<Vec<String>, WordsFault> {
     match env::args(rt) {
-        Ok(words) => words.collect(rt.alloc()),
-        Err(_) => Err(AllocError),
+        Ok(words) => words.collect(rt.alloc()).map_err(out_of_memory),
+        Err(error) if error.kind() == io::ErrorKind::InvalidData => Err(WordsFault::NotUtf8),
+        Err(_) => Err(out_of_memory(AllocError)),
+    }
+}
+
+/// The texts of words.
+fn texts_of(alloc: Global, words: &[String]) -> Result<Vec<&str>, AllocError> {
+    words.iter().map(|word| word.as_str()).collect(alloc)
+}
+
+/// Does what is asked for, with the standard streams and the real files.
+fn serve_here(rt: &HostRuntime, asked: Result<Settings<'_>, WordsFault>) -> u8 {
+    let (mut out, mut err) = (rt.stdout(), rt.stderr());
+    let mut opener = |path: &str| File::open(rt, path).ok();
+    serve(rt.alloc(), asked, &mut opener, &mut out, &mut err)
+}
+
+/// Does what words ask for.
+fn serve_words(rt: &HostRuntime, words: &[String]) -> u8 {
+    match texts_of(rt.alloc(), words) {
+        Ok(texts) => serve_here(rt, settings(rt.alloc(), texts.as_slice())),
+        Err(error) => serve_here(rt, Err(out_of_memory(error))),
     }
 }
 
 fn main(rt: HostRuntime) -> ExitCode {
-    let alloc = rt.alloc();
-    let (mut out, mut err) = (rt.stdout(), rt.stderr());
-    let mut opener = |path: &str| File::open(&rt, path).ok();
-    let owned: Vec<String> = match words_of(&rt) {
-        Ok(words) => words,
-        Err(error) => {
-            let fault = WordsFault::Clap(clap::Error::from(error));
-            return ExitCode::from(serve(alloc, Err(fault), &mut opener, &mut out, &mut err));
-        }
-    };
-    let mut words: Vec<&str> = Vec::new(alloc);
-    for word in owned.iter() {
-        if let Err(error) = words.push(word.as_str()) {
-            let fault = WordsFault::Clap(clap::Error::from(error));
-            return ExitCode::from(serve(alloc, Err(fault), &mut opener, &mut out, &mut err));
-        }
-    }
-    let asked = settings(alloc, words.as_slice());
-    ExitCode::from(serve(alloc, asked, &mut opener, &mut out, &mut err))
+    ExitCode::from(match words_of(&rt) {
+        Ok(words) => serve_words(&rt, words.as_slice()),
+        Err(fault) => serve_here(&rt, Err(fault)),
+    })
 }

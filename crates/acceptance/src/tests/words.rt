@@ -13,6 +13,7 @@ fn refusal(alloc: Global, words: &[&str]) -> Result<(ErrorKind, String), Fail> {
             let text = error.to_string(alloc)?;
             Ok((error.kind(), text))
         }
+        Err(WordsFault::NotUtf8) => Err(Fail::from("no word was read")),
     }
 }
 
@@ -134,5 +135,6 @@ fn refusal_of_settings(rt: HostRuntime) {
     match settings(rt.alloc(), words.as_slice()) {
         Ok(given) => assert!(rt; given.columns == "q:int" && given.file == "in.jsonl"),
         Err(WordsFault::Clap(error)) => assert!(rt; error.kind() == ErrorKind::OutOfMemory),
+        Err(WordsFault::NotUtf8) => panic!(rt; "another answer"),
     }
 }

@@ -1,0 +1,27 @@
+//! The floor that a bench measures against: reads each line of a file as JSON, drops it, and prints how
+//! many lines had a reading.
+#![tactic(auto)]
+
+use lines::lines_of;
+use serde_json::Value;
+use std::alloc::Global;
+use std::{env, fs, io};
+
+/// How many lines of the bytes are JSON.
+fn readings(alloc: Global, bytes: &[u8]) -> u64 {
+    let mut count = 0u64;
+    for line in lines_of(bytes) {
+        if Value::from_slice(alloc, line).is_ok() {
+            count = count.saturating_add(1);
+        }
+    }
+    count
+}
+
+fn main(rt: HostRuntime) -> io::Result<()> {
+    for path in env::args(&rt)?.skip(1) {
+        let bytes = fs::read(&rt, path.as_str())?;
+        println!(rt; "{}", readings(rt.alloc(), bytes.as_slice()))?;
+    }
+    Ok(())
+}
