@@ -1,4 +1,4 @@
-use Rattle.std.proofs.Common.{◌≡◌, ◌+◌, ◌≤◌, length, rules, arith}
+use Rattle.std.proofs.Common.{◌≡◌, length, rules, arith}
 use Rattle.engine.proofs.Tallies.{length-lines, length-refused, faults_of}
 use Rattle.engine.proofs.counting.counts_of.Goals as goal
 
