@@ -10,7 +10,8 @@ use Rattle.std.proofs.lemmas.List.Sums.{prefix_len_passes, prefix_len-le-length}
 use Rattle.std.proofs.lemmas.Bool.Decides.{nat_tests}
 use Rattle.query_tokens.specs.Words.{continues_word, begins_word}
 use Rattle.query_tokens.specs.Spelling.{begins_with}
-use Rattle.query_tokens.specs.Steps.{Tells, behind}
+use Rattle.query_tokens.specs.Options.{Tells}
+use Rattle.query_tokens.specs.Steps.{behind}
 
 ascii_word : (b : ℕ) → continues_word b ≡ true → b < 128
 ascii_word b e = grind (arith, nat_tests)

@@ -1,6 +1,6 @@
 -- What follows from an Option that is made step by step.
 use Rattle.std.proofs.Common.{Bool, true, false, cond, ◌≡◌, ◌⊎◌, inl, inr, Option, Some, None, refl, ◌&&◌}
-use Rattle.query_tokens.specs.Steps.{◌>>=◌, choose}
+use Rattle.query_tokens.specs.Options.{◌>>=◌, choose}
 
 -- Two steps that give a value: the first gave one.
 pub bind_some : {A B : Type 0} (o : Option A) (f : A → Option B) (y : B) → (o >>= f) ≡ Some y → (x : A) × (o ≡ Some x) × (f x ≡ Some y)

@@ -4,7 +4,8 @@ use Rattle.std.proofs.lemmas.List.{append-nil, nil_from_length}
 use Rattle.std.proofs.lemmas.Bool.{eqb-true}
 use Rattle.query_tokens.specs.declared.token.Token.{Token}
 use Rattle.query_tokens.specs.Spelling.{begins_with, is_space, IsToken, SpellsFrom, Spells, StopsFrom, StopsAt}
-use Rattle.query_tokens.specs.Steps.{choose, behind, after_space, token_at}
+use Rattle.query_tokens.specs.Options.{choose}
+use Rattle.query_tokens.specs.Steps.{behind, after_space, token_at}
 use Rattle.query_tokens.proofs.Inversions.{choose_some, some_is}
 use Rattle.query_tokens.proofs.Sound.{behind_cut, token_s}
 use Rattle.query_tokens.proofs.Complete.{token_c, space_reads, nil_reads}

@@ -15,7 +15,8 @@ use Rattle.query_tokens.specs.declared.token.Sign.{Sign}
 use Rattle.query_tokens.specs.declared.token.Sign.TheVariants as s
 use Rattle.query_tokens.specs.Words.{begins_word, continues_word, is_word, reserved, doubled, quoted}
 use Rattle.query_tokens.specs.Spelling.{begins_with, is_digits, sign_text, IsLongestSign, IsToken}
-use Rattle.query_tokens.specs.Steps.{◌>>=◌, choose, behind, sign_at, order_at, sign_behind_less, sign_behind_greater, word_of, word_at, quoted_at, with_bytes, name_of, name_behind, text_behind, digits_at, number_of, number_behind, number_at, other_at, token_at}
+use Rattle.query_tokens.specs.Options.{◌>>=◌, choose}
+use Rattle.query_tokens.specs.Steps.{behind, sign_at, order_at, sign_behind_less, sign_behind_greater, word_of, word_at, quoted_at, with_bytes, name_of, name_behind, text_behind, digits_at, number_of, number_behind, number_at, other_at, token_at}
 use Rattle.query_tokens.specs.Steps
 use Rattle.query_tokens.proofs.Cut.{begins_goes}
 use Rattle.query_tokens.proofs.Doubling.{quoted_other, quoted_close, quoted_twice, quoted_nil}

@@ -9,24 +9,9 @@ use Rattle.query_tokens.specs.declared.token.Token.{Token}
 use Rattle.query_tokens.specs.declared.token.Token.TheVariants as tokens
 use Rattle.query_tokens.specs.declared.token.Sign.{Sign}
 use Rattle.query_tokens.specs.declared.token.Sign.TheVariants as s
+use Rattle.query_tokens.specs.Options.{◌>>=◌, choose}
 use Rattle.query_tokens.specs.Words.{begins_word, continues_word, reserved}
 use Rattle.query_tokens.specs.Spelling.{begins_with}
-
-infixl 10 ◌>>=◌
--- One step that may fail, and then another.
-abbrev pub ◌>>=◌ : {A B : Type 0} → Option A → (A → Option B) → Option B
-(Some x) >>= f = f x
-None >>= f = None
-
--- What is made of a value, or what stands for none.
-abbrev pub choose : {A B : Type 0} → Option A → B → (A → B) → B
-choose None b f = b
-choose (Some x) b f = f x
-
--- What a function returned, seen by view, is what is read.
-abbrev pub Tells : {X Y : Type 0} → (X → Y) → Option X → Option Y → Type 0
-Tells view (Some x) read = read ≡ Some (view x)
-Tells view None read = read ≡ None
 
 -- What stands behind this byte in front.
 abbrev pub behind : ℕ → List ℕ → Option (List ℕ)

@@ -4,7 +4,8 @@ ghost use Rattle.std.specs.Prelude.{◌≡◌, ◌<◌, length, IfSome};
 ghost use Rattle.std.specs.List.{prefix_len};
 ghost use Rattle.std.specs.Char.{is_ascii_digit};
 ghost use Rattle.std.specs.Str.Parse.{IsNumeral};
-ghost use Rattle.query_tokens.specs.Steps.{Tells, digits_at, number_of, number_behind, number_at};
+ghost use Rattle.query_tokens.specs.Options.{Tells};
+ghost use Rattle.query_tokens.specs.Steps.{digits_at, number_of, number_behind, number_at};
 
 use crate::signs::behind;
 use crate::token::Token;

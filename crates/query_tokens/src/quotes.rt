@@ -1,7 +1,8 @@
 //! Quoted names and texts.
 
 ghost use Rattle.std.specs.Prelude.{◌≡◌, ◌<◌, length, IfOk, IfSome, string_bytes};
-ghost use Rattle.query_tokens.specs.Steps.{Tells, quoted_at, name_behind, text_behind};
+ghost use Rattle.query_tokens.specs.Options.{Tells};
+ghost use Rattle.query_tokens.specs.Steps.{quoted_at, name_behind, text_behind};
 
 use crate::signs::behind;
 use crate::token::Token;

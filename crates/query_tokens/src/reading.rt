@@ -6,7 +6,8 @@ ghost use Rattle.query_tokens.specs.declared.fault.TokenFault.TheVariants.{NoTok
 ghost use Rattle.query_tokens.specs.declared.token.Token.{Token};
 ghost use Rattle.query_tokens.specs.Words.{continues_word};
 ghost use Rattle.query_tokens.specs.Spelling.{Spells, StopsAt};
-ghost use Rattle.query_tokens.specs.Steps.{Tells, word_of, word_at, other_at, token_at};
+ghost use Rattle.query_tokens.specs.Options.{Tells};
+ghost use Rattle.query_tokens.specs.Steps.{word_of, word_at, other_at, token_at};
 
 use crate::fault::TokenFault;
 use crate::numbers::number;

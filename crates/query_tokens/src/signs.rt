@@ -1,7 +1,8 @@
 //! Signs and white space.
 
 ghost use Rattle.std.specs.Prelude.{◌≡◌, ◌<◌, ◌≤◌, length, IfSome};
-ghost use Rattle.query_tokens.specs.Steps.{Tells, behind, after_space, sign_behind_less, sign_behind_greater, order_at, sign_at};
+ghost use Rattle.query_tokens.specs.Options.{Tells};
+ghost use Rattle.query_tokens.specs.Steps.{behind, after_space, sign_behind_less, sign_behind_greater, order_at, sign_at};
 
 use crate::token::Sign;
 
