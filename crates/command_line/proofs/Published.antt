@@ -1,0 +1,48 @@
+-- What clap publishes of a parse, said of the program's command.
+use Rattle.std.proofs.Common.{◌≡◌, ◌∙◌, ap, ap₂, subst, sym, refl, true, false, List, []}
+use Rattle.clap.specs.declared.builder.arg.Arg.{Arg}
+use Rattle.clap.specs.declared.builder.command.Command.{Command}
+use Rattle.clap.specs.declared.error.Error.{Error}
+use Rattle.clap.specs.declared.parser.matches.ArgMatches.{ArgMatches}
+use Rattle.clap.specs.Words.{AddsArg, App, HasKind, HasMatchesOf, Rule, Text}
+use Rattle.clap.specs.Words.{app_of, fault_of, first_of, first_value, found_of, is_simple}
+use Rattle.clap.specs.Words.{is_simple_and_free, matches_of, rows_of, rule_of, with_rule}
+use Rattle.clap.proofs.OnLiterals.{clap_on_literals}
+use Rattle.clap.proofs.WalkLemmas.{first_value-rows}
+use Rattle.command_line.specs.Command.{command, value_of}
+
+-- clap publishes the matches of the command
+command-is_simple : is_simple command ≡ true
+unfolding clap_on_literals
+command-is_simple = refl
+
+-- clap publishes the faults of the command
+command-is_simple_and_free : is_simple_and_free command ≡ true
+unfolding clap_on_literals
+command-is_simple_and_free = refl
+
+-- a command that gained an argument has one more rule
+pub app_of-added : (old new : Command) (a : Arg) (app : App) (rule : Rule)
+    → AddsArg old a new → app_of old ≡ app → rule_of a ≡ rule → a.global ≡ false
+    → app_of new ≡ with_rule app rule
+app_of-added old new a app rule adds is_app is_rule local = adds.shape local ∙ ap₂ with_rule is_app is_rule
+
+-- the value of an argument is the first that the matches have of it
+pub value_of-matches : (app : App) (words : List Text) (m : ArgMatches) (name : Text)
+    → app ≡ command → HasMatchesOf app words m → value_of name words ≡ first_value (found_of m) name
+value_of-matches app words m name is has =
+    let rows : rows_of (found_of m) ≡ matches_of command words =
+    (has (ap is_simple is ∙ command-is_simple)).0 ∙ ap (λ b. matches_of b words) is in
+    ap (first_of name) (sym rows) ∙ sym (first_value-rows (found_of m) name)
+
+-- words that give matches have no fault
+pub fault_of-taken : (app : App) (words : List Text)
+    → app ≡ command → (is_simple_and_free app ≡ true → fault_of app words ≡ []) → fault_of command words ≡ []
+fault_of-taken app words is taken =
+    ap (λ b. fault_of b words) (sym is) ∙ taken (ap is_simple_and_free is ∙ command-is_simple_and_free)
+
+-- words that give an error have a fault of its kind, or memory ran out
+pub HasKind-refused : (app : App) (words : List Text) (e : Error)
+    → app ≡ command → (is_simple_and_free app ≡ true → HasKind (fault_of app words) e) → HasKind (fault_of command words) e
+HasKind-refused app words e is refused =
+    subst (λ b. HasKind (fault_of b words) e) is (refused (ap is_simple_and_free is ∙ command-is_simple_and_free))

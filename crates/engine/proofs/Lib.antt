@@ -1,0 +1,2 @@
+mod Fronts
+pub mod Tallies

@@ -1,0 +1,122 @@
+// What the program does once its words are read.
+use crate::counting::count;
+use crate::fault::RunFault;
+use crate::writing::put;
+use clap::error::ErrorKind;
+use command_line::{Settings, WordsFault};
+use std::alloc::{AllocError, Global};
+use std::io::{Read, Write};
+use thiserror::Error;
+use values::{Schema, SchemaFault};
+
+/// Why the program ends without its report. Its text goes to standard error.
+#[derive(Clone, Copy, Debug, PartialEq, Eq, Error)]
+enum Ending {
+    /// The schema is refused.
+    #[error("{0}")]
+    Schema(SchemaFault),
+    /// The file is not there, or may not be read, or there was no memory to open it.
+    #[error("cannot open the file")]
+    NotOpened,
+    /// The run failed.
+    #[error("{0}")]
+    Run(RunFault),
+}
+
+impl Ending {
+    /// Want of memory.
+    const OUT_OF_MEMORY: Ending = Ending::Run(RunFault::OutOfMemory);
+
+    /// The status that the program ends with.
+    fn status(self) -> u8 {
+        match self {
+            Ending::Schema(SchemaFault::OutOfMemory) | Ending::Run(RunFault::OutOfMemory) => 4,
+            Ending::Schema(_) => 2,
+            Ending::NotOpened | Ending::Run(RunFault::Reading | RunFault::WritingReport) => 3,
+        }
+    }
+
+    /// `jlreport: `, what went wrong, and a line feed.
+    fn line(self, alloc: Global) -> Result<String, AllocError> {
+        format!(in alloc; "jlreport: {self}\n")
+    }
+}
+
+/// Does what the words ask for, and answers the status that the program ends with: 0 where no line
+/// is refused or help is asked for, 1 where some are, 2 where the words or the schema are refused,
+/// 3 where the file cannot be opened or read or the report cannot be written, 4 where memory runs
+/// out. The report and help go to `out`; what went wrong goes to `err`.
+///
+/// `opener` is called once at most, and only once the words and the schema are good.
+pub fn serve<R: Read + Drop, O: Write, E: Write, F: FnMut(&str) -> Option<R>>(
+    alloc: Global,
+    asked: Result<Settings<'_>, WordsFault>,
+    opener: &mut F,
+    out: &mut O,
+    err: &mut E,
+) -> u8
+    requires { F.IsAlwaysCallable opener.old }
+{
+    match asked {
+        Ok(settings) => match counted(alloc, settings, opener, out) {
+            Ok(status) => status,
+            Err(ending) => ended(alloc, ending, err),
+        },
+        Err(WordsFault::Clap(error)) => answered(alloc, &error, out, err),
+    }
+}
+
+/// Counts the lines of the file that is asked for.
+fn counted<R: Read + Drop, O: Write, F: FnMut(&str) -> Option<R>>(
+    alloc: Global,
+    settings: Settings<'_>,
+    opener: &mut F,
+    out: &mut O,
+) -> Result<u8, Ending>
+    requires { F.IsAlwaysCallable opener.old }
+{
+    let schema = Schema::parse(alloc, settings.columns).map_err(Ending::Schema)?;
+    let Some(reader) = opener(settings.file) else {
+        return Err(Ending::NotOpened);
+    };
+    let done = count(alloc, &schema, reader, out).map_err(Ending::Run)?;
+    Ok(if done.refused == 0 { 0 } else { 1 })
+}
+
+/// Says on standard error why the program ends, and answers the status.
+fn ended<E: Write>(alloc: Global, ending: Ending, err: &mut E) -> u8 {
+    match ending.line(alloc) {
+        Ok(line) => {
+            let _ = put(err, line.as_bytes());
+            ending.status()
+        }
+        Err(_) => {
+            let _ = put(err, b"jlreport: out of memory\n");
+            Ending::OUT_OF_MEMORY.status()
+        }
+    }
+}
+
+/// Says what `clap` answers in place of settings: help on standard output, a fault of the words on
+/// standard error.
+fn answered<O: Write, E: Write>(
+    alloc: Global,
+    error: &clap::Error,
+    out: &mut O,
+    err: &mut E,
+) -> u8 {
+    if error.kind() == ErrorKind::OutOfMemory {
+        return ended(alloc, Ending::OUT_OF_MEMORY, err);
+    }
+    let Ok(text) = error.to_string(alloc) else {
+        return ended(alloc, Ending::OUT_OF_MEMORY, err);
+    };
+    if error.use_stderr() {
+        let _ = put(err, text.as_bytes());
+        return 2;
+    }
+    match put(out, text.as_bytes()) {
+        Ok(()) => 0,
+        Err(_) => ended(alloc, Ending::Run(RunFault::WritingReport), err),
+    }
+}

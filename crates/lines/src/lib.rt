@@ -1,0 +1,16 @@
+//! An input of JSON lines: cut into pieces that end with lines, split into lines, and read as records.
+#![tactic(auto)]
+
+mod cutting;
+mod fault;
+mod pieces;
+mod reading;
+mod splitting;
+#[cfg(test)]
+mod tests;
+
+pub use cutting::cut;
+pub use fault::{LineFault, LineRefusal};
+pub use pieces::Piece;
+pub use reading::read_record;
+pub use splitting::{Lines, lines_of};
