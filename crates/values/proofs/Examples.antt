@@ -1,0 +1,52 @@
+-- The definitions, computed on examples.
+use Rattle.std.proofs.Common.{◌≡◌, [], ◌∷◌, Ok, Err, pos, negsuc, true, refl, codes}
+use Rattle.values.specs.declared.schema.Kind.TheVariants as kind
+use Rattle.values.specs.declared.fault.SchemaFault.TheVariants.{Empty, BadName, UnknownType, RepeatedName}
+use Rattle.values.specs.declared.truth.Truth.TheVariants.{True, Unknown, False}
+use Rattle.values.specs.declared.comparison.Op.TheVariants as op
+use Rattle.values.specs.Datum.{boolean, whole, text, null}
+use Rattle.values.specs.Comparison.{comparison}
+use Rattle.values.specs.Schema.{schema_of}
+
+two_columns : schema_of (codes "day:text,cents_2:int") ≡ Ok (record { name = codes "day"; kind = kind.Text } ∷ record { name = codes "cents_2"; kind = kind.Int } ∷ [])
+two_columns = refl
+
+empty : schema_of (codes "") ≡ Err Empty
+empty = refl
+
+begins_with_a_digit : schema_of (codes "1a:int") ≡ Err (BadName 1)
+begins_with_a_digit = refl
+
+ends_with_a_comma : schema_of (codes "a:int,") ≡ Err (BadName 2)
+ends_with_a_comma = refl
+
+without_type : schema_of (codes "a:int,b") ≡ Err (UnknownType 2)
+without_type = refl
+
+of_another_type : schema_of (codes "a:Int") ≡ Err (UnknownType 1)
+of_another_type = refl
+
+with_two_colons : schema_of (codes "a:int:") ≡ Err (UnknownType 1)
+with_two_colons = refl
+
+with_white_space : schema_of (codes "a:int, b:int") ≡ Err (BadName 2)
+with_white_space = refl
+
+twice : schema_of (codes "a:int,a:text") ≡ Err (RepeatedName 2)
+twice = refl
+
+-- the first part with a fault is named, and of its faults the first
+first_of_two : schema_of (codes "a:int,a:date,1:int") ≡ Err (UnknownType 2)
+first_of_two = refl
+
+null_equals_nothing : comparison op.Eq null null ≡ Unknown
+null_equals_nothing = refl
+
+as_numbers : comparison op.Lt (whole (negsuc 9)) (whole (pos 9)) ≡ True
+as_numbers = refl
+
+by_bytes : comparison op.Lt (text (codes "b")) (text (codes "aa")) ≡ False
+by_bytes = refl
+
+false_is_less : comparison op.Gt (boolean true) (boolean true) ≡ False
+false_is_less = refl

@@ -1,0 +1,3 @@
+mod Examples
+pub mod FitLemmas
+pub mod PartByPart

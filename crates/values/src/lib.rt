@@ -1,0 +1,24 @@
+//! Truth values, values and how they compare, types, schemas and records.
+//!
+//! A value is what a column of a line holds: a truth value, a whole number, a text, or NULL. This
+//! crate says how two values stand to each other (ISO/IEC 9075-2), what a schema text means, and
+//! which records fit a schema. The definitions that its contracts cite are in `specs/`.
+#![tactic(auto)]
+
+mod comparison;
+mod fault;
+mod part;
+mod record;
+mod schema;
+mod truth;
+mod value;
+
+pub use comparison::{Op, compare};
+pub use fault::SchemaFault;
+pub use record::Record;
+pub use schema::{Column, Kind, Schema};
+pub use truth::Truth;
+pub use value::Value;
+
+#[cfg(test)]
+mod tests;

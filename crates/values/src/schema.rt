@@ -1,0 +1,118 @@
+ghost use Rattle.std.specs.Prelude.{◌≡◌, ◌≢◌, ◌↔◌, IsTrue, IfErr, IfOk};
+ghost use Rattle.values.specs.Datum.{data_of};
+ghost use Rattle.values.specs.Schema.{fields_of};
+ghost use Rattle.values.specs.Fit.{Fits};
+
+use crate::fault::SchemaFault;
+use crate::part::next_column;
+use crate::record::Record;
+use crate::value::Value;
+use std::alloc::Global;
+use std::marker::Model;
+
+/// The type of a column.
+#[derive(Clone, Copy, Debug, PartialEq, Eq, Hash)]
+pub enum Kind {
+    /// Whole numbers from -2^63 to 2^63-1.
+    Int,
+    /// Texts.
+    Text,
+    /// Truth values.
+    Bool,
+}
+
+impl Kind {
+    ghost use Rattle.values.specs.Datum.{datum_of};
+    ghost use Rattle.values.specs.Fit.{Holds};
+
+    /// Whether a column of this type holds a value.
+    fn holds(self, value: &Value) -> bool
+        ensures holds { IsTrue result ↔ Holds self (datum_of value.now) }
+    {
+        match (self, value) {
+            (_, Value::Null) => true,
+            (Kind::Int, Value::Int(number)) => i64::try_from(*number).is_ok(),
+            (Kind::Text, Value::Text(_)) | (Kind::Bool, Value::Bool(_)) => true,
+            _ => false,
+        }
+    }
+}
+
+/// A column of a schema.
+#[derive(Debug, PartialEq, Eq, Drop)]
+pub struct Column {
+    /// One or more ASCII letters, digits and `_`, not beginning with a digit.
+    pub name: String,
+    pub kind: Kind,
+}
+
+/// The columns that a line is read under: 1 to 32, with different names.
+#[derive(Debug, Drop)]
+pub struct Schema {
+    columns: Vec<Column>,
+}
+
+impl Model for Schema {
+    ghost use Rattle.std.specs.Prelude.{List};
+    ghost use Rattle.values.specs.Schema.{Field, fields_of, IsSchema};
+
+    ghost Value = { List Field };
+
+    ghost view = { λ s. fields_of s.columns.items };
+
+    ghost invariant = { λ s. IsSchema (fields_of s.columns.items) };
+}
+
+impl Schema {
+    ghost use Rattle.values.specs.Schema.{fields_of, schema_of, IsSchema};
+    ghost use Rattle.values.specs.Fit.{Fits};
+
+    /// Reads a schema text: parts `name:type` joined by commas, without white space, the type `int`,
+    /// `text` or `bool`, as in `day:text,cents:int`. The first part with a fault is the one named,
+    /// and of its faults the first of `TooManyColumns`, `BadName`, `UnknownType`, `RepeatedName`.
+    pub fn parse(alloc: Global, text: &str) -> Result<Schema, SchemaFault>
+        ensures columns { IfOk result (λ schema. schema_of text.now ≡ Ok schema) }
+        ensures fault { IfErr result (λ fault. fault ≢ SchemaFault.OutOfMemory → schema_of text.now ≡ Err fault) }
+    {
+        if text.is_empty() {
+            return Err(SchemaFault::Empty);
+        }
+        let mut columns = Vec::new(alloc);
+        for part in text.split(',') {
+            let column = next_column(alloc, &columns, part)?;
+            columns.push(column).map_err(|_| SchemaFault::OutOfMemory)?;
+        }
+        Ok(Schema { columns })
+    }
+
+    /// The columns, in order.
+    pub fn columns(&self) -> &[Column]
+        ensures columns { fields_of result.now ≡ self.now }
+        ensures schema { IsSchema self.now }
+    {
+        self.columns.as_slice()
+    }
+
+    /// Whether a record has one value for each column, each NULL or of the column's type, with whole
+    /// numbers of 64 bits.
+    pub fn fits(&self, record: &Record) -> bool
+        ensures fits { IsTrue result ↔ Fits self.now «record».now }
+    {
+        all_hold(self.columns(), record.values())
+    }
+}
+
+/// Whether there is one value for each column, and each column holds its value.
+fn all_hold(columns: &[Column], values: &[Value]) -> bool
+    ensures fits { IsTrue result ↔ Fits (fields_of columns.now) (data_of values.now) }
+{
+    if columns.len() != values.len() {
+        return false;
+    }
+    for (column, value) in columns.iter().zip(values) {
+        if !column.kind.holds(value) {
+            return false;
+        }
+    }
+    true
+}
