@@ -1,0 +1,3 @@
+pub mod Words
+pub mod Spelling
+pub mod Steps
