@@ -1,7 +1,6 @@
 -- The canonical text of a query, with one line for each production of its grammar.
-use Rattle.std.specs.Prelude.{ℕ, ◌≤◌, Bool, true, false, Option, Some, None, List, [], ◌∷◌, ◌++◌, map, codes, nat_lt, unwrap_or, slice_get, if◌then◌else◌}
+use Rattle.std.specs.Prelude.{ℕ, Bool, true, false, Option, Some, None, List, [], ◌∷◌, ◌++◌, map, codes, nat_lt, unwrap_or, slice_get, if◌then◌else◌}
 use Rattle.std.specs.List.{flat_map}
-use Rattle.std.specs.Option.{option_map}
 use Rattle.std.specs.Fmt.{signed_decimal}
 use Rattle.values.specs.Schema.{Field, names_of}
 use Rattle.query_tokens.specs.Words.{name_text, quoted}

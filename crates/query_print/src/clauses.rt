@@ -13,7 +13,7 @@ use query_tree::{Group, Item, Key, Predicate, Tree};
 use std::alloc::{AllocError, Global};
 use values::{Column, Schema};
 
-/// The canonical text of a query. Reading it gives the same query again, where it is no longer than a query may be.
+/// The canonical text of a query.
 pub fn print_tree(alloc: Global, tree: &Tree) -> Result<String, AllocError>
     ensures { IfOk result (λ text. string_bytes text ≡ canonical_text (tree_form tree.now)) }
 {

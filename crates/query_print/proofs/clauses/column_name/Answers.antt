@@ -1,4 +1,4 @@
-use Rattle.std.proofs.Common.{◌≡◌, ◌∙◌, sym, refl}
+use Rattle.std.proofs.Common.{◌∙◌, sym, refl}
 use Rattle.std.proofs.lemmas.Option.{slice_get_read, slice_get_past}
 use Rattle.query_print.proofs.Pushes.{name_there, name_past}
 use Rattle.query_print.proofs.clauses.column_name.Goals as goal

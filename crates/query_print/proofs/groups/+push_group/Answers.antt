@@ -1,4 +1,4 @@
-use Rattle.std.proofs.Common.{◌≡◌, ◌++◌, map, append_assoc, string_bytes, refl}
+use Rattle.std.proofs.Common.{◌++◌, map, append_assoc, string_bytes}
 use Rattle.std.specs.Prelude.{codes}
 use Rattle.query_tree.specs.Syntax.{group_form, group_forms}
 use Rattle.query_print.specs.Canonical.{comma_list, group_texts, in_brackets}

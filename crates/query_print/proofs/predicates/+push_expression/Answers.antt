@@ -1,4 +1,4 @@
-use Rattle.std.proofs.Common.{◌≡◌, ◌++◌, append_assoc, string_bytes, refl}
+use Rattle.std.proofs.Common.{append_assoc, string_bytes, refl}
 use Rattle.std.specs.Prelude.{codes}
 use Rattle.query_print.proofs.Pushes.{pushed}
 use Rattle.query_print.proofs.predicates.+push_expression.Goals as goal
