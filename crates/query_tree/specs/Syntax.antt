@@ -8,10 +8,11 @@ use Rattle.query_tree.specs.declared.predicate.TruthValue.{TruthValue}
 use Rattle.query_tree.specs.declared.predicate.Literal.{Literal}
 use Rattle.query_tree.specs.declared.expression.Aggregate.{Aggregate}
 use Rattle.query_tree.specs.declared.expression.Expression.{Expression}
+use Rattle.query_tree.specs.declared.expression.Operand.{Operand}
 use Rattle.query_tree.specs.declared.expression.Predicate.{Predicate}
 use Rattle.query_tree.specs.declared.expression.Expression.TheOpen.{Expression-F, SetFunction-F, Operand-F, Predicate-F}
 use Rattle.query_tree.specs.declared.expression.Expression.TheOpen as layer
-use Rattle.query_tree.specs.declared.expression.Expression.TheFolds.{fold-Expression, fold-Predicate}
+use Rattle.query_tree.specs.declared.expression.Expression.TheFolds.{fold-Expression, fold-Operand, fold-Predicate}
 use Rattle.query_tree.specs.declared.group.Group.{Group}
 use Rattle.query_tree.specs.declared.group.Group.TheOpen.{Group-F}
 use Rattle.query_tree.specs.declared.group.Group.TheOpen as group_layer
@@ -132,6 +133,10 @@ predicate_step (layer.Column n) = column n
 -- The form of an expression.
 abbrev pub expression_form : Expression → ExpressionForm
 expression_form = fold-Expression ExpressionForm OperandForm PredicateForm FunctionForm expression_step operand_step predicate_step function_step
+
+-- The form of an operand.
+abbrev pub operand_form : Operand → OperandForm
+operand_form = fold-Operand ExpressionForm OperandForm PredicateForm FunctionForm expression_step operand_step predicate_step function_step
 
 -- The form of a predicate.
 abbrev pub predicate_form : Predicate → PredicateForm
