@@ -4,10 +4,9 @@
 use command_line::{Settings, WordsFault, settings};
 use engine::serve;
 use std::alloc::{AllocError, Global};
-use std::env;
 use std::fs::File;
-use std::io;
 use std::process::ExitCode;
+use std::{env, io};
 
 /// Want of memory, in place of settings.
 fn out_of_memory(error: AllocError) -> WordsFault {
