@@ -51,9 +51,9 @@ capped_product a b m =
     elim (cases_lt m a) [
       | inl more ↦ (let e : min a m ≡ m = omega arith in rw e (above_one a b m more))
       | inr few ↦ elim (cases_lt m b) [
-          | inl more ↦ (let e : min b m ≡ m = omega arith in let f : min a m ≡ a = omega arith in rw (e, f) (let g : min a m ≡ a = omega arith in ap (λ (n : ℕ). min n m) (mul_comm a m ∙ ap (λ (n : ℕ). m * n) (sym g)) ∙ above_one b a m more ∙ ap (λ (n : ℕ). min n m) (mul_comm b a)))
-          | inr less ↦ (let e : min b m ≡ b = omega arith in let f : min a m ≡ a = omega arith in rw (e, f) refl)
-        ]
+        | inl more ↦ (let e : min b m ≡ m = omega arith in let f : min a m ≡ a = omega arith in rw (e, f) (let g : min a m ≡ a = omega arith in ap (λ (n : ℕ). min n m) (mul_comm a m ∙ ap (λ (n : ℕ). m * n) (sym g)) ∙ above_one b a m more ∙ ap (λ (n : ℕ). min n m) (mul_comm b a)))
+        | inr less ↦ (let e : min b m ≡ b = omega arith in let f : min a m ≡ a = omega arith in rw (e, f) refl)
+      ]
     ]
 
 -- Whether a capped number is above 64 is whether the number is.

@@ -41,9 +41,9 @@ any_filter p k kept (y ∷ ys) =
     elim (k y) as (λ (b : Bool). k y ≡ b → list_any p (cond b (y ∷ filter k ys) (filter k ys)) ≡ (p y || list_any p ys)) [
       | true ↦ λ _. ap (λ (b : Bool). p y || b) (any_filter p k kept ys)
       | false ↦ λ e. any_filter p k kept ys ∙ (elim (p y) as (λ (t : Bool). p y ≡ t → list_any p ys ≡ (t || list_any p ys)) [
-          | true ↦ λ f. let wrong : true ≡ false = sym (kept y f) ∙ e in absurd cc
-          | false ↦ λ _. refl
-        ] refl)
+        | true ↦ λ f. let wrong : true ≡ false = sym (kept y f) ∙ e in absurd cc
+        | false ↦ λ _. refl
+      ] refl)
     ] refl
 
 -- Whether an element is there is the same with and without repeats.

@@ -63,9 +63,9 @@ different_from_none done (g ∷ rest) front h =
     let new : list_any (bytes_eq g) done ≡ false = not_true (list_any (bytes_eq g) done) (holds (not (list_any (bytes_eq g) done)) (RepeatedHeader g) (rw seam at k.0)) in
     let more : AreDifferent (done ++ g ∷ []) = all_pairs_push (λ (x : List ℕ) (y : List ℕ). x ≢ y) done g front (λ k d below. differs g done new k d below) in
     let later : fault_behind ((done ++ g ∷ []) ++ rest) (length (done ++ g ∷ [])) rest ≡ None =
-        ap (λ (n : ℕ). fault_behind ((done ++ g ∷ []) ++ rest) n rest) (length_push done g)
-        ∙ ap (λ (xs : List (List ℕ)). fault_behind xs (length done + 1) rest) (append_assoc done (g ∷ []) rest)
-        ∙ k.1 in
+    ap (λ (n : ℕ). fault_behind ((done ++ g ∷ []) ++ rest) n rest) (length_push done g)
+    ∙ ap (λ (xs : List (List ℕ)). fault_behind xs (length done + 1) rest) (append_assoc done (g ∷ []) rest)
+    ∙ k.1 in
     subst AreDifferent (append_assoc done (g ∷ []) rest) (different_from_none (done ++ g ∷ []) rest more later)
 
 none_from_different : (done rest : List (List ℕ)) → AreDifferent (done ++ rest) → fault_behind (done ++ rest) (length done) rest ≡ None
@@ -75,12 +75,12 @@ none_from_different done (g ∷ rest) all_differ =
     let seam : take (length done) all ≡ done = take-append_seam done (g ∷ rest) in
     let n = length-append done (g ∷ rest) in
     let new : list_any (bytes_eq g) done ≡ false = not_found g done (λ k d below e.
-        all_differ k (length done) d below (omega (arith, n)) (get_or-append done (g ∷ rest) d k below ∙ e ∙ sym (get_or-append_seam done g rest d))) in
+    all_differ k (length done) d below (omega (arith, n)) (get_or-append done (g ∷ rest) d k below ∙ e ∙ sym (get_or-append_seam done g rest d))) in
     let here : header_fault (take (length done) all) g ≡ None = rw (seam, new) refl in
     let later : fault_behind all (length done + 1) rest ≡ None =
-        ap (λ (xs : List (List ℕ)). fault_behind xs (length done + 1) rest) (sym (append_assoc done (g ∷ []) rest))
-        ∙ ap (λ (n : ℕ). fault_behind ((done ++ g ∷ []) ++ rest) n rest) (sym (length_push done g))
-        ∙ none_from_different (done ++ g ∷ []) rest (subst AreDifferent (sym (append_assoc done (g ∷ []) rest)) all_differ) in
+    ap (λ (xs : List (List ℕ)). fault_behind xs (length done + 1) rest) (sym (append_assoc done (g ∷ []) rest))
+    ∙ ap (λ (n : ℕ). fault_behind ((done ++ g ∷ []) ++ rest) n rest) (sym (length_push done g))
+    ∙ none_from_different (done ++ g ∷ []) rest (subst AreDifferent (sym (append_assoc done (g ∷ []) rest)) all_differ) in
     both_none (header_fault (take (length done) all) g) (fault_behind all (length done + 1) rest) here later
 
 -- ---- limits
@@ -151,15 +151,15 @@ unfolding clauses_fault records_fault select_fault rows_fault
 none_from_typed fields t h =
     let grouped = grouping_places fields t in
     both_none _ _
-      (both_none _ _ (none_from_clause fields grouped clause.Where t.filter h.filter)
-      (both_none _ _ (all_names fields t.groups ∙ none_from_all (column_fault fields) (IsColumn fields) (λ n k. passes (is_some (place_of fields n)) _ k) (grouping_names t) h.groups)
-      (none_within (length (expanded t.groups)) h.few_sets)))
+    (both_none _ _ (none_from_clause fields grouped clause.Where t.filter h.filter)
+    (both_none _ _ (all_names fields t.groups ∙ none_from_all (column_fault fields) (IsColumn fields) (λ n k. passes (is_some (place_of fields n)) _ k) (grouping_names t) h.groups)
+    (none_within (length (expanded t.groups)) h.few_sets)))
     (both_none _ _
-      (both_none _ _
-        (both_none _ _ (none_from_all (λ (i : ItemForm). expression_fault fields grouped clause.Select i.expression) (λ i. IsTypedExpression fields grouped clause.Select i.expression) (λ i k. none_from_expression fields grouped clause.Select i.expression k) t.items h.items)
-        (none_from_different [] (map header_text t.items) h.headers_differ))
-      (both_none _ _ (none_from_clause fields grouped clause.Having t.having h.having)
-      (none_from_all (λ (k : KeyForm). expression_fault fields grouped clause.OrderBy (key_expression t.items k.expression)) (λ k. IsTypedExpression fields grouped clause.OrderBy (key_expression t.items k.expression)) (λ k e. none_from_expression fields grouped clause.OrderBy (key_expression t.items k.expression) e) t.keys h.keys)))
+    (both_none _ _
+    (both_none _ _ (none_from_all (λ (i : ItemForm). expression_fault fields grouped clause.Select i.expression) (λ i. IsTypedExpression fields grouped clause.Select i.expression) (λ i k. none_from_expression fields grouped clause.Select i.expression k) t.items h.items)
+    (none_from_different [] (map header_text t.items) h.headers_differ))
+    (both_none _ _ (none_from_clause fields grouped clause.Having t.having h.having)
+    (none_from_all (λ (k : KeyForm). expression_fault fields grouped clause.OrderBy (key_expression t.items k.expression)) (λ k. IsTypedExpression fields grouped clause.OrderBy (key_expression t.items k.expression)) (λ k e. none_from_expression fields grouped clause.OrderBy (key_expression t.items k.expression) e) t.keys h.keys)))
     (none_within (length (functions_of fields t)) h.few_functions))
 
 -- A query that is let through is typed.

@@ -230,10 +230,11 @@ fn push_predicate_functions(
             push_pair_functions(functions, columns, left, right)
         }
         Predicate::Between {
-            operand, low, high, ..
-        } => {
-            push_three_functions(functions, columns, operand, low, high)
-        }
+            operand,
+            low,
+            high,
+            ..
+        } => { push_three_functions(functions, columns, operand, low, high) }
         Predicate::In { operand, .. } => push_operand_function(functions, columns, operand),
         Predicate::IsNull { operand, .. } => push_operand_function(functions, columns, operand),
         Predicate::Column(_) => Ok(()),

@@ -280,10 +280,15 @@ pub(crate) fn check_predicate(scope: &Scope, predicate: &Predicate) -> Result<()
         Predicate::Is { part, .. } => check_predicate(scope, part),
         Predicate::Compare { left, right, .. } => check_comparison(scope, left, right),
         Predicate::Between {
-            operand, low, high, ..
+            operand,
+            low,
+            high,
+            ..
         } => check_between(scope, operand, low, high),
         Predicate::In {
-            operand, literals, ..
+            operand,
+            literals,
+            ..
         } => {
             check_operand(scope, operand)?;
             check_literals(operand_kind(scope.columns, operand), literals)

@@ -8,7 +8,7 @@ use Rattle.query_check.proofs.expansion.+set_count.Goals as goal
 
 pub returns-in-len1-up : goal.returns-in-len1-up
 returns-in-len1-up t c =
-    let most = 18446744073709551615 in
+    let most : ℕ = 18446744073709551615 in
     let groups = c.args.groups.now in
     let firsts = group_sets (group_form c.first-item.result) in
     let seconds = expanded (map group_form (take (length groups - 1) (drop 1 groups))) in
