@@ -46,7 +46,7 @@ abbrev mutual
 abbrev pub aggregates : TreeForm → List Aggregate
 aggregates t =
     flat_map (λ i. expression_aggregates i.expression) t.items
-    ++ option_map_or predicate_aggregates [] t.having
+    ++ option_map_or predicate_aggregates t.having []
     ++ flat_map (λ k. expression_aggregates k.expression) t.keys
 
 -- A set function with the place of its column.

@@ -1,6 +1,8 @@
 -- Which queries are typed under a schema (ISO/IEC 9075-2, <query specification>).
-use Rattle.std.specs.Prelude.{◌≡◌, ◌≢◌, ◌≤◌, ℕ, ⊤, ◌⊎◌, Option, Some, None, List, [], ◌∷◌, map, length, All, AllPairs, Contains, IsSome, IfSome, IsSomeAnd}
-use Rattle.std.specs.List.{find, flat_map}
+use Rattle.std.specs.Prelude.{◌≡◌, ◌≢◌, ◌≤◌, ℕ, ⊤, ◌⊎◌, false, Option, Some, None, List, [], ◌∷◌, map, length, All, AllPairs, Contains, IsSome, IfSome, IsSomeAnd}
+use Rattle.std.specs.List.{find}
+use Rattle.std.specs.Option.{option_map_or}
+use Rattle.std.specs.Str.{bytes_eq}
 use Rattle.values.specs.declared.schema.Kind.{Kind}
 use Rattle.values.specs.declared.schema.Kind.TheVariants as kind
 use Rattle.values.specs.Schema.{Field}
@@ -109,6 +111,10 @@ abbrev pub operand_kind : List Field → OperandForm → Option Kind
 operand_kind fields (expression e) = expression_kind fields e
 operand_kind fields (literal a) = Some (literal_kind a)
 
+-- Two operands are of one type.
+abbrev pub IsOfOneKind : Option Kind → Option Kind → Type 0
+IsOfOneKind k l = (one : Kind) × (k ≡ Some one) × (l ≡ Some one)
+
 abbrev mutual
   -- In comparisons, BETWEEN and IN all operands and literals are of one type; IS NULL takes any operand;
   -- a bare name is a column of truth values.
@@ -119,15 +125,45 @@ abbrev mutual
   IsTypedPredicate fields grouped c (truth_test p n t) = IsTypedPredicate fields grouped c p
   IsTypedPredicate fields grouped c (compare x o y) =
       IsTypedOperand fields grouped c x × IsTypedOperand fields grouped c y
-      × (operand_kind fields x ≡ operand_kind fields y)
+      × IsOfOneKind (operand_kind fields x) (operand_kind fields y)
   IsTypedPredicate fields grouped c (between x n y z) =
       IsTypedOperand fields grouped c x × IsTypedOperand fields grouped c y × IsTypedOperand fields grouped c z
-      × (operand_kind fields x ≡ operand_kind fields y) × (operand_kind fields x ≡ operand_kind fields z)
+      × IsOfOneKind (operand_kind fields x) (operand_kind fields y) × IsOfOneKind (operand_kind fields x) (operand_kind fields z)
   IsTypedPredicate fields grouped c (member x n ls) =
-      IsTypedOperand fields grouped c x × All (λ a. operand_kind fields x ≡ Some (literal_kind a)) ls
+      IsTypedOperand fields grouped c x × All (λ a. IsOfOneKind (operand_kind fields x) (Some (literal_kind a))) ls
   IsTypedPredicate fields grouped c (null_test x n) = IsTypedOperand fields grouped c x
   IsTypedPredicate fields grouped c (column n) = IsTypedName fields grouped c n × HasKind fields kind.Bool n
 
   pub AreTypedParts : List Field → List ℕ → Clause → PredicateForms → Type 0
   AreTypedParts fields grouped c no_parts = ⊤
   AreTypedParts fields grouped c (part p ps) = IsTypedPredicate fields grouped c p × AreTypedParts fields grouped c ps
+
+-- ---- the query
+
+-- The item whose alias is this name, where there is one.
+abbrev pub item_of_alias : List ItemForm → List ℕ → Option ItemForm
+item_of_alias items n = find (λ i. option_map_or (bytes_eq n) i.alias false) items
+
+-- A key that is an alias stands for its item.
+abbrev pub key_expression : List ItemForm → ExpressionForm → ExpressionForm
+key_expression items (name n) = option_map_or (λ i. i.expression) (item_of_alias items n) (name n)
+key_expression items (grouping ns) = grouping ns
+key_expression items (function f) = function f
+
+-- A clause of a predicate is typed where the predicate is, if it is written.
+abbrev pub IsTypedClause : List Field → List ℕ → Clause → Option PredicateForm → Type 0
+IsTypedClause fields grouped c None = ⊤
+IsTypedClause fields grouped c (Some p) = IsTypedPredicate fields grouped c p
+
+-- A query is typed under a schema where each of its clauses is: names are columns, or grouping columns where
+-- only these may stand, types agree, and functions stand where they may. It has at most 64 expanded grouping
+-- sets and at most 64 different set functions, and the headers of its items differ.
+pub record IsTyped (fields : List Field) (t : TreeForm) : Type 0 where
+  pub filter : IsTypedClause fields (grouping_places fields t) clause.Where t.filter
+  pub groups : All (IsColumn fields) (grouping_names t)
+  pub few_sets : length (expanded t.groups) ≤ 64
+  pub items : All (λ i. IsTypedExpression fields (grouping_places fields t) clause.Select i.expression) t.items
+  pub headers_differ : AllPairs (λ h g. h ≢ g) (map header_text t.items)
+  pub having : IsTypedClause fields (grouping_places fields t) clause.Having t.having
+  pub keys : All (λ k. IsTypedExpression fields (grouping_places fields t) clause.OrderBy (key_expression t.items k.expression)) t.keys
+  pub few_functions : length (functions_of fields t) ≤ 64
