@@ -1,5 +1,5 @@
 -- The columns that a schema text names: parts `name:type` between commas.
-use Rattle.std.specs.Prelude.{◌≢◌, ◌==◌, ℕ, ◌+◌, ◌≤◌, nat_lt, Bool, true, false, not, ◌&&◌, ◌||◌, List, [], ◌∷◌, length, take, map, Option, Some, None, option_map, Result, Ok, Err, All, AllPairs, IsTrue, string_bytes, codes, if◌then◌else◌}
+use Rattle.std.specs.Prelude.{◌≢◌, ◌==◌, ℕ, ◌+◌, ◌≤◌, nat_lt, Bool, false, not, ◌&&◌, ◌||◌, List, [], ◌∷◌, length, take, map, Option, Some, None, option_map, Result, Ok, Err, All, AllPairs, IsTrue, string_bytes, codes, if◌then◌else◌}
 use Rattle.std.specs.Char.{is_ascii_alphabetic, is_ascii_alphanumeric}
 use Rattle.std.specs.List.{after_first, before_first, enumerate_from, filter_map, list_all, list_any, slice_split}
 use Rattle.std.specs.Option.{is_none}

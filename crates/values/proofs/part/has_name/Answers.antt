@@ -1,4 +1,4 @@
-use Rattle.std.proofs.Common.{rules, tests, string_bytes, sym, ap, ◌∙◌}
+use Rattle.std.proofs.Common.{rules, tests, string_bytes, ◌∙◌}
 use Rattle.std.specs.Str.{bytes_eq}
 use Rattle.std.proofs.lemmas.Iterator.{YieldsList-from_slice}
 use Rattle.std.proofs.lemmas.Iterator.Search.{any_from_yields_List}
