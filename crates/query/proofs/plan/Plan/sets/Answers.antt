@@ -1,4 +1,5 @@
 use mathlib.Core.List.{is_set}
+use native.Mathlib.Nat.{ℕ_set}
 use Rattle.std.proofs.Common.{◌≡◌, ◌∙◌, ap}
 use Rattle.std.proofs.Math.Logic.{∥∥₁_elim}
 use Rattle.query_check.specs.Resolution.{Resolution, contents}
@@ -8,5 +9,5 @@ use Rattle.query.proofs.plan.Plan.sets.Goals as goal
 
 pub returns : goal.returns
 returns c =
-    let one : IsProp (contents c.sets.result.now ≡ sets_of (fields_of_plan c.args.self.now) (form_of_plan c.args.self.now)) = hlevel (is_set) in
+    let one : IsProp (contents c.sets.result.now ≡ sets_of (fields_of_plan c.args.self.now) (form_of_plan c.args.self.now)) = is_set (is_set ℕ_set) _ _ in
     record { sets = ∥∥₁_elim c.args.self.now.resolution one (λ e. c.sets.ensures ∙ ap (λ (r : Resolution). r.sets) e) }
