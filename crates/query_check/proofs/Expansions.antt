@@ -1,16 +1,15 @@
 -- Places of the columns of expanded sets.
-use Rattle.std.proofs.Common.{◌≡◌, ◌∙◌, ℕ, List, [], ◌∷◌, ◌++◌, map, refl, sym, ap, append_assoc}
+use Rattle.std.proofs.Common.{◌≡◌, ◌∙◌, ℕ, List, [], ◌∷◌, ◌++◌, map, refl, sym, ap}
 use Rattle.std.specs.Global.{Vec}
 use Rattle.std.proofs.lemmas.List.{map-append}
 use Rattle.std.proofs.lemmas.List.Elements.{filter_map-append}
 use Rattle.values.specs.Schema.{Field}
-use Rattle.query_tree.specs.declared.group.Group.{Group}
 use Rattle.query_tree.specs.declared.group.Group.TheVariants as variant
 use Rattle.query_tree.specs.declared.group.Group.TheOpen as layer
 use Rattle.query_tree.specs.declared.group.Group.TheFolds.{fold-roll-Group}
 use Rattle.query_tree.specs.Syntax.{GroupForm, group_form, group_step, rollup, cube, units_form}
 use Rattle.query_check.specs.Columns.{place_of, places_of}
-use Rattle.query_check.specs.Sets.{crossed, cube_sets, expanded, group_sets, rollup_sets}
+use Rattle.query_check.specs.Sets.{crossed, cube_sets, rollup_sets}
 
 -- Names in front of each set, by their places.
 prefixed_places : (fields : List Field) (unit : List (List ℕ)) (ss : List (List (List ℕ))) → map (places_of fields) (map (λ s. unit ++ s) ss) ≡ map (λ s. places_of fields unit ++ s) (map (places_of fields) ss)

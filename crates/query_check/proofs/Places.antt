@@ -1,5 +1,5 @@
 -- Places of columns.
-use Rattle.std.proofs.Common.{◌≡◌, ◌∙◌, ℕ, zero, suc, ◌+◌, Bool, cond, not, nat_lt, List, [], ◌∷◌, length, map, Option, Some, None, refl, ap, string_bytes}
+use Rattle.std.proofs.Common.{◌≡◌, ◌∙◌, ℕ, suc, ◌+◌, Bool, cond, not, nat_lt, List, [], ◌∷◌, length, Some, None, refl, ap, string_bytes}
 use Rattle.std.specs.Prelude.{position}
 use Rattle.std.specs.List.{position_or_len}
 use Rattle.values.specs.declared.schema.Column.{Column}

@@ -7,6 +7,7 @@ use Rattle.std.proofs.lemmas.List.Elements.{filter_map-append}
 use Rattle.query_fault.specs.declared.QueryFault.{QueryFault}
 use Rattle.query_check.specs.Faults.{first_fault}
 
+-- What is appended, list by list.
 pub ruleset appended = (filter_map-append, append_assoc)
 
 -- Of three tests in a row it is the same which two are taken first.
@@ -26,26 +27,6 @@ appended_turn {X} {Y} f F cons xs i x below e old new total pushed told =
     ∙ append_assoc old (f x) (F (drop (i + 1) xs))
     ∙ ap (λ (ys : List Y). old ++ ys) (sym (at_drop_more F xs i x below ∙ ap (λ (y : X). F (y ∷ drop (i + 1) xs)) (sym e) ∙ cons x (drop (i + 1) xs)))
     ∙ told
-
--- What is left begins with the fault of its first element.
-left_fault : {X Z : Type 0} (f : X → Option Z) (F : List X → Option Z) → ((x : X) (xs : List X) → F (x ∷ xs) ≡ option_or (f x) (F xs)) → (xs : List X) (i : ℕ) (x : X) → i < length xs → x ≡ get_or xs i x → F (drop i xs) ≡ option_or (f x) (F (drop (i + 1) xs))
-left_fault {X} {Z} f F cons xs i x below e = at_drop_more F xs i x below ∙ ap (λ (y : X). F (y ∷ drop (i + 1) xs)) (sym e) ∙ cons x (drop (i + 1) xs)
-
--- A turn of a loop that finds no fault.
-pub faultless_turn : {X Z : Type 0} (f : X → Option Z) (F : List X → Option Z) → ((x : X) (xs : List X) → F (x ∷ xs) ≡ option_or (f x) (F xs)) → (xs : List X) (i : ℕ) (x : X) → i < length xs → x ≡ get_or xs i x → (total : Option Z) → f x ≡ None → F (drop i xs) ≡ total → F (drop (i + 1) xs) ≡ total
-faultless_turn {X} {Z} f F cons xs i x below e total none told = sym (ap (λ (o : Option Z). option_or o (F (drop (i + 1) xs))) none) ∙ sym (left_fault f F cons xs i x below e) ∙ told
-
--- A turn of a loop that finds a fault.
-pub faulty_turn : {X Z : Type 0} (f : X → Option Z) (F : List X → Option Z) → ((x : X) (xs : List X) → F (x ∷ xs) ≡ option_or (f x) (F xs)) → (xs : List X) (i : ℕ) (x : X) → i < length xs → x ≡ get_or xs i x → (total : Option Z) (fault : Z) → f x ≡ Some fault → F (drop i xs) ≡ total → total ≡ Some fault
-faulty_turn {X} {Z} f F cons xs i x below e total fault some told = sym told ∙ left_fault f F cons xs i x below e ∙ ap (λ (o : Option Z). option_or o (F (drop (i + 1) xs))) some
-
--- The first of two tests finds a fault.
-pub first_found : {Z : Type 0} (a b : Option Z) (fault : Z) → a ≡ Some fault → option_or a b ≡ Some fault
-first_found a b fault h = rw h refl
-
--- The first of two tests finds none.
-pub first_passed : {Z : Type 0} (a b : Option Z) → a ≡ None → option_or a b ≡ b
-first_passed a b h = rw h refl
 
 -- What an Ok holds, and what that comes to.
 pub ok_same : {T E Y : Type 0} (r : Result T E) (f : T → Y) (a b : Y) → IfOk r (λ v. f v ≡ a) → a ≡ b → IfOk r (λ v. f v ≡ b)

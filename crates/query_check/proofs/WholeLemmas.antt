@@ -1,5 +1,5 @@
 -- A whole query is typed exactly where it has no fault.
-use Rattle.std.proofs.Common.{◌≡◌, ◌≢◌, ◌∙◌, ℕ, zero, suc, ◌+◌, ◌<◌, ◌≤◌, nat_lt, Bool, true, false, cond, not, ◌||◌, List, [], ◌∷◌, ◌++◌, length, take, map, get_or, Option, Some, None, Result, Ok, Err, OnOk, IfErr, AllPairs, refl, sym, ap, subst, append_assoc, length-append, arith}
+use Rattle.std.proofs.Common.{◌≡◌, ◌≢◌, ◌∙◌, ℕ, suc, ◌+◌, ◌<◌, ◌≤◌, nat_lt, Bool, true, false, not, ◌||◌, List, [], ◌∷◌, ◌++◌, length, take, map, get_or, Option, None, Result, Ok, Err, OnOk, IfErr, AllPairs, refl, sym, ap, subst, append_assoc, length-append, arith}
 use Rattle.std.specs.Prelude.{is_some}
 use Rattle.std.specs.List.{enumerate_from, flat_map, list_any}
 use Rattle.std.specs.Option.{option_or}
@@ -21,12 +21,13 @@ use Rattle.query_check.specs.Columns.{group_names, groups_names, place_of}
 use Rattle.query_check.specs.Sets.{expanded, grouping_names, grouping_places}
 use Rattle.query_check.specs.Functions.{functions_of}
 use Rattle.query_check.specs.Typing.{IsColumn, IsTyped, IsTypedExpression, key_expression}
-use Rattle.query_check.specs.Faults.{Answers, clause_fault, column_fault, expression_fault, first_fault, fault_unless, header_fault, headers_fault, limit_fault, query_fault, names_fault, group_fault, groups_fault, clauses_fault, records_fault, rows_fault, select_fault}
+use Rattle.query_check.specs.Faults.{Answers, clause_fault, column_fault, expression_fault, first_fault, header_fault, limit_fault, query_fault, names_fault, group_fault, groups_fault, clauses_fault, records_fault, rows_fault, select_fault}
 use Rattle.query_check.proofs.Rows.{first_fault_append}
 use Rattle.query_check.proofs.TypedLemmas.{all_from_none, both_none, clause_from_none, expression_from_none, holds, none_from_all, none_from_clause, none_from_expression, none_of_both, passes}
 
 -- ---- headers
 
+-- Headers that all differ.
 abbrev AreDifferent : List (List ℕ) → Type 0
 AreDifferent hs = AllPairs (λ (h : List ℕ) (g : List ℕ). h ≢ g) hs
 
@@ -46,6 +47,7 @@ not_found h (g ∷ gs) other =
       | false ↦ λ _. not_found h gs (λ k d below. other (suc k) d (omega arith))
     ] refl
 
+-- What is not true is false.
 not_true : (b : Bool) → not b ≡ true → b ≡ false
 not_true true h = absurd cc
 not_true false h = refl
@@ -54,6 +56,7 @@ not_true false h = refl
 abbrev fault_behind : List (List ℕ) → ℕ → List (List ℕ) → Option QueryFault
 fault_behind all n rest = first_fault (λ p. header_fault (take p.0 all) p.1) (enumerate_from n rest)
 
+-- Headers without a fault differ, behind others that differ.
 different_from_none : (done rest : List (List ℕ)) → AreDifferent done → fault_behind (done ++ rest) (length done) rest ≡ None → AreDifferent (done ++ rest)
 different_from_none done [] front h = subst AreDifferent (sym (append-nil done)) front
 different_from_none done (g ∷ rest) front h =
@@ -68,6 +71,7 @@ different_from_none done (g ∷ rest) front h =
     ∙ k.1 in
     subst AreDifferent (append_assoc done (g ∷ []) rest) (different_from_none (done ++ g ∷ []) rest more later)
 
+-- Headers that differ have no fault, behind others.
 none_from_different : (done rest : List (List ℕ)) → AreDifferent (done ++ rest) → fault_behind (done ++ rest) (length done) rest ≡ None
 none_from_different done [] all_differ = refl
 none_from_different done (g ∷ rest) all_differ =
@@ -85,9 +89,11 @@ none_from_different done (g ∷ rest) all_differ =
 
 -- ---- limits
 
+-- A number without a fault is within the limit.
 within : (n : ℕ) → limit_fault n ≡ None → n ≤ 64
 within n h = let t = not_true (nat_lt 64 n) (holds (not (nat_lt 64 n)) OverLimit h) in grind (arith, nat_tests)
 
+-- A number within the limit has no fault.
 none_within : (n : ℕ) → n ≤ 64 → limit_fault n ≡ None
 none_within n h = let t : nat_lt 64 n ≡ false = grind (arith, nat_tests) in rw t refl
 
@@ -99,12 +105,14 @@ rows_of_names fields [] = refl
 rows_of_names fields (unit ∷ units) = ap (option_or (names_fault fields unit)) (rows_of_names fields units) ∙ sym (first_fault_append (column_fault fields) unit (flat_map (λ unit. unit) units))
 
 mutual
+  -- The fault of an element of GROUP BY is that of its names.
   group_of_names : (fields : List Field) (g : GroupForm) → group_fault fields g ≡ first_fault (column_fault fields) (group_names g)
   group_of_names fields (set names) = refl
   group_of_names fields (rollup units) = rows_of_names fields units
   group_of_names fields (cube units) = rows_of_names fields units
   group_of_names fields (sets gs) = groups_of_names fields gs
 
+  -- The fault of elements of GROUPING SETS is that of their names.
   groups_of_names : (fields : List Field) (gs : GroupForms) → groups_fault fields gs ≡ first_fault (column_fault fields) (groups_names gs)
   groups_of_names fields no_groups = refl
   groups_of_names fields (group g gs) =
@@ -122,7 +130,7 @@ all_names fields (g ∷ gs) =
 
 -- ---- the query
 
--- The faults of the clauses, one by one.
+-- A query without a fault is typed.
 pub typed_from_none : (fields : List Field) (t : TreeForm) → query_fault fields t ≡ None → IsTyped fields t
 unfolding clauses_fault records_fault select_fault rows_fault
 typed_from_none fields t h =

@@ -1,5 +1,5 @@
 -- The columns of a schema that names stand for, and the names in GROUP BY.
-use Rattle.std.specs.Prelude.{ℕ, Bool, true, false, not, Option, List, [], ◌∷◌, ◌++◌, map, filter, position, slice_get, IsSome, Contains}
+use Rattle.std.specs.Prelude.{ℕ, Bool, not, Option, List, [], ◌∷◌, ◌++◌, filter, position, slice_get}
 use Rattle.std.specs.List.{filter_map, flat_map}
 use Rattle.std.specs.Option.{option_map, option_and_then}
 use Rattle.std.specs.Str.{bytes_eq}
@@ -36,6 +36,7 @@ abbrev mutual
   group_names (cube units) = flat_map (λ unit. unit) units
   group_names (sets gs) = groups_names gs
 
+  -- Those in the elements of GROUPING SETS.
   pub groups_names : GroupForms → List (List ℕ)
   groups_names no_groups = []
   groups_names (group g gs) = group_names g ++ groups_names gs

@@ -1,5 +1,5 @@
 -- The first fault of a query that is not typed, in the order in which faults are tested.
-use Rattle.std.specs.Prelude.{◌≡◌, ◌≢◌, Result, MatchResult, ℕ, ◌==◌, nat_lt, Bool, true, false, not, ◌||◌, Option, Some, None, List, [], ◌∷◌, map, length, take, is_some, if◌then◌else◌}
+use Rattle.std.specs.Prelude.{◌≡◌, ◌≢◌, Result, MatchResult, ℕ, ◌==◌, nat_lt, Bool, true, false, not, Option, Some, None, List, [], ◌∷◌, map, length, take, is_some, if◌then◌else◌}
 use Rattle.std.specs.List.{enumerate_from, list_any}
 use Rattle.std.specs.Option.{option_or}
 use Rattle.std.specs.Str.{bytes_eq}
@@ -44,6 +44,7 @@ abbrev pub grouped_at_fault : List ℕ → List ℕ → Option ℕ → Option Qu
 grouped_at_fault grouped n None = Some (UnknownColumn n)
 grouped_at_fault grouped n (Some place) = fault_unless (list_any (λ g. g == place) grouped) (NotGrouped n)
 
+-- A name that is no grouping column.
 abbrev pub grouped_fault : List Field → List ℕ → List ℕ → Option QueryFault
 grouped_fault fields grouped n = grouped_at_fault grouped n (place_of fields n)
 
@@ -81,6 +82,7 @@ is_truth (Some kind.Bool) = true
 abbrev pub argument_fault : List Field → (Option Kind → Bool) → List ℕ → Option QueryFault
 argument_fault fields takes n = option_or (column_fault fields n) (fault_unless (takes (column_kind fields n)) TypesDisagree)
 
+-- The argument of a set function: COUNT takes any column, SUM and AVG whole numbers, MIN and MAX also texts.
 abbrev pub aggregate_fault : List Field → Aggregate → Option QueryFault
 aggregate_fault fields aggregate.CountRows = None
 aggregate_fault fields (aggregate.Count x) = column_fault fields x
@@ -107,17 +109,20 @@ function_fault fields c (over_filtered a p) = Some FunctionNotAllowed
 
 -- ---- expressions and predicates
 
+-- GROUPING may not stand in WHERE, and takes grouping columns.
 abbrev pub grouping_fault : List Field → List ℕ → Clause → List (List ℕ) → Option QueryFault
 grouping_fault fields grouped clause.Where ns = Some FunctionNotAllowed
 grouping_fault fields grouped clause.Select ns = first_fault (grouped_fault fields grouped) ns
 grouping_fault fields grouped clause.Having ns = first_fault (grouped_fault fields grouped) ns
 grouping_fault fields grouped clause.OrderBy ns = first_fault (grouped_fault fields grouped) ns
 
+-- The first fault of an expression in a clause.
 abbrev pub expression_fault : List Field → List ℕ → Clause → ExpressionForm → Option QueryFault
 expression_fault fields grouped c (name n) = name_fault fields grouped c n
 expression_fault fields grouped c (grouping ns) = grouping_fault fields grouped c ns
 expression_fault fields grouped c (function f) = function_fault fields c f
 
+-- The first fault of an operand; a literal has none.
 abbrev pub operand_fault : List Field → List ℕ → Clause → OperandForm → Option QueryFault
 operand_fault fields grouped c (expression e) = expression_fault fields grouped c e
 operand_fault fields grouped c (literal a) = None
@@ -142,6 +147,7 @@ comparison_fault fields grouped c x y =
     (option_or (operand_fault fields grouped c y)
     (agreement_fault (operand_kind fields x) (operand_kind fields y)))
 
+-- In BETWEEN all three operands are of one type.
 abbrev pub between_fault : List Field → List ℕ → Clause → OperandForm → OperandForm → OperandForm → Option QueryFault
 between_fault fields grouped c x y z =
     option_or (operand_fault fields grouped c x)
@@ -150,6 +156,7 @@ between_fault fields grouped c x y z =
     (option_or (agreement_fault (operand_kind fields x) (operand_kind fields y))
     (agreement_fault (operand_kind fields x) (operand_kind fields z)))))
 
+-- In IN the operand and all literals are of one type.
 abbrev pub member_fault : List Field → List ℕ → Clause → OperandForm → List Literal → Option QueryFault
 member_fault fields grouped c x ls =
     option_or (operand_fault fields grouped c x)
@@ -161,6 +168,7 @@ truth_fault fields grouped c n =
     option_or (name_fault fields grouped c n) (fault_unless (is_truth (column_kind fields n)) TypesDisagree)
 
 abbrev mutual
+  -- The first fault of a predicate in a clause.
   pub predicate_fault : List Field → List ℕ → Clause → PredicateForm → Option QueryFault
   predicate_fault fields grouped c (or_of ps) = parts_fault fields grouped c ps
   predicate_fault fields grouped c (and_of ps) = parts_fault fields grouped c ps
@@ -172,12 +180,14 @@ abbrev mutual
   predicate_fault fields grouped c (null_test x n) = operand_fault fields grouped c x
   predicate_fault fields grouped c (column n) = truth_fault fields grouped c n
 
+  -- The first fault of the parts of an OR or an AND.
   pub parts_fault : List Field → List ℕ → Clause → PredicateForms → Option QueryFault
   parts_fault fields grouped c no_parts = None
   parts_fault fields grouped c (part p ps) = option_or (predicate_fault fields grouped c p) (parts_fault fields grouped c ps)
 
 -- ---- the query
 
+-- The first fault of a clause of one predicate, where it is written.
 abbrev pub clause_fault : List Field → List ℕ → Clause → Option PredicateForm → Option QueryFault
 clause_fault fields grouped c None = None
 clause_fault fields grouped c (Some p) = predicate_fault fields grouped c p
@@ -206,6 +216,7 @@ abbrev mutual
   group_fault fields (cube units) = first_fault (names_fault fields) units
   group_fault fields (sets gs) = groups_fault fields gs
 
+  -- Those of the elements of GROUPING SETS.
   pub groups_fault : List Field → GroupForms → Option QueryFault
   groups_fault fields no_groups = None
   groups_fault fields (group g gs) = option_or (group_fault fields g) (groups_fault fields gs)

@@ -1,5 +1,5 @@
 -- The different set functions of a query (ISO/IEC 9075-2, <set function specification>).
-use Rattle.std.specs.Prelude.{ℕ, Bool, true, false, ◌==◌, Option, Some, None, List, [], ◌∷◌, ◌++◌}
+use Rattle.std.specs.Prelude.{Bool, true, false, ◌==◌, Option, Some, List, [], ◌∷◌, ◌++◌}
 use Rattle.std.specs.List.{filter_map, flat_map}
 use Rattle.std.specs.Option.{option_map, option_map_or}
 use Rattle.values.specs.Schema.{Field}
@@ -21,6 +21,7 @@ expression_aggregates (name n) = []
 expression_aggregates (grouping ns) = []
 expression_aggregates (function f) = aggregate_of f ∷ []
 
+-- The set function that an operand is, if it is one.
 abbrev pub operand_aggregates : OperandForm → List Aggregate
 operand_aggregates (expression e) = expression_aggregates e
 operand_aggregates (literal a) = []
@@ -38,6 +39,7 @@ abbrev mutual
   predicate_aggregates (null_test a n) = operand_aggregates a
   predicate_aggregates (column n) = []
 
+  -- Those in the parts of an OR or an AND.
   pub parts_aggregates : PredicateForms → List Aggregate
   parts_aggregates no_parts = []
   parts_aggregates (part p ps) = predicate_aggregates p ++ parts_aggregates ps

@@ -1,5 +1,5 @@
 -- Which queries are typed under a schema (ISO/IEC 9075-2, <query specification>).
-use Rattle.std.specs.Prelude.{◌≡◌, ◌≢◌, ◌≤◌, ℕ, ⊤, ◌⊎◌, false, Option, Some, None, List, [], ◌∷◌, map, length, All, AllPairs, Contains, IsSome, IfSome, IsSomeAnd}
+use Rattle.std.specs.Prelude.{◌≡◌, ◌≢◌, ◌≤◌, ℕ, ⊤, ◌⊎◌, false, Option, Some, None, List, map, length, All, AllPairs, Contains, IsSome, IsSomeAnd}
 use Rattle.std.specs.List.{find}
 use Rattle.std.specs.Option.{option_map_or}
 use Rattle.std.specs.Str.{bytes_eq}
@@ -10,7 +10,7 @@ use Rattle.query_tree.specs.declared.expression.Aggregate.{Aggregate}
 use Rattle.query_tree.specs.declared.expression.Aggregate.TheVariants as aggregate
 use Rattle.query_tree.specs.declared.predicate.Literal.{Literal}
 use Rattle.query_tree.specs.declared.predicate.Literal.TheVariants as constant
-use Rattle.query_tree.specs.Syntax.{ExpressionForm, FunctionForm, OperandForm, PredicateForm, PredicateForms, ItemForm, KeyForm, TreeForm, name, grouping, function, over_all, over_filtered, expression, literal, or_of, and_of, not_of, truth_test, compare, between, member, null_test, column, no_parts, part}
+use Rattle.query_tree.specs.Syntax.{ExpressionForm, FunctionForm, OperandForm, PredicateForm, PredicateForms, ItemForm, TreeForm, name, grouping, function, over_all, over_filtered, expression, literal, or_of, and_of, not_of, truth_test, compare, between, member, null_test, column, no_parts, part}
 use Rattle.query_print.specs.Canonical.{header_text}
 use Rattle.query_check.specs.declared.scope.Clause.{Clause}
 use Rattle.query_check.specs.declared.scope.Clause.TheVariants as clause
@@ -74,6 +74,7 @@ IsTypedGrouping fields grouped clause.Select ns = All (IsGrouped fields grouped)
 IsTypedGrouping fields grouped clause.Having ns = All (IsGrouped fields grouped) ns
 IsTypedGrouping fields grouped clause.OrderBy ns = All (IsGrouped fields grouped) ns
 
+-- An expression is typed in a clause where its name, its GROUPING or its set function is.
 abbrev pub IsTypedExpression : List Field → List ℕ → Clause → ExpressionForm → Type 0
 IsTypedExpression fields grouped c (name n) = IsTypedName fields grouped c n
 IsTypedExpression fields grouped c (grouping ns) = IsTypedGrouping fields grouped c ns
@@ -96,6 +97,7 @@ expression_kind fields (grouping ns) = Some kind.Int
 expression_kind fields (function (over_all a)) = aggregate_kind fields a
 expression_kind fields (function (over_filtered a p)) = aggregate_kind fields a
 
+-- The type of a literal.
 abbrev pub literal_kind : Literal → Kind
 literal_kind (constant.Integer i) = kind.Int
 literal_kind (constant.Text s) = kind.Text
@@ -103,10 +105,12 @@ literal_kind (constant.Truth b) = kind.Bool
 
 -- ---- predicates
 
+-- An operand is typed where its expression is; a literal always is.
 abbrev pub IsTypedOperand : List Field → List ℕ → Clause → OperandForm → Type 0
 IsTypedOperand fields grouped c (expression e) = IsTypedExpression fields grouped c e
 IsTypedOperand fields grouped c (literal a) = ⊤
 
+-- The type of an operand.
 abbrev pub operand_kind : List Field → OperandForm → Option Kind
 operand_kind fields (expression e) = expression_kind fields e
 operand_kind fields (literal a) = Some (literal_kind a)
@@ -134,6 +138,7 @@ abbrev mutual
   IsTypedPredicate fields grouped c (null_test x n) = IsTypedOperand fields grouped c x
   IsTypedPredicate fields grouped c (column n) = IsTypedName fields grouped c n × HasKind fields kind.Bool n
 
+  -- All parts of an OR or an AND are typed.
   pub AreTypedParts : List Field → List ℕ → Clause → PredicateForms → Type 0
   AreTypedParts fields grouped c no_parts = ⊤
   AreTypedParts fields grouped c (part p ps) = IsTypedPredicate fields grouped c p × AreTypedParts fields grouped c ps

@@ -35,6 +35,7 @@ names_text names = comma_list (map name_text names)
 
 -- ---- leaves
 
+-- A set function with its argument.
 abbrev pub aggregate_text : Aggregate → List ℕ
 aggregate_text aggregate.CountRows = codes "COUNT(*)"
 aggregate_text (aggregate.Count x) = codes "COUNT(" ++ name_text x ++ codes ")"
@@ -44,12 +45,14 @@ aggregate_text (aggregate.Min x) = codes "MIN(" ++ name_text x ++ codes ")"
 aggregate_text (aggregate.Max x) = codes "MAX(" ++ name_text x ++ codes ")"
 aggregate_text (aggregate.Avg x) = codes "AVG(" ++ name_text x ++ codes ")"
 
+-- A whole number is plain decimal, a text stands between apostrophes, a truth value is a keyword.
 abbrev pub literal_text : Literal → List ℕ
 literal_text (constant.Integer i) = signed_decimal i
 literal_text (constant.Text text) = quoted 39 text
 literal_text (constant.Truth true) = codes "TRUE"
 literal_text (constant.Truth false) = codes "FALSE"
 
+-- The sign of a comparison.
 abbrev pub comparison_text : Comparison → List ℕ
 comparison_text comparison.Equal = codes "="
 comparison_text comparison.NotEqual = codes "<>"
@@ -58,6 +61,7 @@ comparison_text comparison.LessOrEqual = codes "<="
 comparison_text comparison.Greater = codes ">"
 comparison_text comparison.GreaterOrEqual = codes ">="
 
+-- The keyword of a truth value.
 abbrev pub truth_text : TruthValue → List ℕ
 truth_text truth.True = codes "TRUE"
 truth_text truth.False = codes "FALSE"
@@ -87,15 +91,18 @@ abbrev pub bracketed_below : ℕ → ℕ → List ℕ → List ℕ
 bracketed_below least has text = if nat_lt has least then in_brackets text else text
 
 abbrev mutual
+  -- A name, a GROUPING or a set function.
   pub expression_text : ExpressionForm → List ℕ
   expression_text (name n) = name_text n
   expression_text (grouping ns) = codes "GROUPING(" ++ names_text ns ++ codes ")"
   expression_text (function f) = function_text f
 
+  -- A set function, with its FILTER where it has one.
   pub function_text : FunctionForm → List ℕ
   function_text (over_all f) = aggregate_text f
   function_text (over_filtered f p) = aggregate_text f ++ codes " FILTER (WHERE " ++ predicate_text p ++ codes ")"
 
+  -- An expression or a literal.
   pub operand_text : OperandForm → List ℕ
   operand_text (expression e) = expression_text e
   operand_text (literal a) = literal_text a
@@ -113,6 +120,7 @@ abbrev mutual
   predicate_text (null_test a n) = operand_text a ++ codes " IS " ++ not_text n ++ codes "NULL"
   predicate_text (column n) = name_text n
 
+  -- The parts of an OR or an AND, in places that ask for this tightness.
   pub part_texts : ℕ → PredicateForms → List (List ℕ)
   part_texts least no_parts = []
   part_texts least (part p ps) = bracketed_below least (tightness p) (predicate_text p) ∷ part_texts least ps
@@ -126,12 +134,14 @@ unit_text (x ∷ []) = name_text x
 unit_text (x ∷ y ∷ others) = in_brackets (names_text (x ∷ y ∷ others))
 
 abbrev mutual
+  -- An element of GROUP BY.
   pub group_text : GroupForm → List ℕ
   group_text (set ns) = unit_text ns
   group_text (rollup us) = codes "ROLLUP " ++ in_brackets (comma_list (map unit_text us))
   group_text (cube us) = codes "CUBE " ++ in_brackets (comma_list (map unit_text us))
   group_text (sets gs) = codes "GROUPING SETS " ++ in_brackets (comma_list (group_texts gs))
 
+  -- The elements of GROUPING SETS, in order.
   pub group_texts : GroupForms → List (List ℕ)
   group_texts no_groups = []
   group_texts (group g gs) = group_text g ∷ group_texts gs
@@ -143,6 +153,7 @@ abbrev pub alias_text : Option (List ℕ) → List ℕ
 alias_text None = []
 alias_text (Some n) = codes " AS " ++ name_text n
 
+-- An item: its expression, and its alias.
 abbrev pub item_text : ItemForm → List ℕ
 item_text i = expression_text i.expression ++ alias_text i.alias
 
@@ -158,6 +169,7 @@ abbrev pub direction_text : Bool → List ℕ
 direction_text true = codes " DESC"
 direction_text false = []
 
+-- A key: its expression, its direction, and where NULL stands.
 abbrev pub key_text : KeyForm → List ℕ
 key_text k = expression_text k.expression ++ direction_text k.descending ++ nulls_text k.descending k.nulls_first
 

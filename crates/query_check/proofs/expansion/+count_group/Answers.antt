@@ -1,4 +1,4 @@
-use Rattle.std.proofs.Common.{◌≡◌, ◌+◌, ◌^◌, ◌∙◌, arith, length, ap, sym, min, ℕ}
+use Rattle.std.proofs.Common.{◌≡◌, arith, length, ap}
 use Rattle.query_check.proofs.Counts.{rollup_count, cube_count}
 use Rattle.query_check.proofs.expansion.+count_group.Goals as goal
 

@@ -1,4 +1,4 @@
-use Rattle.std.proofs.Common.{◌≡◌, ◌∙◌, ◌++◌, ℕ, List, map, refl, ap}
+use Rattle.std.proofs.Common.{◌∙◌, ◌++◌, ℕ, List, map, refl, ap}
 use Rattle.std.specs.Global.{Vec}
 use Rattle.std.proofs.lemmas.List.{map-append}
 use Rattle.query_check.specs.Sets.{crossed}

@@ -1,5 +1,4 @@
-use Rattle.std.proofs.Common.{List, map}
-use Rattle.std.specs.List.{flat_map}
+use Rattle.std.proofs.Common.{map}
 use Rattle.std.proofs.lemmas.List.Elements.{filter_map-append}
 use Rattle.values.specs.Schema.{fields_of}
 use Rattle.query_tree.specs.declared.group.Group.{Group}

@@ -1,10 +1,10 @@
-use Rattle.std.proofs.Common.{List, map}
+use Rattle.std.proofs.Common.{map}
 use Rattle.std.specs.List.{flat_map}
 use Rattle.std.proofs.lemmas.List.Elements.{filter_map-append}
 use Rattle.values.specs.Schema.{fields_of}
 use Rattle.query_tree.specs.declared.group.Group.{Group}
-use Rattle.query_tree.specs.Syntax.{group_form, group_forms}
-use Rattle.query_check.specs.Columns.{group_names, groups_names, place_of, places_of}
+use Rattle.query_tree.specs.Syntax.{group_form}
+use Rattle.query_check.specs.Columns.{group_names, place_of, places_of}
 use Rattle.query_check.proofs.Rows.{appended_turn}
 use Rattle.query_check.proofs.names.grouping_places.Goals as goal
 

@@ -5,7 +5,6 @@ use Rattle.std.proofs.lemmas.List.{map-append}
 use Rattle.query_tree.specs.Syntax.{item_form}
 use Rattle.query_print.specs.Canonical.{header_text}
 use Rattle.query_fault.specs.declared.QueryFault.TheVariants.{RepeatedHeader}
-use Rattle.query_fault.specs.declared.QueryFault.{QueryFault}
 use Rattle.std.proofs.Common.{Some}
 use Rattle.query_check.proofs.Headers.{header_at, header_met, header_new, headers_more, headers_of, within_headers}
 use Rattle.query_check.proofs.resolution.check_headers.Goals as goal

@@ -1,4 +1,4 @@
-use Rattle.std.proofs.Common.{◌≡◌, ◌+◌, map, take, drop, string_bytes}
+use Rattle.std.proofs.Common.{◌≡◌, map, take, drop, string_bytes}
 use Rattle.std.specs.List.{enumerate_from}
 use Rattle.query_tree.specs.Syntax.{item_form}
 use Rattle.query_print.specs.Canonical.{header_text}

@@ -1,4 +1,4 @@
-use Rattle.std.proofs.Common.{◌≡◌, ◌∙◌, map, length, ap, subst, Option}
+use Rattle.std.proofs.Common.{◌∙◌, map, length, ap, subst, Option}
 use Rattle.query_tree.specs.Syntax.{group_form}
 use Rattle.query_fault.specs.declared.QueryFault.{QueryFault}
 use Rattle.query_check.specs.Sets.{expanded}
