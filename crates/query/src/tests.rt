@@ -1,7 +1,10 @@
-use crate::{Expression, Query, QueryFault, parse, print};
+use crate::{
+    ColumnFunction, Expression, Plan, Query, QueryFault, check, header, parse, print, set_text,
+};
 use std::alloc::Global;
 use std::process::Abort;
 use std::test::Fail;
+use values::Schema;
 
 /// The canonical text of a query's text.
 fn printed(alloc: Global, text: &str) -> Result<String, Fail> {
@@ -175,5 +178,115 @@ fn is_out_of_memory(fault: &QueryFault) -> bool {
     match fault {
         QueryFault::OutOfMemory => true,
         _ => false,
+    }
+}
+
+/// The plan of a query under a schema.
+fn plan(alloc: Global, columns: &str, text: &str) -> Result<Plan, QueryFault> {
+    let query = parse(alloc, text)?;
+    match Schema::parse(alloc, columns) {
+        Ok(schema) => check(alloc, query, schema),
+        Err(_) => Err(QueryFault::OutOfMemory),
+    }
+}
+
+/// The fault of a query under the columns `d:text,r:text,q:int`, as it is printed.
+fn plan_fault(alloc: Global, text: &str) -> Result<String, Fail> {
+    match plan(alloc, "d:text,r:text,q:int", text) {
+        Ok(_) => Ok("planned".to_string(alloc)?),
+        Err(fault) => Ok(fault.to_string(alloc)?),
+    }
+}
+
+#[test]
+fn names_the_fault_of_a_plan(rt: HostRuntime) -> Result<(), Fail> {
+    let cases = [
+        ("SELECT d, COUNT(*) FROM lines GROUP BY d", "planned"),
+        (
+            "SELECT d FROM lines GROUP BY r",
+            "query: column d is not grouped",
+        ),
+        ("SELECT d FROM lines", "query: column d is not grouped"),
+        ("SELECT D FROM lines GROUP BY d", "query: unknown column D"),
+        ("SELECT SUM(d) FROM lines", "query: types do not agree"),
+        ("SELECT SUM(z) FROM lines", "query: unknown column z"),
+        (
+            "SELECT COUNT(*) FROM lines GROUP BY d, z, y",
+            "query: unknown column z",
+        ),
+        (
+            "SELECT d AS n, COUNT(*) AS n FROM lines GROUP BY d",
+            "query: header n stands twice",
+        ),
+        (
+            "SELECT d AS \"COUNT(*)\", COUNT(*) FROM lines GROUP BY d",
+            "query: header COUNT(*) stands twice",
+        ),
+        (
+            "SELECT SUM(q), SUM(q) FROM lines",
+            "query: header SUM(q) stands twice",
+        ),
+    ];
+    for (text, wanted) in cases {
+        let met = plan_fault(rt.alloc(), text)?;
+        assert_eq!(rt; met.as_str(), wanted, "{text}");
+    }
+    Ok(())
+}
+
+/// The header of an item; a plan without that item has none.
+fn header_of(rt: &impl Abort, alloc: Global, plan: &Plan, item: usize) -> Result<String, Fail> {
+    let count = plan.query().tree().items.len();
+    assert!(rt; item < count);
+    Ok(header(alloc, plan, item)?)
+}
+
+#[test]
+fn gives_headers(rt: HostRuntime) -> Result<(), Fail> {
+    let text = "SELECT \"select\", \"select\" AS \"a b\", SUM(q), SUM(q) AS s, COUNT( * ) \
+        FROM lines GROUP BY \"select\"";
+    match plan(rt.alloc(), "q:int", text) {
+        Ok(_) => panic!(rt; "`select` is no column"),
+        Err(fault) => {
+            let printed = fault.to_string(rt.alloc())?;
+            assert_eq!(rt; printed.as_str(), "query: unknown column select");
+        }
+    }
+    let Ok(plan) = plan(rt.alloc(), "select:text,q:int", text) else {
+        panic!(rt; "refused");
+    };
+    let wanted = ["\"select\"", "a b", "SUM(q)", "s", "COUNT(*)"];
+    for (item, text) in wanted.iter().enumerate() {
+        let met = header_of(&rt, rt.alloc(), &plan, item)?;
+        assert_eq!(rt; met.as_str(), *text);
+    }
+    Ok(())
+}
+
+#[test]
+fn gives_the_sets(rt: HostRuntime) -> Result<(), Fail> {
+    let text = "SELECT r, COUNT(*), SUM(q) AS s, SUM(q) AS t FROM lines GROUP BY r, d, r";
+    let Ok(plan) = plan(rt.alloc(), "d:text,r:text,q:int", text) else {
+        panic!(rt; "refused");
+    };
+    assert_eq!(rt; plan.sets().len(), 1);
+    assert_eq!(rt; plan.sets()[0].as_slice(), [1, 0].as_slice());
+    assert_eq!(rt; set_text(rt.alloc(), &plan, 0)?.as_str(), "(r, d)");
+    let functions = plan.functions();
+    assert_eq!(rt; functions.len(), 2);
+    assert!(rt; functions[0].is_same(ColumnFunction::CountRows));
+    assert!(rt; functions[1].is_same(ColumnFunction::Sum(2)));
+    assert_eq!(rt; plan.schema().columns().len(), 3);
+    assert_eq!(rt; print(rt.alloc(), plan.query())?.as_str(), text);
+    Ok(())
+}
+
+/// Where memory is refused the answer is want of memory, else the plan.
+#[test]
+fn refusal_of_check(rt: HostRuntime) {
+    let text = "SELECT d, COUNT(*) FROM lines GROUP BY d";
+    match plan(rt.alloc(), "d:text,q:int", text) {
+        Ok(plan) => assert_eq!(rt; plan.functions().len(), 1),
+        Err(fault) => assert!(rt; is_out_of_memory(&fault), "{fault:?}"),
     }
 }

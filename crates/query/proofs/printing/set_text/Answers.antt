@@ -21,13 +21,13 @@ returns c =
     let all = sets_of fields (form_of_plan c.args.plan.now) in
     let same : contents c.sets.result.now ≡ all = c.sets.ensures.sets in
     let within : c.args.set < length c.sets.result.now =
-      let n = length-map c.sets.result.now (λ (s : Vec ℕ). s.items) in let e = ap length same in omega (arith, c.requires, n, e) in
+    let n = length-map c.sets.result.now (λ (s : Vec ℕ). s.items) in let e = ap length same in omega (arith, c.requires, n, e) in
     let here : slice_get all c.args.set ≡ Some c.index-sets-set.result.items =
-      ap (λ sets. slice_get sets c.args.set) (sym same) ∙ contents_at c.sets.result.now c.args.set c.index-sets-set.result within c.index-sets-set.is in
+    ap (λ sets. slice_get sets c.args.set) (sym same) ∙ contents_at c.sets.result.now c.args.set c.index-sets-set.result within c.index-sets-set.is in
     record {
       text = IfOk-weaker c.set_text.result
-        (λ text. string_bytes text ≡ set_text c.schema.result.now c.deref.result.now)
-        (λ text. Some (string_bytes text) ≡ option_map (set_text fields) (slice_get all c.args.set))
-        (λ text h. ap Some (h ∙ ap (set_text c.schema.result.now) c.deref.ensures.value ∙ ap (λ f. set_text f c.index-sets-set.result.items) c.schema.ensures.schema) ∙ sym (ap (option_map (set_text fields)) here))
-        c.set_text.ensures;
+          (λ text. string_bytes text ≡ set_text c.schema.result.now c.deref.result.now)
+          (λ text. Some (string_bytes text) ≡ option_map (set_text fields) (slice_get all c.args.set))
+          (λ text h. ap Some (h ∙ ap (set_text c.schema.result.now) c.deref.ensures.value ∙ ap (λ f. set_text f c.index-sets-set.result.items) c.schema.ensures.schema) ∙ sym (ap (option_map (set_text fields)) here))
+          c.set_text.ensures;
     }
