@@ -1,3 +1,6 @@
 pub mod Rows
 pub mod Functions
 pub mod Groups
+pub mod Kept
+pub mod Shown
+pub mod Held

@@ -30,6 +30,10 @@ number_of (whole n) = Some n
 number_of (text s) = None
 number_of null = None
 
+-- the whole numbers of a list of values
+abbrev pub numbers : List Datum → List ℤ
+numbers values = filter_map number_of values
+
 -- the whole numbers in a column, over a list of records
 abbrev pub column_numbers : ℕ → List Row → List ℤ
-column_numbers place rows = filter_map number_of (map (value_at place) rows)
+column_numbers place rows = numbers (map (value_at place) rows)

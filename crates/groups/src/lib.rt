@@ -5,6 +5,9 @@
 //! for each key an accumulator of each set function, and can be merged with another one.
 #![tactic(auto)]
 
+mod accumulator;
+mod accumulators;
 mod cell;
+mod total;
 
 pub use cell::Cell;
