@@ -1,2 +1,4 @@
 mod Examples
 pub mod Keeping
+pub mod Order
+pub mod Entries

@@ -4,3 +4,5 @@ pub mod Groups
 pub mod Kept
 pub mod Shown
 pub mod Held
+pub mod Coding
+pub mod Table

@@ -8,6 +8,8 @@
 mod accumulator;
 mod accumulators;
 mod cell;
+mod table;
 mod total;
 
 pub use cell::Cell;
+pub use table::Table;
