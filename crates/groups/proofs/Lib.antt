@@ -2,3 +2,4 @@ mod Examples
 pub mod Keeping
 pub mod Order
 pub mod Entries
+pub mod Meaning

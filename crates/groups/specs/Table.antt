@@ -31,6 +31,22 @@ shown entries = fin.from_entries (entries_shown entries)
 abbrev pub IsTableOf : List ℕ → List ColumnFunction → Contents → List Row → Type 0
 IsTableOf set functions table rows = (key : Key) → fin.get table key ≡ (if list_any (same_key key) (keys set rows) then Some (held functions (members set key rows)) else None)
 
+-- the table of some list of records, fewer than 2^63 with one more
+pub record TakesOne (set : List ℕ) (functions : List ColumnFunction) (table : Contents) : Type 0 where
+  pub rows : List Row
+  pub is_table : IsTableOf set functions table rows
+  pub few : length rows + 1 < 2 ^ 63
+
+-- the tables, under one grouping set and for the same functions, of two lists that have together fewer than 2^63 records
+pub record Fit (table other : Contents) : Type 0 where
+  pub set : List ℕ
+  pub functions : List ColumnFunction
+  pub rows : List Row
+  pub more : List Row
+  pub is_table : IsTableOf set functions table rows
+  pub is_other : IsTableOf set functions other more
+  pub few : length rows + length more < 2 ^ 63
+
 -- ---- steps
 
 -- what is kept of a group after one more record; of a group that is new, after its first one
