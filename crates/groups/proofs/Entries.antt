@@ -46,8 +46,8 @@ find-updated es fs key w at others q =
       | true ↦ λ e. ap (λ p. find key_order p (entries_shown fs)) ((same_key-Decides q k).0 e) ∙ sym (lookup-shown key fs) ∙ at
       | false ↦ λ e. sym (lookup-other q fs)
           ∙ others (other_than q)
-              (λ x y h. laws.congr q (data_of x.items) (data_of y.items) h ∙ sym (key_eq-ties x.items y.items))
-              (λ x h. laws.symm q (data_of x.items) ∙ sym (laws.congr k (data_of x.items) q (sym (key_eq-ties key x.items) ∙ h)) ∙ laws.symm k q ∙ e)
+          (λ x y h. laws.congr q (data_of x.items) (data_of y.items) h ∙ sym (key_eq-ties x.items y.items))
+          (λ x h. laws.symm q (data_of x.items) ∙ sym (laws.congr k (data_of x.items) q (sym (key_eq-ties key x.items) ∙ h)) ∙ laws.symm k q ∙ e)
           ∙ lookup-other q es
     ] refl
 
@@ -92,7 +92,7 @@ none_after k e [] d h = refl
 none_after k e (f ∷ es) d h =
     let laws = eq_by_cmp_equiv key_total in
     ap (λ b. cond b (Some f.1) (find key_order k (entries_shown es)))
-      (laws.congr k (data_of e.0.items) (data_of f.0.items) h ∙ sym (key_eq-ties e.0.items f.0.items) ∙ d.0.0)
+    (laws.congr k (data_of e.0.items) (data_of f.0.items) h ∙ sym (key_eq-ties e.0.items f.0.items) ∙ d.0.0)
     ∙ none_after k e es (d.0.1, d.1.1) h
 
 -- taking the first entry of the rest
@@ -101,7 +101,7 @@ pub merged_step : (old new : Contents) (k : Key) (e : Vec Value Global × Held) 
     → join_options (get new k) (find key_order k (entries_shown es)) ≡ join_options (get old k) (find key_order k (entries_shown (e ∷ es)))
 merged_step old new k e es d a = ap (λ o. join_options o (find key_order k (entries_shown es))) a
     ∙ elim (same_key k (data_of e.0.items)) as (λ b. same_key k (data_of e.0.items) ≡ b →
-        join_options (cond b (join_options (get old k) (Some e.1)) (get old k)) (find key_order k (entries_shown es)) ≡ join_options (get old k) (cond b (Some e.1) (find key_order k (entries_shown es)))) [
+    join_options (cond b (join_options (get old k) (Some e.1)) (get old k)) (find key_order k (entries_shown es)) ≡ join_options (get old k) (cond b (Some e.1) (find key_order k (entries_shown es)))) [
       | true ↦ λ i. ap (join_options (join_options (get old k) (Some e.1))) (none_after k e es d i) ∙ options-none (join_options (get old k) (Some e.1))
       | false ↦ λ i. refl
     ] refl
@@ -112,7 +112,7 @@ pub fits_step : (old new : Contents) (k : Key) (e : Vec Value Global × Held) (e
     → IfSome (find key_order k (entries_shown (e ∷ es))) (λ p. IsFitting p (get old k)) → IfSome (find key_order k (entries_shown es)) (λ p. IsFitting p (get new k))
 fits_step old new k e es d a h =
     elim (same_key k (data_of e.0.items)) as (λ b. same_key k (data_of e.0.items) ≡ b → get new k ≡ cond b (join_options (get old k) (Some e.1)) (get old k)
-        → IfSome (cond b (Some e.1) (find key_order k (entries_shown es))) (λ p. IsFitting p (get old k)) → IfSome (find key_order k (entries_shown es)) (λ p. IsFitting p (get new k))) [
+    → IfSome (cond b (Some e.1) (find key_order k (entries_shown es))) (λ p. IsFitting p (get old k)) → IfSome (find key_order k (entries_shown es)) (λ p. IsFitting p (get new k))) [
       | true ↦ λ i a h. subst (λ (o : Option Held). IfSome o (λ p. IsFitting p (get new k))) (sym (none_after k e es d i)) tt
       | false ↦ λ i a h. subst (λ (g : Option Held). IfSome (find key_order k (entries_shown es)) (λ p. IsFitting p g)) (sym a) h
     ] refl a h

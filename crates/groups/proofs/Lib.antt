@@ -3,3 +3,5 @@ pub mod Keeping
 pub mod Order
 pub mod Entries
 pub mod Meaning
+pub mod Distinct
+pub mod GroupsLaw

@@ -89,17 +89,17 @@ alike q p e (k ∷ ks) = ap (λ b. b || list_any (same_key q) ks) ((eq_by_cmp_eq
 
 there_already : (q p : Key) (ks : List Key) → list_any (same_key p) ks ≡ true → (same_key q p || list_any (same_key q) ks) ≡ list_any (same_key q) ks
 there_already q p ks there = elim (same_key q p) as (λ b. same_key q p ≡ b → (b || list_any (same_key q) ks) ≡ list_any (same_key q) ks) [
-    | true ↦ λ e. sym (alike q p e ks ∙ there)
-    | false ↦ λ e. refl
-  ] refl
+  | true ↦ λ e. sym (alike q p e ks ∙ there)
+  | false ↦ λ e. refl
+] refl
 
 -- a key stands among keys as it does among them without repeats
 pub any-each_once : (q : Key) (ks : List Key) → list_any (same_key q) (each_once ks) ≡ list_any (same_key q) ks
 any-each_once q [] = refl
 any-each_once q (k ∷ ks) = elim (list_any (same_key k) ks) as (λ b. list_any (same_key k) ks ≡ b → list_any (same_key q) (cond b (each_once ks) (k ∷ each_once ks)) ≡ (same_key q k || list_any (same_key q) ks)) [
-    | true ↦ λ e. any-each_once q ks ∙ sym (there_already q k ks e)
-    | false ↦ λ e. ap (λ b. same_key q k || b) (any-each_once q ks)
-  ] refl
+  | true ↦ λ e. any-each_once q ks ∙ sym (there_already q k ks e)
+  | false ↦ λ e. ap (λ b. same_key q k || b) (any-each_once q ks)
+] refl
 
 or-false : (b : Bool) → b ≡ (b || false)
 or-false true = refl
@@ -228,6 +228,6 @@ pub tables-fit : (set : List ℕ) (fs : List ColumnFunction) (t u : Contents) (l
     → (k : Key) → IfSome (fin.get u k) (λ part. IsFitting part (fin.get t k))
 tables-fit set fs t u l m a b few k =
     subst (λ (o : Option Held). IfSome o (λ part. IsFitting part (fin.get t k))) (sym (b k))
-      (subst (λ (g : Option Held). IfSome (group_at set fs k m) (λ part. IsFitting part g)) (sym (a k))
-        (fitting-at fs (has_key set k l) (has_key set k m) (members set k l) (members set k m)
-          (omega (arith, few, filter-le (λ r. same_key k (project set r)) l, filter-le (λ r. same_key k (project set r)) m))))
+    (subst (λ (g : Option Held). IfSome (group_at set fs k m) (λ part. IsFitting part g)) (sym (a k))
+    (fitting-at fs (has_key set k l) (has_key set k m) (members set k l) (members set k m)
+    (omega (arith, few, filter-le (λ r. same_key k (project set r)) l, filter-le (λ r. same_key k (project set r)) m))))

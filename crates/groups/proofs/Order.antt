@@ -58,7 +58,7 @@ pub value_antisymmetric : IsAntisymmetric value_order
 value_antisymmetric a b h =
     sym (joined_parts-parts a)
     ∙ ap joined_parts (exact_pairs nat_cmp (λ x y. ordering_then (int_cmp x.0 y.0) (slice_cmp nat_cmp x.1 y.1)) exact_unsigned
-        (exact_pairs int_cmp (slice_cmp nat_cmp) exact_signed exact_bytes) (parts a) (parts b) (sym (value_order-is a b) ∙ h))
+    (exact_pairs int_cmp (slice_cmp nat_cmp) exact_signed exact_bytes) (parts a) (parts b) (sym (value_order-is a b) ∙ h))
     ∙ joined_parts-parts b
 
 pub key_total : IsTotalOrder key_order

@@ -6,3 +6,4 @@ pub mod Shown
 pub mod Held
 pub mod Coding
 pub mod Table
+pub mod Lines

@@ -8,8 +8,10 @@
 mod accumulator;
 mod accumulators;
 mod cell;
+mod group;
 mod table;
 mod total;
 
 pub use cell::Cell;
+pub use group::Group;
 pub use table::Table;

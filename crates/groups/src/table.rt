@@ -4,6 +4,7 @@ ghost use Rattle.groups.specs.Groups.{project};
 ghost use Rattle.groups.specs.Rows.{value_at};
 
 use crate::accumulators::Accumulators;
+use crate::group::{Group, groups_of};
 use query_check::ColumnFunction;
 use std::alloc::{AllocError, Global};
 use std::collections::HashMap;
@@ -28,13 +29,14 @@ impl Model for Table {
 }
 
 impl Table {
-    ghost use Rattle.std.specs.Prelude.{◌≡◌, ℕ, [], ◌∷◌, ◌++◌, OnOk, IfOk, IfSome, List};
+    ghost use Rattle.std.specs.Prelude.{◌≡◌, ℕ, [], ◌∷◌, ◌++◌, OnOk, IfOk, IfSome, List, map};
     ghost use Rattle.groups.specs.Rows.{Row};
     ghost use Rattle.query_check.specs.declared.function.ColumnFunction.{ColumnFunction};
     ghost use Rattle.std.specs.FinMap as fin;
     ghost use Rattle.values.specs.Datum.{data_of};
     ghost use Rattle.groups.specs.Groups.{Key};
     ghost use Rattle.groups.specs.Held.{AreServed, IsNarrowRow, held};
+    ghost use Rattle.groups.specs.Lines.{SameBag, line_in, lines_of};
     ghost use Rattle.groups.specs.Table.{Fit, HasPlace, IsAdded, IsPut, IsFitting, IsJoined, IsTableOf, TakesOne};
 
     /// The table of no records under a grouping set, for these set functions.
@@ -93,6 +95,15 @@ impl Table {
             → IsTableOf set functions self.old rows → IsTableOf set functions other more → IsTableOf set functions self.new (rows ++ more)) }
     {
         self.put_all(other)
+    }
+
+    /// One group for each key of the records, in no order that is said.
+    pub fn finish(self) -> Result<Vec<Group>, AllocError>
+        ensures groups { IfOk result (λ groups. (set : List ℕ) (functions : List ColumnFunction) (rows : List Row)
+            → AreServed functions → IsTableOf set functions self rows → SameBag (map line_in groups.items) (lines_of set functions rows)) }
+    {
+        let Table { alloc, groups } = self;
+        groups_of(alloc, groups)
     }
 
     /// Takes one more record of the group of a key.

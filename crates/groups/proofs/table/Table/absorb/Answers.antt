@@ -17,9 +17,10 @@ returns c =
     let old = c.args.self.now in
     let other = c.args.other in
     let new = c.put_all.new.self in
-    record { joined = on_ok_weaker c.put_all.result
-      (λ (h : (k : Key) → IsJoined old other new k).
-        λ (set : List ℕ) (fs : List ColumnFunction) (rows more : List Row) (t : IsTableOf set fs old rows) (u : IsTableOf set fs other more).
+    record {
+      joined = on_ok_weaker c.put_all.result
+          (λ (h : (k : Key) → IsJoined old other new k).
+          λ (set : List ℕ) (fs : List ColumnFunction) (rows more : List Row) (t : IsTableOf set fs old rows) (u : IsTableOf set fs other more).
           table-joined set fs old other new rows more t u h)
-      c.put_all.ensures;
+          c.put_all.ensures;
     }

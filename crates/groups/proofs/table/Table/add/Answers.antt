@@ -19,9 +19,10 @@ returns c =
     let row = data_of c.args.row.now in
     let old = c.args.self.now in
     let new = c.add_to_group.new.self in
-    record { added = on_ok_weaker c.add_to_group.result
-      (λ (h : (k : Key) → IsAdded fs old new (data_of c.in_ok-key.key.items) row k).
-        λ (rows : List Row) (t : IsTableOf set fs old rows).
+    record {
+      added = on_ok_weaker c.add_to_group.result
+          (λ (h : (k : Key) → IsAdded fs old new (data_of c.in_ok-key.key.items) row k).
+          λ (rows : List Row) (t : IsTableOf set fs old rows).
           table-added set fs old new rows row t (λ k. subst (λ (q : Key). IsAdded fs old new q row k) c.in_ok-key.ensures (h k)))
-      c.add_to_group.ensures;
+          c.add_to_group.ensures;
     }

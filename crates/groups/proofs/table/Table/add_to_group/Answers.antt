@@ -44,8 +44,8 @@ returns-in-Some c =
     let there : IsSome (lookup (λ k. pointwise value_eq c.args.key.items k.items) es) = ap is_some (sym c.get_mut.ensures.value ∙ ap option_copied_mut c.in-Some.is) in
     let u = (c.get_mut.follows.holds c.add.new.self).3 there in
     added_is fs c.args.self.now (shown n.entries) key row (Some c.add.new.self)
-      (λ q. get-updated es n.entries c.args.key.items (Some c.add.new.self) u.1 u.3 q ∙ ap (λ m. cond (same_key q key) (Some c.add.new.self) (fin.get m q)) c.self.view_is)
-      (ap Some c.add.ensures ∙ ap (λ o. Some (grown fs o row)) (sym (found_then c)))
+    (λ q. get-updated es n.entries c.args.key.items (Some c.add.new.self) u.1 u.3 q ∙ ap (λ m. cond (same_key q key) (Some c.add.new.self) (fin.get m q)) c.self.view_is)
+    (ap Some c.add.ensures ∙ ap (λ o. Some (grown fs o row)) (sym (found_then c)))
 
 pub returns : goal.returns
 returns c =
@@ -56,7 +56,7 @@ returns c =
     let u = c.in_ok-insert.ensures.updates in
     let others = rw (c.get_mut.follows.holds-at-none) at u.3 in
     let absent : fin.get c.args.self.now key ≡ None =
-      ap (λ m. fin.get m key) (sym c.self.view_is) ∙ get-shown c.args.key.items es ∙ sym c.get_mut.ensures.value ∙ ap option_copied_mut c.in_default.is in
+    ap (λ m. fin.get m key) (sym c.self.view_is) ∙ get-shown c.args.key.items es ∙ sym c.get_mut.ensures.value ∙ ap option_copied_mut c.in_default.is in
     added_is fs c.args.self.now (shown c.insert.new.self.entries) key row (Some c.add-2.new.self)
-      (λ q. get-updated es c.insert.new.self.entries c.args.key.items (Some c.add-2.new.self) u.1 others q ∙ ap (λ m. cond (same_key q key) (Some c.add-2.new.self) (fin.get m q)) c.self.view_is)
-      (ap Some c.add-2.ensures ∙ ap (λ (g : Held). Some (with_row fs g row)) c.in_ok-group.ensures ∙ ap (λ o. Some (grown fs o row)) (sym absent))
+    (λ q. get-updated es c.insert.new.self.entries c.args.key.items (Some c.add-2.new.self) u.1 others q ∙ ap (λ m. cond (same_key q key) (Some c.add-2.new.self) (fin.get m q)) c.self.view_is)
+    (ap Some c.add-2.ensures ∙ ap (λ (g : Held). Some (with_row fs g row)) c.in_ok-group.ensures ∙ ap (λ o. Some (grown fs o row)) (sym absent))

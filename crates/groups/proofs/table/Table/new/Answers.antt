@@ -11,7 +11,7 @@ pub returns : goal.returns
 returns c =
     let set = c.args.set.now in
     let some : length set ≢ 0 = λ h. let t : (length set == 0) ≡ true = eq-eqb (length set) 0 h in let f = c.if-is_empty.ensures in cc in
-    record { empty = table-no_group set c.args.functions.now (shown c.new.result.entries) some (ap shown c.new.ensures.empty); }
+    record { empty = table-no_group set c.args.functions.now (shown c.new.result.entries) some (ap shown c.new.ensures.empty) }
 
 by_key : {E : Type 0} (set : List ℕ) (fs : List ColumnFunction) (r : Result Contents E) → length set ≡ 0 → IfOk r (λ t. (k : Key) → IsPut fin.empty t [] (held fs []) k) → IfOk r (λ t. IsTableOf set fs t [])
 by_key set fs (Ok t) z h = table-empty_set set fs t z h
@@ -21,4 +21,4 @@ pub returns-then-is_empty : goal.returns-then-is_empty
 returns-then-is_empty c =
     let set = c.args.set.now in
     let none : length set ≡ 0 = let f = c.if-is_empty.ensures in grind (arith, f) in
-    record { empty = by_key set c.args.functions.now c.with_empty_key.result none c.with_empty_key.ensures; }
+    record { empty = by_key set c.args.functions.now c.with_empty_key.result none c.with_empty_key.ensures }

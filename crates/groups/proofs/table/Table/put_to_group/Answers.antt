@@ -42,8 +42,8 @@ returns-in-Some c =
     let there : IsSome (lookup (λ k. pointwise value_eq c.args.key.items k.items) es) = ap is_some (sym c.get_mut.ensures.value ∙ ap option_copied_mut c.in-Some.is) in
     let u = (c.get_mut.follows.holds c.absorb.new.self).3 there in
     put_is c.args.self.now (shown n.entries) key c.args.part (Some c.absorb.new.self)
-      (λ q. get-updated es n.entries c.args.key.items (Some c.absorb.new.self) u.1 u.3 q ∙ ap (λ m. cond (same_key q key) (Some c.absorb.new.self) (fin.get m q)) c.self.view_is)
-      (ap Some c.absorb.ensures ∙ ap (λ o. join_options o (Some c.args.part)) (sym (found_then c)))
+    (λ q. get-updated es n.entries c.args.key.items (Some c.absorb.new.self) u.1 u.3 q ∙ ap (λ m. cond (same_key q key) (Some c.absorb.new.self) (fin.get m q)) c.self.view_is)
+    (ap Some c.absorb.ensures ∙ ap (λ o. join_options o (Some c.args.part)) (sym (found_then c)))
 
 pub returns : goal.returns
 returns c =
@@ -52,7 +52,7 @@ returns c =
     let u = c.in_ok-insert.ensures.updates in
     let others = rw (c.get_mut.follows.holds-at-none) at u.3 in
     let absent : fin.get c.args.self.now key ≡ None =
-      ap (λ m. fin.get m key) (sym c.self.view_is) ∙ get-shown c.args.key.items es ∙ sym c.get_mut.ensures.value ∙ ap option_copied_mut c.in_default.is in
+    ap (λ m. fin.get m key) (sym c.self.view_is) ∙ get-shown c.args.key.items es ∙ sym c.get_mut.ensures.value ∙ ap option_copied_mut c.in_default.is in
     put_is c.args.self.now (shown c.insert.new.self.entries) key c.args.part (Some c.args.part)
-      (λ q. get-updated es c.insert.new.self.entries c.args.key.items (Some c.args.part) u.1 others q ∙ ap (λ m. cond (same_key q key) (Some c.args.part) (fin.get m q)) c.self.view_is)
-      (ap (λ o. join_options o (Some c.args.part)) (sym absent))
+    (λ q. get-updated es c.insert.new.self.entries c.args.key.items (Some c.args.part) u.1 others q ∙ ap (λ m. cond (same_key q key) (Some c.args.part) (fin.get m q)) c.self.view_is)
+    (ap (λ o. join_options o (Some c.args.part)) (sym absent))
