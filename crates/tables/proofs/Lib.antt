@@ -1,1 +1,2 @@
 pub mod Partly
+pub mod Joining

@@ -28,7 +28,7 @@ impl Tables {
     ghost use Rattle.query_check.specs.declared.function.ColumnFunction.{ColumnFunction};
     ghost use Rattle.groups.specs.Rows.{Row};
     ghost use Rattle.groups.specs.Held.{AreServed, IsNarrowRow};
-    ghost use Rattle.tables.specs.Sets.{AllTakeOne, AreTablesOf, places_of};
+    ghost use Rattle.tables.specs.Sets.{AllFit, AllTakeOne, AreTablesOf, places_of};
 
     /// The tables of no records.
     pub fn new(
@@ -61,6 +61,19 @@ impl Tables {
     {
         for (place, set) in sets.iter().enumerate() {
             self.tables[place].add(set.as_slice(), functions, row)?;
+        }
+        Ok(())
+    }
+
+    /// Takes the records of other tables of the same sets. After an error the tables are of no use.
+    pub fn absorb(&mut self, other: Tables) -> Result<(), AllocError>
+        requires { AllFit self.old other }
+        ensures joined { OnOk result ((sets : List (List ℕ)) (functions : List ColumnFunction) (rows more : List Row)
+            → AreTablesOf sets functions self.old rows → AreTablesOf sets functions other more → AreTablesOf sets functions self.new (rows ++ more)) }
+    {
+        let Tables { tables } = other;
+        for (place, table) in tables.into_iter().enumerate() {
+            self.tables[place].absorb(table)?;
         }
         Ok(())
     }
