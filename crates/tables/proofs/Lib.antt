@@ -1,2 +1,3 @@
 pub mod Partly
 pub mod Joining
+pub mod Finishing

@@ -3,6 +3,8 @@ use Rattle.std.specs.Prelude.{ℕ, ◌+◌, ◌<◌, ◌^◌, ⊤, List, [], ◌
 use Rattle.std.specs.declared.alloc.Global.{Global}
 use Rattle.std.specs.declared.vec.Vec.{Vec}
 use Rattle.query_check.specs.declared.function.ColumnFunction.{ColumnFunction}
+use Rattle.groups.specs.declared.group.Group.{Group}
+use Rattle.groups.specs.Lines.{SameBag, line_in, lines_of}
 use Rattle.groups.specs.Rows.{Row}
 use Rattle.groups.specs.Table.{Contents, IsTableOf}
 
@@ -15,6 +17,12 @@ abbrev pub AreTablesOf : List (List ℕ) → List ColumnFunction → List Conten
 AreTablesOf [] functions [] rows = ⊤
 AreTablesOf (set ∷ sets) functions (table ∷ tables) rows = IsTableOf set functions table rows × AreTablesOf sets functions tables rows
 AreTablesOf sets functions tables rows = ⊥
+
+-- for each set of the list there are its groups of the records: one for each key, and no other
+abbrev pub AreGroupsOf : List (List ℕ) → List ColumnFunction → List (Vec Group Global) → List Row → Type 0
+AreGroupsOf [] functions [] rows = ⊤
+AreGroupsOf (set ∷ sets) functions (groups ∷ more) rows = SameBag (map line_in groups.items) (lines_of set functions rows) × AreGroupsOf sets functions more rows
+AreGroupsOf sets functions groups rows = ⊥
 
 -- the tables of some list of records, fewer than 2^63 with one more
 pub record AllTakeOne (sets : List (List ℕ)) (functions : List ColumnFunction) (tables : List Contents) : Type 0 where

@@ -1,4 +1,10 @@
-use groups::Table;
+ghost use Rattle.std.specs.Prelude.{ℕ, IfOk, List};
+ghost use Rattle.query_check.specs.declared.function.ColumnFunction.{ColumnFunction};
+ghost use Rattle.groups.specs.Rows.{Row};
+ghost use Rattle.groups.specs.Held.{AreServed};
+ghost use Rattle.tables.specs.Sets.{AreGroupsOf, AreTablesOf};
+
+use groups::{Group, Table};
 use query_check::ColumnFunction;
 use std::alloc::{AllocError, Global};
 use std::marker::Model;
@@ -28,7 +34,7 @@ impl Tables {
     ghost use Rattle.query_check.specs.declared.function.ColumnFunction.{ColumnFunction};
     ghost use Rattle.groups.specs.Rows.{Row};
     ghost use Rattle.groups.specs.Held.{AreServed, IsNarrowRow};
-    ghost use Rattle.tables.specs.Sets.{AllFit, AllTakeOne, AreTablesOf, places_of};
+    ghost use Rattle.tables.specs.Sets.{AllFit, AllTakeOne, AreGroupsOf, AreTablesOf, places_of};
 
     /// The tables of no records.
     pub fn new(
@@ -77,4 +83,25 @@ impl Tables {
         }
         Ok(())
     }
+
+    /// The groups of each set, in the order of the sets; those of one set in no order that is said.
+    pub fn finish(self, alloc: Global) -> Result<Vec<Vec<Group>>, AllocError>
+        ensures groups { IfOk result (λ groups. (sets : List (List ℕ)) (functions : List ColumnFunction) (rows : List Row)
+            → AreServed functions → AreTablesOf sets functions self rows → AreGroupsOf sets functions groups.items rows) }
+    {
+        let Tables { tables } = self;
+        finish_all(alloc, tables)
+    }
+}
+
+/// The groups of each table.
+fn finish_all(alloc: Global, tables: Vec<Table>) -> Result<Vec<Vec<Group>>, AllocError>
+    ensures { IfOk result (λ groups. (sets : List (List ℕ)) (functions : List ColumnFunction) (rows : List Row)
+        → AreServed functions → AreTablesOf sets functions tables.items rows → AreGroupsOf sets functions groups.items rows) }
+{
+    let mut groups = Vec::with_capacity(alloc, tables.len())?;
+    for table in tables {
+        groups.push(table.finish()?)?;
+    }
+    Ok(groups)
 }
