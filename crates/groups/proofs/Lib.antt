@@ -5,3 +5,4 @@ pub mod Entries
 pub mod Meaning
 pub mod Distinct
 pub mod GroupsLaw
+pub mod Shuffles

@@ -18,7 +18,7 @@ use Rattle.groups.specs.Held.{Held, held, all_taken, all_joined, with_row, join}
 use Rattle.groups.specs.Table.{Contents, IsTableOf, IsAdded, IsPut, IsJoined, HasPlace, IsFitting, grown, join_options}
 use Rattle.groups.proofs.Order.{key_total, same_key-Decides}
 
-same_held : (g h : Held) → g.lines ≡ h.lines → g.parts ≡ h.parts → g ≡ h
+pub same_held : (g h : Held) → g.lines ≡ h.lines → g.parts ≡ h.parts → g ≡ h
 same_held g h p q i = record { lines = p i; parts = q i }
 
 -- ---- what is kept of two lists of records
@@ -156,7 +156,7 @@ both fs true false x y p q = ap (λ z. Some (held fs (x ++ z))) (q refl) ∙ ap 
 both fs false true x y p q = ap (λ z. Some (held fs (z ++ y))) (p refl)
 both fs false false x y p q = refl
 
-group_at-append : (set : List ℕ) (fs : List ColumnFunction) (k : Key) (l m : List Row) → group_at set fs k (l ++ m) ≡ join_options (group_at set fs k l) (group_at set fs k m)
+pub group_at-append : (set : List ℕ) (fs : List ColumnFunction) (k : Key) (l m : List Row) → group_at set fs k (l ++ m) ≡ join_options (group_at set fs k l) (group_at set fs k m)
 group_at-append set fs k l m =
     ap (λ b. cond b (Some (held fs (members set k (l ++ m)))) None) (has_key-append set k l m)
     ∙ ap (λ ms. cond (has_key set k l || has_key set k m) (Some (held fs ms)) None) (filter-append (λ row. same_key k (project set row)) l m)

@@ -7,3 +7,4 @@ pub mod Held
 pub mod Coding
 pub mod Table
 pub mod Lines
+pub mod Shuffle

@@ -9,9 +9,11 @@ mod accumulator;
 mod accumulators;
 mod cell;
 mod group;
+mod laws;
 mod table;
 mod total;
 
 pub use cell::Cell;
 pub use group::Group;
+pub use laws::order_law;
 pub use table::Table;
