@@ -1,0 +1,121 @@
+-- The entries of a hashed map from keys to groups, and what is found in them by a key.
+use Rattle.std.proofs.Common.{◌≡◌, ◌+◌, ◌<◌, ◌^◌, IfSome, Bool, true, false, cond, List, [], ◌∷◌, length, Option, Some, None, Vec, Global, unwrap_or, refl, sym, ap, subst, ◌∙◌}
+use Rattle.std.specs.Cmp.{eq_by_cmp_equiv}
+use Rattle.std.specs.Cmp.Lexicographic.{pointwise}
+use Rattle.std.specs.FinMap.{find, get, get-from_entries}
+use Rattle.std.specs.Map.{lookup, keys_of, KeepsOthers}
+use Rattle.std.specs.List.{IsDistinct}
+use Rattle.values.specs.Datum.{Datum, data_of}
+use Rattle.values.specs.declared.value.Value.{Value}
+use Rattle.query_check.specs.declared.function.ColumnFunction.{ColumnFunction}
+use Rattle.groups.specs.Rows.{Row}
+use Rattle.groups.specs.Groups.{Key, key_order, same_key}
+use Rattle.groups.specs.Held.{Held}
+use Rattle.groups.specs.Table.{Contents, IsAdded, IsPut, IsFitting, grown, join_options, entries_shown, shown}
+use Rattle.groups.proofs.Order.{key_total, same_key-Decides, value_eq, key_eq-ties}
+
+abbrev pub Entries : Type 0
+Entries = List (Vec Value Global × Held)
+
+abbrev pub key_eq : Vec Value Global → Vec Value Global → Bool
+key_eq x y = pointwise value_eq x.items y.items
+
+-- what a search by a key finds
+pub lookup-shown : (key : List Value) (es : Entries) → lookup (λ k. pointwise value_eq key k.items) es ≡ find key_order (data_of key) (entries_shown es)
+lookup-shown key [] = refl
+lookup-shown key (e ∷ es) =
+    ap (λ b. cond b (Some e.1) (lookup (λ k. pointwise value_eq key k.items) es)) (key_eq-ties key e.0.items)
+    ∙ ap (cond (same_key (data_of key) (data_of e.0.items)) (Some e.1)) (lookup-shown key es)
+
+abbrev other_than : Key → Vec Value Global → Bool
+other_than q k = same_key q (data_of k.items)
+
+lookup-other : (q : Key) (es : Entries) → lookup (other_than q) es ≡ find key_order q (entries_shown es)
+lookup-other q [] = refl
+lookup-other q (e ∷ es) = ap (cond (other_than q e.0) (Some e.1)) (lookup-other q es)
+
+-- after a change at one key
+find-updated : (es fs : Entries) (key : List Value) (w : Option Held) → lookup (λ k. pointwise value_eq key k.items) fs ≡ w
+    → KeepsOthers (λ x y. pointwise value_eq x.items y.items) (λ k. pointwise value_eq key k.items) es fs
+    → (q : Key) → find key_order q (entries_shown fs) ≡ cond (same_key q (data_of key)) w (find key_order q (entries_shown es))
+unfolding KeepsOthers
+find-updated es fs key w at others q =
+    let laws = eq_by_cmp_equiv key_total in
+    let k = data_of key in
+    elim (same_key q k) as (λ b. same_key q k ≡ b → find key_order q (entries_shown fs) ≡ cond b w (find key_order q (entries_shown es))) [
+      | true ↦ λ e. ap (λ p. find key_order p (entries_shown fs)) ((same_key-Decides q k).0 e) ∙ sym (lookup-shown key fs) ∙ at
+      | false ↦ λ e. sym (lookup-other q fs)
+          ∙ others (other_than q)
+          (λ x y h. laws.congr q (data_of x.items) (data_of y.items) h ∙ sym (key_eq-ties x.items y.items))
+          (λ x h. laws.symm q (data_of x.items) ∙ sym (laws.congr k (data_of x.items) q (sym (key_eq-ties key x.items) ∙ h)) ∙ laws.symm k q ∙ e)
+          ∙ lookup-other q es
+    ] refl
+
+-- the same of the contents
+pub get-updated : (es fs : Entries) (key : List Value) (w : Option Held) → lookup (λ k. pointwise value_eq key k.items) fs ≡ w
+    → KeepsOthers (λ x y. pointwise value_eq x.items y.items) (λ k. pointwise value_eq key k.items) es fs
+    → (q : Key) → get (shown fs) q ≡ cond (same_key q (data_of key)) w (get (shown es) q)
+get-updated es fs key w at others q = get-from_entries key_total (entries_shown fs) q ∙ find-updated es fs key w at others q
+    ∙ ap (cond (same_key q (data_of key)) w) (sym (get-from_entries key_total (entries_shown es) q))
+
+pub get-shown : (key : List Value) (es : Entries) → get (shown es) (data_of key) ≡ lookup (λ k. pointwise value_eq key k.items) es
+get-shown key es = get-from_entries key_total (entries_shown es) (data_of key) ∙ sym (lookup-shown key es)
+
+pub added_is : (functions : List ColumnFunction) (old new : Contents) (key : Key) (row : Row) (w : Option Held)
+    → ((q : Key) → get new q ≡ cond (same_key q key) w (get old q))
+    → w ≡ Some (grown functions (get old key) row) → (k : Key) → IsAdded functions old new key row k
+added_is functions old new key row w h e k =
+    h k ∙ elim (same_key k key) as (λ b. same_key k key ≡ b → cond b w (get old k) ≡ cond b (Some (grown functions (get old k) row)) (get old k)) [
+      | true ↦ λ i. e ∙ ap (λ l. Some (grown functions (get old l) row)) (sym ((same_key-Decides k key).0 i))
+      | false ↦ λ i. refl
+    ] refl
+
+pub put_is : (old new : Contents) (key : Key) (part : Held) (w : Option Held)
+    → ((q : Key) → get new q ≡ cond (same_key q key) w (get old q))
+    → w ≡ join_options (get old key) (Some part) → (k : Key) → IsPut old new key part k
+put_is old new key part w h e k =
+    h k ∙ elim (same_key k key) as (λ b. same_key k key ≡ b → cond b w (get old k) ≡ cond b (join_options (get old k) (Some part)) (get old k)) [
+      | true ↦ λ i. e ∙ ap (λ l. join_options (get old l) (Some part)) (sym ((same_key-Decides k key).0 i))
+      | false ↦ λ i. refl
+    ] refl
+
+-- ---- merging the entries of another table, one after another
+
+options-none : (a : Option Held) → join_options a None ≡ a
+options-none None = refl
+options-none (Some a) = refl
+
+-- a key that the first entry has is in no other
+none_after : (k : Key) (e : Vec Value Global × Held) (es : Entries) → IsDistinct key_eq (keys_of (e ∷ es)) → same_key k (data_of e.0.items) ≡ true → find key_order k (entries_shown es) ≡ None
+unfolding IsDistinct
+none_after k e [] d h = refl
+none_after k e (f ∷ es) d h =
+    let laws = eq_by_cmp_equiv key_total in
+    ap (λ b. cond b (Some f.1) (find key_order k (entries_shown es)))
+    (laws.congr k (data_of e.0.items) (data_of f.0.items) h ∙ sym (key_eq-ties e.0.items f.0.items) ∙ d.0.0)
+    ∙ none_after k e es (d.0.1, d.1.1) h
+
+-- taking the first entry of the rest
+pub merged_step : (old new : Contents) (k : Key) (e : Vec Value Global × Held) (es : Entries)
+    → IsDistinct key_eq (keys_of (e ∷ es)) → IsPut old new (data_of e.0.items) e.1 k
+    → join_options (get new k) (find key_order k (entries_shown es)) ≡ join_options (get old k) (find key_order k (entries_shown (e ∷ es)))
+merged_step old new k e es d a = ap (λ o. join_options o (find key_order k (entries_shown es))) a
+    ∙ elim (same_key k (data_of e.0.items)) as (λ b. same_key k (data_of e.0.items) ≡ b →
+    join_options (cond b (join_options (get old k) (Some e.1)) (get old k)) (find key_order k (entries_shown es)) ≡ join_options (get old k) (cond b (Some e.1) (find key_order k (entries_shown es)))) [
+      | true ↦ λ i. ap (join_options (join_options (get old k) (Some e.1))) (none_after k e es d i) ∙ options-none (join_options (get old k) (Some e.1))
+      | false ↦ λ i. refl
+    ] refl
+
+-- what is left fits still, since its keys are others than the first entry's
+pub fits_step : (old new : Contents) (k : Key) (e : Vec Value Global × Held) (es : Entries)
+    → IsDistinct key_eq (keys_of (e ∷ es)) → IsPut old new (data_of e.0.items) e.1 k
+    → IfSome (find key_order k (entries_shown (e ∷ es))) (λ p. IsFitting p (get old k)) → IfSome (find key_order k (entries_shown es)) (λ p. IsFitting p (get new k))
+fits_step old new k e es d a h =
+    elim (same_key k (data_of e.0.items)) as (λ b. same_key k (data_of e.0.items) ≡ b → get new k ≡ cond b (join_options (get old k) (Some e.1)) (get old k)
+    → IfSome (cond b (Some e.1) (find key_order k (entries_shown es))) (λ p. IsFitting p (get old k)) → IfSome (find key_order k (entries_shown es)) (λ p. IsFitting p (get new k))) [
+      | true ↦ λ i a h. subst (λ (o : Option Held). IfSome o (λ p. IsFitting p (get new k))) (sym (none_after k e es d i)) tt
+      | false ↦ λ i a h. subst (λ (g : Option Held). IfSome (find key_order k (entries_shown es)) (λ p. IsFitting p g)) (sym a) h
+    ] refl a h
+
+pub find-first : (e : Vec Value Global × Held) (es : Entries) → find key_order (data_of e.0.items) (entries_shown (e ∷ es)) ≡ Some e.1
+find-first e es = ap (λ b. cond b (Some e.1) (find key_order (data_of e.0.items) (entries_shown es))) ((eq_by_cmp_equiv key_total).refl (data_of e.0.items))

@@ -1,0 +1,92 @@
+-- The definitions, computed on examples: the records of three lines with the columns d, r and q.
+use Rattle.std.proofs.Common.{◌≡◌, ℕ, List, [], ◌∷◌, pos, negsuc, refl, codes}
+use Rattle.values.specs.Datum.{whole, text, null}
+use Rattle.query_check.specs.declared.function.ColumnFunction.TheVariants as function
+use Rattle.groups.specs.Rows.{Row}
+use Rattle.groups.specs.Functions.{agg, plain, ratio}
+use Rattle.groups.specs.Groups.{groups, keys, members}
+
+abbrev first : Row
+first = text (codes "x") ∷ text (codes "n") ∷ whole (pos 5) ∷ []
+
+abbrev second : Row
+second = text (codes "x") ∷ null ∷ whole (pos 2) ∷ []
+
+abbrev third : Row
+third = text (codes "y") ∷ text (codes "n") ∷ null ∷ []
+
+abbrev rows : List Row
+rows = first ∷ second ∷ third ∷ []
+
+-- GROUP BY d
+keys_of_d : keys (0 ∷ []) rows ≡ (text (codes "x") ∷ []) ∷ (text (codes "y") ∷ []) ∷ []
+keys_of_d = refl
+
+members_of_x : members (0 ∷ []) (text (codes "x") ∷ []) rows ≡ first ∷ second ∷ []
+members_of_x = refl
+
+count_of_x : agg function.CountRows (first ∷ second ∷ []) ≡ plain (whole (pos 2))
+count_of_x = refl
+
+sum_of_x : agg (function.Sum 2) (first ∷ second ∷ []) ≡ plain (whole (pos 7))
+sum_of_x = refl
+
+-- the sum of no number is NULL
+sum_of_y : agg (function.Sum 2) (third ∷ []) ≡ plain null
+sum_of_y = refl
+
+-- NULL is the same as NULL: two records without r are in one group
+keys_of_r : keys (1 ∷ []) (second ∷ second ∷ first ∷ []) ≡ (null ∷ []) ∷ (text (codes "n") ∷ []) ∷ []
+keys_of_r = refl
+
+members_of_null : members (1 ∷ []) (null ∷ []) (second ∷ first ∷ second ∷ []) ≡ second ∷ second ∷ []
+members_of_null = refl
+
+-- without GROUP BY there is one group, also over no records
+one_group : groups ([] ∷ []) [] ≡ record { index = 0; key = []; members = [] } ∷ []
+one_group = refl
+
+-- a set of columns has no group over no records
+no_group : groups ((0 ∷ []) ∷ []) [] ≡ []
+no_group = refl
+
+-- the sets have their groups by themselves
+two_sets : groups ((0 ∷ []) ∷ [] ∷ []) (third ∷ []) ≡ record { index = 0; key = text (codes "y") ∷ []; members = third ∷ [] } ∷ record { index = 1; key = []; members = third ∷ [] } ∷ []
+two_sets = refl
+
+count_of_none : agg function.CountRows [] ≡ plain (whole (pos 0))
+count_of_none = refl
+
+-- a sum of numbers of 64 bits that needs more than 64 bits
+wide : Row
+wide = whole (pos 9223372036854775807) ∷ []
+
+wide_sum : agg (function.Sum 0) (wide ∷ wide ∷ wide ∷ []) ≡ plain (whole (pos 27670116110564327421))
+unfolding wide
+wide_sum = refl
+
+-- ---- the other functions, over the numbers -3, 4, -3, NULL and 10
+
+abbrev numbers : List Row
+numbers = (whole (negsuc 2) ∷ []) ∷ (whole (pos 4) ∷ []) ∷ (whole (negsuc 2) ∷ []) ∷ (null ∷ []) ∷ (whole (pos 10) ∷ []) ∷ []
+
+count_numbers : agg (function.Count 0) numbers ≡ plain (whole (pos 4))
+count_numbers = refl
+
+count_different : agg (function.CountDistinct 0) numbers ≡ plain (whole (pos 3))
+count_different = refl
+
+least_number : agg (function.Min 0) numbers ≡ plain (whole (negsuc 2))
+least_number = refl
+
+greatest_number : agg (function.Max 0) numbers ≡ plain (whole (pos 10))
+greatest_number = refl
+
+average_number : agg (function.Avg 0) numbers ≡ ratio (pos 8) 4
+average_number = refl
+
+least_of_none : agg (function.Min 0) ((null ∷ []) ∷ []) ≡ plain null
+least_of_none = refl
+
+average_of_none : agg (function.Avg 0) ((null ∷ []) ∷ []) ≡ plain null
+average_of_none = refl

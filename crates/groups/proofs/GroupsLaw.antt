@@ -1,0 +1,142 @@
+-- The lines of a table's groups are those of its records.
+use Rattle.std.proofs.Common.{◌≡◌, ◌+◌, ℕ, suc, ℤ, Bool, true, false, cond, ◌||◌, List, [], ◌∷◌, map, length, Option, Some, None, refl, sym, ap, subst, ◌∙◌, arith}
+use Rattle.std.specs.declared.cmp.Ordering.TheVariants.{Less, Equal, Greater}
+use Rattle.std.specs.List.{list_any, IsDistinct, AllByRecursion}
+use Rattle.std.specs.FinMap.Entries.{by_order}
+use Rattle.std.specs.Ordering.{is_eq}
+use Rattle.std.specs.FinMap as fin
+use Rattle.values.specs.Datum.{Datum}
+use Rattle.query_check.specs.declared.function.ColumnFunction.{ColumnFunction}
+use Rattle.query_check.specs.declared.function.ColumnFunction.TheVariants as function
+use Rattle.groups.specs.Rows.{Row, column_numbers}
+use Rattle.groups.specs.Functions.{Summary, plain, ratio, agg, total, sum_of, average_of}
+use Rattle.groups.specs.Groups.{Key, project, key_order, same_key, each_once, keys, members}
+use Rattle.groups.specs.Kept.{summary, kept, summed, averaged, IsServed}
+use Rattle.groups.specs.Held.{Held, held, AreServed}
+use Rattle.groups.specs.Table.{Contents, IsTableOf}
+use Rattle.groups.specs.Lines.{Line, line, lines_of, line_kept, weigh, SameBag}
+use Rattle.groups.proofs.Order.{key_total, key_antisymmetric, same_key-Decides}
+use Rattle.groups.proofs.Meaning.{any-each_once}
+
+-- ---- what is kept says the value of the function
+
+sum-said : (lines : ℕ) (ns : List ℤ) → summary lines (summed (total ns) (length ns)) ≡ plain (sum_of ns)
+sum-said lines [] = refl
+sum-said lines (n ∷ ns) = refl
+
+average-said : (lines : ℕ) (ns : List ℤ) → summary lines (averaged (total ns) (length ns)) ≡ average_of ns
+average-said lines [] = refl
+average-said lines (n ∷ ns) = refl
+
+summary-kept : (f : ColumnFunction) (rows : List Row) → IsServed f → summary (length rows) (kept f rows) ≡ agg f rows
+summary-kept function.CountRows rows s = refl
+summary-kept (function.Count place) rows s = refl
+summary-kept (function.CountDistinct place) rows s = absurd s
+summary-kept (function.Sum place) rows s = sum-said (length rows) (column_numbers place rows)
+summary-kept (function.Min place) rows s = absurd s
+summary-kept (function.Max place) rows s = absurd s
+summary-kept (function.Avg place) rows s = average-said (length rows) (column_numbers place rows)
+
+cells-kept : (fs : List ColumnFunction) (rows : List Row) → AreServed fs → map (summary (length rows)) (map (λ f. kept f rows) fs) ≡ map (λ f. agg f rows) fs
+cells-kept [] rows s = refl
+cells-kept (f ∷ fs) rows s = λ i. summary-kept f rows s.0 i ∷ cells-kept fs rows s.1 i
+
+line-kept : (fs : List ColumnFunction) (key : Key) (rows : List Row) → AreServed fs → line_kept (key, held fs rows) ≡ line fs key rows
+line-kept fs key rows s = λ i. record { key = key; lines = length rows; cells = cells-kept fs rows s i }
+
+-- ---- the entries of a map as a bag
+
+no_length : (es : List (Key × Held)) → length es ≡ 0 → es ≡ []
+no_length [] e = refl
+no_length (x ∷ es) e = absurd (omega arith)
+
+nothing : fin.entries (fin.empty {X = Held} {R = key_order}) ≡ []
+nothing = no_length _ (sym (fin.len-entries (fin.empty {X = Held} {R = key_order})) ∙ fin.len-empty key_order Held)
+
+-- a bag with one more thing, put into its place
+put-bag : (f : Key × Held → ℕ) (k : Key) (a : Held) (es : List (Key × Held)) → fin.find key_order k es ≡ None → weigh f (fin.put key_order k a es) ≡ f (k, a) + weigh f es
+put-bag f k a [] none = refl
+put-bag f k a (e ∷ es) none =
+    elim (key_order k e.0) as (λ o. cond (is_eq o) (Some e.1) (fin.find key_order k es) ≡ None → weigh f (by_order o ((k, a) ∷ e ∷ es) ((e.0, a) ∷ es) (e ∷ fin.put key_order k a es)) ≡ f (k, a) + (f e + weigh f es)) [
+      | Less ↦ λ n. refl
+      | Equal ↦ λ n. cc
+      | Greater ↦ λ n. let h = put-bag f k a es n in omega (arith, h)
+    ] none
+
+none-found : (k : Key) (es : List (Key × Held)) → AllByRecursion (λ y. same_key k y ≡ false) (map (λ e. e.0) es) → fin.find key_order k es ≡ None
+none-found k [] h = refl
+none-found k (e ∷ es) h = ap (λ b. cond b (Some e.1) (fin.find key_order k es)) h.0 ∙ none-found k es h.1
+
+-- the entries of the map that distinct entries make are those
+entries-bag : (es : List (Key × Held)) → IsDistinct same_key (map (λ e. e.0) es) → SameBag (fin.entries (fin.from_entries {R = key_order} es)) es
+unfolding IsDistinct
+entries-bag [] d f = ap (weigh f) nothing
+entries-bag (e ∷ es) d f =
+    ap (weigh f) (fin.entries-insert key_total (fin.from_entries es) e.0 e.1)
+    ∙ put-bag f e.0 e.1 (fin.entries (fin.from_entries {R = key_order} es)) (sym (fin.get-entries (fin.from_entries es) e.0) ∙ fin.get-from_entries key_total es e.0 ∙ none-found e.0 es d.0)
+    ∙ ap (λ n. f e + n) (entries-bag es d.1 f)
+
+weigh-map : {A B : Type 0} (f : B → ℕ) (g : A → B) (xs : List A) → weigh f (map g xs) ≡ weigh (λ x. f (g x)) xs
+weigh-map f g [] = refl
+weigh-map f g (x ∷ xs) = ap (λ n. f (g x) + n) (weigh-map f g xs)
+
+-- ---- the table of its groups
+
+found : (g : Key → Held) (q : Key) (ks : List Key) → fin.find key_order q (map (λ k. (k, g k)) ks) ≡ cond (list_any (same_key q) ks) (Some (g q)) None
+found g q [] = refl
+found g q (k ∷ ks) = ap (cond (same_key q k) (Some (g k))) (found g q ks)
+    ∙ elim (same_key q k) as (λ b. same_key q k ≡ b → cond b (Some (g k)) (cond (list_any (same_key q) ks) (Some (g q)) None) ≡ cond (b || list_any (same_key q) ks) (Some (g q)) None) [
+      | true ↦ λ e. ap (λ p. Some (g p)) (sym ((same_key-Decides q k).0 e))
+      | false ↦ λ e. refl
+    ] refl
+
+abbrev group : List ℕ → List ColumnFunction → List Row → Key → Key × Held
+group set fs rows k = (k, held fs (members set k rows))
+
+table-is : (set : List ℕ) (fs : List ColumnFunction) (t : Contents) (rows : List Row) → IsTableOf set fs t rows → t ≡ fin.from_entries (map (group set fs rows) (keys set rows))
+table-is set fs t rows h = fin.same_map key_total key_antisymmetric _ _ (λ q.
+    h q ∙ sym (found (λ k. held fs (members set k rows)) q (keys set rows))
+    ∙ sym (fin.get-from_entries key_total (map (group set fs rows) (keys set rows)) q))
+
+all-other : (p : Key) (ks : List Key) → list_any (same_key p) ks ≡ false → AllByRecursion (λ y. same_key p y ≡ false) ks
+all-other p [] h = tt
+all-other p (k ∷ ks) h = elim (same_key p k) as (λ b. same_key p k ≡ b → (b || list_any (same_key p) ks) ≡ false → (same_key p k ≡ false) × AllByRecursion (λ y. same_key p y ≡ false) ks) [
+  | true ↦ λ e i. cc
+  | false ↦ λ e i. (e, all-other p ks i)
+] refl h
+
+each_once-distinct : (ks : List Key) → IsDistinct same_key (each_once ks)
+unfolding IsDistinct
+each_once-distinct [] = tt
+each_once-distinct (k ∷ ks) =
+    elim (list_any (same_key k) ks) as (λ b. list_any (same_key k) ks ≡ b → IsDistinct same_key (cond b (each_once ks) (k ∷ each_once ks))) [
+      | true ↦ λ e. each_once-distinct ks
+      | false ↦ λ e. (all-other k (each_once ks) (any-each_once k ks ∙ e), each_once-distinct ks)
+    ] refl
+
+keys-distinct : (set : List ℕ) (rows : List Row) → IsDistinct same_key (keys set rows)
+unfolding IsDistinct
+keys-distinct [] rows = (tt, tt)
+keys-distinct (p ∷ ps) rows = each_once-distinct (map (project (p ∷ ps)) rows)
+
+firsts : (set : List ℕ) (fs : List ColumnFunction) (rows : List Row) (ks : List Key) → ks ≡ map (λ e. e.0) (map (group set fs rows) ks)
+firsts set fs rows [] = refl
+firsts set fs rows (k ∷ ks) = ap (λ xs. k ∷ xs) (firsts set fs rows ks)
+
+lines-kept : (set : List ℕ) (fs : List ColumnFunction) (rows : List Row) (ks : List Key) → AreServed fs → map line_kept (map (group set fs rows) ks) ≡ map (λ k. line fs k (members set k rows)) ks
+lines-kept set fs rows [] s = refl
+lines-kept set fs rows (k ∷ ks) s = λ i. line-kept fs k (members set k rows) s i ∷ lines-kept set fs rows ks s i
+
+-- the lines of distinct entries, whose map is a table of records, are those of the records' groups
+pub lines-bag : (set : List ℕ) (fs : List ColumnFunction) (rows : List Row) (es : List (Key × Held)) (t : Contents) → fin.from_entries es ≡ t → AreServed fs → IsTableOf set fs t rows
+    → IsDistinct same_key (map (λ e. e.0) es) → SameBag (map line_kept es) (lines_of set fs rows)
+lines-bag set fs rows es t v s h d f =
+    let ks = keys set rows in
+    let gs = map (group set fs rows) ks in
+    let w : Key × Held → ℕ = λ e. f (line_kept e) in
+    weigh-map f line_kept es
+    ∙ sym (entries-bag es d w)
+    ∙ ap (λ m. weigh w (fin.entries m)) (v ∙ table-is set fs t rows h)
+    ∙ entries-bag gs (subst (λ (xs : List Key). IsDistinct same_key xs) (firsts set fs rows ks) (keys-distinct set rows)) w
+    ∙ sym (weigh-map f line_kept gs)
+    ∙ ap (weigh f) (lines-kept set fs rows ks s)

@@ -1,0 +1,159 @@
+-- Accumulators that take values and are put together.
+use Rattle.std.proofs.Common.{◌≡◌, ◌+◌, ◌<◌, ◌≤◌, ◌^◌, ℕ, zero, suc, Bool, true, false, cond, List, [], ◌∷◌, ◌++◌, length, map, filter, Option, Some, None, refl, sym, ap, ◌∙◌, arith, subst, get_or, set}
+use Rattle.std.proofs.lemmas.Int.{ints}
+use Rattle.std.proofs.lemmas.List.{length-map}
+use Rattle.std.specs.List.{AllByRecursion}
+use Rattle.values.specs.Datum.{Datum, boolean, whole, text, null}
+use Rattle.query_check.specs.declared.function.ColumnFunction.{ColumnFunction}
+use Rattle.query_check.specs.declared.function.ColumnFunction.TheVariants as function
+use Rattle.groups.specs.declared.accumulator.Accumulator.{Accumulator}
+use Rattle.groups.specs.Rows.{Row, value_at}
+use Rattle.groups.specs.Kept.{Kept, nothing, counted, summed, averaged, kept, taken, argument, joined, kept_in, HasRoom, IsWithin}
+use Rattle.groups.specs.Held.{all_taken, all_joined, IsNarrow, IsNarrowRow, IsSound}
+
+-- ---- sizes
+
+within-room : (lines : ℕ) (k : Kept) → lines < 2 ^ 63 → IsWithin lines k → HasRoom k
+within-room lines nothing h w = tt
+within-room lines (counted n) h w = omega (arith, h, w)
+within-room lines (summed s n) h w = (omega (arith, h, w), omega (arith, ints, h, w))
+within-room lines (averaged s n) h w = (omega (arith, h, w), omega (arith, ints, h, w))
+
+pub taken-within : (lines : ℕ) (k : Kept) (d : Datum) → IsWithin lines k → IsNarrow d → IsWithin (lines + 1) (taken k d)
+taken-within lines nothing d w n = tt
+taken-within lines (counted m) (boolean b) w n = omega (arith, w)
+taken-within lines (counted m) (whole z) w n = omega (arith, w)
+taken-within lines (counted m) (text s) w n = omega (arith, w)
+taken-within lines (counted m) null w n = omega (arith, w)
+taken-within lines (summed s m) (boolean b) w n = (omega (arith, w), (omega (arith, ints, w), omega (arith, ints, w)))
+taken-within lines (summed s m) (whole z) w n = (omega (arith, w), (omega (arith, ints, w, n), omega (arith, ints, w, n)))
+taken-within lines (summed s m) (text t) w n = (omega (arith, w), (omega (arith, ints, w), omega (arith, ints, w)))
+taken-within lines (summed s m) null w n = (omega (arith, w), (omega (arith, ints, w), omega (arith, ints, w)))
+taken-within lines (averaged s m) (boolean b) w n = (omega (arith, w), (omega (arith, ints, w), omega (arith, ints, w)))
+taken-within lines (averaged s m) (whole z) w n = (omega (arith, w), (omega (arith, ints, w, n), omega (arith, ints, w, n)))
+taken-within lines (averaged s m) (text t) w n = (omega (arith, w), (omega (arith, ints, w), omega (arith, ints, w)))
+taken-within lines (averaged s m) null w n = (omega (arith, w), (omega (arith, ints, w), omega (arith, ints, w)))
+
+more-within : (a b : ℕ) (k : Kept) → IsWithin a k → IsWithin (a + b) k
+more-within a b nothing w = tt
+more-within a b (counted n) w = omega (arith, w)
+more-within a b (summed s n) w = (omega (arith, w), (omega (arith, ints, w), omega (arith, ints, w)))
+more-within a b (averaged s n) w = (omega (arith, w), (omega (arith, ints, w), omega (arith, ints, w)))
+
+pub joined-within : (a b : ℕ) (k l : Kept) → IsWithin a k → IsWithin b l → IsWithin (a + b) (joined k l)
+joined-within a b (counted m) (counted n) v w = omega (arith, v, w)
+joined-within a b (summed s m) (summed t n) v w = (omega (arith, v, w), (omega (arith, ints, v, w), omega (arith, ints, v, w)))
+joined-within a b (averaged s m) (averaged t n) v w = (omega (arith, v, w), (omega (arith, ints, v, w), omega (arith, ints, v, w)))
+joined-within a b k l v w = more-within a b k v
+
+more-sound : (a b : ℕ) (ks : List Kept) → IsSound a ks → IsSound (a + b) ks
+more-sound a b [] s = tt
+more-sound a b (k ∷ ks) s = (more-within a b k s.0, more-sound a b ks s.1)
+
+value_at-narrow : (place : ℕ) (row : Row) → IsNarrowRow row → IsNarrow (value_at place row)
+value_at-narrow place [] n = tt
+value_at-narrow zero (d ∷ row) n = n.0
+value_at-narrow (suc place) (d ∷ row) n = value_at-narrow place row n.1
+
+argument-narrow : (f : ColumnFunction) (row : Row) → IsNarrowRow row → IsNarrow (argument f row)
+argument-narrow function.CountRows row n = tt
+argument-narrow (function.Count place) row n = value_at-narrow place row n
+argument-narrow (function.CountDistinct place) row n = value_at-narrow place row n
+argument-narrow (function.Sum place) row n = value_at-narrow place row n
+argument-narrow (function.Min place) row n = value_at-narrow place row n
+argument-narrow (function.Max place) row n = value_at-narrow place row n
+argument-narrow (function.Avg place) row n = value_at-narrow place row n
+
+pub all_taken-sound : (lines : ℕ) (fs : List ColumnFunction) (ks : List Kept) (row : Row) → IsSound lines ks → IsNarrowRow row → IsSound (lines + 1) (all_taken fs ks row)
+all_taken-sound lines [] ks row s n = more-sound lines 1 ks s
+all_taken-sound lines (f ∷ fs) [] row s n = tt
+all_taken-sound lines (f ∷ fs) (k ∷ ks) row s n = (taken-within lines k (argument f row) s.0 (argument-narrow f row n), all_taken-sound lines fs ks row s.1 n)
+
+pub all_joined-sound : (a b : ℕ) (ks ls : List Kept) → IsSound a ks → IsSound b ls → IsSound (a + b) (all_joined ks ls)
+all_joined-sound a b [] ls s t = tt
+all_joined-sound a b (k ∷ ks) [] s t = more-sound a b (k ∷ ks) s
+all_joined-sound a b (k ∷ ks) (l ∷ ls) s t = (joined-within a b k l s.0 t.0, all_joined-sound a b ks ls s.1 t.1)
+
+none-within : (f : ColumnFunction) → IsWithin 0 (kept f [])
+none-within function.CountRows = tt
+none-within (function.Count place) = omega arith
+none-within (function.CountDistinct place) = tt
+none-within (function.Sum place) = (omega arith, (omega (arith, ints), omega (arith, ints)))
+none-within (function.Min place) = tt
+none-within (function.Max place) = tt
+none-within (function.Avg place) = (omega arith, (omega (arith, ints), omega (arith, ints)))
+
+pub none-sound : (fs : List ColumnFunction) → IsSound 0 (map (λ f. kept f []) fs)
+none-sound [] = tt
+none-sound (f ∷ fs) = (none-within f, none-sound fs)
+
+-- ---- one after another: the accumulators from a place on are still to take the record
+
+abbrev pub taken_from : ℕ → List ColumnFunction → List Kept → Row → List Kept
+taken_from zero fs ks row = all_taken fs ks row
+taken_from (suc n) [] ks row = ks
+taken_from (suc n) (f ∷ fs) [] row = []
+taken_from (suc n) (f ∷ fs) (k ∷ ks) row = k ∷ taken_from n fs ks row
+
+pub taken_from-step : (n : ℕ) (fs : List ColumnFunction) (parts : List Accumulator) (row : Row) (f : ColumnFunction) (a b : Accumulator) → n < length fs → n < length parts
+    → a ≡ get_or parts n a → kept_in b ≡ taken (kept_in a) (argument (get_or fs n f) row)
+    → taken_from (suc n) fs (map kept_in (set parts n b)) row ≡ taken_from n fs (map kept_in parts) row
+taken_from-step zero [] parts row f a b h i e k = absurd (omega arith)
+taken_from-step zero (g ∷ fs) [] row f a b h i e k = absurd (omega arith)
+taken_from-step zero (g ∷ fs) (x ∷ parts) row f a b h i e k = ap (λ z. z ∷ all_taken fs (map kept_in parts) row) (k ∙ ap (λ z. taken (kept_in z) (argument g row)) e)
+taken_from-step (suc n) [] parts row f a b h i e k = absurd (omega arith)
+taken_from-step (suc n) (g ∷ fs) [] row f a b h i e k = absurd (omega arith)
+taken_from-step (suc n) (g ∷ fs) (x ∷ parts) row f a b h i e k = ap (λ js. kept_in x ∷ js) (taken_from-step n fs parts row f a b (omega arith) (omega arith) e k)
+
+pub taken_from-end : (fs : List ColumnFunction) (ks : List Kept) (row : Row) → length ks ≡ length fs → taken_from (length fs) fs ks row ≡ ks
+taken_from-end [] ks row e = refl
+taken_from-end (f ∷ fs) [] row e = refl
+taken_from-end (f ∷ fs) (k ∷ ks) row e = ap (λ js. k ∷ js) (taken_from-end fs ks row (omega (arith, e)))
+
+pub taken_from-all : (n : ℕ) (fs : List ColumnFunction) (parts : List Accumulator) (row : Row) (ks : List Kept) → n ≡ length fs → length parts ≡ length fs
+    → taken_from n fs (map kept_in parts) row ≡ ks → map kept_in parts ≡ ks
+taken_from-all n fs parts row ks h e i = sym (taken_from-end fs (map kept_in parts) row (length-map parts kept_in ∙ e)) ∙ ap (λ m. taken_from m fs (map kept_in parts) row) (sym h) ∙ i
+
+pub taken_from-room : (lines n : ℕ) (fs : List ColumnFunction) (parts : List Accumulator) (row : Row) (f : ColumnFunction) (a : Accumulator) → n < length fs → n < length parts
+    → a ≡ get_or parts n a → lines < 2 ^ 63 → IsSound lines (taken_from n fs (map kept_in parts) row) → HasRoom (taken (kept_in a) (argument (get_or fs n f) row))
+taken_from-room lines zero [] parts row f a h i e few s = absurd (omega arith)
+taken_from-room lines zero (g ∷ fs) [] row f a h i e few s = absurd (omega arith)
+taken_from-room lines zero (g ∷ fs) (x ∷ parts) row f a h i e few s = subst (λ z. HasRoom (taken (kept_in z) (argument g row))) (sym e) (within-room lines _ few s.0)
+taken_from-room lines (suc n) [] parts row f a h i e few s = absurd (omega arith)
+taken_from-room lines (suc n) (g ∷ fs) [] row f a h i e few s = absurd (omega arith)
+taken_from-room lines (suc n) (g ∷ fs) (x ∷ parts) row f a h i e few s = taken_from-room lines n fs parts row f a (omega arith) (omega arith) e few s.1
+
+-- ---- one after another: the accumulators from a place on are still to take the rest
+
+abbrev pub joined_from : ℕ → List Kept → List Kept → List Kept
+joined_from zero ks rest = all_joined ks rest
+joined_from (suc n) [] rest = []
+joined_from (suc n) (k ∷ ks) rest = k ∷ joined_from n ks rest
+
+pub joined_from-step : (n : ℕ) (parts : List Accumulator) (l : Kept) (rest : List Kept) (a b : Accumulator) → n < length parts
+    → a ≡ get_or parts n a → kept_in b ≡ joined (kept_in a) l
+    → joined_from (suc n) (map kept_in (set parts n b)) rest ≡ joined_from n (map kept_in parts) (l ∷ rest)
+joined_from-step zero [] l rest a b h e k = absurd (omega arith)
+joined_from-step zero (x ∷ parts) l rest a b h e k = ap (λ z. z ∷ all_joined (map kept_in parts) rest) (k ∙ ap (λ z. joined (kept_in z) l) e)
+joined_from-step (suc n) [] l rest a b h e k = absurd (omega arith)
+joined_from-step (suc n) (x ∷ parts) l rest a b h e k = ap (λ js. kept_in x ∷ js) (joined_from-step n parts l rest a b (omega arith) e k)
+
+joined-nothing : (ks : List Kept) → all_joined ks [] ≡ ks
+joined-nothing [] = refl
+joined-nothing (k ∷ ks) = refl
+
+pub joined_from-end : (n : ℕ) (ks : List Kept) → joined_from n ks [] ≡ ks
+joined_from-end zero ks = joined-nothing ks
+joined_from-end (suc n) [] = refl
+joined_from-end (suc n) (k ∷ ks) = ap (λ js. k ∷ js) (joined_from-end n ks)
+
+pub joined_from-all : (n : ℕ) (parts rest : List Accumulator) (ks : List Kept) → length rest ≡ 0 → joined_from n (map kept_in parts) (map kept_in rest) ≡ ks → map kept_in parts ≡ ks
+joined_from-all n parts [] ks h e = sym (joined_from-end n (map kept_in parts)) ∙ e
+joined_from-all n parts (x ∷ rest) ks h e = absurd (omega (arith, h))
+
+pub joined_from-room : (lines n : ℕ) (parts : List Accumulator) (l : Kept) (rest : List Kept) (a : Accumulator) → n < length parts
+    → a ≡ get_or parts n a → lines < 2 ^ 63 → IsSound lines (joined_from n (map kept_in parts) (l ∷ rest)) → HasRoom (joined (kept_in a) l)
+joined_from-room lines zero [] l rest a h e few s = absurd (omega arith)
+joined_from-room lines zero (x ∷ parts) l rest a h e few s = subst (λ z. HasRoom (joined (kept_in z) l)) (sym e) (within-room lines _ few s.0)
+joined_from-room lines (suc n) [] l rest a h e few s = absurd (omega arith)
+joined_from-room lines (suc n) (x ∷ parts) l rest a h e few s = joined_from-room lines n parts l rest a (omega arith) e few s.1

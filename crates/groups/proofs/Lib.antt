@@ -1,0 +1,8 @@
+mod Examples
+pub mod Keeping
+pub mod Order
+pub mod Entries
+pub mod Meaning
+pub mod Distinct
+pub mod GroupsLaw
+pub mod Shuffles

@@ -1,0 +1,71 @@
+use Rattle.std.proofs.Common.{rules, ◌≡◌, ◌+◌, ◌<◌, ◌^◌, ℕ, suc, List, [], ◌∷◌, set, length, map, sym, ap, subst, ◌∙◌, arith, add-one, length-set}
+use Rattle.std.proofs.lemmas.List.{length-map}
+use Rattle.groups.specs.Kept.{Kept, kept_in}
+use Rattle.groups.specs.Held.{Held, all_joined, IsSound}
+use Rattle.groups.proofs.Keeping.{all_joined-sound, joined_from, joined_from-step, joined_from-all, joined_from-room}
+use Rattle.groups.proofs.accumulators.Accumulators.absorb.Goals as goal
+
+pub index_mut-requires : goal.index_mut-requires
+index_mut-requires c =
+    let s = c.in-Some.ensures.steps in
+    let e : length c.loop-place.place-iterator.iter.rest.items ≡ suc (length c.next.new.self.iter.rest.items) = ap length s.0.0 in
+    let h : c.in-Some.place < length c.loop-place.self-inside.parts.items = omega (arith, e, c.loop-place.invariant.one_each, s.1) in
+    grind (arith, h, c.loop-place.self-inside.parts.ok)
+
+pub absorb-requires : goal.absorb-requires
+absorb-requires c =
+    let s = c.in-Some.ensures.steps in
+    let i = c.loop-place.invariant in
+    let old = c.args.self.now in
+    let other = c.args.other in
+    let rest = c.next.new.self.iter.rest.items in
+    let items = c.loop-place.self-inside.parts.items in
+    let e : length c.loop-place.place-iterator.iter.rest.items ≡ suc (length rest) = ap length s.0.0 in
+    let start : IsSound old.lines old.parts = subst (λ (h : Held). IsSound h.lines h.parts) c.self.view_is c.self.invariant in
+    let more : IsSound other.lines other.parts = subst (λ (h : Held). IsSound h.lines h.parts) c.other.view_is c.other.invariant in
+    let at : joined_from c.in-Some.place (map kept_in items) (kept_in c.in-Some.part ∷ map kept_in rest) ≡ all_joined old.parts other.parts =
+    ap (λ n. joined_from n (map kept_in items) (kept_in c.in-Some.part ∷ map kept_in rest)) s.1 ∙ ap (λ xs. joined_from c.loop-place.place-iterator.count (map kept_in items) (map kept_in xs)) (sym s.0.0) ∙ i.rest in
+    joined_from-room (old.lines + other.lines) c.in-Some.place items (kept_in c.in-Some.part) (map kept_in rest) c.index_mut.result.now
+    (omega (arith, e, i.one_each, s.1)) c.index_mut.ensures.value c.requires.room
+    (subst (λ (ks : List Kept). IsSound (old.lines + other.lines) ks) (sym at) (all_joined-sound old.lines other.lines old.parts other.parts start more))
+
+pub loop-place-preserved : goal.loop-place-preserved
+loop-place-preserved c =
+    let s = c.in-Some.ensures.steps in
+    let i = c.loop-place.invariant in
+    let rest = c.next.new.self.iter.rest.items in
+    let items = c.loop-place.self-inside.parts.items in
+    let place = c.in-Some.place in
+    let e : length c.loop-place.place-iterator.iter.rest.items ≡ suc (length rest) = ap length s.0.0 in
+    record {
+      rest = ap (λ n. joined_from n (map kept_in (set items place c.absorb.new.self)) (map kept_in rest)) (s.2 ∙ ap (λ n. n + 1) (sym s.1) ∙ add-one place)
+          ∙ joined_from-step place items (kept_in c.in-Some.part) (map kept_in rest) c.index_mut.result.now c.absorb.new.self
+          (omega (arith, e, i.one_each, s.1)) c.index_mut.ensures.value c.absorb.ensures
+          ∙ ap (λ n. joined_from n (map kept_in items) (kept_in c.in-Some.part ∷ map kept_in rest)) s.1 ∙ ap (λ xs. joined_from c.loop-place.place-iterator.count (map kept_in items) (map kept_in xs)) (sym s.0.0) ∙ i.rest;
+      one_each = let l = length-set items place c.absorb.new.self in omega (arith, e, l, i.one_each, s.2);
+      lines = i.lines;
+      more = i.more;
+    }
+
+pub invariant_of-self : goal.invariant_of-self
+invariant_of-self c =
+    let i = c.loop-place.invariant in
+    let old = c.args.self.now in
+    let other = c.args.other in
+    let start : IsSound old.lines old.parts = subst (λ (h : Held). IsSound h.lines h.parts) c.self.view_is c.self.invariant in
+    let more : IsSound other.lines other.parts = subst (λ (h : Held). IsSound h.lines h.parts) c.other.view_is c.other.invariant in
+    let all : map kept_in c.loop-place.self-inside.parts.items ≡ all_joined old.parts other.parts =
+    joined_from-all c.loop-place.place-iterator.count c.loop-place.self-inside.parts.items c.loop-place.place-iterator.iter.rest.items (all_joined old.parts other.parts) (grind (arith, c.in-None.ensures.steps.0, c.loop-place.place-iterator.iter.rest.ok)) i.rest in
+    let total : c.loop-place.self-inside.lines + c.other.inside.lines ≡ old.lines + other.lines = omega (arith, i.lines, i.more) in
+    subst (λ (ks : List Kept). IsSound (c.loop-place.self-inside.lines + c.other.inside.lines) ks) (sym all)
+    (subst (λ n. IsSound n (all_joined old.parts other.parts)) (sym total) (all_joined-sound old.lines other.lines old.parts other.parts start more))
+
+pub returns : goal.returns
+returns c =
+    let i = c.loop-place.invariant in
+    let old = c.args.self.now in
+    let other = c.args.other in
+    let all : map kept_in c.loop-place.self-inside.parts.items ≡ all_joined old.parts other.parts =
+    joined_from-all c.loop-place.place-iterator.count c.loop-place.self-inside.parts.items c.loop-place.place-iterator.iter.rest.items (all_joined old.parts other.parts) (grind (arith, c.in-None.ensures.steps.0, c.loop-place.place-iterator.iter.rest.ok)) i.rest in
+    let total : c.loop-place.self-inside.lines + c.other.inside.lines ≡ old.lines + other.lines = omega (arith, i.lines, i.more) in
+    λ j. record { lines = total j; parts = all j }

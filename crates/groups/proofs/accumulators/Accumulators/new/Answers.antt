@@ -1,0 +1,9 @@
+use Rattle.std.proofs.Common.{◌≡◌, [], map, take, sym, subst, List}
+use Rattle.query_check.specs.declared.function.ColumnFunction.{ColumnFunction}
+use Rattle.groups.specs.Kept.{Kept, kept}
+use Rattle.groups.specs.Held.{IsSound}
+use Rattle.groups.proofs.Keeping.{none-sound}
+use Rattle.groups.proofs.accumulators.Accumulators.new.Goals as goal
+
+pub invariant_of-result : goal.invariant_of-result
+invariant_of-result c = subst (λ (ks : List Kept). IsSound 0 ks) (sym c.loop-function.invariant) (none-sound (take c.loop-function.function-index c.args.functions.now))

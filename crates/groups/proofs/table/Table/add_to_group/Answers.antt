@@ -1,0 +1,62 @@
+use Rattle.std.proofs.Common.{rules, ◌≡◌, ◌∙◌, ap, sym, refl, subst, cond, Option, Some, None, IfSome, IsSome}
+use Rattle.std.specs.FinMap as fin
+use Rattle.std.specs.Option.{option_copied_mut, is_some}
+use Rattle.std.specs.Map.{lookup}
+use Rattle.std.specs.Cmp.Lexicographic.{pointwise}
+use Rattle.values.specs.Datum.{data_of}
+use Rattle.groups.specs.Groups.{Key, same_key}
+use Rattle.groups.specs.Held.{Held, held, with_row}
+use Rattle.groups.specs.Table.{HasPlace, grown, shown}
+use Rattle.groups.proofs.Order.{value_eq}
+use Rattle.groups.proofs.Entries.{get-updated, get-shown, added_is}
+use Rattle.groups.proofs.table.Table.add_to_group.Goals as goal
+
+-- what the table has at the key
+found : (c : goal.In-Some) → fin.get c.args.self.now (data_of c.args.key.items) ≡ Some c.in-Some.group.now
+found c =
+    let es = c.self.inside.groups.entries in
+    ap (λ m. fin.get m (data_of c.args.key.items)) (sym c.self.view_is)
+    ∙ get-shown c.args.key.items es
+    ∙ sym c.get_mut.ensures.value
+    ∙ ap option_copied_mut c.in-Some.is
+
+pub add-requires-clause-room : goal.add-requires-clause-room
+add-requires-clause-room c = let h = rw (found c) at c.requires.place in h.0
+
+pub add-requires-clause-one_each : goal.add-requires-clause-one_each
+add-requires-clause-one_each c = let h = rw (found c) at c.requires.place in h.1
+
+found_then : (c : goal.After-drop-key) → fin.get c.args.self.now (data_of c.args.key.items) ≡ Some c.in-Some.group.now
+found_then c =
+    let es = c.self.inside.groups.entries in
+    ap (λ m. fin.get m (data_of c.args.key.items)) (sym c.self.view_is)
+    ∙ get-shown c.args.key.items es
+    ∙ sym c.get_mut.ensures.value
+    ∙ ap option_copied_mut c.in-Some.is
+
+pub returns-in-Some : goal.returns-in-Some
+returns-in-Some c =
+    let fs = c.args.functions.now in
+    let row = data_of c.args.row.now in
+    let es = c.self.inside.groups.entries in
+    let n = c.get_mut.follows.lender c.add.new.self in
+    let key = data_of c.args.key.items in
+    let there : IsSome (lookup (λ k. pointwise value_eq c.args.key.items k.items) es) = ap is_some (sym c.get_mut.ensures.value ∙ ap option_copied_mut c.in-Some.is) in
+    let u = (c.get_mut.follows.holds c.add.new.self).3 there in
+    added_is fs c.args.self.now (shown n.entries) key row (Some c.add.new.self)
+    (λ q. get-updated es n.entries c.args.key.items (Some c.add.new.self) u.1 u.3 q ∙ ap (λ m. cond (same_key q key) (Some c.add.new.self) (fin.get m q)) c.self.view_is)
+    (ap Some c.add.ensures ∙ ap (λ o. Some (grown fs o row)) (sym (found_then c)))
+
+pub returns : goal.returns
+returns c =
+    let fs = c.args.functions.now in
+    let row = data_of c.args.row.now in
+    let es = c.self.inside.groups.entries in
+    let key = data_of c.args.key.items in
+    let u = c.in_ok-insert.ensures.updates in
+    let others = rw (c.get_mut.follows.holds-at-none) at u.3 in
+    let absent : fin.get c.args.self.now key ≡ None =
+    ap (λ m. fin.get m key) (sym c.self.view_is) ∙ get-shown c.args.key.items es ∙ sym c.get_mut.ensures.value ∙ ap option_copied_mut c.in_default.is in
+    added_is fs c.args.self.now (shown c.insert.new.self.entries) key row (Some c.add-2.new.self)
+    (λ q. get-updated es c.insert.new.self.entries c.args.key.items (Some c.add-2.new.self) u.1 others q ∙ ap (λ m. cond (same_key q key) (Some c.add-2.new.self) (fin.get m q)) c.self.view_is)
+    (ap Some c.add-2.ensures ∙ ap (λ (g : Held). Some (with_row fs g row)) c.in_ok-group.ensures ∙ ap (λ o. Some (grown fs o row)) (sym absent))

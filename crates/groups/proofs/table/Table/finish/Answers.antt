@@ -1,0 +1,21 @@
+use Rattle.std.proofs.Common.{◌≡◌, ℕ, List, map, Result, Ok, Err, IfOk, Vec, Global, sym, ap, ◌∙◌}
+use Rattle.std.specs.List.{IsDistinct}
+use Rattle.query_check.specs.declared.function.ColumnFunction.{ColumnFunction}
+use Rattle.groups.specs.declared.group.Group.{Group}
+use Rattle.groups.specs.Rows.{Row}
+use Rattle.groups.specs.Groups.{same_key}
+use Rattle.groups.specs.Held.{AreServed}
+use Rattle.groups.specs.Lines.{SameBag, line_in, line_kept, lines_of, weigh}
+use Rattle.groups.specs.Table.{Contents, IsTableOf, entries_shown, shown}
+use Rattle.groups.proofs.Entries.{Entries}
+use Rattle.groups.proofs.GroupsLaw.{lines-bag}
+use Rattle.groups.proofs.table.Table.finish.Goals as goal
+
+told : {E : Type 0} (r : Result (Vec Group Global) E) (es : Entries) (t : Contents) → shown es ≡ t
+    → IfOk r (λ v. map line_in v.items ≡ map line_kept (entries_shown es)) → IfOk r (λ _. IsDistinct same_key (map (λ e. e.0) (entries_shown es)))
+    → IfOk r (λ v. (set : List ℕ) (fs : List ColumnFunction) (rows : List Row) → AreServed fs → IsTableOf set fs t rows → SameBag (map line_in v.items) (lines_of set fs rows))
+told (Ok v) es t w h d = λ set fs rows s a f. ap (weigh f) h ∙ lines-bag set fs rows (entries_shown es) t w s a d f
+told (Err e) es t w h d = tt
+
+pub returns : goal.returns
+returns c = record { groups = told c.groups_of.result c.self.inside.groups.entries c.args.self c.self.view_is c.groups_of.ensures.lines c.groups_of.ensures.distinct }

@@ -1,0 +1,24 @@
+use Rattle.std.proofs.Common.{◌≡◌, ◌≢◌, ◌==◌, true, false, ℕ, List, [], length, Result, Ok, Err, IfOk, sym, ap, ◌∙◌, rules, arith, eq-eqb}
+use Rattle.query_check.specs.declared.function.ColumnFunction.{ColumnFunction}
+use Rattle.std.specs.FinMap as fin
+use Rattle.groups.specs.Groups.{Key}
+use Rattle.groups.specs.Held.{held}
+use Rattle.groups.specs.Table.{Contents, IsPut, IsTableOf, shown}
+use Rattle.groups.proofs.Meaning.{table-empty_set, table-no_group}
+use Rattle.groups.proofs.table.Table.new.Goals as goal
+
+pub returns : goal.returns
+returns c =
+    let set = c.args.set.now in
+    let some : length set ≢ 0 = λ h. let t : (length set == 0) ≡ true = eq-eqb (length set) 0 h in let f = c.if-is_empty.ensures in cc in
+    record { empty = table-no_group set c.args.functions.now (shown c.new.result.entries) some (ap shown c.new.ensures.empty) }
+
+by_key : {E : Type 0} (set : List ℕ) (fs : List ColumnFunction) (r : Result Contents E) → length set ≡ 0 → IfOk r (λ t. (k : Key) → IsPut fin.empty t [] (held fs []) k) → IfOk r (λ t. IsTableOf set fs t [])
+by_key set fs (Ok t) z h = table-empty_set set fs t z h
+by_key set fs (Err e) z h = tt
+
+pub returns-then-is_empty : goal.returns-then-is_empty
+returns-then-is_empty c =
+    let set = c.args.set.now in
+    let none : length set ≡ 0 = let f = c.if-is_empty.ensures in grind (arith, f) in
+    record { empty = by_key set c.args.functions.now c.with_empty_key.result none c.with_empty_key.ensures }

@@ -1,0 +1,58 @@
+use Rattle.std.proofs.Common.{rules, ◌≡◌, ◌∙◌, ap, sym, refl, subst, cond, Option, Some, None, IfSome, IsSome}
+use Rattle.std.specs.FinMap as fin
+use Rattle.std.specs.Option.{option_copied_mut, is_some}
+use Rattle.std.specs.Map.{lookup}
+use Rattle.std.specs.Cmp.Lexicographic.{pointwise}
+use Rattle.values.specs.Datum.{data_of}
+use Rattle.groups.specs.Groups.{Key, same_key}
+use Rattle.groups.specs.Held.{Held, join}
+use Rattle.groups.specs.Table.{IsFitting, join_options, shown}
+use Rattle.groups.proofs.Order.{value_eq}
+use Rattle.groups.proofs.Entries.{get-updated, get-shown, put_is}
+use Rattle.groups.proofs.table.Table.put_to_group.Goals as goal
+
+-- what the table has at the key
+found : (c : goal.In-Some) → fin.get c.args.self.now (data_of c.args.key.items) ≡ Some c.in-Some.group.now
+found c =
+    let es = c.self.inside.groups.entries in
+    ap (λ m. fin.get m (data_of c.args.key.items)) (sym c.self.view_is)
+    ∙ get-shown c.args.key.items es
+    ∙ sym c.get_mut.ensures.value
+    ∙ ap option_copied_mut c.in-Some.is
+
+pub absorb-requires-clause-room : goal.absorb-requires-clause-room
+absorb-requires-clause-room c = let h = rw (found c) at c.requires in h.0
+
+pub absorb-requires-clause-one_each : goal.absorb-requires-clause-one_each
+absorb-requires-clause-one_each c = let h = rw (found c) at c.requires in h.1
+
+found_then : (c : goal.After-drop-key) → fin.get c.args.self.now (data_of c.args.key.items) ≡ Some c.in-Some.group.now
+found_then c =
+    let es = c.self.inside.groups.entries in
+    ap (λ m. fin.get m (data_of c.args.key.items)) (sym c.self.view_is)
+    ∙ get-shown c.args.key.items es
+    ∙ sym c.get_mut.ensures.value
+    ∙ ap option_copied_mut c.in-Some.is
+
+pub returns-in-Some : goal.returns-in-Some
+returns-in-Some c =
+    let es = c.self.inside.groups.entries in
+    let n = c.get_mut.follows.lender c.absorb.new.self in
+    let key = data_of c.args.key.items in
+    let there : IsSome (lookup (λ k. pointwise value_eq c.args.key.items k.items) es) = ap is_some (sym c.get_mut.ensures.value ∙ ap option_copied_mut c.in-Some.is) in
+    let u = (c.get_mut.follows.holds c.absorb.new.self).3 there in
+    put_is c.args.self.now (shown n.entries) key c.args.part (Some c.absorb.new.self)
+    (λ q. get-updated es n.entries c.args.key.items (Some c.absorb.new.self) u.1 u.3 q ∙ ap (λ m. cond (same_key q key) (Some c.absorb.new.self) (fin.get m q)) c.self.view_is)
+    (ap Some c.absorb.ensures ∙ ap (λ o. join_options o (Some c.args.part)) (sym (found_then c)))
+
+pub returns : goal.returns
+returns c =
+    let es = c.self.inside.groups.entries in
+    let key = data_of c.args.key.items in
+    let u = c.in_ok-insert.ensures.updates in
+    let others = rw (c.get_mut.follows.holds-at-none) at u.3 in
+    let absent : fin.get c.args.self.now key ≡ None =
+    ap (λ m. fin.get m key) (sym c.self.view_is) ∙ get-shown c.args.key.items es ∙ sym c.get_mut.ensures.value ∙ ap option_copied_mut c.in_default.is in
+    put_is c.args.self.now (shown c.insert.new.self.entries) key c.args.part (Some c.args.part)
+    (λ q. get-updated es c.insert.new.self.entries c.args.key.items (Some c.args.part) u.1 others q ∙ ap (λ m. cond (same_key q key) (Some c.args.part) (fin.get m q)) c.self.view_is)
+    (ap (λ o. join_options o (Some c.args.part)) (sym absent))

@@ -1,0 +1,56 @@
+-- The value of a set function over a list of records (ISO/IEC 9075-2, <set function specification>).
+use Rattle.std.specs.Prelude.{ℕ, ℤ, pos, ◌+ℤ◌, Bool, not, List, [], ◌∷◌, length, Option, Some, None, unwrap_or, if◌then◌else◌}
+use Rattle.std.specs.List.{find, list_all, list_any}
+use Rattle.std.specs.Ordering.{eq_by_cmp, is_lt, is_gt}
+use Rattle.values.specs.Datum.{Datum, whole, null}
+use Rattle.values.specs.Order.{value_order}
+use Rattle.query_check.specs.declared.function.ColumnFunction.{ColumnFunction}
+use Rattle.query_check.specs.declared.function.ColumnFunction.TheVariants as function
+use Rattle.groups.specs.Rows.{Row, column_values, column_numbers}
+
+-- a value, or for an average a sum and how many numbers were added
+pub data Summary : Type 0 where
+  plain : Datum → Summary
+  ratio : ℤ → ℕ → Summary
+
+-- two values are not distinct where neither is before the other in the order of all values; so NULL is not distinct from NULL
+abbrev pub same_value : Datum → Datum → Bool
+same_value x y = eq_by_cmp value_order x y
+
+-- the different values of a list: of those that are the same one is left
+abbrev pub different : List Datum → List Datum
+different [] = []
+different (x ∷ xs) = if list_any (same_value x) xs then different xs else x ∷ different xs
+
+-- whole numbers added up, without bound
+abbrev pub total : List ℤ → ℤ
+total [] = pos 0
+total (n ∷ ns) = n +ℤ total ns
+
+-- the sum of whole numbers, and NULL of none
+abbrev pub sum_of : List ℤ → Datum
+sum_of [] = null
+sum_of (n ∷ ns) = whole (total (n ∷ ns))
+
+-- the average of whole numbers as the pair of their sum and their count, and NULL of none
+abbrev pub average_of : List ℤ → Summary
+average_of [] = plain null
+average_of (n ∷ ns) = ratio (total (n ∷ ns)) (length (n ∷ ns))
+
+-- a value of the list that no other is below, and NULL of none
+abbrev pub least : List Datum → Datum
+least xs = unwrap_or (find (λ x. list_all (λ y. not (is_lt (value_order y x))) xs) xs) null
+
+-- a value of the list that no other is above, and NULL of none
+abbrev pub greatest : List Datum → Datum
+greatest xs = unwrap_or (find (λ x. list_all (λ y. not (is_gt (value_order y x))) xs) xs) null
+
+-- the value of a set function over a list of records
+abbrev pub agg : ColumnFunction → List Row → Summary
+agg function.CountRows rows = plain (whole (pos (length rows)))
+agg (function.Count place) rows = plain (whole (pos (length (column_values place rows))))
+agg (function.CountDistinct place) rows = plain (whole (pos (length (different (column_values place rows)))))
+agg (function.Sum place) rows = plain (sum_of (column_numbers place rows))
+agg (function.Min place) rows = plain (least (column_values place rows))
+agg (function.Max place) rows = plain (greatest (column_values place rows))
+agg (function.Avg place) rows = average_of (column_numbers place rows)

@@ -1,0 +1,124 @@
+-- What an accumulator keeps of the members of a group: of COUNT(*) nothing, since the number of records is kept beside, and else counts and sums.
+use Rattle.std.specs.Prelude.{◌≡◌, ℕ, ◌+◌, ◌*◌, ◌^◌, ◌<◌, ◌≤◌, zero, suc, ℤ, pos, ◌+ℤ◌, ◌-ℤ◌, ◌≤ℤ◌, ⊤, Option, Some, None, FitsSigned, List, [], ◌∷◌, length, refl}
+use Rattle.std.specs.Int.{w128}
+use Rattle.std.specs.Option.{option_map_or}
+use Rattle.std.specs.Coded.{Coded, code_by, coded×, coded_ℕ, coded_ℤ, coded_list}
+use Rattle.values.specs.Datum.{Datum, whole, null}
+use Rattle.query_check.specs.declared.function.ColumnFunction.{ColumnFunction}
+use Rattle.query_check.specs.declared.function.ColumnFunction.TheVariants as function
+use Rattle.groups.specs.Rows.{Row, value_at, present, numbers, column_values, column_numbers}
+use Rattle.groups.specs.Functions.{Summary, plain, ratio, total}
+use Rattle.groups.specs.declared.accumulator.Accumulator.{Accumulator}
+use Rattle.groups.specs.declared.accumulator.Accumulator.TheVariants as accumulator
+
+pub data Kept : Type 0 where
+  nothing : Kept
+  counted : ℕ → Kept
+  summed : ℤ → ℕ → Kept
+  averaged : ℤ → ℕ → Kept
+
+-- the functions that are kept so far
+abbrev pub IsServed : ColumnFunction → Type 0
+IsServed function.CountRows = ⊤
+IsServed (function.Count place) = ⊤
+IsServed (function.CountDistinct place) = ⊥
+IsServed (function.Sum place) = ⊤
+IsServed (function.Min place) = ⊥
+IsServed (function.Max place) = ⊥
+IsServed (function.Avg place) = ⊤
+
+-- what is kept for a set function of a list of records
+abbrev pub kept : ColumnFunction → List Row → Kept
+kept function.CountRows rows = nothing
+kept (function.Count place) rows = counted (length (column_values place rows))
+kept (function.CountDistinct place) rows = nothing
+kept (function.Sum place) rows = summed (total (column_numbers place rows)) (length (column_numbers place rows))
+kept (function.Min place) rows = nothing
+kept (function.Max place) rows = nothing
+kept (function.Avg place) rows = averaged (total (column_numbers place rows)) (length (column_numbers place rows))
+
+-- the place of the column that a set function takes; COUNT(*) takes none
+abbrev pub place_of : ColumnFunction → Option ℕ
+place_of function.CountRows = None
+place_of (function.Count place) = Some place
+place_of (function.CountDistinct place) = Some place
+place_of (function.Sum place) = Some place
+place_of (function.Min place) = Some place
+place_of (function.Max place) = Some place
+place_of (function.Avg place) = Some place
+
+-- the value of a record that a set function takes, and NULL where it takes none
+abbrev pub argument : ColumnFunction → Row → Datum
+argument f row = option_map_or (λ place. value_at place row) (place_of f) null
+
+-- what is kept after one more value
+abbrev pub taken : Kept → Datum → Kept
+taken nothing d = nothing
+taken (counted n) d = counted (n + length (present (d ∷ [])))
+taken (summed s n) d = summed (s +ℤ total (numbers (d ∷ []))) (n + length (numbers (d ∷ [])))
+taken (averaged s n) d = averaged (s +ℤ total (numbers (d ∷ []))) (n + length (numbers (d ∷ [])))
+
+-- what is kept of two parts of a group for one function; of different functions the first stays as it is
+abbrev pub joined : Kept → Kept → Kept
+joined (counted m) (counted n) = counted (m + n)
+joined (summed s m) (summed t n) = summed (s +ℤ t) (m + n)
+joined (averaged s m) (averaged t n) = averaged (s +ℤ t) (m + n)
+joined k l = k
+
+-- the value of the function over a group of so many records
+abbrev pub summary : ℕ → Kept → Summary
+summary lines nothing = plain (whole (pos lines))
+summary lines (counted n) = plain (whole (pos n))
+summary lines (summed s zero) = plain null
+summary lines (summed s (suc n)) = plain (whole s)
+summary lines (averaged s zero) = plain null
+summary lines (averaged s (suc n)) = ratio s (suc n)
+
+-- ---- sizes
+
+-- the accumulator has room for it
+abbrev pub HasRoom : Kept → Type 0
+HasRoom nothing = ⊤
+HasRoom (counted n) = n < 2 ^ 64
+HasRoom (summed s n) = (n < 2 ^ 64) × FitsSigned w128 s
+HasRoom (averaged s n) = (n < 2 ^ 64) × FitsSigned w128 s
+
+-- the sum of so many numbers of 64 bits
+abbrev pub IsSumOf : ℕ → ℤ → Type 0
+IsSumOf lines s = ((pos 0 -ℤ pos (lines * 2 ^ 63)) ≤ℤ s) × (s ≤ℤ pos (lines * 2 ^ 63))
+
+-- what is kept of at most so many records of numbers of 64 bits
+abbrev pub IsWithin : ℕ → Kept → Type 0
+IsWithin lines nothing = ⊤
+IsWithin lines (counted n) = n ≤ lines
+IsWithin lines (summed s n) = (n ≤ lines) × IsSumOf lines s
+IsWithin lines (averaged s n) = (n ≤ lines) × IsSumOf lines s
+
+-- ---- the code's accumulators
+
+abbrev pub kept_in : Accumulator → Kept
+kept_in accumulator.Rows = nothing
+kept_in (accumulator.Count n) = counted n
+kept_in (accumulator.Sum t) = summed t.sum t.count
+kept_in (accumulator.Average t) = averaged t.sum t.count
+
+abbrev fields : Kept → ℕ × (ℤ × ℕ)
+fields nothing = (0, (pos 0, 0))
+fields (counted n) = (1, (pos 0, n))
+fields (summed s n) = (2, (s, n))
+fields (averaged s n) = (3, (s, n))
+
+abbrev of_fields : ℕ × (ℤ × ℕ) → Kept
+of_fields (zero, (s, n)) = nothing
+of_fields (suc zero, (s, n)) = counted n
+of_fields (suc (suc zero), (s, n)) = summed s n
+of_fields (suc (suc (suc _)), (s, n)) = averaged s n
+
+pub of_fields-fields : (k : Kept) → of_fields (fields k) ≡ k
+of_fields-fields nothing = refl
+of_fields-fields (counted n) = refl
+of_fields-fields (summed s n) = refl
+of_fields-fields (averaged s n) = refl
+
+abbrev pub coded_kept : Coded Kept
+coded_kept = code_by (ℕ × (ℤ × ℕ)) (coded× coded_ℕ (coded× coded_ℤ coded_ℕ)) fields of_fields of_fields-fields

@@ -1,0 +1,10 @@
+pub mod Rows
+pub mod Functions
+pub mod Groups
+pub mod Kept
+pub mod Shown
+pub mod Held
+pub mod Coding
+pub mod Table
+pub mod Lines
+pub mod Shuffle

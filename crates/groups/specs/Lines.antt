@@ -1,0 +1,42 @@
+-- What is shown of the groups of a grouping set: of each its key, the number of its members, and the values of the set functions over them.
+use Rattle.std.specs.Prelude.{◌≡◌, ℕ, ◌+◌, List, [], ◌∷◌, length, map}
+use Rattle.values.specs.Datum.{data_of}
+use Rattle.query_check.specs.declared.function.ColumnFunction.{ColumnFunction}
+use Rattle.groups.specs.declared.group.Group.{Group}
+use Rattle.groups.specs.Rows.{Row}
+use Rattle.groups.specs.Functions.{Summary, agg}
+use Rattle.groups.specs.Groups.{Key, keys, members}
+use Rattle.groups.specs.Kept.{summary}
+use Rattle.groups.specs.Held.{Held}
+use Rattle.groups.specs.Shown.{summary_of}
+
+pub record Line : Type 0 where
+  pub key : Key
+  pub lines : ℕ
+  pub cells : List Summary
+
+-- the line of a group with this key and these members
+abbrev pub line : List ColumnFunction → Key → List Row → Line
+line functions key rows = record { key = key; lines = length rows; cells = map (λ f. agg f rows) functions }
+
+-- the lines of all groups of a list of records under a grouping set, one for each key
+abbrev pub lines_of : List ℕ → List ColumnFunction → List Row → List Line
+lines_of set functions rows = map (λ key. line functions key (members set key rows)) (keys set rows)
+
+-- the weights of the things, added up
+abbrev pub weigh : {X : Type 0} → (X → ℕ) → List X → ℕ
+weigh weight [] = 0
+weigh weight (x ∷ xs) = weight x + weigh weight xs
+
+-- two lists have the same things, each as often: whatever the things weigh, the lists weigh the same
+abbrev pub SameBag : {X : Type 0} → List X → List X → Type 0
+SameBag {X} xs ys = (weight : X → ℕ) → weigh weight xs ≡ weigh weight ys
+
+-- ---- in the code
+
+abbrev pub line_in : Group → Line
+line_in group = record { key = data_of group.key.items; lines = group.lines; cells = map summary_of group.cells.items }
+
+-- the line of what is kept of a group
+abbrev pub line_kept : Key × Held → Line
+line_kept e = record { key = e.0; lines = e.1.lines; cells = map (summary e.1.lines) e.1.parts }

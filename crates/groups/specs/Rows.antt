@@ -1,0 +1,39 @@
+-- The records of a query and their columns.
+use Rattle.std.specs.Prelude.{ℕ, ℤ, Bool, true, false, List, map, filter, filter_map, slice_index_or, Option, Some, None}
+use Rattle.values.specs.Datum.{Datum, boolean, whole, text, null}
+
+-- the values of a record, one for each column
+abbrev pub Row : Type 0
+Row = List Datum
+
+-- the value in the column at a place; where there is no such column it counts as NULL
+abbrev pub value_at : ℕ → Row → Datum
+value_at place row = slice_index_or row place null
+
+abbrev pub is_present : Datum → Bool
+is_present (boolean b) = true
+is_present (whole n) = true
+is_present (text s) = true
+is_present null = false
+
+-- the values of a list that are not NULL
+abbrev pub present : List Datum → List Datum
+present values = filter is_present values
+
+-- the values in a column, over a list of records, that are not NULL
+abbrev pub column_values : ℕ → List Row → List Datum
+column_values place rows = present (map (value_at place) rows)
+
+abbrev pub number_of : Datum → Option ℤ
+number_of (boolean b) = None
+number_of (whole n) = Some n
+number_of (text s) = None
+number_of null = None
+
+-- the whole numbers of a list of values
+abbrev pub numbers : List Datum → List ℤ
+numbers values = filter_map number_of values
+
+-- the whole numbers in a column, over a list of records
+abbrev pub column_numbers : ℕ → List Row → List ℤ
+column_numbers place rows = numbers (map (value_at place) rows)

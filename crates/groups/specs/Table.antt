@@ -1,0 +1,79 @@
+-- A table of groups, apart from where it lies in memory, and what it is for a table to be that of a list of records.
+use Rattle.std.specs.Prelude.{◌≡◌, ◌+◌, ◌<◌, ◌^◌, ℕ, Bool, cond, List, map, length, [], Option, Some, None, IfSome, unwrap_or, if◌then◌else◌}
+use Rattle.std.specs.declared.alloc.Global.{Global}
+use Rattle.std.specs.declared.vec.Vec.{Vec}
+use Rattle.std.specs.Coded.{Coded}
+use Rattle.std.specs.FinMap as fin
+use Rattle.std.specs.List.{list_any}
+use Rattle.values.specs.declared.value.Value.{Value}
+use Rattle.values.specs.Datum.{Datum, data_of}
+use Rattle.query_check.specs.declared.function.ColumnFunction.{ColumnFunction}
+use Rattle.groups.specs.Coding.{coded_key}
+use Rattle.groups.specs.Rows.{Row}
+use Rattle.groups.specs.Groups.{Key, key_order, same_key, keys, members}
+use Rattle.groups.specs.Held.{Held, coded_held, held, with_row, join}
+
+-- what is kept of each group, by its key
+abbrev pub Contents : Type 0
+Contents = fin.FinMap key_order Held
+
+abbrev pub coded_contents : Coded Contents
+coded_contents = fin.code coded_key coded_held
+
+abbrev pub entries_shown : List (Vec Value Global × Held) → List (Key × Held)
+entries_shown entries = map (λ e. (data_of e.0.items, e.1)) entries
+
+-- the contents of a hashed map of the code
+abbrev pub shown : List (Vec Value Global × Held) → Contents
+shown entries = fin.from_entries (entries_shown entries)
+
+-- a table is that of a list of records under a grouping set: at each of their keys it has what is kept of the members, and at no other key anything
+abbrev pub IsTableOf : List ℕ → List ColumnFunction → Contents → List Row → Type 0
+IsTableOf set functions table rows = (key : Key) → fin.get table key ≡ (if list_any (same_key key) (keys set rows) then Some (held functions (members set key rows)) else None)
+
+-- the table of some list of records, fewer than 2^63 with one more
+pub record TakesOne (set : List ℕ) (functions : List ColumnFunction) (table : Contents) : Type 0 where
+  pub rows : List Row
+  pub is_table : IsTableOf set functions table rows
+  pub few : length rows + 1 < 2 ^ 63
+
+-- the tables, under one grouping set and for the same functions, of two lists that have together fewer than 2^63 records
+pub record Fit (table other : Contents) : Type 0 where
+  pub set : List ℕ
+  pub functions : List ColumnFunction
+  pub rows : List Row
+  pub more : List Row
+  pub is_table : IsTableOf set functions table rows
+  pub is_other : IsTableOf set functions other more
+  pub few : length rows + length more < 2 ^ 63
+
+-- ---- steps
+
+-- what is kept of a group after one more record; of a group that is new, after its first one
+abbrev pub grown : List ColumnFunction → Option Held → Row → Held
+grown functions old row = with_row functions (unwrap_or old (held functions [])) row
+
+-- at the key k the table has the record added, where it is the record's key, and else what it had
+abbrev pub IsAdded : List ColumnFunction → Contents → Contents → Key → Row → Key → Type 0
+IsAdded functions old new key row k = fin.get new k ≡ cond (same_key k key) (Some (grown functions (fin.get old k) row)) (fin.get old k)
+
+abbrev pub join_options : Option Held → Option Held → Option Held
+join_options None b = b
+join_options (Some a) None = Some a
+join_options (Some a) (Some b) = Some (join a b)
+
+-- at the key k the table has one more part of the group of a key
+abbrev pub IsPut : Contents → Contents → Key → Held → Key → Type 0
+IsPut old new key part k = fin.get new k ≡ cond (same_key k key) (join_options (fin.get old k) (Some part)) (fin.get old k)
+
+-- at the key k the table has what both have
+abbrev pub IsJoined : Contents → Contents → Contents → Key → Type 0
+IsJoined old other new k = fin.get new k ≡ join_options (fin.get old k) (fin.get other k)
+
+-- a group takes one more record
+abbrev pub HasPlace : List ColumnFunction → Option Held → Type 0
+HasPlace functions group = IfSome group (λ g. (g.lines + 1 < 2 ^ 63) × (length g.parts ≡ length functions))
+
+-- a group takes a part
+abbrev pub IsFitting : Held → Option Held → Type 0
+IsFitting part group = IfSome group (λ g. (g.lines + part.lines < 2 ^ 63) × (length part.parts ≡ length g.parts))

@@ -1,0 +1,101 @@
+ghost use Rattle.std.specs.Prelude.{◌≡◌, IfOk, map};
+ghost use Rattle.groups.specs.Kept.{kept_in, summary};
+ghost use Rattle.groups.specs.Shown.{summary_of};
+
+use crate::accumulator::Accumulator;
+use crate::cell::Cell;
+use query_check::ColumnFunction;
+use std::alloc::{AllocError, Global};
+use std::marker::Model;
+use values::Value;
+
+/// What is kept of the members of a group: their number, and for each set function an accumulator.
+#[derive(Debug, Drop)]
+pub(crate) struct Accumulators {
+    lines: u64,
+    parts: Vec<Accumulator>,
+}
+
+impl Model for Accumulators {
+    ghost use Rattle.std.specs.Prelude.{map};
+    ghost use Rattle.groups.specs.Kept.{kept_in};
+    ghost use Rattle.groups.specs.Held.{Held, coded_held, IsSound};
+
+    ghost Value = { Held };
+
+    ghost coded = { coded_held };
+
+    ghost view = { λ a. record { lines = a.lines; parts = map kept_in a.parts.items } };
+
+    ghost invariant = { λ a. IsSound a.lines (map kept_in a.parts.items) };
+}
+
+impl Accumulators {
+    ghost use Rattle.std.specs.Prelude.{◌≡◌, ◌+◌, ◌<◌, ◌≤◌, ◌^◌, [], IfOk, length, map};
+    ghost use Rattle.values.specs.Datum.{data_of};
+    ghost use Rattle.groups.specs.Kept.{summary};
+    ghost use Rattle.groups.specs.Held.{held, with_row, join, AreServed, IsNarrowRow};
+    ghost use Rattle.groups.specs.Shown.{summary_of};
+
+    /// What is kept of a group without members.
+    pub(crate) fn new(
+        alloc: Global,
+        functions: &[ColumnFunction],
+    ) -> Result<Accumulators, AllocError>
+        requires { AreServed functions.now }
+        ensures { IfOk result (λ group. group ≡ held functions.now []) }
+    {
+        let mut parts = Vec::with_capacity(alloc, functions.len())?;
+        for function in functions {
+            parts.push(Accumulator::new(*function))?;
+        }
+        Ok(Accumulators { lines: 0, parts })
+    }
+
+    /// Takes one more member, by its values.
+    pub(crate) fn add(&mut self, functions: &[ColumnFunction], row: &[Value])
+        requires narrow { IsNarrowRow (data_of row.now) }
+        requires room { self.old.lines + 1 < 2 ^ 63 }
+        requires one_each { length self.old.parts ≡ length functions.now }
+        ensures { self.new ≡ with_row functions.now self.old (data_of row.now) }
+    {
+        for (place, function) in functions.iter().enumerate() {
+            self.parts[place].add(*function, row);
+        }
+        self.lines += 1;
+    }
+
+    /// Takes what is kept of other members.
+    pub(crate) fn absorb(&mut self, other: Accumulators)
+        requires room { self.old.lines + other.lines < 2 ^ 63 }
+        requires one_each { length other.parts ≡ length self.old.parts }
+        ensures { self.new ≡ join self.old other }
+    {
+        let Accumulators { lines, parts } = other;
+        for (place, part) in parts.into_iter().enumerate() {
+            self.parts[place].absorb(part);
+        }
+        self.lines += lines;
+    }
+
+    /// The number of members, and the values of the functions over them.
+    pub(crate) fn finish(self, alloc: Global) -> Result<(u64, Vec<Cell>), AllocError>
+        ensures lines { IfOk result (λ r. r.0 ≡ self.lines) }
+        ensures cells { IfOk result (λ r. map summary_of r.1.items ≡ map (summary self.lines) self.parts) }
+    {
+        let Accumulators { lines, parts } = self;
+        let cells = cells_of(alloc, lines, parts)?;
+        Ok((lines, cells))
+    }
+}
+
+/// The values of set functions over a group of so many records.
+fn cells_of(alloc: Global, lines: u64, parts: Vec<Accumulator>) -> Result<Vec<Cell>, AllocError>
+    ensures { IfOk result (λ cells. map summary_of cells.items ≡ map (λ part. summary lines (kept_in part)) parts.items) }
+{
+    let mut cells = Vec::with_capacity(alloc, parts.len())?;
+    for part in parts {
+        cells.push(part.finish(lines))?;
+    }
+    Ok(cells)
+}

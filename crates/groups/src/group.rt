@@ -1,0 +1,38 @@
+ghost use Rattle.std.specs.Prelude.{◌≡◌, IfOk, map};
+ghost use Rattle.std.specs.List.{IsDistinct};
+ghost use Rattle.groups.specs.Groups.{same_key};
+ghost use Rattle.groups.specs.Table.{entries_shown};
+ghost use Rattle.groups.specs.Lines.{line_in, line_kept};
+
+use crate::accumulators::Accumulators;
+use crate::cell::Cell;
+use std::alloc::{AllocError, Global};
+use std::collections::HashMap;
+use values::Value;
+
+/// A group of a grouping set.
+#[derive(Debug, Drop)]
+pub struct Group {
+    /// The values in the columns of the set.
+    pub key: Vec<Value>,
+    /// The number of records.
+    pub lines: u64,
+    /// The value of each set function.
+    pub cells: Vec<Cell>,
+}
+
+/// A group for each entry, in the order in which the map has them.
+pub(crate) fn groups_of(
+    alloc: Global,
+    entries: HashMap<Vec<Value>, Accumulators>,
+) -> Result<Vec<Group>, AllocError>
+    ensures lines { IfOk result (λ groups. map line_in groups.items ≡ map line_kept (entries_shown entries.entries)) }
+    ensures distinct { IfOk result (λ _. IsDistinct same_key (map (λ e. e.0) (entries_shown entries.entries))) }
+{
+    let mut groups = Vec::new(alloc);
+    for (key, group) in entries {
+        let (lines, cells) = group.finish(alloc)?;
+        groups.push(Group { key, lines, cells })?;
+    }
+    Ok(groups)
+}

@@ -1,0 +1,176 @@
+ghost use Rattle.std.specs.Prelude.{◌≡◌, IfOk};
+ghost use Rattle.values.specs.Datum.{data_of, datum_of};
+ghost use Rattle.groups.specs.Groups.{project};
+ghost use Rattle.groups.specs.Rows.{value_at};
+
+use crate::accumulators::Accumulators;
+use crate::group::{Group, groups_of};
+use query_check::ColumnFunction;
+use std::alloc::{AllocError, Global};
+use std::collections::HashMap;
+use std::marker::Model;
+use values::Value;
+
+/// The groups of one grouping set, each by its key.
+#[derive(Debug, Drop)]
+pub struct Table {
+    alloc: Global,
+    groups: HashMap<Vec<Value>, Accumulators>,
+}
+
+impl Model for Table {
+    ghost use Rattle.groups.specs.Table.{Contents, coded_contents, shown};
+
+    ghost Value = { Contents };
+
+    ghost coded = { coded_contents };
+
+    ghost view = { λ t. shown t.groups.entries };
+}
+
+impl Table {
+    ghost use Rattle.std.specs.Prelude.{◌≡◌, ℕ, [], ◌∷◌, ◌++◌, OnOk, IfOk, IfSome, List, map};
+    ghost use Rattle.groups.specs.Rows.{Row};
+    ghost use Rattle.query_check.specs.declared.function.ColumnFunction.{ColumnFunction};
+    ghost use Rattle.std.specs.FinMap as fin;
+    ghost use Rattle.values.specs.Datum.{data_of};
+    ghost use Rattle.groups.specs.Groups.{Key};
+    ghost use Rattle.groups.specs.Held.{AreServed, IsNarrowRow, held};
+    ghost use Rattle.groups.specs.Lines.{SameBag, line_in, lines_of};
+    ghost use Rattle.groups.specs.Table.{Fit, HasPlace, IsAdded, IsPut, IsFitting, IsJoined, IsTableOf, TakesOne};
+
+    /// The table of no records under a grouping set, for these set functions.
+    pub fn new(
+        alloc: Global,
+        set: &[usize],
+        functions: &[ColumnFunction],
+    ) -> Result<Table, AllocError>
+        requires { AreServed functions.now }
+        ensures empty { IfOk result (λ table. IsTableOf set.now functions.now table []) }
+    {
+        if set.is_empty() {
+            return Table::with_empty_key(alloc, functions);
+        }
+        Ok(Table {
+            alloc,
+            groups: HashMap::new(alloc),
+        })
+    }
+
+    /// The table of no records under the empty set, whose one key is there from the start.
+    fn with_empty_key(alloc: Global, functions: &[ColumnFunction]) -> Result<Table, AllocError>
+        requires { AreServed functions.now }
+        ensures { IfOk result (λ table. (k : Key) → IsPut fin.empty table [] (held functions.now []) k) }
+    {
+        let mut table = Table {
+            alloc,
+            groups: HashMap::new(alloc),
+        };
+        let group = Accumulators::new(alloc, functions)?;
+        table.put_to_group(Vec::new(alloc), group)?;
+        Ok(table)
+    }
+
+    /// Takes one more record, by its values. After an error the table is of no use.
+    pub fn add(
+        &mut self,
+        set: &[usize],
+        functions: &[ColumnFunction],
+        row: &[Value],
+    ) -> Result<(), AllocError>
+        requires served { AreServed functions.now }
+        requires narrow { IsNarrowRow (data_of row.now) }
+        requires room { TakesOne set.now functions.now self.old }
+        ensures added { OnOk result ((rows : List Row) → IsTableOf set.now functions.now self.old rows
+            → IsTableOf set.now functions.now self.new (rows ++ data_of row.now ∷ [])) }
+    {
+        let key = key_of(self.alloc, set, row)?;
+        self.add_to_group(functions, key, row)
+    }
+
+    /// Takes the records of another table, whose groups move into this one. After an error the table is of no use.
+    pub fn absorb(&mut self, other: Table) -> Result<(), AllocError>
+        requires { Fit self.old other }
+        ensures joined { OnOk result ((set : List ℕ) (functions : List ColumnFunction) (rows more : List Row)
+            → IsTableOf set functions self.old rows → IsTableOf set functions other more → IsTableOf set functions self.new (rows ++ more)) }
+    {
+        self.put_all(other)
+    }
+
+    /// One group for each key of the records, in no order that is said.
+    pub fn finish(self) -> Result<Vec<Group>, AllocError>
+        ensures groups { IfOk result (λ groups. (set : List ℕ) (functions : List ColumnFunction) (rows : List Row)
+            → AreServed functions → IsTableOf set functions self rows → SameBag (map line_in groups.items) (lines_of set functions rows)) }
+    {
+        let Table { alloc, groups } = self;
+        groups_of(alloc, groups)
+    }
+
+    /// Takes one more record of the group of a key.
+    fn add_to_group(
+        &mut self,
+        functions: &[ColumnFunction],
+        key: Vec<Value>,
+        row: &[Value],
+    ) -> Result<(), AllocError>
+        requires served { AreServed functions.now }
+        requires narrow { IsNarrowRow (data_of row.now) }
+        requires place { HasPlace functions.now (fin.get self.old (data_of key.items)) }
+        ensures { OnOk result ((k : Key) → IsAdded functions.now self.old self.new (data_of key.items) (data_of row.now) k) }
+    {
+        if let Some(group) = self.groups.get_mut(&key) {
+            group.add(functions, row);
+            return Ok(());
+        }
+        let mut group = Accumulators::new(self.alloc, functions)?;
+        group.add(functions, row);
+        self.groups.insert(key, group)?;
+        Ok(())
+    }
+
+    /// Puts one more part to the group of a key.
+    fn put_to_group(&mut self, key: Vec<Value>, part: Accumulators) -> Result<(), AllocError>
+        requires { IsFitting part (fin.get self.old (data_of key.items)) }
+        ensures { OnOk result ((k : Key) → IsPut self.old self.new (data_of key.items) part k) }
+    {
+        if let Some(group) = self.groups.get_mut(&key) {
+            group.absorb(part);
+            return Ok(());
+        }
+        self.groups.insert(key, part)?;
+        Ok(())
+    }
+
+    /// Puts the groups of another table to these.
+    fn put_all(&mut self, other: Table) -> Result<(), AllocError>
+        requires { (k : Key) → IfSome (fin.get other k) (λ part. IsFitting part (fin.get self.old k)) }
+        ensures { OnOk result ((k : Key) → IsJoined self.old other self.new k) }
+    {
+        let Table { alloc: _, groups } = other;
+        for (key, part) in groups {
+            self.put_to_group(key, part)?;
+        }
+        Ok(())
+    }
+}
+
+/// The values of a record in the columns of a grouping set.
+fn key_of(alloc: Global, set: &[usize], row: &[Value]) -> Result<Vec<Value>, AllocError>
+    ensures { IfOk result (λ key. data_of key.items ≡ project set.now (data_of row.now)) }
+{
+    let mut key = Vec::with_capacity(alloc, set.len())?;
+    for place in set {
+        key.push(value_at(row, *place)?)?;
+    }
+    Ok(key)
+}
+
+/// A copy of the value in the column at a place; where there is no such column it counts as NULL.
+fn value_at(row: &[Value], place: usize) -> Result<Value, AllocError>
+    ensures { IfOk result (λ value. datum_of value ≡ value_at place (data_of row.now)) }
+{
+    match row.get(place) {
+        Some(value) => value.clone(),
+        None => Ok(Value::Null),
+    }
+}

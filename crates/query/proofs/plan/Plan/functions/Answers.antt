@@ -1,0 +1,7 @@
+use Rattle.std.proofs.Common.{◌∙◌, ap}
+use Rattle.std.proofs.Math.Logic.{∥∥₁_map}
+use Rattle.query_check.specs.Resolution.{Resolution}
+use Rattle.query.proofs.plan.Plan.functions.Goals as goal
+
+pub returns : goal.returns
+returns c = record { functions = ∥∥₁_map c.args.self.now.resolution (λ e. c.functions.ensures ∙ ap (λ (r : Resolution). r.functions) e) }

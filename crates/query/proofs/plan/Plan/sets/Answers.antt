@@ -1,0 +1,13 @@
+use mathlib.Core.List.{is_set}
+use native.Mathlib.Nat.{ℕ_set}
+use Rattle.std.proofs.Common.{◌≡◌, ◌∙◌, ap}
+use Rattle.std.proofs.Math.Logic.{∥∥₁_elim}
+use Rattle.query_check.specs.Resolution.{Resolution, contents}
+use Rattle.query_check.specs.Sets.{sets_of}
+use Rattle.query.specs.Planned.{fields_of_plan, form_of_plan}
+use Rattle.query.proofs.plan.Plan.sets.Goals as goal
+
+pub returns : goal.returns
+returns c =
+    let one : IsProp (contents c.sets.result.now ≡ sets_of (fields_of_plan c.args.self.now) (form_of_plan c.args.self.now)) = is_set (is_set ℕ_set) _ _ in
+    record { sets = ∥∥₁_elim c.args.self.now.resolution one (λ e. c.sets.ensures ∙ ap (λ (r : Resolution). r.sets) e) }

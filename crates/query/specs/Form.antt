@@ -1,0 +1,7 @@
+-- What a query is, for contracts.
+use Rattle.query.specs.declared.query.Query.{Query}
+use Rattle.query_tree.specs.Syntax.{TreeForm, tree_form}
+
+-- The form of the tree of a query.
+abbrev pub form_of : Query → TreeForm
+form_of query = tree_form query.tree

@@ -1,0 +1,3 @@
+pub mod Derivation
+pub mod Form
+pub mod Planned

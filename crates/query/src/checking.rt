@@ -1,0 +1,35 @@
+// Checking a query under a schema.
+ghost use Rattle.std.specs.Prelude.{◌≡◌, ◌≢◌, IfErr, IfOk, OnOk, Some};
+ghost use Rattle.query_check.specs.Faults.{query_fault};
+ghost use Rattle.query_check.specs.Typing.{IsTyped};
+ghost use Rattle.query_fault.specs.declared.QueryFault.TheVariants.{OutOfMemory};
+ghost use Rattle.query.specs.Form.{form_of};
+ghost use Rattle.query.specs.Planned.{fields_of_plan, form_of_plan};
+
+use crate::plan::Plan;
+use crate::query::Query;
+use query_check::check_tree;
+use query_fault::QueryFault;
+use std::alloc::Global;
+use values::Schema;
+
+/// Checks a query under a schema, and plans it. A refused query and its schema are given up.
+///
+/// # Errors
+///
+/// The first fault, in the order WHERE, GROUP BY, SELECT, HAVING, ORDER BY, each from left to right:
+/// a name that is no column, or no grouping column where it has to be one; types that do not agree;
+/// a function where it may not stand; more than 64 expanded grouping sets, or different set
+/// functions; two items with one header. `OutOfMemory` says nothing of the query.
+pub fn check(alloc: Global, query: Query, schema: Schema) -> Result<Plan, QueryFault>
+    ensures query { IfOk result (λ plan. form_of_plan plan ≡ form_of query) }
+    ensures schema { IfOk result (λ plan. fields_of_plan plan ≡ schema) }
+    // A plan is answered exactly where the query is typed.
+    ensures typed { OnOk result (IsTyped schema (form_of query)) }
+    ensures untyped { IfErr result (λ fault. fault ≢ OutOfMemory → IsTyped schema (form_of query) → ⊥) }
+    // A fault is the first.
+    ensures fault { IfErr result (λ fault. fault ≢ OutOfMemory → query_fault schema (form_of query) ≡ Some fault) }
+{
+    let resolved = check_tree(alloc, query.tree(), &schema)?;
+    Ok(Plan::new(query, schema, resolved))
+}

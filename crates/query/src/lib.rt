@@ -1,0 +1,27 @@
+//! The query language: reading a query, its canonical text, and its plan under a schema.
+//!
+//! This crate is the whole public surface of the language. The crates below it have its parts: the
+//! syntax tree (`query_tree`), the tokens (`query_tokens`), the grammar (`query_grammar`), the
+//! canonical text (`query_print`) and typing (`query_check`).
+#![tactic(auto)]
+
+mod checking;
+mod parsing;
+mod plan;
+mod printing;
+mod query;
+
+pub use checking::check;
+pub use parsing::parse;
+pub use plan::Plan;
+pub use printing::{header, print, set_text};
+pub use query::Query;
+pub use query_check::ColumnFunction;
+pub use query_fault::QueryFault;
+pub use query_tree::{
+    Aggregate, Comparison, Expression, Group, Item, Key, Literal, Operand, Predicate, SetFunction,
+    Text, Tree, TruthValue,
+};
+
+#[cfg(test)]
+mod tests;

@@ -1,0 +1,60 @@
+// Reading a query.
+ghost use Rattle.std.specs.Prelude.{◌≡◌, ℕ, Err, IfOk, MatchResult};
+ghost use Rattle.query_fault.specs.declared.QueryFault.TheVariants.{NoToken, OutOfMemory};
+ghost use Rattle.query_tokens.specs.Spelling.{StopsAt};
+ghost use Rattle.query_tree.specs.Syntax.{TreeForm};
+ghost use Rattle.query.specs.Derivation.{Derives};
+ghost use Rattle.query.specs.Form.{form_of};
+
+use crate::query::Query;
+use query_fault::QueryFault;
+use query_grammar::{GrammarFault, read_query};
+use query_tokens::{TokenFault, Tokens, read_tokens};
+use std::alloc::Global;
+
+/// The most bytes of a query.
+const MOST_BYTES: usize = 65_536;
+
+/// Reads a query.
+///
+/// # Errors
+///
+/// `OverLimit` for a text of more than 65,536 bytes, before anything else. Then the whole text has
+/// to spell tokens: `NoToken` names the byte where none begins. Then `Unexpected` names the byte of
+/// the first token that does not continue a query, or the length of the text where its end does not,
+/// and `OverLimit` comes at the first token that is too much. `OutOfMemory` says nothing of the text.
+pub fn parse(alloc: Global, text: &str) -> Result<Query, QueryFault>
+    // What is read is derived.
+    ensures derived { IfOk result (λ query. Derives text.now (form_of query)) }
+    // What is derived is read, and no other, unless memory runs out.
+    ensures read { (q : TreeForm) → Derives text.now q → MatchResult result (λ query. form_of query ≡ q) (λ fault. fault ≡ OutOfMemory) }
+    // No token stands at the byte of such a fault.
+    ensures no_token { (byte : ℕ) → result ≡ Err (NoToken byte) → StopsAt text.now byte }
+{
+    if text.len() > MOST_BYTES {
+        return Err(QueryFault::OverLimit);
+    }
+    let tokens = match read_tokens(alloc, text) {
+        Ok(tokens) => tokens,
+        Err(TokenFault::NoToken(byte)) => return Err(QueryFault::NoToken(byte)),
+        Err(TokenFault::OutOfMemory) => return Err(QueryFault::OutOfMemory),
+    };
+    match read_query(alloc, tokens.all.as_slice()) {
+        Ok(tree) => Ok(Query::new(tree)),
+        Err(GrammarFault::Unexpected(left)) => {
+            let byte = start_of_last(&tokens, left, text.len());
+            Err(QueryFault::Unexpected(byte))
+        }
+        Err(GrammarFault::OverLimit) => Err(QueryFault::OverLimit),
+        Err(GrammarFault::OutOfMemory) => Err(QueryFault::OutOfMemory),
+    }
+}
+
+/// The byte where the first of the last so many tokens begins, or the end where there is none.
+fn start_of_last(tokens: &Tokens, count: usize, end: usize) -> usize {
+    let place = tokens.starts.len().saturating_sub(count);
+    match tokens.starts.get(place) {
+        Some(byte) => *byte,
+        None => end,
+    }
+}

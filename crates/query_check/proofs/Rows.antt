@@ -1,0 +1,52 @@
+-- Faults and places of lists, one after the other.
+use Rattle.std.proofs.Common.{◌≡◌, ◌∙◌, ℕ, suc, ◌+◌, ◌-◌, ◌<◌, ◌≤◌, arith, map, take, List, [], ◌∷◌, ◌++◌, length, drop, get_or, Option, Some, None, Result, Ok, Err, IfOk, refl, sym, ap, append_assoc}
+use Rattle.std.proofs.lemmas.List.{append-nil, at_drop_all, at_drop_more}
+use Rattle.std.proofs.Math.Seq.{take-append_seam}
+use Rattle.std.specs.Option.{option_or}
+use Rattle.std.proofs.lemmas.List.Elements.{filter_map-append}
+use Rattle.query_fault.specs.declared.QueryFault.{QueryFault}
+use Rattle.query_check.specs.Faults.{first_fault}
+
+-- What is appended, list by list.
+pub ruleset appended = (filter_map-append, append_assoc)
+
+-- Of three tests in a row it is the same which two are taken first.
+or_in_a_row : {A : Type 0} (a b c : Option A) → option_or a (option_or b c) ≡ option_or (option_or a b) c
+or_in_a_row None b c = refl
+or_in_a_row (Some x) b c = refl
+
+-- The first fault of two lists in a row.
+pub first_fault_append : {A : Type 0} (f : A → Option QueryFault) (xs ys : List A) → first_fault f (xs ++ ys) ≡ option_or (first_fault f xs) (first_fault f ys)
+first_fault_append f [] ys = refl
+first_fault_append f (x ∷ xs) ys = ap (option_or (f x)) (first_fault_append f xs ys) ∙ or_in_a_row (f x) (first_fault f xs) (first_fault f ys)
+
+-- A turn of a loop that appends what an element gives.
+pub appended_turn : {X Y : Type 0} (f : X → List Y) (F : List X → List Y) → ((x : X) (xs : List X) → F (x ∷ xs) ≡ f x ++ F xs) → (xs : List X) (i : ℕ) (x : X) → i < length xs → x ≡ get_or xs i x → (old new total : List Y) → new ≡ old ++ f x → old ++ F (drop i xs) ≡ total → new ++ F (drop (i + 1) xs) ≡ total
+appended_turn {X} {Y} f F cons xs i x below e old new total pushed told =
+    ap (λ (ys : List Y). ys ++ F (drop (i + 1) xs)) pushed
+    ∙ append_assoc old (f x) (F (drop (i + 1) xs))
+    ∙ ap (λ (ys : List Y). old ++ ys) (sym (at_drop_more F xs i x below ∙ ap (λ (y : X). F (y ∷ drop (i + 1) xs)) (sym e) ∙ cons x (drop (i + 1) xs)))
+    ∙ told
+
+-- What an Ok holds, and what that comes to.
+pub ok_same : {T E Y : Type 0} (r : Result T E) (f : T → Y) (a b : Y) → IfOk r (λ v. f v ≡ a) → a ≡ b → IfOk r (λ v. f v ≡ b)
+ok_same (Ok v) f a b h e = h ∙ e
+ok_same (Err x) f a b h e = tt
+
+-- A list is its first element and the others.
+pub first_others : {X : Type 0} (xs : List X) (x : X) → 1 ≤ length xs → x ≡ get_or xs 0 x → x ∷ take (length xs - 1) (drop 1 xs) ≡ xs
+first_others [] x some e = absurd (omega arith)
+first_others {X} (y ∷ ys) x some e =
+    let n : suc (length ys) - 1 ≡ length ys = omega arith in
+    ap (λ (z : X). z ∷ take (suc (length ys) - 1) ys) e
+    ∙ ap (λ (m : ℕ). y ∷ take m ys) n
+    ∙ ap (λ (zs : List X). y ∷ zs) (ap (take (length ys)) (sym (append-nil ys)) ∙ take-append_seam ys [])
+
+-- A loop that appends, at its end.
+pub appended_end : {X Y : Type 0} (F : List X → List Y) → F [] ≡ [] → (xs : List X) (i : ℕ) → length xs ≤ i → (old total : List Y) → old ++ F (drop i xs) ≡ total → old ≡ total
+appended_end {X} {Y} F nothing xs i past old total told = sym (append-nil old) ∙ ap (λ (ys : List Y). old ++ ys) (sym (at_drop_all F xs i past ∙ nothing)) ∙ told
+
+-- One map after another.
+pub map_twice : {X Y Z : Type 0} (g : Y → Z) (f : X → Y) (xs : List X) → map g (map f xs) ≡ map (λ x. g (f x)) xs
+map_twice g f [] = refl
+map_twice {X} {Y} {Z} g f (x ∷ xs) = ap (λ (zs : List Z). g (f x) ∷ zs) (map_twice g f xs)

@@ -1,0 +1,181 @@
+-- A whole query is typed exactly where it has no fault.
+use Rattle.std.proofs.Common.{◌≡◌, ◌≢◌, ◌∙◌, ℕ, suc, ◌+◌, ◌<◌, ◌≤◌, nat_lt, Bool, true, false, not, ◌||◌, List, [], ◌∷◌, ◌++◌, length, take, map, get_or, Option, None, Result, Ok, Err, OnOk, IfErr, AllPairs, refl, sym, ap, subst, append_assoc, length-append, arith}
+use Rattle.std.specs.Prelude.{is_some}
+use Rattle.std.specs.List.{enumerate_from, flat_map, list_any}
+use Rattle.std.specs.Option.{option_or}
+use Rattle.std.specs.Str.{bytes_eq}
+use Rattle.std.proofs.lemmas.Bool.Decides.{nat_tests}
+use Rattle.std.proofs.lemmas.List.{append-nil, length_push}
+use Rattle.std.proofs.lemmas.List.Folds.{list_any_at}
+use Rattle.std.proofs.lemmas.List.Quantifiers.{all_pairs_push}
+use Rattle.std.proofs.lemmas.Slice.Eq.{bytes_eq-Decides}
+use Rattle.std.proofs.Math.ListN.{get_or-append}
+use Rattle.std.proofs.Math.Seq.{get_or-append_seam, take-append_seam}
+use Rattle.values.specs.Schema.{Field}
+use Rattle.query_tree.specs.Syntax.{GroupForm, GroupForms, ItemForm, KeyForm, TreeForm, set, rollup, cube, sets, no_groups, group}
+use Rattle.query_print.specs.Canonical.{header_text}
+use Rattle.query_fault.specs.declared.QueryFault.{QueryFault}
+use Rattle.query_fault.specs.declared.QueryFault.TheVariants.{OutOfMemory, OverLimit, RepeatedHeader}
+use Rattle.query_check.specs.declared.scope.Clause.TheVariants as clause
+use Rattle.query_check.specs.Columns.{group_names, groups_names, place_of}
+use Rattle.query_check.specs.Sets.{expanded, grouping_names, grouping_places}
+use Rattle.query_check.specs.Functions.{functions_of}
+use Rattle.query_check.specs.Typing.{IsColumn, IsTyped, IsTypedExpression, key_expression}
+use Rattle.query_check.specs.Faults.{Answers, clause_fault, column_fault, expression_fault, first_fault, header_fault, limit_fault, query_fault, names_fault, group_fault, groups_fault, clauses_fault, records_fault, rows_fault, select_fault}
+use Rattle.query_check.proofs.Rows.{first_fault_append}
+use Rattle.query_check.proofs.TypedLemmas.{all_from_none, both_none, clause_from_none, expression_from_none, holds, none_from_all, none_from_clause, none_from_expression, none_of_both, passes}
+
+-- ---- headers
+
+-- Headers that all differ.
+abbrev AreDifferent : List (List ℕ) → Type 0
+AreDifferent hs = AllPairs (λ (h : List ℕ) (g : List ℕ). h ≢ g) hs
+
+-- A header that the test does not find differs from each.
+differs : (h : List ℕ) (earlier : List (List ℕ)) → list_any (bytes_eq h) earlier ≡ false → (k : ℕ) (d : List ℕ) → k < length earlier → get_or earlier k d ≢ h
+differs h earlier none k d below same =
+    let found = list_any_at (bytes_eq h) earlier k d below ((bytes_eq-Decides h (get_or earlier k d)).1 (sym same)) in
+    let wrong : true ≡ false = sym found ∙ none in
+    let clash : ⊥ = cc in clash
+
+-- A header that differs from each is not found.
+not_found : (h : List ℕ) (earlier : List (List ℕ)) → ((k : ℕ) (d : List ℕ) → k < length earlier → get_or earlier k d ≢ h) → list_any (bytes_eq h) earlier ≡ false
+not_found h [] other = refl
+not_found h (g ∷ gs) other =
+    elim (bytes_eq h g) as (λ (t : Bool). bytes_eq h g ≡ t → (t || list_any (bytes_eq h) gs) ≡ false) [
+      | true ↦ λ e. absurd (other 0 g (omega arith) (sym ((bytes_eq-Decides h g).0 e)))
+      | false ↦ λ _. not_found h gs (λ k d below. other (suc k) d (omega arith))
+    ] refl
+
+-- What is not true is false.
+not_true : (b : Bool) → not b ≡ true → b ≡ false
+not_true true h = absurd cc
+not_true false h = refl
+
+-- The first fault of headers behind others.
+abbrev fault_behind : List (List ℕ) → ℕ → List (List ℕ) → Option QueryFault
+fault_behind all n rest = first_fault (λ p. header_fault (take p.0 all) p.1) (enumerate_from n rest)
+
+-- Headers without a fault differ, behind others that differ.
+different_from_none : (done rest : List (List ℕ)) → AreDifferent done → fault_behind (done ++ rest) (length done) rest ≡ None → AreDifferent (done ++ rest)
+different_from_none done [] front h = subst AreDifferent (sym (append-nil done)) front
+different_from_none done (g ∷ rest) front h =
+    let all = done ++ g ∷ rest in
+    let k = none_of_both (header_fault (take (length done) all) g) (fault_behind all (length done + 1) rest) h in
+    let seam : take (length done) all ≡ done = take-append_seam done (g ∷ rest) in
+    let new : list_any (bytes_eq g) done ≡ false = not_true (list_any (bytes_eq g) done) (holds (not (list_any (bytes_eq g) done)) (RepeatedHeader g) (rw seam at k.0)) in
+    let more : AreDifferent (done ++ g ∷ []) = all_pairs_push (λ (x : List ℕ) (y : List ℕ). x ≢ y) done g front (λ k d below. differs g done new k d below) in
+    let later : fault_behind ((done ++ g ∷ []) ++ rest) (length (done ++ g ∷ [])) rest ≡ None =
+    ap (λ (n : ℕ). fault_behind ((done ++ g ∷ []) ++ rest) n rest) (length_push done g)
+    ∙ ap (λ (xs : List (List ℕ)). fault_behind xs (length done + 1) rest) (append_assoc done (g ∷ []) rest)
+    ∙ k.1 in
+    subst AreDifferent (append_assoc done (g ∷ []) rest) (different_from_none (done ++ g ∷ []) rest more later)
+
+-- Headers that differ have no fault, behind others.
+none_from_different : (done rest : List (List ℕ)) → AreDifferent (done ++ rest) → fault_behind (done ++ rest) (length done) rest ≡ None
+none_from_different done [] all_differ = refl
+none_from_different done (g ∷ rest) all_differ =
+    let all = done ++ g ∷ rest in
+    let seam : take (length done) all ≡ done = take-append_seam done (g ∷ rest) in
+    let n = length-append done (g ∷ rest) in
+    let new : list_any (bytes_eq g) done ≡ false = not_found g done (λ k d below e.
+    all_differ k (length done) d below (omega (arith, n)) (get_or-append done (g ∷ rest) d k below ∙ e ∙ sym (get_or-append_seam done g rest d))) in
+    let here : header_fault (take (length done) all) g ≡ None = rw (seam, new) refl in
+    let later : fault_behind all (length done + 1) rest ≡ None =
+    ap (λ (xs : List (List ℕ)). fault_behind xs (length done + 1) rest) (sym (append_assoc done (g ∷ []) rest))
+    ∙ ap (λ (n : ℕ). fault_behind ((done ++ g ∷ []) ++ rest) n rest) (sym (length_push done g))
+    ∙ none_from_different (done ++ g ∷ []) rest (subst AreDifferent (sym (append_assoc done (g ∷ []) rest)) all_differ) in
+    both_none (header_fault (take (length done) all) g) (fault_behind all (length done + 1) rest) here later
+
+-- ---- limits
+
+-- A number without a fault is within the limit.
+within : (n : ℕ) → limit_fault n ≡ None → n ≤ 64
+within n h = let t = not_true (nat_lt 64 n) (holds (not (nat_lt 64 n)) OverLimit h) in grind (arith, nat_tests)
+
+-- A number within the limit has no fault.
+none_within : (n : ℕ) → n ≤ 64 → limit_fault n ≡ None
+none_within n h = let t : nat_lt 64 n ≡ false = grind (arith, nat_tests) in rw t refl
+
+-- ---- names in GROUP BY
+
+-- Names in rows are the names of all rows.
+rows_of_names : (fields : List Field) (units : List (List (List ℕ))) → first_fault (names_fault fields) units ≡ first_fault (column_fault fields) (flat_map (λ unit. unit) units)
+rows_of_names fields [] = refl
+rows_of_names fields (unit ∷ units) = ap (option_or (names_fault fields unit)) (rows_of_names fields units) ∙ sym (first_fault_append (column_fault fields) unit (flat_map (λ unit. unit) units))
+
+mutual
+  -- The fault of an element of GROUP BY is that of its names.
+  group_of_names : (fields : List Field) (g : GroupForm) → group_fault fields g ≡ first_fault (column_fault fields) (group_names g)
+  group_of_names fields (set names) = refl
+  group_of_names fields (rollup units) = rows_of_names fields units
+  group_of_names fields (cube units) = rows_of_names fields units
+  group_of_names fields (sets gs) = groups_of_names fields gs
+
+  -- The fault of elements of GROUPING SETS is that of their names.
+  groups_of_names : (fields : List Field) (gs : GroupForms) → groups_fault fields gs ≡ first_fault (column_fault fields) (groups_names gs)
+  groups_of_names fields no_groups = refl
+  groups_of_names fields (group g gs) =
+      ap (λ o. option_or o (groups_fault fields gs)) (group_of_names fields g)
+      ∙ ap (option_or (first_fault (column_fault fields) (group_names g))) (groups_of_names fields gs)
+      ∙ sym (first_fault_append (column_fault fields) (group_names g) (groups_names gs))
+
+-- The faults of GROUP BY are those of its names.
+all_names : (fields : List Field) (gs : List GroupForm) → first_fault (group_fault fields) gs ≡ first_fault (column_fault fields) (flat_map group_names gs)
+all_names fields [] = refl
+all_names fields (g ∷ gs) =
+    ap (λ o. option_or o (first_fault (group_fault fields) gs)) (group_of_names fields g)
+    ∙ ap (option_or (first_fault (column_fault fields) (group_names g))) (all_names fields gs)
+    ∙ sym (first_fault_append (column_fault fields) (group_names g) (flat_map group_names gs))
+
+-- ---- the query
+
+-- A query without a fault is typed.
+pub typed_from_none : (fields : List Field) (t : TreeForm) → query_fault fields t ≡ None → IsTyped fields t
+unfolding clauses_fault records_fault select_fault rows_fault
+typed_from_none fields t h =
+    let grouped = grouping_places fields t in
+    let whole = none_of_both (records_fault fields grouped t.filter t.groups) _ h in
+    let late = none_of_both (rows_fault fields grouped t.items t.having t.keys) _ whole.1 in
+    let i = none_of_both (clause_fault fields grouped clause.Where t.filter) _ whole.0 in
+    let j = none_of_both (first_fault (group_fault fields) t.groups) _ i.1 in
+    let k = none_of_both (select_fault fields grouped t.items) _ late.0 in
+    let l = none_of_both (first_fault (λ i. expression_fault fields grouped clause.Select i.expression) t.items) _ k.0 in
+    let m = none_of_both (clause_fault fields grouped clause.Having t.having) _ k.1 in
+    record {
+      filter = clause_from_none fields grouped clause.Where t.filter i.0;
+      groups = all_from_none (column_fault fields) (IsColumn fields) (λ n k. holds (is_some (place_of fields n)) _ k) (grouping_names t) (sym (all_names fields t.groups) ∙ j.0);
+      few_sets = within (length (expanded t.groups)) j.1;
+      items = all_from_none (λ (i : ItemForm). expression_fault fields grouped clause.Select i.expression) (λ i. IsTypedExpression fields grouped clause.Select i.expression) (λ i k. expression_from_none fields grouped clause.Select i.expression k) t.items l.0;
+      headers_differ = different_from_none [] (map header_text t.items) (λ i j d l m. absurd (omega (arith, m))) l.1;
+      having = clause_from_none fields grouped clause.Having t.having m.0;
+      keys = all_from_none (λ (k : KeyForm). expression_fault fields grouped clause.OrderBy (key_expression t.items k.expression)) (λ k. IsTypedExpression fields grouped clause.OrderBy (key_expression t.items k.expression)) (λ k e. expression_from_none fields grouped clause.OrderBy (key_expression t.items k.expression) e) t.keys m.1;
+      few_functions = within (length (functions_of fields t)) late.1;
+    }
+
+-- A typed query has no fault.
+pub none_from_typed : (fields : List Field) (t : TreeForm) → IsTyped fields t → query_fault fields t ≡ None
+unfolding clauses_fault records_fault select_fault rows_fault
+none_from_typed fields t h =
+    let grouped = grouping_places fields t in
+    both_none _ _
+    (both_none _ _ (none_from_clause fields grouped clause.Where t.filter h.filter)
+    (both_none _ _ (all_names fields t.groups ∙ none_from_all (column_fault fields) (IsColumn fields) (λ n k. passes (is_some (place_of fields n)) _ k) (grouping_names t) h.groups)
+    (none_within (length (expanded t.groups)) h.few_sets)))
+    (both_none _ _
+    (both_none _ _
+    (both_none _ _ (none_from_all (λ (i : ItemForm). expression_fault fields grouped clause.Select i.expression) (λ i. IsTypedExpression fields grouped clause.Select i.expression) (λ i k. none_from_expression fields grouped clause.Select i.expression k) t.items h.items)
+    (none_from_different [] (map header_text t.items) h.headers_differ))
+    (both_none _ _ (none_from_clause fields grouped clause.Having t.having h.having)
+    (none_from_all (λ (k : KeyForm). expression_fault fields grouped clause.OrderBy (key_expression t.items k.expression)) (λ k. IsTypedExpression fields grouped clause.OrderBy (key_expression t.items k.expression)) (λ k e. none_from_expression fields grouped clause.OrderBy (key_expression t.items k.expression) e) t.keys h.keys)))
+    (none_within (length (functions_of fields t)) h.few_functions))
+
+-- A query that is let through is typed.
+pub typed_ok : {X : Type 0} (fields : List Field) (t : TreeForm) (r : Result X QueryFault) → Answers r (query_fault fields t) → OnOk r (IsTyped fields t)
+typed_ok fields t (Ok x) h = typed_from_none fields t h
+typed_ok fields t (Err f) h = tt
+
+-- A query that is refused, other than for want of memory, is not typed.
+pub untyped_err : {X : Type 0} (fields : List Field) (t : TreeForm) (r : Result X QueryFault) → Answers r (query_fault fields t) → IfErr r (λ f. f ≢ OutOfMemory → IsTyped fields t → ⊥)
+untyped_err fields t (Ok x) h = tt
+untyped_err fields t (Err f) h = λ other typed. let none = none_from_typed fields t typed in let some = h other in let clash : ⊥ = cc in clash

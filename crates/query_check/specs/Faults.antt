@@ -1,0 +1,253 @@
+-- The first fault of a query that is not typed, in the order in which faults are tested.
+use Rattle.std.specs.Prelude.{◌≡◌, ◌≢◌, Result, MatchResult, ℕ, ◌==◌, nat_lt, Bool, true, false, not, Option, Some, None, List, [], ◌∷◌, map, length, take, is_some, if◌then◌else◌}
+use Rattle.std.specs.List.{enumerate_from, list_any}
+use Rattle.std.specs.Option.{option_or}
+use Rattle.std.specs.Str.{bytes_eq}
+use Rattle.values.specs.declared.schema.Kind.{Kind}
+use Rattle.values.specs.declared.schema.Kind.TheVariants as kind
+use Rattle.values.specs.Schema.{Field}
+use Rattle.query_tree.specs.declared.expression.Aggregate.{Aggregate}
+use Rattle.query_tree.specs.declared.expression.Aggregate.TheVariants as aggregate
+use Rattle.query_tree.specs.declared.predicate.Literal.{Literal}
+use Rattle.query_tree.specs.Syntax.{ExpressionForm, FunctionForm, OperandForm, PredicateForm, PredicateForms, GroupForm, GroupForms, ItemForm, KeyForm, TreeForm, name, grouping, function, over_all, over_filtered, expression, literal, or_of, and_of, not_of, truth_test, compare, between, member, null_test, column, no_parts, part, set, rollup, cube, sets, no_groups, group}
+use Rattle.query_print.specs.Canonical.{header_text}
+use Rattle.query_fault.specs.declared.QueryFault.{QueryFault}
+use Rattle.query_fault.specs.declared.QueryFault.TheVariants.{UnknownColumn, TypesDisagree, NotGrouped, OverLimit, FunctionNotAllowed, RepeatedHeader, OutOfMemory}
+use Rattle.query_check.specs.declared.scope.Clause.{Clause}
+use Rattle.query_check.specs.declared.scope.Clause.TheVariants as clause
+use Rattle.query_check.specs.Columns.{column_kind, place_of}
+use Rattle.query_check.specs.Sets.{expanded, grouping_places}
+use Rattle.query_check.specs.Functions.{functions_of}
+use Rattle.query_check.specs.Typing.{key_expression, literal_kind, operand_kind}
+
+-- The first fault of the elements of a list, from left to right.
+abbrev pub first_fault : {A : Type 0} → (A → Option QueryFault) → List A → Option QueryFault
+first_fault f [] = None
+first_fault f (x ∷ xs) = option_or (f x) (first_fault f xs)
+
+-- This fault, unless the test holds.
+abbrev pub fault_unless : Bool → QueryFault → Option QueryFault
+fault_unless test fault = if test then None else Some fault
+
+-- A test passes where there is no fault, and else answers this one, unless memory is refused.
+abbrev pub Answers : {X : Type 0} → Result X QueryFault → Option QueryFault → Type 0
+Answers result fault = MatchResult result (λ _. fault ≡ None) (λ f. f ≢ OutOfMemory → fault ≡ Some f)
+
+-- ---- names
+
+-- No column has this name.
+abbrev pub column_fault : List Field → List ℕ → Option QueryFault
+column_fault fields n = fault_unless (is_some (place_of fields n)) (UnknownColumn n)
+
+-- No column has this name, or the column at this place is no grouping column.
+abbrev pub grouped_at_fault : List ℕ → List ℕ → Option ℕ → Option QueryFault
+grouped_at_fault grouped n None = Some (UnknownColumn n)
+grouped_at_fault grouped n (Some place) = fault_unless (list_any (λ g. g == place) grouped) (NotGrouped n)
+
+-- A name that is no grouping column.
+abbrev pub grouped_fault : List Field → List ℕ → List ℕ → Option QueryFault
+grouped_fault fields grouped n = grouped_at_fault grouped n (place_of fields n)
+
+-- A name in WHERE is any column, in every other clause a grouping column.
+abbrev pub name_fault : List Field → List ℕ → Clause → List ℕ → Option QueryFault
+name_fault fields grouped clause.Where n = column_fault fields n
+name_fault fields grouped clause.Select n = grouped_fault fields grouped n
+name_fault fields grouped clause.Having n = grouped_fault fields grouped n
+name_fault fields grouped clause.OrderBy n = grouped_fault fields grouped n
+
+-- ---- functions
+
+-- Whether this is the type of whole numbers.
+abbrev pub is_integer : Option Kind → Bool
+is_integer None = false
+is_integer (Some kind.Int) = true
+is_integer (Some kind.Text) = false
+is_integer (Some kind.Bool) = false
+
+-- Whether this is a type that MIN and MAX take.
+abbrev pub is_ordered : Option Kind → Bool
+is_ordered None = false
+is_ordered (Some kind.Int) = true
+is_ordered (Some kind.Text) = true
+is_ordered (Some kind.Bool) = false
+
+-- Whether this is the type of truth values.
+abbrev pub is_truth : Option Kind → Bool
+is_truth None = false
+is_truth (Some kind.Int) = false
+is_truth (Some kind.Text) = false
+is_truth (Some kind.Bool) = true
+
+-- An argument that is no column, or a column of a type that the function does not take.
+abbrev pub argument_fault : List Field → (Option Kind → Bool) → List ℕ → Option QueryFault
+argument_fault fields takes n = option_or (column_fault fields n) (fault_unless (takes (column_kind fields n)) TypesDisagree)
+
+-- The argument of a set function: COUNT takes any column, SUM and AVG whole numbers, MIN and MAX also texts.
+abbrev pub aggregate_fault : List Field → Aggregate → Option QueryFault
+aggregate_fault fields aggregate.CountRows = None
+aggregate_fault fields (aggregate.Count x) = column_fault fields x
+aggregate_fault fields (aggregate.CountDistinct x) = column_fault fields x
+aggregate_fault fields (aggregate.Sum x) = argument_fault fields is_integer x
+aggregate_fault fields (aggregate.Min x) = argument_fault fields is_ordered x
+aggregate_fault fields (aggregate.Max x) = argument_fault fields is_ordered x
+aggregate_fault fields (aggregate.Avg x) = argument_fault fields is_integer x
+
+-- No set function may stand in WHERE, and AVG only in SELECT.
+abbrev pub may_stand : Clause → Aggregate → Bool
+may_stand clause.Where a = false
+may_stand clause.Select a = true
+may_stand clause.Having (aggregate.Avg x) = false
+may_stand clause.Having a = true
+may_stand clause.OrderBy (aggregate.Avg x) = false
+may_stand clause.OrderBy a = true
+
+-- The arguments of a function that may not stand are not looked at. FILTER is not part of the language yet, so a
+-- set function with it may not stand.
+abbrev pub function_fault : List Field → Clause → FunctionForm → Option QueryFault
+function_fault fields c (over_all a) = if may_stand c a then aggregate_fault fields a else Some FunctionNotAllowed
+function_fault fields c (over_filtered a p) = Some FunctionNotAllowed
+
+-- ---- expressions and predicates
+
+-- GROUPING may not stand in WHERE, and takes grouping columns.
+abbrev pub grouping_fault : List Field → List ℕ → Clause → List (List ℕ) → Option QueryFault
+grouping_fault fields grouped clause.Where ns = Some FunctionNotAllowed
+grouping_fault fields grouped clause.Select ns = first_fault (grouped_fault fields grouped) ns
+grouping_fault fields grouped clause.Having ns = first_fault (grouped_fault fields grouped) ns
+grouping_fault fields grouped clause.OrderBy ns = first_fault (grouped_fault fields grouped) ns
+
+-- The first fault of an expression in a clause.
+abbrev pub expression_fault : List Field → List ℕ → Clause → ExpressionForm → Option QueryFault
+expression_fault fields grouped c (name n) = name_fault fields grouped c n
+expression_fault fields grouped c (grouping ns) = grouping_fault fields grouped c ns
+expression_fault fields grouped c (function f) = function_fault fields c f
+
+-- The first fault of an operand; a literal has none.
+abbrev pub operand_fault : List Field → List ℕ → Clause → OperandForm → Option QueryFault
+operand_fault fields grouped c (expression e) = expression_fault fields grouped c e
+operand_fault fields grouped c (literal a) = None
+
+-- Whether two types are one.
+abbrev pub same_kind : Kind → Kind → Bool
+same_kind kind.Int kind.Int = true
+same_kind kind.Text kind.Text = true
+same_kind kind.Bool kind.Bool = true
+same_kind k l = false
+
+-- The types of two operands are not one type.
+abbrev pub agreement_fault : Option Kind → Option Kind → Option QueryFault
+agreement_fault None l = Some TypesDisagree
+agreement_fault (Some k) None = Some TypesDisagree
+agreement_fault (Some k) (Some l) = fault_unless (same_kind k l) TypesDisagree
+
+-- In an atom all operands are tested from the left, then their types.
+abbrev pub comparison_fault : List Field → List ℕ → Clause → OperandForm → OperandForm → Option QueryFault
+comparison_fault fields grouped c x y =
+    option_or (operand_fault fields grouped c x)
+    (option_or (operand_fault fields grouped c y)
+    (agreement_fault (operand_kind fields x) (operand_kind fields y)))
+
+-- In BETWEEN all three operands are of one type.
+abbrev pub between_fault : List Field → List ℕ → Clause → OperandForm → OperandForm → OperandForm → Option QueryFault
+between_fault fields grouped c x y z =
+    option_or (operand_fault fields grouped c x)
+    (option_or (operand_fault fields grouped c y)
+    (option_or (operand_fault fields grouped c z)
+    (option_or (agreement_fault (operand_kind fields x) (operand_kind fields y))
+    (agreement_fault (operand_kind fields x) (operand_kind fields z)))))
+
+-- In IN the operand and all literals are of one type.
+abbrev pub member_fault : List Field → List ℕ → Clause → OperandForm → List Literal → Option QueryFault
+member_fault fields grouped c x ls =
+    option_or (operand_fault fields grouped c x)
+    (first_fault (λ a. agreement_fault (operand_kind fields x) (Some (literal_kind a))) ls)
+
+-- A bare name is a column of truth values.
+abbrev pub truth_fault : List Field → List ℕ → Clause → List ℕ → Option QueryFault
+truth_fault fields grouped c n =
+    option_or (name_fault fields grouped c n) (fault_unless (is_truth (column_kind fields n)) TypesDisagree)
+
+abbrev mutual
+  -- The first fault of a predicate in a clause.
+  pub predicate_fault : List Field → List ℕ → Clause → PredicateForm → Option QueryFault
+  predicate_fault fields grouped c (or_of ps) = parts_fault fields grouped c ps
+  predicate_fault fields grouped c (and_of ps) = parts_fault fields grouped c ps
+  predicate_fault fields grouped c (not_of p) = predicate_fault fields grouped c p
+  predicate_fault fields grouped c (truth_test p n t) = predicate_fault fields grouped c p
+  predicate_fault fields grouped c (compare x o y) = comparison_fault fields grouped c x y
+  predicate_fault fields grouped c (between x n y z) = between_fault fields grouped c x y z
+  predicate_fault fields grouped c (member x n ls) = member_fault fields grouped c x ls
+  predicate_fault fields grouped c (null_test x n) = operand_fault fields grouped c x
+  predicate_fault fields grouped c (column n) = truth_fault fields grouped c n
+
+  -- The first fault of the parts of an OR or an AND.
+  pub parts_fault : List Field → List ℕ → Clause → PredicateForms → Option QueryFault
+  parts_fault fields grouped c no_parts = None
+  parts_fault fields grouped c (part p ps) = option_or (predicate_fault fields grouped c p) (parts_fault fields grouped c ps)
+
+-- ---- the query
+
+-- The first fault of a clause of one predicate, where it is written.
+abbrev pub clause_fault : List Field → List ℕ → Clause → Option PredicateForm → Option QueryFault
+clause_fault fields grouped c None = None
+clause_fault fields grouped c (Some p) = predicate_fault fields grouped c p
+
+-- A header that an earlier item has.
+abbrev pub header_fault : List (List ℕ) → List ℕ → Option QueryFault
+header_fault earlier h = fault_unless (not (list_any (bytes_eq h) earlier)) (RepeatedHeader h)
+
+-- The first header that repeats an earlier one.
+abbrev pub headers_fault : List (List ℕ) → Option QueryFault
+headers_fault headers = first_fault (λ p. header_fault (take p.0 headers) p.1) (enumerate_from 0 headers)
+
+-- More than 64.
+abbrev pub limit_fault : ℕ → Option QueryFault
+limit_fault n = fault_unless (not (nat_lt 64 n)) OverLimit
+
+-- The names in a row that are no columns.
+abbrev pub names_fault : List Field → List (List ℕ) → Option QueryFault
+names_fault fields names = first_fault (column_fault fields) names
+
+abbrev mutual
+  -- The names in an element of GROUP BY, from left to right.
+  pub group_fault : List Field → GroupForm → Option QueryFault
+  group_fault fields (set names) = names_fault fields names
+  group_fault fields (rollup units) = first_fault (names_fault fields) units
+  group_fault fields (cube units) = first_fault (names_fault fields) units
+  group_fault fields (sets gs) = groups_fault fields gs
+
+  -- Those of the elements of GROUPING SETS.
+  pub groups_fault : List Field → GroupForms → Option QueryFault
+  groups_fault fields no_groups = None
+  groups_fault fields (group g gs) = option_or (group_fault fields g) (groups_fault fields gs)
+
+-- WHERE, then the names in GROUP BY, then the number of its expanded sets.
+unfoldable pub records_fault : List Field → List ℕ → Option PredicateForm → List GroupForm → Option QueryFault
+records_fault fields grouped filter groups =
+    option_or (clause_fault fields grouped clause.Where filter)
+    (option_or (first_fault (group_fault fields) groups)
+    (limit_fault (length (expanded groups))))
+
+-- The items of SELECT, then their headers.
+unfoldable pub select_fault : List Field → List ℕ → List ItemForm → Option QueryFault
+select_fault fields grouped items =
+    option_or (first_fault (λ i. expression_fault fields grouped clause.Select i.expression) items)
+    (headers_fault (map header_text items))
+
+-- SELECT, then HAVING, then ORDER BY.
+unfoldable pub rows_fault : List Field → List ℕ → List ItemForm → Option PredicateForm → List KeyForm → Option QueryFault
+rows_fault fields grouped items having keys =
+    option_or (select_fault fields grouped items)
+    (option_or (clause_fault fields grouped clause.Having having)
+    (first_fault (λ k. expression_fault fields grouped clause.OrderBy (key_expression items k.expression)) keys))
+
+-- WHERE and GROUP BY, then SELECT, HAVING and ORDER BY, then the number of different set functions.
+unfoldable pub clauses_fault : List Field → List ℕ → TreeForm → Option QueryFault
+clauses_fault fields grouped t =
+    option_or (records_fault fields grouped t.filter t.groups)
+    (option_or (rows_fault fields grouped t.items t.having t.keys)
+    (limit_fault (length (functions_of fields t))))
+
+-- The first fault of a query under a schema.
+abbrev pub query_fault : List Field → TreeForm → Option QueryFault
+query_fault fields t = clauses_fault fields (grouping_places fields t) t

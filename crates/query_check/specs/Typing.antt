@@ -1,0 +1,174 @@
+-- Which queries are typed under a schema (ISO/IEC 9075-2, <query specification>).
+use Rattle.std.specs.Prelude.{◌≡◌, ◌≢◌, ◌≤◌, ℕ, ⊤, ◌⊎◌, false, Option, Some, None, List, map, length, All, AllPairs, Contains, IsSome, IsSomeAnd}
+use Rattle.std.specs.List.{find}
+use Rattle.std.specs.Option.{option_map_or}
+use Rattle.std.specs.Str.{bytes_eq}
+use Rattle.values.specs.declared.schema.Kind.{Kind}
+use Rattle.values.specs.declared.schema.Kind.TheVariants as kind
+use Rattle.values.specs.Schema.{Field}
+use Rattle.query_tree.specs.declared.expression.Aggregate.{Aggregate}
+use Rattle.query_tree.specs.declared.expression.Aggregate.TheVariants as aggregate
+use Rattle.query_tree.specs.declared.predicate.Literal.{Literal}
+use Rattle.query_tree.specs.declared.predicate.Literal.TheVariants as constant
+use Rattle.query_tree.specs.Syntax.{ExpressionForm, FunctionForm, OperandForm, PredicateForm, PredicateForms, ItemForm, TreeForm, name, grouping, function, over_all, over_filtered, expression, literal, or_of, and_of, not_of, truth_test, compare, between, member, null_test, column, no_parts, part}
+use Rattle.query_print.specs.Canonical.{header_text}
+use Rattle.query_check.specs.declared.scope.Clause.{Clause}
+use Rattle.query_check.specs.declared.scope.Clause.TheVariants as clause
+use Rattle.query_check.specs.Columns.{column_kind, place_of}
+use Rattle.query_check.specs.Sets.{expanded, grouping_names, grouping_places}
+use Rattle.query_check.specs.Functions.{functions_of}
+
+-- ---- names
+
+-- The schema has a column of this name.
+abbrev pub IsColumn : List Field → List ℕ → Type 0
+IsColumn fields n = IsSome (place_of fields n)
+
+-- The column of this name is a grouping column.
+abbrev pub IsGrouped : List Field → List ℕ → List ℕ → Type 0
+IsGrouped fields grouped n = IsSomeAnd (place_of fields n) (λ place. Contains grouped place)
+
+-- In WHERE a name is any column; in every other clause it is a grouping column.
+abbrev pub IsTypedName : List Field → List ℕ → Clause → List ℕ → Type 0
+IsTypedName fields grouped clause.Where n = IsColumn fields n
+IsTypedName fields grouped clause.Select n = IsGrouped fields grouped n
+IsTypedName fields grouped clause.Having n = IsGrouped fields grouped n
+IsTypedName fields grouped clause.OrderBy n = IsGrouped fields grouped n
+
+-- ---- functions
+
+-- Whether the column of this name has the type.
+abbrev pub HasKind : List Field → Kind → List ℕ → Type 0
+HasKind fields k n = column_kind fields n ≡ Some k
+
+-- COUNT takes any column, SUM and AVG one of whole numbers, MIN and MAX one of whole numbers or texts.
+abbrev pub IsTypedAggregate : List Field → Aggregate → Type 0
+IsTypedAggregate fields aggregate.CountRows = ⊤
+IsTypedAggregate fields (aggregate.Count x) = IsColumn fields x
+IsTypedAggregate fields (aggregate.CountDistinct x) = IsColumn fields x
+IsTypedAggregate fields (aggregate.Sum x) = HasKind fields kind.Int x
+IsTypedAggregate fields (aggregate.Min x) = HasKind fields kind.Int x ⊎ HasKind fields kind.Text x
+IsTypedAggregate fields (aggregate.Max x) = HasKind fields kind.Int x ⊎ HasKind fields kind.Text x
+IsTypedAggregate fields (aggregate.Avg x) = HasKind fields kind.Int x
+
+-- No set function may stand in WHERE, and AVG only in SELECT.
+abbrev pub MayStand : Clause → Aggregate → Type 0
+MayStand clause.Where a = ⊥
+MayStand clause.Select a = ⊤
+MayStand clause.Having (aggregate.Avg x) = ⊥
+MayStand clause.Having a = ⊤
+MayStand clause.OrderBy (aggregate.Avg x) = ⊥
+MayStand clause.OrderBy a = ⊤
+
+-- A set function with FILTER may not stand anywhere: FILTER is not part of the language yet.
+abbrev pub IsTypedFunction : List Field → Clause → FunctionForm → Type 0
+IsTypedFunction fields c (over_all a) = MayStand c a × IsTypedAggregate fields a
+IsTypedFunction fields c (over_filtered a p) = ⊥
+
+-- ---- expressions
+
+-- GROUPING takes grouping columns, and may not stand in WHERE.
+abbrev pub IsTypedGrouping : List Field → List ℕ → Clause → List (List ℕ) → Type 0
+IsTypedGrouping fields grouped clause.Where ns = ⊥
+IsTypedGrouping fields grouped clause.Select ns = All (IsGrouped fields grouped) ns
+IsTypedGrouping fields grouped clause.Having ns = All (IsGrouped fields grouped) ns
+IsTypedGrouping fields grouped clause.OrderBy ns = All (IsGrouped fields grouped) ns
+
+-- An expression is typed in a clause where its name, its GROUPING or its set function is.
+abbrev pub IsTypedExpression : List Field → List ℕ → Clause → ExpressionForm → Type 0
+IsTypedExpression fields grouped c (name n) = IsTypedName fields grouped c n
+IsTypedExpression fields grouped c (grouping ns) = IsTypedGrouping fields grouped c ns
+IsTypedExpression fields grouped c (function f) = IsTypedFunction fields c f
+
+-- The type of a set function: a whole number, or for MIN and MAX the type of the argument. AVG has none.
+abbrev pub aggregate_kind : List Field → Aggregate → Option Kind
+aggregate_kind fields aggregate.CountRows = Some kind.Int
+aggregate_kind fields (aggregate.Count x) = Some kind.Int
+aggregate_kind fields (aggregate.CountDistinct x) = Some kind.Int
+aggregate_kind fields (aggregate.Sum x) = Some kind.Int
+aggregate_kind fields (aggregate.Min x) = column_kind fields x
+aggregate_kind fields (aggregate.Max x) = column_kind fields x
+aggregate_kind fields (aggregate.Avg x) = None
+
+-- The type of an expression: a column has its own, GROUPING is a whole number.
+abbrev pub expression_kind : List Field → ExpressionForm → Option Kind
+expression_kind fields (name n) = column_kind fields n
+expression_kind fields (grouping ns) = Some kind.Int
+expression_kind fields (function (over_all a)) = aggregate_kind fields a
+expression_kind fields (function (over_filtered a p)) = aggregate_kind fields a
+
+-- The type of a literal.
+abbrev pub literal_kind : Literal → Kind
+literal_kind (constant.Integer i) = kind.Int
+literal_kind (constant.Text s) = kind.Text
+literal_kind (constant.Truth b) = kind.Bool
+
+-- ---- predicates
+
+-- An operand is typed where its expression is; a literal always is.
+abbrev pub IsTypedOperand : List Field → List ℕ → Clause → OperandForm → Type 0
+IsTypedOperand fields grouped c (expression e) = IsTypedExpression fields grouped c e
+IsTypedOperand fields grouped c (literal a) = ⊤
+
+-- The type of an operand.
+abbrev pub operand_kind : List Field → OperandForm → Option Kind
+operand_kind fields (expression e) = expression_kind fields e
+operand_kind fields (literal a) = Some (literal_kind a)
+
+-- Two operands are of one type.
+abbrev pub IsOfOneKind : Option Kind → Option Kind → Type 0
+IsOfOneKind k l = (one : Kind) × (k ≡ Some one) × (l ≡ Some one)
+
+abbrev mutual
+  -- In comparisons, BETWEEN and IN all operands and literals are of one type; IS NULL takes any operand;
+  -- a bare name is a column of truth values.
+  pub IsTypedPredicate : List Field → List ℕ → Clause → PredicateForm → Type 0
+  IsTypedPredicate fields grouped c (or_of ps) = AreTypedParts fields grouped c ps
+  IsTypedPredicate fields grouped c (and_of ps) = AreTypedParts fields grouped c ps
+  IsTypedPredicate fields grouped c (not_of p) = IsTypedPredicate fields grouped c p
+  IsTypedPredicate fields grouped c (truth_test p n t) = IsTypedPredicate fields grouped c p
+  IsTypedPredicate fields grouped c (compare x o y) =
+      IsTypedOperand fields grouped c x × IsTypedOperand fields grouped c y
+      × IsOfOneKind (operand_kind fields x) (operand_kind fields y)
+  IsTypedPredicate fields grouped c (between x n y z) =
+      IsTypedOperand fields grouped c x × IsTypedOperand fields grouped c y × IsTypedOperand fields grouped c z
+      × IsOfOneKind (operand_kind fields x) (operand_kind fields y) × IsOfOneKind (operand_kind fields x) (operand_kind fields z)
+  IsTypedPredicate fields grouped c (member x n ls) =
+      IsTypedOperand fields grouped c x × All (λ a. IsOfOneKind (operand_kind fields x) (Some (literal_kind a))) ls
+  IsTypedPredicate fields grouped c (null_test x n) = IsTypedOperand fields grouped c x
+  IsTypedPredicate fields grouped c (column n) = IsTypedName fields grouped c n × HasKind fields kind.Bool n
+
+  -- All parts of an OR or an AND are typed.
+  pub AreTypedParts : List Field → List ℕ → Clause → PredicateForms → Type 0
+  AreTypedParts fields grouped c no_parts = ⊤
+  AreTypedParts fields grouped c (part p ps) = IsTypedPredicate fields grouped c p × AreTypedParts fields grouped c ps
+
+-- ---- the query
+
+-- The item whose alias is this name, where there is one.
+abbrev pub item_of_alias : List ItemForm → List ℕ → Option ItemForm
+item_of_alias items n = find (λ i. option_map_or (bytes_eq n) i.alias false) items
+
+-- A key that is an alias stands for its item.
+abbrev pub key_expression : List ItemForm → ExpressionForm → ExpressionForm
+key_expression items (name n) = option_map_or (λ i. i.expression) (item_of_alias items n) (name n)
+key_expression items (grouping ns) = grouping ns
+key_expression items (function f) = function f
+
+-- A clause of a predicate is typed where the predicate is, if it is written.
+abbrev pub IsTypedClause : List Field → List ℕ → Clause → Option PredicateForm → Type 0
+IsTypedClause fields grouped c None = ⊤
+IsTypedClause fields grouped c (Some p) = IsTypedPredicate fields grouped c p
+
+-- A query is typed under a schema where each of its clauses is: names are columns, or grouping columns where
+-- only these may stand, types agree, and functions stand where they may. It has at most 64 expanded grouping
+-- sets and at most 64 different set functions, and the headers of its items differ.
+pub record IsTyped (fields : List Field) (t : TreeForm) : Type 0 where
+  pub filter : IsTypedClause fields (grouping_places fields t) clause.Where t.filter
+  pub groups : All (IsColumn fields) (grouping_names t)
+  pub few_sets : length (expanded t.groups) ≤ 64
+  pub items : All (λ i. IsTypedExpression fields (grouping_places fields t) clause.Select i.expression) t.items
+  pub headers_differ : AllPairs (λ h g. h ≢ g) (map header_text t.items)
+  pub having : IsTypedClause fields (grouping_places fields t) clause.Having t.having
+  pub keys : All (λ k. IsTypedExpression fields (grouping_places fields t) clause.OrderBy (key_expression t.items k.expression)) t.keys
+  pub few_functions : length (functions_of fields t) ≤ 64

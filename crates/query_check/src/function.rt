@@ -1,0 +1,67 @@
+//! Set functions over columns by their places.
+
+ghost use Rattle.std.specs.Prelude.{◌≡◌, ◌++◌, IfOk, OnOk};
+ghost use Rattle.std.specs.List.{filter_map};
+ghost use Rattle.values.specs.Schema.{fields_of};
+ghost use Rattle.query_check.specs.Functions.{column_function, same_function};
+
+use crate::columns::place_of;
+use query_tree::Aggregate;
+use values::Column;
+
+/// A set function with the place of its column in the schema, from 0.
+#[derive(Clone, Copy, Debug)]
+pub enum ColumnFunction {
+    /// `COUNT(*)`
+    CountRows,
+    /// `COUNT(x)`
+    Count(usize),
+    /// `COUNT(DISTINCT x)`
+    CountDistinct(usize),
+    /// `SUM(x)`
+    Sum(usize),
+    /// `MIN(x)`
+    Min(usize),
+    /// `MAX(x)`
+    Max(usize),
+    /// `AVG(x)`
+    Avg(usize),
+}
+
+impl ColumnFunction {
+    ghost use Rattle.std.specs.Prelude.{◌≡◌};
+    ghost use Rattle.query_check.specs.Functions.{same_function};
+
+    /// Whether the function, DISTINCT and the column are the same.
+    pub fn is_same(self, other: ColumnFunction) -> bool
+        ensures same { result ≡ same_function self other }
+    {
+        match (self, other) {
+            (ColumnFunction::CountRows, ColumnFunction::CountRows) => true,
+            (ColumnFunction::Count(a), ColumnFunction::Count(b))
+            | (ColumnFunction::CountDistinct(a), ColumnFunction::CountDistinct(b))
+            | (ColumnFunction::Sum(a), ColumnFunction::Sum(b))
+            | (ColumnFunction::Min(a), ColumnFunction::Min(b))
+            | (ColumnFunction::Max(a), ColumnFunction::Max(b))
+            | (ColumnFunction::Avg(a), ColumnFunction::Avg(b)) => a == b,
+            _ => false,
+        }
+    }
+}
+
+/// A set function with the place of its column, where it has one.
+pub(crate) fn column_function(columns: &[Column], aggregate: &Aggregate) -> Option<ColumnFunction>
+    ensures { result ≡ column_function (fields_of columns.now) aggregate.now }
+{
+    match aggregate {
+        Aggregate::CountRows => Some(ColumnFunction::CountRows),
+        Aggregate::Count(x) => place_of(columns, x.as_str()).map(ColumnFunction::Count),
+        Aggregate::CountDistinct(x) => {
+            place_of(columns, x.as_str()).map(ColumnFunction::CountDistinct)
+        }
+        Aggregate::Sum(x) => place_of(columns, x.as_str()).map(ColumnFunction::Sum),
+        Aggregate::Min(x) => place_of(columns, x.as_str()).map(ColumnFunction::Min),
+        Aggregate::Max(x) => place_of(columns, x.as_str()).map(ColumnFunction::Max),
+        Aggregate::Avg(x) => place_of(columns, x.as_str()).map(ColumnFunction::Avg),
+    }
+}

@@ -1,0 +1,19 @@
+//! Whether a query is typed under a schema, and what it is resolved to: its grouping columns, its expanded list of
+//! grouping sets, and its different set functions.
+#![tactic(auto)]
+
+mod columns;
+mod expansion;
+mod function;
+mod names;
+mod resolution;
+mod scope;
+mod typing;
+
+pub use expansion::set_count;
+pub use function::ColumnFunction;
+pub use resolution::{Resolved, check_tree};
+pub use scope::Clause;
+
+#[cfg(test)]
+mod tests;

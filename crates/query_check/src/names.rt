@@ -1,0 +1,141 @@
+//! The names in GROUP BY.
+
+ghost use Rattle.std.specs.Prelude.{◌≡◌, ◌++◌, ◌==◌, map, IfOk, OnOk};
+ghost use Rattle.std.specs.List.{flat_map};
+ghost use Rattle.values.specs.Schema.{fields_of};
+ghost use Rattle.query_tree.specs.Syntax.{group_form, group_forms, units_form};
+ghost use Rattle.query_check.specs.Columns.{distinct, group_names, places_of};
+ghost use Rattle.query_check.specs.Faults.{Answers, first_fault, group_fault, names_fault};
+
+use crate::columns::place_of;
+use crate::typing::check_column;
+use query_fault::QueryFault;
+use query_tree::{Group, Text};
+use std::alloc::{AllocError, Global};
+use values::Column;
+
+/// Adds the places of the columns of some names.
+pub(crate) fn push_places(
+    places: &mut Vec<usize>,
+    columns: &[Column],
+    names: &[Text],
+) -> Result<(), AllocError>
+    ensures { OnOk result (places.new.items ≡ places.old.items ++ places_of (fields_of columns.now) names.now) }
+{
+    for name in names {
+        if let Some(place) = place_of(columns, name.as_str()) {
+            places.push(place)?;
+        }
+    }
+    Ok(())
+}
+
+/// Adds the places of the columns of the names in some units.
+fn push_unit_places(
+    places: &mut Vec<usize>,
+    columns: &[Column],
+    units: &[Vec<Text>],
+) -> Result<(), AllocError>
+    ensures { OnOk result (places.new.items ≡ places.old.items ++ places_of (fields_of columns.now) (flat_map (λ unit. unit) (units_form units.now))) }
+{
+    for unit in units {
+        push_places(places, columns, unit)?;
+    }
+    Ok(())
+}
+
+/// Adds the places of the columns of the names in an element of GROUP BY.
+fn push_group_places(
+    places: &mut Vec<usize>,
+    columns: &[Column],
+    group: &Group,
+) -> Result<(), AllocError>
+    ensures { OnOk result (places.new.items ≡ places.old.items ++ places_of (fields_of columns.now) (group_names (group_form group.now))) }
+{
+    match group {
+        Group::Set(names) => push_places(places, columns, names),
+        Group::Rollup(units) => push_unit_places(places, columns, units),
+        Group::Cube(units) => push_unit_places(places, columns, units),
+        Group::Sets(groups) => {
+            for group in groups {
+                push_group_places(places, columns, group)?;
+            }
+            Ok(())
+        }
+    }
+}
+
+/// The places without repeats, each where it first stands.
+fn distinct_places(alloc: Global, places: &[usize]) -> Result<Vec<usize>, AllocError>
+    ensures { IfOk result (λ v. v.items ≡ distinct (λ a b. a == b) places.now) }
+{
+    let mut found = Vec::new(alloc);
+    for place in places {
+        if !found.contains(place) {
+            found.push(*place)?;
+        }
+    }
+    Ok(found)
+}
+
+/// The places of the grouping columns, in the order in which GROUP BY first names them.
+pub(crate) fn grouping_places(
+    alloc: Global,
+    columns: &[Column],
+    groups: &[Group],
+) -> Result<Vec<usize>, AllocError>
+    ensures { IfOk result (λ v. v.items ≡ distinct (λ a b. a == b) (places_of (fields_of columns.now) (flat_map group_names (map group_form groups.now)))) }
+{
+    let mut places = Vec::new(alloc);
+    for group in groups {
+        push_group_places(&mut places, columns, group)?;
+    }
+    distinct_places(alloc, &places)
+}
+
+/// Whether columns have these names.
+fn check_columns(columns: &[Column], names: &[Text]) -> Result<(), QueryFault>
+    ensures fault { Answers result (names_fault (fields_of columns.now) names.now) }
+{
+    for name in names {
+        check_column(columns, name)?;
+    }
+    Ok(())
+}
+
+/// Whether columns have the names in some units.
+fn check_units(columns: &[Column], units: &[Vec<Text>]) -> Result<(), QueryFault>
+    ensures fault { Answers result (first_fault (names_fault (fields_of columns.now)) (units_form units.now)) }
+{
+    for unit in units {
+        check_columns(columns, unit)?;
+    }
+    Ok(())
+}
+
+/// Whether columns have the names in an element of GROUP BY.
+fn check_group(columns: &[Column], group: &Group) -> Result<(), QueryFault>
+    ensures fault { Answers result (group_fault (fields_of columns.now) (group_form group.now)) }
+{
+    match group {
+        Group::Set(names) => check_columns(columns, names),
+        Group::Rollup(units) => check_units(columns, units),
+        Group::Cube(units) => check_units(columns, units),
+        Group::Sets(groups) => {
+            for group in groups {
+                check_group(columns, group)?;
+            }
+            Ok(())
+        }
+    }
+}
+
+/// Whether columns have the names in GROUP BY.
+pub(crate) fn check_groups(columns: &[Column], groups: &[Group]) -> Result<(), QueryFault>
+    ensures fault { Answers result (first_fault (group_fault (fields_of columns.now)) (map group_form groups.now)) }
+{
+    for group in groups {
+        check_group(columns, group)?;
+    }
+    Ok(())
+}

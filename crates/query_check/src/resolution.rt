@@ -1,0 +1,437 @@
+//! Checking a query, and what it is resolved to.
+
+ghost use Rattle.std.specs.Prelude.{◌≡◌, ◌≢◌, ◌++◌, map, string_bytes, filter, false, length, IfErr, IfOk, OnOk, Some};
+ghost use Rattle.std.specs.List.{filter_map, flat_map, list_any};
+ghost use Rattle.std.specs.Str.{bytes_eq};
+ghost use Rattle.std.specs.Option.{option_map, option_map_or};
+ghost use Rattle.values.specs.Schema.{fields_of};
+ghost use Rattle.query_tree.specs.Syntax.{expression_form, group_form, item_form, key_form, operand_form, predicate_form, predicate_forms, tree_form};
+ghost use Rattle.query_print.specs.Canonical.{header_text};
+ghost use Rattle.query_check.specs.Columns.{distinct};
+ghost use Rattle.query_check.specs.Functions.{aggregates, column_function, expression_aggregates, functions_of, operand_aggregates, parts_aggregates, predicate_aggregates, same_function};
+ghost use Rattle.query_check.specs.Sets.{expanded};
+ghost use Rattle.query_check.specs.Typing.{IsTyped, key_expression};
+ghost use Rattle.query_check.specs.Faults.{Answers, clause_fault, clauses_fault, expression_fault, first_fault, headers_fault, limit_fault, query_fault, records_fault, rows_fault, select_fault};
+ghost use Rattle.query_fault.specs.declared.QueryFault.TheVariants.{OutOfMemory, RepeatedHeader};
+ghost use Rattle.query_check.specs.Resolution.{resolution_of};
+
+use crate::expansion::{expand, set_count};
+use crate::function::{ColumnFunction, column_function};
+use crate::names::{check_groups, grouping_places};
+use crate::scope::{Clause, Scope};
+use crate::typing::{check_expression, check_predicate};
+use query_fault::QueryFault;
+use query_print::header;
+use query_tree::{Expression, Group, Item, Key, Operand, Predicate, Text, Tree};
+use std::alloc::{AllocError, Global};
+use std::marker::Model;
+use values::{Column, Schema};
+
+/// The most grouping sets, and the most different set functions.
+const LIMIT: u64 = 64;
+
+/// What a query is resolved to under a schema: places of columns in place of their names.
+#[derive(Debug, Drop)]
+pub struct Resolved {
+    grouping: Vec<usize>,
+    sets: Vec<Vec<usize>>,
+    functions: Vec<ColumnFunction>,
+}
+
+impl Model for Resolved {
+    ghost use Rattle.query_check.specs.Resolution.{Resolution, contents};
+
+    ghost Value = { Resolution };
+
+    ghost view = { λ r. record { grouping = r.grouping.items; sets = contents r.sets.items; functions = r.functions.items } };
+}
+
+impl Resolved {
+    ghost use Rattle.query_check.specs.Resolution.{contents};
+
+    /// The places of the grouping columns, in the order in which GROUP BY first names them.
+    pub fn grouping(&self) -> &[usize]
+        ensures { result.now ≡ self.now.grouping }
+    {
+        self.grouping.as_slice()
+    }
+
+    /// The expanded list of grouping sets, each as the places of its columns, in the order in which GROUP BY first
+    /// names them. Without GROUP BY it is the one empty set.
+    pub fn sets(&self) -> &[Vec<usize>]
+        ensures { contents result.now ≡ self.now.sets }
+    {
+        self.sets.as_slice()
+    }
+
+    /// The different set functions, in the order in which they first stand in SELECT, HAVING and ORDER BY.
+    pub fn functions(&self) -> &[ColumnFunction]
+        ensures { result.now ≡ self.now.functions }
+    {
+        self.functions.as_slice()
+    }
+}
+
+/// Whether a clause of a predicate is typed, where it is written.
+fn check_clause(scope: &Scope, predicate: &Option<Predicate>) -> Result<(), QueryFault>
+    ensures fault { Answers result (clause_fault (fields_of scope.now.columns.now) scope.now.grouping.now scope.now.clause (option_map predicate_form predicate.now)) }
+{
+    match predicate {
+        None => Ok(()),
+        Some(predicate) => check_predicate(scope, predicate),
+    }
+}
+
+/// Whether the items are typed.
+fn check_items(scope: &Scope, items: &[Item]) -> Result<(), QueryFault>
+    ensures fault { Answers result (first_fault (λ i. expression_fault (fields_of scope.now.columns.now) scope.now.grouping.now scope.now.clause i.expression) (map item_form items.now)) }
+{
+    for item in items {
+        check_expression(scope, &item.expression)?;
+    }
+    Ok(())
+}
+
+/// The expression that a key stands for: that of the item whose alias it is, else its own.
+fn key_expression<'a>(items: &'a [Item], expression: &'a Expression) -> &'a Expression
+    ensures { expression_form result.now ≡ key_expression (map item_form items.now) (expression_form expression.now) }
+{
+    let Expression::Name(name) = expression else {
+        return expression;
+    };
+    for item in items {
+        if let Some(alias) = &item.alias
+            && alias.as_str() == name.as_str()
+        {
+            return &item.expression;
+        }
+    }
+    expression
+}
+
+/// Whether the keys are typed.
+fn check_keys(scope: &Scope, items: &[Item], keys: &[Key]) -> Result<(), QueryFault>
+    ensures fault { Answers result (first_fault (λ k. expression_fault (fields_of scope.now.columns.now) scope.now.grouping.now scope.now.clause (key_expression (map item_form items.now) k.expression)) (map key_form keys.now)) }
+{
+    for key in keys {
+        check_expression(scope, key_expression(items, &key.expression))?;
+    }
+    Ok(())
+}
+
+/// Whether a text is among headers.
+fn has_header(headers: &[String], text: &str) -> bool
+    ensures { result ≡ list_any (bytes_eq text.now) (map string_bytes headers.now) }
+{
+    headers.iter().any(|header| text == header.as_str())
+}
+
+/// Whether the headers of the items differ.
+fn check_headers(alloc: Global, items: &[Item]) -> Result<(), QueryFault>
+    ensures fault { Answers result (headers_fault (map header_text (map item_form items.now))) }
+{
+    let mut headers: Vec<String> = Vec::new(alloc);
+    for item in items {
+        let text = header(alloc, item)?;
+        if has_header(&headers, text.as_str()) {
+            return Err(QueryFault::RepeatedHeader(Text::from_string(text)));
+        }
+        headers.push(text)?;
+    }
+    Ok(())
+}
+
+/// Whether a number is within the limit.
+fn check_limit(count: u64) -> Result<(), QueryFault>
+    ensures fault { Answers result (limit_fault count) }
+{
+    if count > LIMIT {
+        return Err(QueryFault::OverLimit);
+    }
+    Ok(())
+}
+
+/// Adds the set function that an expression is, if it is one.
+fn push_expression_function(
+    functions: &mut Vec<ColumnFunction>,
+    columns: &[Column],
+    expression: &Expression,
+) -> Result<(), AllocError>
+    ensures { OnOk result (functions.new.items ≡ functions.old.items ++ filter_map (column_function (fields_of columns.now)) (expression_aggregates (expression_form expression.now))) }
+{
+    if let Expression::Function(function) = expression
+        && let Some(function) = column_function(columns, &function.aggregate)
+    {
+        functions.push(function)?;
+    }
+    Ok(())
+}
+
+/// Adds the set function that an operand is, if it is one.
+fn push_operand_function(
+    functions: &mut Vec<ColumnFunction>,
+    columns: &[Column],
+    operand: &Operand,
+) -> Result<(), AllocError>
+    ensures { OnOk result (functions.new.items ≡ functions.old.items ++ filter_map (column_function (fields_of columns.now)) (operand_aggregates (operand_form operand.now))) }
+{
+    match operand {
+        Operand::Expression(expression) => push_expression_function(functions, columns, expression),
+        Operand::Literal(_) => Ok(()),
+    }
+}
+
+/// Adds the set functions that two operands are.
+#[tactic(auto, using(crate::proofs::Rows::appended))]
+fn push_pair_functions(
+    functions: &mut Vec<ColumnFunction>,
+    columns: &[Column],
+    left: &Operand,
+    right: &Operand,
+) -> Result<(), AllocError>
+    ensures { OnOk result (functions.new.items ≡ functions.old.items ++ filter_map (column_function (fields_of columns.now)) (operand_aggregates (operand_form left.now) ++ operand_aggregates (operand_form right.now))) }
+{
+    push_operand_function(functions, columns, left)?;
+    push_operand_function(functions, columns, right)
+}
+
+/// Adds the set functions that three operands are.
+#[tactic(auto, using(crate::proofs::Rows::appended))]
+fn push_three_functions(
+    functions: &mut Vec<ColumnFunction>,
+    columns: &[Column],
+    operand: &Operand,
+    low: &Operand,
+    high: &Operand,
+) -> Result<(), AllocError>
+    ensures { OnOk result (functions.new.items ≡ functions.old.items ++ filter_map (column_function (fields_of columns.now)) (operand_aggregates (operand_form operand.now) ++ operand_aggregates (operand_form low.now) ++ operand_aggregates (operand_form high.now))) }
+{
+    push_pair_functions(functions, columns, operand, low)?;
+    push_operand_function(functions, columns, high)
+}
+
+/// Adds the set functions in a predicate, from left to right.
+#[tactic(auto, using(crate::proofs::Rows::appended))]
+#[cycle(push_predicate_functions)]
+fn push_predicate_functions(
+    functions: &mut Vec<ColumnFunction>,
+    columns: &[Column],
+    predicate: &Predicate,
+) -> Result<(), AllocError>
+    ensures { OnOk result (functions.new.items ≡ functions.old.items ++ filter_map (column_function (fields_of columns.now)) (predicate_aggregates (predicate_form predicate.now))) }
+{
+    match predicate {
+        Predicate::Or(parts) | Predicate::And(parts) => {
+            push_parts_functions(functions, columns, parts)
+        }
+        Predicate::Not(part) => push_predicate_functions(functions, columns, part),
+        Predicate::Is { part, .. } => push_predicate_functions(functions, columns, part),
+        Predicate::Compare { left, right, .. } => {
+            push_pair_functions(functions, columns, left, right)
+        }
+        Predicate::Between {
+            operand,
+            low,
+            high,
+            ..
+        } => { push_three_functions(functions, columns, operand, low, high) }
+        Predicate::In { operand, .. } => push_operand_function(functions, columns, operand),
+        Predicate::IsNull { operand, .. } => push_operand_function(functions, columns, operand),
+        Predicate::Column(_) => Ok(()),
+    }
+}
+
+/// Adds the set functions in the parts of an OR or an AND.
+#[cycle(push_predicate_functions)]
+fn push_parts_functions(
+    functions: &mut Vec<ColumnFunction>,
+    columns: &[Column],
+    parts: &[Predicate],
+) -> Result<(), AllocError>
+    ensures { OnOk result (functions.new.items ≡ functions.old.items ++ filter_map (column_function (fields_of columns.now)) (parts_aggregates (predicate_forms (map predicate_form parts.now)))) }
+{
+    for part in parts {
+        push_predicate_functions(functions, columns, part)?;
+    }
+    Ok(())
+}
+
+/// The set functions in SELECT, HAVING and ORDER BY, from left to right.
+#[tactic(auto, using(crate::proofs::Rows::appended))]
+fn all_functions(
+    alloc: Global,
+    columns: &[Column],
+    tree: &Tree,
+) -> Result<Vec<ColumnFunction>, AllocError>
+    ensures { IfOk result (λ v. v.items ≡ filter_map (column_function (fields_of columns.now)) (aggregates (tree_form tree.now))) }
+{
+    let mut functions = Vec::new(alloc);
+    push_item_functions(&mut functions, columns, &tree.items)?;
+    if let Some(predicate) = &tree.having {
+        push_predicate_functions(&mut functions, columns, predicate)?;
+    }
+    push_key_functions(&mut functions, columns, &tree.keys)?;
+    Ok(functions)
+}
+
+/// Adds the set functions of items.
+fn push_item_functions(
+    functions: &mut Vec<ColumnFunction>,
+    columns: &[Column],
+    items: &[Item],
+) -> Result<(), AllocError>
+    ensures { OnOk result (functions.new.items ≡ functions.old.items ++ filter_map (column_function (fields_of columns.now)) (flat_map (λ i. expression_aggregates i.expression) (map item_form items.now))) }
+{
+    for item in items {
+        push_expression_function(functions, columns, &item.expression)?;
+    }
+    Ok(())
+}
+
+/// Adds the set functions of keys.
+fn push_key_functions(
+    functions: &mut Vec<ColumnFunction>,
+    columns: &[Column],
+    keys: &[Key],
+) -> Result<(), AllocError>
+    ensures { OnOk result (functions.new.items ≡ functions.old.items ++ filter_map (column_function (fields_of columns.now)) (flat_map (λ k. expression_aggregates k.expression) (map key_form keys.now))) }
+{
+    for key in keys {
+        push_expression_function(functions, columns, &key.expression)?;
+    }
+    Ok(())
+}
+
+/// Whether a set function is among others.
+fn has_function(functions: &[ColumnFunction], function: ColumnFunction) -> bool
+    ensures { result ≡ list_any (λ f. same_function f function) functions.now }
+{
+    functions.iter().any(|other| other.is_same(function))
+}
+
+/// The set functions without repeats, each where it first stands.
+fn distinct_functions(
+    alloc: Global,
+    functions: &[ColumnFunction],
+) -> Result<Vec<ColumnFunction>, AllocError>
+    ensures { IfOk result (λ v. v.items ≡ distinct same_function functions.now) }
+{
+    let mut found: Vec<ColumnFunction> = Vec::new(alloc);
+    for function in functions {
+        if !has_function(&found, *function) {
+            found.push(*function)?;
+        }
+    }
+    Ok(found)
+}
+
+/// The different set functions of a query, in the order in which they first stand.
+fn functions_of(
+    alloc: Global,
+    columns: &[Column],
+    tree: &Tree,
+) -> Result<Vec<ColumnFunction>, AllocError>
+    ensures { IfOk result (λ v. v.items ≡ functions_of (fields_of columns.now) (tree_form tree.now)) }
+{
+    distinct_functions(alloc, &all_functions(alloc, columns, tree)?)
+}
+
+/// Whether GROUP BY stands for few enough sets.
+fn check_set_count(groups: &[Group]) -> Result<(), QueryFault>
+    ensures fault { Answers result (limit_fault (length (expanded (map group_form groups.now)))) }
+{
+    check_limit(set_count(groups))
+}
+
+/// Whether WHERE and GROUP BY are typed.
+#[tactic(auto, unfolding(crate::specs::Faults::records_fault))]
+fn check_records(scope: &Scope, tree: &Tree) -> Result<(), QueryFault>
+    requires { scope.now.clause ≡ Clause.Where }
+    ensures fault { Answers result (records_fault (fields_of scope.now.columns.now) scope.now.grouping.now (option_map predicate_form tree.now.filter) (map group_form tree.now.groups.items)) }
+{
+    check_clause(scope, &tree.filter)?;
+    check_groups(scope.columns, &tree.groups)?;
+    check_set_count(&tree.groups)
+}
+
+/// Whether SELECT is typed.
+#[tactic(auto, unfolding(crate::specs::Faults::select_fault))]
+fn check_select(alloc: Global, scope: &Scope, items: &[Item]) -> Result<(), QueryFault>
+    requires { scope.now.clause ≡ Clause.Select }
+    ensures fault { Answers result (select_fault (fields_of scope.now.columns.now) scope.now.grouping.now (map item_form items.now)) }
+{
+    check_items(scope, items)?;
+    check_headers(alloc, items)
+}
+
+/// Whether SELECT, HAVING and ORDER BY are typed.
+#[tactic(auto, unfolding(crate::specs::Faults::rows_fault))]
+fn check_rows(
+    alloc: Global,
+    columns: &[Column],
+    grouping: &[usize],
+    tree: &Tree,
+) -> Result<(), QueryFault>
+    ensures fault { Answers result (rows_fault (fields_of columns.now) grouping.now (map item_form tree.now.items.items) (option_map predicate_form tree.now.having) (map key_form tree.now.keys.items)) }
+{
+    let mut scope = Scope {
+        columns,
+        grouping,
+        clause: Clause::Select,
+    };
+    check_select(alloc, &scope, &tree.items)?;
+    scope.clause = Clause::Having;
+    check_clause(&scope, &tree.having)?;
+    scope.clause = Clause::OrderBy;
+    check_keys(&scope, &tree.items, &tree.keys)
+}
+
+/// Whether all clauses are typed; then the different set functions.
+#[tactic(auto, unfolding(crate::specs::Faults::clauses_fault))]
+fn check_clauses(
+    alloc: Global,
+    columns: &[Column],
+    grouping: &[usize],
+    tree: &Tree,
+) -> Result<Vec<ColumnFunction>, QueryFault>
+    ensures functions { IfOk result (λ v. v.items ≡ functions_of (fields_of columns.now) (tree_form tree.now)) }
+    ensures fault { Answers result (clauses_fault (fields_of columns.now) grouping.now (tree_form tree.now)) }
+{
+    let scope = Scope {
+        columns,
+        grouping,
+        clause: Clause::Where,
+    };
+    check_records(&scope, tree)?;
+    check_rows(alloc, columns, grouping, tree)?;
+    let functions = functions_of(alloc, columns, tree)?;
+    check_limit(functions.len() as u64)?;
+    Ok(functions)
+}
+
+/// Checks and resolves a query.
+fn resolve(alloc: Global, tree: &Tree, schema: &Schema) -> Result<Resolved, QueryFault>
+    ensures resolved { IfOk result (λ r. r ≡ resolution_of schema.now (tree_form tree.now)) }
+    ensures fault { Answers result (query_fault schema.now (tree_form tree.now)) }
+{
+    let columns = schema.columns();
+    let grouping = grouping_places(alloc, columns, &tree.groups)?;
+    let functions = check_clauses(alloc, columns, &grouping, tree)?;
+    let sets = expand(alloc, columns, &grouping, &tree.groups)?;
+    Ok(Resolved {
+        grouping,
+        sets,
+        functions,
+    })
+}
+
+/// Checks a query under a schema, and resolves it. The first fault is answered, in the order WHERE, GROUP BY, SELECT,
+/// HAVING, ORDER BY, each from left to right.
+pub fn check_tree(alloc: Global, tree: &Tree, schema: &Schema) -> Result<Resolved, QueryFault>
+    ensures typed { OnOk result (IsTyped schema.now (tree_form tree.now)) }
+    ensures resolved { IfOk result (λ r. r ≡ resolution_of schema.now (tree_form tree.now)) }
+    ensures untyped { IfErr result (λ f. f ≢ OutOfMemory → IsTyped schema.now (tree_form tree.now) → ⊥) }
+    ensures fault { Answers result (query_fault schema.now (tree_form tree.now)) }
+{
+    resolve(alloc, tree, schema)
+}

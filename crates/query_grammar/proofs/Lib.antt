@@ -1,0 +1,4 @@
+pub mod Heads
+pub mod More
+pub mod Sound
+pub mod Complete

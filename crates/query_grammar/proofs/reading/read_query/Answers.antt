@@ -1,0 +1,9 @@
+use Rattle.query_grammar.proofs.Sound.{derived}
+use Rattle.query_grammar.proofs.Complete.{read}
+use Rattle.query_grammar.proofs.reading.read_query.Goals as goal
+
+pub returns-clause-derived : goal.returns-clause-derived
+returns-clause-derived c = derived c.args.tokens.now c.whole.result c.whole.ensures
+
+pub returns-clause-read : goal.returns-clause-read
+returns-clause-read c = read c.args.tokens.now c.whole.result c.whole.ensures

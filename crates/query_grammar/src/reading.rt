@@ -1,0 +1,70 @@
+//! Reads a query.
+
+ghost use Rattle.std.specs.Prelude.{◌≡◌, ◌<◌, ◌≤◌, length, IfOk, MatchResult};
+ghost use Rattle.query_tree.specs.Syntax.{TreeForm, tree_form};
+ghost use Rattle.query_grammar.specs.declared.fault.GrammarFault.TheVariants.{OutOfMemory};
+ghost use Rattle.query_grammar.specs.Grammar.{Derives};
+ghost use Rattle.query_grammar.specs.Steps.{Gives, from_at, query_at, whole_at};
+
+use crate::fault::GrammarFault;
+use crate::fronts::{expect_name, expect_word, unexpected};
+use crate::groups::groups;
+use crate::items::items;
+use query_tokens::{Token, Word};
+use query_tree::Tree;
+use std::alloc::Global;
+
+/// What stands behind FROM and the name `lines`.
+#[tactic(auto, unfolding(crate::specs::Steps::from_at))]
+fn from_lines(tokens: &[Token]) -> Result<&[Token], GrammarFault>
+    ensures exact { Gives (λ x. x.now) result (from_at tokens.now) }
+    ensures shorter { IfOk result (λ x. length x.now < length tokens.now) }
+{
+    let source = expect_word(tokens, Word::From)?;
+    let (name, rest) = expect_name(source)?;
+    if name.as_str() == "lines" {
+        return Ok(rest);
+    }
+    Err(unexpected(source))
+}
+
+/// A query in front, and what stands behind it.
+#[tactic(auto, unfolding(crate::specs::Steps::query_at))]
+fn query(alloc: Global, tokens: &[Token]) -> Result<(Tree, &[Token]), GrammarFault>
+    ensures exact { Gives (λ x. (tree_form x.0, x.1.now)) result (query_at tokens.now) }
+{
+    let rest = expect_word(tokens, Word::Select)?;
+    let (items, rest) = items(alloc, rest)?;
+    let rest = from_lines(rest)?;
+    let (groups, rest) = groups(alloc, rest)?;
+    let tree = Tree {
+        items,
+        filter: None,
+        groups,
+        having: None,
+        keys: Vec::new(alloc),
+    };
+    Ok((tree, rest))
+}
+
+/// The query that all of the tokens are.
+#[tactic(auto, unfolding(crate::specs::Steps::whole_at))]
+fn whole(alloc: Global, tokens: &[Token]) -> Result<Tree, GrammarFault>
+    ensures { Gives tree_form result (whole_at tokens.now) }
+{
+    let (tree, rest) = query(alloc, tokens)?;
+    if !rest.is_empty() {
+        return Err(unexpected(rest));
+    }
+    Ok(tree)
+}
+
+/// The query that the tokens derive.
+pub fn read_query(alloc: Global, tokens: &[Token]) -> Result<Tree, GrammarFault>
+    // What is read is derived.
+    ensures derived { IfOk result (λ tree. Derives tokens.now (tree_form tree)) }
+    // What is derived is read, and no other, unless memory runs out.
+    ensures read { (q : TreeForm) → Derives tokens.now q → MatchResult result (λ tree. tree_form tree ≡ q) (λ fault. fault ≡ OutOfMemory) }
+{
+    whole(alloc, tokens)
+}

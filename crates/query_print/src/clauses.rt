@@ -1,0 +1,185 @@
+//! The clauses of a query, the headers of its items, and the texts of grouping sets.
+
+ghost use Rattle.std.specs.Prelude.{◌≡◌, ◌++◌, codes, IfOk, map, OnOk, string_bytes};
+ghost use Rattle.std.specs.Option.{option_map};
+ghost use Rattle.values.specs.Schema.{fields_of};
+ghost use Rattle.query_print.specs.Canonical.{alias_text, canonical_text, comma_list, direction_text, group_texts, header_text, item_text, key_text, list_clause, name_at, names_text, nulls_text, predicate_clause, set_text};
+ghost use Rattle.query_tree.specs.Syntax.{group_form, group_forms, item_form, key_form, predicate_form, tree_form};
+
+use crate::groups::push_groups;
+use crate::predicates::{push_expression, push_predicate};
+use query_tokens::push_name;
+use query_tree::{Group, Item, Key, Predicate, Tree};
+use std::alloc::{AllocError, Global};
+use values::{Column, Schema};
+
+/// The canonical text of a query.
+pub fn print_tree(alloc: Global, tree: &Tree) -> Result<String, AllocError>
+    ensures { IfOk result (λ text. string_bytes text ≡ canonical_text (tree_form tree.now)) }
+{
+    let mut out = String::new(alloc);
+    out.push_str("SELECT ")?;
+    push_items(&mut out, &tree.items)?;
+    out.push_str(" FROM lines")?;
+    push_predicate_clause(&mut out, " WHERE ", &tree.filter)?;
+    push_group_by(&mut out, &tree.groups)?;
+    push_predicate_clause(&mut out, " HAVING ", &tree.having)?;
+    push_order_by(&mut out, &tree.keys)?;
+    Ok(out)
+}
+
+/// The header of an item: its alias, or the canonical text of its expression where it has none.
+pub fn header(alloc: Global, item: &Item) -> Result<String, AllocError>
+    ensures { IfOk result (λ text. string_bytes text ≡ header_text (item_form item.now)) }
+{
+    if let Some(alias) = &item.alias {
+        return alias.as_str().to_string(alloc);
+    }
+    let mut out = String::new(alloc);
+    push_expression(&mut out, &item.expression)?;
+    Ok(out)
+}
+
+/// The text `(c1, c2)` of a grouping set, given by the places of its columns in the schema.
+pub fn set_text(alloc: Global, schema: &Schema, set: &[usize]) -> Result<String, AllocError>
+    ensures { IfOk result (λ text. string_bytes text ≡ set_text schema.now set.now) }
+{
+    let mut out = String::new(alloc);
+    out.push_str("(")?;
+    push_columns(&mut out, schema.columns(), set)?;
+    out.push_str(")")?;
+    Ok(out)
+}
+
+/// The name of the column at a place, empty where there is none.
+fn column_name(columns: &[Column], place: usize) -> &str
+    ensures { result.now ≡ name_at (fields_of columns.now) place }
+{
+    match columns.get(place) {
+        Some(column) => column.name.as_str(),
+        None => "",
+    }
+}
+
+/// Writes the names of columns at the end, with commas.
+fn push_columns(out: &mut String, columns: &[Column], places: &[usize]) -> Result<(), AllocError>
+    ensures { OnOk result (string_bytes out.new ≡ string_bytes out.old ++ names_text (map (name_at (fields_of columns.now)) places.now)) }
+{
+    let [first, others @ ..] = places else {
+        return Ok(());
+    };
+    push_name(out, column_name(columns, *first))?;
+    for place in others {
+        out.push_str(", ")?;
+        push_name(out, column_name(columns, *place))?;
+    }
+    Ok(())
+}
+
+/// Writes an item at the end.
+fn push_item(out: &mut String, item: &Item) -> Result<(), AllocError>
+    ensures { OnOk result (string_bytes out.new ≡ string_bytes out.old ++ item_text (item_form item.now)) }
+{
+    push_expression(out, &item.expression)?;
+    if let Some(alias) = &item.alias {
+        out.push_str(" AS ")?;
+        push_name(out, alias.as_str())?;
+    }
+    Ok(())
+}
+
+/// Writes items at the end, with commas.
+fn push_items(out: &mut String, items: &[Item]) -> Result<(), AllocError>
+    ensures { OnOk result (string_bytes out.new ≡ string_bytes out.old ++ comma_list (map item_text (map item_form items.now))) }
+{
+    let [first, others @ ..] = items else {
+        return Ok(());
+    };
+    push_item(out, first)?;
+    for item in others {
+        out.push_str(", ")?;
+        push_item(out, item)?;
+    }
+    Ok(())
+}
+
+/// DESC, where it is written.
+fn direction_text(descending: bool) -> &'static str
+    ensures { result.now ≡ direction_text descending }
+{
+    if descending { " DESC" } else { "" }
+}
+
+/// NULLS FIRST or NULLS LAST, where it is not the default of the direction.
+fn nulls_text(descending: bool, nulls_first: bool) -> &'static str
+    ensures { result.now ≡ nulls_text descending nulls_first }
+{
+    match (descending, nulls_first) {
+        (true, true) | (false, false) => "",
+        (true, false) => " NULLS LAST",
+        (false, true) => " NULLS FIRST",
+    }
+}
+
+/// Writes a key at the end. NULLS FIRST and NULLS LAST are written only where they are not the default.
+fn push_key(out: &mut String, key: &Key) -> Result<(), AllocError>
+    ensures { OnOk result (string_bytes out.new ≡ string_bytes out.old ++ key_text (key_form key.now)) }
+{
+    push_expression(out, &key.expression)?;
+    out.push_str(direction_text(key.descending))?;
+    out.push_str(nulls_text(key.descending, key.nulls_first))
+}
+
+/// Writes keys at the end, with commas.
+fn push_keys(out: &mut String, keys: &[Key]) -> Result<(), AllocError>
+    ensures { OnOk result (string_bytes out.new ≡ string_bytes out.old ++ comma_list (map key_text (map key_form keys.now))) }
+{
+    let [first, others @ ..] = keys else {
+        return Ok(());
+    };
+    push_key(out, first)?;
+    for key in others {
+        out.push_str(", ")?;
+        push_key(out, key)?;
+    }
+    Ok(())
+}
+
+/// Writes a clause of one predicate at the end, where there is one.
+fn push_predicate_clause(
+    out: &mut String,
+    keywords: &str,
+    predicate: &Option<Predicate>,
+) -> Result<(), AllocError>
+    ensures { OnOk result (string_bytes out.new ≡ string_bytes out.old ++ predicate_clause keywords.now (option_map predicate_form predicate.now)) }
+{
+    match predicate {
+        None => Ok(()),
+        Some(predicate) => {
+            out.push_str(keywords)?;
+            push_predicate(out, predicate)
+        }
+    }
+}
+
+/// Writes GROUP BY at the end, where it has an element.
+fn push_group_by(out: &mut String, groups: &[Group]) -> Result<(), AllocError>
+    ensures { OnOk result (string_bytes out.new ≡ string_bytes out.old ++ list_clause (codes " GROUP BY ") (group_texts (group_forms (map group_form groups.now)))) }
+{
+    if groups.is_empty() {
+        return Ok(());
+    }
+    out.push_str(" GROUP BY ")?;
+    push_groups(out, groups)
+}
+
+/// Writes ORDER BY at the end, where it has a key.
+fn push_order_by(out: &mut String, keys: &[Key]) -> Result<(), AllocError>
+    ensures { OnOk result (string_bytes out.new ≡ string_bytes out.old ++ list_clause (codes " ORDER BY ") (map key_text (map key_form keys.now))) }
+{
+    if keys.is_empty() {
+        return Ok(());
+    }
+    out.push_str(" ORDER BY ")?;
+    push_keys(out, keys)
+}

@@ -1,0 +1,11 @@
+//! The canonical text of a query, the headers of its items, and the texts of grouping sets.
+#![tactic(auto)]
+
+mod clauses;
+mod groups;
+mod leaves;
+mod predicates;
+#[cfg(test)]
+mod tests;
+
+pub use clauses::{header, print_tree, set_text};

@@ -1,0 +1,9 @@
+pub mod Cut
+pub mod Digits
+pub mod Loops
+pub mod Doubling
+pub mod Inversions
+pub mod Fronts
+pub mod Sound
+pub mod Complete
+pub mod Progress

@@ -1,0 +1,4 @@
+pub mod Words
+pub mod Spelling
+pub mod Options
+pub mod Steps

@@ -1,0 +1,19 @@
+//! The tokens of the query language: how a text spells them, and a reader of them.
+#![tactic(auto)]
+
+mod fault;
+mod names;
+mod numbers;
+mod quotes;
+mod reading;
+mod signs;
+#[cfg(test)]
+mod tests;
+mod token;
+mod words;
+
+pub use fault::TokenFault;
+pub use names::{is_plain_name, push_name, push_quoted};
+pub use reading::{Tokens, read_tokens};
+pub use token::{Sign, Token, Word};
+pub use words::reserved_word;

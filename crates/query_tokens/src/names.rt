@@ -1,0 +1,42 @@
+//! Canonical spellings of names and texts.
+
+ghost use Rattle.std.specs.Prelude.{◌≡◌, ◌<◌, ◌++◌, OnOk, string_bytes};
+ghost use Rattle.query_tokens.specs.Words.{is_plain_name, quoted, name_text};
+
+use crate::words::{is_word, reserved_word};
+use std::alloc::AllocError;
+
+/// Whether a name may be written without quotes: it is a word, and not a reserved one.
+pub fn is_plain_name(name: &str) -> bool
+    ensures { result ≡ is_plain_name name.now }
+{
+    is_word(name) && reserved_word(name).is_none()
+}
+
+/// Writes the text at the end, between quotes and with each quote in it twice. The quote is ASCII.
+pub fn push_quoted(out: &mut String, text: &str, quote: char) -> Result<(), AllocError>
+    requires { quote < 128 }
+    ensures { OnOk result (string_bytes out.new ≡ string_bytes out.old ++ quoted quote text.now) }
+{
+    out.push(quote)?;
+    let mut rest = text;
+    while let Some((piece, left)) = rest.split_once(quote) {
+        out.push_str(piece)?;
+        out.push(quote)?;
+        out.push(quote)?;
+        rest = left;
+    }
+    out.push_str(rest)?;
+    out.push(quote)?;
+    Ok(())
+}
+
+/// Writes the name at the end: plain where it can be, else in double quotes.
+pub fn push_name(out: &mut String, name: &str) -> Result<(), AllocError>
+    ensures { OnOk result (string_bytes out.new ≡ string_bytes out.old ++ name_text name.now) }
+{
+    if is_plain_name(name) {
+        return out.push_str(name);
+    }
+    push_quoted(out, name, '"')
+}

@@ -1,0 +1,172 @@
+-- The syntax tree of a query, apart from where its parts lie in memory. Contracts speak of it through
+-- `tree_form` and its like, which read it off the values of the program.
+use Rattle.std.specs.Prelude.{ℕ, Bool, Option, Some, None, List, [], ◌∷◌, map, Vec, Box}
+use Rattle.std.specs.Global.{Global}
+use Rattle.std.specs.Option.{option_map}
+use Rattle.query_tree.specs.declared.predicate.Comparison.{Comparison}
+use Rattle.query_tree.specs.declared.predicate.TruthValue.{TruthValue}
+use Rattle.query_tree.specs.declared.predicate.Literal.{Literal}
+use Rattle.query_tree.specs.declared.expression.Aggregate.{Aggregate}
+use Rattle.query_tree.specs.declared.expression.Expression.{Expression}
+use Rattle.query_tree.specs.declared.expression.Operand.{Operand}
+use Rattle.query_tree.specs.declared.expression.Predicate.{Predicate}
+use Rattle.query_tree.specs.declared.expression.Expression.TheOpen.{Expression-F, SetFunction-F, Operand-F, Predicate-F}
+use Rattle.query_tree.specs.declared.expression.Expression.TheOpen as layer
+use Rattle.query_tree.specs.declared.expression.Expression.TheFolds.{fold-Expression, fold-Operand, fold-Predicate}
+use Rattle.query_tree.specs.declared.group.Group.{Group}
+use Rattle.query_tree.specs.declared.group.Group.TheOpen.{Group-F}
+use Rattle.query_tree.specs.declared.group.Group.TheOpen as group_layer
+use Rattle.query_tree.specs.declared.group.Group.TheFolds.{fold-Group}
+use Rattle.query_tree.specs.declared.tree.Item.{Item}
+use Rattle.query_tree.specs.declared.tree.Key.{Key}
+use Rattle.query_tree.specs.declared.tree.Tree.{Tree}
+
+mutual
+  -- An expression is a name, a GROUPING of names, or a set function.
+  pub data ExpressionForm : Type 0 where
+    name : List ℕ → ExpressionForm
+    grouping : List (List ℕ) → ExpressionForm
+    function : FunctionForm → ExpressionForm
+
+  -- A set function goes over all records of a group, or over those that its FILTER keeps.
+  pub data FunctionForm : Type 0 where
+    over_all : Aggregate → FunctionForm
+    over_filtered : Aggregate → PredicateForm → FunctionForm
+
+  -- An operand is an expression or a literal.
+  pub data OperandForm : Type 0 where
+    expression : ExpressionForm → OperandForm
+    literal : Literal → OperandForm
+
+  -- A predicate. The mark of a truth test, BETWEEN, IN and IS NULL is true where NOT is written in it.
+  pub data PredicateForm : Type 0 where
+    or_of : PredicateForms → PredicateForm
+    and_of : PredicateForms → PredicateForm
+    not_of : PredicateForm → PredicateForm
+    truth_test : PredicateForm → Bool → TruthValue → PredicateForm
+    compare : OperandForm → Comparison → OperandForm → PredicateForm
+    between : OperandForm → Bool → OperandForm → OperandForm → PredicateForm
+    member : OperandForm → Bool → List Literal → PredicateForm
+    null_test : OperandForm → Bool → PredicateForm
+    column : List ℕ → PredicateForm
+
+  -- The parts of an OR or an AND, in order.
+  pub data PredicateForms : Type 0 where
+    no_parts : PredicateForms
+    part : PredicateForm → PredicateForms → PredicateForms
+
+mutual
+  -- An element of GROUP BY: a set, a ROLLUP or a CUBE of units, or GROUPING SETS of elements.
+  pub data GroupForm : Type 0 where
+    set : List (List ℕ) → GroupForm
+    rollup : List (List (List ℕ)) → GroupForm
+    cube : List (List (List ℕ)) → GroupForm
+    sets : GroupForms → GroupForm
+
+  -- The elements of GROUPING SETS, in order.
+  pub data GroupForms : Type 0 where
+    no_groups : GroupForms
+    group : GroupForm → GroupForms → GroupForms
+
+-- An item of SELECT: an expression, and the alias where there is one.
+pub record ItemForm : Type 0 where
+  pub expression : ExpressionForm
+  pub alias : Option (List ℕ)
+
+-- A key of ORDER BY, with its defaults resolved.
+pub record KeyForm : Type 0 where
+  pub expression : ExpressionForm
+  pub descending : Bool
+  pub nulls_first : Bool
+
+-- A query: the clauses that are not written are None or an empty list.
+pub record TreeForm : Type 0 where
+  pub items : List ItemForm
+  pub filter : Option PredicateForm
+  pub groups : List GroupForm
+  pub having : Option PredicateForm
+  pub keys : List KeyForm
+
+-- The parts of a list, as the parts of an OR or an AND.
+abbrev pub predicate_forms : List PredicateForm → PredicateForms
+predicate_forms [] = no_parts
+predicate_forms (p ∷ ps) = part p (predicate_forms ps)
+
+-- The groups of a list, as the elements of GROUPING SETS.
+abbrev pub group_forms : List GroupForm → GroupForms
+group_forms [] = no_groups
+group_forms (g ∷ gs) = group g (group_forms gs)
+
+-- The units of a ROLLUP or a CUBE.
+abbrev pub units_form : List (Vec (List ℕ) Global) → List (List (List ℕ))
+units_form = map (λ unit. unit.items)
+
+-- A set function with the predicate of its FILTER, or with none.
+abbrev pub function_form_of : Aggregate → Option (Box PredicateForm Global) → FunctionForm
+function_form_of f None = over_all f
+function_form_of f (Some p) = over_filtered f p.value
+
+-- A set function whose predicate is seen by its form already, and so for the three steps that follow.
+abbrev pub function_step : SetFunction-F ExpressionForm OperandForm PredicateForm FunctionForm → FunctionForm
+function_step f = function_form_of f.aggregate f.filter
+
+abbrev pub expression_step : Expression-F ExpressionForm OperandForm PredicateForm FunctionForm → ExpressionForm
+expression_step (layer.Name n) = name n
+expression_step (layer.Grouping ns) = grouping ns.items
+expression_step (layer.Function f) = function f
+
+abbrev pub operand_step : Operand-F ExpressionForm OperandForm PredicateForm FunctionForm → OperandForm
+operand_step (layer.Expression e) = OperandForm.expression e
+operand_step (layer.Literal a) = literal a
+
+abbrev pub predicate_step : Predicate-F ExpressionForm OperandForm PredicateForm FunctionForm → PredicateForm
+predicate_step (layer.Or ps) = or_of (predicate_forms ps.items)
+predicate_step (layer.And ps) = and_of (predicate_forms ps.items)
+predicate_step (layer.Not p) = not_of p.value
+predicate_step (layer.Is p n t) = truth_test p.value n t
+predicate_step (layer.Compare a c b) = compare a c b
+predicate_step (layer.Between a n b c) = between a n b c
+predicate_step (layer.In a n ls) = member a n ls.items
+predicate_step (layer.IsNull a n) = null_test a n
+predicate_step (layer.Column n) = column n
+
+-- The form of an expression.
+abbrev pub expression_form : Expression → ExpressionForm
+expression_form = fold-Expression ExpressionForm OperandForm PredicateForm FunctionForm expression_step operand_step predicate_step function_step
+
+-- The form of an operand.
+abbrev pub operand_form : Operand → OperandForm
+operand_form = fold-Operand ExpressionForm OperandForm PredicateForm FunctionForm expression_step operand_step predicate_step function_step
+
+-- The form of a predicate.
+abbrev pub predicate_form : Predicate → PredicateForm
+predicate_form = fold-Predicate ExpressionForm OperandForm PredicateForm FunctionForm expression_step operand_step predicate_step function_step
+
+-- A group whose inner groups are seen by their forms already.
+abbrev pub group_step : Group-F GroupForm → GroupForm
+group_step (group_layer.Set ns) = set ns.items
+group_step (group_layer.Rollup us) = rollup (units_form us.items)
+group_step (group_layer.Cube us) = cube (units_form us.items)
+group_step (group_layer.Sets gs) = sets (group_forms gs.items)
+
+-- The form of a group.
+abbrev pub group_form : Group → GroupForm
+group_form = fold-Group GroupForm group_step
+
+-- The form of an item.
+abbrev pub item_form : Item → ItemForm
+item_form i = record { expression = expression_form i.expression; alias = i.alias }
+
+-- The form of a key.
+abbrev pub key_form : Key → KeyForm
+key_form k = record { expression = expression_form k.expression; descending = k.descending; nulls_first = k.nulls_first }
+
+-- The form of a query.
+abbrev pub tree_form : Tree → TreeForm
+tree_form t = record {
+  items = map item_form t.items.items;
+  filter = option_map predicate_form t.filter;
+  groups = map group_form t.groups.items;
+  having = option_map predicate_form t.having;
+  keys = map key_form t.keys.items;
+}

@@ -1,0 +1,14 @@
+//! The syntax tree of a query.
+#![tactic(auto)]
+
+mod expression;
+mod group;
+mod predicate;
+mod text;
+mod tree;
+
+pub use expression::{Aggregate, Expression, Operand, Predicate, SetFunction};
+pub use group::Group;
+pub use predicate::{Comparison, Literal, TruthValue};
+pub use text::Text;
+pub use tree::{Item, Key, Tree};

@@ -1,0 +1,40 @@
+//! A whole query.
+
+use crate::expression::{Expression, Predicate};
+use crate::group::Group;
+use crate::text::Text;
+
+/// An item of SELECT, ISO/IEC 9075-2 `<derived column>`.
+#[derive(Debug, Drop)]
+pub struct Item {
+    /// What the item computes.
+    pub expression: Expression,
+    /// The name after AS, where there is one.
+    pub alias: Option<Text>,
+}
+
+/// A key of ORDER BY, ISO/IEC 9075-2 `<sort specification>`, with the defaults resolved.
+#[derive(Debug, Drop)]
+pub struct Key {
+    /// What the key computes.
+    pub expression: Expression,
+    /// Whether it is DESC.
+    pub descending: bool,
+    /// Whether NULL comes first.
+    pub nulls_first: bool,
+}
+
+/// The tree of a query, ISO/IEC 9075-2 `<query specification>` with its `<order by clause>`.
+#[derive(Debug, Drop)]
+pub struct Tree {
+    /// The items of SELECT, one or more.
+    pub items: Vec<Item>,
+    /// The predicate of WHERE, where there is one.
+    pub filter: Option<Predicate>,
+    /// The elements of GROUP BY, none where it is not written.
+    pub groups: Vec<Group>,
+    /// The predicate of HAVING, where there is one.
+    pub having: Option<Predicate>,
+    /// The keys of ORDER BY, none where it is not written.
+    pub keys: Vec<Key>,
+}
