@@ -22,6 +22,3 @@ pub use query_tree::{
     Aggregate, Comparison, Expression, Group, Item, Key, Literal, Operand, Predicate, SetFunction,
     Text, Tree, TruthValue,
 };
-
-#[cfg(test)]
-mod tests;

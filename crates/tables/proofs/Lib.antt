@@ -1,3 +1,0 @@
-pub mod Partly
-pub mod Joining
-pub mod Finishing
