@@ -14,7 +14,7 @@ use Rattle.groups.specs.Groups.{Key, project, key_order, same_key, each_once, ke
 use Rattle.groups.specs.Kept.{summary, kept, summed, averaged, IsServed}
 use Rattle.groups.specs.Held.{Held, held, AreServed}
 use Rattle.groups.specs.Table.{Contents, IsTableOf}
-use Rattle.groups.specs.Lines.{Line, line, lines_of, line_kept, weigh, SameBag}
+use Rattle.groups.specs.GroupRows.{GroupRow, group_row, group_rows, group_row_kept, weigh, SameBag}
 use Rattle.groups.proofs.Order.{key_total, key_antisymmetric, same_key-Decides}
 use Rattle.groups.proofs.Meaning.{any-each_once}
 
@@ -41,8 +41,8 @@ cells-kept : (fs : List ColumnFunction) (rows : List Row) → AreServed fs → m
 cells-kept [] rows s = refl
 cells-kept (f ∷ fs) rows s = λ i. summary-kept f rows s.0 i ∷ cells-kept fs rows s.1 i
 
-line-kept : (fs : List ColumnFunction) (key : Key) (rows : List Row) → AreServed fs → line_kept (key, held fs rows) ≡ line fs key rows
-line-kept fs key rows s = λ i. record { key = key; lines = length rows; cells = cells-kept fs rows s i }
+group_row-kept : (fs : List ColumnFunction) (key : Key) (rows : List Row) → AreServed fs → group_row_kept (key, held fs rows) ≡ group_row fs key rows
+group_row-kept fs key rows s = λ i. record { key = key; lines = length rows; cells = cells-kept fs rows s i }
 
 -- ---- the entries of a map as a bag
 
@@ -123,20 +123,20 @@ firsts : (set : List ℕ) (fs : List ColumnFunction) (rows : List Row) (ks : Lis
 firsts set fs rows [] = refl
 firsts set fs rows (k ∷ ks) = ap (λ xs. k ∷ xs) (firsts set fs rows ks)
 
-lines-kept : (set : List ℕ) (fs : List ColumnFunction) (rows : List Row) (ks : List Key) → AreServed fs → map line_kept (map (group set fs rows) ks) ≡ map (λ k. line fs k (members set k rows)) ks
-lines-kept set fs rows [] s = refl
-lines-kept set fs rows (k ∷ ks) s = λ i. line-kept fs k (members set k rows) s i ∷ lines-kept set fs rows ks s i
+group_rows-kept : (set : List ℕ) (fs : List ColumnFunction) (rows : List Row) (ks : List Key) → AreServed fs → map group_row_kept (map (group set fs rows) ks) ≡ map (λ k. group_row fs k (members set k rows)) ks
+group_rows-kept set fs rows [] s = refl
+group_rows-kept set fs rows (k ∷ ks) s = λ i. group_row-kept fs k (members set k rows) s i ∷ group_rows-kept set fs rows ks s i
 
 -- the lines of distinct entries, whose map is a table of records, are those of the records' groups
 pub lines-bag : (set : List ℕ) (fs : List ColumnFunction) (rows : List Row) (es : List (Key × Held)) (t : Contents) → fin.from_entries es ≡ t → AreServed fs → IsTableOf set fs t rows
-    → IsDistinct same_key (map (λ e. e.0) es) → SameBag (map line_kept es) (lines_of set fs rows)
+    → IsDistinct same_key (map (λ e. e.0) es) → SameBag (map group_row_kept es) (group_rows set fs rows)
 lines-bag set fs rows es t v s h d f =
     let ks = keys set rows in
     let gs = map (group set fs rows) ks in
-    let w : Key × Held → ℕ = λ e. f (line_kept e) in
-    weigh-map f line_kept es
+    let w : Key × Held → ℕ = λ e. f (group_row_kept e) in
+    weigh-map f group_row_kept es
     ∙ sym (entries-bag es d w)
     ∙ ap (λ m. weigh w (fin.entries m)) (v ∙ table-is set fs t rows h)
     ∙ entries-bag gs (subst (λ (xs : List Key). IsDistinct same_key xs) (firsts set fs rows ks) (keys-distinct set rows)) w
-    ∙ sym (weigh-map f line_kept gs)
-    ∙ ap (weigh f) (lines-kept set fs rows ks s)
+    ∙ sym (weigh-map f group_row_kept gs)
+    ∙ ap (weigh f) (group_rows-kept set fs rows ks s)

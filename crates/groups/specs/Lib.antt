@@ -6,5 +6,5 @@ pub mod Shown
 pub mod Held
 pub mod Coding
 pub mod Table
-pub mod Lines
+pub mod GroupRows
 pub mod Shuffle

@@ -2,7 +2,7 @@ ghost use Rattle.std.specs.Prelude.{◌≡◌, IfOk, map};
 ghost use Rattle.std.specs.List.{IsDistinct};
 ghost use Rattle.groups.specs.Groups.{same_key};
 ghost use Rattle.groups.specs.Table.{entries_shown};
-ghost use Rattle.groups.specs.Lines.{line_in, line_kept};
+ghost use Rattle.groups.specs.GroupRows.{group_row_in, group_row_kept};
 
 use crate::accumulators::Accumulators;
 use crate::cell::Cell;
@@ -26,7 +26,7 @@ pub(crate) fn groups_of(
     alloc: Global,
     entries: HashMap<Vec<Value>, Accumulators>,
 ) -> Result<Vec<Group>, AllocError>
-    ensures lines { IfOk result (λ groups. map line_in groups.items ≡ map line_kept (entries_shown entries.entries)) }
+    ensures lines { IfOk result (λ groups. map group_row_in groups.items ≡ map group_row_kept (entries_shown entries.entries)) }
     ensures distinct { IfOk result (λ _. IsDistinct same_key (map (λ e. e.0) (entries_shown entries.entries))) }
 {
     let mut groups = Vec::new(alloc);

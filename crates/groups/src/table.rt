@@ -36,7 +36,7 @@ impl Table {
     ghost use Rattle.values.specs.Datum.{data_of};
     ghost use Rattle.groups.specs.Groups.{Key};
     ghost use Rattle.groups.specs.Held.{AreServed, IsNarrowRow, held};
-    ghost use Rattle.groups.specs.Lines.{SameBag, line_in, lines_of};
+    ghost use Rattle.groups.specs.GroupRows.{SameBag, group_row_in, group_rows};
     ghost use Rattle.groups.specs.Table.{Fit, HasPlace, IsAdded, IsPut, IsFitting, IsJoined, IsTableOf, TakesOne};
 
     /// The table of no records under a grouping set, for these set functions.
@@ -100,7 +100,7 @@ impl Table {
     /// One group for each key of the records, in no order that is said.
     pub fn finish(self) -> Result<Vec<Group>, AllocError>
         ensures groups { IfOk result (λ groups. (set : List ℕ) (functions : List ColumnFunction) (rows : List Row)
-            → AreServed functions → IsTableOf set functions self rows → SameBag (map line_in groups.items) (lines_of set functions rows)) }
+            → AreServed functions → IsTableOf set functions self rows → SameBag (map group_row_in groups.items) (group_rows set functions rows)) }
     {
         let Table { alloc, groups } = self;
         groups_of(alloc, groups)

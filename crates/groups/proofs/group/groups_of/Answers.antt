@@ -4,16 +4,16 @@ use Rattle.values.specs.declared.value.Value.{Value}
 use Rattle.values.specs.Datum.{data_of}
 use Rattle.groups.specs.declared.group.Group.{Group}
 use Rattle.groups.specs.Held.{Held}
-use Rattle.groups.specs.Lines.{line_in, line_kept}
+use Rattle.groups.specs.GroupRows.{group_row_in, group_row_kept}
 use Rattle.groups.specs.Table.{entries_shown}
 use Rattle.groups.proofs.Entries.{Entries}
 use Rattle.groups.proofs.Distinct.{distinct-shown}
 use Rattle.groups.proofs.group.groups_of.Goals as goal
 
-pushed : (groups : List Group) (g : Group) (e : Vec Value Global × Held) (es : Entries) → line_in g ≡ line_kept (data_of e.0.items, e.1)
-    → map line_in (groups ++ g ∷ []) ++ map line_kept (entries_shown es) ≡ map line_in groups ++ map line_kept (entries_shown (e ∷ es))
-pushed [] g e es h = ap (λ r. r ∷ map line_kept (entries_shown es)) h
-pushed (r ∷ groups) g e es h = ap (λ rs. line_in r ∷ rs) (pushed groups g e es h)
+pushed : (groups : List Group) (g : Group) (e : Vec Value Global × Held) (es : Entries) → group_row_in g ≡ group_row_kept (data_of e.0.items, e.1)
+    → map group_row_in (groups ++ g ∷ []) ++ map group_row_kept (entries_shown es) ≡ map group_row_in groups ++ map group_row_kept (entries_shown (e ∷ es))
+pushed [] g e es h = ap (λ r. r ∷ map group_row_kept (entries_shown es)) h
+pushed (r ∷ groups) g e es h = ap (λ rs. group_row_in r ∷ rs) (pushed groups g e es h)
 
 pub loop-key-preserved : goal.loop-key-preserved
 loop-key-preserved c =
@@ -22,7 +22,7 @@ loop-key-preserved c =
     let is : c.loop-key.key-iterator ≡ e ∷ rest = rest_more (λ (x : Vec Value Global × Held). x) c.loop-key.key-iterator rest c.next.result e c.in-Some.is c.next.ensures.steps in
     let f = c.in_ok-lines.ensures in
     rw c.in_ok-push.ensures.items (pushed c.loop-key.groups.items _ e rest (λ i. record { key = data_of c.in-Some.key.items; lines = f.lines i; cells = f.cells i })
-    ∙ ap (λ es. map line_in c.loop-key.groups.items ++ map line_kept (entries_shown es)) (sym is) ∙ c.loop-key.invariant)
+    ∙ ap (λ es. map group_row_in c.loop-key.groups.items ++ map group_row_kept (entries_shown es)) (sym is) ∙ c.loop-key.invariant)
 
 pub returns-clause-distinct : goal.returns-clause-distinct
 returns-clause-distinct c = let g = c.into_iter-key-iterator.ensures.into_iter_gives in distinct-shown c.args.entries.entries g.4

@@ -10,18 +10,18 @@ use Rattle.groups.specs.Kept.{summary}
 use Rattle.groups.specs.Held.{Held}
 use Rattle.groups.specs.Shown.{summary_of}
 
-pub record Line : Type 0 where
+pub record GroupRow : Type 0 where
   pub key : Key
   pub lines : ℕ
   pub cells : List Summary
 
--- the line of a group with this key and these members
-abbrev pub line : List ColumnFunction → Key → List Row → Line
-line functions key rows = record { key = key; lines = length rows; cells = map (λ f. agg f rows) functions }
+-- the row of a group with this key and these members
+abbrev pub group_row : List ColumnFunction → Key → List Row → GroupRow
+group_row functions key rows = record { key = key; lines = length rows; cells = map (λ f. agg f rows) functions }
 
--- the lines of all groups of a list of records under a grouping set, one for each key
-abbrev pub lines_of : List ℕ → List ColumnFunction → List Row → List Line
-lines_of set functions rows = map (λ key. line functions key (members set key rows)) (keys set rows)
+-- the rows of all groups of a list of records under a grouping set, one for each key
+abbrev pub group_rows : List ℕ → List ColumnFunction → List Row → List GroupRow
+group_rows set functions rows = map (λ key. group_row functions key (members set key rows)) (keys set rows)
 
 -- the weights of the things, added up
 abbrev pub weigh : {X : Type 0} → (X → ℕ) → List X → ℕ
@@ -34,9 +34,9 @@ SameBag {X} xs ys = (weight : X → ℕ) → weigh weight xs ≡ weigh weight ys
 
 -- ---- in the code
 
-abbrev pub line_in : Group → Line
-line_in group = record { key = data_of group.key.items; lines = group.lines; cells = map summary_of group.cells.items }
+abbrev pub group_row_in : Group → GroupRow
+group_row_in group = record { key = data_of group.key.items; lines = group.lines; cells = map summary_of group.cells.items }
 
--- the line of what is kept of a group
-abbrev pub line_kept : Key × Held → Line
-line_kept e = record { key = e.0; lines = e.1.lines; cells = map (summary e.1.lines) e.1.parts }
+-- the row of what is kept of a group
+abbrev pub group_row_kept : Key × Held → GroupRow
+group_row_kept e = record { key = e.0; lines = e.1.lines; cells = map (summary e.1.lines) e.1.parts }

@@ -1,0 +1,3 @@
+pub mod Partly
+pub mod Joining
+pub mod Finishing
