@@ -114,7 +114,7 @@ each_once-distinct (k ∷ ks) =
       | false ↦ λ e. (all-other k (each_once ks) (any-each_once k ks ∙ e), each_once-distinct ks)
     ] refl
 
-keys-distinct : (set : List ℕ) (rows : List Row) → IsDistinct same_key (keys set rows)
+pub keys-distinct : (set : List ℕ) (rows : List Row) → IsDistinct same_key (keys set rows)
 unfolding IsDistinct
 keys-distinct [] rows = (tt, tt)
 keys-distinct (p ∷ ps) rows = each_once-distinct (map (project (p ∷ ps)) rows)

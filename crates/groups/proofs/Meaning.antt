@@ -15,7 +15,7 @@ use Rattle.groups.specs.Functions.{total}
 use Rattle.groups.specs.Groups.{Key, project, key_order, same_key, each_once, keys, members}
 use Rattle.groups.specs.Kept.{Kept, nothing, counted, summed, averaged, kept, taken, argument, joined, kept_in}
 use Rattle.groups.specs.Held.{Held, held, all_taken, all_joined, with_row, join}
-use Rattle.groups.specs.Table.{Contents, IsTableOf, IsAdded, IsPut, IsJoined, HasPlace, IsFitting, grown, join_options}
+use Rattle.groups.specs.Table.{Contents, IsTableOf, IsAdded, IsPut, IsJoined, HasPlace, IsFitting, CanJoin, IsGroupWithin, AreGroupsWithin, grown, join_options}
 use Rattle.groups.proofs.Order.{key_total, same_key-Decides}
 
 pub same_held : (g h : Held) → g.lines ≡ h.lines → g.parts ≡ h.parts → g ≡ h
@@ -218,16 +218,38 @@ pub table-place : (set : List ℕ) (fs : List ColumnFunction) (t : Contents) (l 
 table-place set fs t l a few k = subst (λ (o : Option Held). HasPlace fs o) (sym (a k)) (place-at fs (has_key set k l) (members set k l)
     (omega (arith, few, filter-le (λ r. same_key k (project set r)) l)))
 
-fitting-at : (fs : List ColumnFunction) (a b : Bool) (x y : List Row) → length x + length y < 2 ^ 63 → IfSome (cond b (Some (held fs y)) None) (λ part. IsFitting part (cond a (Some (held fs x)) None))
-fitting-at fs true true x y h = (h, map-length (λ f. kept f y) fs ∙ sym (map-length (λ f. kept f x) fs))
-fitting-at fs false true x y h = tt
-fitting-at fs a false x y h = tt
+-- ---- tables within a number of records
 
--- two tables of few records fit
-pub tables-fit : (set : List ℕ) (fs : List ColumnFunction) (t u : Contents) (l m : List Row) → IsTableOf set fs t l → IsTableOf set fs u m → length l + length m < 2 ^ 63
-    → (k : Key) → IfSome (fin.get u k) (λ part. IsFitting part (fin.get t k))
-tables-fit set fs t u l m a b few k =
-    subst (λ (o : Option Held). IfSome o (λ part. IsFitting part (fin.get t k))) (sym (b k))
-    (subst (λ (g : Option Held). IfSome (group_at set fs k m) (λ part. IsFitting part g)) (sym (a k))
-    (fitting-at fs (has_key set k l) (has_key set k m) (members set k l) (members set k m)
-    (omega (arith, few, filter-le (λ r. same_key k (project set r)) l, filter-le (λ r. same_key k (project set r)) m))))
+within-at : (fs : List ColumnFunction) (n : ℕ) (b : Bool) (x : List Row) → length x ≤ n → IfSome (cond b (Some (held fs x)) None) (IsGroupWithin n fs)
+within-at fs n true x h = (h, map-length (λ f. kept f x) fs)
+within-at fs n false x h = tt
+
+-- the table of so many records is within them
+pub table-within : (set : List ℕ) (fs : List ColumnFunction) (t : Contents) (l : List Row) (n : ℕ) → IsTableOf set fs t l → length l ≤ n → AreGroupsWithin n fs t
+table-within set fs t l n a few k = subst (λ (o : Option Held). IfSome o (IsGroupWithin n fs)) (sym (a k))
+    (within-at fs n (has_key set k l) (members set k l) (omega (arith, few, filter-le (λ r. same_key k (project set r)) l)))
+
+all_joined-length : (ks ls : List Kept) → length ks ≡ length ls → length (all_joined ks ls) ≡ length ks
+all_joined-length [] ls h = refl
+all_joined-length (k ∷ ks) [] h = refl
+all_joined-length (k ∷ ks) (l ∷ ls) h = ap suc (all_joined-length ks ls (omega (arith, h)))
+
+within-join : (fs : List ColumnFunction) (m n : ℕ) (a b : Option Held) → IfSome a (IsGroupWithin m fs) → IfSome b (IsGroupWithin n fs) → IfSome (join_options a b) (IsGroupWithin (m + n) fs)
+within-join fs m n None None p q = tt
+within-join fs m n None (Some b) p q = (omega (arith, q.0), q.1)
+within-join fs m n (Some a) None p q = (omega (arith, p.0), p.1)
+within-join fs m n (Some a) (Some b) p q = (omega (arith, p.0, q.0), all_joined-length a.parts b.parts (p.1 ∙ sym q.1) ∙ p.1)
+
+-- two tables put together are within both numbers of records
+pub tables-within : (fs : List ColumnFunction) (m n : ℕ) (t u v : Contents) → AreGroupsWithin m fs t → AreGroupsWithin n fs u → ((k : Key) → IsJoined t u v k) → AreGroupsWithin (m + n) fs v
+tables-within fs m n t u v p q j k = subst (λ (o : Option Held). IfSome o (IsGroupWithin (m + n) fs)) (sym (j k)) (within-join fs m n (fin.get t k) (fin.get u k) (p k) (q k))
+
+fits-within : (fs : List ColumnFunction) (m n : ℕ) (a b : Option Held) → m + n < 2 ^ 63 → IfSome a (IsGroupWithin m fs) → IfSome b (IsGroupWithin n fs) → IfSome b (λ part. IsFitting part a)
+fits-within fs m n None None few p q = tt
+fits-within fs m n None (Some b) few p q = tt
+fits-within fs m n (Some a) None few p q = tt
+fits-within fs m n (Some a) (Some b) few p q = (omega (arith, few, p.0, q.0), q.1 ∙ sym p.1)
+
+-- tables within few records can be put together
+pub within-can_join : (fs : List ColumnFunction) (m n : ℕ) (t u : Contents) → m + n < 2 ^ 63 → AreGroupsWithin m fs t → AreGroupsWithin n fs u → CanJoin t u
+within-can_join fs m n t u few p q k = fits-within fs m n (fin.get t k) (fin.get u k) few (p k) (q k)

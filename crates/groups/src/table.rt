@@ -37,7 +37,7 @@ impl Table {
     ghost use Rattle.groups.specs.Groups.{Key};
     ghost use Rattle.groups.specs.Held.{AreServed, IsNarrowRow, held};
     ghost use Rattle.groups.specs.GroupRows.{SameBag, group_row_in, group_rows};
-    ghost use Rattle.groups.specs.Table.{Fit, HasPlace, IsAdded, IsPut, IsFitting, IsJoined, IsTableOf, TakesOne};
+    ghost use Rattle.groups.specs.Table.{CanJoin, HasPlace, IsAdded, IsPut, IsFitting, IsJoined, IsTableOf, TakesOne};
 
     /// The table of no records under a grouping set, for these set functions.
     pub fn new(
@@ -90,7 +90,8 @@ impl Table {
 
     /// Takes the records of another table, whose groups move into this one. After an error the table is of no use.
     pub fn absorb(&mut self, other: Table) -> Result<(), AllocError>
-        requires { Fit self.old other }
+        requires { CanJoin self.old other }
+        ensures groups { OnOk result ((k : Key) → IsJoined self.old other self.new k) }
         ensures joined { OnOk result ((set : List ℕ) (functions : List ColumnFunction) (rows more : List Row)
             → IsTableOf set functions self.old rows → IsTableOf set functions other more → IsTableOf set functions self.new (rows ++ more)) }
     {
@@ -143,7 +144,7 @@ impl Table {
 
     /// Puts the groups of another table to these.
     fn put_all(&mut self, other: Table) -> Result<(), AllocError>
-        requires { (k : Key) → IfSome (fin.get other k) (λ part. IsFitting part (fin.get self.old k)) }
+        requires { CanJoin self.old other }
         ensures { OnOk result ((k : Key) → IsJoined self.old other self.new k) }
     {
         let Table { alloc: _, groups } = other;

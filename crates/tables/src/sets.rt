@@ -34,7 +34,7 @@ impl Tables {
     ghost use Rattle.query_check.specs.declared.function.ColumnFunction.{ColumnFunction};
     ghost use Rattle.groups.specs.Rows.{Row};
     ghost use Rattle.groups.specs.Held.{AreServed, IsNarrowRow};
-    ghost use Rattle.tables.specs.Sets.{AllFit, AllTakeOne, AreGroupsOf, AreTablesOf, places_of};
+    ghost use Rattle.tables.specs.Sets.{AllCanJoin, AllJoined, AllTakeOne, AreGroupsOf, AreTablesOf, places_of};
 
     /// The tables of no records.
     pub(crate) fn new(
@@ -73,7 +73,8 @@ impl Tables {
 
     /// Takes the records of other tables of the same sets. After an error the tables are of no use.
     pub(crate) fn absorb(&mut self, other: Tables) -> Result<(), AllocError>
-        requires { AllFit self.old other }
+        requires { AllCanJoin self.old other }
+        ensures groups { OnOk result (AllJoined self.old other self.new) }
         ensures joined { OnOk result ((sets : List (List ℕ)) (functions : List ColumnFunction) (rows more : List Row)
             → AreTablesOf sets functions self.old rows → AreTablesOf sets functions other more → AreTablesOf sets functions self.new (rows ++ more)) }
     {
