@@ -9,11 +9,12 @@ use Rattle.values.specs.Schema.{Field}
 use Rattle.lines.specs.declared.fault.LineFault.{LineFault}
 use Rattle.lines.specs.Input.{good, refused}
 use Rattle.lines.specs.Lines.{line_feed, lines}
+use Rattle.lines.specs.Pieces.{AllButLast, EndsInFeed}
 use Rattle.lines.specs.Taken.{taken}
 use Rattle.lines.proofs.Splits as splits
 use Rattle.tables.specs.Folding.{good_of}
 use Rattle.tables.specs.Notes.{Noted, note_of, numbered_from}
-use Rattle.tables.specs.Pieces.{IndexedPiece, AllButLast, EndsInFeed, all_lines, joined_bytes, records_of}
+use Rattle.tables.specs.Pieces.{IndexedPiece, all_lines, joined_bytes, records_of}
 use Rattle.tables.proofs.Reading.{enumerate-append, numbered_fault}
 
 behind-feed : (bytes rest : List ℕ) → EndsInFeed bytes → lines (bytes ++ rest) ≡ lines bytes ++ lines rest

@@ -23,6 +23,14 @@ contains-from_in [] x h = absurd h
 contains-from_in (y ∷ ys) x (inl e) = (0, omega arith, sym e)
 contains-from_in (y ∷ ys) x (inr h) = let c = contains-from_in ys x h in (suc c.0, omega (arith, c.1), c.2)
 
+pub non_decreasing-map : {X Y : Type 0} (g : X → Y) (n : Y → ℕ) (xs : List X) → IsNonDecreasingBy (λ x. n (g x)) xs → IsNonDecreasingBy n (map g xs)
+non_decreasing-map g n [] h i j d le lt = absurd (omega (arith, lt))
+non_decreasing-map g n (x ∷ xs) h i j d le lt =
+    let long = length-map (x ∷ xs) g in
+    let a : n (get_or (map g (x ∷ xs)) i d) ≡ n (g (get_or (x ∷ xs) i x)) = ap n (get_or_default (map g (x ∷ xs)) i d (g x) (omega (arith, le, lt)) ∙ get_or-map g (x ∷ xs) i x (g x) (omega (arith, le, lt, long))) in
+    let b : n (get_or (map g (x ∷ xs)) j d) ≡ n (g (get_or (x ∷ xs) j x)) = ap n (get_or_default (map g (x ∷ xs)) j d (g x) lt ∙ get_or-map g (x ∷ xs) j x (g x) (omega (arith, lt, long))) in
+    omega (arith, a, b, h i j x le (omega (arith, lt, long)))
+
 less : (a b : ℕ) → nat_cmp a b ≡ Less → a < b
 unfolding IsStrictlySortedBy
 less a b h = below_from_sorted (a ∷ b ∷ []) 0 1 0 ((h, tt), (tt, tt)) (omega arith) (omega arith)
@@ -78,20 +86,12 @@ module _ {X : Type 0} (n : X → ℕ) where
   rises-from_sorted [] h = tt
   rises-from_sorted (x ∷ xs) h = (rises-above x xs h.0, rises-from_sorted xs h.1)
 
-  non_decreasing-keys : (xs : List X) → IsNonDecreasingBy n xs → IsNonDecreasing (map n xs)
-  non_decreasing-keys [] h i j d le lt = absurd (omega (arith, lt))
-  non_decreasing-keys (x ∷ xs) h i j d le lt =
-      let long = length-map (x ∷ xs) n in
-      let a : get_or (map n (x ∷ xs)) i d ≡ n (get_or (x ∷ xs) i x) = get_or_default (map n (x ∷ xs)) i d (n x) (omega (arith, le, lt)) ∙ get_or-map n (x ∷ xs) i x (n x) (omega (arith, le, lt, long)) in
-      let b : get_or (map n (x ∷ xs)) j d ≡ n (get_or (x ∷ xs) j x) = get_or_default (map n (x ∷ xs)) j d (n x) lt ∙ get_or-map n (x ∷ xs) j x (n x) (omega (arith, lt, long)) in
-      omega (arith, a, b, h i j x le (omega (arith, lt, long)))
-
   -- a list whose keys rise is what its things are in the order of their keys
   pub sorted-same : (xs ys : List X) → IsStrictlyIncreasing (map n xs) → IsPermutation xs ys → IsNonDecreasingBy n ys → xs ≡ ys
   sorted-same xs ys rise p up =
       let sorted = sorted_from_strictly_increasing (map n xs) rise in
       let apart : IsDistinct eqb (map n ys) = IsDistinct-IsPermutation eqb flips (map n xs) (map n ys) (IsPermutation-map n xs ys p) (distinct-from_sorted (map n xs) sorted) in
-      let too = sorted_from_strictly_increasing (map n ys) (IsStrictlyIncreasing-from_distinct (map n ys) (non_decreasing-keys ys up) apart) in
+      let too = sorted_from_strictly_increasing (map n ys) (IsStrictlyIncreasing-from_distinct (map n ys) (non_decreasing-map n (λ m. m) ys up) apart) in
       same-order xs ys (rises-from_sorted xs sorted) (rises-from_sorted ys too)
       (λ x h. in-from_contains ys x (Contains-permutation xs ys x p (contains-from_in xs x h)))
       (λ x h. in-from_contains xs x (Contains-permutation ys xs x (IsPermutation-sym xs ys p) (contains-from_in ys x h)))

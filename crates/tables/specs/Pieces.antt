@@ -1,11 +1,12 @@
 -- Pieces of an input in any order, the records of their lines, and their refused lines by number.
-use Rattle.std.specs.Prelude.{◌≡◌, ℕ, ◌+◌, nat_lt, ⊤, List, [], ◌∷◌, ◌++◌, length, map, filter}
+use Rattle.std.specs.Prelude.{◌≡◌, ℕ, ◌+◌, nat_lt, List, length, map, filter}
 use Rattle.std.specs.List.{flat_map}
 use Rattle.std.specs.List.Sorted.{IsStrictlyIncreasing}
 use Rattle.values.specs.Schema.{Field}
 use Rattle.lines.specs.declared.fault.LineFault.{LineFault}
 use Rattle.lines.specs.Lines.{line_feed, lines}
 use Rattle.lines.specs.Input.{good, refused}
+use Rattle.lines.specs.Pieces.{AllButLast, EndsInFeed}
 use Rattle.groups.specs.Rows.{Row}
 
 -- a piece of an input: its index among the pieces, and its bytes
@@ -41,17 +42,6 @@ refused_numbered fields pieces =
 -- the pieces stand by their indexes, and none of these twice
 abbrev pub AreInOrder : List IndexedPiece → Type 0
 AreInOrder pieces = IsStrictlyIncreasing (map (λ piece. piece.index) pieces)
-
--- the last of the bytes is a line feed
-pub record EndsInFeed (bytes : List ℕ) : Type 0 where
-  pub front : List ℕ
-  pub is : bytes ≡ front ++ line_feed ∷ []
-
--- what is said of each thing of a list but the last
-abbrev pub AllButLast : {A : Type 0} → (A → Type 0) → List A → Type 0
-AllButLast P [] = ⊤
-AllButLast P (x ∷ []) = ⊤
-AllButLast P (x ∷ y ∷ ys) = P x × AllButLast P (y ∷ ys)
 
 -- the pieces stand in their order, are joined the input, and each but the last ends in a line feed
 pub record IsCutInto (input : List ℕ) (pieces : List IndexedPiece) : Type 0 where
