@@ -1,5 +1,5 @@
 -- What is kept of a group, and tables, by the members of the groups.
-use Rattle.std.proofs.Common.{◌≡◌, ◌≢◌, ◌+◌, ◌<◌, ◌≤◌, ◌^◌, ℕ, suc, ℤ, pos, ◌+ℤ◌, Bool, true, false, ◌||◌, cond, List, [], ◌∷◌, ◌++◌, length, map, filter, filter_map, Option, Some, None, IfSome, unwrap_or, refl, sym, ap, subst, ◌∙◌, arith, length-append}
+use Rattle.std.proofs.Common.{◌≡◌, ◌≢◌, ◌+◌, ◌<◌, ◌≤◌, ◌^◌, ℕ, suc, ℤ, ◌+ℤ◌, Bool, true, false, ◌||◌, cond, List, [], ◌∷◌, ◌++◌, length, map, filter, filter_map, Option, Some, None, IfSome, unwrap_or, refl, sym, ap, subst, ◌∙◌, arith, length-append}
 use Rattle.std.proofs.lemmas.Int.{ints}
 use Rattle.std.proofs.lemmas.List.{map-append}
 use Rattle.std.proofs.lemmas.List.Elements.{filter-append, filter_map-append}
@@ -7,16 +7,19 @@ use Rattle.std.proofs.lemmas.List.Folds.{list_any-append}
 use Rattle.std.specs.List.{list_any}
 use Rattle.std.specs.Cmp.{eq_by_cmp_equiv}
 use Rattle.std.specs.FinMap as fin
-use Rattle.values.specs.Datum.{Datum}
+use Rattle.values.specs.Order.{value_order}
 use Rattle.query_check.specs.declared.function.ColumnFunction.{ColumnFunction}
 use Rattle.query_check.specs.declared.function.ColumnFunction.TheVariants as function
 use Rattle.groups.specs.Rows.{Row, value_at, is_present, number_of, column_values, column_numbers}
-use Rattle.groups.specs.Functions.{total}
+use Rattle.groups.specs.Functions.{total, least, greatest}
 use Rattle.groups.specs.Groups.{Key, project, key_order, same_key, each_once, keys, members}
-use Rattle.groups.specs.Kept.{Kept, nothing, counted, summed, averaged, kept, taken, argument, joined, kept_in}
+use Rattle.groups.specs.Seen.{falling, first_by, set_of}
+use Rattle.groups.specs.Kept.{Kept, counted, summed, averaged, distinct, lowest, highest, kept, taken, argument, joined}
 use Rattle.groups.specs.Held.{Held, held, all_taken, all_joined, with_row, join}
 use Rattle.groups.specs.Table.{Contents, IsTableOf, IsAdded, IsPut, IsJoined, HasPlace, IsFitting, CanJoin, IsGroupWithin, AreGroupsWithin, grown, join_options}
-use Rattle.groups.proofs.Order.{key_total, same_key-Decides}
+use Rattle.groups.proofs.Order.{key_total}
+use Rattle.groups.proofs.Firsts.{present-all, least-append, least-one, greatest-append, greatest-one}
+use Rattle.groups.proofs.Sets.{union-append}
 
 pub same_held : (g h : Held) → g.lines ≡ h.lines → g.parts ≡ h.parts → g ≡ h
 same_held g h p q i = record { lines = p i; parts = q i }
@@ -45,19 +48,22 @@ numbers_total-append place l m = ap total (numbers-append place l m) ∙ total-a
 kept-append : (f : ColumnFunction) (l m : List Row) → kept f (l ++ m) ≡ joined (kept f l) (kept f m)
 kept-append function.CountRows l m = refl
 kept-append (function.Count place) l m = ap counted (count-append place l m)
-kept-append (function.CountDistinct place) l m = refl
+kept-append (function.CountDistinct place) l m = ap distinct (ap set_of (values-append place l m) ∙ union-append (column_values place l) (column_values place m))
 kept-append (function.Sum place) l m = λ i. summed (numbers_total-append place l m i) (numbers_count-append place l m i)
-kept-append (function.Min place) l m = refl
-kept-append (function.Max place) l m = refl
+kept-append (function.Min place) l m = ap lowest (ap least (values-append place l m) ∙ least-append (column_values place l) (column_values place m))
+kept-append (function.Max place) l m = ap highest (ap greatest (values-append place l m)
+    ∙ greatest-append (column_values place l) (column_values place m) (present-all (map (value_at place) l)) (present-all (map (value_at place) m)))
 kept-append (function.Avg place) l m = λ i. averaged (numbers_total-append place l m i) (numbers_count-append place l m i)
 
 kept-taken : (f : ColumnFunction) (l : List Row) (row : Row) → taken (kept f l) (argument f row) ≡ kept f (l ++ row ∷ [])
 kept-taken function.CountRows l row = refl
 kept-taken (function.Count place) l row = sym (ap counted (count-append place l (row ∷ [])))
-kept-taken (function.CountDistinct place) l row = refl
+kept-taken (function.CountDistinct place) l row = sym (kept-append (function.CountDistinct place) l (row ∷ []))
 kept-taken (function.Sum place) l row = sym (λ i. summed (numbers_total-append place l (row ∷ []) i) (numbers_count-append place l (row ∷ []) i))
-kept-taken (function.Min place) l row = refl
-kept-taken (function.Max place) l row = refl
+kept-taken (function.Min place) l row = ap (λ d. lowest (first_by value_order (least (column_values place l)) d)) (sym (least-one (value_at place row)))
+    ∙ sym (kept-append (function.Min place) l (row ∷ []))
+kept-taken (function.Max place) l row = ap (λ d. highest (first_by falling (greatest (column_values place l)) d)) (sym (greatest-one (value_at place row)))
+    ∙ sym (kept-append (function.Max place) l (row ∷ []))
 kept-taken (function.Avg place) l row = sym (λ i. averaged (numbers_total-append place l (row ∷ []) i) (numbers_count-append place l (row ∷ []) i))
 
 parts-append : (fs : List ColumnFunction) (l m : List Row) → map (λ f. kept f (l ++ m)) fs ≡ all_joined (map (λ f. kept f l) fs) (map (λ f. kept f m) fs)

@@ -1,12 +1,12 @@
 -- A table of groups, apart from where it lies in memory, and what it is for a table to be that of a list of records.
-use Rattle.std.specs.Prelude.{◌≡◌, ◌+◌, ◌<◌, ◌≤◌, ◌^◌, ℕ, Bool, cond, List, map, length, [], Option, Some, None, IfSome, unwrap_or, if◌then◌else◌}
+use Rattle.std.specs.Prelude.{◌≡◌, ◌+◌, ◌<◌, ◌≤◌, ◌^◌, ℕ, cond, List, map, length, [], Option, Some, None, IfSome, unwrap_or, if◌then◌else◌}
 use Rattle.std.specs.declared.alloc.Global.{Global}
 use Rattle.std.specs.declared.vec.Vec.{Vec}
 use Rattle.std.specs.Coded.{Coded}
 use Rattle.std.specs.FinMap as fin
 use Rattle.std.specs.List.{list_any}
 use Rattle.values.specs.declared.value.Value.{Value}
-use Rattle.values.specs.Datum.{Datum, data_of}
+use Rattle.values.specs.Datum.{data_of}
 use Rattle.query_check.specs.declared.function.ColumnFunction.{ColumnFunction}
 use Rattle.groups.specs.Coding.{coded_key}
 use Rattle.groups.specs.Rows.{Row}

@@ -35,7 +35,7 @@ impl Table {
     ghost use Rattle.std.specs.FinMap as fin;
     ghost use Rattle.values.specs.Datum.{data_of};
     ghost use Rattle.groups.specs.Groups.{Key};
-    ghost use Rattle.groups.specs.Held.{AreServed, IsNarrowRow, held};
+    ghost use Rattle.groups.specs.Held.{IsNarrowRow, held};
     ghost use Rattle.groups.specs.GroupRows.{SameBag, group_row_in, group_rows};
     ghost use Rattle.groups.specs.Table.{CanJoin, HasPlace, IsAdded, IsPut, IsFitting, IsJoined, IsTableOf, TakesOne};
 
@@ -45,7 +45,6 @@ impl Table {
         set: &[usize],
         functions: &[ColumnFunction],
     ) -> Result<Table, AllocError>
-        requires { AreServed functions.now }
         ensures empty { IfOk result (λ table. IsTableOf set.now functions.now table []) }
     {
         if set.is_empty() {
@@ -59,7 +58,6 @@ impl Table {
 
     /// The table of no records under the empty set, whose one key is there from the start.
     fn with_empty_key(alloc: Global, functions: &[ColumnFunction]) -> Result<Table, AllocError>
-        requires { AreServed functions.now }
         ensures { IfOk result (λ table. (k : Key) → IsPut fin.empty table [] (held functions.now []) k) }
     {
         let mut table = Table {
@@ -78,7 +76,6 @@ impl Table {
         functions: &[ColumnFunction],
         row: &[Value],
     ) -> Result<(), AllocError>
-        requires served { AreServed functions.now }
         requires narrow { IsNarrowRow (data_of row.now) }
         requires room { TakesOne set.now functions.now self.old }
         ensures added { OnOk result ((rows : List Row) → IsTableOf set.now functions.now self.old rows
@@ -101,7 +98,7 @@ impl Table {
     /// One group for each key of the records, in no order that is said.
     pub fn finish(self) -> Result<Vec<Group>, AllocError>
         ensures groups { IfOk result (λ groups. (set : List ℕ) (functions : List ColumnFunction) (rows : List Row)
-            → AreServed functions → IsTableOf set functions self rows → SameBag (map group_row_in groups.items) (group_rows set functions rows)) }
+            → IsTableOf set functions self rows → SameBag (map group_row_in groups.items) (group_rows set functions rows)) }
     {
         let Table { alloc, groups } = self;
         groups_of(alloc, groups)
@@ -114,17 +111,15 @@ impl Table {
         key: Vec<Value>,
         row: &[Value],
     ) -> Result<(), AllocError>
-        requires served { AreServed functions.now }
         requires narrow { IsNarrowRow (data_of row.now) }
         requires place { HasPlace functions.now (fin.get self.old (data_of key.items)) }
         ensures { OnOk result ((k : Key) → IsAdded functions.now self.old self.new (data_of key.items) (data_of row.now) k) }
     {
         if let Some(group) = self.groups.get_mut(&key) {
-            group.add(functions, row);
-            return Ok(());
+            return group.add(functions, row);
         }
         let mut group = Accumulators::new(self.alloc, functions)?;
-        group.add(functions, row);
+        group.add(functions, row)?;
         self.groups.insert(key, group)?;
         Ok(())
     }
@@ -135,8 +130,7 @@ impl Table {
         ensures { OnOk result ((k : Key) → IsPut self.old self.new (data_of key.items) part k) }
     {
         if let Some(group) = self.groups.get_mut(&key) {
-            group.absorb(part);
-            return Ok(());
+            return group.absorb(part);
         }
         self.groups.insert(key, part)?;
         Ok(())
