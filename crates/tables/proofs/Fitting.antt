@@ -1,19 +1,35 @@
 -- Rows that are the same bag as those of the groups of records fit the sets and the functions.
-use Rattle.std.proofs.Common.{◌≡◌, ◌==◌, ◌+◌, ◌<◌, ◌≤◌, ℕ, zero, suc, nat_lt, Bool, true, false, not, ◌&&◌, ◌||◌, cond, List, [], ◌∷◌, ◌++◌, length, map, refl, sym, ap, subst, ◌∙◌, arith}
+use Rattle.std.proofs.Common.{◌≡◌, ◌≢◌, ◌==◌, ◌+◌, ◌<◌, ◌≤◌, ℕ, zero, suc, nat_lt, Bool, true, false, not, ◌&&◌, ◌||◌, cond, List, [], ◌∷◌, ◌++◌, length, map, get_or, refl, sym, ap, subst, ◌∙◌, arith}
 use Rattle.std.proofs.lemmas.Bool.Decides.{nat_tests}
-use Rattle.std.proofs.lemmas.List.{length-map, map-append}
+use Rattle.std.proofs.lemmas.List.{get_or-map, length-map, map-append}
 use Rattle.std.proofs.lemmas.List.Elements.{All-from_recursion}
+use Rattle.std.proofs.lemmas.Map.Made.{AllPairs-from_IsDistinct}
 use Rattle.std.specs.Bool.{Decides}
-use Rattle.std.specs.List.{All, AllByRecursion, IsDistinct, enumerate_from, flat_map, list_any, slice_index_or}
+use Rattle.std.specs.List.{All, AllByRecursion, AllPairs, IsDistinct, enumerate_from, flat_map, list_any, slice_index_or}
+use Rattle.values.specs.Schema.{Field}
+use Rattle.query_tree.specs.Syntax.{TreeForm}
 use Rattle.query_check.specs.declared.function.ColumnFunction.{ColumnFunction}
+use Rattle.query_check.specs.Functions.{functions_of}
+use Rattle.query_check.specs.Sets.{sets_of}
 use Rattle.groups.specs.Rows.{Row}
 use Rattle.groups.specs.Groups.{Key, each_once, keys, members, project, same_key}
 use Rattle.groups.specs.GroupRows.{SameBag, weigh, group_row}
 use Rattle.groups.proofs.GroupsLaw.{keys-distinct}
 use Rattle.groups.proofs.Order.{same_key-Decides}
 use Rattle.tables.specs.Found.{Found}
-use Rattle.tables.specs.Results.{AreFitting, IsFitting, all_found, found, same_group}
+use Rattle.tables.specs.Fitting.{AreFitting}
+use Rattle.tables.specs.Results.{all_found, found}
 use Rattle.tables.proofs.Finding.{set_groups}
+
+-- a row fits grouping sets and set functions: its index is that of a set, its key has a value for each column of the set, and it has a cell for each function
+record IsFitting (sets : List (List ℕ)) (functions : List ColumnFunction) (row : Found) : Type 0 where
+  within : row.0 < length sets
+  one_each : length row.1.key ≡ length (slice_index_or sets row.0 [])
+  cells : length row.1.cells ≡ length functions
+
+-- rows are of one group where their index and their key are the same
+abbrev same_group : ℕ × Key → ℕ × Key → Bool
+same_group g h = (g.0 == h.0) && same_key g.1 h.1
 
 -- ---- what a test says of each thing of a bag
 
@@ -217,15 +233,29 @@ weigh-places : {A B : Type 0} (f : B → ℕ) (g : A → B) (xs : List A) → we
 weigh-places f g [] = refl
 weigh-places f g (x ∷ xs) = ap (λ n. f (g x) + n) (weigh-places f g xs)
 
-all-fitting : (sets : List (List ℕ)) (fs : List ColumnFunction) (xs : List Found) → AllByRecursion (λ r. fits sets fs r ≡ true) xs → AllByRecursion (IsFitting sets fs) xs
-all-fitting sets fs [] h = tt
-all-fitting sets fs (x ∷ xs) h = (fitting-from sets fs x h.0, all-fitting sets fs xs h.1)
+-- each thing of the list is as the test says
+indexes : (sets : List (List ℕ)) (fs : List ColumnFunction) (xs : List Found) → AllByRecursion (λ r. fits sets fs r ≡ true) xs → AllByRecursion (IsFitting sets fs) xs
+indexes sets fs [] h = tt
+indexes sets fs (x ∷ xs) h = (fitting-from sets fs x h.0, indexes sets fs xs h.1)
 
-pub found-fit : (sets : List (List ℕ)) (fs : List ColumnFunction) (rows : List Row) (xs : List Found) → SameBag xs (all_found sets fs rows) → AreFitting sets fs xs
-found-fit sets fs rows xs same = record {
-  each = All-from_recursion (IsFitting sets fs) xs
-      (all-fitting sets fs xs (all-same (fits sets fs) xs (all_found sets fs rows) same (rows-fit sets fs rows 0 sets refl (λ i h. refl))));
-  once = distinct-same same_group same_group-Decides (map place xs) (map place (all_found sets fs rows))
-      (λ f. weigh-places f place xs ∙ same (λ r. f (place r)) ∙ sym (weigh-places f place (all_found sets fs rows)))
-      (places-distinct rows 0 sets fs);
-}
+places-apart : (xs : List Found) → IsDistinct same_group (map place xs) → AllPairs (λ x y. x.0 ≡ y.0 → x.1.key ≢ y.1.key) xs
+places-apart xs d = λ i j e l m same keys.
+    let long = length-map xs place in
+    let a : get_or (map place xs) i (place e) ≡ place (get_or xs i e) = get_or-map place xs i e (place e) (omega (arith, l, m)) in
+    let b : get_or (map place xs) j (place e) ≡ place (get_or xs j e) = get_or-map place xs j e (place e) m in
+    let both : place (get_or xs i e) ≡ place (get_or xs j e) = λ k. (same k, keys k) in
+    AllPairs-from_IsDistinct same_group-Decides (map place xs) d i j (place e) l (omega (arith, m, long)) (a ∙ both ∙ sym b)
+
+pub found-fit : (fields : List Field) (t : TreeForm) (rows : List Row) (xs : List Found) → SameBag xs (all_found (sets_of fields t) (functions_of fields t) rows) → AreFitting fields t xs
+found-fit fields t rows xs same =
+    let sets = sets_of fields t in
+    let fs = functions_of fields t in
+    let each = All-from_recursion (IsFitting sets fs) xs (indexes sets fs xs (all-same (fits sets fs) xs (all_found sets fs rows) same (rows-fit sets fs rows 0 sets refl (λ i h. refl)))) in
+    record {
+      indexes = λ k d l. (each k d l).within;
+      keys = λ k d l. (each k d l).one_each;
+      cells = λ k d l. (each k d l).cells;
+      distinct = places-apart xs (distinct-same same_group same_group-Decides (map place xs) (map place (all_found sets fs rows))
+          (λ f. weigh-places f place xs ∙ same (λ r. f (place r)) ∙ sym (weigh-places f place (all_found sets fs rows)))
+          (places-distinct rows 0 sets fs));
+    }

@@ -17,14 +17,21 @@ use Rattle.tables.specs.Notes.{note_of, notes_in}
 use Rattle.tables.specs.Pieces.{IndexedPiece, all_lines, records_of, refused_within}
 use Rattle.tables.specs.Sets.{AreTablesOf}
 
+-- how many lines, and how many refused lines, a partial result counts
+abbrev pub lines_counted : Partial → ℕ
+lines_counted partial = partial.lines
+
+abbrev pub refused_counted : Partial → ℕ
+refused_counted partial = partial.refused
+
 -- Under a schema and a query a partial result stands for pieces, in whatever order: it has the query's grouping sets and set functions, one table for
 -- each set, which is that of the good records of all lines of the pieces, the numbers of all lines and of all refused lines, and of each piece its note.
 pub record StandsFor (fields : List Field) (q : TreeForm) (partial : Partial) (pieces : List IndexedPiece) : Type 0 where
   pub sets : contents partial.shape.sets.items ≡ sets_of fields q
   pub functions : partial.shape.functions.items ≡ functions_of fields q
   pub tables : AreTablesOf (sets_of fields q) (functions_of fields q) partial.tables (records_of fields pieces)
-  pub lines : partial.lines ≡ length (all_lines pieces)
-  pub refused : partial.refused ≡ length (refused_within fields pieces)
+  pub lines : lines_counted partial ≡ length (all_lines pieces)
+  pub refused : refused_counted partial ≡ length (refused_within fields pieces)
   pub notes : IsPermutation (map (note_of fields) pieces) (notes_in partial.notes)
 
 -- partial results have one shape where their grouping sets and set functions are the same

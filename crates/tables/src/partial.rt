@@ -41,9 +41,9 @@ impl Partial {
     ghost use Rattle.query_check.specs.Sets.{sets_of};
     ghost use Rattle.query_check.specs.Functions.{functions_of};
     ghost use Rattle.tables.specs.Found.{found_in, refused_in};
-    ghost use Rattle.tables.specs.Partials.{GivesGroups, HaveOneShape, IsResultOf, StandsFor};
+    ghost use Rattle.tables.specs.Partials.{GivesGroups, HaveOneShape, IsResultOf, StandsFor, lines_counted, refused_counted};
     ghost use Rattle.tables.specs.Pieces.{AreInOrder, IndexedPiece, IsCutInto, all_lines, records_of, refused_numbered, refused_within};
-    ghost use Rattle.tables.specs.Results.{AreFitting};
+    ghost use Rattle.tables.specs.Fitting.{AreFitting};
 
     /// The result over no pieces.
     ///
@@ -107,7 +107,8 @@ impl Partial {
 
     /// The number of all lines of the pieces.
     pub fn lines(&self) -> u64
-        ensures lines { (fields : List Field) (q : TreeForm) (pieces : List IndexedPiece) → StandsFor fields q self.now pieces → result ≡ length (all_lines pieces) }
+        ensures lines { result ≡ lines_counted self.now }
+        ensures of_pieces { (fields : List Field) (q : TreeForm) (pieces : List IndexedPiece) → StandsFor fields q self.now pieces → result ≡ length (all_lines pieces) }
         ensures few { result < 2 ^ 63 }
     {
         self.lines
@@ -115,8 +116,9 @@ impl Partial {
 
     /// The number of all refused lines of the pieces.
     pub fn refused(&self) -> u64
-        ensures refused { (fields : List Field) (q : TreeForm) (pieces : List IndexedPiece) → StandsFor fields q self.now pieces → result ≡ length (refused_within fields pieces) }
-        ensures fewer { result ≤ self.now.lines }
+        ensures refused { result ≡ refused_counted self.now }
+        ensures of_pieces { (fields : List Field) (q : TreeForm) (pieces : List IndexedPiece) → StandsFor fields q self.now pieces → result ≡ length (refused_within fields pieces) }
+        ensures fewer { result ≤ lines_counted self.now }
     {
         self.refused
     }
@@ -137,7 +139,7 @@ impl Partial {
     /// `AllocError` where there is no memory for it; both are given up then.
     pub fn merge(self, other: Partial) -> Result<Partial, AllocError>
         requires one_shape { HaveOneShape self other }
-        requires few { self.lines + other.lines < 2 ^ 63 }
+        requires few { lines_counted self + lines_counted other < 2 ^ 63 }
         ensures stands { IfOk result (λ merged. (fields : List Field) (q : TreeForm) (pieces more : List IndexedPiece)
             → StandsFor fields q self pieces → StandsFor fields q other more → StandsFor fields q merged (pieces ++ more)) }
     {
@@ -172,7 +174,7 @@ impl Partial {
         ensures rows { IfOk result (λ groups. (pieces : List IndexedPiece) → StandsFor (fields_of_plan plan.now) (form_of_plan plan.now) self pieces
             → GivesGroups (fields_of_plan plan.now) (form_of_plan plan.now) groups (records_of (fields_of_plan plan.now) pieces)) }
         ensures fit { IfOk result (λ groups. (pieces : List IndexedPiece) → StandsFor (fields_of_plan plan.now) (form_of_plan plan.now) self pieces
-            → AreFitting (sets_of (fields_of_plan plan.now) (form_of_plan plan.now)) (functions_of (fields_of_plan plan.now) (form_of_plan plan.now)) (found_in groups)) }
+            → AreFitting (fields_of_plan plan.now) (form_of_plan plan.now) (found_in groups)) }
         // The refused lines, where the pieces stand in their order.
         ensures refused { IfOk result (λ groups. (pieces : List IndexedPiece) → StandsFor (fields_of_plan plan.now) (form_of_plan plan.now) self pieces
             → AreInOrder pieces → refused_in groups ≡ refused_numbered (fields_of_plan plan.now) pieces) }

@@ -1,7 +1,6 @@
 ghost use Rattle.std.specs.Prelude.{ℕ, IfOk, List};
 ghost use Rattle.query_check.specs.declared.function.ColumnFunction.{ColumnFunction};
 ghost use Rattle.groups.specs.Rows.{Row};
-
 ghost use Rattle.tables.specs.Sets.{AreGroupsOf, AreTablesOf};
 
 use groups::{Group, Table};
