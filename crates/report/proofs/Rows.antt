@@ -26,6 +26,7 @@ use Rattle.report.specs.Fitting.{AreFitting}
 use Rattle.report.specs.Laws.{IsTheOrder, IsBlind}
 use Rattle.report.proofs.Sorting.{all-in_order, Apart, apart-in_order, ascends-in_order, ascends-sorted, bag-permutation, one-list, weigh-in_order}
 use Rattle.report.proofs.Sameness.{both-tied, found-tells, same_found}
+use Rattle.report.proofs.Maps.{map-twice}
 use Rattle.report.proofs.Places.{different-distinct, order-same_set}
 
 -- ---- one row and another
@@ -128,10 +129,6 @@ is-blind fields t found fit others bag =
 -- what a reference to a group of the code shows
 abbrev pub row_at : Bor (ℕ × Group) → Found
 row_at r = row_of r.now
-
-map-twice : {X Y Z : Type 0} (g : Y → Z) (f : X → Y) (xs : List X) → map g (map f xs) ≡ map (λ x. g (f x)) xs
-map-twice g f [] = refl
-map-twice {X} {Y} {Z} g f (x ∷ xs) = ap (λ (zs : List Z). g (f x) ∷ zs) (map-twice g f xs)
 
 -- references that are sorted by index and key are the rows in their order
 pub sorted-rows : (fields : List Field) (t : TreeForm) (rows : List (ℕ × Group)) (refs sorted : List (Bor (ℕ × Group))) → map (λ (r : Bor (ℕ × Group)). r.now) refs ≡ rows → IsPermutation refs sorted
