@@ -115,14 +115,14 @@ the-order fields t found fit = record {
   ascends = ascends-in_order (before-total fields t) found;
   only = λ others bag up.
       sym (one-list (before-total fields t) same_found found-tells (arranged fields t found) others (apart-fitting fields t found fit) (ascends-in_order (before-total fields t) found) up
-        (λ f. weigh-in_order (before fields t) f found ∙ bag f));
+      (λ f. weigh-in_order (before fields t) f found ∙ bag f));
 }
 
 pub is-blind : (fields : List Field) (t : TreeForm) (found : List Found) → AreFitting fields t found → IsBlind fields t found
 is-blind fields t found fit others bag =
     sym (one-list (before-total fields t) same_found found-tells (arranged fields t found) (arranged fields t others) (apart-fitting fields t found fit)
-      (ascends-in_order (before-total fields t) found) (ascends-in_order (before-total fields t) others)
-      (λ f. weigh-in_order (before fields t) f found ∙ bag f ∙ sym (weigh-in_order (before fields t) f others)))
+    (ascends-in_order (before-total fields t) found) (ascends-in_order (before-total fields t) others)
+    (λ f. weigh-in_order (before fields t) f found ∙ bag f ∙ sym (weigh-in_order (before fields t) f others)))
 
 -- ---- the code's sort
 

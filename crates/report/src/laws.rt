@@ -13,6 +13,6 @@ pub fn order_law()
 {}
 
 /// A law: of groups that fit a query, the rows in their order are the same in whatever order the groups are found.
-pub fn blind_law()
+pub fn arranged_law()
     ensures { (fields : List Field) (t : TreeForm) (found : List Found) → AreFitting fields t found → IsBlind fields t found }
 {}

@@ -16,7 +16,7 @@ loop-group-init c =
     let t = form_of_plan c.args.plan.now in
     let found = found_in c.args.groups.now in
     let same = c.rows.ensures in
-    let rest : c.into_iter-group-iterator.result.rest.items ≡ c.in_ok-ordered.ordered.items = c.into_iter-group-iterator.ensures.into_iter_gives in
+    let rest : c.into_iter-group-iterator.result.rest.items ≡ c.in_ok-ordered.ordered.items = c.into_iter-group-iterator.ensures.into_iter_gives.0 in
     let left : map row_at c.into_iter-group-iterator.result.rest.items ≡ arranged fields t found =
     ap (map row_at) rest
     ∙ c.in_ok-ordered.ensures fields t (subst (λ (f : List Found). AreFitting fields t f) (sym same) c.requires)
