@@ -1,0 +1,6 @@
+pub mod Sorting
+pub mod Sameness
+pub mod Places
+pub mod Rows
+pub mod Keys
+pub mod Maps
