@@ -11,3 +11,4 @@ pub mod Cutting
 pub mod Shuffling
 pub mod Numbered
 pub mod Shapes
+pub mod DistinctSets

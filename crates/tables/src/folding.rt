@@ -68,7 +68,7 @@ impl Folding {
         ensures refused { self.new.refused.items ≡ self.old.refused.items }
     {
         self.tables
-            .add(plan.sets(), plan.functions(), taken.values())
+            .add(plan.sets(), plan.functions(), taken.into_values())
     }
 }
 
