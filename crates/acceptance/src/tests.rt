@@ -1,4 +1,6 @@
 mod counting;
+mod plans;
+mod queries;
 mod serving;
 mod streams;
 mod words;
