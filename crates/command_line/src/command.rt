@@ -20,20 +20,21 @@ use std::alloc::Global;
 const WORKERS: usize = 4;
 
 /// What stands at the top of the help.
-const ABOUT: &str = "Answers one SQL aggregate query over a file of JSON lines";
+const ABOUT: &str =
+    "Checks one SQL aggregate query, and counts the lines of a file and those refused";
 
 /// What help says of the columns.
 const COLUMNS_HELP: &str = "The columns that the query can name, as NAME:TYPE,NAME:TYPE,..";
 
 /// What help says of the query.
-const QUERY_HELP: &str = "The query to answer";
+const QUERY_HELP: &str = "The query";
 
 /// What help says of the size of a piece.
-const PIECE_HELP: &str = "How many bytes of the file are worked on at once, 1 to 67108864";
+const PIECE_HELP: &str = "How many bytes are worked on at once, 1 to 67108864";
 
 /// What help says of the limit of refused lines.
 const MAX_REFUSED_HELP: &str =
-    "Give no report where more than N lines are refused, 0 to 18446744073709551615";
+    "How many lines may be refused, 0 to 18446744073709551615; any number where it is not given";
 
 /// What help says of the file.
 const FILE_HELP: &str = "The file to read, with one JSON object on each line";

@@ -6,7 +6,7 @@ use Rattle.lines.specs.Lines.{lines}
 use Rattle.lines.specs.Input.{refused}
 use Rattle.engine.specs.Written.{AppendsBeginning}
 use Rattle.engine.specs.declared.fault.RunFault.{RunFault}
-use Rattle.engine.specs.declared.fault.RunFault.TheVariants.{Reading, OutOfMemory, WritingReport}
+use Rattle.engine.specs.declared.fault.RunFault.TheVariants.{Reading, OutOfMemory, TooManyRefused, WritingReport, WritingRefused}
 
 -- `lines N` and `refused M`, each ended by a line feed: how many lines the input has, and how many of them are refused
 abbrev pub count_text : List Field → List ℕ → List ℕ
@@ -17,3 +17,5 @@ abbrev pub Leaves : RunFault → List Field → Option (List ℕ) → Option (Li
 Leaves Reading fields input old new = Keeps old new
 Leaves OutOfMemory fields input old new = Keeps old new
 Leaves WritingReport fields input old new = IfSome input (λ bytes. AppendsBeginning old new (count_text fields bytes))
+Leaves (TooManyRefused limit) fields input old new = ⊥
+Leaves WritingRefused fields input old new = ⊥

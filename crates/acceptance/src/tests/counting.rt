@@ -128,7 +128,9 @@ fn prints_faults(rt: HostRuntime) -> Result<(), Fail> {
     let texts = [
         (RunFault::Reading, "reading failed"),
         (RunFault::OutOfMemory, "out of memory"),
+        (RunFault::TooManyRefused(3), "more than 3 refused lines"),
         (RunFault::WritingReport, "writing the report failed"),
+        (RunFault::WritingRefused, "writing the refused lines failed"),
     ];
     for (fault, wanted) in texts {
         let printed = fault.to_string(rt.alloc())?;

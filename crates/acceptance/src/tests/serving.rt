@@ -15,9 +15,19 @@ struct Ended {
     opened: u64,
 }
 
-/// Runs the program on columns, and a file where it can be opened.
-fn run(alloc: Global, columns: &str, file: Option<Source<'_>>) -> Ended {
-    let words = ["jlreport", "--columns", columns, "events.jsonl"];
+/// A query that is good under all columns.
+const QUERY: &str = "SELECT COUNT(*) AS n FROM lines";
+
+/// Runs the program on columns and a query, and a file where it can be opened.
+fn run(alloc: Global, columns: &str, query: &str, file: Option<Source<'_>>) -> Ended {
+    let words = [
+        "jlreport",
+        "--columns",
+        columns,
+        "--query",
+        query,
+        "events.jsonl",
+    ];
     let mut out = Vec::new(alloc);
     let mut err = Vec::new(alloc);
     let mut opened = 0u64;
@@ -45,21 +55,26 @@ fn assert_ended(rt: &impl Abort, ended: &Ended, status: u8, out: &[u8], err: &[u
 
 #[test]
 fn no_line_refused(rt: HostRuntime) {
-    let ended = run(rt.alloc(), "q:int", Some(Source::whole(THREE, 7)));
+    let ended = run(rt.alloc(), "q:int", QUERY, Some(Source::whole(THREE, 7)));
     assert_ended(&rt, &ended, 0, b"lines 3\nrefused 0\n", b"", 1);
-    let ended = run(rt.alloc(), "q:int", Some(Source::whole(b"", 7)));
+    let ended = run(rt.alloc(), "q:int", QUERY, Some(Source::whole(b"", 7)));
     assert_ended(&rt, &ended, 0, b"lines 0\nrefused 0\n", b"", 1);
 }
 
 #[test]
 fn some_lines_refused(rt: HostRuntime) {
-    let ended = run(rt.alloc(), "q:int", Some(Source::whole(FOUR_BAD, 7)));
+    let ended = run(rt.alloc(), "q:int", QUERY, Some(Source::whole(FOUR_BAD, 7)));
     assert_ended(&rt, &ended, 1, b"lines 4\nrefused 4\n", b"", 1);
 }
 
 #[test]
 fn schema_refused(rt: HostRuntime) {
-    let ended = run(rt.alloc(), "q:int,q:int", Some(Source::whole(THREE, 7)));
+    let ended = run(
+        rt.alloc(),
+        "q:int,q:int",
+        "SELECT",
+        Some(Source::whole(THREE, 7)),
+    );
     assert_ended(
         &rt,
         &ended,
@@ -71,11 +86,87 @@ fn schema_refused(rt: HostRuntime) {
 }
 
 #[test]
+fn query_refused(rt: HostRuntime) {
+    let cases: [(&str, &[u8]); 6] = [
+        (
+            "SELECT COUNT(*) FROM lines WHERE q ! 1",
+            b"jlreport: query: byte 35: no token\n",
+        ),
+        (
+            "SELECT COUNT(*) FROM table1",
+            b"jlreport: query: byte 21: unexpected\n",
+        ),
+        (
+            "SELECT z, COUNT(*) FROM lines GROUP BY z",
+            b"jlreport: query: unknown column z\n",
+        ),
+        (
+            "SELECT SUM(d) FROM lines",
+            b"jlreport: query: types do not agree\n",
+        ),
+        (
+            "SELECT d FROM lines GROUP BY r",
+            b"jlreport: query: column d is not grouped\n",
+        ),
+        (
+            "SELECT d AS n, COUNT(*) AS n FROM lines GROUP BY d",
+            b"jlreport: query: header n stands twice\n",
+        ),
+    ];
+    for (query, text) in cases {
+        let file = Some(Source::whole(THREE, 7));
+        let ended = run(rt.alloc(), "d:text,r:text,q:int", query, file);
+        assert_ended(&rt, &ended, 2, b"", text, 0);
+    }
+}
+
+/// The schema is read before the query.
+#[test]
+fn schema_and_query_refused(rt: HostRuntime) {
+    let ended = run(rt.alloc(), "", "", Some(Source::whole(THREE, 7)));
+    assert_ended(&rt, &ended, 2, b"", b"jlreport: schema: empty\n", 0);
+    let ended = run(rt.alloc(), "q:int", "", Some(Source::whole(THREE, 7)));
+    assert_ended(
+        &rt,
+        &ended,
+        2,
+        b"",
+        b"jlreport: query: byte 0: unexpected\n",
+        0,
+    );
+}
+
+/// A number out of its range is answered before the schema is read.
+#[test]
+fn number_out_of_range(rt: HostRuntime) {
+    let mut out = Vec::new(rt.alloc());
+    let mut err = Vec::new(rt.alloc());
+    let mut opener = |_path: &str| Some(THREE);
+    let words = [
+        "jlreport",
+        "--columns=",
+        "--query=",
+        "--piece=0",
+        "events.jsonl",
+    ];
+    let asked = settings(rt.alloc(), words.as_slice());
+    assert_eq!(rt;
+        serve(rt.alloc(), asked, &mut opener, &mut out, &mut err),
+        2
+    );
+    assert!(rt; out.is_empty());
+    assert_eq!(rt;
+        err.as_slice(),
+        b"jlreport: a number is out of range\n".as_slice()
+    );
+}
+
+#[test]
 fn words_refused(rt: HostRuntime) {
     let mut out = Vec::new(rt.alloc());
     let mut err = Vec::new(rt.alloc());
     let mut opener = |_path: &str| Some(THREE);
-    let words = ["jlreport", "--columns", "q:int"];
+    let words = ["jlreport", "--columns", "q:int", "--query", QUERY];
     let asked = settings(rt.alloc(), words.as_slice());
     assert_eq!(rt;
         serve(rt.alloc(), asked, &mut opener, &mut out, &mut err),
@@ -113,25 +204,32 @@ fn help_asked_for(rt: HostRuntime) {
         serve(rt.alloc(), asked, &mut opener, &mut out, &mut err),
         0
     );
-    assert!(rt; out.starts_with(b"Counts the lines of a file"));
+    assert!(rt; out.starts_with(b"Checks one SQL aggregate query"));
     assert!(rt; err.is_empty());
 }
 
 #[test]
 fn file_not_opened(rt: HostRuntime) {
-    let ended = run(rt.alloc(), "q:int", None);
+    let ended = run(rt.alloc(), "q:int", QUERY, None);
     assert_ended(&rt, &ended, 3, b"", b"jlreport: cannot open the file\n", 1);
 }
 
 #[test]
 fn file_not_read(rt: HostRuntime) {
-    let ended = run(rt.alloc(), "q:int", Some(Source::failing(THREE)));
+    let ended = run(rt.alloc(), "q:int", QUERY, Some(Source::failing(THREE)));
     assert_ended(&rt, &ended, 3, b"", b"jlreport: reading failed\n", 1);
 }
 
 #[test]
 fn report_not_written(rt: HostRuntime) {
-    let words = ["jlreport", "--columns", "q:int", "events.jsonl"];
+    let words = [
+        "jlreport",
+        "--columns",
+        "q:int",
+        "--query",
+        QUERY,
+        "events.jsonl",
+    ];
     let mut out = Sink {
         room: 3,
         flushes: true,
@@ -154,7 +252,14 @@ fn report_not_written(rt: HostRuntime) {
 /// Where memory is refused the program says so and ends with 4, else it reports.
 #[test]
 fn refusal_of_serve(rt: HostRuntime) {
-    let words = ["jlreport", "--columns", "d:text,q:int", "events.jsonl"];
+    let words = [
+        "jlreport",
+        "--columns",
+        "d:text,q:int",
+        "--query",
+        QUERY,
+        "events.jsonl",
+    ];
     let (mut room, mut note) = ([0u8; 32], [0u8; 32]);
     let (mut out, mut err) = (room.as_mut_slice(), note.as_mut_slice());
     let mut opener = |_path: &str| Some(THREE);
@@ -173,7 +278,14 @@ fn refusal_of_serve(rt: HostRuntime) {
 /// The same of a schema that is refused.
 #[test]
 fn refusal_of_serve_with_a_bad_schema(rt: HostRuntime) {
-    let words = ["jlreport", "--columns", "d:text,q:date", "events.jsonl"];
+    let words = [
+        "jlreport",
+        "--columns",
+        "d:text,q:date",
+        "--query",
+        QUERY,
+        "events.jsonl",
+    ];
     let (mut room, mut note) = ([0u8; 32], [0u8; 64]);
     let (mut out, mut err) = (room.as_mut_slice(), note.as_mut_slice());
     let mut opener = |_path: &str| Some(THREE);
