@@ -1,5 +1,5 @@
 -- Entries of which no two have one key.
-use Rattle.std.proofs.Common.{◌≡◌, Bool, true, false, List, [], ◌∷◌, map, Vec, Global, sym, ◌∙◌}
+use Rattle.std.proofs.Common.{◌≡◌, false, [], ◌∷◌, map, Vec, Global, sym, ◌∙◌}
 use Rattle.std.specs.List.{IsDistinct, AllByRecursion}
 use Rattle.std.specs.Map.{keys_of}
 use Rattle.values.specs.declared.value.Value.{Value}

@@ -1,11 +1,11 @@
 -- The entries of a hashed map from keys to groups, and what is found in them by a key.
-use Rattle.std.proofs.Common.{◌≡◌, ◌+◌, ◌<◌, ◌^◌, IfSome, Bool, true, false, cond, List, [], ◌∷◌, length, Option, Some, None, Vec, Global, unwrap_or, refl, sym, ap, subst, ◌∙◌}
+use Rattle.std.proofs.Common.{◌≡◌, IfSome, Bool, true, false, cond, List, [], ◌∷◌, Option, Some, None, Vec, Global, refl, sym, ap, subst, ◌∙◌}
 use Rattle.std.specs.Cmp.{eq_by_cmp_equiv}
 use Rattle.std.specs.Cmp.Lexicographic.{pointwise}
 use Rattle.std.specs.FinMap.{find, get, get-from_entries}
 use Rattle.std.specs.Map.{lookup, keys_of, KeepsOthers}
 use Rattle.std.specs.List.{IsDistinct}
-use Rattle.values.specs.Datum.{Datum, data_of}
+use Rattle.values.specs.Datum.{data_of}
 use Rattle.values.specs.declared.value.Value.{Value}
 use Rattle.query_check.specs.declared.function.ColumnFunction.{ColumnFunction}
 use Rattle.groups.specs.Rows.{Row}

@@ -1,5 +1,5 @@
 -- The definitions, computed on examples: the records of three lines with the columns d, r and q.
-use Rattle.std.proofs.Common.{◌≡◌, ℕ, List, [], ◌∷◌, pos, negsuc, refl, codes}
+use Rattle.std.proofs.Common.{◌≡◌, List, [], ◌∷◌, pos, negsuc, refl, codes}
 use Rattle.values.specs.Datum.{whole, text, null}
 use Rattle.query_check.specs.declared.function.ColumnFunction.TheVariants as function
 use Rattle.groups.specs.Rows.{Row}

@@ -1,22 +1,23 @@
 -- The lines of a table's groups are those of its records.
-use Rattle.std.proofs.Common.{◌≡◌, ◌+◌, ℕ, suc, ℤ, Bool, true, false, cond, ◌||◌, List, [], ◌∷◌, map, length, Option, Some, None, refl, sym, ap, subst, ◌∙◌, arith}
+use Rattle.std.proofs.Common.{◌≡◌, ◌+◌, ℕ, ℤ, pos, true, false, cond, ◌||◌, List, [], ◌∷◌, map, length, Some, None, refl, sym, ap, subst, ◌∙◌, arith}
 use Rattle.std.specs.declared.cmp.Ordering.TheVariants.{Less, Equal, Greater}
 use Rattle.std.specs.List.{list_any, IsDistinct, AllByRecursion}
 use Rattle.std.specs.FinMap.Entries.{by_order}
 use Rattle.std.specs.Ordering.{is_eq}
 use Rattle.std.specs.FinMap as fin
-use Rattle.values.specs.Datum.{Datum}
+use Rattle.values.specs.Datum.{whole}
 use Rattle.query_check.specs.declared.function.ColumnFunction.{ColumnFunction}
 use Rattle.query_check.specs.declared.function.ColumnFunction.TheVariants as function
-use Rattle.groups.specs.Rows.{Row, column_numbers}
-use Rattle.groups.specs.Functions.{Summary, plain, ratio, agg, total, sum_of, average_of}
+use Rattle.groups.specs.Rows.{Row, column_numbers, column_values}
+use Rattle.groups.specs.Functions.{plain, agg, total, sum_of, average_of}
 use Rattle.groups.specs.Groups.{Key, project, key_order, same_key, each_once, keys, members}
-use Rattle.groups.specs.Kept.{summary, kept, summed, averaged, IsServed}
-use Rattle.groups.specs.Held.{Held, held, AreServed}
+use Rattle.groups.specs.Kept.{summary, kept, summed, averaged}
+use Rattle.groups.specs.Held.{Held, held}
 use Rattle.groups.specs.Table.{Contents, IsTableOf}
-use Rattle.groups.specs.GroupRows.{GroupRow, group_row, group_rows, group_row_kept, weigh, SameBag}
+use Rattle.groups.specs.GroupRows.{group_row, group_rows, group_row_kept, weigh, SameBag}
 use Rattle.groups.proofs.Order.{key_total, key_antisymmetric, same_key-Decides}
 use Rattle.groups.proofs.Meaning.{any-each_once}
+use Rattle.groups.proofs.Sets.{len-different}
 
 -- ---- what is kept says the value of the function
 
@@ -28,21 +29,21 @@ average-said : (lines : ℕ) (ns : List ℤ) → summary lines (averaged (total 
 average-said lines [] = refl
 average-said lines (n ∷ ns) = refl
 
-summary-kept : (f : ColumnFunction) (rows : List Row) → IsServed f → summary (length rows) (kept f rows) ≡ agg f rows
-summary-kept function.CountRows rows s = refl
-summary-kept (function.Count place) rows s = refl
-summary-kept (function.CountDistinct place) rows s = absurd s
-summary-kept (function.Sum place) rows s = sum-said (length rows) (column_numbers place rows)
-summary-kept (function.Min place) rows s = absurd s
-summary-kept (function.Max place) rows s = absurd s
-summary-kept (function.Avg place) rows s = average-said (length rows) (column_numbers place rows)
+summary-kept : (f : ColumnFunction) (rows : List Row) → summary (length rows) (kept f rows) ≡ agg f rows
+summary-kept function.CountRows rows = refl
+summary-kept (function.Count place) rows = refl
+summary-kept (function.CountDistinct place) rows = ap (λ n. plain (whole (pos n))) (len-different (column_values place rows))
+summary-kept (function.Sum place) rows = sum-said (length rows) (column_numbers place rows)
+summary-kept (function.Min place) rows = refl
+summary-kept (function.Max place) rows = refl
+summary-kept (function.Avg place) rows = average-said (length rows) (column_numbers place rows)
 
-cells-kept : (fs : List ColumnFunction) (rows : List Row) → AreServed fs → map (summary (length rows)) (map (λ f. kept f rows) fs) ≡ map (λ f. agg f rows) fs
-cells-kept [] rows s = refl
-cells-kept (f ∷ fs) rows s = λ i. summary-kept f rows s.0 i ∷ cells-kept fs rows s.1 i
+cells-kept : (fs : List ColumnFunction) (rows : List Row) → map (summary (length rows)) (map (λ f. kept f rows) fs) ≡ map (λ f. agg f rows) fs
+cells-kept [] rows = refl
+cells-kept (f ∷ fs) rows = λ i. summary-kept f rows i ∷ cells-kept fs rows i
 
-group_row-kept : (fs : List ColumnFunction) (key : Key) (rows : List Row) → AreServed fs → group_row_kept (key, held fs rows) ≡ group_row fs key rows
-group_row-kept fs key rows s = λ i. record { key = key; lines = length rows; cells = cells-kept fs rows s i }
+group_row-kept : (fs : List ColumnFunction) (key : Key) (rows : List Row) → group_row_kept (key, held fs rows) ≡ group_row fs key rows
+group_row-kept fs key rows = λ i. record { key = key; lines = length rows; cells = cells-kept fs rows i }
 
 -- ---- the entries of a map as a bag
 
@@ -114,7 +115,7 @@ each_once-distinct (k ∷ ks) =
       | false ↦ λ e. (all-other k (each_once ks) (any-each_once k ks ∙ e), each_once-distinct ks)
     ] refl
 
-keys-distinct : (set : List ℕ) (rows : List Row) → IsDistinct same_key (keys set rows)
+pub keys-distinct : (set : List ℕ) (rows : List Row) → IsDistinct same_key (keys set rows)
 unfolding IsDistinct
 keys-distinct [] rows = (tt, tt)
 keys-distinct (p ∷ ps) rows = each_once-distinct (map (project (p ∷ ps)) rows)
@@ -123,14 +124,14 @@ firsts : (set : List ℕ) (fs : List ColumnFunction) (rows : List Row) (ks : Lis
 firsts set fs rows [] = refl
 firsts set fs rows (k ∷ ks) = ap (λ xs. k ∷ xs) (firsts set fs rows ks)
 
-group_rows-kept : (set : List ℕ) (fs : List ColumnFunction) (rows : List Row) (ks : List Key) → AreServed fs → map group_row_kept (map (group set fs rows) ks) ≡ map (λ k. group_row fs k (members set k rows)) ks
-group_rows-kept set fs rows [] s = refl
-group_rows-kept set fs rows (k ∷ ks) s = λ i. group_row-kept fs k (members set k rows) s i ∷ group_rows-kept set fs rows ks s i
+group_rows-kept : (set : List ℕ) (fs : List ColumnFunction) (rows : List Row) (ks : List Key) → map group_row_kept (map (group set fs rows) ks) ≡ map (λ k. group_row fs k (members set k rows)) ks
+group_rows-kept set fs rows [] = refl
+group_rows-kept set fs rows (k ∷ ks) = λ i. group_row-kept fs k (members set k rows) i ∷ group_rows-kept set fs rows ks i
 
 -- the lines of distinct entries, whose map is a table of records, are those of the records' groups
-pub lines-bag : (set : List ℕ) (fs : List ColumnFunction) (rows : List Row) (es : List (Key × Held)) (t : Contents) → fin.from_entries es ≡ t → AreServed fs → IsTableOf set fs t rows
+pub lines-bag : (set : List ℕ) (fs : List ColumnFunction) (rows : List Row) (es : List (Key × Held)) (t : Contents) → fin.from_entries es ≡ t → IsTableOf set fs t rows
     → IsDistinct same_key (map (λ e. e.0) es) → SameBag (map group_row_kept es) (group_rows set fs rows)
-lines-bag set fs rows es t v s h d f =
+lines-bag set fs rows es t v h d f =
     let ks = keys set rows in
     let gs = map (group set fs rows) ks in
     let w : Key × Held → ℕ = λ e. f (group_row_kept e) in
@@ -139,4 +140,4 @@ lines-bag set fs rows es t v s h d f =
     ∙ ap (λ m. weigh w (fin.entries m)) (v ∙ table-is set fs t rows h)
     ∙ entries-bag gs (subst (λ (xs : List Key). IsDistinct same_key xs) (firsts set fs rows ks) (keys-distinct set rows)) w
     ∙ sym (weigh-map f group_row_kept gs)
-    ∙ ap (weigh f) (group_rows-kept set fs rows ks s)
+    ∙ ap (weigh f) (group_rows-kept set fs rows ks)

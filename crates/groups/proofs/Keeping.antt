@@ -1,15 +1,32 @@
 -- Accumulators that take values and are put together.
-use Rattle.std.proofs.Common.{◌≡◌, ◌+◌, ◌<◌, ◌≤◌, ◌^◌, ℕ, zero, suc, Bool, true, false, cond, List, [], ◌∷◌, ◌++◌, length, map, filter, Option, Some, None, refl, sym, ap, ◌∙◌, arith, subst, get_or, set}
+use Rattle.std.proofs.Common.{◌≡◌, ◌+◌, ◌<◌, ◌^◌, ℕ, zero, suc, ℤ, pos, ◌+ℤ◌, List, [], ◌∷◌, length, map, refl, sym, ap, ◌∙◌, arith, subst, get_or, set}
 use Rattle.std.proofs.lemmas.Int.{ints}
 use Rattle.std.proofs.lemmas.List.{length-map}
-use Rattle.std.specs.List.{AllByRecursion}
 use Rattle.values.specs.Datum.{Datum, boolean, whole, text, null}
 use Rattle.query_check.specs.declared.function.ColumnFunction.{ColumnFunction}
 use Rattle.query_check.specs.declared.function.ColumnFunction.TheVariants as function
 use Rattle.groups.specs.declared.accumulator.Accumulator.{Accumulator}
 use Rattle.groups.specs.Rows.{Row, value_at}
-use Rattle.groups.specs.Kept.{Kept, nothing, counted, summed, averaged, kept, taken, argument, joined, kept_in, HasRoom, IsWithin}
+use Rattle.groups.specs.Kept.{Kept, nothing, counted, summed, averaged, distinct, lowest, highest, kept, taken, argument, joined, kept_in, HasRoom, IsWithin, IsUnbounded}
 use Rattle.groups.specs.Held.{all_taken, all_joined, IsNarrow, IsNarrowRow, IsSound}
+use Rattle.groups.proofs.Firsts.{less-null, greater-null}
+use Rattle.groups.proofs.Sets.{union-empty}
+
+plus_zero : (n : ℕ) → n + 0 ≡ n
+plus_zero n = omega arith
+
+sum_zero : (s : ℤ) → s +ℤ pos 0 ≡ s
+sum_zero s = omega (arith, ints)
+
+-- NULL changes nothing
+pub taken-null : (k : Kept) → taken k null ≡ k
+taken-null nothing = refl
+taken-null (counted n) = ap counted (plus_zero n)
+taken-null (summed s n) = λ i. summed (sum_zero s i) (plus_zero n i)
+taken-null (averaged s n) = λ i. averaged (sum_zero s i) (plus_zero n i)
+taken-null (distinct s) = ap distinct (union-empty s)
+taken-null (lowest k) = ap lowest (less-null k)
+taken-null (highest k) = ap highest (greater-null k)
 
 -- ---- sizes
 
@@ -18,6 +35,18 @@ within-room lines nothing h w = tt
 within-room lines (counted n) h w = omega (arith, h, w)
 within-room lines (summed s n) h w = (omega (arith, h, w), omega (arith, ints, h, w))
 within-room lines (averaged s n) h w = (omega (arith, h, w), omega (arith, ints, h, w))
+within-room lines (distinct s) h w = tt
+within-room lines (lowest k) h w = tt
+within-room lines (highest k) h w = tt
+
+pub unbounded-within : (lines : ℕ) (k : Kept) → IsUnbounded k → IsWithin lines k
+unbounded-within lines nothing u = tt
+unbounded-within lines (counted n) u = absurd u
+unbounded-within lines (summed s n) u = absurd u
+unbounded-within lines (averaged s n) u = absurd u
+unbounded-within lines (distinct s) u = tt
+unbounded-within lines (lowest k) u = tt
+unbounded-within lines (highest k) u = tt
 
 pub taken-within : (lines : ℕ) (k : Kept) (d : Datum) → IsWithin lines k → IsNarrow d → IsWithin (lines + 1) (taken k d)
 taken-within lines nothing d w n = tt
@@ -33,20 +62,29 @@ taken-within lines (averaged s m) (boolean b) w n = (omega (arith, w), (omega (a
 taken-within lines (averaged s m) (whole z) w n = (omega (arith, w), (omega (arith, ints, w, n), omega (arith, ints, w, n)))
 taken-within lines (averaged s m) (text t) w n = (omega (arith, w), (omega (arith, ints, w), omega (arith, ints, w)))
 taken-within lines (averaged s m) null w n = (omega (arith, w), (omega (arith, ints, w), omega (arith, ints, w)))
+taken-within lines (distinct s) d w n = tt
+taken-within lines (lowest k) d w n = tt
+taken-within lines (highest k) d w n = tt
 
 more-within : (a b : ℕ) (k : Kept) → IsWithin a k → IsWithin (a + b) k
 more-within a b nothing w = tt
 more-within a b (counted n) w = omega (arith, w)
 more-within a b (summed s n) w = (omega (arith, w), (omega (arith, ints, w), omega (arith, ints, w)))
 more-within a b (averaged s n) w = (omega (arith, w), (omega (arith, ints, w), omega (arith, ints, w)))
+more-within a b (distinct s) w = tt
+more-within a b (lowest k) w = tt
+more-within a b (highest k) w = tt
 
 pub joined-within : (a b : ℕ) (k l : Kept) → IsWithin a k → IsWithin b l → IsWithin (a + b) (joined k l)
 joined-within a b (counted m) (counted n) v w = omega (arith, v, w)
 joined-within a b (summed s m) (summed t n) v w = (omega (arith, v, w), (omega (arith, ints, v, w), omega (arith, ints, v, w)))
 joined-within a b (averaged s m) (averaged t n) v w = (omega (arith, v, w), (omega (arith, ints, v, w), omega (arith, ints, v, w)))
+joined-within a b (distinct s) (distinct t) v w = tt
+joined-within a b (lowest k) (lowest l) v w = tt
+joined-within a b (highest k) (highest l) v w = tt
 joined-within a b k l v w = more-within a b k v
 
-more-sound : (a b : ℕ) (ks : List Kept) → IsSound a ks → IsSound (a + b) ks
+pub more-sound : (a b : ℕ) (ks : List Kept) → IsSound a ks → IsSound (a + b) ks
 more-sound a b [] s = tt
 more-sound a b (k ∷ ks) s = (more-within a b k s.0, more-sound a b ks s.1)
 
@@ -114,14 +152,24 @@ pub taken_from-all : (n : ℕ) (fs : List ColumnFunction) (parts : List Accumula
     → taken_from n fs (map kept_in parts) row ≡ ks → map kept_in parts ≡ ks
 taken_from-all n fs parts row ks h e i = sym (taken_from-end fs (map kept_in parts) row (length-map parts kept_in ∙ e)) ∙ ap (λ m. taken_from m fs (map kept_in parts) row) (sym h) ∙ i
 
+pub taken_from-within : (lines n : ℕ) (fs : List ColumnFunction) (parts : List Accumulator) (row : Row) (f : ColumnFunction) (a : Accumulator) → n < length fs → n < length parts
+    → a ≡ get_or parts n a → IsSound lines (taken_from n fs (map kept_in parts) row) → IsWithin lines (taken (kept_in a) (argument (get_or fs n f) row))
+taken_from-within lines zero [] parts row f a h i e s = absurd (omega arith)
+taken_from-within lines zero (g ∷ fs) [] row f a h i e s = absurd (omega arith)
+taken_from-within lines zero (g ∷ fs) (x ∷ parts) row f a h i e s = subst (λ z. IsWithin lines (taken (kept_in z) (argument g row))) (sym e) s.0
+taken_from-within lines (suc n) [] parts row f a h i e s = absurd (omega arith)
+taken_from-within lines (suc n) (g ∷ fs) [] row f a h i e s = absurd (omega arith)
+taken_from-within lines (suc n) (g ∷ fs) (x ∷ parts) row f a h i e s = taken_from-within lines n fs parts row f a (omega arith) (omega arith) e s.1
+
 pub taken_from-room : (lines n : ℕ) (fs : List ColumnFunction) (parts : List Accumulator) (row : Row) (f : ColumnFunction) (a : Accumulator) → n < length fs → n < length parts
     → a ≡ get_or parts n a → lines < 2 ^ 63 → IsSound lines (taken_from n fs (map kept_in parts) row) → HasRoom (taken (kept_in a) (argument (get_or fs n f) row))
-taken_from-room lines zero [] parts row f a h i e few s = absurd (omega arith)
-taken_from-room lines zero (g ∷ fs) [] row f a h i e few s = absurd (omega arith)
-taken_from-room lines zero (g ∷ fs) (x ∷ parts) row f a h i e few s = subst (λ z. HasRoom (taken (kept_in z) (argument g row))) (sym e) (within-room lines _ few s.0)
-taken_from-room lines (suc n) [] parts row f a h i e few s = absurd (omega arith)
-taken_from-room lines (suc n) (g ∷ fs) [] row f a h i e few s = absurd (omega arith)
-taken_from-room lines (suc n) (g ∷ fs) (x ∷ parts) row f a h i e few s = taken_from-room lines n fs parts row f a (omega arith) (omega arith) e few s.1
+taken_from-room lines n fs parts row f a h i e few s = within-room lines _ few (taken_from-within lines n fs parts row f a h i e s)
+
+-- one accumulator is replaced by one that is within
+pub sound-set : (lines n : ℕ) (parts : List Accumulator) (b : Accumulator) → IsSound lines (map kept_in parts) → IsWithin lines (kept_in b) → IsSound lines (map kept_in (set parts n b))
+sound-set lines n [] b s w = tt
+sound-set lines zero (x ∷ parts) b s w = (w, s.1)
+sound-set lines (suc n) (x ∷ parts) b s w = (s.0, sound-set lines n parts b s.1 w)
 
 -- ---- one after another: the accumulators from a place on are still to take the rest
 
@@ -151,9 +199,13 @@ pub joined_from-all : (n : ℕ) (parts rest : List Accumulator) (ks : List Kept)
 joined_from-all n parts [] ks h e = sym (joined_from-end n (map kept_in parts)) ∙ e
 joined_from-all n parts (x ∷ rest) ks h e = absurd (omega (arith, h))
 
+pub joined_from-within : (lines n : ℕ) (parts : List Accumulator) (l : Kept) (rest : List Kept) (a : Accumulator) → n < length parts
+    → a ≡ get_or parts n a → IsSound lines (joined_from n (map kept_in parts) (l ∷ rest)) → IsWithin lines (joined (kept_in a) l)
+joined_from-within lines zero [] l rest a h e s = absurd (omega arith)
+joined_from-within lines zero (x ∷ parts) l rest a h e s = subst (λ z. IsWithin lines (joined (kept_in z) l)) (sym e) s.0
+joined_from-within lines (suc n) [] l rest a h e s = absurd (omega arith)
+joined_from-within lines (suc n) (x ∷ parts) l rest a h e s = joined_from-within lines n parts l rest a (omega arith) e s.1
+
 pub joined_from-room : (lines n : ℕ) (parts : List Accumulator) (l : Kept) (rest : List Kept) (a : Accumulator) → n < length parts
     → a ≡ get_or parts n a → lines < 2 ^ 63 → IsSound lines (joined_from n (map kept_in parts) (l ∷ rest)) → HasRoom (joined (kept_in a) l)
-joined_from-room lines zero [] l rest a h e few s = absurd (omega arith)
-joined_from-room lines zero (x ∷ parts) l rest a h e few s = subst (λ z. HasRoom (joined (kept_in z) l)) (sym e) (within-room lines _ few s.0)
-joined_from-room lines (suc n) [] l rest a h e few s = absurd (omega arith)
-joined_from-room lines (suc n) (x ∷ parts) l rest a h e few s = joined_from-room lines n parts l rest a (omega arith) e few s.1
+joined_from-room lines n parts l rest a h e few s = within-room lines _ few (joined_from-within lines n parts l rest a h e s)

@@ -1,6 +1,8 @@
 mod Examples
 pub mod Keeping
 pub mod Order
+pub mod Firsts
+pub mod Sets
 pub mod Entries
 pub mod Meaning
 pub mod Distinct

@@ -1,5 +1,5 @@
 -- What is kept of a group, and tables, by the members of the groups.
-use Rattle.std.proofs.Common.{◌≡◌, ◌≢◌, ◌+◌, ◌<◌, ◌≤◌, ◌^◌, ℕ, suc, ℤ, pos, ◌+ℤ◌, Bool, true, false, ◌||◌, cond, List, [], ◌∷◌, ◌++◌, length, map, filter, filter_map, Option, Some, None, IfSome, unwrap_or, refl, sym, ap, subst, ◌∙◌, arith, length-append}
+use Rattle.std.proofs.Common.{◌≡◌, ◌≢◌, ◌+◌, ◌<◌, ◌≤◌, ◌^◌, ℕ, suc, ℤ, ◌+ℤ◌, Bool, true, false, ◌||◌, cond, List, [], ◌∷◌, ◌++◌, length, map, filter, filter_map, Option, Some, None, IfSome, unwrap_or, refl, sym, ap, subst, ◌∙◌, arith, length-append}
 use Rattle.std.proofs.lemmas.Int.{ints}
 use Rattle.std.proofs.lemmas.List.{map-append}
 use Rattle.std.proofs.lemmas.List.Elements.{filter-append, filter_map-append}
@@ -7,16 +7,19 @@ use Rattle.std.proofs.lemmas.List.Folds.{list_any-append}
 use Rattle.std.specs.List.{list_any}
 use Rattle.std.specs.Cmp.{eq_by_cmp_equiv}
 use Rattle.std.specs.FinMap as fin
-use Rattle.values.specs.Datum.{Datum}
+use Rattle.values.specs.Order.{value_order}
 use Rattle.query_check.specs.declared.function.ColumnFunction.{ColumnFunction}
 use Rattle.query_check.specs.declared.function.ColumnFunction.TheVariants as function
 use Rattle.groups.specs.Rows.{Row, value_at, is_present, number_of, column_values, column_numbers}
-use Rattle.groups.specs.Functions.{total}
+use Rattle.groups.specs.Functions.{total, least, greatest}
 use Rattle.groups.specs.Groups.{Key, project, key_order, same_key, each_once, keys, members}
-use Rattle.groups.specs.Kept.{Kept, nothing, counted, summed, averaged, kept, taken, argument, joined, kept_in}
+use Rattle.groups.specs.Seen.{falling, first_by, set_of}
+use Rattle.groups.specs.Kept.{Kept, counted, summed, averaged, distinct, lowest, highest, kept, taken, argument, joined}
 use Rattle.groups.specs.Held.{Held, held, all_taken, all_joined, with_row, join}
-use Rattle.groups.specs.Table.{Contents, IsTableOf, IsAdded, IsPut, IsJoined, HasPlace, IsFitting, grown, join_options}
-use Rattle.groups.proofs.Order.{key_total, same_key-Decides}
+use Rattle.groups.specs.Table.{Contents, IsTableOf, IsAdded, IsPut, IsJoined, HasPlace, IsFitting, CanJoin, IsGroupWithin, AreGroupsWithin, grown, join_options}
+use Rattle.groups.proofs.Order.{key_total}
+use Rattle.groups.proofs.Firsts.{present-all, least-append, least-one, greatest-append, greatest-one}
+use Rattle.groups.proofs.Sets.{union-append}
 
 pub same_held : (g h : Held) → g.lines ≡ h.lines → g.parts ≡ h.parts → g ≡ h
 same_held g h p q i = record { lines = p i; parts = q i }
@@ -45,19 +48,22 @@ numbers_total-append place l m = ap total (numbers-append place l m) ∙ total-a
 kept-append : (f : ColumnFunction) (l m : List Row) → kept f (l ++ m) ≡ joined (kept f l) (kept f m)
 kept-append function.CountRows l m = refl
 kept-append (function.Count place) l m = ap counted (count-append place l m)
-kept-append (function.CountDistinct place) l m = refl
+kept-append (function.CountDistinct place) l m = ap distinct (ap set_of (values-append place l m) ∙ union-append (column_values place l) (column_values place m))
 kept-append (function.Sum place) l m = λ i. summed (numbers_total-append place l m i) (numbers_count-append place l m i)
-kept-append (function.Min place) l m = refl
-kept-append (function.Max place) l m = refl
+kept-append (function.Min place) l m = ap lowest (ap least (values-append place l m) ∙ least-append (column_values place l) (column_values place m))
+kept-append (function.Max place) l m = ap highest (ap greatest (values-append place l m)
+    ∙ greatest-append (column_values place l) (column_values place m) (present-all (map (value_at place) l)) (present-all (map (value_at place) m)))
 kept-append (function.Avg place) l m = λ i. averaged (numbers_total-append place l m i) (numbers_count-append place l m i)
 
 kept-taken : (f : ColumnFunction) (l : List Row) (row : Row) → taken (kept f l) (argument f row) ≡ kept f (l ++ row ∷ [])
 kept-taken function.CountRows l row = refl
 kept-taken (function.Count place) l row = sym (ap counted (count-append place l (row ∷ [])))
-kept-taken (function.CountDistinct place) l row = refl
+kept-taken (function.CountDistinct place) l row = sym (kept-append (function.CountDistinct place) l (row ∷ []))
 kept-taken (function.Sum place) l row = sym (λ i. summed (numbers_total-append place l (row ∷ []) i) (numbers_count-append place l (row ∷ []) i))
-kept-taken (function.Min place) l row = refl
-kept-taken (function.Max place) l row = refl
+kept-taken (function.Min place) l row = ap (λ d. lowest (first_by value_order (least (column_values place l)) d)) (sym (least-one (value_at place row)))
+    ∙ sym (kept-append (function.Min place) l (row ∷ []))
+kept-taken (function.Max place) l row = ap (λ d. highest (first_by falling (greatest (column_values place l)) d)) (sym (greatest-one (value_at place row)))
+    ∙ sym (kept-append (function.Max place) l (row ∷ []))
 kept-taken (function.Avg place) l row = sym (λ i. averaged (numbers_total-append place l (row ∷ []) i) (numbers_count-append place l (row ∷ []) i))
 
 parts-append : (fs : List ColumnFunction) (l m : List Row) → map (λ f. kept f (l ++ m)) fs ≡ all_joined (map (λ f. kept f l) fs) (map (λ f. kept f m) fs)
@@ -218,16 +224,38 @@ pub table-place : (set : List ℕ) (fs : List ColumnFunction) (t : Contents) (l 
 table-place set fs t l a few k = subst (λ (o : Option Held). HasPlace fs o) (sym (a k)) (place-at fs (has_key set k l) (members set k l)
     (omega (arith, few, filter-le (λ r. same_key k (project set r)) l)))
 
-fitting-at : (fs : List ColumnFunction) (a b : Bool) (x y : List Row) → length x + length y < 2 ^ 63 → IfSome (cond b (Some (held fs y)) None) (λ part. IsFitting part (cond a (Some (held fs x)) None))
-fitting-at fs true true x y h = (h, map-length (λ f. kept f y) fs ∙ sym (map-length (λ f. kept f x) fs))
-fitting-at fs false true x y h = tt
-fitting-at fs a false x y h = tt
+-- ---- tables within a number of records
 
--- two tables of few records fit
-pub tables-fit : (set : List ℕ) (fs : List ColumnFunction) (t u : Contents) (l m : List Row) → IsTableOf set fs t l → IsTableOf set fs u m → length l + length m < 2 ^ 63
-    → (k : Key) → IfSome (fin.get u k) (λ part. IsFitting part (fin.get t k))
-tables-fit set fs t u l m a b few k =
-    subst (λ (o : Option Held). IfSome o (λ part. IsFitting part (fin.get t k))) (sym (b k))
-    (subst (λ (g : Option Held). IfSome (group_at set fs k m) (λ part. IsFitting part g)) (sym (a k))
-    (fitting-at fs (has_key set k l) (has_key set k m) (members set k l) (members set k m)
-    (omega (arith, few, filter-le (λ r. same_key k (project set r)) l, filter-le (λ r. same_key k (project set r)) m))))
+within-at : (fs : List ColumnFunction) (n : ℕ) (b : Bool) (x : List Row) → length x ≤ n → IfSome (cond b (Some (held fs x)) None) (IsGroupWithin n fs)
+within-at fs n true x h = (h, map-length (λ f. kept f x) fs)
+within-at fs n false x h = tt
+
+-- the table of so many records is within them
+pub table-within : (set : List ℕ) (fs : List ColumnFunction) (t : Contents) (l : List Row) (n : ℕ) → IsTableOf set fs t l → length l ≤ n → AreGroupsWithin n fs t
+table-within set fs t l n a few k = subst (λ (o : Option Held). IfSome o (IsGroupWithin n fs)) (sym (a k))
+    (within-at fs n (has_key set k l) (members set k l) (omega (arith, few, filter-le (λ r. same_key k (project set r)) l)))
+
+all_joined-length : (ks ls : List Kept) → length ks ≡ length ls → length (all_joined ks ls) ≡ length ks
+all_joined-length [] ls h = refl
+all_joined-length (k ∷ ks) [] h = refl
+all_joined-length (k ∷ ks) (l ∷ ls) h = ap suc (all_joined-length ks ls (omega (arith, h)))
+
+within-join : (fs : List ColumnFunction) (m n : ℕ) (a b : Option Held) → IfSome a (IsGroupWithin m fs) → IfSome b (IsGroupWithin n fs) → IfSome (join_options a b) (IsGroupWithin (m + n) fs)
+within-join fs m n None None p q = tt
+within-join fs m n None (Some b) p q = (omega (arith, q.0), q.1)
+within-join fs m n (Some a) None p q = (omega (arith, p.0), p.1)
+within-join fs m n (Some a) (Some b) p q = (omega (arith, p.0, q.0), all_joined-length a.parts b.parts (p.1 ∙ sym q.1) ∙ p.1)
+
+-- two tables put together are within both numbers of records
+pub tables-within : (fs : List ColumnFunction) (m n : ℕ) (t u v : Contents) → AreGroupsWithin m fs t → AreGroupsWithin n fs u → ((k : Key) → IsJoined t u v k) → AreGroupsWithin (m + n) fs v
+tables-within fs m n t u v p q j k = subst (λ (o : Option Held). IfSome o (IsGroupWithin (m + n) fs)) (sym (j k)) (within-join fs m n (fin.get t k) (fin.get u k) (p k) (q k))
+
+fits-within : (fs : List ColumnFunction) (m n : ℕ) (a b : Option Held) → m + n < 2 ^ 63 → IfSome a (IsGroupWithin m fs) → IfSome b (IsGroupWithin n fs) → IfSome b (λ part. IsFitting part a)
+fits-within fs m n None None few p q = tt
+fits-within fs m n None (Some b) few p q = tt
+fits-within fs m n (Some a) None few p q = tt
+fits-within fs m n (Some a) (Some b) few p q = (omega (arith, few, p.0, q.0), q.1 ∙ sym p.1)
+
+-- tables within few records can be put together
+pub within-can_join : (fs : List ColumnFunction) (m n : ℕ) (t u : Contents) → m + n < 2 ^ 63 → AreGroupsWithin m fs t → AreGroupsWithin n fs u → CanJoin t u
+within-can_join fs m n t u few p q k = fits-within fs m n (fin.get t k) (fin.get u k) few (p k) (q k)

@@ -1,15 +1,18 @@
 -- The order of the records does not matter to a table.
-use Rattle.std.proofs.Common.{◌≡◌, ◌+◌, ℕ, ℤ, ◌+ℤ◌, Bool, true, false, cond, List, [], ◌∷◌, ◌++◌, length, map, Option, Some, None, refl, sym, ap, ◌∙◌, arith}
+use Rattle.std.proofs.Common.{◌≡◌, ◌+◌, ℕ, ℤ, ◌+ℤ◌, Bool, true, false, cond, List, [], ◌∷◌, length, map, Some, None, refl, sym, ap, ◌∙◌, arith}
 use Rattle.std.proofs.lemmas.Int.{ints}
 use Rattle.query_check.specs.declared.function.ColumnFunction.{ColumnFunction}
 use Rattle.query_check.specs.declared.function.ColumnFunction.TheVariants as function
 use Rattle.groups.specs.Rows.{Row, column_values, column_numbers}
-use Rattle.groups.specs.Functions.{total}
+use Rattle.groups.specs.Functions.{total, least, greatest}
 use Rattle.groups.specs.Groups.{Key, members}
-use Rattle.groups.specs.Kept.{Kept, counted, summed, averaged, kept, joined}
-use Rattle.groups.specs.Held.{Held, held, all_joined, join}
+use Rattle.groups.specs.Seen.{set_of}
+use Rattle.groups.specs.Kept.{counted, summed, averaged, distinct, lowest, highest, kept, joined}
+use Rattle.groups.specs.Held.{held, all_joined, join}
 use Rattle.groups.specs.Shuffle.{Shuffle, none, skip, swap, both}
 use Rattle.groups.specs.Table.{Contents, IsTableOf, join_options}
+use Rattle.groups.proofs.Firsts.{less-flip, greater-flip}
+use Rattle.groups.proofs.Sets.{union-flip}
 use Rattle.groups.proofs.Meaning.{same_held, has_key, group_at, group_at-append}
 
 plus_flip : (m n : ℕ) → m + n ≡ n + m
@@ -21,10 +24,10 @@ sum_flip s t = omega (arith, ints)
 kept-flip : (f : ColumnFunction) (l m : List Row) → joined (kept f l) (kept f m) ≡ joined (kept f m) (kept f l)
 kept-flip function.CountRows l m = refl
 kept-flip (function.Count place) l m = ap counted (plus_flip (length (column_values place l)) (length (column_values place m)))
-kept-flip (function.CountDistinct place) l m = refl
+kept-flip (function.CountDistinct place) l m = ap distinct (union-flip (set_of (column_values place l)) (set_of (column_values place m)))
 kept-flip (function.Sum place) l m = λ i. summed (sum_flip (total (column_numbers place l)) (total (column_numbers place m)) i) (plus_flip (length (column_numbers place l)) (length (column_numbers place m)) i)
-kept-flip (function.Min place) l m = refl
-kept-flip (function.Max place) l m = refl
+kept-flip (function.Min place) l m = ap lowest (less-flip (least (column_values place l)) (least (column_values place m)))
+kept-flip (function.Max place) l m = ap highest (greater-flip (greatest (column_values place l)) (greatest (column_values place m)))
 kept-flip (function.Avg place) l m = λ i. averaged (sum_flip (total (column_numbers place l)) (total (column_numbers place m)) i) (plus_flip (length (column_numbers place l)) (length (column_numbers place m)) i)
 
 parts-flip : (fs : List ColumnFunction) (l m : List Row) → all_joined (map (λ f. kept f l) fs) (map (λ f. kept f m) fs) ≡ all_joined (map (λ f. kept f m) fs) (map (λ f. kept f l) fs)

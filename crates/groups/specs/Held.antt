@@ -1,11 +1,11 @@
 -- What is kept of a group: the number of its records, and for each set function what its accumulator keeps.
-use Rattle.std.specs.Prelude.{◌≡◌, ℕ, ◌+◌, ◌^◌, ◌≤◌, ℤ, pos, ◌-ℤ◌, ◌≤ℤ◌, List, [], ◌∷◌, length, map, IfSome, refl}
+use Rattle.std.specs.Prelude.{ℕ, ◌+◌, ◌^◌, pos, ◌-ℤ◌, ◌≤ℤ◌, List, [], ◌∷◌, length, map, IfSome, refl}
 use Rattle.std.specs.List.{AllByRecursion}
 use Rattle.std.specs.Coded.{Coded, code_by, coded×, coded_ℕ, coded_list}
 use Rattle.values.specs.Datum.{Datum}
 use Rattle.query_check.specs.declared.function.ColumnFunction.{ColumnFunction}
 use Rattle.groups.specs.Rows.{Row, number_of}
-use Rattle.groups.specs.Kept.{Kept, kept, taken, argument, joined, IsWithin, IsServed, coded_kept}
+use Rattle.groups.specs.Kept.{Kept, kept, taken, argument, joined, IsWithin, coded_kept}
 
 pub record Held : Type 0 where
   pub lines : ℕ
@@ -49,7 +49,3 @@ IsNarrowRow row = AllByRecursion IsNarrow row
 -- no sum is larger than the number of records allows
 abbrev pub IsSound : ℕ → List Kept → Type 0
 IsSound lines parts = AllByRecursion (IsWithin lines) parts
-
--- the functions are all kept so far
-abbrev pub AreServed : List ColumnFunction → Type 0
-AreServed functions = AllByRecursion IsServed functions

@@ -1,13 +1,17 @@
--- What an accumulator keeps of the members of a group: of COUNT(*) nothing, since the number of records is kept beside, and else counts and sums.
+-- What an accumulator keeps of the members of a group: of COUNT(*) nothing, since the number of records is kept beside, and else counts, sums, the different values, the least or the greatest one.
 use Rattle.std.specs.Prelude.{◌≡◌, ℕ, ◌+◌, ◌*◌, ◌^◌, ◌<◌, ◌≤◌, zero, suc, ℤ, pos, ◌+ℤ◌, ◌-ℤ◌, ◌≤ℤ◌, ⊤, Option, Some, None, FitsSigned, List, [], ◌∷◌, length, refl}
+use Rattle.std.specs.FinSet as set
 use Rattle.std.specs.Int.{w128}
 use Rattle.std.specs.Option.{option_map_or}
-use Rattle.std.specs.Coded.{Coded, code_by, coded×, coded_ℕ, coded_ℤ, coded_list}
-use Rattle.values.specs.Datum.{Datum, whole, null}
+use Rattle.std.specs.Coded.{Coded, code_by, coded×, coded_ℕ, coded_ℤ}
+use Rattle.values.specs.Datum.{Datum, datum_of, whole, null}
+use Rattle.values.specs.Order.{value_order}
 use Rattle.query_check.specs.declared.function.ColumnFunction.{ColumnFunction}
 use Rattle.query_check.specs.declared.function.ColumnFunction.TheVariants as function
 use Rattle.groups.specs.Rows.{Row, value_at, present, numbers, column_values, column_numbers}
-use Rattle.groups.specs.Functions.{Summary, plain, ratio, total}
+use Rattle.groups.specs.Functions.{Summary, plain, ratio, total, least, greatest}
+use Rattle.groups.specs.Coding.{coded_datum}
+use Rattle.groups.specs.Seen.{Values, set_of, falling, first_by}
 use Rattle.groups.specs.declared.accumulator.Accumulator.{Accumulator}
 use Rattle.groups.specs.declared.accumulator.Accumulator.TheVariants as accumulator
 
@@ -16,25 +20,18 @@ pub data Kept : Type 0 where
   counted : ℕ → Kept
   summed : ℤ → ℕ → Kept
   averaged : ℤ → ℕ → Kept
-
--- the functions that are kept so far
-abbrev pub IsServed : ColumnFunction → Type 0
-IsServed function.CountRows = ⊤
-IsServed (function.Count place) = ⊤
-IsServed (function.CountDistinct place) = ⊥
-IsServed (function.Sum place) = ⊤
-IsServed (function.Min place) = ⊥
-IsServed (function.Max place) = ⊥
-IsServed (function.Avg place) = ⊤
+  distinct : Values → Kept
+  lowest : Datum → Kept
+  highest : Datum → Kept
 
 -- what is kept for a set function of a list of records
 abbrev pub kept : ColumnFunction → List Row → Kept
 kept function.CountRows rows = nothing
 kept (function.Count place) rows = counted (length (column_values place rows))
-kept (function.CountDistinct place) rows = nothing
+kept (function.CountDistinct place) rows = distinct (set_of (column_values place rows))
 kept (function.Sum place) rows = summed (total (column_numbers place rows)) (length (column_numbers place rows))
-kept (function.Min place) rows = nothing
-kept (function.Max place) rows = nothing
+kept (function.Min place) rows = lowest (least (column_values place rows))
+kept (function.Max place) rows = highest (greatest (column_values place rows))
 kept (function.Avg place) rows = averaged (total (column_numbers place rows)) (length (column_numbers place rows))
 
 -- the place of the column that a set function takes; COUNT(*) takes none
@@ -57,12 +54,18 @@ taken nothing d = nothing
 taken (counted n) d = counted (n + length (present (d ∷ [])))
 taken (summed s n) d = summed (s +ℤ total (numbers (d ∷ []))) (n + length (numbers (d ∷ [])))
 taken (averaged s n) d = averaged (s +ℤ total (numbers (d ∷ []))) (n + length (numbers (d ∷ [])))
+taken (distinct s) d = distinct (set.union s (set_of (present (d ∷ []))))
+taken (lowest k) d = lowest (first_by value_order k d)
+taken (highest k) d = highest (first_by falling k d)
 
 -- what is kept of two parts of a group for one function; of different functions the first stays as it is
 abbrev pub joined : Kept → Kept → Kept
 joined (counted m) (counted n) = counted (m + n)
 joined (summed s m) (summed t n) = summed (s +ℤ t) (m + n)
 joined (averaged s m) (averaged t n) = averaged (s +ℤ t) (m + n)
+joined (distinct s) (distinct t) = distinct (set.union s t)
+joined (lowest k) (lowest l) = lowest (first_by value_order k l)
+joined (highest k) (highest l) = highest (first_by falling k l)
 joined k l = k
 
 -- the value of the function over a group of so many records
@@ -73,6 +76,9 @@ summary lines (summed s zero) = plain null
 summary lines (summed s (suc n)) = plain (whole s)
 summary lines (averaged s zero) = plain null
 summary lines (averaged s (suc n)) = ratio s (suc n)
+summary lines (distinct s) = plain (whole (pos (set.len s)))
+summary lines (lowest k) = plain k
+summary lines (highest k) = plain k
 
 -- ---- sizes
 
@@ -82,6 +88,9 @@ HasRoom nothing = ⊤
 HasRoom (counted n) = n < 2 ^ 64
 HasRoom (summed s n) = (n < 2 ^ 64) × FitsSigned w128 s
 HasRoom (averaged s n) = (n < 2 ^ 64) × FitsSigned w128 s
+HasRoom (distinct s) = ⊤
+HasRoom (lowest k) = ⊤
+HasRoom (highest k) = ⊤
 
 -- the sum of so many numbers of 64 bits
 abbrev pub IsSumOf : ℕ → ℤ → Type 0
@@ -93,6 +102,19 @@ IsWithin lines nothing = ⊤
 IsWithin lines (counted n) = n ≤ lines
 IsWithin lines (summed s n) = (n ≤ lines) × IsSumOf lines s
 IsWithin lines (averaged s n) = (n ≤ lines) × IsSumOf lines s
+IsWithin lines (distinct s) = ⊤
+IsWithin lines (lowest k) = ⊤
+IsWithin lines (highest k) = ⊤
+
+-- it is no count and no sum, so that nothing bounds it
+abbrev pub IsUnbounded : Kept → Type 0
+IsUnbounded nothing = ⊤
+IsUnbounded (counted n) = ⊥
+IsUnbounded (summed s n) = ⊥
+IsUnbounded (averaged s n) = ⊥
+IsUnbounded (distinct s) = ⊤
+IsUnbounded (lowest k) = ⊤
+IsUnbounded (highest k) = ⊤
 
 -- ---- the code's accumulators
 
@@ -101,24 +123,39 @@ kept_in accumulator.Rows = nothing
 kept_in (accumulator.Count n) = counted n
 kept_in (accumulator.Sum t) = summed t.sum t.count
 kept_in (accumulator.Average t) = averaged t.sum t.count
+kept_in (accumulator.Distinct s) = distinct s
+kept_in (accumulator.Min value) = lowest (datum_of value)
+kept_in (accumulator.Max value) = highest (datum_of value)
 
-abbrev fields : Kept → ℕ × (ℤ × ℕ)
-fields nothing = (0, (pos 0, 0))
-fields (counted n) = (1, (pos 0, n))
-fields (summed s n) = (2, (s, n))
-fields (averaged s n) = (3, (s, n))
+abbrev Fields : Type 0
+Fields = ℕ × ((ℤ × ℕ) × (Values × Datum))
 
-abbrev of_fields : ℕ × (ℤ × ℕ) → Kept
-of_fields (zero, (s, n)) = nothing
-of_fields (suc zero, (s, n)) = counted n
-of_fields (suc (suc zero), (s, n)) = summed s n
-of_fields (suc (suc (suc _)), (s, n)) = averaged s n
+abbrev fields : Kept → Fields
+fields nothing = (0, ((pos 0, 0), (set.empty, null)))
+fields (counted n) = (1, ((pos 0, n), (set.empty, null)))
+fields (summed s n) = (2, ((s, n), (set.empty, null)))
+fields (averaged s n) = (3, ((s, n), (set.empty, null)))
+fields (distinct s) = (4, ((pos 0, 0), (s, null)))
+fields (lowest k) = (5, ((pos 0, 0), (set.empty, k)))
+fields (highest k) = (6, ((pos 0, 0), (set.empty, k)))
+
+abbrev of_fields : Fields → Kept
+of_fields (zero, ((s, n), (v, k))) = nothing
+of_fields (suc zero, ((s, n), (v, k))) = counted n
+of_fields (suc (suc zero), ((s, n), (v, k))) = summed s n
+of_fields (suc (suc (suc zero)), ((s, n), (v, k))) = averaged s n
+of_fields (suc (suc (suc (suc zero))), ((s, n), (v, k))) = distinct v
+of_fields (suc (suc (suc (suc (suc zero)))), ((s, n), (v, k))) = lowest k
+of_fields (suc (suc (suc (suc (suc (suc _))))), ((s, n), (v, k))) = highest k
 
 pub of_fields-fields : (k : Kept) → of_fields (fields k) ≡ k
 of_fields-fields nothing = refl
 of_fields-fields (counted n) = refl
 of_fields-fields (summed s n) = refl
 of_fields-fields (averaged s n) = refl
+of_fields-fields (distinct s) = refl
+of_fields-fields (lowest k) = refl
+of_fields-fields (highest k) = refl
 
 abbrev pub coded_kept : Coded Kept
-coded_kept = code_by (ℕ × (ℤ × ℕ)) (coded× coded_ℕ (coded× coded_ℤ coded_ℕ)) fields of_fields of_fields-fields
+coded_kept = code_by Fields (coded× coded_ℕ (coded× (coded× coded_ℤ coded_ℕ) (coded× (set.code coded_datum) coded_datum))) fields of_fields of_fields-fields

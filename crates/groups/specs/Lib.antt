@@ -1,6 +1,7 @@
 pub mod Rows
 pub mod Functions
 pub mod Groups
+pub mod Seen
 pub mod Kept
 pub mod Shown
 pub mod Held

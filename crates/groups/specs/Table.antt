@@ -1,12 +1,12 @@
 -- A table of groups, apart from where it lies in memory, and what it is for a table to be that of a list of records.
-use Rattle.std.specs.Prelude.{◌≡◌, ◌+◌, ◌<◌, ◌^◌, ℕ, Bool, cond, List, map, length, [], Option, Some, None, IfSome, unwrap_or, if◌then◌else◌}
+use Rattle.std.specs.Prelude.{◌≡◌, ◌+◌, ◌<◌, ◌≤◌, ◌^◌, ℕ, cond, List, map, length, [], Option, Some, None, IfSome, unwrap_or, if◌then◌else◌}
 use Rattle.std.specs.declared.alloc.Global.{Global}
 use Rattle.std.specs.declared.vec.Vec.{Vec}
 use Rattle.std.specs.Coded.{Coded}
 use Rattle.std.specs.FinMap as fin
 use Rattle.std.specs.List.{list_any}
 use Rattle.values.specs.declared.value.Value.{Value}
-use Rattle.values.specs.Datum.{Datum, data_of}
+use Rattle.values.specs.Datum.{data_of}
 use Rattle.query_check.specs.declared.function.ColumnFunction.{ColumnFunction}
 use Rattle.groups.specs.Coding.{coded_key}
 use Rattle.groups.specs.Rows.{Row}
@@ -36,16 +36,6 @@ pub record TakesOne (set : List ℕ) (functions : List ColumnFunction) (table : 
   pub rows : List Row
   pub is_table : IsTableOf set functions table rows
   pub few : length rows + 1 < 2 ^ 63
-
--- the tables, under one grouping set and for the same functions, of two lists that have together fewer than 2^63 records
-pub record Fit (table other : Contents) : Type 0 where
-  pub set : List ℕ
-  pub functions : List ColumnFunction
-  pub rows : List Row
-  pub more : List Row
-  pub is_table : IsTableOf set functions table rows
-  pub is_other : IsTableOf set functions other more
-  pub few : length rows + length more < 2 ^ 63
 
 -- ---- steps
 
@@ -77,3 +67,15 @@ HasPlace functions group = IfSome group (λ g. (g.lines + 1 < 2 ^ 63) × (length
 -- a group takes a part
 abbrev pub IsFitting : Held → Option Held → Type 0
 IsFitting part group = IfSome group (λ g. (g.lines + part.lines < 2 ^ 63) × (length part.parts ≡ length g.parts))
+
+-- each group of the other table is a part that the group of its key takes, where there is one
+abbrev pub CanJoin : Contents → Contents → Type 0
+CanJoin table other = (key : Key) → IfSome (fin.get other key) (λ part. IsFitting part (fin.get table key))
+
+-- what is kept of a group is of at most so many records, and has one accumulator for each function
+abbrev pub IsGroupWithin : ℕ → List ColumnFunction → Held → Type 0
+IsGroupWithin lines functions group = (group.lines ≤ lines) × (length group.parts ≡ length functions)
+
+-- so are all groups of the table
+abbrev pub AreGroupsWithin : ℕ → List ColumnFunction → Contents → Type 0
+AreGroupsWithin lines functions table = (key : Key) → IfSome (fin.get table key) (IsGroupWithin lines functions)

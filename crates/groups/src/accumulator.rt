@@ -4,8 +4,11 @@ ghost use Rattle.groups.specs.Kept.{argument, place_of};
 ghost use Rattle.groups.specs.Rows.{is_present};
 
 use crate::cell::Cell;
+use crate::distinct_values::DistinctValues;
+use crate::extreme::{is_greater, is_less};
 use crate::total::Total;
 use query_check::ColumnFunction;
+use std::alloc::{AllocError, Global};
 use values::Value;
 
 /// What is kept of the members of a group for one set function.
@@ -15,44 +18,55 @@ pub(crate) enum Accumulator {
     Rows,
     /// `COUNT(x)`
     Count(u64),
+    /// `COUNT(DISTINCT x)`
+    Distinct(DistinctValues),
     /// `SUM(x)`
     Sum(Total),
+    /// `MIN(x)`: the least value so far, and NULL of none.
+    Min(Value),
+    /// `MAX(x)`: the greatest value so far, and NULL of none.
+    Max(Value),
     /// `AVG(x)`
     Average(Total),
 }
 
 impl Accumulator {
-    ghost use Rattle.std.specs.Prelude.{[], ◌∷◌, ◌+◌, ◌^◌, ◌<◌};
-    ghost use Rattle.groups.specs.Kept.{kept, kept_in, taken, joined, summary, HasRoom, IsServed};
+    ghost use Rattle.std.specs.Prelude.{[], ◌∷◌, ◌+◌, ◌^◌, ◌<◌, OnOk, OnErr};
+    ghost use Rattle.groups.specs.Kept.{kept, kept_in, taken, joined, summary, HasRoom, IsUnbounded};
     ghost use Rattle.groups.specs.Shown.{summary_of};
 
     /// What is kept of no record.
-    pub(crate) fn new(function: ColumnFunction) -> Accumulator
-        requires { IsServed function }
+    pub(crate) fn new(alloc: Global, function: ColumnFunction) -> Accumulator
         ensures { kept_in result ≡ kept function [] }
     {
         match function {
+            ColumnFunction::CountRows => Accumulator::Rows,
             ColumnFunction::Count(_) => Accumulator::Count(0),
+            ColumnFunction::CountDistinct(_) => Accumulator::Distinct(DistinctValues::new(alloc)),
             ColumnFunction::Sum(_) => Accumulator::Sum(Total::NONE),
+            ColumnFunction::Min(_) => Accumulator::Min(Value::Null),
+            ColumnFunction::Max(_) => Accumulator::Max(Value::Null),
             ColumnFunction::Avg(_) => Accumulator::Average(Total::NONE),
-            _ => Accumulator::Rows,
         }
     }
 
-    /// Takes one more record.
-    pub(crate) fn add(&mut self, function: ColumnFunction, row: &[Value])
+    /// Takes one more record. After an error what is kept is of no use.
+    pub(crate) fn add(&mut self, function: ColumnFunction, row: &[Value]) -> Result<(), AllocError>
         requires { HasRoom (taken (kept_in self.old) (argument function (data_of row.now))) }
-        ensures { kept_in self.new ≡ taken (kept_in self.old) (argument function (data_of row.now)) }
+        ensures taken { OnOk result (kept_in self.new ≡ taken (kept_in self.old) (argument function (data_of row.now))) }
+        ensures unbounded { OnErr result (IsUnbounded (kept_in self.new)) }
     {
-        if let Some(value) = argument(function, row) {
-            self.add_value(value);
+        match argument(function, row) {
+            Some(value) => self.add_value(value),
+            None => Ok(()),
         }
     }
 
     /// Takes one more value.
-    fn add_value(&mut self, value: &Value)
+    fn add_value(&mut self, value: &Value) -> Result<(), AllocError>
         requires { HasRoom (taken (kept_in self.old) (datum_of value.now)) }
-        ensures { kept_in self.new ≡ taken (kept_in self.old) (datum_of value.now) }
+        ensures taken { OnOk result (kept_in self.new ≡ taken (kept_in self.old) (datum_of value.now)) }
+        ensures unbounded { OnErr result (IsUnbounded (kept_in self.new)) }
     {
         match self {
             Accumulator::Rows => {}
@@ -61,22 +75,47 @@ impl Accumulator {
                     *count += 1;
                 }
             }
+            Accumulator::Distinct(values) => values.add(value)?,
             Accumulator::Sum(total) => total.add(value),
+            Accumulator::Min(least) => {
+                if is_less(value, least) {
+                    *least = value.clone()?;
+                }
+            }
+            Accumulator::Max(greatest) => {
+                if is_greater(value, greatest) {
+                    *greatest = value.clone()?;
+                }
+            }
             Accumulator::Average(total) => total.add(value),
         }
+        Ok(())
     }
 
-    /// Takes what is kept of other records for the same function.
-    pub(crate) fn absorb(&mut self, other: Accumulator)
+    /// Takes what is kept of other records for the same function. After an error what is kept is of no use.
+    pub(crate) fn absorb(&mut self, other: Accumulator) -> Result<(), AllocError>
         requires { HasRoom (joined (kept_in self.old) (kept_in other)) }
-        ensures { kept_in self.new ≡ joined (kept_in self.old) (kept_in other) }
+        ensures joined { OnOk result (kept_in self.new ≡ joined (kept_in self.old) (kept_in other)) }
+        ensures unbounded { OnErr result (IsUnbounded (kept_in self.new)) }
     {
         match (self, other) {
             (Accumulator::Count(count), Accumulator::Count(more)) => *count += more,
+            (Accumulator::Distinct(values), Accumulator::Distinct(more)) => values.absorb(more)?,
             (Accumulator::Sum(total), Accumulator::Sum(more)) => total.absorb(more),
+            (Accumulator::Min(least), Accumulator::Min(value)) => {
+                if is_less(&value, least) {
+                    *least = value;
+                }
+            }
+            (Accumulator::Max(greatest), Accumulator::Max(value)) => {
+                if is_greater(&value, greatest) {
+                    *greatest = value;
+                }
+            }
             (Accumulator::Average(total), Accumulator::Average(more)) => total.absorb(more),
             (_, _) => {}
         }
+        Ok(())
     }
 
     /// The value of the function over a group of so many records.
@@ -86,7 +125,10 @@ impl Accumulator {
         match self {
             Accumulator::Rows => Cell::Plain(Value::Int(i128::from(lines))),
             Accumulator::Count(count) => Cell::Plain(Value::Int(i128::from(count))),
+            Accumulator::Distinct(values) => Cell::Plain(Value::Int(i128::from(values.count()))),
             Accumulator::Sum(total) if total.count > 0 => Cell::Plain(Value::Int(total.sum)),
+            Accumulator::Min(value) => Cell::Plain(value),
+            Accumulator::Max(value) => Cell::Plain(value),
             Accumulator::Average(total) if total.count > 0 => Cell::Ratio(total.sum, total.count),
             _ => Cell::Plain(Value::Null),
         }

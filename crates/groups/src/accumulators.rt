@@ -31,10 +31,10 @@ impl Model for Accumulators {
 }
 
 impl Accumulators {
-    ghost use Rattle.std.specs.Prelude.{◌≡◌, ◌+◌, ◌<◌, ◌≤◌, ◌^◌, [], IfOk, length, map};
+    ghost use Rattle.std.specs.Prelude.{◌≡◌, ◌+◌, ◌<◌, ◌≤◌, ◌^◌, [], IfOk, OnOk, length, map};
     ghost use Rattle.values.specs.Datum.{data_of};
     ghost use Rattle.groups.specs.Kept.{summary};
-    ghost use Rattle.groups.specs.Held.{held, with_row, join, AreServed, IsNarrowRow};
+    ghost use Rattle.groups.specs.Held.{held, with_row, join, IsNarrowRow};
     ghost use Rattle.groups.specs.Shown.{summary_of};
 
     /// What is kept of a group without members.
@@ -42,40 +42,45 @@ impl Accumulators {
         alloc: Global,
         functions: &[ColumnFunction],
     ) -> Result<Accumulators, AllocError>
-        requires { AreServed functions.now }
         ensures { IfOk result (λ group. group ≡ held functions.now []) }
     {
         let mut parts = Vec::with_capacity(alloc, functions.len())?;
         for function in functions {
-            parts.push(Accumulator::new(*function))?;
+            parts.push(Accumulator::new(alloc, *function))?;
         }
         Ok(Accumulators { lines: 0, parts })
     }
 
-    /// Takes one more member, by its values.
-    pub(crate) fn add(&mut self, functions: &[ColumnFunction], row: &[Value])
+    /// Takes one more member, by its values. After an error the group is of no use.
+    pub(crate) fn add(
+        &mut self,
+        functions: &[ColumnFunction],
+        row: &[Value],
+    ) -> Result<(), AllocError>
         requires narrow { IsNarrowRow (data_of row.now) }
         requires room { self.old.lines + 1 < 2 ^ 63 }
         requires one_each { length self.old.parts ≡ length functions.now }
-        ensures { self.new ≡ with_row functions.now self.old (data_of row.now) }
+        ensures { OnOk result (self.new ≡ with_row functions.now self.old (data_of row.now)) }
     {
-        for (place, function) in functions.iter().enumerate() {
-            self.parts[place].add(*function, row);
-        }
         self.lines += 1;
+        for (place, function) in functions.iter().enumerate() {
+            self.parts[place].add(*function, row)?;
+        }
+        Ok(())
     }
 
-    /// Takes what is kept of other members.
-    pub(crate) fn absorb(&mut self, other: Accumulators)
+    /// Takes what is kept of other members. After an error the group is of no use.
+    pub(crate) fn absorb(&mut self, other: Accumulators) -> Result<(), AllocError>
         requires room { self.old.lines + other.lines < 2 ^ 63 }
         requires one_each { length other.parts ≡ length self.old.parts }
-        ensures { self.new ≡ join self.old other }
+        ensures { OnOk result (self.new ≡ join self.old other) }
     {
         let Accumulators { lines, parts } = other;
-        for (place, part) in parts.into_iter().enumerate() {
-            self.parts[place].absorb(part);
-        }
         self.lines += lines;
+        for (place, part) in parts.into_iter().enumerate() {
+            self.parts[place].absorb(part)?;
+        }
+        Ok(())
     }
 
     /// The number of members, and the values of the functions over them.

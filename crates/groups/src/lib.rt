@@ -8,6 +8,9 @@
 mod accumulator;
 mod accumulators;
 mod cell;
+mod copy;
+mod distinct_values;
+mod extreme;
 mod group;
 mod laws;
 mod table;

@@ -35,9 +35,9 @@ impl Table {
     ghost use Rattle.std.specs.FinMap as fin;
     ghost use Rattle.values.specs.Datum.{data_of};
     ghost use Rattle.groups.specs.Groups.{Key};
-    ghost use Rattle.groups.specs.Held.{AreServed, IsNarrowRow, held};
+    ghost use Rattle.groups.specs.Held.{IsNarrowRow, held};
     ghost use Rattle.groups.specs.GroupRows.{SameBag, group_row_in, group_rows};
-    ghost use Rattle.groups.specs.Table.{Fit, HasPlace, IsAdded, IsPut, IsFitting, IsJoined, IsTableOf, TakesOne};
+    ghost use Rattle.groups.specs.Table.{CanJoin, HasPlace, IsAdded, IsPut, IsFitting, IsJoined, IsTableOf, TakesOne};
 
     /// The table of no records under a grouping set, for these set functions.
     pub fn new(
@@ -45,7 +45,6 @@ impl Table {
         set: &[usize],
         functions: &[ColumnFunction],
     ) -> Result<Table, AllocError>
-        requires { AreServed functions.now }
         ensures empty { IfOk result (λ table. IsTableOf set.now functions.now table []) }
     {
         if set.is_empty() {
@@ -59,7 +58,6 @@ impl Table {
 
     /// The table of no records under the empty set, whose one key is there from the start.
     fn with_empty_key(alloc: Global, functions: &[ColumnFunction]) -> Result<Table, AllocError>
-        requires { AreServed functions.now }
         ensures { IfOk result (λ table. (k : Key) → IsPut fin.empty table [] (held functions.now []) k) }
     {
         let mut table = Table {
@@ -78,7 +76,6 @@ impl Table {
         functions: &[ColumnFunction],
         row: &[Value],
     ) -> Result<(), AllocError>
-        requires served { AreServed functions.now }
         requires narrow { IsNarrowRow (data_of row.now) }
         requires room { TakesOne set.now functions.now self.old }
         ensures added { OnOk result ((rows : List Row) → IsTableOf set.now functions.now self.old rows
@@ -90,7 +87,8 @@ impl Table {
 
     /// Takes the records of another table, whose groups move into this one. After an error the table is of no use.
     pub fn absorb(&mut self, other: Table) -> Result<(), AllocError>
-        requires { Fit self.old other }
+        requires { CanJoin self.old other }
+        ensures groups { OnOk result ((k : Key) → IsJoined self.old other self.new k) }
         ensures joined { OnOk result ((set : List ℕ) (functions : List ColumnFunction) (rows more : List Row)
             → IsTableOf set functions self.old rows → IsTableOf set functions other more → IsTableOf set functions self.new (rows ++ more)) }
     {
@@ -100,7 +98,7 @@ impl Table {
     /// One group for each key of the records, in no order that is said.
     pub fn finish(self) -> Result<Vec<Group>, AllocError>
         ensures groups { IfOk result (λ groups. (set : List ℕ) (functions : List ColumnFunction) (rows : List Row)
-            → AreServed functions → IsTableOf set functions self rows → SameBag (map group_row_in groups.items) (group_rows set functions rows)) }
+            → IsTableOf set functions self rows → SameBag (map group_row_in groups.items) (group_rows set functions rows)) }
     {
         let Table { alloc, groups } = self;
         groups_of(alloc, groups)
@@ -113,17 +111,15 @@ impl Table {
         key: Vec<Value>,
         row: &[Value],
     ) -> Result<(), AllocError>
-        requires served { AreServed functions.now }
         requires narrow { IsNarrowRow (data_of row.now) }
         requires place { HasPlace functions.now (fin.get self.old (data_of key.items)) }
         ensures { OnOk result ((k : Key) → IsAdded functions.now self.old self.new (data_of key.items) (data_of row.now) k) }
     {
         if let Some(group) = self.groups.get_mut(&key) {
-            group.add(functions, row);
-            return Ok(());
+            return group.add(functions, row);
         }
         let mut group = Accumulators::new(self.alloc, functions)?;
-        group.add(functions, row);
+        group.add(functions, row)?;
         self.groups.insert(key, group)?;
         Ok(())
     }
@@ -134,8 +130,7 @@ impl Table {
         ensures { OnOk result ((k : Key) → IsPut self.old self.new (data_of key.items) part k) }
     {
         if let Some(group) = self.groups.get_mut(&key) {
-            group.absorb(part);
-            return Ok(());
+            return group.absorb(part);
         }
         self.groups.insert(key, part)?;
         Ok(())
@@ -143,7 +138,7 @@ impl Table {
 
     /// Puts the groups of another table to these.
     fn put_all(&mut self, other: Table) -> Result<(), AllocError>
-        requires { (k : Key) → IfSome (fin.get other k) (λ part. IsFitting part (fin.get self.old k)) }
+        requires { CanJoin self.old other }
         ensures { OnOk result ((k : Key) → IsJoined self.old other self.new k) }
     {
         let Table { alloc: _, groups } = other;

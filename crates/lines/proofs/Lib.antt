@@ -1,4 +1,5 @@
 pub mod Cuts
+pub mod Ends
 pub mod Examples
 pub mod Feeds
 pub mod Fitting

@@ -21,7 +21,7 @@ pub struct Plan {
 
 impl Plan {
     ghost use Rattle.query_check.specs.Resolution.{contents};
-    ghost use Rattle.query_check.specs.Sets.{sets_of};
+    ghost use Rattle.query_check.specs.Sets.{grouping_places, sets_of};
     ghost use Rattle.query_check.specs.Functions.{functions_of};
     ghost use Rattle.query.specs.Planned.{fields_of_plan, form_of_plan};
 
@@ -62,10 +62,18 @@ impl Plan {
         self.resolved.sets()
     }
 
+    /// The grouping columns, by their places in the schema, in the order in which GROUP BY first names
+    /// them.
+    pub fn grouping(&self) -> &[usize]
+        ensures grouping { result.now ≡ grouping_places (fields_of_plan self.now) (form_of_plan self.now) }
+    {
+        self.resolved.grouping()
+    }
+
     /// The different set functions, in the order in which they first stand in SELECT, HAVING and
     /// ORDER BY.
     pub fn functions(&self) -> &[ColumnFunction]
-        ensures functions { ∥ result.now ≡ functions_of (fields_of_plan self.now) (form_of_plan self.now) ∥₁ }
+        ensures functions { result.now ≡ functions_of (fields_of_plan self.now) (form_of_plan self.now) }
     {
         self.resolved.functions()
     }

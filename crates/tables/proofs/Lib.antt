@@ -1,3 +1,12 @@
 pub mod Partly
 pub mod Joining
 pub mod Finishing
+pub mod Orders
+pub mod Reading
+pub mod Narrow
+pub mod Merging
+pub mod Finding
+pub mod Fitting
+pub mod Cutting
+pub mod Shuffling
+pub mod Numbered

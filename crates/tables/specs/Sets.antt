@@ -1,12 +1,14 @@
 -- Tables of a list of grouping sets.
-use Rattle.std.specs.Prelude.{ℕ, ◌+◌, ◌<◌, ◌^◌, ⊤, List, [], ◌∷◌, length, map}
+use Rattle.std.specs.Prelude.{◌≡◌, ℕ, ◌+◌, ◌<◌, ◌^◌, ⊤, List, [], ◌∷◌, length, map}
+use Rattle.std.specs.List.{AllByRecursion}
 use Rattle.std.specs.declared.alloc.Global.{Global}
 use Rattle.std.specs.declared.vec.Vec.{Vec}
 use Rattle.query_check.specs.declared.function.ColumnFunction.{ColumnFunction}
 use Rattle.groups.specs.declared.group.Group.{Group}
 use Rattle.groups.specs.GroupRows.{SameBag, group_row_in, group_rows}
 use Rattle.groups.specs.Rows.{Row}
-use Rattle.groups.specs.Table.{Contents, IsTableOf}
+use Rattle.groups.specs.Groups.{Key}
+use Rattle.groups.specs.Table.{Contents, IsTableOf, CanJoin, IsJoined, AreGroupsWithin}
 
 -- the grouping sets of the code, each as the list of its columns' places
 abbrev pub places_of : List (Vec ℕ Global) → List (List ℕ)
@@ -30,12 +32,18 @@ pub record AllTakeOne (sets : List (List ℕ)) (functions : List ColumnFunction)
   pub are_tables : AreTablesOf sets functions tables rows
   pub few : length rows + 1 < 2 ^ 63
 
--- the tables, for one list of sets and the same functions, of two lists that have together fewer than 2^63 records
-pub record AllFit (tables others : List Contents) : Type 0 where
-  pub sets : List (List ℕ)
-  pub functions : List ColumnFunction
-  pub rows : List Row
-  pub more : List Row
-  pub are_tables : AreTablesOf sets functions tables rows
-  pub are_others : AreTablesOf sets functions others more
-  pub few : length rows + length more < 2 ^ 63
+-- there is one other table for each table, and each takes the groups of its other
+abbrev pub AllCanJoin : List Contents → List Contents → Type 0
+AllCanJoin [] [] = ⊤
+AllCanJoin (table ∷ tables) (other ∷ others) = CanJoin table other × AllCanJoin tables others
+AllCanJoin tables others = ⊥
+
+-- each table has what the old one and its other have
+abbrev pub AllJoined : List Contents → List Contents → List Contents → Type 0
+AllJoined [] [] [] = ⊤
+AllJoined (old ∷ olds) (other ∷ others) (table ∷ tables) = ((key : Key) → IsJoined old other table key) × AllJoined olds others tables
+AllJoined olds others tables = ⊥
+
+-- there are so many tables, and no group of theirs has more than so many records
+abbrev pub AreAllWithin : ℕ → ℕ → List ColumnFunction → List Contents → Type 0
+AreAllWithin count lines functions tables = (length tables ≡ count) × AllByRecursion (AreGroupsWithin lines functions) tables

@@ -1,8 +1,17 @@
 //! Partial results over pieces of an input, and the groups of the whole.
 #![tactic(auto)]
 
+mod folding;
 mod grouped;
+mod laws;
+mod note;
+mod numbering;
+mod partial;
+mod rows;
 mod sets;
+mod shape;
 
 pub use grouped::Groups;
 pub use groups::{Cell, Group};
+pub use laws::order_law;
+pub use partial::Partial;

@@ -1,7 +1,6 @@
 ghost use Rattle.std.specs.Prelude.{ℕ, IfOk, List};
 ghost use Rattle.query_check.specs.declared.function.ColumnFunction.{ColumnFunction};
 ghost use Rattle.groups.specs.Rows.{Row};
-ghost use Rattle.groups.specs.Held.{AreServed};
 ghost use Rattle.tables.specs.Sets.{AreGroupsOf, AreTablesOf};
 
 use groups::{Group, Table};
@@ -33,8 +32,8 @@ impl Tables {
     ghost use Rattle.values.specs.Datum.{data_of};
     ghost use Rattle.query_check.specs.declared.function.ColumnFunction.{ColumnFunction};
     ghost use Rattle.groups.specs.Rows.{Row};
-    ghost use Rattle.groups.specs.Held.{AreServed, IsNarrowRow};
-    ghost use Rattle.tables.specs.Sets.{AllFit, AllTakeOne, AreGroupsOf, AreTablesOf, places_of};
+    ghost use Rattle.groups.specs.Held.{IsNarrowRow};
+    ghost use Rattle.tables.specs.Sets.{AllCanJoin, AllJoined, AllTakeOne, AreGroupsOf, AreTablesOf, places_of};
 
     /// The tables of no records.
     pub(crate) fn new(
@@ -42,7 +41,6 @@ impl Tables {
         sets: &[Vec<usize>],
         functions: &[ColumnFunction],
     ) -> Result<Tables, AllocError>
-        requires { AreServed functions.now }
         ensures empty { IfOk result (λ tables. AreTablesOf (places_of sets.now) functions.now tables []) }
     {
         let mut tables = Vec::with_capacity(alloc, sets.len())?;
@@ -59,7 +57,6 @@ impl Tables {
         functions: &[ColumnFunction],
         row: &[Value],
     ) -> Result<(), AllocError>
-        requires served { AreServed functions.now }
         requires narrow { IsNarrowRow (data_of row.now) }
         requires room { AllTakeOne (places_of sets.now) functions.now self.old }
         ensures added { OnOk result ((rows : List Row) → AreTablesOf (places_of sets.now) functions.now self.old rows
@@ -73,7 +70,8 @@ impl Tables {
 
     /// Takes the records of other tables of the same sets. After an error the tables are of no use.
     pub(crate) fn absorb(&mut self, other: Tables) -> Result<(), AllocError>
-        requires { AllFit self.old other }
+        requires { AllCanJoin self.old other }
+        ensures groups { OnOk result (AllJoined self.old other self.new) }
         ensures joined { OnOk result ((sets : List (List ℕ)) (functions : List ColumnFunction) (rows more : List Row)
             → AreTablesOf sets functions self.old rows → AreTablesOf sets functions other more → AreTablesOf sets functions self.new (rows ++ more)) }
     {
@@ -87,7 +85,7 @@ impl Tables {
     /// The groups of each set, in the order of the sets; those of one set in no order that is said.
     pub(crate) fn finish(self, alloc: Global) -> Result<Vec<Vec<Group>>, AllocError>
         ensures groups { IfOk result (λ groups. (sets : List (List ℕ)) (functions : List ColumnFunction) (rows : List Row)
-            → AreServed functions → AreTablesOf sets functions self rows → AreGroupsOf sets functions groups.items rows) }
+            → AreTablesOf sets functions self rows → AreGroupsOf sets functions groups.items rows) }
     {
         let Tables { tables } = self;
         finish_all(alloc, tables)
@@ -97,7 +95,7 @@ impl Tables {
 /// The groups of each table.
 fn finish_all(alloc: Global, tables: Vec<Table>) -> Result<Vec<Vec<Group>>, AllocError>
     ensures { IfOk result (λ groups. (sets : List (List ℕ)) (functions : List ColumnFunction) (rows : List Row)
-        → AreServed functions → AreTablesOf sets functions tables.items rows → AreGroupsOf sets functions groups.items rows) }
+        → AreTablesOf sets functions tables.items rows → AreGroupsOf sets functions groups.items rows) }
 {
     let mut groups = Vec::with_capacity(alloc, tables.len())?;
     for table in tables {

@@ -33,4 +33,11 @@ impl Record {
     {
         self.values.as_slice()
     }
+
+    /// Gives the values up, in order.
+    pub fn into_values(self) -> Vec<Value>
+        ensures values { data_of result.items ≡ self }
+    {
+        self.values
+    }
 }

@@ -1,6 +1,6 @@
 use Rattle.std.proofs.Common.{◌≡◌, ◌+◌, length, map}
 use Rattle.groups.specs.Kept.{kept_in}
-use Rattle.groups.specs.Held.{all_joined}
+use Rattle.groups.specs.Held.{all_joined, IsSound}
 use Rattle.groups.proofs.Keeping.{joined_from}
 use Rattle.groups.proofs.accumulators.Accumulators.absorb.Given as goal
 
@@ -9,6 +9,6 @@ abbrev pub invariant-loop-place : goal.invariant-loop-place
 invariant-loop-place l = record {
   rest : joined_from l.place-iterator.count (map kept_in l.self-inside.parts.items) (map kept_in l.place-iterator.iter.rest.items) ≡ all_joined l.fn.self.parts l.fn.other.parts;
   one_each : l.place-iterator.count + length l.place-iterator.iter.rest.items ≡ length l.self-inside.parts.items;
-  lines : l.self-inside.lines ≡ l.fn.self.lines;
-  more : l.lines ≡ l.fn.other.lines;
+  lines : l.self-inside.lines ≡ l.fn.self.lines + l.fn.other.lines;
+  sound : IsSound (l.fn.self.lines + l.fn.other.lines) (map kept_in l.self-inside.parts.items);
 }

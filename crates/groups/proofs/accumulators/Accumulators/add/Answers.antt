@@ -1,10 +1,21 @@
 use Rattle.std.proofs.Common.{◌≡◌, ◌+◌, ◌<◌, ◌^◌, List, set, length, map, sym, ap, subst, ◌∙◌, arith, add-one, length-set}
+use Rattle.std.proofs.lemmas.List.{length-map}
 use Rattle.values.specs.Datum.{data_of}
 use Rattle.query_check.specs.declared.function.ColumnFunction.TheVariants.{CountRows}
-use Rattle.groups.specs.Kept.{Kept, kept_in}
+use Rattle.groups.specs.Kept.{Kept, kept_in, IsWithin}
 use Rattle.groups.specs.Held.{Held, all_taken, IsSound}
-use Rattle.groups.proofs.Keeping.{all_taken-sound, taken_from, taken_from-step, taken_from-all, taken_from-room}
+use Rattle.groups.proofs.Keeping.{all_taken-sound, more-sound, sound-set, unbounded-within, taken_from, taken_from-step, taken_from-all, taken_from-within, taken_from-room}
 use Rattle.groups.proofs.accumulators.Accumulators.add.Goals as goal
+
+pub loop-place-init : goal.loop-place-init
+loop-place-init c =
+    let items = c.self.inside.parts.items in
+    record {
+      rest = ap (λ (h : Held). all_taken c.args.functions.now h.parts (data_of c.args.row.now)) c.self.view_is;
+      one_each = sym (length-map items kept_in) ∙ ap (λ (h : Held). length h.parts) c.self.view_is ∙ c.requires.one_each;
+      lines = ap (λ (h : Held). h.lines + 1) c.self.view_is;
+      sound = subst (λ (h : Held). IsSound (h.lines + 1) (map kept_in items)) c.self.view_is (more-sound c.self.inside.lines 1 (map kept_in items) c.self.invariant);
+    }
 
 pub add-requires : goal.add-requires
 add-requires c =
@@ -23,28 +34,38 @@ pub loop-place-preserved : goal.loop-place-preserved
 loop-place-preserved c =
     let fs = c.args.functions.now in
     let row = data_of c.args.row.now in
+    let old = c.args.self.now in
     let items = c.loop-place.self-inside.parts.items in
+    let place = c.loop-place.place in
     let i = c.loop-place.invariant in
+    let start : IsSound old.lines old.parts = subst (λ (h : Held). IsSound h.lines h.parts) c.self.view_is c.self.invariant in
+    let all : IsSound (old.lines + 1) (taken_from place fs (map kept_in items) row) =
+    subst (λ (ks : List Kept). IsSound (old.lines + 1) ks) (sym i.rest) (all_taken-sound old.lines fs old.parts row start c.requires.narrow) in
+    let here : place < length items = omega (arith, c.loop-place-test.true, i.one_each) in
     record {
-      rest = ap (λ n. taken_from n fs (map kept_in (set items c.loop-place.place c.add.new.self)) row) (add-one c.loop-place.place)
-          ∙ taken_from-step c.loop-place.place fs items row CountRows c.index_mut.result.now c.add.new.self
-          c.loop-place-test.true (omega (arith, c.loop-place-test.true, i.one_each)) c.index_mut.ensures.value c.add.ensures
+      rest = ap (λ n. taken_from n fs (map kept_in (set items place c.add.new.self)) row) (add-one place)
+          ∙ taken_from-step place fs items row CountRows c.index_mut.result.now c.add.new.self
+          c.loop-place-test.true here c.index_mut.ensures.value c.in_ok-add.ensures.taken
           ∙ i.rest;
-      one_each = length-set items c.loop-place.place c.add.new.self ∙ i.one_each;
+      one_each = length-set items place c.add.new.self ∙ i.one_each;
       lines = i.lines;
+      sound = sound-set (old.lines + 1) place items c.add.new.self i.sound
+          (subst (λ (k : Kept). IsWithin (old.lines + 1) k) (sym c.in_ok-add.ensures.taken)
+          (taken_from-within (old.lines + 1) place fs items row CountRows c.index_mut.result.now c.loop-place-test.true here c.index_mut.ensures.value all));
     }
+
+pub invariant_of-self-in_err-add : goal.invariant_of-self-in_err-add
+invariant_of-self-in_err-add c =
+    let items = c.loop-place.self-inside.parts.items in
+    let place = c.loop-place.place in
+    let i = c.loop-place.invariant in
+    subst (λ n. IsSound n (map kept_in (set items place c.add.new.self))) (sym i.lines)
+    (sound-set (c.args.self.now.lines + 1) place items c.add.new.self i.sound (unbounded-within (c.args.self.now.lines + 1) (kept_in c.add.new.self) c.in_err-add.ensures.unbounded))
 
 pub invariant_of-self : goal.invariant_of-self
 invariant_of-self c =
-    let fs = c.args.functions.now in
-    let row = data_of c.args.row.now in
-    let old = c.args.self.now in
     let i = c.loop-place.invariant in
-    let start : IsSound old.lines old.parts = subst (λ (h : Held). IsSound h.lines h.parts) c.self.view_is c.self.invariant in
-    let all : map kept_in c.loop-place.self-inside.parts.items ≡ all_taken fs old.parts row =
-    taken_from-all c.loop-place.place fs c.loop-place.self-inside.parts.items row (all_taken fs old.parts row) (omega (arith, c.loop-place-test.false, c.loop-place.auto.place-end)) i.one_each i.rest in
-    subst (λ (ks : List Kept). IsSound (c.loop-place.self-inside.lines + 1) ks) (sym all)
-    (subst (λ n. IsSound (n + 1) (all_taken fs old.parts row)) (sym i.lines) (all_taken-sound old.lines fs old.parts row start c.requires.narrow))
+    subst (λ n. IsSound n (map kept_in c.loop-place.self-inside.parts.items)) (sym i.lines) i.sound
 
 pub returns : goal.returns
 returns c =
@@ -54,4 +75,4 @@ returns c =
     let i = c.loop-place.invariant in
     let all : map kept_in c.loop-place.self-inside.parts.items ≡ all_taken fs old.parts row =
     taken_from-all c.loop-place.place fs c.loop-place.self-inside.parts.items row (all_taken fs old.parts row) (omega (arith, c.loop-place-test.false, c.loop-place.auto.place-end)) i.one_each i.rest in
-    λ j. record { lines = i.lines j + 1; parts = all j }
+    λ j. record { lines = i.lines j; parts = all j }

@@ -1,7 +1,7 @@
-use Rattle.std.proofs.Common.{◌≡◌, length, map}
+use Rattle.std.proofs.Common.{◌≡◌, ◌+◌, length, map}
 use Rattle.values.specs.Datum.{data_of}
 use Rattle.groups.specs.Kept.{kept_in}
-use Rattle.groups.specs.Held.{all_taken}
+use Rattle.groups.specs.Held.{all_taken, IsSound}
 use Rattle.groups.proofs.Keeping.{taken_from}
 use Rattle.groups.proofs.accumulators.Accumulators.add.Given as goal
 
@@ -10,5 +10,6 @@ abbrev pub invariant-loop-place : goal.invariant-loop-place
 invariant-loop-place l = record {
   rest : taken_from l.place l.functions (map kept_in l.self-inside.parts.items) (data_of l.row) ≡ all_taken l.functions l.fn.self.parts (data_of l.row);
   one_each : length l.self-inside.parts.items ≡ length l.functions;
-  lines : l.self-inside.lines ≡ l.fn.self.lines;
+  lines : l.self-inside.lines ≡ l.fn.self.lines + 1;
+  sound : IsSound (l.fn.self.lines + 1) (map kept_in l.self-inside.parts.items);
 }

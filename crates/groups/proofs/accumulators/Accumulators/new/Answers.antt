@@ -1,6 +1,5 @@
-use Rattle.std.proofs.Common.{◌≡◌, [], map, take, sym, subst, List}
-use Rattle.query_check.specs.declared.function.ColumnFunction.{ColumnFunction}
-use Rattle.groups.specs.Kept.{Kept, kept}
+use Rattle.std.proofs.Common.{take, sym, subst, List}
+use Rattle.groups.specs.Kept.{Kept}
 use Rattle.groups.specs.Held.{IsSound}
 use Rattle.groups.proofs.Keeping.{none-sound}
 use Rattle.groups.proofs.accumulators.Accumulators.new.Goals as goal

@@ -1,16 +1,11 @@
-use Rattle.std.proofs.Common.{◌≡◌, ◌++◌, ℕ, List}
+use Rattle.std.proofs.Common.{ℕ, List}
 use Rattle.std.proofs.lemmas.Result.{on_ok_weaker}
 use Rattle.query_check.specs.declared.function.ColumnFunction.{ColumnFunction}
 use Rattle.groups.specs.Rows.{Row}
 use Rattle.groups.specs.Groups.{Key}
 use Rattle.groups.specs.Table.{IsJoined, IsTableOf}
-use Rattle.groups.proofs.Meaning.{table-joined, tables-fit}
+use Rattle.groups.proofs.Meaning.{table-joined}
 use Rattle.groups.proofs.table.Table.absorb.Goals as goal
-
-pub put_all-requires : goal.put_all-requires
-put_all-requires c =
-    let f = c.requires in
-    tables-fit f.set f.functions c.args.self.now c.args.other f.rows f.more f.is_table f.is_other f.few
 
 pub returns : goal.returns
 returns c =
@@ -18,6 +13,7 @@ returns c =
     let other = c.args.other in
     let new = c.put_all.new.self in
     record {
+      groups = c.put_all.ensures;
       joined = on_ok_weaker c.put_all.result
           (λ (h : (k : Key) → IsJoined old other new k).
           λ (set : List ℕ) (fs : List ColumnFunction) (rows more : List Row) (t : IsTableOf set fs old rows) (u : IsTableOf set fs other more).

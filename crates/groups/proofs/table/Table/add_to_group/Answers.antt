@@ -1,12 +1,13 @@
-use Rattle.std.proofs.Common.{rules, ◌≡◌, ◌∙◌, ap, sym, refl, subst, cond, Option, Some, None, IfSome, IsSome}
+use Rattle.std.proofs.Common.{◌≡◌, ◌∙◌, ap, sym, cond, Some, None, IsSome}
+use Rattle.std.proofs.lemmas.Result.{on_ok_weaker}
 use Rattle.std.specs.FinMap as fin
 use Rattle.std.specs.Option.{option_copied_mut, is_some}
 use Rattle.std.specs.Map.{lookup}
 use Rattle.std.specs.Cmp.Lexicographic.{pointwise}
 use Rattle.values.specs.Datum.{data_of}
-use Rattle.groups.specs.Groups.{Key, same_key}
-use Rattle.groups.specs.Held.{Held, held, with_row}
-use Rattle.groups.specs.Table.{HasPlace, grown, shown}
+use Rattle.groups.specs.Groups.{same_key}
+use Rattle.groups.specs.Held.{Held, with_row}
+use Rattle.groups.specs.Table.{grown, shown}
 use Rattle.groups.proofs.Order.{value_eq}
 use Rattle.groups.proofs.Entries.{get-updated, get-shown, added_is}
 use Rattle.groups.proofs.table.Table.add_to_group.Goals as goal
@@ -43,9 +44,12 @@ returns-in-Some c =
     let key = data_of c.args.key.items in
     let there : IsSome (lookup (λ k. pointwise value_eq c.args.key.items k.items) es) = ap is_some (sym c.get_mut.ensures.value ∙ ap option_copied_mut c.in-Some.is) in
     let u = (c.get_mut.follows.holds c.add.new.self).3 there in
+    on_ok_weaker c.add.result
+    (λ (h : c.add.new.self ≡ with_row fs c.in-Some.group.now row).
     added_is fs c.args.self.now (shown n.entries) key row (Some c.add.new.self)
     (λ q. get-updated es n.entries c.args.key.items (Some c.add.new.self) u.1 u.3 q ∙ ap (λ m. cond (same_key q key) (Some c.add.new.self) (fin.get m q)) c.self.view_is)
-    (ap Some c.add.ensures ∙ ap (λ o. Some (grown fs o row)) (sym (found_then c)))
+    (ap Some h ∙ ap (λ o. Some (grown fs o row)) (sym (found_then c))))
+    c.add.ensures
 
 pub returns : goal.returns
 returns c =
@@ -59,4 +63,4 @@ returns c =
     ap (λ m. fin.get m key) (sym c.self.view_is) ∙ get-shown c.args.key.items es ∙ sym c.get_mut.ensures.value ∙ ap option_copied_mut c.in_default.is in
     added_is fs c.args.self.now (shown c.insert.new.self.entries) key row (Some c.add-2.new.self)
     (λ q. get-updated es c.insert.new.self.entries c.args.key.items (Some c.add-2.new.self) u.1 others q ∙ ap (λ m. cond (same_key q key) (Some c.add-2.new.self) (fin.get m q)) c.self.view_is)
-    (ap Some c.add-2.ensures ∙ ap (λ (g : Held). Some (with_row fs g row)) c.in_ok-group.ensures ∙ ap (λ o. Some (grown fs o row)) (sym absent))
+    (ap Some c.in_ok-add.ensures ∙ ap (λ (g : Held). Some (with_row fs g row)) c.in_ok-group.ensures ∙ ap (λ o. Some (grown fs o row)) (sym absent))

@@ -1,10 +1,9 @@
-use Rattle.std.proofs.Common.{◌≡◌, ℕ, List, map, Result, Ok, Err, IfOk, Vec, Global, sym, ap, ◌∙◌}
+use Rattle.std.proofs.Common.{◌≡◌, ℕ, List, map, Result, Ok, Err, IfOk, Vec, Global, ap, ◌∙◌}
 use Rattle.std.specs.List.{IsDistinct}
 use Rattle.query_check.specs.declared.function.ColumnFunction.{ColumnFunction}
 use Rattle.groups.specs.declared.group.Group.{Group}
 use Rattle.groups.specs.Rows.{Row}
 use Rattle.groups.specs.Groups.{same_key}
-use Rattle.groups.specs.Held.{AreServed}
 use Rattle.groups.specs.GroupRows.{SameBag, group_row_in, group_row_kept, group_rows, weigh}
 use Rattle.groups.specs.Table.{Contents, IsTableOf, entries_shown, shown}
 use Rattle.groups.proofs.Entries.{Entries}
@@ -13,8 +12,8 @@ use Rattle.groups.proofs.table.Table.finish.Goals as goal
 
 told : {E : Type 0} (r : Result (Vec Group Global) E) (es : Entries) (t : Contents) → shown es ≡ t
     → IfOk r (λ v. map group_row_in v.items ≡ map group_row_kept (entries_shown es)) → IfOk r (λ _. IsDistinct same_key (map (λ e. e.0) (entries_shown es)))
-    → IfOk r (λ v. (set : List ℕ) (fs : List ColumnFunction) (rows : List Row) → AreServed fs → IsTableOf set fs t rows → SameBag (map group_row_in v.items) (group_rows set fs rows))
-told (Ok v) es t w h d = λ set fs rows s a f. ap (weigh f) h ∙ lines-bag set fs rows (entries_shown es) t w s a d f
+    → IfOk r (λ v. (set : List ℕ) (fs : List ColumnFunction) (rows : List Row) → IsTableOf set fs t rows → SameBag (map group_row_in v.items) (group_rows set fs rows))
+told (Ok v) es t w h d = λ set fs rows a f. ap (weigh f) h ∙ lines-bag set fs rows (entries_shown es) t w a d f
 told (Err e) es t w h d = tt
 
 pub returns : goal.returns

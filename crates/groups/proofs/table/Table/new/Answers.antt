@@ -1,4 +1,4 @@
-use Rattle.std.proofs.Common.{◌≡◌, ◌≢◌, ◌==◌, true, false, ℕ, List, [], length, Result, Ok, Err, IfOk, sym, ap, ◌∙◌, rules, arith, eq-eqb}
+use Rattle.std.proofs.Common.{◌≡◌, ◌≢◌, ◌==◌, true, ℕ, List, [], length, Result, Ok, Err, IfOk, ap, arith, eq-eqb}
 use Rattle.query_check.specs.declared.function.ColumnFunction.{ColumnFunction}
 use Rattle.std.specs.FinMap as fin
 use Rattle.groups.specs.Groups.{Key}

@@ -1,5 +1,5 @@
-use Rattle.std.proofs.Common.{◌≡◌, List, [], ◌∷◌, Option, Some, None, IfSome, Vec, Global, ap, sym, subst, ◌∙◌}
-use Rattle.std.proofs.lemmas.Map.Iter.{rest_more, rest_all}
+use Rattle.std.proofs.Common.{◌≡◌, ◌∷◌, Option, IfSome, Vec, Global, ap, sym, subst, ◌∙◌}
+use Rattle.std.proofs.lemmas.Map.Iter.{rest_more}
 use Rattle.std.proofs.lemmas.Map.Keys.{IsDistinct-tail}
 use Rattle.std.specs.FinMap.{get, find, get-from_entries}
 use Rattle.std.specs.List.{IsDistinct}
@@ -10,7 +10,7 @@ use Rattle.groups.specs.Groups.{Key, key_order}
 use Rattle.groups.specs.Held.{Held}
 use Rattle.groups.specs.Table.{IsFitting, join_options, entries_shown}
 use Rattle.groups.proofs.Order.{key_total}
-use Rattle.groups.proofs.Entries.{Entries, key_eq, merged_step, fits_step, find-first}
+use Rattle.groups.proofs.Entries.{key_eq, merged_step, fits_step, find-first}
 use Rattle.groups.proofs.table.Table.put_all.Goals as goal
 
 pub loop-key-init : goal.loop-key-init

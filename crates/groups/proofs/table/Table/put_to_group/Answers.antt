@@ -1,12 +1,13 @@
-use Rattle.std.proofs.Common.{rules, ◌≡◌, ◌∙◌, ap, sym, refl, subst, cond, Option, Some, None, IfSome, IsSome}
+use Rattle.std.proofs.Common.{◌≡◌, ◌∙◌, ap, sym, cond, Some, None, IsSome}
+use Rattle.std.proofs.lemmas.Result.{on_ok_weaker}
 use Rattle.std.specs.FinMap as fin
 use Rattle.std.specs.Option.{option_copied_mut, is_some}
 use Rattle.std.specs.Map.{lookup}
 use Rattle.std.specs.Cmp.Lexicographic.{pointwise}
 use Rattle.values.specs.Datum.{data_of}
-use Rattle.groups.specs.Groups.{Key, same_key}
-use Rattle.groups.specs.Held.{Held, join}
-use Rattle.groups.specs.Table.{IsFitting, join_options, shown}
+use Rattle.groups.specs.Groups.{same_key}
+use Rattle.groups.specs.Held.{join}
+use Rattle.groups.specs.Table.{join_options, shown}
 use Rattle.groups.proofs.Order.{value_eq}
 use Rattle.groups.proofs.Entries.{get-updated, get-shown, put_is}
 use Rattle.groups.proofs.table.Table.put_to_group.Goals as goal
@@ -41,9 +42,12 @@ returns-in-Some c =
     let key = data_of c.args.key.items in
     let there : IsSome (lookup (λ k. pointwise value_eq c.args.key.items k.items) es) = ap is_some (sym c.get_mut.ensures.value ∙ ap option_copied_mut c.in-Some.is) in
     let u = (c.get_mut.follows.holds c.absorb.new.self).3 there in
+    on_ok_weaker c.absorb.result
+    (λ (h : c.absorb.new.self ≡ join c.in-Some.group.now c.args.part).
     put_is c.args.self.now (shown n.entries) key c.args.part (Some c.absorb.new.self)
     (λ q. get-updated es n.entries c.args.key.items (Some c.absorb.new.self) u.1 u.3 q ∙ ap (λ m. cond (same_key q key) (Some c.absorb.new.self) (fin.get m q)) c.self.view_is)
-    (ap Some c.absorb.ensures ∙ ap (λ o. join_options o (Some c.args.part)) (sym (found_then c)))
+    (ap Some h ∙ ap (λ o. join_options o (Some c.args.part)) (sym (found_then c))))
+    c.absorb.ensures
 
 pub returns : goal.returns
 returns c =

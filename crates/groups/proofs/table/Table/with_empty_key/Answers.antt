@@ -1,4 +1,4 @@
-use Rattle.std.proofs.Common.{◌≡◌, [], List, Option, sym, subst}
+use Rattle.std.proofs.Common.{[], List, Option, sym, subst}
 use Rattle.std.specs.FinMap as fin
 use Rattle.values.specs.declared.value.Value.{Value}
 use Rattle.values.specs.Datum.{data_of}

@@ -1,0 +1,139 @@
+-- Sets of values.
+use Rattle.std.proofs.Common.{◌≡◌, ◌≢◌, ◌+◌, string_bytes, Bool, true, false, cond, not, ◌||◌, List, [], ◌∷◌, ◌++◌, length, refl, sym, ap, ◌∙◌, arith}
+use Rattle.std.specs.Bool.{MatchBool}
+use Rattle.std.specs.List.{AllByRecursion, IsDistinct, list_any}
+use Rattle.std.specs.Cmp.{eq_by_cmp_equiv}
+use Rattle.std.specs.List.Sorted.{IsPermutation}
+use Rattle.std.proofs.lemmas.List.Folds.{list_any-append}
+use Rattle.std.proofs.lemmas.List.Sorted.{list_any-IsPermutation, IsPermutation-map}
+use Rattle.std.specs.FinSet as set
+use Rattle.values.specs.Datum.{Datum, whole, text, boolean, datum_of, data_of}
+use Rattle.values.specs.Order.{value_order}
+use Rattle.values.specs.declared.value.Value.{Value}
+use Rattle.values.specs.declared.value.Value.TheVariants as v
+use Rattle.groups.specs.Rows.{present}
+use Rattle.groups.specs.Functions.{same_value, different}
+use Rattle.groups.specs.Seen.{Values, set_of, set_shown}
+use Rattle.groups.proofs.Order.{value_total, value_antisymmetric, value_eq, value_eq-ties}
+
+or-false : (b : Bool) → (b || false) ≡ b
+or-false true = refl
+or-false false = refl
+
+or-flip : (a b : Bool) → (a || b) ≡ (b || a)
+or-flip true true = refl
+or-flip true false = refl
+or-flip false true = refl
+or-flip false false = refl
+
+three : (e a b : Bool) → ((e || a) || b) ≡ (a || (e || b))
+three true true b = refl
+three true false b = refl
+three false a b = refl
+
+same : (s t : Values) → ((q : Datum) → set.contains s q ≡ set.contains t q) → s ≡ t
+same s t h = set.same_set value_total value_antisymmetric s t h
+
+in_list : (ds : List Datum) (q : Datum) → set.contains (set_of ds) q ≡ list_any (same_value q) ds
+in_list ds q = set.contains-from_list value_total ds q
+
+pub union-empty : (s : Values) → set.union s (set_of []) ≡ s
+union-empty s = same _ _ (λ q. set.contains-union value_total s (set_of []) q
+    ∙ ap (λ b. set.contains s q || b) (set.contains-empty value_order q) ∙ or-false (set.contains s q))
+
+pub union-flip : (s t : Values) → set.union s t ≡ set.union t s
+union-flip s t = same _ _ (λ q. set.contains-union value_total s t q ∙ or-flip (set.contains s q) (set.contains t q) ∙ sym (set.contains-union value_total t s q))
+
+pub union-append : (xs ys : List Datum) → set_of (xs ++ ys) ≡ set.union (set_of xs) (set_of ys)
+union-append xs ys = same _ _ (λ q. in_list (xs ++ ys) q ∙ list_any-append (same_value q) xs ys
+    ∙ (λ i. sym (in_list xs q) i || sym (in_list ys q) i) ∙ sym (set.contains-union value_total (set_of xs) (set_of ys) q))
+
+-- the number of different values of a list
+pub len-different : (xs : List Datum) → set.len (set_of xs) ≡ length (different xs)
+len-different [] = set.len-empty value_order
+len-different (x ∷ xs) =
+    set.len-insert value_total (set_of xs) x
+    ∙ ap (λ b. cond b (set.len (set_of xs)) (set.len (set_of xs) + 1)) (in_list xs x)
+    ∙ ap (λ n. cond (list_any (same_value x) xs) n (n + 1)) (len-different xs)
+    ∙ elim (list_any (same_value x) xs) as (λ b. cond b (length (different xs)) (length (different xs) + 1) ≡ length (cond b (different xs) (x ∷ different xs))) [
+      | true ↦ refl
+      | false ↦ omega arith
+    ]
+
+-- ---- sets in the code
+
+found-data : (k : Value) (vs : List Value) → list_any (value_eq k) vs ≡ list_any (same_value (datum_of k)) (data_of vs)
+found-data k [] = refl
+found-data k (w ∷ vs) = λ i. value_eq-ties k w i || found-data k vs i
+
+negated : (b : Bool) → false ≡ not b → b ≡ true
+negated true e = refl
+negated false e = cc
+
+alike : (q k : Datum) → same_value q k ≡ true → (ds : List Datum) → list_any (same_value q) ds ≡ list_any (same_value k) ds
+alike q k e [] = refl
+alike q k e (d ∷ ds) = λ i. (eq_by_cmp_equiv value_total).congr q k d e i || alike q k e ds i
+
+-- what stands in the list already adds nothing
+there_already : (q k : Datum) (ds : List Datum) → list_any (same_value k) ds ≡ true → list_any (same_value q) ds ≡ (same_value q k || list_any (same_value q) ds)
+there_already q k ds there =
+    elim (same_value q k) as (λ b. same_value q k ≡ b → list_any (same_value q) ds ≡ (b || list_any (same_value q) ds)) [
+      | true ↦ λ e. alike q k e ds ∙ there
+      | false ↦ λ e. refl
+    ] refl
+
+insert-there : (ds : List Datum) (d : Datum) → list_any (same_value d) ds ≡ true → set_of ds ≡ set.insert (set_of ds) d
+insert-there ds d there = same _ _ (λ q. in_list ds q ∙ there_already q d ds there
+    ∙ ap (λ b. same_value q d || b) (sym (in_list ds q)) ∙ sym (set.contains-insert value_total (set_of ds) d q))
+
+-- a set of the code that has a value already
+pub shown-there : (keys : List Value) (k : Value) → list_any (value_eq k) keys ≡ true → set_shown keys ≡ set.insert (set_shown keys) (datum_of k)
+shown-there keys k h = insert-there (data_of keys) (datum_of k) (sym (found-data k keys) ∙ h)
+
+-- a set of the code after one more value
+pub shown-insert : (old new : List Value) (k : Value) (added : Bool) → added ≡ not (list_any (value_eq k) old)
+    → MatchBool added (IsPermutation (k ∷ old) new) (new ≡ old)
+    → set_shown new ≡ set.insert (set_shown old) (datum_of k)
+shown-insert old new k true e h = same _ _ (λ q.
+    in_list (data_of new) q
+    ∙ sym (list_any-IsPermutation (same_value q) (data_of (k ∷ old)) (data_of new) (IsPermutation-map datum_of (k ∷ old) new h))
+    ∙ ap (λ b. same_value q (datum_of k) || b) (sym (in_list (data_of old) q))
+    ∙ sym (set.contains-insert value_total (set_shown old) (datum_of k) q))
+shown-insert old new k false e h = ap set_shown h ∙ shown-there old k (negated (list_any (value_eq k) old) e)
+
+pub union-one : (s : Values) (d : Datum) → set.union s (set_of (d ∷ [])) ≡ set.insert s d
+union-one s d = same _ _ (λ q. set.contains-union value_total s (set_of (d ∷ [])) q
+    ∙ ap (λ b. set.contains s q || b) (in_list (d ∷ []) q ∙ or-false (same_value q d))
+    ∙ or-flip (set.contains s q) (same_value q d) ∙ sym (set.contains-insert value_total s d q))
+
+-- with one more value that is not NULL
+pub union-present : (s : Values) (w : Value) → w ≢ v.Null → set.union s (set_of (present (datum_of w ∷ []))) ≡ set.insert s (datum_of w)
+union-present s (v.Bool b) h = union-one s (boolean b)
+union-present s (v.Int n) h = union-one s (whole n)
+union-present s (v.Text t) h = union-one s (text (string_bytes t))
+union-present s v.Null h = absurd (h refl)
+
+-- moving the first value of a list into a set
+pub moved : (s : Values) (d : Datum) (ds : List Datum) → set.union (set.insert s d) (set_of ds) ≡ set.union s (set_of (d ∷ ds))
+moved s d ds = same _ _ (λ q.
+    let e = same_value q d in
+    let a = set.contains s q in
+    let b = set.contains (set_of ds) q in
+    set.contains-union value_total (set.insert s d) (set_of ds) q
+    ∙ ap (λ x. x || b) (set.contains-insert value_total s d q)
+    ∙ three e a b
+    ∙ ap (λ x. a || x) (sym (set.contains-insert value_total (set_of ds) d q))
+    ∙ sym (set.contains-union value_total s (set_of (d ∷ ds)) q))
+
+none-of : (w : Value) (vs : List Value) → AllByRecursion (λ y. value_eq w y ≡ false) vs → list_any (value_eq w) vs ≡ false
+none-of w [] h = refl
+none-of w (x ∷ vs) h = λ i. h.0 i || none-of w vs h.1 i
+
+-- how many values a set of the code has
+pub len-shown : (vs : List Value) → IsDistinct value_eq vs → set.len (set_shown vs) ≡ length vs
+unfolding IsDistinct
+len-shown [] d = set.len-empty value_order
+len-shown (w ∷ vs) d =
+    set.len-insert value_total (set_shown vs) (datum_of w)
+    ∙ ap (λ b. cond b (set.len (set_shown vs)) (set.len (set_shown vs) + 1)) (in_list (data_of vs) (datum_of w) ∙ sym (found-data w vs) ∙ none-of w vs d.0)
+    ∙ (let h = len-shown vs d.1 in omega (arith, h))

@@ -1,0 +1,85 @@
+ghost use Rattle.std.specs.Prelude.{◌≡◌, OnOk};
+ghost use Rattle.std.specs.FinSet as set;
+ghost use Rattle.values.specs.Datum.{datum_of};
+ghost use Rattle.groups.specs.Seen.{set_shown};
+
+use crate::copy::copy_of;
+use std::alloc::{AllocError, Global};
+use std::collections::HashSet;
+use std::marker::Model;
+use values::Value;
+
+/// The different values of those that were taken, NULL excepted.
+#[derive(Debug, Drop)]
+pub(crate) struct DistinctValues {
+    values: HashSet<Value>,
+}
+
+impl Model for DistinctValues {
+    ghost use Rattle.std.specs.FinSet as set;
+    ghost use Rattle.groups.specs.Coding.{coded_datum};
+    ghost use Rattle.groups.specs.Seen.{Values, set_shown};
+
+    ghost Value = { Values };
+
+    ghost coded = { set.code coded_datum };
+
+    ghost view = { λ d. set_shown d.values.keys };
+}
+
+impl DistinctValues {
+    ghost use Rattle.std.specs.Prelude.{◌≡◌, [], ◌∷◌, OnOk};
+    ghost use Rattle.std.specs.FinSet as set;
+    ghost use Rattle.values.specs.Datum.{datum_of};
+    ghost use Rattle.groups.specs.Rows.{present};
+    ghost use Rattle.groups.specs.Seen.{set_of};
+
+    /// No value.
+    pub(crate) fn new(alloc: Global) -> DistinctValues
+        ensures { result ≡ set.empty }
+    {
+        DistinctValues {
+            values: HashSet::new(alloc),
+        }
+    }
+
+    /// Takes one more value, of which a copy is kept where it is a new one.
+    pub(crate) fn add(&mut self, value: &Value) -> Result<(), AllocError>
+        ensures { OnOk result (self.new ≡ set.union self.old (set_of (present (datum_of value.now ∷ [])))) }
+    {
+        match value {
+            Value::Null => Ok(()),
+            _ => insert_copy(&mut self.values, value),
+        }
+    }
+
+    /// Takes the values of another set, which move into this one.
+    pub(crate) fn absorb(&mut self, other: DistinctValues) -> Result<(), AllocError>
+        ensures { OnOk result (self.new ≡ set.union self.old other) }
+    {
+        let DistinctValues { values } = other;
+        for value in values {
+            self.values.insert(value)?;
+        }
+        Ok(())
+    }
+
+    /// How many they are.
+    pub(crate) fn count(self) -> u64
+        ensures { result ≡ set.len self }
+    {
+        self.values.len() as u64
+    }
+}
+
+/// Puts a copy of a value into a set that does not have it.
+fn insert_copy(values: &mut HashSet<Value>, value: &Value) -> Result<(), AllocError>
+    ensures { OnOk result (set_shown values.new.keys ≡ set.insert (set_shown values.old.keys) (datum_of value.now)) }
+{
+    if values.contains(value) {
+        return Ok(());
+    }
+    let copy = copy_of(value)?;
+    values.insert(copy)?;
+    Ok(())
+}

@@ -1,0 +1,65 @@
+-- The pieces of an input that was cut between its lines.
+use Rattle.std.proofs.Common.{◌≡◌, ◌+◌, ℕ, suc, List, [], ◌∷◌, ◌++◌, length, map, filter_map, option_map, Option, Result, Ok, Err, refl, sym, ap, ◌∙◌, arith, append-nil, append_assoc}
+use Rattle.std.proofs.lemmas.List.{map-append, length-map}
+use Rattle.std.proofs.lemmas.List.Elements.{filter_map-append}
+use Rattle.std.specs.List.{enumerate_from}
+use Rattle.std.specs.Result.{result_err, result_ok}
+use Rattle.values.specs.Datum.{Datum}
+use Rattle.values.specs.Schema.{Field}
+use Rattle.lines.specs.declared.fault.LineFault.{LineFault}
+use Rattle.lines.specs.Input.{good, refused}
+use Rattle.lines.specs.Lines.{line_feed, lines}
+use Rattle.lines.specs.Pieces.{AllButLast, EndsInFeed}
+use Rattle.lines.specs.Taken.{taken}
+use Rattle.lines.proofs.Splits as splits
+use Rattle.tables.specs.Folding.{good_of}
+use Rattle.tables.specs.Notes.{Noted, note_of, numbered_from}
+use Rattle.tables.specs.Pieces.{IndexedPiece, all_lines, joined_bytes, records_of}
+use Rattle.tables.proofs.Reading.{enumerate-append, numbered_fault}
+
+behind-feed : (bytes rest : List ℕ) → EndsInFeed bytes → lines (bytes ++ rest) ≡ lines bytes ++ lines rest
+behind-feed bytes rest e =
+    ap (λ b. lines (b ++ rest)) e.is
+    ∙ ap lines (append_assoc e.front (line_feed ∷ []) rest)
+    ∙ splits.lines-append e.front rest
+    ∙ ap (λ b. lines b ++ lines rest) (sym e.is)
+
+-- the lines of the pieces are those of what they are joined
+pub cut-lines : (pieces : List IndexedPiece) → AllButLast (λ piece. EndsInFeed piece.bytes) pieces → all_lines pieces ≡ lines (joined_bytes pieces)
+cut-lines [] f = refl
+cut-lines (p ∷ []) f = append-nil (lines p.bytes) ∙ ap lines (sym (append-nil p.bytes))
+cut-lines (p ∷ q ∷ more) f = ap (λ ls. lines p.bytes ++ ls) (cut-lines (q ∷ more) f.1) ∙ sym (behind-feed p.bytes (joined_bytes (q ∷ more)) f.0)
+
+-- the good records of the pieces are those of all their lines
+pub records-good : (fields : List Field) (pieces : List IndexedPiece) → records_of fields pieces ≡ good_of fields (all_lines pieces)
+records-good fields [] = refl
+records-good fields (p ∷ more) =
+    ap (λ rows. good fields p.bytes ++ rows) (records-good fields more)
+    ∙ sym (ap (filter_map result_ok) (map-append (taken fields) (lines p.bytes) (all_lines more)) ∙ filter_map-append result_ok (map (taken fields) (lines p.bytes)) (map (taken fields) (all_lines more)))
+
+-- the refused ones of these lines, the first of which has the number n
+abbrev pub refused_from : List Field → ℕ → List (List ℕ) → List (ℕ × LineFault)
+refused_from fields n ls = filter_map numbered_fault (enumerate_from n (map (taken fields) ls))
+
+shifted : (n m : ℕ) (rs : List (Result (List Datum) LineFault))
+    → map (λ line. (n + line.0, line.1)) (filter_map numbered_fault (enumerate_from m rs)) ≡ filter_map numbered_fault (enumerate_from (n + m) rs)
+shifted n m [] = refl
+shifted n m (Ok row ∷ rs) = shifted n (m + 1) rs ∙ ap (λ k. filter_map numbered_fault (enumerate_from k rs)) (let e : n + (m + 1) ≡ n + m + 1 = omega arith in e)
+shifted n m (Err fault ∷ rs) = ap (λ ls. (n + m, fault) ∷ ls) (shifted n (m + 1) rs ∙ ap (λ k. filter_map numbered_fault (enumerate_from k rs)) (let e : n + (m + 1) ≡ n + m + 1 = omega arith in e))
+
+refused_from-append : (fields : List Field) (n : ℕ) (ls ms : List (List ℕ)) → refused_from fields n (ls ++ ms) ≡ refused_from fields n ls ++ refused_from fields (n + length ls) ms
+refused_from-append fields n ls ms =
+    ap (λ rs. filter_map numbered_fault (enumerate_from n rs)) (map-append (taken fields) ls ms)
+    ∙ ap (filter_map numbered_fault) (enumerate-append n (map (taken fields) ls) (map (taken fields) ms))
+    ∙ filter_map-append numbered_fault (enumerate_from n (map (taken fields) ls)) (enumerate_from (n + length (map (taken fields) ls)) (map (taken fields) ms))
+    ∙ ap (λ k. refused_from fields n ls ++ filter_map numbered_fault (enumerate_from (n + k) (map (taken fields) ms))) (length-map ls (taken fields))
+
+-- numbered one piece after the other, the refused lines are those of all lines
+pub numbered-lines : (fields : List Field) (n : ℕ) (pieces : List IndexedPiece) → numbered_from n (map (note_of fields) pieces) ≡ refused_from fields (n + 1) (all_lines pieces)
+numbered-lines fields n [] = refl
+numbered-lines fields n (p ∷ more) =
+    let ls = lines p.bytes in
+    ap (λ front. front ++ numbered_from (n + length ls) (map (note_of fields) more)) (shifted n 1 (map (taken fields) ls))
+    ∙ ap (λ rest. refused_from fields (n + 1) ls ++ rest) (numbered-lines fields (n + length ls) more)
+    ∙ ap (λ k. refused_from fields (n + 1) ls ++ refused_from fields k (all_lines more)) (let e : n + length ls + 1 ≡ n + 1 + length ls = omega arith in e)
+    ∙ sym (refused_from-append fields (n + 1) ls (all_lines more))

@@ -1,0 +1,54 @@
+-- The rows of the groups of all grouping sets.
+use Rattle.std.proofs.Common.{◌≡◌, ◌+◌, ℕ, List, [], ◌∷◌, ◌++◌, map, Vec, Global, refl, sym, ap, ◌∙◌, arith}
+use Rattle.std.proofs.lemmas.List.{map-append}
+use Rattle.std.specs.List.{enumerate_from, flat_map}
+use Rattle.query_check.specs.declared.function.ColumnFunction.{ColumnFunction}
+use Rattle.groups.specs.declared.group.Group.{Group}
+use Rattle.groups.specs.Rows.{Row}
+use Rattle.groups.specs.Groups as meaning
+use Rattle.groups.specs.Groups.{Key, keys, members}
+use Rattle.groups.specs.GroupRows.{GroupRow, SameBag, weigh, group_row, group_rows, group_row_in}
+use Rattle.tables.specs.Found.{Found, rows_from}
+use Rattle.tables.specs.Results.{all_found, found}
+use Rattle.tables.specs.Sets.{AreGroupsOf}
+
+weigh-append : {A : Type 0} (f : A → ℕ) (xs ys : List A) → weigh f (xs ++ ys) ≡ weigh f xs + weigh f ys
+weigh-append f [] ys = refl
+weigh-append f (x ∷ xs) ys = let h = weigh-append f xs ys in omega (arith, h)
+
+weigh-map : {A B : Type 0} (f : B → ℕ) (g : A → B) (xs : List A) → weigh f (map g xs) ≡ weigh (λ x. f (g x)) xs
+weigh-map f g [] = refl
+weigh-map f g (x ∷ xs) = ap (λ n. f (g x) + n) (weigh-map f g xs)
+
+-- the groups of one grouping set, whose index in the list of sets is this one
+abbrev pub set_groups : List Row → ℕ × List ℕ → List meaning.Group
+set_groups rows s = map (λ key. record { index = s.0; key = key; members = members s.1 key rows }) (keys s.1 rows)
+
+one-set : (f : Found → ℕ) (n : ℕ) (set : List ℕ) (fs : List ColumnFunction) (gs : List Group) (rows : List Row) → SameBag (map group_row_in gs) (group_rows set fs rows)
+    → weigh f (map (λ g. (n, group_row_in g)) gs) ≡ weigh f (map (found fs) (set_groups rows (n, set)))
+one-set f n set fs gs rows same =
+    weigh-map f (λ g. (n, group_row_in g)) gs
+    ∙ sym (weigh-map (λ r. f (n, r)) group_row_in gs)
+    ∙ same (λ r. f (n, r))
+    ∙ weigh-map (λ r. f (n, r)) (λ key. group_row fs key (members set key rows)) (keys set rows)
+    ∙ sym (weigh-map (λ g. f (found fs g)) (λ key. record { index = n; key = key; members = members set key rows }) (keys set rows))
+    ∙ sym (weigh-map f (found fs) (set_groups rows (n, set)))
+
+found-from : (f : Found → ℕ) (n : ℕ) (sets : List (List ℕ)) (fs : List ColumnFunction) (groups : List (Vec Group Global)) (rows : List Row) → AreGroupsOf sets fs groups rows
+    → weigh f (rows_from n groups) ≡ weigh f (map (found fs) (flat_map (set_groups rows) (enumerate_from n sets)))
+found-from f n [] fs [] rows h = refl
+found-from f n [] fs (g ∷ groups) rows h = absurd h
+found-from f n (s ∷ sets) fs [] rows h = absurd h
+found-from f n (s ∷ sets) fs (g ∷ groups) rows h =
+    let front = map (λ x. (n, group_row_in x)) g.items in
+    let a = weigh-append f front (rows_from (n + 1) groups) in
+    let b = one-set f n s fs g.items rows h.0 in
+    let c = found-from f (n + 1) sets fs groups rows h.1 in
+    let d = ap (weigh f) (map-append (found fs) (set_groups rows (n, s)) (flat_map (set_groups rows) (enumerate_from (n + 1) sets)))
+    ∙ weigh-append f (map (found fs) (set_groups rows (n, s))) (map (found fs) (flat_map (set_groups rows) (enumerate_from (n + 1) sets))) in
+    omega (arith, a, b, c, d)
+
+-- the rows of the groups of each set are those of all groups
+pub all-found : (sets : List (List ℕ)) (fs : List ColumnFunction) (groups : List (Vec Group Global)) (rows : List Row) → AreGroupsOf sets fs groups rows
+    → SameBag (rows_from 0 groups) (all_found sets fs rows)
+all-found sets fs groups rows h = λ f. found-from f 0 sets fs groups rows h

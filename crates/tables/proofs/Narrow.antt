@@ -1,0 +1,24 @@
+-- The whole numbers of a record that fits a schema have 64 bits.
+use Rattle.std.proofs.Common.{◌≡◌, ◌^◌, ◌≤◌, ℤ, pos, ◌-ℤ◌, ◌≤ℤ◌, List, [], ◌∷◌, FitsSigned, arith}
+use Rattle.std.proofs.lemmas.Int.{ints}
+use Rattle.std.specs.Int.{w64}
+use Rattle.values.specs.declared.schema.Kind.{Kind}
+use Rattle.values.specs.declared.schema.Kind.TheVariants as kind
+use Rattle.values.specs.Datum.{Datum, boolean, whole, text, null}
+use Rattle.values.specs.Fit.{Fits, Holds}
+use Rattle.values.specs.Schema.{Field}
+use Rattle.groups.specs.Held.{IsNarrow, IsNarrowRow}
+
+one : (k : Kind) (d : Datum) → Holds k d → IsNarrow d
+one k null h = tt
+one k (boolean b) h = tt
+one k (text s) h = tt
+one kind.Int (whole n) h = (omega (arith, ints, h.0), omega (arith, ints, h.1))
+one kind.Text (whole n) h = absurd h
+one kind.Bool (whole n) h = absurd h
+
+pub narrow-from_fits : (fields : List Field) (row : List Datum) → Fits fields row → IsNarrowRow row
+narrow-from_fits [] [] h = tt
+narrow-from_fits [] (d ∷ row) h = absurd h
+narrow-from_fits (f ∷ fields) [] h = absurd h
+narrow-from_fits (f ∷ fields) (d ∷ row) h = (one f.kind d h.0, narrow-from_fits fields row h.1)

@@ -1,0 +1,109 @@
+-- The lines of a piece as far as they have been read.
+use Rattle.std.proofs.Common.{◌≡◌, ◌==◌, ◌+◌, ◌<◌, ◌≤◌, ◌^◌, ℕ, ℤ, zero, suc, Bool, true, false, cond, List, [], ◌∷◌, ◌++◌, length, map, filter_map, option_map, Option, Some, None, Result, Ok, Err, refl, sym, ap, subst, ◌∙◌, arith, append-nil}
+use Rattle.std.proofs.lemmas.List.{map-append, length-map}
+use Rattle.std.proofs.lemmas.List.Elements.{All-from_recursion, filter_map-append}
+use Rattle.std.proofs.lemmas.List.FromFn.{length-enumerate_from}
+use Rattle.std.proofs.lemmas.List.Splits.{length-slice_split}
+use Rattle.std.specs.List.{All, AllByRecursion, cons_option, enumerate_from, onto_first, slice_split}
+use Rattle.std.specs.Result.{result_err, result_ok}
+use Rattle.values.specs.Datum.{Datum}
+use Rattle.values.specs.Schema.{Field}
+use Rattle.lines.specs.declared.fault.LineFault.{LineFault}
+use Rattle.lines.specs.Lines.{line_feed, lines, without_empty_last}
+use Rattle.lines.specs.Taken.{taken}
+use Rattle.tables.specs.Folding.{good_of, refused_of}
+
+-- ---- an input has at most as many lines as bytes
+
+shorter : (b : Bool) (part : List ℕ) → length (cond b [] (part ∷ [])) ≤ 1
+shorter true part = omega arith
+shorter false part = omega arith
+
+onto-le : (x : ℕ) (parts : List (List ℕ)) (n : ℕ) → 0 < length parts → length (without_empty_last parts) ≤ n → length (without_empty_last (onto_first x parts)) ≤ suc n
+onto-le x [] n some h = absurd (omega (arith, some))
+onto-le x (part ∷ []) n some h = let s = shorter (length (x ∷ part) == 0) (x ∷ part) in omega (arith, s)
+onto-le x (part ∷ next ∷ more) n some h = omega (arith, h)
+
+behind-le : (parts : List (List ℕ)) (n : ℕ) → 0 < length parts → length (without_empty_last parts) ≤ n → length (without_empty_last ([] ∷ parts)) ≤ suc n
+behind-le [] n some h = absurd (omega (arith, some))
+behind-le (part ∷ more) n some h = omega (arith, h)
+
+either-le : (b : Bool) (x : ℕ) (parts : List (List ℕ)) (n : ℕ) → 0 < length parts → length (without_empty_last parts) ≤ n
+    → length (without_empty_last (cond b ([] ∷ parts) (onto_first x parts))) ≤ suc n
+either-le true x parts n some h = behind-le parts n some h
+either-le false x parts n some h = onto-le x parts n some h
+
+pub length-lines : (bytes : List ℕ) → length (lines bytes) ≤ length bytes
+length-lines [] = omega arith
+length-lines (x ∷ bytes) = either-le (x == line_feed) x (slice_split (λ b. b == line_feed) bytes) (length bytes)
+    (let some = length-slice_split (λ b. b == line_feed) bytes in omega (arith, some)) (length-lines bytes)
+
+-- ---- one more line
+
+good-more : (fields : List Field) (ls : List (List ℕ)) (line : List ℕ) → good_of fields (ls ++ line ∷ []) ≡ good_of fields ls ++ filter_map result_ok (taken fields line ∷ [])
+good-more fields ls line = ap (filter_map result_ok) (map-append (taken fields) ls (line ∷ [])) ∙ filter_map-append result_ok (map (taken fields) ls) (taken fields line ∷ [])
+
+pub good-ok : (fields : List Field) (ls : List (List ℕ)) (line : List ℕ) (row : List Datum) → taken fields line ≡ Ok row → good_of fields (ls ++ line ∷ []) ≡ good_of fields ls ++ row ∷ []
+good-ok fields ls line row e = good-more fields ls line ∙ ap (λ t. good_of fields ls ++ filter_map result_ok (t ∷ [])) e
+
+pub good-err : (fields : List Field) (ls : List (List ℕ)) (line : List ℕ) (fault : LineFault) → taken fields line ≡ Err fault → good_of fields (ls ++ line ∷ []) ≡ good_of fields ls
+good-err fields ls line fault e = good-more fields ls line ∙ ap (λ t. good_of fields ls ++ filter_map result_ok (t ∷ [])) e ∙ append-nil (good_of fields ls)
+
+pub enumerate-append : {X : Type 0} (n : ℕ) (xs ys : List X) → enumerate_from n (xs ++ ys) ≡ enumerate_from n xs ++ enumerate_from (n + length xs) ys
+enumerate-append n [] ys = ap (λ m. enumerate_from m ys) (let e : n ≡ n + 0 = omega arith in e)
+enumerate-append n (x ∷ xs) ys = ap (λ l. (n, x) ∷ l) (enumerate-append (n + 1) xs ys
+    ∙ ap (λ m. enumerate_from (n + 1) xs ++ enumerate_from m ys) (let e : n + 1 + length xs ≡ n + suc (length xs) = omega arith in e))
+
+abbrev pub numbered_fault : ℕ × Result (List Datum) LineFault → Option (ℕ × LineFault)
+numbered_fault p = option_map (λ fault. (p.0, fault)) (result_err p.1)
+
+refused-more : (fields : List Field) (ls : List (List ℕ)) (line : List ℕ)
+    → refused_of fields (ls ++ line ∷ []) ≡ refused_of fields ls ++ filter_map numbered_fault ((length ls + 1, taken fields line) ∷ [])
+refused-more fields ls line =
+    ap (λ rs. filter_map numbered_fault (enumerate_from 1 rs)) (map-append (taken fields) ls (line ∷ []))
+    ∙ ap (filter_map numbered_fault) (enumerate-append 1 (map (taken fields) ls) (taken fields line ∷ []))
+    ∙ filter_map-append numbered_fault (enumerate_from 1 (map (taken fields) ls)) (enumerate_from (1 + length (map (taken fields) ls)) (taken fields line ∷ []))
+    ∙ ap (λ n. refused_of fields ls ++ filter_map numbered_fault ((n, taken fields line) ∷ []))
+    (let long = length-map ls (taken fields) in let e : 1 + length (map (taken fields) ls) ≡ length ls + 1 = omega (arith, long) in e)
+
+pub refused-ok : (fields : List Field) (ls : List (List ℕ)) (line : List ℕ) (row : List Datum) → taken fields line ≡ Ok row → refused_of fields (ls ++ line ∷ []) ≡ refused_of fields ls
+refused-ok fields ls line row e = refused-more fields ls line ∙ ap (λ t. refused_of fields ls ++ filter_map numbered_fault ((length ls + 1, t) ∷ [])) e ∙ append-nil (refused_of fields ls)
+
+pub refused-err : (fields : List Field) (ls : List (List ℕ)) (line : List ℕ) (fault : LineFault) → taken fields line ≡ Err fault
+    → refused_of fields (ls ++ line ∷ []) ≡ refused_of fields ls ++ (length ls + 1, fault) ∷ []
+refused-err fields ls line fault e = refused-more fields ls line ∙ ap (λ t. refused_of fields ls ++ filter_map numbered_fault ((length ls + 1, t) ∷ [])) e
+
+-- ---- how many they are
+
+cons-le : {B : Type 0} (o : Option B) (ys : List B) (n : ℕ) → length ys ≤ n → length (cons_option o ys) ≤ suc n
+cons-le None ys n h = omega (arith, h)
+cons-le (Some y) ys n h = omega (arith, h)
+
+kept-le : {A B : Type 0} (f : A → Option B) (xs : List A) → length (filter_map f xs) ≤ length xs
+kept-le f [] = omega arith
+kept-le f (x ∷ xs) = cons-le (f x) (filter_map f xs) (length xs) (kept-le f xs)
+
+pub length-good_of : (fields : List Field) (ls : List (List ℕ)) → length (good_of fields ls) ≤ length ls
+length-good_of fields ls = let h = kept-le result_ok (map (taken fields) ls) in let long = length-map ls (taken fields) in omega (arith, h, long)
+
+pub length-refused_of : (fields : List Field) (ls : List (List ℕ)) → length (refused_of fields ls) ≤ length ls
+length-refused_of fields ls =
+    let rs = map (taken fields) ls in
+    let h = kept-le numbered_fault (enumerate_from 1 rs) in
+    let long = length-map ls (taken fields) in
+    let same = length-enumerate_from 1 rs in
+    omega (arith, h, long, same)
+
+numbers-below : (bound n : ℕ) (rs : List (Result (List Datum) LineFault)) → n + length rs ≤ bound → AllByRecursion (λ line. line.0 < bound) (filter_map numbered_fault (enumerate_from n rs))
+numbers-below bound n [] h = tt
+numbers-below bound n (Ok row ∷ rs) h = numbers-below bound (n + 1) rs (omega (arith, h))
+numbers-below bound n (Err fault ∷ rs) h = (omega (arith, h), numbers-below bound (n + 1) rs (omega (arith, h)))
+
+at-most : (n : ℕ) (ls : List (ℕ × LineFault)) → AllByRecursion (λ line. line.0 < n + 1) ls → AllByRecursion (λ line. line.0 ≤ n) ls
+at-most n [] h = tt
+at-most n (l ∷ ls) h = (let a = h.0 in omega (arith, a), at-most n ls h.1)
+
+-- no refused line has a number above that of the lines
+pub refused-numbers : (fields : List Field) (ls : List (List ℕ)) → All (λ line. line.0 ≤ length ls) (refused_of fields ls)
+refused-numbers fields ls = All-from_recursion (λ line. line.0 ≤ length ls) (refused_of fields ls)
+    (at-most (length ls) (refused_of fields ls) (numbers-below (length ls + 1) 1 (map (taken fields) ls) (let long = length-map ls (taken fields) in omega (arith, long))))

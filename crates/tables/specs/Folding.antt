@@ -1,0 +1,37 @@
+-- What a piece is as far as its lines have been read. Private calls alone speak of it.
+use Rattle.std.specs.Prelude.{◌≡◌, ℕ, ◌+◌, ◌<◌, ◌^◌, List, length, map, filter_map, option_map}
+use Rattle.std.specs.List.{enumerate_from}
+use Rattle.std.specs.Result.{result_ok, result_err}
+use Rattle.values.specs.Schema.{Field}
+use Rattle.lines.specs.declared.fault.LineFault.{LineFault}
+use Rattle.lines.specs.Taken.{taken}
+use Rattle.query_tree.specs.Syntax.{TreeForm}
+use Rattle.query_check.specs.Sets.{sets_of}
+use Rattle.query_check.specs.Functions.{functions_of}
+use Rattle.groups.specs.Rows.{Row}
+use Rattle.tables.specs.declared.folding.Folding.{Folding}
+use Rattle.tables.specs.Sets.{AreTablesOf, AllTakeOne}
+
+-- the good records of these lines
+abbrev pub good_of : List Field → List (List ℕ) → List Row
+good_of fields ls = filter_map result_ok (map (taken fields) ls)
+
+-- the refused ones of these lines, numbered from 1
+abbrev pub refused_of : List Field → List (List ℕ) → List (ℕ × LineFault)
+refused_of fields ls = filter_map (λ p. option_map (λ fault. (p.0, fault)) (result_err p.1)) (enumerate_from 1 (map (taken fields) ls))
+
+-- these lines have been read
+pub record HasRead (fields : List Field) (q : TreeForm) (folding : Folding) (ls : List (List ℕ)) : Type 0 where
+  pub tables : AreTablesOf (sets_of fields q) (functions_of fields q) folding.tables (good_of fields ls)
+  pub lines : folding.lines ≡ length ls
+  pub refused : folding.refused.items ≡ refused_of fields ls
+
+-- some lines have been read, and with one more there are fewer than 2^63
+pub record ReadsOne (fields : List Field) (q : TreeForm) (folding : Folding) : Type 0 where
+  pub seen : List (List ℕ)
+  pub has_read : HasRead fields q folding seen
+  pub few : length seen + 1 < 2 ^ 63
+
+-- the tables are those of some records, fewer than 2^63 with one more
+abbrev pub TakesRecord : List Field → TreeForm → Folding → Type 0
+TakesRecord fields q folding = AllTakeOne (sets_of fields q) (functions_of fields q) folding.tables

@@ -1,0 +1,46 @@
+-- What is noted of a piece beside its groups.
+use Rattle.std.specs.Prelude.{◌≡◌, ℕ, ◌+◌, ◌≤◌, List, [], ◌∷◌, ◌++◌, length, map, All}
+use Rattle.std.specs.List.{sum_by}
+use Rattle.std.specs.List.Sorted.{IsStrictlyIncreasing}
+use Rattle.std.specs.Global.{Vec}
+use Rattle.values.specs.Schema.{Field}
+use Rattle.lines.specs.declared.fault.LineFault.{LineFault}
+use Rattle.lines.specs.Lines.{lines}
+use Rattle.lines.specs.Input.{refused}
+use Rattle.tables.specs.declared.note.Note.{Note}
+use Rattle.tables.specs.Pieces.{IndexedPiece}
+
+-- the piece's index, the number of its lines, and its refused lines by their numbers within it
+pub record Noted : Type 0 where
+  pub index : ℕ
+  pub lines : ℕ
+  pub refused : List (ℕ × LineFault)
+
+-- the note of a piece
+abbrev pub note_of : List Field → IndexedPiece → Noted
+note_of fields piece = record { index = piece.index; lines = length (lines piece.bytes); refused = refused fields piece.bytes }
+
+-- ---- in the code
+
+abbrev pub note_in : Note → Noted
+note_in note = record { index = note.index; lines = note.lines; refused = note.refused.items }
+
+abbrev pub notes_in : Vec Note → List Noted
+notes_in notes = map note_in notes.items
+
+-- all lines that the notes count
+abbrev pub lines_noted : List Noted → ℕ
+lines_noted notes = sum_by (λ note. note.lines) notes
+
+-- no refused line has a number above that of the piece's lines
+abbrev pub IsWellNumbered : Noted → Type 0
+IsWellNumbered note = All (λ line. line.0 ≤ note.lines) note.refused
+
+-- the notes stand by the indexes of their pieces, none twice
+abbrev pub NotesAreInOrder : List Noted → Type 0
+NotesAreInOrder notes = IsStrictlyIncreasing (map (λ note. note.index) notes)
+
+-- the refused lines of the notes, in their order, each by its number within its piece and the lines that are counted before
+abbrev pub numbered_from : ℕ → List Noted → List (ℕ × LineFault)
+numbered_from before [] = []
+numbered_from before (note ∷ notes) = map (λ line. (before + line.0, line.1)) note.refused ++ numbered_from (before + note.lines) notes

@@ -1,0 +1,50 @@
+-- Pieces of an input in any order, the records of their lines, and their refused lines by number.
+use Rattle.std.specs.Prelude.{◌≡◌, ℕ, ◌+◌, nat_lt, List, length, map, filter}
+use Rattle.std.specs.List.{flat_map}
+use Rattle.std.specs.List.Sorted.{IsStrictlyIncreasing}
+use Rattle.values.specs.Schema.{Field}
+use Rattle.lines.specs.declared.fault.LineFault.{LineFault}
+use Rattle.lines.specs.Lines.{line_feed, lines}
+use Rattle.lines.specs.Input.{good, refused}
+use Rattle.lines.specs.Pieces.{AllButLast, EndsInFeed}
+use Rattle.groups.specs.Rows.{Row}
+
+-- a piece of an input: its index among the pieces, and its bytes
+pub record IndexedPiece : Type 0 where
+  pub index : ℕ
+  pub bytes : List ℕ
+
+-- the bytes of the pieces, one after the other
+abbrev pub joined_bytes : List IndexedPiece → List ℕ
+joined_bytes pieces = flat_map (λ piece. piece.bytes) pieces
+
+-- all lines of the pieces
+abbrev pub all_lines : List IndexedPiece → List (List ℕ)
+all_lines pieces = flat_map (λ piece. lines piece.bytes) pieces
+
+-- the good records of all lines of the pieces
+abbrev pub records_of : List Field → List IndexedPiece → List Row
+records_of fields pieces = flat_map (λ piece. good fields piece.bytes) pieces
+
+-- the refused lines of the pieces, each by its number within its piece
+abbrev pub refused_within : List Field → List IndexedPiece → List (ℕ × LineFault)
+refused_within fields pieces = flat_map (λ piece. refused fields piece.bytes) pieces
+
+-- the pieces with a smaller index
+abbrev pub pieces_before : ℕ → List IndexedPiece → List IndexedPiece
+pieces_before index pieces = filter (λ piece. nat_lt piece.index index) pieces
+
+-- the refused lines of the pieces, each by its number within its piece and the number of all lines of the pieces with a smaller index
+abbrev pub refused_numbered : List Field → List IndexedPiece → List (ℕ × LineFault)
+refused_numbered fields pieces =
+    flat_map (λ piece. map (λ line. (length (all_lines (pieces_before piece.index pieces)) + line.0, line.1)) (refused fields piece.bytes)) pieces
+
+-- the pieces stand by their indexes, and none of these twice
+abbrev pub AreInOrder : List IndexedPiece → Type 0
+AreInOrder pieces = IsStrictlyIncreasing (map (λ piece. piece.index) pieces)
+
+-- the pieces stand in their order, are joined the input, and each but the last ends in a line feed
+pub record IsCutInto (input : List ℕ) (pieces : List IndexedPiece) : Type 0 where
+  pub in_order : AreInOrder pieces
+  pub joined : joined_bytes pieces ≡ input
+  pub feeds : AllButLast (λ piece. EndsInFeed piece.bytes) pieces

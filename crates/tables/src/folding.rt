@@ -1,0 +1,84 @@
+// Reading the lines of a piece.
+ghost use Rattle.std.specs.Prelude.{◌≡◌, ◌<◌, ◌^◌, IfOk, length};
+ghost use Rattle.lines.specs.Lines.{lines};
+ghost use Rattle.query.specs.Planned.{fields_of_plan, form_of_plan};
+ghost use Rattle.tables.specs.Folding.{HasRead};
+
+use crate::sets::Tables;
+use lines::{LineFault, LineRefusal, lines_of, read_record};
+use query::Plan;
+use std::alloc::{AllocError, Global};
+use values::Record;
+
+/// The lines of a piece, as far as they have been read.
+#[derive(Debug, Drop)]
+pub(crate) struct Folding {
+    /// The tables of the good records.
+    pub(crate) tables: Tables,
+    /// The number of lines.
+    pub(crate) lines: u64,
+    /// The refused lines by their numbers, from 1.
+    pub(crate) refused: Vec<(u64, LineFault)>,
+}
+
+impl Folding {
+    ghost use Rattle.std.specs.Prelude.{[], ◌∷◌, ◌++◌, ◌+◌, ℕ, List, OnOk, IfOk};
+    ghost use Rattle.values.specs.Fit.{Fits};
+    ghost use Rattle.lines.specs.Taken.{taken};
+    ghost use Rattle.query.specs.Planned.{fields_of_plan, form_of_plan};
+    ghost use Rattle.query_check.specs.Sets.{sets_of};
+    ghost use Rattle.query_check.specs.Functions.{functions_of};
+    ghost use Rattle.tables.specs.Folding.{HasRead, ReadsOne, TakesRecord};
+    ghost use Rattle.tables.specs.Sets.{AreTablesOf};
+
+    /// No line has been read.
+    pub(crate) fn new(alloc: Global, plan: &Plan) -> Result<Folding, AllocError>
+        ensures { IfOk result (λ folding. HasRead (fields_of_plan plan.now) (form_of_plan plan.now) folding []) }
+    {
+        Ok(Folding {
+            tables: Tables::new(alloc, plan.sets(), plan.functions())?,
+            lines: 0,
+            refused: Vec::new(alloc),
+        })
+    }
+
+    /// Reads one more line. After an error what has been read is of no use.
+    pub(crate) fn read(&mut self, alloc: Global, plan: &Plan, line: &[u8]) -> Result<(), AllocError>
+        requires { ReadsOne (fields_of_plan plan.now) (form_of_plan plan.now) self.old }
+        ensures { OnOk result ((seen : List (List ℕ)) → HasRead (fields_of_plan plan.now) (form_of_plan plan.now) self.old seen
+            → HasRead (fields_of_plan plan.now) (form_of_plan plan.now) self.new (seen ++ line.now ∷ [])) }
+    {
+        match read_record(alloc, plan.schema(), line) {
+            Ok(taken) => self.take(plan, taken)?,
+            Err(LineRefusal::Fault(fault)) => self.refused.push((self.lines + 1, fault))?,
+            Err(LineRefusal::Memory) => return Err(AllocError),
+        }
+        self.lines += 1;
+        Ok(())
+    }
+
+    /// Takes one more record into the tables.
+    fn take(&mut self, plan: &Plan, taken: Record) -> Result<(), AllocError>
+        requires fits { Fits (fields_of_plan plan.now) taken }
+        requires room { TakesRecord (fields_of_plan plan.now) (form_of_plan plan.now) self.old }
+        ensures tables { OnOk result ((rows : List (List Datum)) → AreTablesOf (sets_of (fields_of_plan plan.now) (form_of_plan plan.now)) (functions_of (fields_of_plan plan.now) (form_of_plan plan.now)) self.old.tables rows
+            → AreTablesOf (sets_of (fields_of_plan plan.now) (form_of_plan plan.now)) (functions_of (fields_of_plan plan.now) (form_of_plan plan.now)) self.new.tables (rows ++ taken ∷ [])) }
+        ensures lines { self.new.lines ≡ self.old.lines }
+        ensures refused { self.new.refused.items ≡ self.old.refused.items }
+    {
+        self.tables
+            .add(plan.sets(), plan.functions(), taken.values())
+    }
+}
+
+/// Reads the lines of a piece.
+pub(crate) fn read_lines(alloc: Global, plan: &Plan, piece: &[u8]) -> Result<Folding, AllocError>
+    requires { length piece.now < 2 ^ 63 }
+    ensures { IfOk result (λ folding. HasRead (fields_of_plan plan.now) (form_of_plan plan.now) folding (lines piece.now)) }
+{
+    let mut folding = Folding::new(alloc, plan)?;
+    for line in lines_of(piece) {
+        folding.read(alloc, plan, line)?;
+    }
+    Ok(folding)
+}

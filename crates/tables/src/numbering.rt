@@ -1,0 +1,60 @@
+// The refused lines of all pieces by their numbers in the input.
+ghost use Rattle.std.specs.Prelude.{◌≡◌, ◌+◌, ◌<◌, ◌++◌, ◌^◌, IfOk, OnOk, List, All, map, ℕ};
+ghost use Rattle.std.specs.List.Sorted.{IsPermutation, IsNonDecreasingBy};
+ghost use Rattle.tables.specs.Notes.{IsWellNumbered, Noted, NotesAreInOrder, lines_noted, note_in, notes_in, numbered_from};
+
+use crate::note::Note;
+use lines::LineFault;
+use std::alloc::{AllocError, Global};
+
+/// The refused lines of the pieces by ascending index, each numbered by its place within its piece
+/// and the line counts of the pieces before.
+pub(crate) fn number(alloc: Global, notes: Vec<Note>) -> Result<Vec<(u64, LineFault)>, AllocError>
+    requires few { lines_noted (notes_in notes) < 2 ^ 63 }
+    requires numbered { All IsWellNumbered (notes_in notes) }
+    ensures { IfOk result (λ lines. (ordered : List Noted) → IsPermutation (notes_in notes) ordered → NotesAreInOrder ordered
+        → lines.items ≡ numbered_from 0 ordered) }
+{
+    let notes = sorted(notes);
+    number_in_order(alloc, notes)
+}
+
+/// The notes by ascending index.
+fn sorted(mut notes: Vec<Note>) -> Vec<Note>
+    ensures permutation { IsPermutation notes.items result.items }
+    ensures ascending { IsNonDecreasingBy (λ note. note.index) result.items }
+{
+    notes.sort_unstable_by_key(|note| note.index);
+    notes
+}
+
+/// The refused lines of the pieces in the order of the notes, each numbered by its place within its
+/// piece and the line counts of the pieces before.
+fn number_in_order(alloc: Global, notes: Vec<Note>) -> Result<Vec<(u64, LineFault)>, AllocError>
+    requires few { lines_noted (notes_in notes) < 2 ^ 63 }
+    requires numbered { All IsWellNumbered (notes_in notes) }
+    ensures { IfOk result (λ lines. lines.items ≡ numbered_from 0 (notes_in notes)) }
+{
+    let mut numbered = Vec::new(alloc);
+    let mut before = 0;
+    for note in notes {
+        put_behind(&mut numbered, before, note.refused.as_slice())?;
+        before += note.lines;
+    }
+    Ok(numbered)
+}
+
+/// Puts the refused lines of a piece to those of the pieces before, which have so many lines.
+fn put_behind(
+    numbered: &mut Vec<(u64, LineFault)>,
+    before: u64,
+    refused: &[(u64, LineFault)],
+) -> Result<(), AllocError>
+    requires { All (λ line. before + line.0 < 2 ^ 64) refused.now }
+    ensures { OnOk result (numbered.new.items ≡ numbered.old.items ++ map (λ line. (before + line.0, line.1)) refused.now) }
+{
+    for (number, fault) in refused {
+        numbered.push((before + *number, *fault))?;
+    }
+    Ok(())
+}

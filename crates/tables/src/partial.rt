@@ -1,0 +1,204 @@
+ghost use Rattle.std.specs.Prelude.{◌≡◌, ◌<◌, ◌≤◌, ◌^◌, ◌∷◌, [], All, IfOk, length};
+ghost use Rattle.std.proofs.Props.{props};
+ghost use Rattle.tables.specs.Notes.{IsWellNumbered, lines_noted, notes_in};
+ghost use Rattle.tables.specs.Sets.{AreAllWithin};
+
+use crate::folding::{Folding, read_lines};
+use crate::grouped::Groups;
+use crate::note::Note;
+use crate::numbering::number;
+use crate::rows::rows_of;
+use crate::sets::Tables;
+use crate::shape::Shape;
+use query::Plan;
+use std::alloc::{AllocError, Global};
+
+/// The result of a query over some pieces of an input: the groups of their good records, the counts
+/// of their lines, and their refused lines.
+///
+/// Partial results of all pieces, merged in any order, give the result of the whole input.
+#[derive(Debug, Drop)]
+pub struct Partial {
+    alloc: Global,
+    shape: Shape,
+    tables: Tables,
+    lines: u64,
+    refused: u64,
+    notes: Vec<Note>,
+    ghost few: { lines < 2 ^ 63 },
+    ghost fewer: { refused ≤ lines },
+    ghost within: { AreAllWithin (length shape.sets.items) lines shape.functions.items tables } by { Prim.hlevel props },
+    ghost counted: { lines_noted (notes_in notes) ≡ lines },
+    ghost numbered: { All IsWellNumbered (notes_in notes) } by { Prim.hlevel props },
+}
+
+impl Partial {
+    ghost use Rattle.std.specs.Prelude.{[], ◌∷◌, ◌++◌, ◌+◌, ◌↔◌, ℕ, List, IfOk, IsTrue};
+    ghost use Rattle.std.specs.List.Sorted.{IsPermutation};
+    ghost use Rattle.values.specs.Schema.{Field};
+    ghost use Rattle.query_tree.specs.Syntax.{TreeForm};
+    ghost use Rattle.query.specs.Planned.{fields_of_plan, form_of_plan};
+    ghost use Rattle.query_check.specs.Sets.{sets_of};
+    ghost use Rattle.query_check.specs.Functions.{functions_of};
+    ghost use Rattle.tables.specs.Found.{found_in, refused_in};
+    ghost use Rattle.tables.specs.Partials.{GivesGroups, HaveOneShape, IsResultOf, StandsFor, lines_counted, refused_counted};
+    ghost use Rattle.tables.specs.Pieces.{AreInOrder, IndexedPiece, IsCutInto, all_lines, records_of, refused_numbered, refused_within};
+    ghost use Rattle.tables.specs.Fitting.{AreFitting};
+
+    /// The result over no pieces.
+    ///
+    /// # Errors
+    ///
+    /// `AllocError` where there is no memory for it.
+    pub fn empty(alloc: Global, plan: &Plan) -> Result<Partial, AllocError>
+        ensures stands { IfOk result (λ partial. StandsFor (fields_of_plan plan.now) (form_of_plan plan.now) partial []) }
+    {
+        let shape = Shape::of(alloc, plan)?;
+        let folding = Folding::new(alloc, plan)?;
+        Ok(Partial {
+            alloc,
+            shape,
+            tables: folding.tables,
+            lines: 0,
+            refused: 0,
+            notes: Vec::new(alloc),
+        })
+    }
+
+    /// The result over one piece, which has this index among the pieces of its input.
+    ///
+    /// # Errors
+    ///
+    /// `AllocError` where there is no memory for it.
+    pub fn fold_piece(
+        alloc: Global,
+        plan: &Plan,
+        index: u32,
+        piece: &[u8],
+    ) -> Result<Partial, AllocError>
+        requires { length piece.now < 2 ^ 63 }
+        ensures stands { IfOk result (λ partial.
+            StandsFor (fields_of_plan plan.now) (form_of_plan plan.now) partial (record { index = index; bytes = piece.now } ∷ [])) }
+    {
+        let shape = Shape::of(alloc, plan)?;
+        let Folding {
+            tables,
+            lines,
+            refused,
+        } = read_lines(alloc, plan, piece)?;
+        let count = refused.len() as u64;
+        let notes = one_note(
+            alloc,
+            Note {
+                index,
+                lines,
+                refused,
+            },
+        )?;
+        Ok(Partial {
+            alloc,
+            shape,
+            tables,
+            lines,
+            refused: count,
+            notes,
+        })
+    }
+
+    /// The number of all lines of the pieces.
+    pub fn lines(&self) -> u64
+        ensures lines { result ≡ lines_counted self.now }
+        ensures of_pieces { (fields : List Field) (q : TreeForm) (pieces : List IndexedPiece) → StandsFor fields q self.now pieces → result ≡ length (all_lines pieces) }
+        ensures few { result < 2 ^ 63 }
+    {
+        self.lines
+    }
+
+    /// The number of all refused lines of the pieces.
+    pub fn refused(&self) -> u64
+        ensures refused { result ≡ refused_counted self.now }
+        ensures of_pieces { (fields : List Field) (q : TreeForm) (pieces : List IndexedPiece) → StandsFor fields q self.now pieces → result ≡ length (refused_within fields pieces) }
+        ensures fewer { result ≤ lines_counted self.now }
+    {
+        self.refused
+    }
+
+    /// Whether two results are of the same grouping sets and set functions, and so can be merged.
+    pub fn same_shape(&self, other: &Partial) -> bool
+        ensures same { IsTrue result ↔ HaveOneShape self.now other.now }
+        ensures of_one_query { (fields : List Field) (q : TreeForm) (pieces more : List IndexedPiece)
+            → StandsFor fields q self.now pieces → StandsFor fields q other.now more → IsTrue result }
+    {
+        self.shape.is_same(&other.shape)
+    }
+
+    /// The result over the pieces of both.
+    ///
+    /// # Errors
+    ///
+    /// `AllocError` where there is no memory for it; both are given up then.
+    pub fn merge(self, other: Partial) -> Result<Partial, AllocError>
+        requires one_shape { HaveOneShape self other }
+        requires few { lines_counted self + lines_counted other < 2 ^ 63 }
+        ensures stands { IfOk result (λ merged. (fields : List Field) (q : TreeForm) (pieces more : List IndexedPiece)
+            → StandsFor fields q self pieces → StandsFor fields q other more → StandsFor fields q merged (pieces ++ more)) }
+    {
+        let Partial {
+            alloc,
+            shape,
+            mut tables,
+            lines,
+            refused,
+            mut notes,
+        } = self;
+        let mut other = other;
+        notes.append(&mut other.notes)?;
+        tables.absorb(other.tables)?;
+        Ok(Partial {
+            alloc,
+            shape,
+            tables,
+            lines: lines + other.lines,
+            refused: refused + other.refused,
+            notes,
+        })
+    }
+
+    /// The groups of the good records of all lines of the pieces, and the refused lines by their
+    /// numbers in the input, where no two pieces have one index.
+    ///
+    /// # Errors
+    ///
+    /// `AllocError` where there is no memory for them.
+    pub fn finish(self, plan: &Plan) -> Result<Groups, AllocError>
+        ensures rows { IfOk result (λ groups. (pieces : List IndexedPiece) → StandsFor (fields_of_plan plan.now) (form_of_plan plan.now) self pieces
+            → GivesGroups (fields_of_plan plan.now) (form_of_plan plan.now) groups (records_of (fields_of_plan plan.now) pieces)) }
+        ensures fit { IfOk result (λ groups. (pieces : List IndexedPiece) → StandsFor (fields_of_plan plan.now) (form_of_plan plan.now) self pieces
+            → AreFitting (fields_of_plan plan.now) (form_of_plan plan.now) (found_in groups)) }
+        // The refused lines, where the pieces stand in their order.
+        ensures refused { IfOk result (λ groups. (pieces : List IndexedPiece) → StandsFor (fields_of_plan plan.now) (form_of_plan plan.now) self pieces
+            → AreInOrder pieces → refused_in groups ≡ refused_numbered (fields_of_plan plan.now) pieces) }
+        // Where the pieces are those of an input that was cut between its lines, it is the result of the input.
+        ensures whole { IfOk result (λ groups. (input : List ℕ) (pieces : List IndexedPiece) → StandsFor (fields_of_plan plan.now) (form_of_plan plan.now) self pieces
+            → IsCutInto input pieces → IsResultOf (fields_of_plan plan.now) (form_of_plan plan.now) groups input) }
+    {
+        let Partial {
+            alloc,
+            tables,
+            notes,
+            ..
+        } = self;
+        let rows = rows_of(alloc, tables)?;
+        let refused = number(alloc, notes)?;
+        Ok(Groups::new(rows, refused))
+    }
+}
+
+/// The notes of one piece.
+fn one_note(alloc: Global, note: Note) -> Result<Vec<Note>, AllocError>
+    ensures { IfOk result (λ notes. notes.items ≡ note ∷ []) }
+{
+    let mut notes = Vec::with_capacity(alloc, 1)?;
+    notes.push(note)?;
+    Ok(notes)
+}

@@ -1,0 +1,79 @@
+ghost use Rattle.std.specs.Prelude.{◌≡◌, IfOk, IsTrue, ◌↔◌};
+ghost use Rattle.query_check.specs.Resolution.{contents};
+
+use query::{ColumnFunction, Plan};
+use std::alloc::{AllocError, Global};
+
+/// The grouping sets of a query, and its different set functions.
+#[derive(Debug, Drop)]
+pub(crate) struct Shape {
+    pub(crate) sets: Vec<Vec<usize>>,
+    pub(crate) functions: Vec<ColumnFunction>,
+}
+
+impl Shape {
+    ghost use Rattle.query.specs.Planned.{fields_of_plan, form_of_plan};
+    ghost use Rattle.query_check.specs.Sets.{sets_of};
+    ghost use Rattle.query_check.specs.Functions.{functions_of};
+
+    /// The shape of a plan.
+    pub(crate) fn of(alloc: Global, plan: &Plan) -> Result<Shape, AllocError>
+        ensures sets { IfOk result (λ shape. contents shape.sets.items ≡ sets_of (fields_of_plan plan.now) (form_of_plan plan.now)) }
+        ensures functions { IfOk result (λ shape. shape.functions.items ≡ functions_of (fields_of_plan plan.now) (form_of_plan plan.now)) }
+    {
+        let sets = copied_sets(alloc, plan.sets())?;
+        let functions = copied_functions(alloc, plan.functions())?;
+        Ok(Shape { sets, functions })
+    }
+
+    /// Whether two shapes are the same.
+    pub(crate) fn is_same(&self, other: &Shape) -> bool
+        ensures { IsTrue result ↔ (contents self.now.sets.items ≡ contents other.now.sets.items) × (self.now.functions.items ≡ other.now.functions.items) }
+    {
+        same_sets(self.sets.as_slice(), other.sets.as_slice())
+            && same_functions(self.functions.as_slice(), other.functions.as_slice())
+    }
+}
+
+/// A copy of grouping sets.
+fn copied_sets(alloc: Global, sets: &[Vec<usize>]) -> Result<Vec<Vec<usize>>, AllocError>
+    ensures { IfOk result (λ copies. contents copies.items ≡ contents sets.now) }
+{
+    let mut copies = Vec::with_capacity(alloc, sets.len())?;
+    for set in sets {
+        copies.push(Vec::from_slice(alloc, set.as_slice())?)?;
+    }
+    Ok(copies)
+}
+
+/// A copy of set functions.
+fn copied_functions(
+    alloc: Global,
+    functions: &[ColumnFunction],
+) -> Result<Vec<ColumnFunction>, AllocError>
+    ensures { IfOk result (λ copies. copies.items ≡ functions.now) }
+{
+    Vec::from_slice(alloc, functions)
+}
+
+/// Whether two lists of grouping sets have the same columns in the same order.
+fn same_sets(sets: &[Vec<usize>], others: &[Vec<usize>]) -> bool
+    ensures { IsTrue result ↔ (contents sets.now ≡ contents others.now) }
+{
+    sets == others
+}
+
+/// Whether two lists of set functions are the same.
+fn same_functions(functions: &[ColumnFunction], others: &[ColumnFunction]) -> bool
+    ensures { IsTrue result ↔ (functions.now ≡ others.now) }
+{
+    if functions.len() != others.len() {
+        return false;
+    }
+    for (function, other) in functions.iter().zip(others) {
+        if !function.is_same(*other) {
+            return false;
+        }
+    }
+    true
+}
