@@ -1,0 +1,11 @@
+use Rattle.std.proofs.Common.{◌≡◌, [], map, take}
+use Rattle.csv.specs.Records.{fields_of, partial_of}
+use Rattle.groups.specs.Shown.{summary_of}
+use Rattle.report.specs.Text.{cell_field}
+use Rattle.report.proofs.fields.cell_fields.Given as goal
+
+abbrev pub invariant-loop-cell : goal.invariant-loop-cell
+invariant-loop-cell l = record {
+  texts : fields_of l.fields ≡ map cell_field (map summary_of (take l.cell-index l.cells));
+  whole : partial_of l.fields ≡ [];
+}

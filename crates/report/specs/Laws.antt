@@ -1,0 +1,18 @@
+-- What the order of the rows comes to.
+use Rattle.std.specs.Prelude.{◌≡◌, List}
+use Rattle.values.specs.Schema.{Field}
+use Rattle.query_tree.specs.Syntax.{TreeForm}
+use Rattle.groups.specs.GroupRows.{SameBag}
+use Rattle.tables.specs.Found.{Found}
+use Rattle.report.specs.Order.{before, arranged, Ascends}
+use Rattle.report.specs.Fitting.{AreFitting}
+
+-- the rows in their order are the one list that has each of them as often and ascends
+pub record IsTheOrder (fields : List Field) (t : TreeForm) (found : List Found) : Type 0 where
+  pub same : SameBag found (arranged fields t found)
+  pub ascends : Ascends (before fields t) (arranged fields t found)
+  pub only : (others : List Found) → SameBag found others → Ascends (before fields t) others → others ≡ arranged fields t found
+
+-- the rows in their order do not depend on the order in which they are found
+abbrev pub IsBlind : List Field → TreeForm → List Found → Type 0
+IsBlind fields t found = (others : List Found) → SameBag found others → arranged fields t others ≡ arranged fields t found

@@ -1,0 +1,7 @@
+pub mod Order
+pub mod Fitting
+pub mod Shown
+pub mod Text
+pub mod Report
+pub mod Laws
+pub mod Between

@@ -1,0 +1,66 @@
+-- What a row of a report shows for each item of SELECT.
+use Rattle.std.specs.Prelude.{ℕ, ◌+◌, ◌*◌, ◌==◌, nat_lt, pos, Bool, true, false, not, List, [], ◌∷◌, length, map, reverse, position, slice_get, Option, unwrap_or, if◌then◌else◌}
+use Rattle.std.specs.List.{list_any}
+use Rattle.std.specs.Option.{option_map_or, option_and_then}
+use Rattle.values.specs.Datum.{Datum, whole, null}
+use Rattle.values.specs.Schema.{Field}
+use Rattle.query_tree.specs.declared.expression.Aggregate.{Aggregate}
+use Rattle.query_tree.specs.Syntax.{ExpressionForm, TreeForm, name, grouping, function}
+use Rattle.query_check.specs.Columns.{place_of}
+use Rattle.query_check.specs.Functions.{aggregate_of, column_function, functions_of, same_function}
+use Rattle.groups.specs.Functions.{Summary, plain}
+use Rattle.groups.specs.Groups.{Key}
+use Rattle.tables.specs.Found.{Found}
+use Rattle.report.specs.Order.{set_of, value_in}
+use Rattle.report.specs.declared.row.Row.{Row}
+use Rattle.groups.specs.Shown.{summary_of}
+
+-- A typed query names grouping columns and set functions that it has; where another one would, it shows NULL.
+
+-- what a row of a grouping set shows for the column of a name
+abbrev pub name_shown : List Field → List ℕ → Key → List ℕ → Datum
+name_shown fields set key n = option_map_or (value_in set key) (place_of fields n) null
+
+-- the place of a set function among those of the query
+abbrev pub function_place : List Field → TreeForm → Aggregate → Option ℕ
+function_place fields t a = option_and_then (λ f. position (same_function f) (functions_of fields t)) (column_function fields a)
+
+-- what a row with these cells shows for a set function: the cell at the function's place
+abbrev pub function_shown : List Field → TreeForm → List Summary → Aggregate → Summary
+function_shown fields t cells a = unwrap_or (option_and_then (slice_get cells) (function_place fields t a)) (plain null)
+
+-- ---- GROUPING
+
+-- whether the column of a name is not in the grouping set
+abbrev pub is_rolled_up : List Field → List ℕ → List ℕ → Bool
+is_rolled_up fields set n = not (option_map_or (λ place. list_any (λ column. column == place) set) (place_of fields n) false)
+
+-- the number of some binary digits, the lowest first
+abbrev pub number_of_digits : List Bool → ℕ
+number_of_digits [] = 0
+number_of_digits (digit ∷ higher) = (if digit then 1 else 0) + 2 * number_of_digits higher
+
+-- the number whose binary digits are 0 where the column is in the grouping set and 1 where it is not, the last column's digit lowest
+abbrev pub grouping_number : List Field → List ℕ → List (List ℕ) → ℕ
+grouping_number fields set names = number_of_digits (reverse (map (is_rolled_up fields set) names))
+
+-- GROUPING takes at most 8 columns; of more it shows NULL, but no query has that
+abbrev pub grouping_shown : List Field → List ℕ → List (List ℕ) → Datum
+grouping_shown fields set names = if nat_lt 8 (length names) then null else whole (pos (grouping_number fields set names))
+
+-- ---- rows
+
+-- what a row of a grouping set, with this key and these cells, shows for an expression
+abbrev pub expression_shown : List Field → TreeForm → List ℕ → Key → List Summary → ExpressionForm → Summary
+expression_shown fields t set key cells (name n) = plain (name_shown fields set key n)
+expression_shown fields t set key cells (grouping names) = plain (grouping_shown fields set names)
+expression_shown fields t set key cells (function f) = function_shown fields t cells (aggregate_of f)
+
+-- what a row shows, item by item
+abbrev pub row_shown : List Field → TreeForm → Found → List Summary
+row_shown fields t row = map (λ item. expression_shown fields t (set_of fields t row) row.1.key row.1.cells item.expression) t.items
+
+-- ---- in the code
+
+abbrev pub cells_of : Row → List Summary
+cells_of row = map summary_of row.cells.items

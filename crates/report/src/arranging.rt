@@ -1,0 +1,50 @@
+// The rows of a report.
+ghost use Rattle.std.specs.Prelude.{◌≡◌, ◌<◌, IfOk, length, map};
+ghost use Rattle.query_check.specs.Sets.{sets_of};
+ghost use Rattle.query.specs.Planned.{fields_of_plan, form_of_plan};
+ghost use Rattle.tables.specs.Found.{found_in, row_of};
+ghost use Rattle.report.specs.Fitting.{AreFitting};
+ghost use Rattle.report.specs.Report.{rows_shown};
+ghost use Rattle.report.specs.Shown.{cells_of, row_shown};
+
+use crate::cells::expression_cell;
+use crate::ordering::in_order;
+use crate::row::Row;
+use groups::Group;
+use query::Plan;
+use std::alloc::{AllocError, Global};
+use tables::Groups;
+
+/// The rows of a report: one for each group, in the order of the index of its grouping set, and in one set by the
+/// grouping columns in the order in which GROUP BY first names them, ascending and with NULL last. A grouping column
+/// that is not in the set of the row is NULL.
+///
+/// # Errors
+///
+/// `AllocError` where there is no memory for the rows.
+pub fn arrange(alloc: Global, groups: &Groups, plan: &Plan) -> Result<Vec<Row>, AllocError>
+    requires { AreFitting (fields_of_plan plan.now) (form_of_plan plan.now) (found_in groups.now) }
+    ensures cells { IfOk result (λ rows. map cells_of rows.items ≡ rows_shown (fields_of_plan plan.now) (form_of_plan plan.now) (found_in groups.now)) }
+{
+    let ordered = in_order(alloc, groups.rows())?;
+    let mut rows = Vec::with_capacity(alloc, ordered.len())?;
+    for group in ordered {
+        rows.push(row_for(alloc, plan, group)?)?;
+    }
+    Ok(rows)
+}
+
+/// The row of a group, which stands beside the index of its grouping set.
+fn row_for(alloc: Global, plan: &Plan, found: &(usize, Group)) -> Result<Row, AllocError>
+    requires { found.now.0 < length (sets_of (fields_of_plan plan.now) (form_of_plan plan.now)) }
+    ensures { IfOk result (λ row. cells_of row ≡ row_shown (fields_of_plan plan.now) (form_of_plan plan.now) (row_of found.now)) }
+{
+    let (index, group) = found;
+    let set = &plan.sets()[*index];
+    let items = plan.query().tree().items.as_slice();
+    let mut cells = Vec::with_capacity(alloc, items.len())?;
+    for item in items {
+        cells.push(expression_cell(plan, set, group, &item.expression)?)?;
+    }
+    Ok(Row { cells })
+}

@@ -1,0 +1,185 @@
+// What a row shows for the items of SELECT.
+ghost use Rattle.std.specs.Prelude.{◌≡◌, ◌≤◌, IfOk, map, length, slice_get, slice_index_or, unwrap_or};
+ghost use Rattle.values.specs.Datum.{data_of, datum_of, null};
+ghost use Rattle.values.specs.Schema.{fields_of};
+ghost use Rattle.query_tree.specs.Syntax.{expression_form};
+ghost use Rattle.query_check.specs.Columns.{place_of};
+ghost use Rattle.query_check.specs.Functions.{column_function};
+ghost use Rattle.query.specs.Planned.{fields_of_plan, form_of_plan};
+ghost use Rattle.groups.specs.Functions.{plain};
+ghost use Rattle.groups.specs.Shown.{summary_of};
+ghost use Rattle.report.specs.Order.{value_in};
+ghost use Rattle.report.specs.Shown.{expression_shown, function_place, function_shown, grouping_number, grouping_shown, is_rolled_up, name_shown};
+
+use groups::{Cell, Group};
+use query::{Aggregate, ColumnFunction, Expression, Plan, Text};
+use std::alloc::AllocError;
+use values::{Column, Value};
+
+/// The most columns that GROUPING takes.
+const MOST_COLUMNS: usize = 8;
+
+/// What a group of a grouping set shows for an expression.
+pub(crate) fn expression_cell(
+    plan: &Plan,
+    set: &[usize],
+    group: &Group,
+    expression: &Expression,
+) -> Result<Cell, AllocError>
+    ensures { IfOk result (λ cell. summary_of cell ≡ expression_shown (fields_of_plan plan.now) (form_of_plan plan.now) set.now (data_of group.now.key.items) (map summary_of group.now.cells.items) (expression_form expression.now)) }
+{
+    let columns = plan.schema().columns();
+    match expression {
+        Expression::Name(name) => {
+            let value = name_value(columns, set, group.key.as_slice(), name)?;
+            Ok(Cell::Plain(value))
+        }
+        Expression::Grouping(names) => Ok(Cell::Plain(grouping_value(columns, set, names))),
+        Expression::Function(function) => {
+            function_cell(plan, group.cells.as_slice(), &function.aggregate)
+        }
+    }
+}
+
+// ---- columns
+
+/// The place of the column of a name, from 0.
+fn place_of(columns: &[Column], name: &str) -> Option<usize>
+    ensures { result ≡ place_of (fields_of columns.now) name.now }
+{
+    columns
+        .iter()
+        .position(|column| name == column.name.as_str())
+}
+
+/// A copy of the value that a key of a grouping set has for the column at a place, and NULL where the column is not
+/// in the set.
+fn value_in(set: &[usize], key: &[Value], place: usize) -> Result<Value, AllocError>
+    ensures { IfOk result (λ value. datum_of value ≡ value_in set.now (data_of key.now) place) }
+{
+    match set.iter().position(|column| *column == place) {
+        Some(at) => value_at(key, at),
+        None => Ok(Value::Null),
+    }
+}
+
+/// A copy of the value at a place, and NULL where there is none.
+fn value_at(key: &[Value], place: usize) -> Result<Value, AllocError>
+    ensures { IfOk result (λ value. datum_of value ≡ slice_index_or (data_of key.now) place null) }
+{
+    match key.get(place) {
+        Some(value) => value.clone(),
+        None => Ok(Value::Null),
+    }
+}
+
+/// What a key of a grouping set shows for the column of a name.
+fn name_value(
+    columns: &[Column],
+    set: &[usize],
+    key: &[Value],
+    name: &Text,
+) -> Result<Value, AllocError>
+    ensures { IfOk result (λ value. datum_of value ≡ name_shown (fields_of columns.now) set.now (data_of key.now) name.now) }
+{
+    match place_of(columns, name.as_str()) {
+        Some(place) => value_in(set, key, place),
+        None => Ok(Value::Null),
+    }
+}
+
+// ---- GROUPING
+
+/// Whether the column of a name is not in a grouping set.
+fn is_rolled_up(columns: &[Column], set: &[usize], name: &Text) -> bool
+    ensures { result ≡ is_rolled_up (fields_of columns.now) set.now name.now }
+{
+    match place_of(columns, name.as_str()) {
+        Some(place) => !set.contains(&place),
+        None => true,
+    }
+}
+
+/// The number whose binary digits are 1 where the column is not in the grouping set, the last column's lowest.
+fn grouping_number(columns: &[Column], set: &[usize], names: &[Text]) -> u64
+    requires { length names.now ≤ 8 }
+    ensures { result ≡ grouping_number (fields_of columns.now) set.now names.now }
+{
+    let mut number = 0;
+    for name in names {
+        number = u64::from(is_rolled_up(columns, set, name)) + 2 * number;
+    }
+    number
+}
+
+/// What a row of a grouping set shows for GROUPING.
+fn grouping_value(columns: &[Column], set: &[usize], names: &[Text]) -> Value
+    ensures { datum_of result ≡ grouping_shown (fields_of columns.now) set.now names.now }
+{
+    if names.len() > MOST_COLUMNS {
+        return Value::Null;
+    }
+    Value::Int(i128::from(grouping_number(columns, set, names)))
+}
+
+// ---- set functions
+
+/// A set function with the place of its column, where it has one.
+fn column_function(columns: &[Column], aggregate: &Aggregate) -> Option<ColumnFunction>
+    ensures { result ≡ column_function (fields_of columns.now) aggregate.now }
+{
+    match aggregate {
+        Aggregate::CountRows => Some(ColumnFunction::CountRows),
+        Aggregate::Count(x) => place_of(columns, x.as_str()).map(ColumnFunction::Count),
+        Aggregate::CountDistinct(x) => {
+            place_of(columns, x.as_str()).map(ColumnFunction::CountDistinct)
+        }
+        Aggregate::Sum(x) => place_of(columns, x.as_str()).map(ColumnFunction::Sum),
+        Aggregate::Min(x) => place_of(columns, x.as_str()).map(ColumnFunction::Min),
+        Aggregate::Max(x) => place_of(columns, x.as_str()).map(ColumnFunction::Max),
+        Aggregate::Avg(x) => place_of(columns, x.as_str()).map(ColumnFunction::Avg),
+    }
+}
+
+/// The place of a set function among those of the plan.
+fn function_place(plan: &Plan, aggregate: &Aggregate) -> Option<usize>
+    ensures { result ≡ function_place (fields_of_plan plan.now) (form_of_plan plan.now) aggregate.now }
+{
+    match column_function(plan.schema().columns(), aggregate) {
+        Some(function) => plan
+            .functions()
+            .iter()
+            .position(|other| function.is_same(*other)),
+        None => None,
+    }
+}
+
+/// What a row with these cells shows for a set function.
+fn function_cell(plan: &Plan, cells: &[Cell], aggregate: &Aggregate) -> Result<Cell, AllocError>
+    ensures { IfOk result (λ cell. summary_of cell ≡ function_shown (fields_of_plan plan.now) (form_of_plan plan.now) (map summary_of cells.now) aggregate.now) }
+{
+    match function_place(plan, aggregate) {
+        Some(place) => cell_at(cells, place),
+        None => Ok(Cell::Plain(Value::Null)),
+    }
+}
+
+/// A copy of the cell at a place, and NULL where there is none.
+fn cell_at(cells: &[Cell], place: usize) -> Result<Cell, AllocError>
+    ensures { IfOk result (λ cell. summary_of cell ≡ unwrap_or (slice_get (map summary_of cells.now) place) (plain null)) }
+{
+    match cells.get(place) {
+        Some(cell) => copy_of(cell),
+        None => Ok(Cell::Plain(Value::Null)),
+    }
+}
+
+/// A copy of a cell.
+fn copy_of(cell: &Cell) -> Result<Cell, AllocError>
+    ensures { IfOk result (λ copy. summary_of copy ≡ summary_of cell.now) }
+{
+    match cell {
+        Cell::Plain(value) => Ok(Cell::Plain(value.clone()?)),
+        Cell::Ratio(sum, count) => Ok(Cell::Ratio(*sum, *count)),
+    }
+}

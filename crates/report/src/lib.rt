@@ -1,0 +1,23 @@
+//! The rows of a report in their order, the bytes of the report, and those of the list of refused lines.
+//!
+//! The definitions are in `specs/`: the order of the rows, what a row shows for each item of SELECT, and the two
+//! texts (CSV as the crate `csv` writes it).
+#![tactic(auto)]
+
+mod arranging;
+mod cells;
+mod fields;
+mod laws;
+mod ordering;
+mod refused;
+mod row;
+mod text;
+
+pub use arranging::arrange;
+pub use laws::{blind_law, order_law};
+pub use refused::refused_text;
+pub use row::Row;
+pub use text::report_text;
+
+#[cfg(test)]
+mod tests;

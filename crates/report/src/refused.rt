@@ -1,0 +1,69 @@
+// The list of refused lines.
+ghost use Rattle.std.specs.Prelude.{◌≡◌, ◌++◌, All, IfOk, OnOk, codes, decimal};
+ghost use Rattle.tables.specs.Found.{refused_in};
+ghost use Rattle.report.specs.Report.{NamesColumn, refusals_of};
+ghost use Rattle.report.specs.Text.{fault_text, refused_line};
+
+use itoa::Buffer;
+use lines::LineFault;
+use std::alloc::{AllocError, Global};
+use tables::Groups;
+use values::Schema;
+
+/// The bytes of the list of refused lines: for each, in the order given, `line N: ` and what is wrong with it, ended
+/// by a line feed. The columns that faults name by their places are in the schema.
+///
+/// # Errors
+///
+/// `AllocError` where there is no memory for the text.
+pub fn refused_text(alloc: Global, groups: &Groups, schema: &Schema) -> Result<Vec<u8>, AllocError>
+    requires { All (λ refused. NamesColumn schema.now refused.1) (refused_in groups.now) }
+    ensures { IfOk result (λ text. text.items ≡ refusals_of schema.now (refused_in groups.now)) }
+{
+    let mut text = Vec::new(alloc);
+    for (number, fault) in groups.refused() {
+        push_line(&mut text, schema, *number, *fault)?;
+    }
+    Ok(text)
+}
+
+/// Adds a refused line.
+fn push_line(
+    text: &mut Vec<u8>,
+    schema: &Schema,
+    number: u64,
+    fault: LineFault,
+) -> Result<(), AllocError>
+    requires { NamesColumn schema.now fault }
+    ensures { OnOk result (text.new.items ≡ text.old.items ++ refused_line schema.now (number, fault)) }
+{
+    push_number(text, number)?;
+    push_fault(text, schema, fault)?;
+    text.extend_from_slice(b"\n")
+}
+
+/// Adds the number of a refused line.
+fn push_number(text: &mut Vec<u8>, number: u64) -> Result<(), AllocError>
+    ensures { OnOk result (text.new.items ≡ text.old.items ++ codes "line " ++ decimal number ++ codes ": ") }
+{
+    let mut buffer = Buffer::new();
+    text.extend_from_slice(b"line ")?;
+    text.extend_from_slice(buffer.format(number).as_bytes())?;
+    text.extend_from_slice(b": ")
+}
+
+/// Adds what is wrong with a line.
+fn push_fault(text: &mut Vec<u8>, schema: &Schema, fault: LineFault) -> Result<(), AllocError>
+    requires { NamesColumn schema.now fault }
+    ensures { OnOk result (text.new.items ≡ text.old.items ++ fault_text schema.now fault) }
+{
+    match fault {
+        LineFault::TooLong => text.extend_from_slice(b"too long"),
+        LineFault::NoJson => text.extend_from_slice(b"not JSON"),
+        LineFault::NoObject => text.extend_from_slice(b"not an object"),
+        LineFault::BadValue(place) => {
+            text.extend_from_slice(b"bad value in column ")?;
+            text.extend_from_slice(schema.columns()[place].name.as_bytes())
+        }
+    }
+}

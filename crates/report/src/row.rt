@@ -1,0 +1,8 @@
+use groups::Cell;
+
+/// A row of a report.
+#[derive(Debug, Drop)]
+pub struct Row {
+    /// One cell for each item of SELECT.
+    pub cells: Vec<Cell>,
+}

@@ -1,0 +1,103 @@
+ghost use Rattle.std.specs.Prelude.{◌≡◌, All, IsTrue, length};
+ghost use Rattle.query.specs.Planned.{form_of_plan};
+
+use crate::{Row, blind_law, order_law, refused_text, report_text};
+use groups::Cell;
+use lines::LineFault;
+use query::{Plan, check, parse};
+use std::alloc::Global;
+use std::process::Abort;
+use std::test::Fail;
+use tables::Groups;
+use values::{Schema, Value};
+
+fn plan_of(alloc: Global, columns: &str, text: &str) -> Result<Plan, Fail> {
+    let schema = Schema::parse(alloc, columns)?;
+    Ok(check(alloc, parse(alloc, text)?, schema)?)
+}
+
+fn text(alloc: Global, text: &str) -> Result<Cell, Fail> {
+    Ok(Cell::Plain(Value::Text(text.to_string(alloc)?)))
+}
+
+/// A row of two cells.
+fn pair(alloc: Global, first: Cell, second: Cell) -> Result<Row, Fail> {
+    let mut cells = Vec::new(alloc);
+    cells.push(first)?;
+    cells.push(second)?;
+    Ok(Row { cells })
+}
+
+/// Whether each row has one cell for each item of SELECT.
+fn are_as_wide(rows: &[Row], plan: &Plan) -> bool
+    ensures { IsTrue result → All (λ row. length row.cells.items ≡ length (form_of_plan plan.now).items) rows.now }
+{
+    let items = plan.query().tree().items.as_slice();
+    rows.iter().all(|row| row.cells.len() == items.len())
+}
+
+#[test]
+fn writes_fields(rt: HostRuntime) -> Result<(), Fail> {
+    let alloc = rt.alloc();
+    let plan = plan_of(
+        alloc,
+        "r:text",
+        "SELECT r, COUNT(*) AS n FROM lines GROUP BY r",
+    )?;
+    let mut rows = Vec::new(alloc);
+    for first in ["", "\\N", "a,b", "say \"hi\""] {
+        rows.push(pair(alloc, text(alloc, first)?, Cell::Plain(Value::Int(1)))?)?;
+    }
+    rows.push(pair(
+        alloc,
+        Cell::Plain(Value::Null),
+        Cell::Plain(Value::Bool(true)),
+    )?)?;
+    rows.push(pair(
+        alloc,
+        Cell::Ratio(-7, 2),
+        Cell::Plain(Value::Int(-20)),
+    )?)?;
+    assert!(rt; are_as_wide(&rows, &plan));
+    let report = report_text(alloc, &rows, &plan)?;
+    let wanted = "r,n\n,1\n\\\\N,1\n\"a,b\",1\n\"say \"\"hi\"\"\",1\n\\N,true\n-7/2,-20\n";
+    assert_eq!(rt; report.as_slice(), wanted.as_bytes());
+    Ok(())
+}
+
+#[test]
+fn writes_a_lone_empty_field(rt: HostRuntime) -> Result<(), Fail> {
+    let alloc = rt.alloc();
+    let plan = plan_of(alloc, "r:text", "SELECT r FROM lines GROUP BY r")?;
+    let mut cells = Vec::new(alloc);
+    cells.push(text(alloc, "")?)?;
+    let mut rows = Vec::new(alloc);
+    rows.push(Row { cells })?;
+    assert!(rt; are_as_wide(&rows, &plan));
+    let report = report_text(alloc, &rows, &plan)?;
+    assert_eq!(rt; report.as_slice(), "r\n\"\"\n".as_bytes());
+    Ok(())
+}
+
+#[test]
+fn lists_refused_lines(rt: HostRuntime) -> Result<(), Fail> {
+    let alloc = rt.alloc();
+    let schema = Schema::parse(alloc, "q:int")?;
+    let mut refused = Vec::new(alloc);
+    refused.push((1, LineFault::NoJson))?;
+    refused.push((2, LineFault::NoObject))?;
+    refused.push((3, LineFault::BadValue(0)))?;
+    refused.push((14, LineFault::TooLong))?;
+    let groups = Groups::new(Vec::new(alloc), refused);
+    let list = refused_text(alloc, &groups, &schema)?;
+    let wanted = "line 1: not JSON\nline 2: not an object\nline 3: bad value in column q\nline 14: too long\n";
+    assert_eq!(rt; list.as_slice(), wanted.as_bytes());
+    Ok(())
+}
+
+#[test]
+fn has_laws(rt: HostRuntime) {
+    order_law();
+    blind_law();
+    assert!(rt; true);
+}

@@ -1,0 +1,65 @@
+// The bytes of a report.
+ghost use Rattle.std.specs.Prelude.{◌≡◌, All, IfOk, OnOk, length, map};
+ghost use Rattle.std.specs.Io.KnownBytes.{Appends};
+ghost use Rattle.csv.specs.Records.{fields_of};
+ghost use Rattle.csv.specs.Writing.{row_text, default_writer, text_written};
+ghost use Rattle.query_print.specs.Canonical.{header_text};
+ghost use Rattle.query.specs.Planned.{form_of_plan};
+ghost use Rattle.report.specs.Between.{IsBetweenRows};
+ghost use Rattle.report.specs.Shown.{cells_of};
+ghost use Rattle.report.specs.Text.{report_bytes};
+
+use crate::fields::cell_fields;
+use crate::row::Row;
+use csv::{ByteRecord, Writer, WriterBuilder};
+use query::{Plan, header};
+use std::alloc::{AllocError, Global};
+use std::io::Write;
+
+/// The bytes of a report: CSV with commas, line feeds, and quotes where they are needed. The first row holds the
+/// header of each item of SELECT. NULL is `\N`, and a text that begins with `\` has one more in front; truth values
+/// are `true` and `false`, whole numbers plain decimal, and an average is its sum and its count with `/` between.
+/// Each row has one cell for each item.
+///
+/// # Errors
+///
+/// `AllocError` where there is no memory for the text.
+pub fn report_text(alloc: Global, rows: &[Row], plan: &Plan) -> Result<Vec<u8>, AllocError>
+    requires { All (λ row. length row.cells.items ≡ length (form_of_plan plan.now).items) rows.now }
+    ensures { IfOk result (λ text. text.items ≡ report_bytes (form_of_plan plan.now).items (map cells_of rows.now)) }
+{
+    let mut writer = WriterBuilder::new().from_writer(Vec::new(alloc));
+    put_fields(&mut writer, &headers(alloc, plan)?)?;
+    for row in rows {
+        put_fields(&mut writer, &cell_fields(alloc, row.cells.as_slice())?)?;
+    }
+    match writer.into_inner() {
+        Ok(text) => Ok(text),
+        Err(_) => Err(AllocError),
+    }
+}
+
+/// The headers of the items of SELECT.
+fn headers(alloc: Global, plan: &Plan) -> Result<ByteRecord, AllocError>
+    ensures { IfOk result (λ fields. fields_of fields ≡ map header_text (form_of_plan plan.now).items) }
+{
+    let count = plan.query().tree().items.len();
+    let mut fields = ByteRecord::new(alloc);
+    for item in 0..count {
+        let text = header(alloc, plan, item)?;
+        fields.push_field(text.as_bytes())?;
+    }
+    Ok(fields)
+}
+
+/// Writes a row of fields. The writer goes into memory, so its errors are want of memory.
+fn put_fields(writer: &mut Writer<Vec<u8>>, fields: &ByteRecord) -> Result<(), AllocError>
+    requires { IsBetweenRows writer.old }
+    ensures between { OnOk result (IsBetweenRows writer.new) }
+    ensures appends { OnOk result (Appends (text_written ⟦<Vec<u8> as Write>⟧.contents writer.old) (text_written ⟦<Vec<u8> as Write>⟧.contents writer.new) (row_text default_writer (fields_of fields.now))) }
+{
+    match writer.write_byte_record(fields) {
+        Ok(()) => Ok(()),
+        Err(_) => Err(AllocError),
+    }
+}
