@@ -4,6 +4,7 @@ pub mod Order
 pub mod Firsts
 pub mod Sets
 pub mod Entries
+pub mod Moves
 pub mod Meaning
 pub mod Distinct
 pub mod GroupsLaw

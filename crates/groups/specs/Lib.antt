@@ -5,6 +5,7 @@ pub mod Seen
 pub mod Kept
 pub mod Shown
 pub mod Held
+pub mod Moved
 pub mod Coding
 pub mod Table
 pub mod GroupRows

@@ -146,7 +146,7 @@ fn is_present(value: &Value) -> bool
 }
 
 /// The place of the column that a set function takes; `COUNT(*)` takes none.
-fn place_of(function: ColumnFunction) -> Option<usize>
+pub(crate) fn place_of(function: ColumnFunction) -> Option<usize>
     ensures { result ≡ place_of function }
 {
     match function {

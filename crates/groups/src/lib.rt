@@ -12,6 +12,7 @@ mod copy;
 mod distinct_values;
 mod extreme;
 mod group;
+mod key;
 mod laws;
 mod table;
 mod total;

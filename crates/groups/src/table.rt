@@ -1,10 +1,9 @@
 ghost use Rattle.std.specs.Prelude.{◌≡◌, IfOk};
-ghost use Rattle.values.specs.Datum.{data_of, datum_of};
-ghost use Rattle.groups.specs.Groups.{project};
-ghost use Rattle.groups.specs.Rows.{value_at};
+ghost use Rattle.values.specs.Datum.{data_of};
 
 use crate::accumulators::Accumulators;
 use crate::group::{Group, groups_of};
+use crate::key::{key_of, moved_key};
 use query_check::ColumnFunction;
 use std::alloc::{AllocError, Global};
 use std::collections::HashMap;
@@ -29,7 +28,8 @@ impl Model for Table {
 }
 
 impl Table {
-    ghost use Rattle.std.specs.Prelude.{◌≡◌, ℕ, [], ◌∷◌, ◌++◌, OnOk, IfOk, IfSome, List, map};
+    ghost use Rattle.std.specs.Prelude.{◌≡◌, ℕ, nat_eq, [], ◌∷◌, ◌++◌, OnOk, IfOk, IfSome, List, map};
+    ghost use Rattle.std.specs.List.{IsDistinct};
     ghost use Rattle.groups.specs.Rows.{Row};
     ghost use Rattle.query_check.specs.declared.function.ColumnFunction.{ColumnFunction};
     ghost use Rattle.std.specs.FinMap as fin;
@@ -83,6 +83,25 @@ impl Table {
     {
         let key = key_of(self.alloc, set, row)?;
         self.add_to_group(functions, key, row)
+    }
+
+    /// Takes one more record, as `add` does. The record's values move into the key, but for those that a set function
+    /// takes. After an error the table is of no use.
+    pub fn add_last(
+        &mut self,
+        set: &[usize],
+        functions: &[ColumnFunction],
+        row: Vec<Value>,
+    ) -> Result<(), AllocError>
+        requires different { IsDistinct nat_eq set.now }
+        requires narrow { IsNarrowRow (data_of row.items) }
+        requires room { TakesOne set.now functions.now self.old }
+        ensures added { OnOk result ((rows : List Row) → IsTableOf set.now functions.now self.old rows
+            → IsTableOf set.now functions.now self.new (rows ++ data_of row.items ∷ [])) }
+    {
+        let mut row = row;
+        let key = moved_key(self.alloc, set, functions, &mut row)?;
+        self.add_to_group(functions, key, row.as_slice())
     }
 
     /// Takes the records of another table, whose groups move into this one. After an error the table is of no use.
@@ -146,26 +165,5 @@ impl Table {
             self.put_to_group(key, part)?;
         }
         Ok(())
-    }
-}
-
-/// The values of a record in the columns of a grouping set.
-fn key_of(alloc: Global, set: &[usize], row: &[Value]) -> Result<Vec<Value>, AllocError>
-    ensures { IfOk result (λ key. data_of key.items ≡ project set.now (data_of row.now)) }
-{
-    let mut key = Vec::with_capacity(alloc, set.len())?;
-    for place in set {
-        key.push(value_at(row, *place)?)?;
-    }
-    Ok(key)
-}
-
-/// A copy of the value in the column at a place; where there is no such column it counts as NULL.
-fn value_at(row: &[Value], place: usize) -> Result<Value, AllocError>
-    ensures { IfOk result (λ value. datum_of value ≡ value_at place (data_of row.now)) }
-{
-    match row.get(place) {
-        Some(value) => value.clone(),
-        None => Ok(Value::Null),
     }
 }

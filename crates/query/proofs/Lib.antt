@@ -1,1 +1,2 @@
+pub mod Examples
 mod FunctionCodes

@@ -1,3 +1,4 @@
 pub mod Derivation
 pub mod Form
 pub mod Planned
+pub mod Refusal

@@ -30,6 +30,12 @@ pub fn check(alloc: Global, query: Query, schema: Schema) -> Result<Plan, QueryF
     // A fault is the first.
     ensures fault { IfErr result (λ fault. fault ≢ OutOfMemory → query_fault schema (form_of query) ≡ Some fault) }
 {
-    let resolved = check_tree(alloc, query.tree(), &schema)?;
-    Ok(Plan::new(query, schema, resolved))
+    match check_tree(alloc, query.tree(), &schema) {
+        Ok(resolved) => Ok(Plan::new(query, schema, resolved)),
+        Err(fault) => {
+            // By a call: a drop in place is proved in place, for each form of a query, which takes minutes.
+            drop(query);
+            Err(fault)
+        }
+    }
 }

@@ -1,10 +1,11 @@
 // Reading a query.
-ghost use Rattle.std.specs.Prelude.{◌≡◌, ℕ, Err, IfOk, MatchResult};
-ghost use Rattle.query_fault.specs.declared.QueryFault.TheVariants.{NoToken, OutOfMemory};
+ghost use Rattle.std.specs.Prelude.{◌≡◌, ◌<◌, [], ◌∷◌, ◌++◌, ℕ, Contains, Err, IfErr, IfOk, MatchResult, length};
+ghost use Rattle.query_fault.specs.declared.QueryFault.TheVariants.{NoToken, OutOfMemory, OverLimit};
 ghost use Rattle.query_tokens.specs.Spelling.{StopsAt};
 ghost use Rattle.query_tree.specs.Syntax.{TreeForm};
 ghost use Rattle.query.specs.Derivation.{Derives};
 ghost use Rattle.query.specs.Form.{form_of};
+ghost use Rattle.query.specs.Refusal.{IsRefusalOf};
 
 use crate::query::Query;
 use query_fault::QueryFault;
@@ -30,6 +31,10 @@ pub fn parse(alloc: Global, text: &str) -> Result<Query, QueryFault>
     ensures read { (q : TreeForm) → Derives text.now q → MatchResult result (λ query. form_of query ≡ q) (λ fault. fault ≡ OutOfMemory) }
     // No token stands at the byte of such a fault.
     ensures no_token { (byte : ℕ) → result ≡ Err (NoToken byte) → StopsAt text.now byte }
+    // A text that is too long has no other fault.
+    ensures too_long { 65536 < length text.now → result ≡ Err OverLimit }
+    // What each fault says of the text.
+    ensures refused { IfErr result (IsRefusalOf text.now) }
 {
     if text.len() > MOST_BYTES {
         return Err(QueryFault::OverLimit);
@@ -51,7 +56,9 @@ pub fn parse(alloc: Global, text: &str) -> Result<Query, QueryFault>
 }
 
 /// The byte where the first of the last so many tokens begins, or the end where there is none.
-fn start_of_last(tokens: &Tokens, count: usize, end: usize) -> usize {
+fn start_of_last(tokens: &Tokens, count: usize, end: usize) -> usize
+    ensures { Contains (tokens.now.starts.items ++ end ∷ []) result }
+{
     let place = tokens.starts.len().saturating_sub(count);
     match tokens.starts.get(place) {
         Some(byte) => *byte,

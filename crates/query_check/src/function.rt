@@ -10,7 +10,7 @@ use query_tree::Aggregate;
 use values::Column;
 
 /// A set function with the place of its column in the schema, from 0.
-#[derive(Clone, Copy, Debug)]
+#[derive(Clone, Copy, Debug, PartialEq, Eq)]
 pub enum ColumnFunction {
     /// `COUNT(*)`
     CountRows,

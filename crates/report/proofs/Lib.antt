@@ -2,3 +2,5 @@ pub mod Sorting
 pub mod Sameness
 pub mod Places
 pub mod Rows
+pub mod Keys
+pub mod Maps

@@ -21,11 +21,12 @@ use Rattle.groups.specs.GroupRows.{SameBag}
 use Rattle.groups.specs.Groups.{key_order}
 use Rattle.groups.proofs.Order.{value_total, key_total, key_antisymmetric}
 use Rattle.tables.specs.Found.{Found, row_of}
-use Rattle.report.specs.Order.{set_of, grouping_values, before, NoneBefore, Ascends, arranged}
-use Rattle.report.specs.Fitting.{AreFitting}
+use Rattle.report.specs.Order.{grouping_values, before, NoneBefore, Ascends, arranged}
+use Rattle.tables.specs.Fitting.{AreFitting, set_of}
 use Rattle.report.specs.Laws.{IsTheOrder, IsBlind}
 use Rattle.report.proofs.Sorting.{all-in_order, Apart, apart-in_order, ascends-in_order, ascends-sorted, bag-permutation, one-list, weigh-in_order}
 use Rattle.report.proofs.Sameness.{both-tied, found-tells, same_found}
+use Rattle.report.proofs.Maps.{map-twice}
 use Rattle.report.proofs.Places.{different-distinct, order-same_set}
 
 -- ---- one row and another
@@ -114,24 +115,20 @@ the-order fields t found fit = record {
   ascends = ascends-in_order (before-total fields t) found;
   only = λ others bag up.
       sym (one-list (before-total fields t) same_found found-tells (arranged fields t found) others (apart-fitting fields t found fit) (ascends-in_order (before-total fields t) found) up
-        (λ f. weigh-in_order (before fields t) f found ∙ bag f));
+      (λ f. weigh-in_order (before fields t) f found ∙ bag f));
 }
 
 pub is-blind : (fields : List Field) (t : TreeForm) (found : List Found) → AreFitting fields t found → IsBlind fields t found
 is-blind fields t found fit others bag =
     sym (one-list (before-total fields t) same_found found-tells (arranged fields t found) (arranged fields t others) (apart-fitting fields t found fit)
-      (ascends-in_order (before-total fields t) found) (ascends-in_order (before-total fields t) others)
-      (λ f. weigh-in_order (before fields t) f found ∙ bag f ∙ sym (weigh-in_order (before fields t) f others)))
+    (ascends-in_order (before-total fields t) found) (ascends-in_order (before-total fields t) others)
+    (λ f. weigh-in_order (before fields t) f found ∙ bag f ∙ sym (weigh-in_order (before fields t) f others)))
 
 -- ---- the code's sort
 
 -- what a reference to a group of the code shows
 abbrev pub row_at : Bor (ℕ × Group) → Found
 row_at r = row_of r.now
-
-map-twice : {X Y Z : Type 0} (g : Y → Z) (f : X → Y) (xs : List X) → map g (map f xs) ≡ map (λ x. g (f x)) xs
-map-twice g f [] = refl
-map-twice {X} {Y} {Z} g f (x ∷ xs) = ap (λ (zs : List Z). g (f x) ∷ zs) (map-twice g f xs)
 
 -- references that are sorted by index and key are the rows in their order
 pub sorted-rows : (fields : List Field) (t : TreeForm) (rows : List (ℕ × Group)) (refs sorted : List (Bor (ℕ × Group))) → map (λ (r : Bor (ℕ × Group)). r.now) refs ≡ rows → IsPermutation refs sorted

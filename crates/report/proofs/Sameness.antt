@@ -56,11 +56,14 @@ found_equal x y h =
     let p = both-tied (nat_cmp x.0 y.0) (ordering_then (key_order x.1.key y.1.key) (ordering_then (nat_cmp x.1.lines y.1.lines) (slice_cmp cell_order x.1.cells y.1.cells))) h in
     let q = both-tied (key_order x.1.key y.1.key) (ordering_then (nat_cmp x.1.lines y.1.lines) (slice_cmp cell_order x.1.cells y.1.cells)) p.1 in
     let r = both-tied (nat_cmp x.1.lines y.1.lines) (slice_cmp cell_order x.1.cells y.1.cells) q.1 in
-    λ i. (exact_unsigned x.0 y.0 p.0 i, record {
-      key = key_antisymmetric x.1.key y.1.key q.0 i;
-      lines = exact_unsigned x.1.lines y.1.lines r.0 i;
-      cells = slice_cmp-IsAntisymmetric cell_antisymmetric x.1.cells y.1.cells r.1 i;
-    })
+    λ i. (
+      exact_unsigned x.0 y.0 p.0 i,
+      record {
+        key = key_antisymmetric x.1.key y.1.key q.0 i;
+        lines = exact_unsigned x.1.lines y.1.lines r.0 i;
+        cells = slice_cmp-IsAntisymmetric cell_antisymmetric x.1.cells y.1.cells r.1 i;
+      },
+    )
 
 found_itself : (x : Found) → found_order x x ≡ Equal
 found_itself x =

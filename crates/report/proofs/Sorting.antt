@@ -92,7 +92,10 @@ module _ {X : Type 0} {order : X → X → Ordering} (o : IsTotalOrder order) wh
   ascends-sorted key [] h = tt
   ascends-sorted key (y ∷ []) h = (tt, tt)
   ascends-sorted {Y} key (y ∷ z ∷ zs) h =
-      let rest : Ascends order (map key (z ∷ zs)) = ascends-sorted key (z ∷ zs) (λ k d low high. h (suc k) d (omega arith) (omega arith)) in
+      let later : (k : ℕ) → suc k + 1 ≡ suc (k + 1) = λ k. omega arith in
+      let tail : IsSortedBy (λ a b. is_lt (order (key a) (key b))) (z ∷ zs) = λ k d low high.
+      subst (λ (n : ℕ). is_lt (order (key (get_or (y ∷ z ∷ zs) n d)) (key (get_or (z ∷ zs) k d))) ≡ false) (later k) (h (suc k) d (omega arith) (omega arith)) in
+      let rest : Ascends order (map key (z ∷ zs)) = ascends-sorted key (z ∷ zs) tail in
       let first : is_gt (order (key y) (key z)) ≡ false = turned_less (order (key y) (key z)) (order (key z) (key y)) (o.antisymm (key y) (key z)) (h 0 y (omega arith) (omega arith)) in
       ((first, none-through (key y) (key z) (map key zs) first rest.0), rest)
 

@@ -1,5 +1,4 @@
 pub mod Order
-pub mod Fitting
 pub mod Shown
 pub mod Text
 pub mod Report

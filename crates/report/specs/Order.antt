@@ -9,15 +9,12 @@ use Rattle.values.specs.Datum.{Datum, null}
 use Rattle.values.specs.Order.{value_order}
 use Rattle.values.specs.Schema.{Field}
 use Rattle.query_tree.specs.Syntax.{TreeForm}
-use Rattle.query_check.specs.Sets.{grouping_places, sets_of}
+use Rattle.query_check.specs.Sets.{grouping_places}
 use Rattle.groups.specs.Groups.{Key}
+use Rattle.tables.specs.Fitting.{set_of}
 use Rattle.tables.specs.Found.{Found}
 
 -- ---- rows
-
--- the columns of the grouping set of a row, by their places
-abbrev pub set_of : List Field → TreeForm → Found → List ℕ
-set_of fields t found = slice_index_or (sets_of fields t) found.0 []
 
 -- the value that a row of a grouping set shows for a column: the column's part of the key, and NULL where the column is not in the set
 abbrev pub value_in : List ℕ → Key → ℕ → Datum

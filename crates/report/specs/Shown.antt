@@ -11,7 +11,8 @@ use Rattle.query_check.specs.Functions.{aggregate_of, column_function, functions
 use Rattle.groups.specs.Functions.{Summary, plain}
 use Rattle.groups.specs.Groups.{Key}
 use Rattle.tables.specs.Found.{Found}
-use Rattle.report.specs.Order.{set_of, value_in}
+use Rattle.report.specs.Order.{value_in}
+use Rattle.tables.specs.Fitting.{set_of}
 use Rattle.report.specs.declared.row.Row.{Row}
 use Rattle.groups.specs.Shown.{summary_of}
 

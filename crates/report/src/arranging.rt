@@ -3,7 +3,7 @@ ghost use Rattle.std.specs.Prelude.{◌≡◌, ◌<◌, IfOk, length, map};
 ghost use Rattle.query_check.specs.Sets.{sets_of};
 ghost use Rattle.query.specs.Planned.{fields_of_plan, form_of_plan};
 ghost use Rattle.tables.specs.Found.{found_in, row_of};
-ghost use Rattle.report.specs.Fitting.{AreFitting};
+ghost use Rattle.tables.specs.Fitting.{AreFitting};
 ghost use Rattle.report.specs.Report.{rows_shown};
 ghost use Rattle.report.specs.Shown.{cells_of, row_shown};
 

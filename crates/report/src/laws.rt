@@ -3,7 +3,7 @@ ghost use Rattle.std.specs.Prelude.{List};
 ghost use Rattle.values.specs.Schema.{Field};
 ghost use Rattle.query_tree.specs.Syntax.{TreeForm};
 ghost use Rattle.tables.specs.Found.{Found};
-ghost use Rattle.report.specs.Fitting.{AreFitting};
+ghost use Rattle.tables.specs.Fitting.{AreFitting};
 ghost use Rattle.report.specs.Laws.{IsBlind, IsTheOrder};
 
 /// A law: of groups that fit a query, the rows in their order are the one list that has each of them as often and
@@ -13,6 +13,6 @@ pub fn order_law()
 {}
 
 /// A law: of groups that fit a query, the rows in their order are the same in whatever order the groups are found.
-pub fn blind_law()
+pub fn arranged_law()
     ensures { (fields : List Field) (t : TreeForm) (found : List Found) → AreFitting fields t found → IsBlind fields t found }
 {}

@@ -14,7 +14,7 @@ mod row;
 mod text;
 
 pub use arranging::arrange;
-pub use laws::{blind_law, order_law};
+pub use laws::{arranged_law, order_law};
 pub use refused::refused_text;
 pub use row::Row;
 pub use text::report_text;

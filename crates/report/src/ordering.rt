@@ -6,7 +6,7 @@ ghost use Rattle.values.specs.Schema.{Field};
 ghost use Rattle.query_tree.specs.Syntax.{TreeForm};
 ghost use Rattle.groups.specs.Groups.{key_order};
 ghost use Rattle.tables.specs.Found.{row_of};
-ghost use Rattle.report.specs.Fitting.{AreFitting};
+ghost use Rattle.tables.specs.Fitting.{AreFitting};
 ghost use Rattle.report.specs.Order.{arranged};
 
 use groups::Group;

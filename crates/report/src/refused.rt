@@ -1,5 +1,6 @@
 // The list of refused lines.
-ghost use Rattle.std.specs.Prelude.{◌≡◌, ◌++◌, All, IfOk, OnOk, codes, decimal};
+ghost use Rattle.std.specs.Prelude.{◌≡◌, ◌<◌, ◌++◌, All, IfOk, OnOk, codes, decimal, length};
+ghost use Rattle.query_print.specs.Canonical.{name_at};
 ghost use Rattle.tables.specs.Found.{refused_in};
 ghost use Rattle.report.specs.Report.{NamesColumn, refusals_of};
 ghost use Rattle.report.specs.Text.{fault_text, refused_line};
@@ -61,9 +62,22 @@ fn push_fault(text: &mut Vec<u8>, schema: &Schema, fault: LineFault) -> Result<(
         LineFault::TooLong => text.extend_from_slice(b"too long"),
         LineFault::NoJson => text.extend_from_slice(b"not JSON"),
         LineFault::NoObject => text.extend_from_slice(b"not an object"),
-        LineFault::BadValue(place) => {
-            text.extend_from_slice(b"bad value in column ")?;
-            text.extend_from_slice(schema.columns()[place].name.as_bytes())
-        }
+        LineFault::BadValue(place) => push_bad_value(text, column_name(schema, place)),
     }
+}
+
+/// Adds that the value in the column of this name is bad.
+fn push_bad_value(text: &mut Vec<u8>, name: &str) -> Result<(), AllocError>
+    ensures { OnOk result (text.new.items ≡ text.old.items ++ codes "bad value in column " ++ name.now) }
+{
+    text.extend_from_slice(b"bad value in column ")?;
+    text.extend_from_slice(name.as_bytes())
+}
+
+/// The name of the column at a place.
+fn column_name(schema: &Schema, place: usize) -> &str
+    requires { place < length schema.now }
+    ensures { result.now ≡ name_at schema.now place }
+{
+    schema.columns()[place].name.as_str()
 }

@@ -1,7 +1,7 @@
 ghost use Rattle.std.specs.Prelude.{◌≡◌, All, IsTrue, length};
 ghost use Rattle.query.specs.Planned.{form_of_plan};
 
-use crate::{Row, blind_law, order_law, refused_text, report_text};
+use crate::{Row, arranged_law, order_law, refused_text, report_text};
 use groups::Cell;
 use lines::LineFault;
 use query::{Plan, check, parse};
@@ -53,11 +53,7 @@ fn writes_fields(rt: HostRuntime) -> Result<(), Fail> {
         Cell::Plain(Value::Null),
         Cell::Plain(Value::Bool(true)),
     )?)?;
-    rows.push(pair(
-        alloc,
-        Cell::Ratio(-7, 2),
-        Cell::Plain(Value::Int(-20)),
-    )?)?;
+    rows.push(pair(alloc, Cell::Ratio(-7, 2), Cell::Plain(Value::Int(-20)))?)?;
     assert!(rt; are_as_wide(&rows, &plan));
     let report = report_text(alloc, &rows, &plan)?;
     let wanted = "r,n\n,1\n\\\\N,1\n\"a,b\",1\n\"say \"\"hi\"\"\",1\n\\N,true\n-7/2,-20\n";
@@ -90,7 +86,8 @@ fn lists_refused_lines(rt: HostRuntime) -> Result<(), Fail> {
     refused.push((14, LineFault::TooLong))?;
     let groups = Groups::new(Vec::new(alloc), refused);
     let list = refused_text(alloc, &groups, &schema)?;
-    let wanted = "line 1: not JSON\nline 2: not an object\nline 3: bad value in column q\nline 14: too long\n";
+    let wanted =
+        "line 1: not JSON\nline 2: not an object\nline 3: bad value in column q\nline 14: too long\n";
     assert_eq!(rt; list.as_slice(), wanted.as_bytes());
     Ok(())
 }
@@ -98,6 +95,6 @@ fn lists_refused_lines(rt: HostRuntime) -> Result<(), Fail> {
 #[test]
 fn has_laws(rt: HostRuntime) {
     order_law();
-    blind_law();
+    arranged_law();
     assert!(rt; true);
 }

@@ -14,7 +14,7 @@ use Rattle.lines.specs.Taken.{taken}
 use Rattle.lines.proofs.Splits as splits
 use Rattle.tables.specs.Folding.{good_of}
 use Rattle.tables.specs.Notes.{Noted, note_of, numbered_from}
-use Rattle.tables.specs.Pieces.{IndexedPiece, all_lines, joined_bytes, records_of}
+use Rattle.tables.specs.Pieces.{IndexedPiece, IsCutInto, all_lines, joined_bytes, records_of}
 use Rattle.tables.proofs.Reading.{enumerate-append, numbered_fault}
 
 behind-feed : (bytes rest : List ℕ) → EndsInFeed bytes → lines (bytes ++ rest) ≡ lines bytes ++ lines rest
@@ -63,3 +63,13 @@ numbered-lines fields n (p ∷ more) =
     ∙ ap (λ rest. refused_from fields (n + 1) ls ++ rest) (numbered-lines fields (n + length ls) more)
     ∙ ap (λ k. refused_from fields (n + 1) ls ++ refused_from fields k (all_lines more)) (let e : n + length ls + 1 ≡ n + 1 + length ls = omega arith in e)
     ∙ sym (refused_from-append fields (n + 1) ls (all_lines more))
+
+-- what the pieces of an input that was cut between its lines come to
+pub cut-records : (fields : List Field) (input : List ℕ) (pieces : List IndexedPiece) → IsCutInto input pieces → records_of fields pieces ≡ good fields input
+cut-records fields input pieces c = records-good fields pieces ∙ ap (good_of fields) (cut-lines pieces c.feeds ∙ ap lines c.joined)
+
+pub cut-refused : (fields : List Field) (input : List ℕ) (pieces : List IndexedPiece) → IsCutInto input pieces → numbered_from 0 (map (note_of fields) pieces) ≡ refused fields input
+cut-refused fields input pieces c =
+    numbered-lines fields 0 pieces
+    ∙ ap (λ n. refused_from fields n (all_lines pieces)) (let e : 0 + 1 ≡ 1 = omega arith in e)
+    ∙ ap (refused_from fields 1) (cut-lines pieces c.feeds ∙ ap lines c.joined)

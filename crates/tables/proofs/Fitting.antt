@@ -38,12 +38,12 @@ fails t x = cond (t x) 0 1
 
 weigh-fails : {X : Type 0} (t : X → Bool) (xs : List X) → AllByRecursion (λ x. t x ≡ true) xs → weigh (fails t) xs ≡ 0
 weigh-fails t [] h = refl
-weigh-fails t (x ∷ xs) h = ap (λ b. cond b 0 1 + weigh (fails t) xs) h.0 ∙ weigh-fails t xs h.1
+weigh-fails t (x ∷ xs) h = let a = ap (λ b. cond b 0 1 + weigh (fails t) xs) h.0 in let b = weigh-fails t xs h.1 in omega (arith, a, b)
 
 none-fails : {X : Type 0} (t : X → Bool) (xs : List X) → weigh (fails t) xs ≡ 0 → AllByRecursion (λ x. t x ≡ true) xs
 none-fails t [] h = tt
 none-fails t (x ∷ xs) h = elim (t x) as (λ b. t x ≡ b → cond b 0 1 + weigh (fails t) xs ≡ 0 → (t x ≡ true) × AllByRecursion (λ y. t y ≡ true) xs) [
-  | true ↦ λ e z. (e, none-fails t xs z)
+  | true ↦ λ e z. (e, none-fails t xs (omega (arith, z)))
   | false ↦ λ e z. absurd (omega (arith, z))
 ] refl h
 
@@ -61,13 +61,13 @@ module _ {K : Type 0} (e : K → K → Bool) (decides : (k l : K) → Decides (e
 
   none-counted : (k : K) (ks : List K) → AllByRecursion (λ l. e k l ≡ false) ks → weigh (one k) ks ≡ 0
   none-counted k [] h = refl
-  none-counted k (l ∷ ks) h = ap (λ b. cond b 1 0 + weigh (one k) ks) h.0 ∙ none-counted k ks h.1
+  none-counted k (l ∷ ks) h = let a = ap (λ b. cond b 1 0 + weigh (one k) ks) h.0 in let b = none-counted k ks h.1 in omega (arith, a, b)
 
   not-counted : (k : K) (ks : List K) → weigh (one k) ks ≡ 0 → AllByRecursion (λ l. e k l ≡ false) ks
   not-counted k [] h = tt
   not-counted k (l ∷ ks) h = elim (e k l) as (λ b. e k l ≡ b → cond b 1 0 + weigh (one k) ks ≡ 0 → (e k l ≡ false) × AllByRecursion (λ m. e k m ≡ false) ks) [
     | true ↦ λ f z. absurd (omega (arith, z))
-    | false ↦ λ f z. (f, not-counted k ks z)
+    | false ↦ λ f z. (f, not-counted k ks (omega (arith, z)))
   ] refl h
 
   -- of different things each is counted once at most
@@ -198,16 +198,16 @@ places-more rows n s sets fs =
     ∙ map-append place (map (found fs) (set_groups rows (n, s))) (map (found fs) (flat_map (set_groups rows) (enumerate_from (n + 1) sets)))
     ∙ ap (λ ps. ps ++ places_from rows (n + 1) sets fs) (set-places fs rows n s (keys s rows))
 
-at-index : (m n : ℕ) (ks : List Key) → m < n → AllByRecursion (λ p. m < p.0) (map (λ k. (n, k)) ks)
+at-index : (m n : ℕ) (ks : List Key) → m < n → AllByRecursion (λ (p : ℕ × Key). m < p.0) (map (λ k. (n, k)) ks)
 at-index m n [] l = tt
 at-index m n (k ∷ ks) l = (l, at-index m n ks l)
 
-above : (rows : List Row) (m n : ℕ) (sets : List (List ℕ)) (fs : List ColumnFunction) → m < n → AllByRecursion (λ p. m < p.0) (places_from rows n sets fs)
+above : (rows : List Row) (m n : ℕ) (sets : List (List ℕ)) (fs : List ColumnFunction) → m < n → AllByRecursion (λ (p : ℕ × Key). m < p.0) (places_from rows n sets fs)
 above rows m n [] fs l = tt
 above rows m n (s ∷ sets) fs l = subst (λ ps. AllByRecursion (λ (p : ℕ × Key). m < p.0) ps) (sym (places-more rows n s sets fs))
     (all-append (λ (p : ℕ × Key). m < p.0) (map (λ k. (n, k)) (keys s rows)) (places_from rows (n + 1) sets fs) (at-index m n (keys s rows) l) (above rows m (n + 1) sets fs (omega (arith, l))))
 
-apart-from : (n : ℕ) (k : Key) (ps : List (ℕ × Key)) → AllByRecursion (λ p. n < p.0) ps → AllByRecursion (λ p. same_group (n, k) p ≡ false) ps
+apart-from : (n : ℕ) (k : Key) (ps : List (ℕ × Key)) → AllByRecursion (λ (p : ℕ × Key). n < p.0) ps → AllByRecursion (λ p. same_group (n, k) p ≡ false) ps
 apart-from n k [] h = tt
 apart-from n k (p ∷ ps) h = (not-left (n == p.0) (same_key k p.1) (other-index n p.0 h.0), apart-from n k ps h.1)
 
@@ -215,7 +215,7 @@ other-keys : (n : ℕ) (k : Key) (ks : List Key) → AllByRecursion (λ l. same_
 other-keys n k [] h = tt
 other-keys n k (l ∷ ks) h = (not-right (n == n) (same_key k l) h.0, other-keys n k ks h.1)
 
-set-distinct : (n : ℕ) (ks : List Key) (ps : List (ℕ × Key)) → IsDistinct same_key ks → AllByRecursion (λ p. n < p.0) ps → IsDistinct same_group ps → IsDistinct same_group (map (λ k. (n, k)) ks ++ ps)
+set-distinct : (n : ℕ) (ks : List Key) (ps : List (ℕ × Key)) → IsDistinct same_key ks → AllByRecursion (λ (p : ℕ × Key). n < p.0) ps → IsDistinct same_group ps → IsDistinct same_group (map (λ k. (n, k)) ks ++ ps)
 unfolding IsDistinct
 set-distinct n [] ps d a r = r
 set-distinct n (k ∷ ks) ps d a r =
@@ -250,7 +250,7 @@ pub found-fit : (fields : List Field) (t : TreeForm) (rows : List Row) (xs : Lis
 found-fit fields t rows xs same =
     let sets = sets_of fields t in
     let fs = functions_of fields t in
-    let each = All-from_recursion (IsFitting sets fs) xs (indexes sets fs xs (all-same (fits sets fs) xs (all_found sets fs rows) same (rows-fit sets fs rows 0 sets refl (λ i h. refl)))) in
+    let each = All-from_recursion (IsFitting sets fs) xs (indexes sets fs xs (all-same (fits sets fs) xs (all_found sets fs rows) same (rows-fit sets fs rows 0 sets (omega arith) (λ i h. ap (λ m. slice_index_or sets m []) (let e : 0 + i ≡ i = omega arith in e))))) in
     record {
       indexes = λ k d l. (each k d l).within;
       keys = λ k d l. (each k d l).one_each;

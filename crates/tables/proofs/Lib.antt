@@ -10,3 +10,4 @@ pub mod Fitting
 pub mod Cutting
 pub mod Shuffling
 pub mod Numbered
+pub mod Shapes

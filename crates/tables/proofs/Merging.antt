@@ -1,9 +1,11 @@
 -- Results over some pieces and over others, put together.
-use Rattle.std.proofs.Common.{◌≡◌, ◌+◌, ◌<◌, ◌≤◌, ◌^◌, ℕ, zero, suc, List, [], ◌∷◌, ◌++◌, length, map, IfSome, refl, sym, ap, subst, ◌∙◌, arith, length-append}
+use Rattle.std.proofs.Common.{◌≡◌, ◌+◌, ◌<◌, ◌≤◌, ◌^◌, ℕ, zero, suc, List, [], ◌∷◌, ◌++◌, length, map, Vec, Global, IfSome, refl, sym, ap, subst, ◌∙◌, arith, length-append}
 use Rattle.std.proofs.lemmas.Grind.{flat_map-append}
 use Rattle.std.proofs.lemmas.List.{map-append}
 use Rattle.std.proofs.lemmas.List.Sorted.{IsPermutation-append}
-use Rattle.std.specs.List.{AllByRecursion, flat_map}
+use Rattle.std.proofs.lemmas.List.Sums.{sum_by-append, sum_by-cons}
+use Rattle.std.proofs.lemmas.List.Elements.{All-cons}
+use Rattle.std.specs.List.{All, AllByRecursion, flat_map}
 use Rattle.std.specs.List.Sorted.{IsPermutation}
 use Rattle.values.specs.Schema.{Field}
 use Rattle.lines.specs.Input.{good, refused}
@@ -13,7 +15,9 @@ use Rattle.groups.specs.Groups.{Key}
 use Rattle.groups.specs.Table.{Contents, CanJoin, IsJoined, IsTableOf, AreGroupsWithin}
 use Rattle.groups.proofs.Meaning.{table-within, tables-within, within-can_join}
 use Rattle.groups.specs.Rows.{Row}
-use Rattle.tables.specs.Notes.{Noted, note_of}
+use Rattle.query_check.specs.Resolution.{contents}
+use Rattle.tables.specs.Notes.{IsWellNumbered, Noted, lines_noted, note_in, note_of}
+use Rattle.tables.specs.declared.note.Note.{Note}
 use Rattle.tables.specs.Pieces.{IndexedPiece, all_lines, records_of, refused_within}
 use Rattle.tables.specs.Sets.{AreTablesOf, AllCanJoin, AllJoined, AreAllWithin}
 
@@ -58,3 +62,35 @@ refused-append fields pieces more = ap length (flat_map-append (λ piece. refuse
 pub notes-append : (fields : List Field) (pieces more : List IndexedPiece) (ns ms : List Noted) → IsPermutation (map (note_of fields) pieces) ns → IsPermutation (map (note_of fields) more) ms
     → IsPermutation (map (note_of fields) (pieces ++ more)) (ns ++ ms)
 notes-append fields pieces more ns ms a b = subst (λ xs. IsPermutation xs (ns ++ ms)) (sym (map-append (note_of fields) pieces more)) (IsPermutation-append _ _ _ _ a b)
+
+-- ---- shapes
+
+contents-length : (vs : List (Vec ℕ Global)) → length (contents vs) ≡ length vs
+contents-length [] = refl
+contents-length (v ∷ vs) = ap suc (contents-length vs)
+
+-- tables within numbers of records, by the sets and functions of the code
+pub within-shape : (sets : List (List ℕ)) (fs gs : List ColumnFunction) (vs : List (Vec ℕ Global)) (n : ℕ) (ts : List Contents) → contents vs ≡ sets → gs ≡ fs
+    → AreAllWithin (length sets) n fs ts → AreAllWithin (length vs) n gs ts
+within-shape sets fs gs vs n ts e f w =
+    subst (λ (c : ℕ). AreAllWithin c n gs ts) (ap length (sym e) ∙ contents-length vs) (subst (λ (hs : List ColumnFunction). AreAllWithin (length sets) n hs ts) (sym f) w)
+
+-- tables of one shape are within numbers of records by either
+pub within-other : (fs gs : List ColumnFunction) (vs ws : List (Vec ℕ Global)) (n : ℕ) (ts : List Contents) → contents vs ≡ contents ws → gs ≡ fs
+    → AreAllWithin (length ws) n fs ts → AreAllWithin (length vs) n gs ts
+within-other fs gs vs ws n ts e f w =
+    within-shape (contents ws) fs gs vs n ts e f (subst (λ (c : ℕ). AreAllWithin c n fs ts) (sym (contents-length ws)) w)
+
+pub counted-append : (ns ms : List Noted) (m n : ℕ) → lines_noted ns ≡ m → lines_noted ms ≡ n → lines_noted (ns ++ ms) ≡ m + n
+counted-append ns ms m n a b = let s = sum_by-append (λ (note : Noted). note.lines) ns ms in omega (arith, s, a, b)
+
+-- no notes
+pub no-notes : (ns : List Note) → ns ≡ [] → (lines_noted (map note_in ns) ≡ 0) × All IsWellNumbered (map note_in ns)
+no-notes ns e = (ap (λ (xs : List Note). lines_noted (map note_in xs)) e, subst (λ (xs : List Note). All IsWellNumbered (map note_in xs)) (sym e) (λ k d l. absurd (omega (arith, l))))
+
+-- the one note of a piece
+pub one-note : (ns : List Note) (note : Note) → ns ≡ note ∷ [] → IsWellNumbered (note_in note) → (lines_noted (map note_in ns) ≡ note.lines) × All IsWellNumbered (map note_in ns)
+one-note ns note e w = (
+  ap (λ (xs : List Note). lines_noted (map note_in xs)) e ∙ (let s = sum_by-cons (λ (n : Noted). n.lines) (note_in note) [] in omega (arith, s)),
+  subst (λ (xs : List Note). All IsWellNumbered (map note_in xs)) (sym e) (All-cons IsWellNumbered (note_in note) [] w (λ k d l. absurd (omega (arith, l)))),
+)

@@ -1,5 +1,5 @@
 -- The whole numbers of a record that fits a schema have 64 bits.
-use Rattle.std.proofs.Common.{◌≡◌, ◌^◌, ◌≤◌, ℤ, pos, ◌-ℤ◌, ◌≤ℤ◌, List, [], ◌∷◌, FitsSigned, arith}
+use Rattle.std.proofs.Common.{◌≡◌, ◌^◌, ◌≤◌, ℤ, pos, negsuc, ◌-ℤ◌, ◌≤ℤ◌, List, [], ◌∷◌, FitsSigned, arith}
 use Rattle.std.proofs.lemmas.Int.{ints}
 use Rattle.std.specs.Int.{w64}
 use Rattle.values.specs.declared.schema.Kind.{Kind}
@@ -13,7 +13,8 @@ one : (k : Kind) (d : Datum) → Holds k d → IsNarrow d
 one k null h = tt
 one k (boolean b) h = tt
 one k (text s) h = tt
-one kind.Int (whole n) h = (omega (arith, ints, h.0), omega (arith, ints, h.1))
+one kind.Int (whole (pos n)) h = (let f = h.sfits in omega (arith, ints, f), let f = h.sfits in omega (arith, ints, f))
+one kind.Int (whole (negsuc n)) h = (let f = h.sfits in omega (arith, ints, f), let f = h.sfits in omega (arith, ints, f))
 one kind.Text (whole n) h = absurd h
 one kind.Bool (whole n) h = absurd h
 

@@ -1,5 +1,5 @@
 -- The lines of a piece as far as they have been read.
-use Rattle.std.proofs.Common.{◌≡◌, ◌==◌, ◌+◌, ◌<◌, ◌≤◌, ◌^◌, ℕ, ℤ, zero, suc, Bool, true, false, cond, List, [], ◌∷◌, ◌++◌, length, map, filter_map, option_map, Option, Some, None, Result, Ok, Err, refl, sym, ap, subst, ◌∙◌, arith, append-nil}
+use Rattle.std.proofs.Common.{◌≡◌, ◌==◌, ◌+◌, ◌<◌, ◌≤◌, ◌^◌, ℕ, ℤ, zero, suc, Bool, true, false, cond, List, [], ◌∷◌, ◌++◌, length, map, filter_map, option_map, Option, Some, None, Result, Ok, Err, refl, sym, ap, subst, ◌∙◌, arith, append-nil, length-append}
 use Rattle.std.proofs.lemmas.List.{map-append, length-map}
 use Rattle.std.proofs.lemmas.List.Elements.{All-from_recursion, filter_map-append}
 use Rattle.std.proofs.lemmas.List.FromFn.{length-enumerate_from}
@@ -11,7 +11,13 @@ use Rattle.values.specs.Schema.{Field}
 use Rattle.lines.specs.declared.fault.LineFault.{LineFault}
 use Rattle.lines.specs.Lines.{line_feed, lines, without_empty_last}
 use Rattle.lines.specs.Taken.{taken}
-use Rattle.tables.specs.Folding.{good_of, refused_of}
+use Rattle.query_tree.specs.Syntax.{TreeForm}
+use Rattle.query_check.specs.Functions.{functions_of}
+use Rattle.query_check.specs.Sets.{sets_of}
+use Rattle.groups.specs.Table.{Contents}
+use Rattle.tables.specs.Sets.{AreTablesOf}
+use Rattle.tables.specs.declared.folding.Folding.{Folding}
+use Rattle.tables.specs.Folding.{HasRead, good_of, refused_of}
 
 -- ---- an input has at most as many lines as bytes
 
@@ -107,3 +113,36 @@ at-most n (l ∷ ls) h = (let a = h.0 in omega (arith, a), at-most n ls h.1)
 pub refused-numbers : (fields : List Field) (ls : List (List ℕ)) → All (λ line. line.0 ≤ length ls) (refused_of fields ls)
 refused-numbers fields ls = All-from_recursion (λ line. line.0 ≤ length ls) (refused_of fields ls)
     (at-most (length ls) (refused_of fields ls) (numbers-below (length ls + 1) 1 (map (taken fields) ls) (let long = length-map ls (taken fields) in omega (arith, long))))
+
+-- some lines have been read, and with those that are left they are all
+pub record HasReadSome (fields : List Field) (q : TreeForm) (folding : Folding) (left all : List (List ℕ)) : Type 0 where
+  pub seen : List (List ℕ)
+  pub has_read : HasRead fields q folding seen
+  pub is : seen ++ left ≡ all
+
+-- ---- a line that has been read
+
+pub read-ok : (fields : List Field) (q : TreeForm) (old new : Folding) (seen : List (List ℕ)) (line : List ℕ) (row : List Datum) → taken fields line ≡ Ok row → HasRead fields q old seen
+    → ((rows : List (List Datum)) → AreTablesOf (sets_of fields q) (functions_of fields q) old.tables rows → AreTablesOf (sets_of fields q) (functions_of fields q) new.tables (rows ++ row ∷ []))
+    → new.lines ≡ old.lines → new.refused.items ≡ old.refused.items
+    → HasRead fields q (record { tables = new.tables; lines = new.lines + 1; refused = new.refused }) (seen ++ line ∷ [])
+read-ok fields q old new seen line row e h added same kept = record {
+  tables = subst (λ (rows : List (List Datum)). AreTablesOf (sets_of fields q) (functions_of fields q) new.tables rows) (sym (good-ok fields seen line row e)) (added (good_of fields seen) h.tables);
+  lines = (let a = h.lines in let b = length-append seen (line ∷ []) in omega (arith, same, a, b));
+  refused = kept ∙ h.refused ∙ sym (refused-ok fields seen line row e);
+}
+
+pub read-err : (fields : List Field) (q : TreeForm) (old new : Folding) (seen : List (List ℕ)) (line : List ℕ) (fault : LineFault) → taken fields line ≡ Err fault → HasRead fields q old seen
+    → new.tables ≡ old.tables → new.lines ≡ old.lines → new.refused.items ≡ old.refused.items ++ (old.lines + 1, fault) ∷ []
+    → HasRead fields q (record { tables = new.tables; lines = new.lines + 1; refused = new.refused }) (seen ++ line ∷ [])
+read-err fields q old new seen line fault e h kept same more = record {
+  tables = subst (λ (ts : List Contents). AreTablesOf (sets_of fields q) (functions_of fields q) ts (good_of fields (seen ++ line ∷ []))) (sym kept)
+      (subst (λ (rows : List (List Datum)). AreTablesOf (sets_of fields q) (functions_of fields q) old.tables rows) (sym (good-err fields seen line fault e)) h.tables);
+  lines = (let a = h.lines in let b = length-append seen (line ∷ []) in omega (arith, same, a, b));
+  refused = more ∙ ap (λ rs. rs ++ (old.lines + 1, fault) ∷ []) h.refused ∙ ap (λ n. refused_of fields seen ++ (n + 1, fault) ∷ []) h.lines ∙ sym (refused-err fields seen line fault e);
+}
+
+-- what is noted of lines that have been read
+pub well-numbered : (fields : List Field) (n : ℕ) (refused : List (ℕ × LineFault)) (ls : List (List ℕ)) → n ≡ length ls → refused ≡ refused_of fields ls → All (λ line. line.0 ≤ n) refused
+well-numbered fields n refused ls e f =
+    subst (λ (rs : List (ℕ × LineFault)). All (λ line. line.0 ≤ n) rs) (sym f) (subst (λ m. All (λ line. line.0 ≤ m) (refused_of fields ls)) (sym e) (refused-numbers fields ls))

@@ -23,6 +23,7 @@ pub(crate) struct Folding {
 
 impl Folding {
     ghost use Rattle.std.specs.Prelude.{[], ◌∷◌, ◌++◌, ◌+◌, ℕ, List, OnOk, IfOk};
+    ghost use Rattle.values.specs.Datum.{Datum};
     ghost use Rattle.values.specs.Fit.{Fits};
     ghost use Rattle.lines.specs.Taken.{taken};
     ghost use Rattle.query.specs.Planned.{fields_of_plan, form_of_plan};

@@ -67,13 +67,5 @@ fn same_sets(sets: &[Vec<usize>], others: &[Vec<usize>]) -> bool
 fn same_functions(functions: &[ColumnFunction], others: &[ColumnFunction]) -> bool
     ensures { IsTrue result ↔ (functions.now ≡ others.now) }
 {
-    if functions.len() != others.len() {
-        return false;
-    }
-    for (function, other) in functions.iter().zip(others) {
-        if !function.is_same(*other) {
-            return false;
-        }
-    }
-    true
+    functions == others
 }

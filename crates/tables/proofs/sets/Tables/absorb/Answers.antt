@@ -47,14 +47,14 @@ loop-place-preserved c =
     subst (λ n. AreJoined n olds others (set tables c.in-Some.place v) rest) (sym (s.2 ∙ add-one count))
     (subst (λ n. AreJoined (suc count) olds others (set tables n v) rest) (sym s.1) (joined-step count olds others tables u rest t v c.requires at c.in_ok-absorb.ensures.groups k))
 
--- at the end each table is joined
-all : (c : goal.After-loop-place) → AllJoined c.args.self.now c.args.other c.loop-place.self-inside.tables.items
-all c = joined-all c.loop-place.place-iterator.count c.args.self.now c.args.other c.loop-place.self-inside.tables.items c.loop-place.place-iterator.iter.rest.items
-    (grind (arith, c.in-None.ensures.steps.0, c.loop-place.place-iterator.iter.rest.ok)) c.requires c.loop-place.invariant
-
 pub returns : goal.returns
-returns c = record {
-  groups = all c;
-  joined = λ (sets : List (List ℕ)) (fs : List ColumnFunction) (rows more : List Row) (a : AreTablesOf sets fs c.args.self.now rows) (b : AreTablesOf sets fs c.args.other more).
-      joined-tables sets fs c.args.self.now c.args.other c.loop-place.self-inside.tables.items rows more (all c) a b;
-}
+returns c =
+    let tables = c.loop-place.self-inside.tables.items in
+    let all : AllJoined c.args.self.now c.args.other tables =
+    joined-all c.loop-place.place-iterator.count c.args.self.now c.args.other tables c.loop-place.place-iterator.iter.rest.items
+    (grind (arith, c.in-None.ensures.steps.0, c.loop-place.place-iterator.iter.rest.ok)) c.requires c.loop-place.invariant in
+    record {
+      groups = all;
+      joined = λ (sets : List (List ℕ)) (fs : List ColumnFunction) (rows more : List Row) (a : AreTablesOf sets fs c.args.self.now rows) (b : AreTablesOf sets fs c.args.other more).
+          joined-tables sets fs c.args.self.now c.args.other tables rows more all a b;
+    }

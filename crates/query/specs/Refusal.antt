@@ -1,0 +1,33 @@
+-- What a fault says of a text that is read.
+use Rattle.std.specs.Prelude.{◌≤◌, ⊤, ℕ, List, [], ◌∷◌, ◌++◌, length, Contains}
+use Rattle.query_fault.specs.declared.QueryFault.{QueryFault}
+use Rattle.query_fault.specs.declared.QueryFault.TheVariants as faults
+use Rattle.query_tokens.specs.declared.token.Token.{Token}
+use Rattle.query_tokens.specs.Spelling.{Spells, StopsAt}
+
+-- A text spells tokens.
+pub record SpellsTokens (text : List ℕ) : Type 0 where
+  pub tokens : List Token
+  pub starts : List ℕ
+  pub spelled : Spells text tokens starts
+
+-- A text spells tokens, and one of them begins at this byte, or the text ends there.
+pub record IsTokenOrEnd (text : List ℕ) (byte : ℕ) : Type 0 where
+  pub tokens : List Token
+  pub starts : List ℕ
+  pub spelled : Spells text tokens starts
+  pub place : Contains (starts ++ length text ∷ []) byte
+
+-- A fault of a text says: no token begins at a byte, or the text spells tokens and one of them, or the end, is not
+-- expected, or it is longer than 65,536 bytes or spells tokens of too much. Want of memory says nothing of the text.
+-- No other fault is one of a text.
+abbrev pub IsRefusalOf : List ℕ → QueryFault → Type 0
+IsRefusalOf text (faults.NoToken byte) = StopsAt text byte
+IsRefusalOf text (faults.Unexpected byte) = IsTokenOrEnd text byte
+IsRefusalOf text (faults.UnknownColumn name) = ⊥
+IsRefusalOf text faults.TypesDisagree = ⊥
+IsRefusalOf text (faults.NotGrouped name) = ⊥
+IsRefusalOf text faults.OverLimit = length text ≤ 65536 → SpellsTokens text
+IsRefusalOf text faults.FunctionNotAllowed = ⊥
+IsRefusalOf text (faults.RepeatedHeader header) = ⊥
+IsRefusalOf text faults.OutOfMemory = ⊤

@@ -1,0 +1,16 @@
+-- Lists, one more at a time.
+use Rattle.std.proofs.Common.{◌≡◌, ◌+◌, ℕ, zero, suc, List, [], ◌∷◌, ◌++◌, take, map, slice_get, option_map, Some, refl, ap, ◌∙◌, add-one}
+
+next : {X Y : Type 0} (f : X → Y) (xs : List X) (i : ℕ) (y : Y) → Some y ≡ option_map f (slice_get xs i) → map f (take (suc i) xs) ≡ map f (take i xs) ++ y ∷ []
+next f [] i y e = absurd cc
+next {X} {Y} f (x ∷ xs) zero y e = let same : f x ≡ y = cc in ap (λ (z : Y). z ∷ []) same
+next {X} {Y} f (x ∷ xs) (suc i) y e = ap (λ (zs : List Y). f x ∷ zs) (next f xs i y e)
+
+-- a turn of a loop that goes by places
+pub map-next : {X Y : Type 0} (f : X → Y) (xs : List X) (i : ℕ) (y : Y) → Some y ≡ option_map f (slice_get xs i) → map f (take (i + 1) xs) ≡ map f (take i xs) ++ y ∷ []
+map-next {X} f xs i y e = ap (λ (n : ℕ). map f (take n xs)) (add-one i) ∙ next f xs i y e
+
+-- one map after another
+pub map-twice : {X Y Z : Type 0} (g : Y → Z) (f : X → Y) (xs : List X) → map g (map f xs) ≡ map (λ x. g (f x)) xs
+map-twice g f [] = refl
+map-twice {X} {Y} {Z} g f (x ∷ xs) = ap (λ (zs : List Z). g (f x) ∷ zs) (map-twice g f xs)

@@ -1,0 +1,36 @@
+use Rattle.std.proofs.Common.{◌≡◌, ◌∙◌, ◌<◌, List, [], length, map, take, get_or, ap, sym, arith, ℕ, take_all}
+use Rattle.std.specs.Global.{Vec}
+use Rattle.std.proofs.lemmas.List.{get_or-map, length-map}
+use Rattle.values.specs.Datum.{data_of}
+use Rattle.query_tree.specs.Syntax.{ItemForm, TreeForm, expression_form, item_form}
+use Rattle.query_tree.specs.declared.tree.Item.{Item}
+use Rattle.query_check.specs.Resolution.{contents}
+use Rattle.query_check.specs.Sets.{sets_of}
+use Rattle.query.specs.Planned.{fields_of_plan, form_of_plan}
+use Rattle.groups.specs.Shown.{summary_of}
+use Rattle.groups.specs.Functions.{Summary}
+use Rattle.tables.specs.Found.{row_of}
+use Rattle.tables.specs.Fitting.{set_of}
+use Rattle.report.specs.Shown.{expression_shown}
+use Rattle.report.proofs.Maps.{map-twice}
+use Rattle.report.proofs.arranging.row_for.Goals as goal
+
+pub returns : goal.returns
+returns c =
+    let fields = fields_of_plan c.args.plan.now in
+    let t = form_of_plan c.args.plan.now in
+    let row = row_of c.args.found.now in
+    let sets = c.sets.result.now in
+    let same : contents sets ≡ sets_of fields t = c.sets.ensures.sets in
+    let within : row.0 < length sets =
+    let n = length-map sets (λ (s : Vec ℕ). s.items) in let e = ap length same in omega (arith, c.requires, n, e) in
+    let set : c.index-sets-index.result.items ≡ set_of fields t row =
+    ap (λ (s : Vec ℕ). s.items) c.index-sets-index.is ∙ sym (get_or-map (λ (s : Vec ℕ). s.items) sets row.0 c.index-sets-index.result [] within) ∙ ap (λ (all : List (List ℕ)). get_or all row.0 []) same in
+    let shown = λ (s : List ℕ) (item : ItemForm). expression_shown fields t s row.1.key row.1.cells item.expression in
+    let items = c.as_slice-items.result.now in
+    let tree : map item_form items ≡ t.items = ap (map item_form) c.as_slice-items.ensures.value ∙ ap (λ (f : TreeForm). f.items) (c.tree.ensures.form ∙ c.query.ensures.query) in
+    c.loop-item.invariant
+    ∙ ap (map (λ (item : Item). shown c.index-sets-index.result.items (item_form item))) (take_all c.loop-item.item-index items c.loop-item-test.false)
+    ∙ sym (map-twice (shown c.index-sets-index.result.items) item_form items)
+    ∙ ap (λ (s : List ℕ). map (shown s) (map item_form items)) set
+    ∙ ap (map (shown (set_of fields t row))) tree

@@ -1,0 +1,100 @@
+-- Grouping sets and set functions that are the same.
+use Rattle.std.proofs.Common.{◌≡◌, Bool, true, false, ◌&&◌, List, [], ◌∷◌, Vec, Global, ℕ, nat_eq, refl, ap, ◌∙◌, arith}
+use Rattle.std.proofs.lemmas.Bool.Decides.{Decides-eqb}
+use Rattle.std.proofs.lemmas.Slice.Eq.{slice_eq-Decides}
+use Rattle.std.specs.Bool.{Decides}
+use Rattle.std.specs.Cmp.Lexicographic.{pointwise}
+use Rattle.query_check.specs.contracts.function.ColumnFunctionPartialEq.TheImpl.{eq-value}
+use Rattle.query_check.specs.declared.function.ColumnFunction.{ColumnFunction}
+use Rattle.query_check.specs.declared.function.ColumnFunction.TheVariants as at
+use Rattle.query_check.specs.Resolution.{contents}
+
+pointwise-contents : (test : List ℕ → List ℕ → Bool) (xs ys : List (Vec ℕ Global)) → pointwise (λ x y. test x.items y.items) xs ys ≡ pointwise test (contents xs) (contents ys)
+pointwise-contents test [] [] = refl
+pointwise-contents test [] (y ∷ ys) = refl
+pointwise-contents test (x ∷ xs) [] = refl
+pointwise-contents test (x ∷ xs) (y ∷ ys) = ap (λ b. test x.items y.items && b) (pointwise-contents test xs ys)
+
+-- what `==` says of two lists of grouping sets
+pub sets-Decides : (xs ys : List (Vec ℕ Global)) (r : Bool) → r ≡ pointwise (λ x y. pointwise nat_eq x.items y.items) xs ys → Decides r (contents xs ≡ contents ys)
+sets-Decides xs ys r e = slice_eq-Decides (λ a b. slice_eq-Decides Decides-eqb a b (pointwise nat_eq a b) refl) (contents xs) (contents ys) r (e ∙ pointwise-contents (pointwise nat_eq) xs ys)
+
+-- ---- set functions
+
+abbrev tag : ColumnFunction → ℕ
+tag at.CountRows = 0
+tag (at.Count place) = 1
+tag (at.CountDistinct place) = 2
+tag (at.Sum place) = 3
+tag (at.Min place) = 4
+tag (at.Max place) = 5
+tag (at.Avg place) = 6
+
+abbrev place : ColumnFunction → ℕ
+place at.CountRows = 0
+place (at.Count p) = p
+place (at.CountDistinct p) = p
+place (at.Sum p) = p
+place (at.Min p) = p
+place (at.Max p) = p
+place (at.Avg p) = p
+
+-- functions of two kinds are not the same
+differ : (f g : ColumnFunction) → (tag f ≡ tag g → ⊥) → Decides false (f ≡ g)
+differ f g n = (λ h. cc, λ h. absurd (n (ap tag h)))
+
+-- `==` of two set functions is true exactly where they are the same
+function-Decides : (f g : ColumnFunction) → Decides (eq-value.it f g) (f ≡ g)
+function-Decides at.CountRows at.CountRows = (λ h. refl, λ h. refl)
+function-Decides at.CountRows (at.Count b) = differ at.CountRows (at.Count b) (λ e. omega (arith, e))
+function-Decides at.CountRows (at.CountDistinct b) = differ at.CountRows (at.CountDistinct b) (λ e. omega (arith, e))
+function-Decides at.CountRows (at.Sum b) = differ at.CountRows (at.Sum b) (λ e. omega (arith, e))
+function-Decides at.CountRows (at.Min b) = differ at.CountRows (at.Min b) (λ e. omega (arith, e))
+function-Decides at.CountRows (at.Max b) = differ at.CountRows (at.Max b) (λ e. omega (arith, e))
+function-Decides at.CountRows (at.Avg b) = differ at.CountRows (at.Avg b) (λ e. omega (arith, e))
+function-Decides (at.Count a) at.CountRows = differ (at.Count a) at.CountRows (λ e. omega (arith, e))
+function-Decides (at.Count a) (at.Count b) = (λ h. ap at.Count ((Decides-eqb a b).0 h), λ h. (Decides-eqb a b).1 (ap place h))
+function-Decides (at.Count a) (at.CountDistinct b) = differ (at.Count a) (at.CountDistinct b) (λ e. omega (arith, e))
+function-Decides (at.Count a) (at.Sum b) = differ (at.Count a) (at.Sum b) (λ e. omega (arith, e))
+function-Decides (at.Count a) (at.Min b) = differ (at.Count a) (at.Min b) (λ e. omega (arith, e))
+function-Decides (at.Count a) (at.Max b) = differ (at.Count a) (at.Max b) (λ e. omega (arith, e))
+function-Decides (at.Count a) (at.Avg b) = differ (at.Count a) (at.Avg b) (λ e. omega (arith, e))
+function-Decides (at.CountDistinct a) at.CountRows = differ (at.CountDistinct a) at.CountRows (λ e. omega (arith, e))
+function-Decides (at.CountDistinct a) (at.Count b) = differ (at.CountDistinct a) (at.Count b) (λ e. omega (arith, e))
+function-Decides (at.CountDistinct a) (at.CountDistinct b) = (λ h. ap at.CountDistinct ((Decides-eqb a b).0 h), λ h. (Decides-eqb a b).1 (ap place h))
+function-Decides (at.CountDistinct a) (at.Sum b) = differ (at.CountDistinct a) (at.Sum b) (λ e. omega (arith, e))
+function-Decides (at.CountDistinct a) (at.Min b) = differ (at.CountDistinct a) (at.Min b) (λ e. omega (arith, e))
+function-Decides (at.CountDistinct a) (at.Max b) = differ (at.CountDistinct a) (at.Max b) (λ e. omega (arith, e))
+function-Decides (at.CountDistinct a) (at.Avg b) = differ (at.CountDistinct a) (at.Avg b) (λ e. omega (arith, e))
+function-Decides (at.Sum a) at.CountRows = differ (at.Sum a) at.CountRows (λ e. omega (arith, e))
+function-Decides (at.Sum a) (at.Count b) = differ (at.Sum a) (at.Count b) (λ e. omega (arith, e))
+function-Decides (at.Sum a) (at.CountDistinct b) = differ (at.Sum a) (at.CountDistinct b) (λ e. omega (arith, e))
+function-Decides (at.Sum a) (at.Sum b) = (λ h. ap at.Sum ((Decides-eqb a b).0 h), λ h. (Decides-eqb a b).1 (ap place h))
+function-Decides (at.Sum a) (at.Min b) = differ (at.Sum a) (at.Min b) (λ e. omega (arith, e))
+function-Decides (at.Sum a) (at.Max b) = differ (at.Sum a) (at.Max b) (λ e. omega (arith, e))
+function-Decides (at.Sum a) (at.Avg b) = differ (at.Sum a) (at.Avg b) (λ e. omega (arith, e))
+function-Decides (at.Min a) at.CountRows = differ (at.Min a) at.CountRows (λ e. omega (arith, e))
+function-Decides (at.Min a) (at.Count b) = differ (at.Min a) (at.Count b) (λ e. omega (arith, e))
+function-Decides (at.Min a) (at.CountDistinct b) = differ (at.Min a) (at.CountDistinct b) (λ e. omega (arith, e))
+function-Decides (at.Min a) (at.Sum b) = differ (at.Min a) (at.Sum b) (λ e. omega (arith, e))
+function-Decides (at.Min a) (at.Min b) = (λ h. ap at.Min ((Decides-eqb a b).0 h), λ h. (Decides-eqb a b).1 (ap place h))
+function-Decides (at.Min a) (at.Max b) = differ (at.Min a) (at.Max b) (λ e. omega (arith, e))
+function-Decides (at.Min a) (at.Avg b) = differ (at.Min a) (at.Avg b) (λ e. omega (arith, e))
+function-Decides (at.Max a) at.CountRows = differ (at.Max a) at.CountRows (λ e. omega (arith, e))
+function-Decides (at.Max a) (at.Count b) = differ (at.Max a) (at.Count b) (λ e. omega (arith, e))
+function-Decides (at.Max a) (at.CountDistinct b) = differ (at.Max a) (at.CountDistinct b) (λ e. omega (arith, e))
+function-Decides (at.Max a) (at.Sum b) = differ (at.Max a) (at.Sum b) (λ e. omega (arith, e))
+function-Decides (at.Max a) (at.Min b) = differ (at.Max a) (at.Min b) (λ e. omega (arith, e))
+function-Decides (at.Max a) (at.Max b) = (λ h. ap at.Max ((Decides-eqb a b).0 h), λ h. (Decides-eqb a b).1 (ap place h))
+function-Decides (at.Max a) (at.Avg b) = differ (at.Max a) (at.Avg b) (λ e. omega (arith, e))
+function-Decides (at.Avg a) at.CountRows = differ (at.Avg a) at.CountRows (λ e. omega (arith, e))
+function-Decides (at.Avg a) (at.Count b) = differ (at.Avg a) (at.Count b) (λ e. omega (arith, e))
+function-Decides (at.Avg a) (at.CountDistinct b) = differ (at.Avg a) (at.CountDistinct b) (λ e. omega (arith, e))
+function-Decides (at.Avg a) (at.Sum b) = differ (at.Avg a) (at.Sum b) (λ e. omega (arith, e))
+function-Decides (at.Avg a) (at.Min b) = differ (at.Avg a) (at.Min b) (λ e. omega (arith, e))
+function-Decides (at.Avg a) (at.Max b) = differ (at.Avg a) (at.Max b) (λ e. omega (arith, e))
+function-Decides (at.Avg a) (at.Avg b) = (λ h. ap at.Avg ((Decides-eqb a b).0 h), λ h. (Decides-eqb a b).1 (ap place h))
+
+-- what `==` says of two lists of set functions
+pub functions-Decides : (fs gs : List ColumnFunction) (r : Bool) → r ≡ pointwise eq-value.it fs gs → Decides r (fs ≡ gs)
+functions-Decides fs gs r e = slice_eq-Decides function-Decides fs gs r e

@@ -1,0 +1,51 @@
+use Rattle.std.proofs.Common.{◌≡◌, ◌+◌, ◌++◌, List, All, length, map, sym, ap, subst, ◌∙◌, arith}
+use Rattle.std.proofs.lemmas.List.{map-append}
+use Rattle.std.proofs.lemmas.List.Elements.{All-append}
+use Rattle.std.specs.List.Sorted.{IsPermutation}
+use Rattle.groups.specs.Rows.{Row}
+use Rattle.query_check.specs.Functions.{functions_of}
+use Rattle.query_check.specs.Sets.{sets_of}
+use Rattle.tables.specs.Notes.{IsWellNumbered, Noted, lines_noted, note_in, note_of, notes_in}
+use Rattle.tables.specs.Pieces.{records_of}
+use Rattle.tables.specs.Sets.{AreTablesOf}
+use Rattle.tables.proofs.Merging.{all-can_join, all-joined_within, counted-append, lines-append, notes-append, records-append, refused-append, within-other}
+use Rattle.tables.proofs.partial.Partial.merge.Goals as goal
+
+pub absorb-requires : goal.absorb-requires
+absorb-requires c =
+    let a = c.args.self in
+    let b = c.args.other in
+    all-can_join a.shape.functions.items a.lines b.lines (length a.shape.sets.items) a.tables b.tables c.requires.few a.within
+    (within-other b.shape.functions.items a.shape.functions.items a.shape.sets.items b.shape.sets.items b.lines b.tables c.requires.one_shape.sets c.requires.one_shape.functions b.within)
+
+pub invariant_of-result : goal.invariant_of-result
+invariant_of-result c =
+    let a = c.args.self in
+    let b = c.args.other in
+    let joined : notes_in c.append.new.self ≡ notes_in a.notes ++ notes_in b.notes = ap (map note_in) c.in_ok-append.ensures.items ∙ map-append note_in a.notes.items b.notes.items in
+    record {
+      few = c.requires.few;
+      fewer = (let x = a.fewer in let y = b.fewer in omega (arith, x, y));
+      within = all-joined_within a.shape.functions.items a.lines b.lines (length a.shape.sets.items) a.tables b.tables c.absorb.new.self a.within
+          (within-other b.shape.functions.items a.shape.functions.items a.shape.sets.items b.shape.sets.items b.lines b.tables c.requires.one_shape.sets c.requires.one_shape.functions b.within)
+          c.in_ok-absorb.ensures.groups;
+      counted = ap lines_noted joined ∙ counted-append (notes_in a.notes) (notes_in b.notes) a.lines b.lines a.counted b.counted;
+      numbered = subst (All IsWellNumbered) (sym joined) (All-append IsWellNumbered (notes_in a.notes) (notes_in b.notes) a.numbered b.numbered);
+    }
+
+pub returns : goal.returns
+returns c = record {
+  stands = λ fields q pieces more p m.
+      let a = c.args.self in
+      let b = c.args.other in
+      let joined : notes_in c.append.new.self ≡ notes_in a.notes ++ notes_in b.notes = ap (map note_in) c.in_ok-append.ensures.items ∙ map-append note_in a.notes.items b.notes.items in
+      record {
+        sets = p.sets;
+        functions = p.functions;
+        tables = subst (λ (rows : List Row). AreTablesOf (sets_of fields q) (functions_of fields q) c.absorb.new.self rows) (sym (records-append fields pieces more))
+            (c.in_ok-absorb.ensures.joined (sets_of fields q) (functions_of fields q) (records_of fields pieces) (records_of fields more) p.tables m.tables);
+        lines = (let x = p.lines in let y = m.lines in let z = lines-append pieces more in omega (arith, x, y, z));
+        refused = (let x = p.refused in let y = m.refused in let z = refused-append fields pieces more in omega (arith, x, y, z));
+        notes = subst (λ (ns : List Noted). IsPermutation (map (note_of fields) (pieces ++ more)) ns) (sym joined) (notes-append fields pieces more (notes_in a.notes) (notes_in b.notes) p.notes m.notes);
+      };
+}

@@ -1,0 +1,7 @@
+use Rattle.std.proofs.Common.{◌≡◌, take}
+use Rattle.query_check.specs.Resolution.{contents}
+use Rattle.tables.proofs.shape.copied_sets.Given as goal
+
+-- the sets so far are copied
+abbrev pub invariant-loop-set : goal.invariant-loop-set
+invariant-loop-set l = contents l.copies.items ≡ contents (take l.set-index l.sets)
