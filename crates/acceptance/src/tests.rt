@@ -1,4 +1,4 @@
-mod counting;
+mod running;
 mod serving;
 mod streams;
 mod words;

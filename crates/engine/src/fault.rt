@@ -1,4 +1,8 @@
 // How a run fails.
+ghost use Rattle.std.specs.Prelude.{◌≡◌};
+ghost use Rattle.engine.specs.declared.fault.RunFault.TheVariants.{OutOfMemory};
+
+use std::alloc::AllocError;
 use thiserror::Error;
 
 /// Why a run is not done.
@@ -21,4 +25,12 @@ pub enum RunFault {
     /// beginning of the list.
     #[error("writing the refused lines failed")]
     WritingRefused,
+}
+
+impl From<AllocError> for RunFault {
+    ghost from_gives = { λ _ fault. fault ≡ OutOfMemory };
+
+    fn from(_error: AllocError) -> RunFault {
+        RunFault::OutOfMemory
+    }
 }

@@ -1,6 +1,6 @@
 // What the program does once its words are read.
-use crate::counting::count;
 use crate::fault::RunFault;
+use crate::run::run_alone;
 use crate::writing::put;
 use clap::error::ErrorKind;
 use command_line::{Settings, WordsFault};
@@ -72,7 +72,7 @@ pub fn serve<R: Read + Drop, O: Write, E: Write, F: FnMut(&str) -> Option<R>>(
     requires { F.IsAlwaysCallable opener.old }
 {
     match asked {
-        Ok(settings) => match reported(alloc, settings, opener, out) {
+        Ok(settings) => match reported(alloc, settings, opener, out, err) {
             Ok(status) => status,
             Err(ending) => ended(alloc, &ending, err),
         },
@@ -89,12 +89,13 @@ fn plan_of(alloc: Global, settings: Settings<'_>) -> Result<Plan, Ending> {
     check(alloc, query, schema).map_err(Ending::Query)
 }
 
-/// Counts the lines of the file that is asked for.
-fn reported<R: Read + Drop, O: Write, F: FnMut(&str) -> Option<R>>(
+/// Answers the query that is asked for over the file that is asked for.
+fn reported<R: Read + Drop, O: Write, E: Write, F: FnMut(&str) -> Option<R>>(
     alloc: Global,
     settings: Settings<'_>,
     opener: &mut F,
     out: &mut O,
+    err: &mut E,
 ) -> Result<u8, Ending>
     requires { F.IsAlwaysCallable opener.old }
 {
@@ -102,7 +103,7 @@ fn reported<R: Read + Drop, O: Write, F: FnMut(&str) -> Option<R>>(
     let Some(reader) = opener(settings.file) else {
         return Err(Ending::NotOpened);
     };
-    let done = count(alloc, plan.schema(), reader, out).map_err(Ending::Run)?;
+    let done = run_alone(alloc, &plan, settings.options, reader, out, err).map_err(Ending::Run)?;
     Ok(if done.refused == 0 { 0 } else { 1 })
 }
 

@@ -1,10 +1,11 @@
 // What the program says and its status.
-use super::counting::{FOUR_BAD, THREE};
+use super::running::{BY_D, BY_D_REPORT, COLUMNS, COUNT, COUNT_NONE, FOUR_BAD, FOUR_REFUSED, THREE};
 use super::streams::{Sink, Source};
 use command_line::{WordsFault, settings};
 use engine::serve;
 use std::alloc::Global;
 use std::process::Abort;
+use std::test::Fail;
 
 /// What a run of the program leaves.
 #[derive(Drop)]
@@ -14,9 +15,6 @@ struct Ended {
     status: u8,
     opened: u64,
 }
-
-/// A query that is good under all columns.
-const QUERY: &str = "SELECT COUNT(*) AS n FROM lines";
 
 /// Runs the program on columns and a query, and a file where it can be opened.
 fn run(alloc: Global, columns: &str, query: &str, file: Option<Source<'_>>) -> Ended {
@@ -55,16 +53,80 @@ fn assert_ended(rt: &impl Abort, ended: &Ended, status: u8, out: &[u8], err: &[u
 
 #[test]
 fn no_line_refused(rt: HostRuntime) {
-    let ended = run(rt.alloc(), "q:int", QUERY, Some(Source::whole(THREE, 7)));
-    assert_ended(&rt, &ended, 0, b"lines 3\nrefused 0\n", b"", 1);
-    let ended = run(rt.alloc(), "q:int", QUERY, Some(Source::whole(b"", 7)));
-    assert_ended(&rt, &ended, 0, b"lines 0\nrefused 0\n", b"", 1);
+    let file = Some(Source::whole(THREE, 7));
+    let ended = run(rt.alloc(), COLUMNS, BY_D, file);
+    assert_ended(&rt, &ended, 0, BY_D_REPORT, b"", 1);
+    let ended = run(rt.alloc(), COLUMNS, COUNT, Some(Source::whole(b"", 7)));
+    assert_ended(&rt, &ended, 0, COUNT_NONE, b"", 1);
 }
 
 #[test]
 fn some_lines_refused(rt: HostRuntime) {
-    let ended = run(rt.alloc(), "q:int", QUERY, Some(Source::whole(FOUR_BAD, 7)));
-    assert_ended(&rt, &ended, 1, b"lines 4\nrefused 4\n", b"", 1);
+    let file = Some(Source::whole(FOUR_BAD, 7));
+    let ended = run(rt.alloc(), "q:int", COUNT, file);
+    assert_ended(&rt, &ended, 1, COUNT_NONE, FOUR_REFUSED, 1);
+}
+
+/// Runs the program on four lines that are refused, of which so many may be.
+fn run_with_limit(alloc: Global, limit: &str) -> Ended {
+    let words = [
+        "jlreport",
+        "--columns=q:int",
+        "--query",
+        COUNT,
+        "--max-refused",
+        limit,
+        "events.jsonl",
+    ];
+    let mut out = Vec::new(alloc);
+    let mut err = Vec::new(alloc);
+    let mut opened = 0u64;
+    let mut opener = |_path: &str| {
+        opened = opened.saturating_add(1);
+        Some(FOUR_BAD)
+    };
+    let asked = settings(alloc, words.as_slice());
+    let status = serve(alloc, asked, &mut opener, &mut out, &mut err);
+    Ended {
+        out,
+        err,
+        status,
+        opened,
+    }
+}
+
+#[test]
+fn more_lines_refused_than_may_be(rt: HostRuntime) {
+    let ended = run_with_limit(rt.alloc(), "3");
+    let text = b"jlreport: more than 3 refused lines\n";
+    assert_ended(&rt, &ended, 5, b"", text, 1);
+    let ended = run_with_limit(rt.alloc(), "4");
+    assert_ended(&rt, &ended, 1, COUNT_NONE, FOUR_REFUSED, 1);
+}
+
+#[test]
+fn longest_lines(rt: HostRuntime) -> Result<(), Fail> {
+    let mut input = Vec::from_slice(rt.alloc(), b"{\"q\":1}")?;
+    input.resize(1_048_576, b' ')?;
+    input.extend_from_slice(b"\n{\"q\":1}")?;
+    input.resize(1_048_577 + 1_048_577, b' ')?;
+    input.extend_from_slice(b"\n{\"q\":2}\nx\n")?;
+    let file = Some(Source::whole(input.as_slice(), 1_000_000));
+    let ended = run(rt.alloc(), "q:int", "SELECT SUM(q) AS s FROM lines", file);
+    let list = b"line 2: too long\nline 4: not JSON\n";
+    assert_ended(&rt, &ended, 1, b"s\n3\n", list, 1);
+    Ok(())
+}
+
+#[test]
+fn deep_line(rt: HostRuntime) -> Result<(), Fail> {
+    let mut input = Vec::new(rt.alloc());
+    input.resize(200, b'[')?;
+    input.resize(400, b']')?;
+    let file = Some(Source::whole(input.as_slice(), 1_000_000));
+    let ended = run(rt.alloc(), "q:int", COUNT, file);
+    assert_ended(&rt, &ended, 1, COUNT_NONE, b"line 1: not JSON\n", 1);
+    Ok(())
 }
 
 #[test]
@@ -166,7 +228,7 @@ fn words_refused(rt: HostRuntime) {
     let mut out = Vec::new(rt.alloc());
     let mut err = Vec::new(rt.alloc());
     let mut opener = |_path: &str| Some(THREE);
-    let words = ["jlreport", "--columns", "q:int", "--query", QUERY];
+    let words = ["jlreport", "--columns", "q:int", "--query", COUNT];
     let asked = settings(rt.alloc(), words.as_slice());
     assert_eq!(rt;
         serve(rt.alloc(), asked, &mut opener, &mut out, &mut err),
@@ -210,25 +272,20 @@ fn help_asked_for(rt: HostRuntime) {
 
 #[test]
 fn file_not_opened(rt: HostRuntime) {
-    let ended = run(rt.alloc(), "q:int", QUERY, None);
+    let ended = run(rt.alloc(), "q:int", COUNT, None);
     assert_ended(&rt, &ended, 3, b"", b"jlreport: cannot open the file\n", 1);
 }
 
 #[test]
 fn file_not_read(rt: HostRuntime) {
-    let ended = run(rt.alloc(), "q:int", QUERY, Some(Source::failing(THREE)));
+    let ended = run(rt.alloc(), "q:int", COUNT, Some(Source::failing(THREE)));
     assert_ended(&rt, &ended, 3, b"", b"jlreport: reading failed\n", 1);
 }
 
 #[test]
 fn report_not_written(rt: HostRuntime) {
     let words = [
-        "jlreport",
-        "--columns",
-        "q:int",
-        "--query",
-        QUERY,
-        "events.jsonl",
+        "jlreport", "--columns", COLUMNS, "--query", BY_D, "events.jsonl",
     ];
     let mut out = Sink {
         room: 3,
@@ -242,7 +299,7 @@ fn report_not_written(rt: HostRuntime) {
         serve(rt.alloc(), asked, &mut opener, &mut out, &mut err),
         3
     );
-    assert_eq!(rt; out.taken.as_slice(), b"lin".as_slice());
+    assert_eq!(rt; out.taken.as_slice(), b"d,n".as_slice());
     assert_eq!(rt;
         err.as_slice(),
         b"jlreport: writing the report failed\n".as_slice()
@@ -257,7 +314,7 @@ fn refusal_of_serve(rt: HostRuntime) {
         "--columns",
         "d:text,q:int",
         "--query",
-        QUERY,
+        COUNT,
         "events.jsonl",
     ];
     let (mut room, mut note) = ([0u8; 32], [0u8; 32]);
@@ -266,7 +323,7 @@ fn refusal_of_serve(rt: HostRuntime) {
     let asked = settings(rt.alloc(), words.as_slice());
     let status = serve(rt.alloc(), asked, &mut opener, &mut out, &mut err);
     if status == 0 {
-        assert!(rt; room.starts_with(b"lines 3\nrefused 0\n\0"));
+        assert!(rt; room.starts_with(b"n\n3\n\0"));
         assert_eq!(rt; note[0], 0);
     } else {
         assert_eq!(rt; status, 4);
@@ -283,7 +340,7 @@ fn refusal_of_serve_with_a_bad_schema(rt: HostRuntime) {
         "--columns",
         "d:text,q:date",
         "--query",
-        QUERY,
+        COUNT,
         "events.jsonl",
     ];
     let (mut room, mut note) = ([0u8; 32], [0u8; 64]);
