@@ -18,7 +18,7 @@ use crate::reading::read_all;
 use crate::writing::put_both;
 use command_line::Options;
 use query::Plan;
-use report::{arrange, blind_law, refused_text, report_text};
+use report::{arrange, arranged_law, refused_text, report_text};
 use std::alloc::{AllocError, Global};
 use std::io::{Read, Write};
 use tables::{Groups, Partial};
@@ -162,7 +162,7 @@ fn texts_of(alloc: Global, plan: &Plan, partial: Partial) -> Result<Texts, Alloc
     let report = report_of(alloc, plan, &groups)?;
     let refused = refused_text(alloc, &groups, plan.schema())?;
     // The groups came in the order of a walk over a table, which the report does not show.
-    blind_law();
+    arranged_law();
     Ok(Texts { report, refused })
 }
 

@@ -27,6 +27,6 @@ returns-clause-report c = λ input whole.
     let groups = c.in_ok-groups.groups in
     let is = c.in_ok-groups.ensures.whole input whole.pieces whole.stands whole.cut in
     let fit = c.in_ok-groups.ensures.fit whole.pieces whole.stands in
-    let blind = c.blind_law.ensures fields q (found_in groups) fit
+    let blind = c.arranged_law.ensures fields q (found_in groups) fit
     (all_found (sets_of fields q) (functions_of fields q) (good fields input)) is.rows in
     c.in_ok-report.ensures ∙ ap (λ rows. report_bytes q.items (map (row_shown fields q) rows)) (sym blind)
