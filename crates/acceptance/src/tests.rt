@@ -1,6 +1,6 @@
-mod counting;
 mod plans;
 mod queries;
+mod running;
 mod serving;
 mod streams;
 mod words;

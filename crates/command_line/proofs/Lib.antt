@@ -1,3 +1,4 @@
+pub mod Numbers
 pub mod Published
 pub mod Required
 pub mod Samples

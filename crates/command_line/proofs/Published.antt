@@ -27,13 +27,16 @@ pub app_of-added : (old new : Command) (a : Arg) (app : App) (rule : Rule)
     → app_of new ≡ with_rule app rule
 app_of-added old new a app rule adds is_app is_rule local = adds.shape local ∙ ap₂ with_rule is_app is_rule
 
+-- the matches are those that clap publishes for the words
+pub rows_of-matches : (app : App) (words : List Text) (m : ArgMatches)
+    → app ≡ command → HasMatchesOf app words m → rows_of (found_of m) ≡ matches_of command words
+rows_of-matches app words m is has = (has (ap is_simple is ∙ command-is_simple)).0 ∙ ap (λ b. matches_of b words) is
+
 -- the value of an argument is the first that the matches have of it
 pub value_of-matches : (app : App) (words : List Text) (m : ArgMatches) (name : Text)
     → app ≡ command → HasMatchesOf app words m → value_of name words ≡ first_value (found_of m) name
 value_of-matches app words m name is has =
-    let rows : rows_of (found_of m) ≡ matches_of command words =
-    (has (ap is_simple is ∙ command-is_simple)).0 ∙ ap (λ b. matches_of b words) is in
-    ap (first_of name) (sym rows) ∙ sym (first_value-rows (found_of m) name)
+    ap (first_of name) (sym (rows_of-matches app words m is has)) ∙ sym (first_value-rows (found_of m) name)
 
 -- words that give matches have no fault
 pub fault_of-taken : (app : App) (words : List Text)

@@ -1,13 +1,13 @@
 -- What clap publishes for words that are written out: the clauses on the words are not empty.
-use Rattle.std.proofs.Common.{◌≡◌, refl, List, [], ◌∷◌, Some, codes}
+use Rattle.std.proofs.Common.{◌≡◌, refl, List, [], ◌∷◌, Some, None, codes}
 use Rattle.clap.proofs.OnLiterals.{clap_on_literals}
-use Rattle.clap.specs.declared.error.kind.ErrorKind.TheVariants.{DisplayHelp, MissingRequiredArgument}
-use Rattle.clap.specs.Words.{Text, fault_of}
+use Rattle.clap.specs.declared.error.kind.ErrorKind.TheVariants.{DisplayHelp, MissingRequiredArgument, ValueValidation}
+use Rattle.clap.specs.Words.{Text, fault_of, matches_of, one_of}
 use Rattle.command_line.specs.Command.{command, value_of}
 
 -- words that are taken
 abbrev words : List Text
-words = codes "jlreport" ∷ codes "in.jsonl" ∷ codes "--columns=q:int" ∷ []
+words = codes "jlreport" ∷ codes "in.jsonl" ∷ codes "--columns=q:int" ∷ codes "--query" ∷ codes "SELECT q" ∷ []
 
 words-fault : fault_of command words ≡ []
 unfolding clap_on_literals
@@ -17,12 +17,51 @@ words-columns : value_of (codes "columns") words ≡ Some (codes "q:int")
 unfolding clap_on_literals
 words-columns = refl
 
+words-query : value_of (codes "query") words ≡ Some (codes "SELECT q")
+unfolding clap_on_literals
+words-query = refl
+
 words-file : value_of (codes "file") words ≡ Some (codes "in.jsonl")
 unfolding clap_on_literals
 words-file = refl
 
+-- the size of a piece that stands where none is given, and no limit
+words-piece : one_of (codes "piece") (matches_of command words) ≡ Some (codes "1048576")
+unfolding clap_on_literals
+words-piece = refl
+
+words-max_refused : one_of (codes "max-refused") (matches_of command words) ≡ None
+unfolding clap_on_literals
+words-max_refused = refl
+
+-- numbers that are given
+abbrev numbered : List Text
+numbered = codes "jlreport" ∷ codes "--columns=a" ∷ codes "--query=b" ∷ codes "--max-refused=3" ∷ codes "--piece" ∷ codes "7" ∷ codes "f" ∷ []
+
+numbered-fault : fault_of command numbered ≡ []
+unfolding clap_on_literals
+numbered-fault = refl
+
+numbered-piece : one_of (codes "piece") (matches_of command numbered) ≡ Some (codes "7")
+unfolding clap_on_literals
+numbered-piece = refl
+
+numbered-max_refused : one_of (codes "max-refused") (matches_of command numbered) ≡ Some (codes "3")
+unfolding clap_on_literals
+numbered-max_refused = refl
+
+-- a size that is no number
+no_number-fault : fault_of command (codes "jlreport" ∷ codes "--columns=a" ∷ codes "--query=b" ∷ codes "--piece=x" ∷ codes "f" ∷ []) ≡ ValueValidation ∷ []
+unfolding clap_on_literals
+no_number-fault = refl
+
+-- words without a query
+without_query-fault : fault_of command (codes "jlreport" ∷ codes "--columns" ∷ codes "q:int" ∷ codes "f" ∷ []) ≡ MissingRequiredArgument ∷ []
+unfolding clap_on_literals
+without_query-fault = refl
+
 -- words without a file
-without_file-fault : fault_of command (codes "jlreport" ∷ codes "--columns" ∷ codes "q:int" ∷ []) ≡ MissingRequiredArgument ∷ []
+without_file-fault : fault_of command (codes "jlreport" ∷ codes "--columns" ∷ codes "q:int" ∷ codes "--query=b" ∷ []) ≡ MissingRequiredArgument ∷ []
 unfolding clap_on_literals
 without_file-fault = refl
 

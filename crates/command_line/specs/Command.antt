@@ -1,7 +1,9 @@
 -- The command of the program, and what clap publishes for words under it.
-use Rattle.std.specs.Prelude.{List, Option, Some, true, codes}
-use Rattle.clap.specs.Words.{App, Rule, Text, first_of, matches_of, new_app, new_rule, with_rule}
+use Rattle.std.specs.Prelude.{ℕ, List, [], ◌∷◌, Option, Some, true, codes}
+use Rattle.clap.specs.Words.{App, Rule, Text, first_of, matches_of, new_app, new_rule, one_of, with_rule}
 use Rattle.clap.specs.declared.builder.action.ArgAction.TheVariants.{Set}
+use Rattle.clap.specs.declared.builder.value_parser.ValueParser.TheVariants.{Unsigned}
+use Rattle.command_line.specs.Numbers.{IsNumberIn}
 
 -- an option `--NAME <VALUE>` that has to be given
 abbrev pub required_option : Text → Rule
@@ -12,14 +14,34 @@ required_option name = record (new_rule name) {
   required = true;
 }
 
+-- an option `--NAME <VALUE>` whose value is a number of 64 bits, with the values that stand where it is not given
+abbrev pub number_option : Text → List Text → Rule
+number_option name defaults = record (new_rule name) {
+  long = Some name;
+  value_names = 1;
+  parser = Some (Unsigned 0 18446744073709551615);
+  defaults = defaults;
+}
+
 -- a word of its own that has to be given
 abbrev pub required_word : Text → Rule
 required_word name = record (new_rule name) { value_names = 1; action = Some Set; required = true }
 
--- `jlreport --columns <SPEC> <FILE>`
+-- `jlreport --columns <SPEC> --query <TEXT> [--piece <BYTES>] [--max-refused <N>] <FILE>`, with pieces of 1,048,576 bytes where
+-- they are not given
 abbrev pub command : App
-command = with_rule (with_rule (new_app (codes "jlreport")) (required_option (codes "columns"))) (required_word (codes "file"))
+command =
+    with_rule (with_rule (with_rule (with_rule (with_rule (new_app (codes "jlreport"))
+    (required_option (codes "columns")))
+    (required_option (codes "query")))
+    (number_option (codes "piece") (codes "1048576" ∷ [])))
+    (number_option (codes "max-refused") []))
+    (required_word (codes "file"))
 
 -- the first value that clap publishes for the argument of this name, for words under the command
 abbrev pub value_of : Text → List Text → Option Text
 value_of name words = first_of name (matches_of command words)
+
+-- the number that its first value writes, where it has one
+abbrev pub IsNumberOf : Text → List Text → Option ℕ → Type 0
+IsNumberOf name words = IsNumberIn (one_of name (matches_of command words))

@@ -1,2 +1,4 @@
 pub mod Command
+pub mod Numbers
+pub mod Ranges
 pub mod Refusal

@@ -1,11 +1,22 @@
 -- Why words are refused.
-use Rattle.std.specs.Prelude.{List}
+use Rattle.std.specs.Prelude.{◌≡◌, ℕ, List, [], Some, codes}
 use Rattle.clap.specs.Words.{HasKind, Text, fault_of}
-use Rattle.command_line.specs.Command.{command}
+use Rattle.command_line.specs.Command.{IsNumberOf, command}
+use Rattle.command_line.specs.Ranges.{AreInRange}
 use Rattle.command_line.specs.declared.words.WordsFault.{WordsFault}
-use Rattle.command_line.specs.declared.words.WordsFault.TheVariants.{Clap, NotUtf8}
+use Rattle.command_line.specs.declared.words.WordsFault.TheVariants.{Clap, Range, NotUtf8}
+
+-- how many workers a run has
+abbrev pub workers : ℕ
+workers = 4
+
+-- clap has no fault of the words, but the size of a piece that they give is out of its range
+abbrev pub IsOutOfRange : List Text → Type 0
+IsOutOfRange words =
+    (fault_of command words ≡ []) × ((n : ℕ) → IsNumberOf (codes "piece") words (Some n) → AreInRange workers n → ⊥)
 
 -- the answer's kind is that of the first fault that clap publishes for the words, or memory ran out; texts are always UTF-8
 abbrev pub IsRefusalOf : List Text → WordsFault → Type 0
 IsRefusalOf words (Clap e) = HasKind (fault_of command words) e
+IsRefusalOf words Range = IsOutOfRange words
 IsRefusalOf words NotUtf8 = ⊥

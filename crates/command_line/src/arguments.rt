@@ -1,9 +1,10 @@
 // The kinds of argument that the program's command has.
-ghost use Rattle.std.specs.Prelude.{◌≡◌, Some, false, is_some, true};
-ghost use Rattle.clap.specs.Words.{first_value, found_of, rule_of};
-ghost use Rattle.command_line.specs.Command.{required_option, required_word};
+ghost use Rattle.std.specs.Prelude.{◌≡◌, [], ◌∷◌, Some, false, is_some, true};
+ghost use Rattle.clap.specs.Words.{first_value, found_of, one_text, rule_of};
+ghost use Rattle.command_line.specs.Command.{number_option, required_option, required_word};
+ghost use Rattle.command_line.specs.Numbers.{IsNumberIn};
 
-use clap::{Arg, ArgAction, ArgMatches};
+use clap::{Arg, ArgAction, ArgMatches, value_parser};
 use std::alloc::Global;
 
 /// An option `--NAME <VALUE>` that has to be given, with its line of help.
@@ -22,6 +23,37 @@ pub(crate) fn required_option<'a>(
         .action(ArgAction::Set)
         .required(true)
         .help(help)
+}
+
+/// An option `--NAME <VALUE>` whose value is a number of 64 bits, with its line of help.
+pub(crate) fn number_option<'a>(
+    alloc: Global,
+    name: &'a str,
+    value: &'a str,
+    help: &'a str,
+) -> Arg<'a>
+    ensures rule { rule_of result ≡ number_option name.now [] }
+    ensures local { result.global ≡ false }
+{
+    Arg::new(alloc, name)
+        .long(name)
+        .value_name(value)
+        .value_parser(value_parser!(u64))
+        .help(help)
+}
+
+/// The same, with the number that stands where it is not given.
+pub(crate) fn defaulted_option<'a>(
+    alloc: Global,
+    name: &'a str,
+    value: &'a str,
+    default: &'a str,
+    help: &'a str,
+) -> Arg<'a>
+    ensures rule { rule_of result ≡ number_option name.now (default.now ∷ []) }
+    ensures local { result.global ≡ false }
+{
+    number_option(alloc, name, value, help).default_value(default)
 }
 
 /// A word of its own that has to be given, with its line of help.
@@ -50,4 +82,11 @@ pub(crate) fn text_of<'a>(matches: &ArgMatches<'a>, name: &str) -> &'a str
         Some(text) => text,
         None => unreachable!(),
     }
+}
+
+/// The number of an argument, where it has one.
+pub(crate) fn number_of(matches: &ArgMatches<'_>, name: &str) -> Option<u64>
+    ensures { IsNumberIn (one_text (found_of matches.now) name.now) result }
+{
+    matches.get_one::<u64>(name)
 }

@@ -1,22 +1,40 @@
 // The command of the program, and what words say under it.
-ghost use Rattle.std.specs.Prelude.{◌≡◌, [], IfErr, IfOk, Some, codes};
+ghost use Rattle.std.specs.Prelude.{◌≡◌, [], ℕ, IfErr, IfOk, IfSome, IsNone, Some, codes, false};
 ghost use Rattle.clap.specs.Walk.{texts};
-ghost use Rattle.clap.specs.Words.{app_of, fault_of, kind_of, new_app};
-ghost use Rattle.command_line.specs.Command.{command, value_of};
-ghost use Rattle.command_line.specs.Refusal.{IsRefusalOf};
+ghost use Rattle.clap.specs.Words.{app_of, fault_of, found_of, kind_of, new_app, one_text};
+ghost use Rattle.command_line.specs.Command.{IsNumberOf, command, value_of};
+ghost use Rattle.command_line.specs.Numbers.{IsNumberIn};
+ghost use Rattle.command_line.specs.Ranges.{AreInRange};
+ghost use Rattle.command_line.specs.Refusal.{IsRefusalOf, workers};
 
-use crate::arguments::{required_option, required_word, text_of};
+use crate::arguments::{
+    defaulted_option, number_of, number_option, required_option, required_word, text_of,
+};
+use crate::options::Options;
 use crate::words::{Settings, WordsFault};
 use clap::error::ErrorKind;
-use clap::{Command, Error};
+use clap::{ArgMatches, Command, Error};
 use std::alloc::Global;
+
+/// How many workers a run has.
+const WORKERS: usize = 4;
 
 /// What stands at the top of the help.
 const ABOUT: &str =
-    "Counts the lines of a file, and those refused: no JSON object that fits the columns";
+    "Checks one SQL aggregate query, and counts the lines of a file and those refused";
 
 /// What help says of the columns.
-const COLUMNS_HELP: &str = "The columns that each line has to fit, as NAME:TYPE,NAME:TYPE,..";
+const COLUMNS_HELP: &str = "The columns that the query can name, as NAME:TYPE,NAME:TYPE,..";
+
+/// What help says of the query.
+const QUERY_HELP: &str = "The query";
+
+/// What help says of the size of a piece.
+const PIECE_HELP: &str = "How many bytes are worked on at once, 1 to 67108864";
+
+/// What help says of the limit of refused lines.
+const MAX_REFUSED_HELP: &str =
+    "How many lines may be refused, 0 to 18446744073709551615; any number where it is not given";
 
 /// What help says of the file.
 const FILE_HELP: &str = "The file to read, with one JSON object on each line";
@@ -36,12 +54,12 @@ const DETAILS: &str = "Columns:
 Exit status:
   0  each line fits the columns
   1  some lines do not: over 1048576 bytes, not JSON, not an object, a member of another type
-  2  the words or the columns are refused
+  2  the words, the columns or the query are refused
   3  the file cannot be opened or read, or the output cannot be written
   4  memory ran out
 
 Example:
-  jlreport --columns day:text,cents:int,member:bool events.jsonl";
+  jlreport --columns shop:text,cents:int --query \"SELECT shop, SUM(cents) FROM lines GROUP BY shop\" events.jsonl";
 
 /// The command without its arguments, with the texts that help shows around them.
 fn described_command<'a>(alloc: Global) -> Command<'a>
@@ -57,10 +75,35 @@ fn program_command<'a>(alloc: Global) -> Result<Command<'a>, Error>
     ensures ok { IfOk result (λ c. app_of c ≡ command) }
     ensures err { IfErr result (λ e. kind_of e ≡ ErrorKind.OutOfMemory) }
 {
+    let columns = required_option(alloc, "columns", "SPEC", COLUMNS_HELP);
+    let query = required_option(alloc, "query", "TEXT", QUERY_HELP);
+    let piece = defaulted_option(alloc, "piece", "BYTES", "1048576", PIECE_HELP);
+    let max_refused = number_option(alloc, "max-refused", "N", MAX_REFUSED_HELP);
+    let file = required_word(alloc, "file", "FILE", FILE_HELP);
     let command = described_command(alloc)
-        .arg(required_option(alloc, "columns", "SPEC", COLUMNS_HELP))?
-        .arg(required_word(alloc, "file", "FILE", FILE_HELP))?;
+        .arg(columns)?
+        .arg(query)?
+        .arg(piece)?
+        .arg(max_refused)?
+        .arg(file)?;
     Ok(command)
+}
+
+/// How a run is done by what was given, where the numbers are in their ranges.
+fn options_of(matches: &ArgMatches<'_>) -> Option<Options>
+    ensures piece { IfSome result (λ options.
+        IsNumberIn (one_text (found_of matches.now) (codes "piece")) (Some options.piece)) }
+    ensures max_refused { IfSome result (λ options.
+        IsNumberIn (one_text (found_of matches.now) (codes "max-refused")) options.max_refused) }
+    ensures workers { IfSome result (λ options. options.workers ≡ workers) }
+    ensures out_of_range { IsNone result → (n : ℕ)
+        → IsNumberIn (one_text (found_of matches.now) (codes "piece")) (Some n)
+        → AreInRange workers n → ⊥ }
+{
+    match number_of(matches, "piece") {
+        Some(piece) => Options::new(WORKERS, piece as usize, number_of(matches, "max-refused")),
+        None => None,
+    }
 }
 
 /// What the words ask for, of which the first is the program's name.
@@ -68,19 +111,34 @@ fn program_command<'a>(alloc: Global) -> Result<Command<'a>, Error>
 /// # Errors
 ///
 /// `WordsFault::Clap` where the words have a fault under the command, where they ask for help,
-/// and where memory runs out.
+/// and where memory runs out; `WordsFault::Range` where they have none, and a number is out of its
+/// range.
 pub fn settings<'a>(alloc: Global, words: &'a [&'a str]) -> Result<Settings<'a>, WordsFault>
     ensures columns { IfOk result (λ s.
         value_of (codes "columns") (texts words.now) ≡ Some s.columns.now) }
+    ensures query { IfOk result (λ s.
+        value_of (codes "query") (texts words.now) ≡ Some s.query.now) }
     ensures file { IfOk result (λ s.
         value_of (codes "file") (texts words.now) ≡ Some s.file.now) }
+    ensures piece { IfOk result (λ s.
+        IsNumberOf (codes "piece") (texts words.now) (Some s.options.piece)) }
+    ensures max_refused { IfOk result (λ s.
+        IsNumberOf (codes "max-refused") (texts words.now) s.options.max_refused) }
+    ensures workers { IfOk result (λ s. s.options.workers ≡ workers) }
+    ensures explain { IfOk result (λ s. s.explain ≡ false) }
     ensures taken { IfOk result (λ _. fault_of command (texts words.now) ≡ []) }
     ensures refused { IfErr result (IsRefusalOf (texts words.now)) }
 {
     let command = program_command(alloc)?;
     let matches = command.try_get_matches_from(words)?;
+    let Some(options) = options_of(&matches) else {
+        return Err(WordsFault::Range);
+    };
     Ok(Settings {
         columns: text_of(&matches, "columns"),
+        query: text_of(&matches, "query"),
         file: text_of(&matches, "file"),
+        options,
+        explain: false,
     })
 }

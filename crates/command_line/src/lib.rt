@@ -3,7 +3,9 @@
 
 mod arguments;
 mod command;
+mod options;
 mod words;
 
 pub use command::settings;
+pub use options::Options;
 pub use words::{Settings, WordsFault};

@@ -1,2 +1,7 @@
 mod Fronts
+pub mod Cuts
 pub mod Tallies
+pub mod Folds
+pub mod Named
+pub mod Shown
+pub mod Outcomes

@@ -1,8 +1,10 @@
--- The number of lines, and of refused ones.
-use Rattle.std.proofs.Common.{◌≡◌, ◌==◌, ◌+◌, ◌≤◌, ℕ, suc, Bool, true, false, cond, List, [], ◌∷◌, length, map, option_map, Result, Ok, Err, refl, ap, arith}
+-- The number of lines of an input, and of refused ones.
+use Rattle.std.proofs.Common.{◌≡◌, ◌∙◌, ◌==◌, ◌+◌, ◌≤◌, ◌<◌, ℕ, suc, Bool, true, false, cond, List, [], ◌∷◌, ◌++◌, length, map, filter_map, option_map, take, drop, Result, Ok, Err, refl, sym, ap, arith}
+use Rattle.std.proofs.lemmas.Grind.{flat_map-append}
+use Rattle.std.proofs.lemmas.List.{length-append, map-append, take-append-drop}
+use Rattle.std.proofs.lemmas.List.Elements.{filter_map-append}
 use Rattle.std.proofs.lemmas.List.Splits.{length-slice_split}
-use Rattle.std.proofs.lemmas.List.Sums.{count_by-le-length}
-use Rattle.std.specs.List.{enumerate_from, filter_map, slice_split}
+use Rattle.std.specs.List.{enumerate_from, onto_first, slice_split}
 use Rattle.std.specs.Result.{result_err}
 use Rattle.values.specs.Datum.{Datum}
 use Rattle.values.specs.Schema.{Field}
@@ -10,22 +12,48 @@ use Rattle.lines.specs.declared.fault.LineFault.{LineFault}
 use Rattle.lines.specs.Lines.{line_feed, lines, without_empty_last}
 use Rattle.lines.specs.Taken.{taken}
 use Rattle.lines.specs.Input.{answers, refused}
+use Rattle.tables.specs.Pieces.{IndexedPiece, all_lines, refused_within}
+
+-- ---- an input has at most as many lines as bytes
 
 shorter : (b : Bool) (part : List ℕ) → length (cond b [] (part ∷ [])) ≤ 1
 shorter true part = omega arith
 shorter false part = omega arith
 
-length-without_empty_last : (parts : List (List ℕ)) → length (without_empty_last parts) ≤ length parts
-length-without_empty_last [] = omega arith
-length-without_empty_last (part ∷ []) = shorter (length part == 0) part
-length-without_empty_last (part ∷ next ∷ more) = omega (arith, length-without_empty_last (next ∷ more))
+onto-le : (x : ℕ) (parts : List (List ℕ)) (n : ℕ) → 0 < length parts → length (without_empty_last parts) ≤ n
+    → length (without_empty_last (onto_first x parts)) ≤ suc n
+onto-le x [] n some h = absurd (omega (arith, some))
+onto-le x (part ∷ []) n some h = omega (arith, shorter (length (x ∷ part) == 0) (x ∷ part))
+onto-le x (part ∷ next ∷ more) n some h = omega (arith, h)
 
--- an input has at most one line more than bytes
-pub length-lines : (input : List ℕ) → length (lines input) ≤ length input + 1
-length-lines input = omega (arith, length-without_empty_last (slice_split (λ b. b == line_feed) input), length-slice_split (λ b. b == line_feed) input, count_by-le-length (λ b. b == line_feed) input)
+behind-le : (parts : List (List ℕ)) (n : ℕ) → 0 < length parts → length (without_empty_last parts) ≤ n
+    → length (without_empty_last ([] ∷ parts)) ≤ suc n
+behind-le [] n some h = absurd (omega (arith, some))
+behind-le (part ∷ more) n some h = omega (arith, h)
+
+either-le : (b : Bool) (x : ℕ) (parts : List (List ℕ)) (n : ℕ) → 0 < length parts → length (without_empty_last parts) ≤ n
+    → length (without_empty_last (cond b ([] ∷ parts) (onto_first x parts))) ≤ suc n
+either-le true x parts n some h = behind-le parts n some h
+either-le false x parts n some h = onto-le x parts n some h
+
+length-lines : (bytes : List ℕ) → length (lines bytes) ≤ length bytes
+length-lines [] = omega arith
+length-lines (x ∷ bytes) = either-le (x == line_feed) x (slice_split (λ b. b == line_feed) bytes) (length bytes)
+    (let some = length-slice_split (λ b. b == line_feed) bytes in omega (arith, some)) (length-lines bytes)
+
+-- the first of the pieces have no more lines than the input has bytes
+pub few-lines : (input : List ℕ) (pieces : List IndexedPiece) (k : ℕ) → all_lines pieces ≡ lines input
+    → length (all_lines (take k pieces)) ≤ length input
+few-lines input pieces k same =
+    let parts : all_lines (take k pieces) ++ all_lines (drop k pieces) ≡ lines input =
+    sym (flat_map-append (λ piece. lines piece.bytes) (take k pieces) (drop k pieces)) ∙ ap all_lines (take-append-drop k pieces) ∙ same in
+    let long : length (all_lines (take k pieces) ++ all_lines (drop k pieces)) ≡ length (lines input) = ap length parts in
+    omega (arith, long, length-append (all_lines (take k pieces)) (all_lines (drop k pieces)), length-lines input)
+
+-- ---- there are as many refused lines as faults
 
 -- the faults of lines, without their numbers
-abbrev pub faults_of : List Field → List (List ℕ) → List LineFault
+abbrev faults_of : List Field → List (List ℕ) → List LineFault
 faults_of fields ls = filter_map result_err (map (taken fields) ls)
 
 numbered : (n : ℕ) (rs : List (Result (List Datum) LineFault)) → length {A = ℕ × LineFault} (filter_map (λ p. option_map (λ fault. (p.0, fault)) (result_err p.1)) (enumerate_from n rs)) ≡ length (filter_map result_err rs)
@@ -33,6 +61,27 @@ numbered n [] = refl
 numbered n (Ok r ∷ rs) = numbered (n + 1) rs
 numbered n (Err fault ∷ rs) = ap suc (numbered (n + 1) rs)
 
--- there are as many refused lines as faults
-pub length-refused : (fields : List Field) (input : List ℕ) → length (refused fields input) ≡ length (faults_of fields (lines input))
+length-refused : (fields : List Field) (input : List ℕ) → length (refused fields input) ≡ length (faults_of fields (lines input))
 length-refused fields input = numbered 1 (answers fields input)
+
+faults-append : (fields : List Field) (xs ys : List (List ℕ)) → faults_of fields (xs ++ ys) ≡ faults_of fields xs ++ faults_of fields ys
+faults-append fields xs ys = ap (filter_map result_err) (map-append (taken fields) xs ys) ∙ filter_map-append result_err (map (taken fields) xs) (map (taken fields) ys)
+
+length-within : (fields : List Field) (pieces : List IndexedPiece) → length (refused_within fields pieces) ≡ length (faults_of fields (all_lines pieces))
+length-within fields [] = refl
+length-within fields (piece ∷ pieces) =
+    let both = ap length (faults-append fields (lines piece.bytes) (all_lines pieces)) in
+    omega (
+      arith,
+      both,
+      length-append (refused fields piece.bytes) (refused_within fields pieces),
+      length-append (faults_of fields (lines piece.bytes)) (faults_of fields (all_lines pieces)),
+      length-refused fields piece.bytes,
+      length-within fields pieces,
+    )
+
+-- the pieces that have the lines of an input have as many refused lines
+pub refused-counted : (fields : List Field) (pieces : List IndexedPiece) (input : List ℕ) → all_lines pieces ≡ lines input
+    → length (refused_within fields pieces) ≡ length (refused fields input)
+refused-counted fields pieces input same =
+    length-within fields pieces ∙ ap (λ ls. length (faults_of fields ls)) same ∙ sym (length-refused fields input)

@@ -1,2 +1,3 @@
-pub mod Counts
+pub mod Pieces
+pub mod Run
 pub mod Written

@@ -1,7 +1,19 @@
 -- What a failed write leaves.
 use Rattle.std.specs.Prelude.{◌≡◌, ◌++◌, ℕ, List, Option}
-use Rattle.std.specs.Io.KnownBytes.{Appends}
+use Rattle.std.specs.Io.KnownBytes.{Appends, Keeps}
+use Rattle.engine.specs.declared.fault.RunFault.{RunFault}
+use Rattle.engine.specs.declared.fault.RunFault.TheVariants.{WritingReport, WritingRefused}
 
 -- the known bytes grew by a beginning of the text, which may be none or all of it
 abbrev pub AppendsBeginning : Option (List ℕ) → Option (List ℕ) → List ℕ → Type 0
 AppendsBeginning old new text = (front : List ℕ) × (rest : List ℕ) × (text ≡ front ++ rest) × Appends old new front
+
+-- what a fault leaves where a report was to be written to one writer, and then a list of refused lines to another: a beginning of the report and nothing
+-- of the list, or the report and a beginning of the list
+abbrev pub LeavesWritten :
+    RunFault → List ℕ → List ℕ → (out_old out_new err_old err_new : Option (List ℕ)) → Type 0
+LeavesWritten WritingReport report list out_old out_new err_old err_new =
+    AppendsBeginning out_old out_new report × Keeps err_old err_new
+LeavesWritten WritingRefused report list out_old out_new err_old err_new =
+    Appends out_old out_new report × AppendsBeginning err_old err_new list
+LeavesWritten fault report list out_old out_new err_old err_new = ⊥

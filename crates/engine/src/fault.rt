@@ -1,4 +1,8 @@
 // How a run fails.
+ghost use Rattle.std.specs.Prelude.{◌≡◌};
+ghost use Rattle.engine.specs.declared.fault.RunFault.TheVariants.{OutOfMemory};
+
+use std::alloc::AllocError;
 use thiserror::Error;
 
 /// Why a run is not done.
@@ -10,7 +14,23 @@ pub enum RunFault {
     /// Memory ran out. Nothing was written.
     #[error("out of memory")]
     OutOfMemory,
-    /// A write or the flush of the report failed. A beginning of the report was written.
+    /// More lines are refused than may be, which is this number. Nothing was written.
+    #[error("more than {0} refused lines")]
+    TooManyRefused(u64),
+    /// A write or the flush of the report failed. A beginning of the report was written, and nothing
+    /// of the list of refused lines.
     #[error("writing the report failed")]
     WritingReport,
+    /// A write or the flush of the list of refused lines failed. The report was written, and a
+    /// beginning of the list.
+    #[error("writing the refused lines failed")]
+    WritingRefused,
+}
+
+impl From<AllocError> for RunFault {
+    ghost from_gives = { λ _ fault. fault ≡ OutOfMemory };
+
+    fn from(_error: AllocError) -> RunFault {
+        RunFault::OutOfMemory
+    }
 }

@@ -1,12 +1,14 @@
 //! What the program does, over any reader and writers.
 #![tactic(auto)]
 
-mod counting;
+mod cutting;
 mod fault;
+mod folding;
 mod reading;
+mod run;
 mod serving;
 mod writing;
 
-pub use counting::{Done, count};
 pub use fault::RunFault;
+pub use run::{Done, run_alone};
 pub use serving::serve;

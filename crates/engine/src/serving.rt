@@ -1,23 +1,30 @@
 // What the program does once its words are read.
-use crate::counting::count;
 use crate::fault::RunFault;
+use crate::run::run_alone;
 use crate::writing::put;
 use clap::error::ErrorKind;
 use command_line::{Settings, WordsFault};
+use query::{Plan, QueryFault, check, parse};
 use std::alloc::{AllocError, Global};
 use std::io::{Read, Write};
 use thiserror::Error;
 use values::{Schema, SchemaFault};
 
 /// Why the program ends without its report. Its text goes to standard error.
-#[derive(Clone, Copy, Debug, PartialEq, Eq, Error)]
+#[derive(Debug, Drop, Error)]
 enum Ending {
     /// A word of the command line is not UTF-8.
     #[error("a word is not UTF-8")]
     NotUtf8,
+    /// A number of the command line is out of its range.
+    #[error("a number is out of range")]
+    Range,
     /// The schema is refused.
     #[error("{0}")]
     Schema(SchemaFault),
+    /// The query is refused.
+    #[error("{0}")]
+    Query(QueryFault),
     /// The file is not there, or may not be read, or there was no memory to open it.
     #[error("cannot open the file")]
     NotOpened,
@@ -31,26 +38,30 @@ impl Ending {
     const OUT_OF_MEMORY: Ending = Ending::Run(RunFault::OutOfMemory);
 
     /// The status that the program ends with.
-    fn status(self) -> u8 {
+    fn status(&self) -> u8 {
         match self {
-            Ending::Schema(SchemaFault::OutOfMemory) | Ending::Run(RunFault::OutOfMemory) => 4,
-            Ending::NotUtf8 | Ending::Schema(_) => 2,
-            Ending::NotOpened | Ending::Run(RunFault::Reading | RunFault::WritingReport) => 3,
+            Ending::Schema(SchemaFault::OutOfMemory)
+            | Ending::Query(QueryFault::OutOfMemory)
+            | Ending::Run(RunFault::OutOfMemory) => 4,
+            Ending::NotUtf8 | Ending::Range | Ending::Schema(_) | Ending::Query(_) => 2,
+            Ending::Run(RunFault::TooManyRefused(_)) => 5,
+            Ending::NotOpened | Ending::Run(_) => 3,
         }
     }
 
     /// `jlreport: `, what went wrong, and a line feed.
-    fn line(self, alloc: Global) -> Result<String, AllocError> {
+    fn line(&self, alloc: Global) -> Result<String, AllocError> {
         format!(in alloc; "jlreport: {self}\n")
     }
 }
 
 /// Does what the words ask for, and answers the status that the program ends with: 0 where no line
-/// is refused or help is asked for, 1 where some are, 2 where the words or the schema are refused,
-/// 3 where the file cannot be opened or read or the report cannot be written, 4 where memory runs
-/// out. The report and help go to `out`; what went wrong goes to `err`.
+/// is refused or help is asked for, 1 where some are, 2 where the words, the schema or the query are
+/// refused, 3 where the file cannot be opened or read or a text cannot be written, 4 where memory
+/// runs out, 5 where more lines are refused than may be. The report and help go to `out`; the
+/// refused lines and what went wrong go to `err`.
 ///
-/// `opener` is called once at most, and only once the words and the schema are good.
+/// `opener` is called once at most, and only once the words, the schema and the query are good.
 pub fn serve<R: Read + Drop, O: Write, E: Write, F: FnMut(&str) -> Option<R>>(
     alloc: Global,
     asked: Result<Settings<'_>, WordsFault>,
@@ -61,34 +72,43 @@ pub fn serve<R: Read + Drop, O: Write, E: Write, F: FnMut(&str) -> Option<R>>(
     requires { F.IsAlwaysCallable opener.old }
 {
     match asked {
-        Ok(settings) => match counted(alloc, settings, opener, out) {
+        Ok(settings) => match reported(alloc, settings, opener, out, err) {
             Ok(status) => status,
-            Err(ending) => ended(alloc, ending, err),
+            Err(ending) => ended(alloc, &ending, err),
         },
         Err(WordsFault::Clap(error)) => answered(alloc, &error, out, err),
-        Err(WordsFault::NotUtf8) => ended(alloc, Ending::NotUtf8, err),
+        Err(WordsFault::Range) => ended(alloc, &Ending::Range, err),
+        Err(WordsFault::NotUtf8) => ended(alloc, &Ending::NotUtf8, err),
     }
 }
 
-/// Counts the lines of the file that is asked for.
-fn counted<R: Read + Drop, O: Write, F: FnMut(&str) -> Option<R>>(
+/// The plan of the query that is asked for, under the columns that are asked for.
+fn plan_of(alloc: Global, settings: Settings<'_>) -> Result<Plan, Ending> {
+    let schema = Schema::parse(alloc, settings.columns).map_err(Ending::Schema)?;
+    let query = parse(alloc, settings.query).map_err(Ending::Query)?;
+    check(alloc, query, schema).map_err(Ending::Query)
+}
+
+/// Answers the query that is asked for over the file that is asked for.
+fn reported<R: Read + Drop, O: Write, E: Write, F: FnMut(&str) -> Option<R>>(
     alloc: Global,
     settings: Settings<'_>,
     opener: &mut F,
     out: &mut O,
+    err: &mut E,
 ) -> Result<u8, Ending>
     requires { F.IsAlwaysCallable opener.old }
 {
-    let schema = Schema::parse(alloc, settings.columns).map_err(Ending::Schema)?;
+    let plan = plan_of(alloc, settings)?;
     let Some(reader) = opener(settings.file) else {
         return Err(Ending::NotOpened);
     };
-    let done = count(alloc, &schema, reader, out).map_err(Ending::Run)?;
+    let done = run_alone(alloc, &plan, settings.options, reader, out, err).map_err(Ending::Run)?;
     Ok(if done.refused == 0 { 0 } else { 1 })
 }
 
 /// Says on standard error why the program ends, and answers the status.
-fn ended<E: Write>(alloc: Global, ending: Ending, err: &mut E) -> u8 {
+fn ended<E: Write>(alloc: Global, ending: &Ending, err: &mut E) -> u8 {
     match ending.line(alloc) {
         Ok(line) => {
             let _ = put(err, line.as_bytes());
@@ -110,10 +130,10 @@ fn answered<O: Write, E: Write>(
     err: &mut E,
 ) -> u8 {
     if error.kind() == ErrorKind::OutOfMemory {
-        return ended(alloc, Ending::OUT_OF_MEMORY, err);
+        return ended(alloc, &Ending::OUT_OF_MEMORY, err);
     }
     let Ok(text) = error.to_string(alloc) else {
-        return ended(alloc, Ending::OUT_OF_MEMORY, err);
+        return ended(alloc, &Ending::OUT_OF_MEMORY, err);
     };
     if error.use_stderr() {
         let _ = put(err, text.as_bytes());
@@ -121,6 +141,6 @@ fn answered<O: Write, E: Write>(
     }
     match put(out, text.as_bytes()) {
         Ok(()) => 0,
-        Err(_) => ended(alloc, Ending::Run(RunFault::WritingReport), err),
+        Err(_) => ended(alloc, &Ending::Run(RunFault::WritingReport), err),
     }
 }

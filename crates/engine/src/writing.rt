@@ -1,8 +1,9 @@
-// Writing a text whole.
-ghost use Rattle.std.specs.Prelude.{OnErr, OnOk};
+// Writing texts whole.
+ghost use Rattle.std.specs.Prelude.{IfErr, OnErr, OnOk};
 ghost use Rattle.std.specs.Io.KnownBytes.{Appends};
-ghost use Rattle.engine.specs.Written.{AppendsBeginning};
+ghost use Rattle.engine.specs.Written.{AppendsBeginning, LeavesWritten};
 
+use crate::fault::RunFault;
 use std::io::Write;
 
 /// A write or a flush failed, or a write took no byte.
@@ -25,5 +26,26 @@ pub(crate) fn put<W: Write>(writer: &mut W, text: &[u8]) -> Result<(), WriteFaul
     match writer.flush() {
         Ok(()) => Ok(()),
         Err(_) => Err(WriteFault),
+    }
+}
+
+/// Writes a report whole, and then a list of refused lines, each flushed.
+pub(crate) fn put_both<O: Write, E: Write>(
+    out: &mut O,
+    report: &[u8],
+    err: &mut E,
+    list: &[u8],
+) -> Result<(), RunFault>
+    ensures report { OnOk result (Appends (O.contents out.old) (O.contents out.new) report.now) }
+    ensures list { OnOk result (Appends (E.contents err.old) (E.contents err.new) list.now) }
+    ensures fault { IfErr result (λ fault. LeavesWritten fault report.now list.now
+        (O.contents out.old) (O.contents out.new) (E.contents err.old) (E.contents err.new)) }
+{
+    if put(out, report).is_err() {
+        return Err(RunFault::WritingReport);
+    }
+    match put(err, list) {
+        Ok(()) => Ok(()),
+        Err(_) => Err(RunFault::WritingRefused),
     }
 }

@@ -1,6 +1,6 @@
 // The words of the command line, as `settings` reads them.
 use clap::error::ErrorKind;
-use command_line::{WordsFault, settings};
+use command_line::{Options, WordsFault, settings};
 use std::alloc::Global;
 use std::process::Abort;
 use std::test::Fail;
@@ -13,6 +13,7 @@ fn refusal(alloc: Global, words: &[&str]) -> Result<(ErrorKind, String), Fail> {
             let text = error.to_string(alloc)?;
             Ok((error.kind(), text))
         }
+        Err(WordsFault::Range) => Err(Fail::from("a number is out of its range")),
         Err(WordsFault::NotUtf8) => Err(Fail::from("no word was read")),
     }
 }
@@ -22,13 +23,18 @@ fn assert_taken<'a>(
     rt: &impl Abort,
     alloc: Global,
     words: &'a [&'a str],
-    columns: &str,
-    file: &str,
+    (columns, query, file): (&str, &str, &str),
+    (piece, max_refused): (usize, Option<u64>),
 ) {
     match settings(alloc, words) {
         Ok(given) => {
             assert_eq!(rt; given.columns, columns, "{words:?}");
+            assert_eq!(rt; given.query, query, "{words:?}");
             assert_eq!(rt; given.file, file, "{words:?}");
+            assert_eq!(rt; given.options.workers(), 4, "{words:?}");
+            assert_eq!(rt; given.options.piece(), piece, "{words:?}");
+            assert_eq!(rt; given.options.max_refused(), max_refused, "{words:?}");
+            assert!(rt; !given.explain, "{words:?}");
         }
         Err(_) => panic!(rt; "refused: {words:?}"),
     }
@@ -36,27 +42,91 @@ fn assert_taken<'a>(
 
 #[test]
 fn taken_words(rt: HostRuntime) {
-    let apart = ["jlreport", "--columns", "q:int", "in.jsonl"];
-    assert_taken(&rt, rt.alloc(), apart.as_slice(), "q:int", "in.jsonl");
-    let joined = ["jlreport", "in.jsonl", "--columns=q:int"];
-    assert_taken(&rt, rt.alloc(), joined.as_slice(), "q:int", "in.jsonl");
-    let empty = ["jlreport", "--columns", "", ""];
-    assert_taken(&rt, rt.alloc(), empty.as_slice(), "", "");
-    let like_options = ["jlreport", "--columns=-x", "--", "--help"];
-    assert_taken(&rt, rt.alloc(), like_options.as_slice(), "-x", "--help");
+    let numbers = (1_048_576, None);
+    let apart = ["jlreport", "--columns", "q:int", "--query", "S", "in.jsonl"];
+    let wanted = ("q:int", "S", "in.jsonl");
+    assert_taken(&rt, rt.alloc(), apart.as_slice(), wanted, numbers);
+    let joined = ["jlreport", "in.jsonl", "--query=S", "--columns=q:int"];
+    assert_taken(&rt, rt.alloc(), joined.as_slice(), wanted, numbers);
+    let empty = ["jlreport", "--columns", "", "--query", "", ""];
+    assert_taken(&rt, rt.alloc(), empty.as_slice(), ("", "", ""), numbers);
+    let like_options = ["jlreport", "--columns=-x", "--query=-y", "--", "--help"];
+    let wanted = ("-x", "-y", "--help");
+    assert_taken(&rt, rt.alloc(), like_options.as_slice(), wanted, numbers);
 }
 
-const HELP: &str =
-    "Counts the lines of a file, and those refused: no JSON object that fits the columns
+#[test]
+fn taken_numbers(rt: HostRuntime) {
+    let wanted = ("a", "b", "c");
+    let least = [
+        "jlreport",
+        "--columns",
+        "a",
+        "--query",
+        "b",
+        "--piece",
+        "1",
+        "--max-refused",
+        "0",
+        "c",
+    ];
+    assert_taken(&rt, rt.alloc(), least.as_slice(), wanted, (1, Some(0)));
+    let most = [
+        "jlreport",
+        "--columns=a",
+        "--query=b",
+        "--piece=67108864",
+        "--max-refused=18446744073709551615",
+        "c",
+    ];
+    let numbers = (67_108_864, Some(18_446_744_073_709_551_615));
+    assert_taken(&rt, rt.alloc(), most.as_slice(), wanted, numbers);
+}
 
-Usage: jlreport --columns <SPEC> <FILE>
+#[test]
+fn numbers_out_of_range(rt: HostRuntime) {
+    for piece in [
+        "--piece=0",
+        "--piece=67108865",
+        "--piece=18446744073709551615",
+    ] {
+        let words = ["jlreport", "--columns=a", "--query=b", piece, "c"];
+        match settings(rt.alloc(), words.as_slice()) {
+            Err(WordsFault::Range) => {}
+            _ => panic!(rt; "not out of range: {piece}"),
+        }
+    }
+}
+
+#[test]
+fn options(rt: HostRuntime) {
+    match Options::new(64, 1, Some(3)) {
+        Some(options) => {
+            assert_eq!(rt; options.workers(), 64);
+            assert_eq!(rt; options.piece(), 1);
+            assert_eq!(rt; options.max_refused(), Some(3));
+        }
+        None => panic!(rt; "no options"),
+    }
+    assert!(rt; Options::new(1, 67_108_864, None).is_some());
+    for (workers, piece) in [(0, 1), (65, 1), (1, 0), (1, 67_108_865)] {
+        assert!(rt; Options::new(workers, piece, None).is_none());
+    }
+}
+
+const HELP: &str = "Checks one SQL aggregate query, and counts the lines of a file and those refused
+
+Usage: jlreport [OPTIONS] --columns <SPEC> --query <TEXT> <FILE>
 
 Arguments:
   <FILE>  The file to read, with one JSON object on each line
 
 Options:
-      --columns <SPEC>  The columns that each line has to fit, as NAME:TYPE,NAME:TYPE,..
-  -h, --help            Print help
+      --columns <SPEC>   The columns that the query can name, as NAME:TYPE,NAME:TYPE,..
+      --query <TEXT>     The query
+      --piece <BYTES>    How many bytes are worked on at once, 1 to 67108864 [default: 1048576]
+      --max-refused <N>  How many lines may be refused, 0 to 18446744073709551615; any number where it is not given
+  -h, --help             Print help
 
 Columns:
   A column is NAME:TYPE. It takes the member NAME of the object on a line.";
@@ -95,46 +165,101 @@ fn missing_words(rt: HostRuntime) -> Result<(), Fail> {
     let text = "error: the following required arguments were not provided:\n";
     let none = ["jlreport"];
     assert_refused(&rt, rt.alloc(), none.as_slice(), kind, text)?;
-    let no_columns = ["jlreport", "in.jsonl"];
+    let no_columns = ["jlreport", "--query=S", "in.jsonl"];
     assert_refused(&rt, rt.alloc(), no_columns.as_slice(), kind, text)?;
-    let no_file = ["jlreport", "--columns", "q:int"];
+    let no_query = ["jlreport", "--columns=q:int", "in.jsonl"];
+    assert_refused(&rt, rt.alloc(), no_query.as_slice(), kind, text)?;
+    let no_file = ["jlreport", "--columns", "q:int", "--query", "S"];
     assert_refused(&rt, rt.alloc(), no_file.as_slice(), kind, text)
 }
 
 #[test]
 fn unknown_words(rt: HostRuntime) -> Result<(), Fail> {
     let kind = ErrorKind::UnknownArgument;
-    let option = ["jlreport", "--columns", "q:int", "--colour", "in.jsonl"];
+    let option = ["jlreport", "--columns=q:int", "--query=S", "--colour", "a"];
     let text = "error: unexpected argument '--colour' found\n";
     assert_refused(&rt, rt.alloc(), option.as_slice(), kind, text)?;
-    let second_file = ["jlreport", "--columns", "q:int", "a", "b"];
+    let second_file = ["jlreport", "--columns=q:int", "--query=S", "a", "b"];
     let text = "error: unexpected argument 'b' found\n";
     assert_refused(&rt, rt.alloc(), second_file.as_slice(), kind, text)
 }
 
 #[test]
-fn repeated_option(rt: HostRuntime) -> Result<(), Fail> {
-    let words = ["jlreport", "--columns", "q:int", "--columns", "q:int", "a"];
-    let text = "error: the argument '--columns <SPEC>' cannot be used multiple times\n";
+fn repeated_options(rt: HostRuntime) -> Result<(), Fail> {
     let kind = ErrorKind::ArgumentConflict;
-    assert_refused(&rt, rt.alloc(), words.as_slice(), kind, text)
+    let columns = [
+        "jlreport",
+        "--columns=q:int",
+        "--columns=q:int",
+        "--query=S",
+        "a",
+    ];
+    let text = "error: the argument '--columns <SPEC>' cannot be used multiple times\n";
+    assert_refused(&rt, rt.alloc(), columns.as_slice(), kind, text)?;
+    let pieces = [
+        "jlreport",
+        "--columns=q:int",
+        "--query=S",
+        "--piece=1",
+        "--piece=1",
+        "a",
+    ];
+    let text = "error: the argument '--piece <BYTES>' cannot be used multiple times\n";
+    assert_refused(&rt, rt.alloc(), pieces.as_slice(), kind, text)
 }
 
 #[test]
-fn missing_value(rt: HostRuntime) -> Result<(), Fail> {
-    let words = ["jlreport", "in.jsonl", "--columns"];
-    let text = "error: a value is required for '--columns <SPEC>' but none was supplied\n";
+fn missing_values(rt: HostRuntime) -> Result<(), Fail> {
     let kind = ErrorKind::InvalidValue;
-    assert_refused(&rt, rt.alloc(), words.as_slice(), kind, text)
+    let columns = ["jlreport", "in.jsonl", "--query=S", "--columns"];
+    let text = "error: a value is required for '--columns <SPEC>' but none was supplied\n";
+    assert_refused(&rt, rt.alloc(), columns.as_slice(), kind, text)?;
+    let query = ["jlreport", "in.jsonl", "--columns=q:int", "--query"];
+    let text = "error: a value is required for '--query <TEXT>' but none was supplied\n";
+    assert_refused(&rt, rt.alloc(), query.as_slice(), kind, text)
+}
+
+#[test]
+fn values_that_are_no_numbers(rt: HostRuntime) -> Result<(), Fail> {
+    let kind = ErrorKind::ValueValidation;
+    let letters = [
+        "jlreport",
+        "--columns=q:int",
+        "--query=S",
+        "--piece=1k",
+        "a",
+    ];
+    let text = "error: invalid value '1k' for '--piece <BYTES>'";
+    assert_refused(&rt, rt.alloc(), letters.as_slice(), kind, text)?;
+    let negative = [
+        "jlreport",
+        "--columns=q:int",
+        "--query=S",
+        "--max-refused=-1",
+        "a",
+    ];
+    let text = "error: invalid value '-1' for '--max-refused <N>'";
+    assert_refused(&rt, rt.alloc(), negative.as_slice(), kind, text)?;
+    let too_large = [
+        "jlreport",
+        "--columns=q:int",
+        "--query=S",
+        "--piece=18446744073709551616",
+        "a",
+    ];
+    let text = "error: invalid value '18446744073709551616' for '--piece <BYTES>'";
+    assert_refused(&rt, rt.alloc(), too_large.as_slice(), kind, text)
 }
 
 /// Where memory is refused the answer is want of memory, and else the settings.
 #[test]
 fn refusal_of_settings(rt: HostRuntime) {
-    let words = ["jlreport", "--columns", "q:int", "in.jsonl"];
+    let words = ["jlreport", "--columns", "q:int", "--query", "S", "in.jsonl"];
     match settings(rt.alloc(), words.as_slice()) {
-        Ok(given) => assert!(rt; given.columns == "q:int" && given.file == "in.jsonl"),
+        Ok(given) => assert!(rt;
+            given.columns == "q:int" && given.query == "S" && given.file == "in.jsonl"
+        ),
         Err(WordsFault::Clap(error)) => assert!(rt; error.kind() == ErrorKind::OutOfMemory),
-        Err(WordsFault::NotUtf8) => panic!(rt; "another answer"),
+        Err(_) => panic!(rt; "another answer"),
     }
 }

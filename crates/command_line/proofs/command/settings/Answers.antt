@@ -1,5 +1,6 @@
-use Rattle.std.proofs.Common.{◌∙◌, refl, codes}
+use Rattle.std.proofs.Common.{◌∙◌, refl, Some, codes}
 use Rattle.clap.specs.Walk.{texts}
+use Rattle.command_line.proofs.Numbers.{IsNumberIn-published, IsNumberOf-read}
 use Rattle.command_line.proofs.Published.{fault_of-taken, value_of-matches}
 use Rattle.command_line.proofs.Required.{first_value-required}
 use Rattle.command_line.proofs.command.settings.Goals as goal
@@ -8,15 +9,38 @@ pub text_of-requires : goal.text_of-requires
 text_of-requires c = first_value-required _ c.in_ok-matches.matches (codes "columns") 0 c.in_ok-command.ensures.ok c.in_ok-matches.ensures.parsed refl
 
 pub text_of-requires-2 : goal.text_of-requires-2
-text_of-requires-2 c = first_value-required _ c.in_ok-matches.matches (codes "file") 1 c.in_ok-command.ensures.ok c.in_ok-matches.ensures.parsed refl
+text_of-requires-2 c = first_value-required _ c.in_ok-matches.matches (codes "query") 1 c.in_ok-command.ensures.ok c.in_ok-matches.ensures.parsed refl
+
+pub text_of-requires-3 : goal.text_of-requires-3
+text_of-requires-3 c = first_value-required _ c.in_ok-matches.matches (codes "file") 4 c.in_ok-command.ensures.ok c.in_ok-matches.ensures.parsed refl
 
 pub returns-clause-columns : goal.returns-clause-columns
 returns-clause-columns c =
     value_of-matches _ (texts c.args.words.now) _ (codes "columns") c.in_ok-command.ensures.ok c.in_ok-matches.ensures.matches ∙ c.text_of.ensures
 
+pub returns-clause-query : goal.returns-clause-query
+returns-clause-query c =
+    value_of-matches _ (texts c.args.words.now) _ (codes "query") c.in_ok-command.ensures.ok c.in_ok-matches.ensures.matches ∙ c.text_of-2.ensures
+
 pub returns-clause-file : goal.returns-clause-file
 returns-clause-file c =
-    value_of-matches _ (texts c.args.words.now) _ (codes "file") c.in_ok-command.ensures.ok c.in_ok-matches.ensures.matches ∙ c.text_of-2.ensures
+    value_of-matches _ (texts c.args.words.now) _ (codes "file") c.in_ok-command.ensures.ok c.in_ok-matches.ensures.matches ∙ c.text_of-3.ensures
+
+pub returns-clause-piece : goal.returns-clause-piece
+returns-clause-piece c =
+    IsNumberOf-read _ (texts c.args.words.now) _ (codes "piece") _ c.in_ok-command.ensures.ok c.in_ok-matches.ensures.matches c.in-Some.ensures.piece
+
+pub returns-clause-max_refused : goal.returns-clause-max_refused
+returns-clause-max_refused c =
+    IsNumberOf-read _ (texts c.args.words.now) _ (codes "max-refused") _ c.in_ok-command.ensures.ok c.in_ok-matches.ensures.matches c.in-Some.ensures.max_refused
 
 pub returns-clause-taken : goal.returns-clause-taken
 returns-clause-taken c = fault_of-taken _ (texts c.args.words.now) c.in_ok-command.ensures.ok c.in_ok-matches.ensures.kinds
+
+pub returns-in_default-clause-refused : goal.returns-in_default-clause-refused
+returns-in_default-clause-refused c = (
+  fault_of-taken _ (texts c.args.words.now) c.in_ok-command.ensures.ok c.in_ok-matches.ensures.kinds,
+  λ n is inside. c.in_default.ensures.out_of_range refl n
+      (IsNumberIn-published _ (texts c.args.words.now) _ (codes "piece") (Some n) c.in_ok-command.ensures.ok c.in_ok-matches.ensures.matches is)
+      inside,
+)

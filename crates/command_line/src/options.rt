@@ -1,0 +1,61 @@
+// The numbers by which a run is done.
+ghost use Rattle.std.specs.Prelude.{◌≡◌, ◌≤◌, IsSome, IfSome};
+ghost use Rattle.command_line.specs.Ranges.{AreInRange};
+
+/// How a run is done: its numbers, each in its range.
+#[derive(Clone, Copy, Debug, PartialEq, Eq)]
+pub struct Options {
+    workers: usize,
+    piece: usize,
+    max_refused: Option<u64>,
+    ghost some_worker: { 1 ≤ workers },
+    ghost few_workers: { workers ≤ 64 },
+    ghost some_byte: { 1 ≤ piece },
+    ghost short_piece: { piece ≤ 67108864 },
+}
+
+impl Options {
+    /// The options of these numbers: how many workers there are, 1 to 64; how many bytes of the
+    /// input are worked on at once, 1 to 67,108,864; and how many lines may be refused, where that
+    /// is limited. None where a number is out of its range.
+    pub fn new(workers: usize, piece: usize, max_refused: Option<u64>) -> Option<Options>
+        ensures inside { AreInRange workers piece → IsSome result }
+        ensures outside { IsSome result → AreInRange workers piece }
+        ensures workers { IfSome result (λ options. options.workers ≡ workers) }
+        ensures piece { IfSome result (λ options. options.piece ≡ piece) }
+        ensures max_refused { IfSome result (λ options. options.max_refused ≡ max_refused) }
+    {
+        if (1..=64).contains(&workers) && (1..=67_108_864).contains(&piece) {
+            Some(Options {
+                workers,
+                piece,
+                max_refused,
+            })
+        } else {
+            None
+        }
+    }
+
+    /// How many workers there are, 1 to 64.
+    pub fn workers(&self) -> usize
+        ensures { result ≡ self.now.workers }
+    {
+        self.workers
+    }
+
+    /// How many bytes of the input are worked on at once, 1 to 67,108,864. A piece ends with a line,
+    /// and so it may be longer.
+    pub fn piece(&self) -> usize
+        ensures value { result ≡ self.now.piece }
+        ensures some_byte { 1 ≤ result }
+    {
+        self.piece
+    }
+
+    /// How many lines may be refused, where that is limited.
+    pub fn max_refused(&self) -> Option<u64>
+        ensures { result ≡ self.now.max_refused }
+    {
+        self.max_refused
+    }
+}

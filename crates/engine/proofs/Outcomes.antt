@@ -1,0 +1,64 @@
+-- What a run leaves, from what it is known to have read and made.
+use Rattle.std.proofs.Common.{◌≡◌, ◌∙◌, ℕ, List, Option, Some, None, Result, Ok, Err, subst}
+use Rattle.std.specs.Prelude.{IfErr, IfOk, IfSome, OnOk}
+use Rattle.values.specs.Schema.{Field}
+use Rattle.query_tree.specs.Syntax.{TreeForm}
+use Rattle.engine.specs.declared.fault.RunFault.{RunFault}
+use Rattle.engine.specs.declared.fault.RunFault.TheVariants.{Reading, OutOfMemory, TooManyRefused, WritingReport, WritingRefused}
+use Rattle.engine.specs.Run.{Leaves, refusals, report}
+use Rattle.engine.specs.Written.{AppendsBeginning, LeavesWritten}
+use Rattle.std.specs.Io.KnownBytes.{Appends}
+
+-- what holds of the bytes that were read holds of what the reader gives, where that is known
+of-known : (P : List ℕ → Type 0) (bytes : List ℕ) (known : Option (List ℕ)) → IfSome known (λ b. bytes ≡ b) → P bytes → IfSome known P
+of-known P bytes None same h = tt
+of-known P bytes (Some b) same h = subst P same h
+
+-- the same of bytes that are those
+pub known-slice : (slice bytes : List ℕ) (known : Option (List ℕ)) → slice ≡ bytes → IfSome known (λ b. bytes ≡ b) → IfSome known (λ b. slice ≡ b)
+known-slice slice bytes None is same = tt
+known-slice slice bytes (Some b) is same = is ∙ same
+
+-- so where an answer is Ok
+pub on-ok-known : {T E : Type 0} (r : Result T E) (P : List ℕ → Type 0) (bytes : List ℕ) (known : Option (List ℕ))
+    → IfSome known (λ b. bytes ≡ b) → OnOk r (P bytes) → OnOk r (IfSome known P)
+on-ok-known (Ok v) P bytes known same h = of-known P bytes known same h
+on-ok-known (Err e) P bytes known same h = tt
+
+pub if-ok-known : {T E : Type 0} (r : Result T E) (P : T → List ℕ → Type 0) (bytes : List ℕ) (known : Option (List ℕ))
+    → IfSome known (λ b. bytes ≡ b) → IfOk r (λ v. P v bytes) → IfOk r (λ v. IfSome known (P v))
+if-ok-known (Ok v) P bytes known same h = of-known (P v) bytes known same h
+if-ok-known (Err e) P bytes known same h = tt
+
+-- so of what a fault leaves
+pub leaves-known : (limit : Option ℕ) (fields : List Field) (q : TreeForm) (bytes : List ℕ) (known : Option (List ℕ))
+    (out_old out_new err_old err_new : Option (List ℕ)) (fault : RunFault)
+    → IfSome known (λ b. bytes ≡ b)
+    → Leaves fault limit fields q (Some bytes) out_old out_new err_old err_new → Leaves fault limit fields q known out_old out_new err_old err_new
+leaves-known limit fields q bytes None oo on eo en Reading same h = h
+leaves-known limit fields q bytes None oo on eo en OutOfMemory same h = h
+leaves-known limit fields q bytes None oo on eo en (TooManyRefused most) same h = (h.0, tt, h.2, h.3)
+leaves-known limit fields q bytes None oo on eo en WritingReport same h = (tt, h.1)
+leaves-known limit fields q bytes None oo on eo en WritingRefused same h = tt
+leaves-known limit fields q bytes (Some b) oo on eo en fault same h = subst (λ (bs : List ℕ). Leaves fault limit fields q (Some bs) oo on eo en) same h
+
+-- what a fault of writing leaves, where the two texts are those of the input
+pub leaves-written : (limit : Option ℕ) (fields : List Field) (q : TreeForm) (bytes text list : List ℕ)
+    (out_old out_new err_old err_new : Option (List ℕ)) (fault : RunFault)
+    → text ≡ report fields q bytes → list ≡ refusals fields bytes
+    → LeavesWritten fault text list out_old out_new err_old err_new → Leaves fault limit fields q (Some bytes) out_old out_new err_old err_new
+leaves-written limit fields q bytes text list oo on eo en Reading is_text is_list h = absurd h
+leaves-written limit fields q bytes text list oo on eo en OutOfMemory is_text is_list h = absurd h
+leaves-written limit fields q bytes text list oo on eo en (TooManyRefused most) is_text is_list h = absurd h
+leaves-written limit fields q bytes text list oo on eo en WritingReport is_text is_list h = (subst (λ (t : List ℕ). AppendsBeginning oo on t) is_text h.0, h.1)
+leaves-written limit fields q bytes text list oo on eo en WritingRefused is_text is_list h =
+    (subst (λ (t : List ℕ). Appends oo on t) is_text h.0, subst (λ (t : List ℕ). AppendsBeginning eo en t) is_list h.1)
+
+-- so of what an answer that is a fault leaves
+pub if-err-known : {T : Type 0} (r : Result T RunFault) (limit : Option ℕ) (fields : List Field) (q : TreeForm) (bytes : List ℕ) (known : Option (List ℕ))
+    (out_old out_new err_old err_new : Option (List ℕ))
+    → IfSome known (λ b. bytes ≡ b)
+    → IfErr r (λ fault. Leaves fault limit fields q (Some bytes) out_old out_new err_old err_new)
+    → IfErr r (λ fault. Leaves fault limit fields q known out_old out_new err_old err_new)
+if-err-known (Ok v) limit fields q bytes known oo on eo en same h = tt
+if-err-known (Err fault) limit fields q bytes known oo on eo en same h = leaves-known limit fields q bytes known oo on eo en fault same h

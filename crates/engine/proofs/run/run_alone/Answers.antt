@@ -1,0 +1,38 @@
+use Rattle.std.proofs.Common.{◌≡◌, length}
+use Rattle.std.specs.Io.KnownBytes.{Appends}
+use Rattle.lines.specs.Input.{refused}
+use Rattle.lines.specs.Lines.{lines}
+use Rattle.query.specs.Planned.{fields_of_plan, form_of_plan}
+use Rattle.engine.specs.Run.{refusals, report}
+use Rattle.engine.proofs.Outcomes.{if-ok-known, known-slice, on-ok-known}
+use Rattle.engine.proofs.run.run_alone.Goals as goal
+
+pub returns-clause-report : goal.returns-clause-report
+returns-clause-report g c =
+    on-ok-known c.run_on.result
+    (λ input. Appends (g.O.Write.contents c.args.out.now) (g.O.Write.contents c.run_on.new.out) (report (fields_of_plan c.args.plan.now) (form_of_plan c.args.plan.now) input))
+    c.as_slice.result.now (g.R.Read.remaining c.args.reader)
+    (known-slice c.as_slice.result.now c.in_ok-input.input.items (g.R.Read.remaining c.args.reader) c.as_slice.ensures.value c.in_ok-input.ensures.bytes)
+    c.run_on.ensures.report
+
+pub returns-clause-refusals : goal.returns-clause-refusals
+returns-clause-refusals g c =
+    on-ok-known c.run_on.result
+    (λ input. Appends (g.E.Write.contents c.args.err.now) (g.E.Write.contents c.run_on.new.err) (refusals (fields_of_plan c.args.plan.now) input))
+    c.as_slice.result.now (g.R.Read.remaining c.args.reader)
+    (known-slice c.as_slice.result.now c.in_ok-input.input.items (g.R.Read.remaining c.args.reader) c.as_slice.ensures.value c.in_ok-input.ensures.bytes)
+    c.run_on.ensures.refusals
+
+pub returns-clause-lines : goal.returns-clause-lines
+returns-clause-lines g c =
+    if-ok-known c.run_on.result (λ done input. done.lines ≡ length (lines input))
+    c.as_slice.result.now (g.R.Read.remaining c.args.reader)
+    (known-slice c.as_slice.result.now c.in_ok-input.input.items (g.R.Read.remaining c.args.reader) c.as_slice.ensures.value c.in_ok-input.ensures.bytes)
+    c.run_on.ensures.lines
+
+pub returns-clause-refused : goal.returns-clause-refused
+returns-clause-refused g c =
+    if-ok-known c.run_on.result (λ done input. done.refused ≡ length (refused (fields_of_plan c.args.plan.now) input))
+    c.as_slice.result.now (g.R.Read.remaining c.args.reader)
+    (known-slice c.as_slice.result.now c.in_ok-input.input.items (g.R.Read.remaining c.args.reader) c.as_slice.ensures.value c.in_ok-input.ensures.bytes)
+    c.run_on.ensures.refused

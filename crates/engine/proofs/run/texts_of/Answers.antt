@@ -1,0 +1,32 @@
+use Rattle.std.proofs.Common.{◌∙◌, ap, map, subst, sym}
+use Rattle.std.specs.List.{All}
+use Rattle.query.specs.Planned.{fields_of_plan, form_of_plan}
+use Rattle.query_check.specs.Functions.{functions_of}
+use Rattle.query_check.specs.Sets.{sets_of}
+use Rattle.lines.specs.Input.{good}
+use Rattle.tables.specs.Found.{found_in, refused_in}
+use Rattle.tables.specs.Results.{all_found}
+use Rattle.report.specs.Report.{NamesColumn}
+use Rattle.report.specs.Shown.{row_shown}
+use Rattle.report.specs.Text.{report_bytes}
+use Rattle.engine.proofs.Named.{refused-named}
+use Rattle.engine.proofs.run.texts_of.Goals as goal
+
+pub refused_text-requires : goal.refused_text-requires
+refused_text-requires c =
+    let plan = c.args.plan.now in
+    let whole = c.requires.1 in
+    let is = c.in_ok-groups.ensures.whole c.requires.0 whole.pieces whole.stands whole.cut in
+    subst (λ fields. All (λ line. NamesColumn fields line.1) (refused_in c.in_ok-groups.groups)) (sym c.schema.ensures.schema)
+    (subst (λ refused. All (λ line. NamesColumn (fields_of_plan plan) line.1) refused) (sym is.refused) (refused-named (fields_of_plan plan) c.requires.0))
+
+pub returns-clause-report : goal.returns-clause-report
+returns-clause-report c = λ input whole.
+    let fields = fields_of_plan c.args.plan.now in
+    let q = form_of_plan c.args.plan.now in
+    let groups = c.in_ok-groups.groups in
+    let is = c.in_ok-groups.ensures.whole input whole.pieces whole.stands whole.cut in
+    let fit = c.in_ok-groups.ensures.fit whole.pieces whole.stands in
+    let blind = c.arranged_law.ensures fields q (found_in groups) fit
+    (all_found (sets_of fields q) (functions_of fields q) (good fields input)) is.rows in
+    c.in_ok-report.ensures ∙ ap (λ rows. report_bytes q.items (map (row_shown fields q) rows)) (sym blind)

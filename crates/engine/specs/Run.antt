@@ -1,0 +1,47 @@
+-- What a run writes, and what it leaves where it fails.
+use Rattle.std.specs.Prelude.{◌≡◌, ◌<◌, ◌≤◌, ⊤, ℕ, List, Option, Some, None, IfSome, length}
+use Rattle.std.specs.Io.KnownBytes.{Appends, Keeps}
+use Rattle.values.specs.Schema.{Field}
+use Rattle.lines.specs.Input.{good, refused}
+use Rattle.query_tree.specs.Syntax.{TreeForm}
+use Rattle.query_check.specs.Functions.{functions_of}
+use Rattle.query_check.specs.Sets.{sets_of}
+use Rattle.tables.specs.Results.{all_found}
+use Rattle.report.specs.Report.{refusals_of, report_of}
+use Rattle.engine.specs.Written.{AppendsBeginning}
+use Rattle.engine.specs.declared.fault.RunFault.{RunFault}
+use Rattle.engine.specs.declared.fault.RunFault.TheVariants.{Reading, OutOfMemory, TooManyRefused, WritingReport, WritingRefused}
+
+-- the report of a query on an input: what its grouping sets find in the good records of all lines
+abbrev pub report : List Field → TreeForm → List ℕ → List ℕ
+report fields q input = report_of fields q (all_found (sets_of fields q) (functions_of fields q) (good fields input))
+
+-- the list of the refused lines of an input
+abbrev pub refusals : List Field → List ℕ → List ℕ
+refusals fields input = refusals_of fields (refused fields input)
+
+-- not more than the limit, where there is one
+abbrev pub IsWithin : Option ℕ → ℕ → Type 0
+IsWithin None count = ⊤
+IsWithin (Some limit) count = count ≤ limit
+
+-- what a fault says, and what it leaves of the two outputs: nothing was written, or a beginning of the report and nothing of the list, or the report and
+-- a beginning of the list
+abbrev pub Leaves :
+    RunFault → Option ℕ → List Field → TreeForm → Option (List ℕ) → (out_old out_new err_old err_new : Option (List ℕ)) → Type 0
+Leaves Reading limit fields q input out_old out_new err_old err_new = Keeps out_old out_new × Keeps err_old err_new
+Leaves OutOfMemory limit fields q input out_old out_new err_old err_new = Keeps out_old out_new × Keeps err_old err_new
+Leaves (TooManyRefused most) limit fields q input out_old out_new err_old err_new =
+    (limit ≡ Some most) × IfSome input (λ bytes. most < length (refused fields bytes))
+    × Keeps out_old out_new × Keeps err_old err_new
+Leaves WritingReport limit fields q input out_old out_new err_old err_new =
+    IfSome input (λ bytes. AppendsBeginning out_old out_new (report fields q bytes)) × Keeps err_old err_new
+Leaves WritingRefused limit fields q input out_old out_new err_old err_new =
+    IfSome input (λ bytes. Appends out_old out_new (report fields q bytes) × AppendsBeginning err_old err_new (refusals fields bytes))
+
+-- ---- in the code
+
+-- the fault says that more lines are refused than the limit
+abbrev pub Refuses : RunFault → Option ℕ → ℕ → Type 0
+Refuses (TooManyRefused most) limit count = (limit ≡ Some most) × (most < count)
+Refuses fault limit count = ⊥

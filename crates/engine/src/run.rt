@@ -1,0 +1,177 @@
+// A run: from a reader to the report and the list of refused lines.
+ghost use Rattle.std.specs.Prelude.{◌≡◌, ◌<◌, ◌^◌, ◌⊎◌, ℕ, List, IfErr, IfOk, IfSome, OnOk, Some, length};
+ghost use Rattle.std.specs.Io.KnownBytes.{Appends};
+ghost use Rattle.values.specs.Schema.{Field};
+ghost use Rattle.lines.specs.Input.{refused};
+ghost use Rattle.lines.specs.Lines.{lines};
+ghost use Rattle.query_tree.specs.Syntax.{TreeForm};
+ghost use Rattle.query.specs.Planned.{fields_of_plan, form_of_plan};
+ghost use Rattle.tables.specs.Fitting.{AreFitting};
+ghost use Rattle.tables.specs.Found.{found_in};
+ghost use Rattle.report.specs.Report.{report_of};
+ghost use Rattle.engine.specs.Pieces.{IsWhole};
+ghost use Rattle.engine.specs.Run.{IsWithin, Leaves, Refuses, refusals, report};
+
+use crate::fault::RunFault;
+use crate::folding::whole_of;
+use crate::reading::read_all;
+use crate::writing::put_both;
+use command_line::Options;
+use query::Plan;
+use report::{arrange, arranged_law, refused_text, report_text};
+use std::alloc::{AllocError, Global};
+use std::io::{Read, Write};
+use tables::{Groups, Partial};
+
+/// The counts of an input.
+#[derive(Clone, Copy, Debug, PartialEq, Eq)]
+pub struct Done {
+    /// How many lines the input has.
+    pub lines: u64,
+    /// How many of them are refused.
+    pub refused: u64,
+}
+
+/// What is written of an input.
+#[derive(Debug, Drop)]
+struct Texts {
+    /// The report.
+    report: Vec<u8>,
+    /// The list of refused lines.
+    refused: Vec<u8>,
+}
+
+/// Answers the query of a plan over what a reader gives, on the calling thread: writes the report to
+/// `out` and flushes it, and then the list of refused lines to `err` and flushes it. The number of
+/// workers is not looked at.
+///
+/// # Errors
+///
+/// `Reading` where a read fails or the input has 2^63 bytes or more, `OutOfMemory` where memory runs
+/// out, `TooManyRefused` where more lines are refused than the options allow: then nothing was
+/// written. `WritingReport` where a write or the flush of the report fails: then a beginning of it
+/// was written, and nothing of the list. `WritingRefused` where a write or the flush of the list
+/// fails: then the report was written, and a beginning of the list.
+pub fn run_alone<R: Read + Drop, O: Write, E: Write>(
+    alloc: Global,
+    plan: &Plan,
+    options: Options,
+    reader: R,
+    out: &mut O,
+    err: &mut E,
+) -> Result<Done, RunFault>
+    ensures report { OnOk result (IfSome (R.remaining reader) (λ input.
+        Appends (O.contents out.old) (O.contents out.new)
+        (report (fields_of_plan plan.now) (form_of_plan plan.now) input))) }
+    ensures refusals { OnOk result (IfSome (R.remaining reader) (λ input.
+        Appends (E.contents err.old) (E.contents err.new) (refusals (fields_of_plan plan.now) input))) }
+    ensures lines { IfOk result (λ done. IfSome (R.remaining reader) (λ input.
+        done.lines ≡ length (lines input))) }
+    ensures refused { IfOk result (λ done. IfSome (R.remaining reader) (λ input.
+        done.refused ≡ length (refused (fields_of_plan plan.now) input))) }
+    ensures limit { IfOk result (λ done. IsWithin options.max_refused done.refused) }
+    ensures fault { IfErr result (λ fault. Leaves fault options.max_refused
+        (fields_of_plan plan.now) (form_of_plan plan.now) (R.remaining reader)
+        (O.contents out.old) (O.contents out.new) (E.contents err.old) (E.contents err.new)) }
+{
+    let input = read_all(alloc, reader)?;
+    run_on(alloc, plan, options, input.as_slice(), out, err)
+}
+
+/// Answers the query of a plan over an input that has been read.
+fn run_on<O: Write, E: Write>(
+    alloc: Global,
+    plan: &Plan,
+    options: Options,
+    input: &[u8],
+    out: &mut O,
+    err: &mut E,
+) -> Result<Done, RunFault>
+    requires { length input.now < 2 ^ 63 }
+    ensures report { OnOk result (Appends (O.contents out.old) (O.contents out.new)
+        (report (fields_of_plan plan.now) (form_of_plan plan.now) input.now)) }
+    ensures refusals { OnOk result (Appends (E.contents err.old) (E.contents err.new)
+        (refusals (fields_of_plan plan.now) input.now)) }
+    ensures lines { IfOk result (λ done. done.lines ≡ length (lines input.now)) }
+    ensures refused { IfOk result (λ done. done.refused ≡ length (refused (fields_of_plan plan.now) input.now)) }
+    ensures limit { IfOk result (λ done. IsWithin options.max_refused done.refused) }
+    ensures fault { IfErr result (λ fault. Leaves fault options.max_refused
+        (fields_of_plan plan.now) (form_of_plan plan.now) (Some input.now)
+        (O.contents out.old) (O.contents out.new) (E.contents err.old) (E.contents err.new)) }
+{
+    let (done, texts) = answer(alloc, plan, options, input)?;
+    match put_both(out, texts.report.as_slice(), err, texts.refused.as_slice()) {
+        Ok(()) => Ok(done),
+        Err(fault) => Err(fault),
+    }
+}
+
+/// The counts of an input, and what is written of it.
+fn answer(
+    alloc: Global,
+    plan: &Plan,
+    options: Options,
+    input: &[u8],
+) -> Result<(Done, Texts), RunFault>
+    requires { length input.now < 2 ^ 63 }
+    ensures report { IfOk result (λ answer. answer.1.report.items
+        ≡ report (fields_of_plan plan.now) (form_of_plan plan.now) input.now) }
+    ensures refusals { IfOk result (λ answer. answer.1.refused.items
+        ≡ refusals (fields_of_plan plan.now) input.now) }
+    ensures lines { IfOk result (λ answer. answer.0.lines ≡ length (lines input.now)) }
+    ensures refused { IfOk result (λ answer.
+        answer.0.refused ≡ length (refused (fields_of_plan plan.now) input.now)) }
+    ensures limit { IfOk result (λ answer. IsWithin options.max_refused answer.0.refused) }
+    ensures fault { IfErr result (λ fault. (fault ≡ RunFault.OutOfMemory) ⊎ Refuses fault options.max_refused
+        (length (refused (fields_of_plan plan.now) input.now))) }
+{
+    let partial = whole_of(alloc, plan, options.piece(), input)?;
+    let done = done_of(&partial, options.max_refused())?;
+    let texts = texts_of(alloc, plan, partial)?;
+    Ok((done, texts))
+}
+
+/// The counts of a result over an input, where not more lines are refused than may be.
+fn done_of(partial: &Partial, limit: Option<u64>) -> Result<Done, RunFault>
+    ensures lines { IfOk result (λ done. (fields : List Field) (q : TreeForm) (input : List ℕ)
+        → IsWhole fields q input partial.now → done.lines ≡ length (lines input)) }
+    ensures refused { IfOk result (λ done. (fields : List Field) (q : TreeForm) (input : List ℕ)
+        → IsWhole fields q input partial.now → done.refused ≡ length (refused fields input)) }
+    ensures limit { IfOk result (λ done. IsWithin limit done.refused) }
+    ensures fault { IfErr result (λ fault. (fields : List Field) (q : TreeForm) (input : List ℕ)
+        → IsWhole fields q input partial.now → Refuses fault limit (length (refused fields input))) }
+{
+    let (lines, refused) = (partial.lines(), partial.refused());
+    match limit {
+        Some(most) if refused > most => Err(RunFault::TooManyRefused(most)),
+        _ => Ok(Done { lines, refused }),
+    }
+}
+
+/// What is written of an input, by the result over it.
+fn texts_of(alloc: Global, plan: &Plan, partial: Partial) -> Result<Texts, AllocError>
+    requires { (input : List ℕ) × IsWhole (fields_of_plan plan.now) (form_of_plan plan.now) input partial }
+    ensures report { IfOk result (λ texts. (input : List ℕ)
+        → IsWhole (fields_of_plan plan.now) (form_of_plan plan.now) input partial
+        → texts.report.items ≡ report (fields_of_plan plan.now) (form_of_plan plan.now) input) }
+    ensures refused { IfOk result (λ texts. (input : List ℕ)
+        → IsWhole (fields_of_plan plan.now) (form_of_plan plan.now) input partial
+        → texts.refused.items ≡ refusals (fields_of_plan plan.now) input) }
+{
+    let groups = partial.finish(plan)?;
+    let report = report_of(alloc, plan, &groups)?;
+    let refused = refused_text(alloc, &groups, plan.schema())?;
+    // The groups came in the order of a walk over a table, which the report does not show.
+    arranged_law();
+    Ok(Texts { report, refused })
+}
+
+/// The report on groups.
+fn report_of(alloc: Global, plan: &Plan, groups: &Groups) -> Result<Vec<u8>, AllocError>
+    requires { AreFitting (fields_of_plan plan.now) (form_of_plan plan.now) (found_in groups.now) }
+    ensures { IfOk result (λ text. text.items
+        ≡ report_of (fields_of_plan plan.now) (form_of_plan plan.now) (found_in groups.now)) }
+{
+    let rows = arrange(alloc, groups, plan)?;
+    report_text(alloc, rows.as_slice(), plan)
+}
