@@ -9,3 +9,4 @@ pub mod Meaning
 pub mod Distinct
 pub mod GroupsLaw
 pub mod Shuffles
+pub mod Literals

@@ -21,3 +21,6 @@ pub use cell::Cell;
 pub use group::Group;
 pub use laws::order_law;
 pub use table::Table;
+
+#[cfg(test)]
+mod tests;

@@ -1,0 +1,24 @@
+use Rattle.std.proofs.Common.{◌≡◌, ◌+◌, ◌<◌, ◌^◌, [], ◌∷◌, ◌++◌, length, refl, arith, length-append}
+use Rattle.values.specs.Datum.{data_of}
+use Rattle.groups.specs.Table.{TakesOne}
+use Rattle.groups.proofs.tests.table_of.Goals as goal
+
+pub loop-fields-init : goal.loop-fields-init
+loop-fields-init c = ([], (c.in_ok-table.ensures.empty, refl))
+
+pub add_one-requires-clause-room : goal.add_one-requires-clause-room
+add_one-requires-clause-room c =
+    let i = c.loop-fields.invariant in
+    record { rows = i.0; is_table = i.1.0; few = omega (arith, i.1.1, c.loop-fields-test.true, c.requires.few) }
+
+pub loop-fields-preserved : goal.loop-fields-preserved
+loop-fields-preserved c =
+    let i = c.loop-fields.invariant in
+    let row = data_of c.in_ok-row.row.items in
+    let l = length-append i.0 (row ∷ []) in
+    (i.0 ++ row ∷ [], (c.in_ok-add_one.ensures.added i.0 i.1.0, omega (arith, l, i.1.1)))
+
+pub returns : goal.returns
+returns c =
+    let i = c.loop-fields.invariant in
+    (i.0, (i.1.0, omega (arith, i.1.1, c.loop-fields.auto.fields-index-end, c.requires.few)))
