@@ -4,3 +4,5 @@ pub mod Places
 pub mod Rows
 pub mod Keys
 pub mod Maps
+pub mod Wide
+mod Examples

@@ -1,9 +1,7 @@
 -- The grouping columns of a row and its key.
-use Rattle.std.proofs.Common.{lt-ltb, le-ltb, ltb-true, ltb-false, one-add, ◌≡◌, ◌+◌, ℕ, zero, suc, ◌==◌, nat_lt, Bool, true, false, cond, not, List, [], ◌∷◌, length, map, refl, sym, ap, subst, ◌∙◌, arith, slice_index_or, position, Option, Some, None}
+use Rattle.std.proofs.Common.{lt-ltb, le-ltb, ltb-true, ltb-false, one-add, ◌≡◌, ℕ, suc, ◌==◌, nat_lt, Bool, true, false, cond, not, List, [], ◌∷◌, length, map, refl, ap, ◌∙◌, arith, slice_index_or, Some, None}
 use Rattle.std.specs.Prelude.{⊤, filter}
-use Rattle.std.specs.declared.cmp.Ordering.{Ordering}
-use Rattle.std.specs.declared.cmp.Ordering.TheVariants.{Less, Equal, Greater}
-use Rattle.std.specs.Ordering.{nat_cmp, ordering_then}
+use Rattle.std.specs.Ordering.{ordering_then}
 use Rattle.std.specs.Cmp.Lexicographic.{slice_cmp}
 use Rattle.std.specs.List.{AllByRecursion, position_or_len}
 use Rattle.std.specs.Option.{option_map_or}

@@ -1,5 +1,5 @@
 -- The order of rows that fit a query.
-use Rattle.std.proofs.Common.{◌≡◌, ◌≢◌, ◌<◌, ◌+◌, ℕ, suc, ◌==◌, Bool, true, false, List, [], ◌∷◌, length, map, get_or, refl, sym, ap, subst, ◌∙◌, arith, All, AllPairs, IsPermutation, IsSortedBy, Bor}
+use Rattle.std.proofs.Common.{◌≡◌, ◌≢◌, ◌<◌, ℕ, suc, ◌==◌, Bool, true, false, List, [], ◌∷◌, length, map, get_or, refl, sym, ap, subst, ◌∙◌, arith, All, AllPairs, IsPermutation, IsSortedBy, Bor}
 use Rattle.std.specs.Prelude.{filter}
 use Rattle.std.specs.declared.cmp.Ordering.{Ordering}
 use Rattle.std.specs.declared.cmp.Ordering.TheVariants.{Less, Equal, Greater}
@@ -17,7 +17,6 @@ use Rattle.query_tree.specs.Syntax.{TreeForm}
 use Rattle.query_check.specs.Columns.{places_of}
 use Rattle.query_check.specs.Sets.{expanded, grouping_names, grouping_places, ordered_set, sets_of}
 use Rattle.groups.specs.declared.group.Group.{Group}
-use Rattle.groups.specs.GroupRows.{SameBag}
 use Rattle.groups.specs.Groups.{key_order}
 use Rattle.groups.proofs.Order.{value_total, key_total, key_antisymmetric}
 use Rattle.tables.specs.Found.{Found, row_of}

@@ -5,7 +5,6 @@ use Rattle.query_tree.specs.Syntax.{TreeForm}
 use Rattle.groups.specs.GroupRows.{SameBag}
 use Rattle.tables.specs.Found.{Found}
 use Rattle.report.specs.Order.{before, arranged, Ascends}
-use Rattle.tables.specs.Fitting.{AreFitting}
 
 -- the rows in their order are the one list that has each of them as often and ascends
 pub record IsTheOrder (fields : List Field) (t : TreeForm) (found : List Found) : Type 0 where

@@ -1,5 +1,5 @@
 -- The order in which the rows of a report stand.
-use Rattle.std.specs.Prelude.{◌≡◌, ℕ, ◌==◌, Bool, false, ⊤, List, [], ◌∷◌, map, position, slice_index_or, if◌then◌else◌}
+use Rattle.std.specs.Prelude.{◌≡◌, ℕ, ◌==◌, false, ⊤, List, [], ◌∷◌, map, position, slice_index_or, if◌then◌else◌}
 use Rattle.std.specs.declared.cmp.Ordering.{Ordering}
 use Rattle.std.specs.Ordering.{is_gt, nat_cmp, ordering_then}
 use Rattle.std.specs.Option.{option_map_or}

@@ -1,5 +1,5 @@
 -- What a row of a report shows for each item of SELECT.
-use Rattle.std.specs.Prelude.{ℕ, ◌+◌, ◌*◌, ◌==◌, nat_lt, pos, Bool, true, false, not, List, [], ◌∷◌, length, map, reverse, position, slice_get, Option, unwrap_or, if◌then◌else◌}
+use Rattle.std.specs.Prelude.{ℕ, ◌+◌, ◌*◌, ◌==◌, nat_lt, pos, Bool, false, not, List, [], ◌∷◌, length, map, reverse, position, slice_get, Option, unwrap_or, if◌then◌else◌}
 use Rattle.std.specs.List.{list_any}
 use Rattle.std.specs.Option.{option_map_or, option_and_then}
 use Rattle.values.specs.Datum.{Datum, whole, null}

@@ -1,5 +1,5 @@
 // The rows of a report.
-ghost use Rattle.std.specs.Prelude.{◌≡◌, ◌<◌, IfOk, length, map};
+ghost use Rattle.std.specs.Prelude.{◌≡◌, ◌<◌, All, IfOk, length, map};
 ghost use Rattle.query_check.specs.Sets.{sets_of};
 ghost use Rattle.query.specs.Planned.{fields_of_plan, form_of_plan};
 ghost use Rattle.tables.specs.Found.{found_in, row_of};
@@ -25,6 +25,7 @@ use tables::Groups;
 pub fn arrange(alloc: Global, groups: &Groups, plan: &Plan) -> Result<Vec<Row>, AllocError>
     requires { AreFitting (fields_of_plan plan.now) (form_of_plan plan.now) (found_in groups.now) }
     ensures cells { IfOk result (λ rows. map cells_of rows.items ≡ rows_shown (fields_of_plan plan.now) (form_of_plan plan.now) (found_in groups.now)) }
+    ensures wide { IfOk result (λ rows. All (λ row. length row.cells.items ≡ length (form_of_plan plan.now).items) rows.items) }
 {
     let ordered = in_order(alloc, groups.rows())?;
     let mut rows = Vec::with_capacity(alloc, ordered.len())?;

@@ -8,6 +8,7 @@ use Rattle.report.specs.Order.{arranged}
 use Rattle.report.specs.Shown.{cells_of, row_shown}
 use Rattle.report.specs.declared.row.Row.{Row}
 use Rattle.report.proofs.Rows.{row_at, within-arranged}
+use Rattle.report.proofs.Wide.{all-wide}
 use Rattle.report.proofs.arranging.arrange.Goals as goal
 
 pub loop-group-init : goal.loop-group-init
@@ -25,3 +26,9 @@ loop-group-init c =
       shown = ap (λ (rows : List Row). map cells_of rows ++ map (row_shown fields t) (map row_at c.into_iter-group-iterator.result.rest.items)) c.in_ok-rows.ensures.items ∙ ap (map (row_shown fields t)) left;
       within = subst (λ (f : List Found). AllByRecursion (λ x. x.0 < length (sets_of fields t)) f) (sym left) (within-arranged fields t found c.requires);
     }
+
+pub returns-clause-wide : goal.returns-clause-wide
+returns-clause-wide c =
+    let fields = fields_of_plan c.args.plan.now in
+    let t = form_of_plan c.args.plan.now in
+    all-wide fields t c.loop-group.rows.items (map (row_shown fields t) (map row_at c.loop-group.group-iterator.rest.items)) (arranged fields t (found_in c.args.groups.now)) c.loop-group.invariant.shown

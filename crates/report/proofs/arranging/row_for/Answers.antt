@@ -1,14 +1,11 @@
-use Rattle.std.proofs.Common.{◌≡◌, ◌∙◌, ◌<◌, List, [], length, map, take, get_or, ap, sym, arith, ℕ, take_all}
+use Rattle.std.proofs.Common.{◌≡◌, ◌∙◌, ◌<◌, List, [], length, map, get_or, ap, sym, arith, ℕ, take_all}
 use Rattle.std.specs.Global.{Vec}
 use Rattle.std.proofs.lemmas.List.{get_or-map, length-map}
-use Rattle.values.specs.Datum.{data_of}
-use Rattle.query_tree.specs.Syntax.{ItemForm, TreeForm, expression_form, item_form}
+use Rattle.query_tree.specs.Syntax.{ItemForm, TreeForm, item_form}
 use Rattle.query_tree.specs.declared.tree.Item.{Item}
 use Rattle.query_check.specs.Resolution.{contents}
 use Rattle.query_check.specs.Sets.{sets_of}
 use Rattle.query.specs.Planned.{fields_of_plan, form_of_plan}
-use Rattle.groups.specs.Shown.{summary_of}
-use Rattle.groups.specs.Functions.{Summary}
 use Rattle.tables.specs.Found.{row_of}
 use Rattle.tables.specs.Fitting.{set_of}
 use Rattle.report.specs.Shown.{expression_shown}

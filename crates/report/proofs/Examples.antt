@@ -1,0 +1,73 @@
+-- The definitions at some values.
+use Rattle.std.proofs.Common.{◌≡◌, ℕ, pos, negsuc, true, false, List, [], ◌∷◌, codes, refl, None, Some}
+use Rattle.std.specs.Fmt.{digits}
+use Rattle.csv.specs.Writing.{fields_text, is_blank}
+use Rattle.values.specs.Datum.{Datum, whole, text, null}
+use Rattle.values.specs.Schema.{Field}
+use Rattle.values.specs.declared.schema.Kind.TheVariants as kind
+use Rattle.lines.specs.declared.fault.LineFault.TheVariants.{NoJson, BadValue}
+use Rattle.query_tree.specs.declared.expression.Aggregate.TheVariants as aggregate
+use Rattle.query_tree.specs.Syntax.{TreeForm, name, grouping, function, over_all, rollup}
+use Rattle.groups.specs.Functions.{Summary, plain, ratio}
+use Rattle.tables.specs.Found.{Found}
+use Rattle.report.specs.Report.{refusals_of, report_of, rows_shown}
+use Rattle.report.specs.Shown.{number_of_digits}
+use Rattle.report.specs.Text.{cell_field, marked, report_bytes}
+
+six-is-110 : number_of_digits (false ∷ true ∷ true ∷ []) ≡ 6
+six-is-110 = refl
+
+-- the text \N is not NULL
+a-backslash-is-marked : marked (codes "\\N") ≡ codes "\\\\N"
+a-backslash-is-marked = refl
+
+an-average : cell_field (ratio (negsuc 6) 2) ≡ codes "-7/2"
+unfolding digits
+an-average = refl
+
+-- ---- a report
+
+-- the columns d and r
+abbrev fields : List Field
+fields = record { name = codes "d"; kind = kind.Text } ∷ record { name = codes "r"; kind = kind.Text } ∷ []
+
+-- SELECT d AS day, GROUPING(d, r) AS g, COUNT(*) AS n FROM lines GROUP BY ROLLUP (d, r)
+abbrev query : TreeForm
+query = record {
+  items = record { expression = name (codes "d"); alias = Some (codes "day") }
+      ∷ record { expression = grouping (codes "d" ∷ codes "r" ∷ []); alias = Some (codes "g") }
+      ∷ record { expression = function (over_all aggregate.CountRows); alias = Some (codes "n") } ∷ [];
+  filter = None;
+  groups = rollup ((codes "d" ∷ []) ∷ (codes "r" ∷ []) ∷ []) ∷ [];
+  having = None;
+  keys = [];
+}
+
+abbrev group : ℕ → List Datum → ℕ → Found
+group index key count = (index, record { key = key; lines = count; cells = plain (whole (pos count)) ∷ [] })
+
+-- the groups in no order
+abbrev found : List Found
+found = group 2 [] 3 ∷ group 0 (text (codes "x") ∷ null ∷ []) 1 ∷ group 1 (text (codes "y") ∷ []) 1 ∷ group 0 (text (codes "x") ∷ text (codes "n") ∷ []) 1 ∷ group 1 (text (codes "x") ∷ []) 2 ∷ []
+
+abbrev shown : Datum → ℕ → ℕ → List Summary
+shown d g n = plain d ∷ plain (whole (pos g)) ∷ plain (whole (pos n)) ∷ []
+
+rows-of-a-rollup : rows_shown fields query found
+    ≡ shown (text (codes "x")) 0 1 ∷ shown (text (codes "x")) 0 1 ∷ shown (text (codes "x")) 1 2 ∷ shown (text (codes "y")) 1 1 ∷ shown null 3 3 ∷ []
+rows-of-a-rollup = refl
+
+report-of-a-rollup : report_of fields query found ≡ codes "day,g,n\nx,0,1\nx,0,1\nx,1,2\ny,1,1\n\\N,3,3\n"
+unfolding digits fields_text is_blank
+report-of-a-rollup = refl
+
+-- a row of one empty field, and a header that is not marked
+a-lone-field : report_bytes (record { expression = name (codes "r"); alias = Some (codes "\\") } ∷ []) ((plain (text []) ∷ []) ∷ []) ≡ codes "\\\n\"\"\n"
+unfolding fields_text is_blank
+a-lone-field = refl
+
+-- ---- refused lines
+
+some-refused : refusals_of fields ((2, NoJson) ∷ (13, BadValue 1) ∷ []) ≡ codes "line 2: not JSON\nline 13: bad value in column r\n"
+unfolding digits
+some-refused = refl
