@@ -20,21 +20,20 @@ use std::alloc::Global;
 const WORKERS: usize = 4;
 
 /// What stands at the top of the help.
-const ABOUT: &str =
-    "Checks one SQL aggregate query, and counts the lines of a file and those refused";
+const ABOUT: &str = "Answers one SQL aggregate query over a file of JSON lines";
 
 /// What help says of the columns.
 const COLUMNS_HELP: &str = "The columns that the query can name, as NAME:TYPE,NAME:TYPE,..";
 
 /// What help says of the query.
-const QUERY_HELP: &str = "The query";
+const QUERY_HELP: &str = "The query to answer";
 
 /// What help says of the size of a piece.
 const PIECE_HELP: &str = "How many bytes are worked on at once, 1 to 67108864";
 
 /// What help says of the limit of refused lines.
 const MAX_REFUSED_HELP: &str =
-    "How many lines may be refused, 0 to 18446744073709551615; any number where it is not given";
+    "How many lines may be refused, 0 to 18446744073709551615 [default: no limit]";
 
 /// What help says of the file.
 const FILE_HELP: &str = "The file to read, with one JSON object on each line";
@@ -51,15 +50,29 @@ const DETAILS: &str = "Columns:
   text  strings
   bool  true and false
 
+Query:
+  SELECT ITEM, .. FROM lines [GROUP BY NAME, ..]
+
+  An ITEM is a NAME of GROUP BY, COUNT(*) or SUM(NAME), with AS NAME behind it where its header
+  is to be another one. In double quotes a NAME may be any text.
+
+Output:
+  The report goes to standard output, as CSV: a row of headers, then a row for each group in the
+  order of the columns of GROUP BY, NULL last. NULL is \\N; a text that begins with \\ has one more in front.
+  The refused lines go to standard error, each as its number and why: it is over 1048576 bytes,
+  not JSON, not an object, or has a member that does not fit its column.
+
 Exit status:
-  0  each line fits the columns
-  1  some lines do not: over 1048576 bytes, not JSON, not an object, a member of another type
+  0  there is a report, and no line is refused
+  1  there is a report, and some lines are refused
   2  the words, the columns or the query are refused
   3  the file cannot be opened or read, or the output cannot be written
   4  memory ran out
+  5  more lines are refused than may be, and there is no report
 
 Example:
-  jlreport --columns shop:text,cents:int --query \"SELECT shop, SUM(cents) FROM lines GROUP BY shop\" events.jsonl";
+  jlreport --columns shop:text,cents:int \\
+    --query 'SELECT shop, SUM(cents) AS total FROM lines GROUP BY shop' events.jsonl";
 
 /// The command without its arguments, with the texts that help shows around them.
 fn described_command<'a>(alloc: Global) -> Command<'a>

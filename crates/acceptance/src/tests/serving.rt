@@ -1,5 +1,7 @@
 // What the program says and its status.
-use super::running::{BY_D, BY_D_REPORT, COLUMNS, COUNT, COUNT_NONE, FOUR_BAD, FOUR_REFUSED, THREE};
+use super::running::{
+    BY_D, BY_D_REPORT, COLUMNS, COUNT, COUNT_NONE, FOUR_BAD, FOUR_REFUSED, THREE,
+};
 use super::streams::{Sink, Source};
 use command_line::{WordsFault, settings};
 use engine::serve;
@@ -266,7 +268,7 @@ fn help_asked_for(rt: HostRuntime) {
         serve(rt.alloc(), asked, &mut opener, &mut out, &mut err),
         0
     );
-    assert!(rt; out.starts_with(b"Checks one SQL aggregate query"));
+    assert!(rt; out.starts_with(b"Answers one SQL aggregate query"));
     assert!(rt; err.is_empty());
 }
 
@@ -285,7 +287,12 @@ fn file_not_read(rt: HostRuntime) {
 #[test]
 fn report_not_written(rt: HostRuntime) {
     let words = [
-        "jlreport", "--columns", COLUMNS, "--query", BY_D, "events.jsonl",
+        "jlreport",
+        "--columns",
+        COLUMNS,
+        "--query",
+        BY_D,
+        "events.jsonl",
     ];
     let mut out = Sink {
         room: 3,

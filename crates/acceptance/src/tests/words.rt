@@ -114,7 +114,7 @@ fn options(rt: HostRuntime) {
     }
 }
 
-const HELP: &str = "Checks one SQL aggregate query, and counts the lines of a file and those refused
+const HELP: &str = "Answers one SQL aggregate query over a file of JSON lines
 
 Usage: jlreport [OPTIONS] --columns <SPEC> --query <TEXT> <FILE>
 
@@ -123,9 +123,9 @@ Arguments:
 
 Options:
       --columns <SPEC>   The columns that the query can name, as NAME:TYPE,NAME:TYPE,..
-      --query <TEXT>     The query
+      --query <TEXT>     The query to answer
       --piece <BYTES>    How many bytes are worked on at once, 1 to 67108864 [default: 1048576]
-      --max-refused <N>  How many lines may be refused, 0 to 18446744073709551615; any number where it is not given
+      --max-refused <N>  How many lines may be refused, 0 to 18446744073709551615 [default: no limit]
   -h, --help             Print help
 
 Columns:
