@@ -1,4 +1,6 @@
 mod counting;
+mod partials;
+mod reference;
 mod serving;
 mod streams;
 mod words;
