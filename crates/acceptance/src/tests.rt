@@ -1,5 +1,7 @@
+mod partials;
 mod plans;
 mod queries;
+mod reference;
 mod running;
 mod serving;
 mod streams;

@@ -1,0 +1,708 @@
+// Partial results over pieces of an input, merged in several orders.
+ghost use Rattle.std.specs.Prelude.{◌≤◌, ◌<◌, length};
+
+use super::counting::{FOUR_BAD, THREE};
+use super::reference::{Findings, Row, cell_of, findings_of};
+use lines::{LineFault, cut};
+use query::{ColumnFunction, Plan, QueryFault, check, parse};
+use std::alloc::{AllocError, Global};
+use std::collections::VecDeque;
+use std::process::Abort;
+use std::test::Fail;
+use tables::{Cell, Group, Groups, Partial};
+use values::{Record, Schema, SchemaFault, Value};
+
+const COLUMNS: &str = "d:text,r:text,q:int";
+
+const BY_D: &str = "SELECT d, COUNT(*) AS n, SUM(q) AS s FROM lines GROUP BY d";
+
+const UNGROUPED: &str = "SELECT COUNT(*) AS n, SUM(q) AS s FROM lines";
+
+const BY_D_AND_R: &str = "SELECT d, r, COUNT(*), SUM(q) FROM lines GROUP BY d, r";
+
+const BY_R: &str = "SELECT r FROM lines GROUP BY r";
+
+/// How partial results are merged.
+#[derive(Clone, Copy, Debug)]
+enum Order {
+    /// The first with the second, then with the third, and so on.
+    FromTheLeft,
+    /// The last with the one before, then with the one before that, and so on.
+    FromTheRight,
+    /// Each with its neighbour, then these results with each other, and so on.
+    AsATree,
+}
+
+/// The plan of a query's text.
+fn planned(alloc: Global, text: &str) -> Result<Plan, Fail> {
+    let schema = Schema::parse(alloc, COLUMNS)?;
+    let query = parse(alloc, text)?;
+    Ok(check(alloc, query, schema)?)
+}
+
+/// The result over each piece of an input, in their order.
+fn partials_of(
+    alloc: Global,
+    plan: &Plan,
+    input: &[u8],
+    target: usize,
+) -> Result<VecDeque<Partial>, Fail>
+    requires { 1 ≤ target }
+{
+    let mut partials = VecDeque::new(alloc);
+    for (place, piece) in cut(alloc, input, target)?.into_iter().enumerate() {
+        let index = u32::try_from(place)?;
+        let bytes = input.get(piece.start..piece.stop).ok_or("no such piece")?;
+        partials.push_back(Partial::fold_piece(alloc, plan, index, bytes)?)?;
+    }
+    Ok(partials)
+}
+
+/// The result over the pieces of both, which are of one query.
+fn merge(rt: &impl Abort, left: Partial, right: Partial) -> Result<Partial, AllocError> {
+    assert!(rt; left.same_shape(&right));
+    assert!(rt; left.lines() + right.lines() < 1 << 63);
+    left.merge(right)
+}
+
+/// The result over all pieces.
+fn merge_all(
+    rt: &impl Abort,
+    empty: Partial,
+    partials: VecDeque<Partial>,
+    order: Order,
+) -> Result<Partial, Fail> {
+    match order {
+        Order::FromTheLeft => merge_from_the_left(rt, empty, partials),
+        Order::FromTheRight => merge_from_the_right(rt, empty, partials),
+        Order::AsATree => merge_as_a_tree(rt, empty, partials),
+    }
+}
+
+fn merge_from_the_left(
+    rt: &impl Abort,
+    empty: Partial,
+    partials: VecDeque<Partial>,
+) -> Result<Partial, Fail> {
+    let mut merged = empty;
+    for partial in partials {
+        merged = merge(rt, merged, partial)?;
+    }
+    Ok(merged)
+}
+
+fn merge_from_the_right(
+    rt: &impl Abort,
+    empty: Partial,
+    partials: VecDeque<Partial>,
+) -> Result<Partial, Fail> {
+    let mut merged = empty;
+    for partial in partials.into_iter().rev() {
+        merged = merge(rt, merged, partial)?;
+    }
+    Ok(merged)
+}
+
+fn merge_as_a_tree(
+    rt: &impl Abort,
+    empty: Partial,
+    mut partials: VecDeque<Partial>,
+) -> Result<Partial, Fail> {
+    for _ in 1..partials.len() {
+        let left = partials.pop_front().ok_or("no left neighbour")?;
+        let right = partials.pop_front().ok_or("no right neighbour")?;
+        partials.push_back(merge(rt, left, right)?)?;
+    }
+    match partials.pop_front() {
+        Some(merged) => Ok(merge(rt, merged, empty)?),
+        None => Ok(empty),
+    }
+}
+
+/// The result over an input that is cut into pieces.
+fn over_pieces(
+    rt: &impl Abort,
+    alloc: Global,
+    plan: &Plan,
+    input: &[u8],
+    target: usize,
+    order: Order,
+) -> Result<Partial, Fail>
+    requires { 1 ≤ target }
+{
+    let empty = Partial::empty(alloc, plan)?;
+    let partials = partials_of(alloc, plan, input, target)?;
+    merge_all(rt, empty, partials, order)
+}
+
+/// The rows by the index of their set, those of one set by their keys.
+fn sorted_rows(alloc: Global, groups: &Groups) -> Result<Vec<&(usize, Group)>, Fail> {
+    let mut rows: Vec<&(usize, Group)> = groups.rows().iter().collect(alloc)?;
+    rows.sort_unstable_by(|a, b| a.0.cmp(&b.0).then_with(|| a.1.key.cmp(&b.1.key)));
+    Ok(rows)
+}
+
+fn assert_row(rt: &impl Abort, found: &(usize, Group), wanted: &Row) {
+    let (set, group) = found;
+    assert_eq!(rt; *set, wanted.set);
+    assert_eq!(rt; group.key.as_slice(), wanted.key.as_slice());
+    assert_eq!(rt; group.lines, wanted.lines, "{:?}", group.key);
+    assert_eq!(rt;
+        group.cells.as_slice(),
+        wanted.cells.as_slice(),
+        "{:?}",
+        group.key
+    );
+}
+
+fn assert_groups(
+    rt: &impl Abort,
+    alloc: Global,
+    groups: &Groups,
+    wanted: &Findings,
+) -> Result<(), Fail> {
+    let rows = sorted_rows(alloc, groups)?;
+    assert_eq!(rt; rows.len(), wanted.rows.len());
+    for (row, wanted) in rows.into_iter().zip(wanted.rows.iter()) {
+        assert_row(rt, row, wanted);
+    }
+    assert_eq!(rt; groups.refused(), wanted.refused.as_slice());
+    Ok(())
+}
+
+/// Cuts an input, merges the results over its pieces, and compares what comes of it.
+fn assert_found(
+    rt: &impl Abort,
+    alloc: Global,
+    plan: &Plan,
+    input: &[u8],
+    target: usize,
+    wanted: &Findings,
+) -> Result<(), Fail>
+    requires { 1 ≤ target }
+{
+    for order in [Order::FromTheLeft, Order::FromTheRight, Order::AsATree] {
+        let partial = over_pieces(rt, alloc, plan, input, target, order)?;
+        assert_eq!(rt; partial.lines(), wanted.lines, "{order:?} at {target}");
+        assert_eq!(rt;
+            partial.refused(),
+            wanted.refused.len() as u64,
+            "{order:?} at {target}"
+        );
+        assert_groups(rt, alloc, &partial.finish(plan)?, wanted)?;
+    }
+    Ok(())
+}
+
+/// The same with small pieces, greater ones, and the whole input as one piece.
+fn assert_found_at_all_sizes(
+    rt: &impl Abort,
+    alloc: Global,
+    plan: &Plan,
+    input: &[u8],
+    wanted: &Findings,
+) -> Result<(), Fail> {
+    assert_found(rt, alloc, plan, input, 1, wanted)?;
+    assert_found(rt, alloc, plan, input, 7, wanted)?;
+    assert_found(rt, alloc, plan, input, 1_000_000, wanted)
+}
+
+/// A value of a text, and NULL of none.
+fn text_value(alloc: Global, text: Option<&str>) -> Result<Value, Fail> {
+    match text {
+        Some(text) => Ok(Value::Text(text.to_string(alloc)?)),
+        None => Ok(Value::Null),
+    }
+}
+
+/// A cell of a whole number, and of NULL where there is none.
+fn number_cell(number: Option<i128>) -> Cell {
+    match number {
+        Some(number) => Cell::Plain(Value::Int(number)),
+        None => Cell::Plain(Value::Null),
+    }
+}
+
+/// A row of the first set: texts and whole numbers, and `None` for NULL.
+fn row(
+    alloc: Global,
+    texts: &[Option<&str>],
+    lines: u64,
+    numbers: &[Option<i128>],
+) -> Result<Row, Fail> {
+    let mut key = Vec::new(alloc);
+    for text in texts {
+        key.push(text_value(alloc, *text)?)?;
+    }
+    let mut cells = Vec::new(alloc);
+    for number in numbers {
+        cells.push(number_cell(*number))?;
+    }
+    Ok(Row {
+        set: 0,
+        key,
+        lines,
+        cells,
+    })
+}
+
+#[test]
+fn groups_of_three_lines_by_d(rt: HostRuntime) -> Result<(), Fail> {
+    let alloc = rt.alloc();
+    let plan = planned(alloc, BY_D)?;
+    let x = row(alloc, &[Some("x")], 2, &[Some(2), Some(7)])?;
+    let y = row(alloc, &[Some("y")], 1, &[Some(1), None])?;
+    let wanted = Findings {
+        lines: 3,
+        rows: vec![in alloc; x, y]?,
+        refused: Vec::new(alloc),
+    };
+    assert_found_at_all_sizes(&rt, alloc, &plan, THREE, &wanted)
+}
+
+#[test]
+fn groups_of_three_lines_by_r(rt: HostRuntime) -> Result<(), Fail> {
+    let alloc = rt.alloc();
+    let plan = planned(alloc, BY_R)?;
+    let n = row(alloc, &[Some("n")], 2, &[])?;
+    let null = row(alloc, &[None], 1, &[])?;
+    let wanted = Findings {
+        lines: 3,
+        rows: vec![in alloc; n, null]?,
+        refused: Vec::new(alloc),
+    };
+    assert_found_at_all_sizes(&rt, alloc, &plan, THREE, &wanted)
+}
+
+#[test]
+fn one_group_of_no_line_without_grouping(rt: HostRuntime) -> Result<(), Fail> {
+    let alloc = rt.alloc();
+    let plan = planned(alloc, UNGROUPED)?;
+    let none = row(alloc, &[], 0, &[Some(0), None])?;
+    let wanted = Findings {
+        lines: 0,
+        rows: vec![in alloc; none]?,
+        refused: Vec::new(alloc),
+    };
+    assert_found_at_all_sizes(&rt, alloc, &plan, b"", &wanted)
+}
+
+#[test]
+fn no_group_of_no_line_by_d(rt: HostRuntime) -> Result<(), Fail> {
+    let alloc = rt.alloc();
+    let plan = planned(alloc, BY_D)?;
+    let wanted = Findings {
+        lines: 0,
+        rows: Vec::new(alloc),
+        refused: Vec::new(alloc),
+    };
+    assert_found_at_all_sizes(&rt, alloc, &plan, b"", &wanted)
+}
+
+/// Three times 2^63-1.
+#[test]
+fn sum_above_64_bits(rt: HostRuntime) -> Result<(), Fail> {
+    let alloc = rt.alloc();
+    let plan = planned(alloc, UNGROUPED)?;
+    let sum = 27_670_116_110_564_327_421;
+    let wanted = Findings {
+        lines: 3,
+        rows: vec![in alloc; row(alloc, &[], 3, &[Some(3), Some(sum)])?]?,
+        refused: Vec::new(alloc),
+    };
+    let input =
+        b"{\"q\":9223372036854775807}\n{\"q\":9223372036854775807}\n{\"q\":9223372036854775807}\n";
+    assert_found_at_all_sizes(&rt, alloc, &plan, input, &wanted)
+}
+
+#[test]
+fn refused_lines_by_number(rt: HostRuntime) -> Result<(), Fail> {
+    let alloc = rt.alloc();
+    let plan = planned(alloc, UNGROUPED)?;
+    let refused = [
+        (1, LineFault::NoJson),
+        (2, LineFault::NoObject),
+        (3, LineFault::BadValue(2)),
+        (4, LineFault::BadValue(2)),
+    ];
+    let wanted = Findings {
+        lines: 4,
+        rows: vec![in alloc; row(alloc, &[], 0, &[Some(0), None])?]?,
+        refused: refused.to_vec(alloc)?,
+    };
+    assert_found_at_all_sizes(&rt, alloc, &plan, FOUR_BAD, &wanted)
+}
+
+/// The result of a query over no pieces.
+fn empty_of(alloc: Global, text: &str) -> Result<Partial, Fail> {
+    let plan = planned(alloc, text)?;
+    Ok(Partial::empty(alloc, &plan)?)
+}
+
+#[test]
+fn shapes(rt: HostRuntime) -> Result<(), Fail> {
+    let alloc = rt.alloc();
+    let by_d = "SELECT COUNT(*) FROM lines GROUP BY d";
+    let cases = [
+        (BY_D, BY_D, true),
+        (UNGROUPED, UNGROUPED, true),
+        (BY_D_AND_R, BY_D_AND_R, true),
+        (BY_R, BY_R, true),
+        (by_d, "SELECT d, COUNT(*) AS n FROM lines GROUP BY d", true),
+        (by_d, "SELECT COUNT(*) FROM lines GROUP BY r", false),
+        (by_d, "SELECT COUNT(*) FROM lines GROUP BY d, r", false),
+        (by_d, "SELECT COUNT(*) FROM lines", false),
+        (by_d, "SELECT SUM(q) FROM lines GROUP BY d", false),
+        (by_d, BY_D, false),
+        (BY_D, "SELECT SUM(q), COUNT(*) FROM lines GROUP BY d", false),
+    ];
+    for (text, other, same) in cases {
+        let one = empty_of(alloc, text)?;
+        let another = empty_of(alloc, other)?;
+        assert_eq!(rt; one.same_shape(&another), same, "{text} / {other}");
+        assert_eq!(rt; another.same_shape(&one), same, "{other} / {text}");
+    }
+    Ok(())
+}
+
+/// Numbers that look like chance, the same for the same seed: a linear congruential generator.
+#[derive(Debug, Drop)]
+struct Numbers {
+    state: u64,
+}
+
+impl Numbers {
+    ghost use Rattle.std.specs.Prelude.{◌<◌, length};
+
+    /// The next number, below a bound.
+    fn below(&mut self, bound: u64) -> u64
+        requires { 0 < bound }
+        ensures { result < bound }
+    {
+        self.state = self
+            .state
+            .wrapping_mul(6_364_136_223_846_793_005)
+            .wrapping_add(1_442_695_040_888_963_407);
+        (self.state >> 33) % bound
+    }
+
+    /// One of some texts.
+    fn one_of<'a>(&mut self, texts: &[&'a str]) -> &'a str
+        requires { 0 < length texts.now }
+    {
+        let place = self.below(texts.len() as u64);
+        texts[place as usize]
+    }
+}
+
+/// Lines that are refused.
+const BAD_LINES: [&str; 8] = [
+    "",
+    "{\"d\":",
+    "x",
+    "[1]",
+    "7",
+    "{\"q\":true}",
+    "{\"d\":7,\"q\":1.5}",
+    "{\"q\":9223372036854775808}",
+];
+
+/// Members of the column `d`, the first of them missing.
+const D_MEMBERS: [&str; 4] = ["", "\"d\":null,", "\"d\":\"x\",", "\"d\":\"y\","];
+
+/// Members of the column `r`.
+const R_MEMBERS: [&str; 4] = ["", "\"r\":null,", "\"r\":\"n\",", "\"r\":\"\","];
+
+/// Members of the column `q`.
+const Q_MEMBERS: [&str; 7] = [
+    "",
+    "\"q\":null,",
+    "\"q\":0,",
+    "\"q\":5,",
+    "\"q\":-2,",
+    "\"q\":9223372036854775807,",
+    "\"q\":-9223372036854775808,",
+];
+
+/// Puts a made-up line behind a text; about one in five is refused.
+fn push_line(numbers: &mut Numbers, text: &mut String) -> Result<(), Fail> {
+    if numbers.below(5) == 0 {
+        text.push_str(numbers.one_of(&BAD_LINES))?;
+    } else {
+        text.push_str("{")?;
+        text.push_str(numbers.one_of(&D_MEMBERS))?;
+        text.push_str(numbers.one_of(&R_MEMBERS))?;
+        text.push_str(numbers.one_of(&Q_MEMBERS))?;
+        text.push_str("\"z\":0}")?;
+    }
+    Ok(())
+}
+
+/// A made-up input of up to 30 lines, the last with or without its line feed.
+fn made_up_input(alloc: Global, seed: u64) -> Result<String, Fail> {
+    let mut numbers = Numbers { state: seed };
+    let mut text = String::new(alloc);
+    for _ in 0..numbers.below(31) {
+        push_line(&mut numbers, &mut text)?;
+        text.push('\n')?;
+    }
+    if numbers.below(2) == 0 {
+        text.pop();
+    }
+    Ok(text)
+}
+
+/// The number of made-up inputs.
+const INPUTS: u64 = 100;
+
+/// Holds the result of a query over the made-up inputs to the plain program.
+fn assert_like_reference(rt: &impl Abort, alloc: Global, text: &str) -> Result<(), Fail> {
+    let plan = planned(alloc, text)?;
+    for seed in 0..INPUTS {
+        let input = made_up_input(alloc, seed)?;
+        let wanted = findings_of(alloc, &plan, input.as_bytes())?;
+        assert_found_at_all_sizes(rt, alloc, &plan, input.as_bytes(), &wanted)?;
+    }
+    Ok(())
+}
+
+/// The made-up inputs have what makes a comparison worth it: the most groups, with NULL in some of
+/// their keys, many refused lines, no line at all, and a last line with and without its line feed.
+#[test]
+fn made_up_inputs_are_of_all_kinds(rt: HostRuntime) -> Result<(), Fail> {
+    let alloc = rt.alloc();
+    let plan = planned(alloc, BY_D_AND_R)?;
+    let mut most_groups = 0;
+    let mut most_refused = 0;
+    let mut fewest_lines = u64::MAX;
+    let mut ended = false;
+    let mut unended = false;
+    for seed in 0..INPUTS {
+        let input = made_up_input(alloc, seed)?;
+        let found = findings_of(alloc, &plan, input.as_bytes())?;
+        most_groups = found.rows.len().max(most_groups);
+        most_refused = found.refused.len().max(most_refused);
+        fewest_lines = found.lines.min(fewest_lines);
+        ended |= input.ends_with("}\n");
+        unended |= input.ends_with('}');
+    }
+    assert_eq!(rt;
+        most_groups,
+        9,
+        "each of x, y and NULL with each of n, the empty text and NULL"
+    );
+    assert!(rt; most_refused > 5);
+    assert_eq!(rt; fewest_lines, 0);
+    assert!(rt; ended && unended);
+    Ok(())
+}
+
+#[test]
+fn like_reference_by_d(rt: HostRuntime) -> Result<(), Fail> {
+    assert_like_reference(&rt, rt.alloc(), BY_D)
+}
+
+#[test]
+fn like_reference_without_grouping(rt: HostRuntime) -> Result<(), Fail> {
+    assert_like_reference(&rt, rt.alloc(), UNGROUPED)
+}
+
+#[test]
+fn like_reference_by_d_and_r(rt: HostRuntime) -> Result<(), Fail> {
+    assert_like_reference(&rt, rt.alloc(), BY_D_AND_R)
+}
+
+#[test]
+fn like_reference_by_r(rt: HostRuntime) -> Result<(), Fail> {
+    assert_like_reference(&rt, rt.alloc(), BY_R)
+}
+
+/// Three good lines and a refused one.
+const FOUR: &[u8] =
+    b"{\"d\":\"x\",\"q\":5}\n{\"d\":\"x\",\"q\":2}\n[1]\n{\"d\":\"y\",\"r\":\"n\"}\n";
+
+/// The first piece of the four lines has so many bytes, which are the first line's.
+const FIRST_LEN: usize = 16;
+
+/// Takes no memory.
+fn assert_four_counted(rt: &impl Abort, partial: &Partial) {
+    assert_eq!(rt; partial.lines(), 4);
+    assert_eq!(rt; partial.refused(), 1);
+}
+
+/// Whether this is a group of the four lines by `d`. It takes no memory.
+fn is_group_of_four(group: &Group) -> bool {
+    let (lines, sum) = match group.key.first() {
+        Some(Value::Text(text)) if text.as_str() == "x" => (2, Value::Int(7)),
+        Some(Value::Text(text)) if text.as_str() == "y" => (1, Value::Null),
+        _ => return false,
+    };
+    let cells = [Cell::Plain(Value::Int(i128::from(lines))), Cell::Plain(sum)];
+    group.key.len() == 1 && group.lines == lines && group.cells.as_slice() == cells.as_slice()
+}
+
+/// Takes no memory.
+fn assert_four_found(rt: &impl Abort, groups: &Groups) {
+    assert_eq!(rt; groups.rows().len(), 2);
+    for (set, group) in groups.rows() {
+        assert_eq!(rt; *set, 0);
+        assert!(rt; is_group_of_four(group), "{group:?}");
+    }
+    if let [(_, first), (_, second)] = groups.rows() {
+        assert!(rt; first.key.first() != second.key.first());
+    }
+    assert_eq!(rt; groups.refused(), [(3, LineFault::NoObject)].as_slice());
+}
+
+/// The plan of a query's text, and `None` for want of memory.
+fn planned_or_refused(rt: &impl Abort, alloc: Global, text: &str) -> Option<Plan> {
+    let schema = match Schema::parse(alloc, COLUMNS) {
+        Ok(schema) => schema,
+        Err(fault) => {
+            assert_eq!(rt; fault, SchemaFault::OutOfMemory);
+            return None;
+        }
+    };
+    let query = match parse(alloc, text) {
+        Ok(query) => query,
+        Err(QueryFault::OutOfMemory) => return None,
+        Err(fault) => panic!(rt; "{fault}"),
+    };
+    match check(alloc, query, schema) {
+        Ok(plan) => Some(plan),
+        Err(QueryFault::OutOfMemory) => None,
+        Err(fault) => panic!(rt; "{fault}"),
+    }
+}
+
+/// For the loop that refuses each allocation in turn: the result over a piece, or want of memory.
+#[test]
+fn refusal_of_fold_piece(rt: HostRuntime) {
+    let Some(plan) = planned_or_refused(&rt, rt.alloc(), BY_D) else {
+        return;
+    };
+    let Ok(partial) = Partial::fold_piece(rt.alloc(), &plan, 0, FOUR) else {
+        return;
+    };
+    assert_four_counted(&rt, &partial);
+    let Ok(groups) = partial.finish(&plan) else {
+        return;
+    };
+    assert_four_found(&rt, &groups);
+}
+
+/// The results over the two pieces of the four lines.
+fn two_partials(alloc: Global, plan: &Plan) -> Result<(Partial, Partial), AllocError> {
+    let first = Partial::fold_piece(alloc, plan, 0, &FOUR[..FIRST_LEN])?;
+    let second = Partial::fold_piece(alloc, plan, 1, &FOUR[FIRST_LEN..])?;
+    Ok((first, second))
+}
+
+/// The same of two results: the result over both, or want of memory.
+#[test]
+fn refusal_of_merge(rt: HostRuntime) {
+    let Some(plan) = planned_or_refused(&rt, rt.alloc(), BY_D) else {
+        return;
+    };
+    let Ok((first, second)) = two_partials(rt.alloc(), &plan) else {
+        return;
+    };
+    let Ok(merged) = merge(&rt, second, first) else {
+        return;
+    };
+    assert_four_counted(&rt, &merged);
+    let Ok(groups) = merged.finish(&plan) else {
+        return;
+    };
+    assert_four_found(&rt, &groups);
+}
+
+/// The same of the groups of no line: the one group, or want of memory.
+#[test]
+fn refusal_of_finish(rt: HostRuntime) {
+    let Some(plan) = planned_or_refused(&rt, rt.alloc(), UNGROUPED) else {
+        return;
+    };
+    let Ok(partial) = Partial::empty(rt.alloc(), &plan) else {
+        return;
+    };
+    let Ok(groups) = partial.finish(&plan) else {
+        return;
+    };
+    assert!(rt; groups.refused().is_empty());
+    let cells = [Cell::Plain(Value::Int(0)), Cell::Plain(Value::Null)];
+    assert_eq!(rt; groups.rows().len(), 1);
+    for (set, group) in groups.rows() {
+        assert_eq!(rt; (*set, group.key.len(), group.lines), (0, 0, 0));
+        assert_eq!(rt; group.cells.as_slice(), cells.as_slice());
+    }
+}
+
+/// Records of one column of whole numbers.
+fn records_of(alloc: Global, numbers: &[Option<i128>]) -> Result<Vec<Record>, Fail> {
+    let mut records = Vec::new(alloc);
+    for number in numbers {
+        let value = match number {
+            Some(number) => Value::Int(*number),
+            None => Value::Null,
+        };
+        records.push(Record::new(vec![in alloc; value]?))?;
+    }
+    Ok(records)
+}
+
+/// The plain program itself, held to values written by hand.
+#[test]
+fn reference_by_hand(rt: HostRuntime) -> Result<(), Fail> {
+    let alloc = rt.alloc();
+    let cases = [
+        (
+            ColumnFunction::CountRows,
+            number_cell(Some(4)),
+            number_cell(Some(1)),
+        ),
+        (
+            ColumnFunction::Count(0),
+            number_cell(Some(3)),
+            number_cell(Some(0)),
+        ),
+        (
+            ColumnFunction::CountDistinct(0),
+            number_cell(Some(2)),
+            number_cell(Some(0)),
+        ),
+        (
+            ColumnFunction::Sum(0),
+            number_cell(Some(8)),
+            number_cell(None),
+        ),
+        (
+            ColumnFunction::Min(0),
+            number_cell(Some(-2)),
+            number_cell(None),
+        ),
+        (
+            ColumnFunction::Max(0),
+            number_cell(Some(5)),
+            number_cell(None),
+        ),
+        (ColumnFunction::Avg(0), Cell::Ratio(8, 3), number_cell(None)),
+    ];
+    let some = records_of(alloc, &[Some(5), None, Some(-2), Some(5)])?;
+    let null = records_of(alloc, &[None])?;
+    let some: Vec<&Record> = some.iter().collect(alloc)?;
+    let null: Vec<&Record> = null.iter().collect(alloc)?;
+    for (function, of_some, of_null) in cases {
+        assert_eq!(rt;
+            cell_of(alloc, function, some.as_slice())?,
+            of_some,
+            "{function:?}"
+        );
+        assert_eq!(rt;
+            cell_of(alloc, function, null.as_slice())?,
+            of_null,
+            "{function:?}"
+        );
+    }
+    Ok(())
+}
