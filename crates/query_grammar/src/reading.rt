@@ -54,6 +54,7 @@ fn whole(alloc: Global, tokens: &[Token]) -> Result<Tree, GrammarFault>
 {
     let (tree, rest) = query(alloc, tokens)?;
     if !rest.is_empty() {
+        drop(tree);
         return Err(unexpected(rest));
     }
     Ok(tree)
