@@ -19,6 +19,9 @@ use tables::Groups;
 /// grouping columns in the order in which GROUP BY first names them, ascending and with NULL last. A grouping column
 /// that is not in the set of the row is NULL.
 ///
+/// The groups fit the plan: the index of each is that of a grouping set, its key has a value for each column of the
+/// set, it has a cell for each set function, and no index and key stand twice together.
+///
 /// # Errors
 ///
 /// `AllocError` where there is no memory for the rows.

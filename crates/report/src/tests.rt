@@ -1,7 +1,7 @@
 ghost use Rattle.std.specs.Prelude.{◌≡◌, All, IsTrue, length};
 ghost use Rattle.query.specs.Planned.{form_of_plan};
 
-use crate::{Row, arranged_law, order_law, refused_text, report_text};
+use crate::{Row, arrange, arranged_law, order_law, refused_text, report_text};
 use groups::Cell;
 use lines::LineFault;
 use query::{Plan, check, parse};
@@ -72,6 +72,21 @@ fn writes_a_lone_empty_field(rt: HostRuntime) -> Result<(), Fail> {
     assert!(rt; are_as_wide(&rows, &plan));
     let report = report_text(alloc, &rows, &plan)?;
     assert_eq!(rt; report.as_slice(), "r\n\"\"\n".as_bytes());
+    Ok(())
+}
+
+#[test]
+fn arranges_no_groups(rt: HostRuntime) -> Result<(), Fail> {
+    let alloc = rt.alloc();
+    let plan = plan_of(
+        alloc,
+        "r:text",
+        "SELECT r, COUNT(*) AS n FROM lines GROUP BY r",
+    )?;
+    let groups = Groups::new(Vec::new(alloc), Vec::new(alloc));
+    let rows = arrange(alloc, &groups, &plan)?;
+    let report = report_text(alloc, &rows, &plan)?;
+    assert_eq!(rt; report.as_slice(), "r,n\n".as_bytes());
     Ok(())
 }
 
