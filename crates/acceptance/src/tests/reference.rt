@@ -1,9 +1,9 @@
 // What a query finds in an input, by the definitions' plain program: slow, over lists, without tables.
+use groups::Cell;
 use lines::{LineFault, LineRefusal, lines_of, read_record};
 use query::{ColumnFunction, Plan};
 use std::alloc::{AllocError, Global};
 use std::test::Fail;
-use tables::Cell;
 use values::{Record, Schema, Value};
 
 /// A group of a grouping set.
