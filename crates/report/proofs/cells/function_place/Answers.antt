@@ -1,6 +1,4 @@
 use Rattle.std.proofs.Common.{rules, tests, ◌≡◌, ◌∙◌, ap, position}
-use Rattle.std.proofs.Math.Logic.{∥∥₁_elim}
-use Rattle.std.specs.Coded.{Coded-set, coded_option, coded_ℕ}
 use Rattle.std.specs.Option.{option_and_then}
 use Rattle.std.proofs.lemmas.Iterator.{YieldsList-from_slice}
 use Rattle.std.proofs.lemmas.Iterator.Search.{position_from_yields_List}
@@ -13,7 +11,7 @@ returns-in-Some c =
     let fields = fields_of_plan c.args.plan.now in
     let all = functions_of fields (form_of_plan c.args.plan.now) in
     let same : position (same_function c.in-Some.function) c.functions.result.now ≡ position (same_function c.in-Some.function) all =
-    ∥∥₁_elim c.functions.ensures.functions (Coded-set (coded_option coded_ℕ) _ _) (λ e. ap (position (same_function c.in-Some.function)) e) in
+    ap (position (same_function c.in-Some.function)) c.functions.ensures.functions in
     position_from_yields_List (same_function c.in-Some.function) _ _ _ c.position.ensures.ran (YieldsList-from_slice c.functions.result.now (search rules)) (λ x b q k. search (rules, tests))
     ∙ same
     ∙ ap (option_and_then (λ f. position (same_function f) all)) (c.in-Some.ensures ∙ ap (λ fs. column_function fs c.args.aggregate.now) (c.columns.ensures.columns ∙ c.schema.ensures.schema))
