@@ -8,7 +8,7 @@ use Rattle.query_tree.specs.Syntax.{ItemForm, TreeForm}
 use Rattle.groups.specs.Functions.{Summary}
 use Rattle.groups.specs.Shown.{summary_of}
 use Rattle.tables.specs.Found.{Found}
-use Rattle.report.specs.Order.{set_of}
+use Rattle.tables.specs.Fitting.{set_of}
 use Rattle.report.specs.Shown.{cells_of, expression_shown, row_shown}
 use Rattle.report.specs.declared.row.Row.{Row}
 
