@@ -1,8 +1,8 @@
 // Partial results over pieces of an input, merged in several orders.
 ghost use Rattle.std.specs.Prelude.{◌≤◌, ◌<◌, length};
 
-use super::counting::{FOUR_BAD, THREE};
 use super::reference::{Findings, Row, cell_of, findings_of};
+use super::running::{FOUR_BAD, THREE};
 use lines::{LineFault, cut};
 use query::{ColumnFunction, Plan, QueryFault, check, parse};
 use std::alloc::{AllocError, Global};
