@@ -1,16 +1,12 @@
-use Rattle.std.proofs.Common.{◌≡◌, arith}
+use Rattle.std.proofs.Common.{◌≡◌, length, arith}
+use Rattle.groups.proofs.Meaning.{table-within, within-can_join}
 use Rattle.groups.proofs.tests.joined_groups.Goals as goal
 
 pub absorb-requires : goal.absorb-requires
 absorb-requires c =
     let a = c.in_ok-table.ensures in
     let b = c.in_ok-other.ensures in
-    record {
-      set = c.args.set.now;
-      functions = c.args.functions.now;
-      rows = a.0;
-      more = b.0;
-      is_table = a.1.0;
-      is_other = b.1.0;
-      few = omega (arith, a.1.1, b.1.1);
-    }
+    let set = c.args.set.now in
+    let fs = c.args.functions.now in
+    within-can_join fs (length a.0) (length b.0) _ _ (omega (arith, a.1.1, b.1.1))
+    (table-within set fs _ a.0 (length a.0) a.1.0 (omega arith)) (table-within set fs _ b.0 (length b.0) b.1.0 (omega arith))
