@@ -19,6 +19,5 @@ pub use query::Query;
 pub use query_check::ColumnFunction;
 pub use query_fault::QueryFault;
 pub use query_tree::{
-    Aggregate, Comparison, Expression, Group, Item, Key, Literal, Operand, Predicate, SetFunction,
-    Text, Tree, TruthValue,
+    Aggregate, Expression, Group, Item, Key, Literal, Operand, Predicate, SetFunction, Text, Tree,
 };

@@ -1,13 +1,13 @@
 use crate::{Resolved, check_tree, set_count};
 use query_fault::QueryFault;
 use query_tree::{
-    Aggregate, Comparison, Expression, Group, Item, Key, Literal, Operand, Predicate, SetFunction,
+    Aggregate, Expression, Group, Item, Key, Literal, Operand, Predicate, SetFunction,
     Text, Tree,
 };
 use std::alloc::Global;
 use std::process::Abort;
 use std::test::Fail;
-use values::Schema;
+use values::{Op, Schema};
 
 fn name(alloc: Global, text: &str) -> Result<Text, Fail> {
     Ok(Text::from_string(text.to_string(alloc)?))
@@ -61,7 +61,7 @@ fn counting(alloc: Global) -> Result<Tree, Fail> {
 fn above(left: Expression, number: i64) -> Predicate {
     Predicate::Compare {
         left: Operand::Expression(left),
-        comparison: Comparison::Greater,
+        op: Op::Gt,
         right: Operand::Literal(Literal::Integer(number)),
     }
 }

@@ -6,10 +6,10 @@ use Rattle.values.specs.Schema.{Field, names_of}
 use Rattle.query_tokens.specs.Words.{name_text, quoted}
 use Rattle.query_tree.specs.declared.expression.Aggregate.{Aggregate}
 use Rattle.query_tree.specs.declared.expression.Aggregate.TheVariants as aggregate
-use Rattle.query_tree.specs.declared.predicate.Comparison.{Comparison}
-use Rattle.query_tree.specs.declared.predicate.Comparison.TheVariants as comparison
-use Rattle.query_tree.specs.declared.predicate.TruthValue.{TruthValue}
-use Rattle.query_tree.specs.declared.predicate.TruthValue.TheVariants as truth
+use Rattle.values.specs.declared.comparison.Op.{Op}
+use Rattle.values.specs.declared.comparison.Op.TheVariants as op
+use Rattle.values.specs.declared.truth.Truth.{Truth}
+use Rattle.values.specs.declared.truth.Truth.TheVariants as truth
 use Rattle.query_tree.specs.declared.predicate.Literal.{Literal}
 use Rattle.query_tree.specs.declared.predicate.Literal.TheVariants as constant
 use Rattle.query_tree.specs.Syntax.{ExpressionForm, FunctionForm, OperandForm, PredicateForm, PredicateForms, GroupForm, GroupForms, ItemForm, KeyForm, TreeForm, name, grouping, function, over_all, over_filtered, expression, literal, or_of, and_of, not_of, truth_test, compare, between, member, null_test, column, no_parts, part, set, rollup, cube, sets, no_groups, group, group_forms}
@@ -52,17 +52,17 @@ literal_text (constant.Text text) = quoted 39 text
 literal_text (constant.Truth true) = codes "TRUE"
 literal_text (constant.Truth false) = codes "FALSE"
 
--- The sign of a comparison.
-abbrev pub comparison_text : Comparison → List ℕ
-comparison_text comparison.Equal = codes "="
-comparison_text comparison.NotEqual = codes "<>"
-comparison_text comparison.Less = codes "<"
-comparison_text comparison.LessOrEqual = codes "<="
-comparison_text comparison.Greater = codes ">"
-comparison_text comparison.GreaterOrEqual = codes ">="
+-- The sign of an operator.
+abbrev pub op_text : Op → List ℕ
+op_text op.Eq = codes "="
+op_text op.Ne = codes "<>"
+op_text op.Lt = codes "<"
+op_text op.Le = codes "<="
+op_text op.Gt = codes ">"
+op_text op.Ge = codes ">="
 
 -- The keyword of a truth value.
-abbrev pub truth_text : TruthValue → List ℕ
+abbrev pub truth_text : Truth → List ℕ
 truth_text truth.True = codes "TRUE"
 truth_text truth.False = codes "FALSE"
 truth_text truth.Unknown = codes "UNKNOWN"
@@ -114,7 +114,7 @@ abbrev mutual
   predicate_text (and_of ps) = joined (codes " AND ") (part_texts 2 ps)
   predicate_text (not_of p) = codes "NOT " ++ bracketed_below 3 (tightness p) (predicate_text p)
   predicate_text (truth_test p n t) = bracketed_below 4 (tightness p) (predicate_text p) ++ codes " IS " ++ not_text n ++ truth_text t
-  predicate_text (compare a c b) = operand_text a ++ codes " " ++ comparison_text c ++ codes " " ++ operand_text b
+  predicate_text (compare a c b) = operand_text a ++ codes " " ++ op_text c ++ codes " " ++ operand_text b
   predicate_text (between a n b c) = operand_text a ++ codes " " ++ not_text n ++ codes "BETWEEN " ++ operand_text b ++ codes " AND " ++ operand_text c
   predicate_text (member a n ls) = operand_text a ++ codes " " ++ not_text n ++ codes "IN " ++ in_brackets (comma_list (map literal_text ls))
   predicate_text (null_test a n) = operand_text a ++ codes " IS " ++ not_text n ++ codes "NULL"

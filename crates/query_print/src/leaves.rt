@@ -1,13 +1,14 @@
 //! The leaves of expressions and predicates.
 
 ghost use Rattle.std.specs.Prelude.{◌≡◌, ◌++◌, codes, map, OnOk, string_bytes};
-ghost use Rattle.query_print.specs.Canonical.{aggregate_text, comparison_text, joined, literal_text, names_text, comma_list, not_text, truth_text};
+ghost use Rattle.query_print.specs.Canonical.{aggregate_text, joined, literal_text, names_text, op_text, comma_list, not_text, truth_text};
 ghost use Rattle.query_tokens.specs.Words.{name_text};
 
 use itoa::Buffer;
 use query_tokens::{push_name, push_quoted};
-use query_tree::{Aggregate, Comparison, Literal, Text, TruthValue};
+use query_tree::{Aggregate, Literal, Text};
 use std::alloc::AllocError;
+use values::{Op, Truth};
 
 /// Writes names at the end, with commas.
 pub(crate) fn push_names(out: &mut String, names: &[Text]) -> Result<(), AllocError>
@@ -78,28 +79,28 @@ pub(crate) fn push_literals(out: &mut String, literals: &[Literal]) -> Result<()
     Ok(())
 }
 
-/// The sign of a comparison.
-pub(crate) fn comparison_text(comparison: Comparison) -> &'static str
-    ensures { result.now ≡ comparison_text comparison }
+/// The sign of an operator.
+pub(crate) fn op_text(op: Op) -> &'static str
+    ensures { result.now ≡ op_text op }
 {
-    match comparison {
-        Comparison::Equal => "=",
-        Comparison::NotEqual => "<>",
-        Comparison::Less => "<",
-        Comparison::LessOrEqual => "<=",
-        Comparison::Greater => ">",
-        Comparison::GreaterOrEqual => ">=",
+    match op {
+        Op::Eq => "=",
+        Op::Ne => "<>",
+        Op::Lt => "<",
+        Op::Le => "<=",
+        Op::Gt => ">",
+        Op::Ge => ">=",
     }
 }
 
 /// The keyword of a truth value.
-pub(crate) fn truth_text(truth: TruthValue) -> &'static str
+pub(crate) fn truth_text(truth: Truth) -> &'static str
     ensures { result.now ≡ truth_text truth }
 {
     match truth {
-        TruthValue::True => "TRUE",
-        TruthValue::False => "FALSE",
-        TruthValue::Unknown => "UNKNOWN",
+        Truth::True => "TRUE",
+        Truth::False => "FALSE",
+        Truth::Unknown => "UNKNOWN",
     }
 }
 

@@ -5,7 +5,7 @@ ghost use Rattle.query_print.specs.Canonical.{bracketed_below, expression_text, 
 ghost use Rattle.query_tree.specs.Syntax.{expression_form, operand_form, predicate_form, predicate_forms};
 
 use crate::leaves::{
-    comparison_text, not_text, push_aggregate, push_literal, push_literals, push_names, truth_text,
+    not_text, op_text, push_aggregate, push_literal, push_literals, push_names, truth_text,
 };
 use query_tokens::push_name;
 use query_tree::{Expression, Operand, Predicate, SetFunction};
@@ -87,12 +87,12 @@ pub(crate) fn push_predicate(out: &mut String, predicate: &Predicate) -> Result<
         }
         Predicate::Compare {
             left,
-            comparison,
+            op,
             right,
         } => {
             push_operand(out, left)?;
             out.push_str(" ")?;
-            out.push_str(comparison_text(*comparison))?;
+            out.push_str(op_text(*op))?;
             out.push_str(" ")?;
             push_operand(out, right)
         }

@@ -1,11 +1,11 @@
 use crate::{header, print_tree, set_text};
 use query_tree::{
-    Aggregate, Comparison, Expression, Group, Item, Key, Literal, Operand, Predicate, SetFunction,
-    Text, Tree, TruthValue,
+    Aggregate, Expression, Group, Item, Key, Literal, Operand, Predicate, SetFunction,
+    Text, Tree,
 };
 use std::alloc::Global;
 use std::test::Fail;
-use values::Schema;
+use values::{Op, Schema, Truth};
 
 fn name(alloc: Global, text: &str) -> Result<Text, Fail> {
     Ok(Text::from_string(text.to_string(alloc)?))
@@ -97,7 +97,7 @@ fn prints_brackets_where_they_are_needed(rt: HostRuntime) -> Result<(), Fail> {
     tree.items.push(item(function(Aggregate::CountRows), None))?;
     let is_text = Predicate::Compare {
         left: column(alloc, "d")?,
-        comparison: Comparison::Equal,
+        op: Op::Eq,
         right: Operand::Literal(Literal::Text(name(alloc, "it's")?)),
     };
     let mut literals = Vec::new(alloc);
@@ -117,7 +117,7 @@ fn prints_brackets_where_they_are_needed(rt: HostRuntime) -> Result<(), Fail> {
             },
         )?,
         not: false,
-        truth: TruthValue::Unknown,
+        truth: Truth::Unknown,
     };
     let mut both = Vec::new(alloc);
     both.push(is_none)?;

@@ -3,8 +3,8 @@
 use Rattle.std.specs.Prelude.{ℕ, Bool, Option, Some, None, List, [], ◌∷◌, map, Vec, Box}
 use Rattle.std.specs.Global.{Global}
 use Rattle.std.specs.Option.{option_map}
-use Rattle.query_tree.specs.declared.predicate.Comparison.{Comparison}
-use Rattle.query_tree.specs.declared.predicate.TruthValue.{TruthValue}
+use Rattle.values.specs.declared.comparison.Op.{Op}
+use Rattle.values.specs.declared.truth.Truth.{Truth}
 use Rattle.query_tree.specs.declared.predicate.Literal.{Literal}
 use Rattle.query_tree.specs.declared.expression.Aggregate.{Aggregate}
 use Rattle.query_tree.specs.declared.expression.Expression.{Expression}
@@ -43,8 +43,8 @@ mutual
     or_of : PredicateForms → PredicateForm
     and_of : PredicateForms → PredicateForm
     not_of : PredicateForm → PredicateForm
-    truth_test : PredicateForm → Bool → TruthValue → PredicateForm
-    compare : OperandForm → Comparison → OperandForm → PredicateForm
+    truth_test : PredicateForm → Bool → Truth → PredicateForm
+    compare : OperandForm → Op → OperandForm → PredicateForm
     between : OperandForm → Bool → OperandForm → OperandForm → PredicateForm
     member : OperandForm → Bool → List Literal → PredicateForm
     null_test : OperandForm → Bool → PredicateForm

@@ -1,7 +1,8 @@
 //! Expressions, set functions and predicates, which hold one another: a FILTER is a predicate.
 
-use crate::predicate::{Comparison, Literal, TruthValue};
+use crate::predicate::Literal;
 use crate::text::Text;
+use values::{Op, Truth};
 
 /// A set function apart from its filter, ISO/IEC 9075-2 `<set function specification>`.
 #[derive(Debug, Drop)]
@@ -73,14 +74,14 @@ pub enum Predicate {
         /// Whether it is `IS NOT`.
         not: bool,
         /// The truth value that is asked for.
-        truth: TruthValue,
+        truth: Truth,
     },
     /// `x = y`, ISO/IEC 9075-2 `<comparison predicate>`.
     Compare {
         /// The operand on the left.
         left: Operand,
         /// The operator.
-        comparison: Comparison,
+        op: Op,
         /// The operand on the right.
         right: Operand,
     },

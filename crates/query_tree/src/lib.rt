@@ -9,6 +9,6 @@ mod tree;
 
 pub use expression::{Aggregate, Expression, Operand, Predicate, SetFunction};
 pub use group::Group;
-pub use predicate::{Comparison, Literal, TruthValue};
+pub use predicate::Literal;
 pub use text::Text;
 pub use tree::{Item, Key, Tree};
