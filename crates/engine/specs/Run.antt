@@ -4,17 +4,15 @@ use Rattle.std.specs.Io.KnownBytes.{Appends, Keeps}
 use Rattle.values.specs.Schema.{Field}
 use Rattle.lines.specs.Input.{good, refused}
 use Rattle.query_tree.specs.Syntax.{TreeForm}
-use Rattle.query_check.specs.Functions.{functions_of}
-use Rattle.query_check.specs.Sets.{sets_of}
-use Rattle.tables.specs.Results.{all_found}
+use Rattle.tables.specs.Results.{query_found}
 use Rattle.report.specs.Report.{refusals_of, report_of}
 use Rattle.engine.specs.Written.{AppendsBeginning}
 use Rattle.engine.specs.declared.fault.RunFault.{RunFault}
 use Rattle.engine.specs.declared.fault.RunFault.TheVariants.{Reading, OutOfMemory, TooManyRefused, WritingReport, WritingRefused}
 
--- the report of a query on an input: what its grouping sets find in the good records of all lines
+-- the report of a query on an input: what the query finds in the good records of all lines
 abbrev pub report : List Field → TreeForm → List ℕ → List ℕ
-report fields q input = report_of fields q (all_found (sets_of fields q) (functions_of fields q) (good fields input))
+report fields q input = report_of fields q (query_found fields q (good fields input))
 
 -- the list of the refused lines of an input
 abbrev pub refusals : List Field → List ℕ → List ℕ

@@ -1,2 +1,3 @@
 pub mod Examples
 mod FunctionCodes
+mod TruthCodes

@@ -1,15 +1,20 @@
 // Checking a query under a schema.
 ghost use Rattle.std.specs.Prelude.{◌≡◌, ◌≢◌, IfErr, IfOk, OnOk, Some};
 ghost use Rattle.query_check.specs.Faults.{query_fault};
+ghost use Rattle.query_check.specs.Resolution.{resolution_of};
 ghost use Rattle.query_check.specs.Typing.{IsTyped};
 ghost use Rattle.query_fault.specs.declared.QueryFault.TheVariants.{OutOfMemory};
+ghost use Rattle.query_tree.specs.Syntax.{tree_form};
+ghost use Rattle.query_truth.specs.Binding.{IsConditionOf};
 ghost use Rattle.query.specs.Form.{form_of};
 ghost use Rattle.query.specs.Planned.{fields_of_plan, form_of_plan};
 
 use crate::plan::Plan;
 use crate::query::Query;
-use query_check::check_tree;
+use query_check::{Resolved, check_tree};
 use query_fault::QueryFault;
+use query_tree::Tree;
+use query_truth::{Condition, bind_filter};
 use std::alloc::Global;
 use values::Schema;
 
@@ -30,12 +35,29 @@ pub fn check(alloc: Global, query: Query, schema: Schema) -> Result<Plan, QueryF
     // A fault is the first.
     ensures fault { IfErr result (λ fault. fault ≢ OutOfMemory → query_fault schema (form_of query) ≡ Some fault) }
 {
-    match check_tree(alloc, query.tree(), &schema) {
-        Ok(resolved) => Ok(Plan::new(query, schema, resolved)),
+    match resolve(alloc, query.tree(), &schema) {
+        Ok((resolved, condition)) => Ok(Plan::new(query, schema, resolved, condition)),
         Err(fault) => {
             // By a call: a drop in place is proved in place, for each form of a query, which takes minutes.
             drop(query);
             Err(fault)
         }
     }
+}
+
+/// What the names of a typed query stand for, and the condition of its WHERE.
+fn resolve(
+    alloc: Global,
+    tree: &Tree,
+    schema: &Schema,
+) -> Result<(Resolved, Option<Condition>), QueryFault>
+    ensures typed { OnOk result (IsTyped schema.now (tree_form tree.now)) }
+    ensures resolved { IfOk result (λ r. r.0 ≡ resolution_of schema.now (tree_form tree.now)) }
+    ensures condition { IfOk result (λ r. IsConditionOf schema.now (tree_form tree.now).filter r.1) }
+    ensures untyped { IfErr result (λ fault. fault ≢ OutOfMemory → IsTyped schema.now (tree_form tree.now) → ⊥) }
+    ensures fault { IfErr result (λ fault. fault ≢ OutOfMemory → query_fault schema.now (tree_form tree.now) ≡ Some fault) }
+{
+    let resolved = check_tree(alloc, tree, schema)?;
+    let condition = bind_filter(alloc, schema.columns(), &tree.filter)?;
+    Ok((resolved, condition))
 }

@@ -2,16 +2,18 @@
 //!
 //! This crate is the whole public surface of the language. The crates below it have its parts: the
 //! syntax tree (`query_tree`), the tokens (`query_tokens`), the grammar (`query_grammar`), the
-//! canonical text (`query_print`) and typing (`query_check`).
+//! canonical text (`query_print`), typing (`query_check`), and the truth of predicates (`query_truth`).
 #![tactic(auto)]
 
 mod checking;
+mod holding;
 mod parsing;
 mod plan;
 mod printing;
 mod query;
 
 pub use checking::check;
+pub use holding::holds;
 pub use parsing::parse;
 pub use plan::Plan;
 pub use printing::{header, print, set_text};

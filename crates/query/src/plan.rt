@@ -2,11 +2,13 @@ ghost use Rattle.std.specs.Prelude.{◌≡◌};
 ghost use Rattle.values.specs.Schema.{Field};
 ghost use Rattle.query_check.specs.Resolution.{resolution_of};
 ghost use Rattle.query_check.specs.Typing.{IsTyped};
+ghost use Rattle.query_truth.specs.Binding.{IsConditionOf};
 ghost use Rattle.query.specs.Form.{form_of};
 
 use crate::query::Query;
 use query_check::{ColumnFunction, Resolved};
-use values::Schema;
+use query_truth::{Condition, filter_truth};
+use values::{Schema, Truth, Value};
 
 /// A query that is typed under the schema that it holds, with what its names stand for there. Only
 /// `check` makes one.
@@ -15,20 +17,32 @@ pub struct Plan {
     query: Query,
     schema: Schema,
     resolved: Resolved,
+    condition: Option<Condition>,
     ghost typed: { ∥ IsTyped schema (form_of query) ∥₁ },
     ghost resolution: { ∥ resolved ≡ resolution_of schema (form_of query) ∥₁ },
+    ghost filter: { ∥ IsConditionOf schema (form_of query).filter condition ∥₁ },
 }
 
 impl Plan {
+    ghost use Rattle.values.specs.Datum.{data_of};
+    ghost use Rattle.values.specs.Fit.{Fits};
     ghost use Rattle.query_check.specs.Resolution.{contents};
     ghost use Rattle.query_check.specs.Sets.{grouping_places, sets_of};
     ghost use Rattle.query_check.specs.Functions.{functions_of};
+    ghost use Rattle.query_truth.specs.Kept.{where_truth};
     ghost use Rattle.query.specs.Planned.{fields_of_plan, form_of_plan};
 
-    /// The plan of a query that is typed under a schema, and of what it is resolved to there.
-    pub(crate) fn new(query: Query, schema: Schema, resolved: Resolved) -> Plan
+    /// The plan of a query that is typed under a schema, of what it is resolved to there, and of the
+    /// condition of its WHERE.
+    pub(crate) fn new(
+        query: Query,
+        schema: Schema,
+        resolved: Resolved,
+        condition: Option<Condition>,
+    ) -> Plan
         requires typed { IsTyped schema (form_of query) }
         requires resolution { resolved ≡ resolution_of schema (form_of query) }
+        requires filter { IsConditionOf schema (form_of query).filter condition }
         ensures query { form_of_plan result ≡ form_of query }
         ensures schema { fields_of_plan result ≡ schema }
     {
@@ -36,6 +50,7 @@ impl Plan {
             query,
             schema,
             resolved,
+            condition,
         }
     }
 
@@ -76,5 +91,13 @@ impl Plan {
         ensures functions { result.now ≡ functions_of (fields_of_plan self.now) (form_of_plan self.now) }
     {
         self.resolved.functions()
+    }
+
+    /// The truth value of WHERE for the values of a record that fits the schema.
+    pub(crate) fn filter_truth(&self, values: &[Value]) -> Truth
+        requires { Fits (fields_of_plan self.now) (data_of values.now) }
+        ensures { result ≡ where_truth (fields_of_plan self.now) (form_of_plan self.now).filter (data_of values.now) }
+    {
+        filter_truth(&self.condition, values)
     }
 }

@@ -6,8 +6,8 @@ ghost use Rattle.query_check.specs.Columns.{column_kind, kind_at, place_of};
 
 use values::{Column, Kind};
 
-/// The place of the column of a name, from 0.
-pub(crate) fn place_of(columns: &[Column], name: &str) -> Option<usize>
+/// The place of the column of a name, from 0. Names are compared exactly.
+pub fn place_of(columns: &[Column], name: &str) -> Option<usize>
     ensures { result ≡ place_of (fields_of columns.now) name.now }
 {
     columns

@@ -10,6 +10,7 @@ mod resolution;
 mod scope;
 mod typing;
 
+pub use columns::place_of;
 pub use expansion::set_count;
 pub use function::ColumnFunction;
 pub use resolution::{Resolved, check_tree};

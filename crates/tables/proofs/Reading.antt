@@ -1,7 +1,7 @@
 -- The lines of a piece as far as they have been read.
-use Rattle.std.proofs.Common.{◌≡◌, ◌==◌, ◌+◌, ◌<◌, ◌≤◌, ◌^◌, ℕ, ℤ, zero, suc, Bool, true, false, cond, List, [], ◌∷◌, ◌++◌, length, map, filter_map, option_map, Option, Some, None, Result, Ok, Err, refl, sym, ap, subst, ◌∙◌, arith, append-nil, length-append}
+use Rattle.std.proofs.Common.{◌≡◌, ◌==◌, ◌+◌, ◌<◌, ◌≤◌, ◌^◌, ℕ, ℤ, zero, suc, Bool, true, false, cond, List, [], ◌∷◌, ◌++◌, length, map, filter, filter_map, option_map, Option, Some, None, Result, Ok, Err, refl, sym, ap, subst, ◌∙◌, arith, append-nil, length-append}
 use Rattle.std.proofs.lemmas.List.{map-append, length-map}
-use Rattle.std.proofs.lemmas.List.Elements.{All-from_recursion, filter_map-append}
+use Rattle.std.proofs.lemmas.List.Elements.{All-from_recursion, filter-append, filter_map-append}
 use Rattle.std.proofs.lemmas.List.FromFn.{length-enumerate_from}
 use Rattle.std.proofs.lemmas.List.Splits.{length-slice_split}
 use Rattle.std.specs.List.{All, AllByRecursion, cons_option, enumerate_from, onto_first, slice_split}
@@ -14,6 +14,7 @@ use Rattle.lines.specs.Taken.{taken}
 use Rattle.query_tree.specs.Syntax.{TreeForm}
 use Rattle.query_check.specs.Functions.{functions_of}
 use Rattle.query_check.specs.Sets.{sets_of}
+use Rattle.query_truth.specs.Kept.{is_kept, kept}
 use Rattle.groups.specs.Table.{Contents}
 use Rattle.tables.specs.Sets.{AreTablesOf}
 use Rattle.tables.specs.declared.folding.Folding.{Folding}
@@ -92,6 +93,22 @@ kept-le f (x ∷ xs) = cons-le (f x) (filter_map f xs) (length xs) (kept-le f xs
 pub length-good_of : (fields : List Field) (ls : List (List ℕ)) → length (good_of fields ls) ≤ length ls
 length-good_of fields ls = let h = kept-le result_ok (map (taken fields) ls) in let long = length-map ls (taken fields) in omega (arith, h, long)
 
+-- ---- the records that are kept
+
+one-le : {A : Type 0} (b : Bool) (x : A) (ys : List A) (n : ℕ) → length ys ≤ n → length (cond b (x ∷ ys) ys) ≤ suc n
+one-le true x ys n h = omega (arith, h)
+one-le false x ys n h = omega (arith, h)
+
+filter-le : {A : Type 0} (p : A → Bool) (xs : List A) → length (filter p xs) ≤ length xs
+filter-le p [] = omega arith
+filter-le p (x ∷ xs) = one-le (p x) x (filter p xs) (length xs) (filter-le p xs)
+
+pub length-kept : (fields : List Field) (q : TreeForm) (rows : List (List Datum)) → length (kept fields q rows) ≤ length rows
+length-kept fields q rows = filter-le (is_kept fields q) rows
+
+pub kept-append : (fields : List Field) (q : TreeForm) (rows more : List (List Datum)) → kept fields q (rows ++ more) ≡ kept fields q rows ++ kept fields q more
+kept-append fields q rows more = filter-append (is_kept fields q) rows more
+
 pub length-refused_of : (fields : List Field) (ls : List (List ℕ)) → length (refused_of fields ls) ≤ length ls
 length-refused_of fields ls =
     let rs = map (taken fields) ls in
@@ -123,21 +140,21 @@ pub record HasReadSome (fields : List Field) (q : TreeForm) (folding : Folding) 
 -- ---- a line that has been read
 
 pub read-ok : (fields : List Field) (q : TreeForm) (old new : Folding) (seen : List (List ℕ)) (line : List ℕ) (row : List Datum) → taken fields line ≡ Ok row → HasRead fields q old seen
-    → ((rows : List (List Datum)) → AreTablesOf (sets_of fields q) (functions_of fields q) old.tables rows → AreTablesOf (sets_of fields q) (functions_of fields q) new.tables (rows ++ row ∷ []))
+    → ((rows : List (List Datum)) → AreTablesOf (sets_of fields q) (functions_of fields q) old.tables (kept fields q rows) → AreTablesOf (sets_of fields q) (functions_of fields q) new.tables (kept fields q (rows ++ row ∷ [])))
     → new.lines ≡ old.lines → new.refused.items ≡ old.refused.items
     → HasRead fields q (record { tables = new.tables; lines = new.lines + 1; refused = new.refused }) (seen ++ line ∷ [])
-read-ok fields q old new seen line row e h added same kept = record {
-  tables = subst (λ (rows : List (List Datum)). AreTablesOf (sets_of fields q) (functions_of fields q) new.tables rows) (sym (good-ok fields seen line row e)) (added (good_of fields seen) h.tables);
+read-ok fields q old new seen line row e h added same stay = record {
+  tables = subst (λ (rows : List (List Datum)). AreTablesOf (sets_of fields q) (functions_of fields q) new.tables (kept fields q rows)) (sym (good-ok fields seen line row e)) (added (good_of fields seen) h.tables);
   lines = (let a = h.lines in let b = length-append seen (line ∷ []) in omega (arith, same, a, b));
-  refused = kept ∙ h.refused ∙ sym (refused-ok fields seen line row e);
+  refused = stay ∙ h.refused ∙ sym (refused-ok fields seen line row e);
 }
 
 pub read-err : (fields : List Field) (q : TreeForm) (old new : Folding) (seen : List (List ℕ)) (line : List ℕ) (fault : LineFault) → taken fields line ≡ Err fault → HasRead fields q old seen
     → new.tables ≡ old.tables → new.lines ≡ old.lines → new.refused.items ≡ old.refused.items ++ (old.lines + 1, fault) ∷ []
     → HasRead fields q (record { tables = new.tables; lines = new.lines + 1; refused = new.refused }) (seen ++ line ∷ [])
-read-err fields q old new seen line fault e h kept same more = record {
-  tables = subst (λ (ts : List Contents). AreTablesOf (sets_of fields q) (functions_of fields q) ts (good_of fields (seen ++ line ∷ []))) (sym kept)
-      (subst (λ (rows : List (List Datum)). AreTablesOf (sets_of fields q) (functions_of fields q) old.tables rows) (sym (good-err fields seen line fault e)) h.tables);
+read-err fields q old new seen line fault e h stay same more = record {
+  tables = subst (λ (ts : List Contents). AreTablesOf (sets_of fields q) (functions_of fields q) ts (kept fields q (good_of fields (seen ++ line ∷ [])))) (sym stay)
+      (subst (λ (rows : List (List Datum)). AreTablesOf (sets_of fields q) (functions_of fields q) old.tables (kept fields q rows)) (sym (good-err fields seen line fault e)) h.tables);
   lines = (let a = h.lines in let b = length-append seen (line ∷ []) in omega (arith, same, a, b));
   refused = more ∙ ap (λ rs. rs ++ (old.lines + 1, fault) ∷ []) h.refused ∙ ap (λ n. refused_of fields seen ++ (n + 1, fault) ∷ []) h.lines ∙ sym (refused-err fields seen line fault e);
 }

@@ -1,5 +1,5 @@
 -- Pieces in another order.
-use Rattle.std.proofs.Common.{◌≡◌, ◌+◌, ℕ, List, [], ◌∷◌, ◌++◌, length, map, refl, sym, ap, subst, ◌∙◌, arith}
+use Rattle.std.proofs.Common.{◌≡◌, ◌+◌, ℕ, List, [], ◌∷◌, ◌++◌, Bool, true, false, cond, filter, length, map, refl, sym, ap, subst, ◌∙◌, arith}
 use Rattle.std.proofs.lemmas.List.Sorted.{IsPermutation-refl, IsPermutation-cons, IsPermutation-trans, IsPermutation-map, IsPermutation-sym, IsPermutation-append_comm, IsPermutation-append_left}
 use Rattle.std.specs.List.{flat_map}
 use Rattle.std.specs.List.Sorted.{IsPermutation}
@@ -38,6 +38,24 @@ module _ {X : Type 0} where
   permutation-shuffled _ _ (skip x xs ys s) = IsPermutation-cons x xs ys (permutation-shuffled xs ys s)
   permutation-shuffled _ _ (swap x y xs) = IsPermutation-append_left xs (x ∷ y ∷ []) (y ∷ x ∷ []) (IsPermutation-append_comm (x ∷ []) (y ∷ []))
   permutation-shuffled _ _ (both xs ys zs s t) = IsPermutation-trans xs ys zs (permutation-shuffled xs ys s) (permutation-shuffled ys zs t)
+
+skip_if : {X : Type 0} (b : Bool) (x : X) (xs ys : List X) → Shuffle xs ys → Shuffle (cond b (x ∷ xs) xs) (cond b (x ∷ ys) ys)
+skip_if true x xs ys s = skip x xs ys s
+skip_if false x xs ys s = s
+
+swap_if : {X : Type 0} (b c : Bool) (x y : X) (xs : List X)
+    → Shuffle (cond b (x ∷ cond c (y ∷ xs) xs) (cond c (y ∷ xs) xs)) (cond c (y ∷ cond b (x ∷ xs) xs) (cond b (x ∷ xs) xs))
+swap_if true true x y xs = swap x y xs
+swap_if true false x y xs = as_it_is (x ∷ xs)
+swap_if false true x y xs = as_it_is (y ∷ xs)
+swap_if false false x y xs = as_it_is xs
+
+-- what is kept of things in another order is what is kept of them, in another order
+pub shuffle-filter : {X : Type 0} (p : X → Bool) (xs ys : List X) → Shuffle xs ys → Shuffle (filter p xs) (filter p ys)
+shuffle-filter p _ _ none = none
+shuffle-filter p _ _ (skip x xs ys s) = skip_if (p x) x (filter p xs) (filter p ys) (shuffle-filter p xs ys s)
+shuffle-filter p _ _ (swap x y xs) = swap_if (p x) (p y) x y (filter p xs)
+shuffle-filter p _ _ (both xs ys zs s t) = both (filter p xs) (filter p ys) (filter p zs) (shuffle-filter p xs ys s) (shuffle-filter p ys zs t)
 
 pub shuffle-flat_map : {X Y : Type 0} (f : X → List Y) (xs ys : List X) → Shuffle xs ys → Shuffle (flat_map f xs) (flat_map f ys)
 shuffle-flat_map f _ _ none = none

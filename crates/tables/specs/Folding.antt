@@ -8,6 +8,7 @@ use Rattle.lines.specs.Taken.{taken}
 use Rattle.query_tree.specs.Syntax.{TreeForm}
 use Rattle.query_check.specs.Sets.{sets_of}
 use Rattle.query_check.specs.Functions.{functions_of}
+use Rattle.query_truth.specs.Kept.{kept}
 use Rattle.groups.specs.Rows.{Row}
 use Rattle.tables.specs.declared.folding.Folding.{Folding}
 use Rattle.tables.specs.Sets.{AreTablesOf, AllTakeOne}
@@ -22,7 +23,7 @@ refused_of fields ls = filter_map (λ p. option_map (λ fault. (p.0, fault)) (re
 
 -- these lines have been read
 pub record HasRead (fields : List Field) (q : TreeForm) (folding : Folding) (ls : List (List ℕ)) : Type 0 where
-  pub tables : AreTablesOf (sets_of fields q) (functions_of fields q) folding.tables (good_of fields ls)
+  pub tables : AreTablesOf (sets_of fields q) (functions_of fields q) folding.tables (kept fields q (good_of fields ls))
   pub lines : folding.lines ≡ length ls
   pub refused : folding.refused.items ≡ refused_of fields ls
 

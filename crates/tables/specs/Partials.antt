@@ -7,12 +7,13 @@ use Rattle.query_tree.specs.Syntax.{TreeForm}
 use Rattle.query_check.specs.Resolution.{contents}
 use Rattle.query_check.specs.Sets.{sets_of}
 use Rattle.query_check.specs.Functions.{functions_of}
+use Rattle.query_truth.specs.Kept.{kept}
 use Rattle.groups.specs.Rows.{Row}
 use Rattle.groups.specs.GroupRows.{SameBag}
 use Rattle.tables.specs.declared.grouped.Groups.{Groups}
 use Rattle.tables.specs.declared.partial.Partial.{Partial}
 use Rattle.tables.specs.Found.{found_in, refused_in}
-use Rattle.tables.specs.Results.{all_found}
+use Rattle.tables.specs.Results.{query_found}
 use Rattle.tables.specs.Notes.{note_of, notes_in}
 use Rattle.tables.specs.Pieces.{IndexedPiece, all_lines, records_of, refused_within}
 use Rattle.tables.specs.Sets.{AreTablesOf}
@@ -29,7 +30,7 @@ refused_counted partial = partial.refused
 pub record StandsFor (fields : List Field) (q : TreeForm) (partial : Partial) (pieces : List IndexedPiece) : Type 0 where
   pub sets : contents partial.shape.sets.items ≡ sets_of fields q
   pub functions : partial.shape.functions.items ≡ functions_of fields q
-  pub tables : AreTablesOf (sets_of fields q) (functions_of fields q) partial.tables (records_of fields pieces)
+  pub tables : AreTablesOf (sets_of fields q) (functions_of fields q) partial.tables (kept fields q (records_of fields pieces))
   pub lines : lines_counted partial ≡ length (all_lines pieces)
   pub refused : refused_counted partial ≡ length (refused_within fields pieces)
   pub notes : IsPermutation (map (note_of fields) pieces) (notes_in partial.notes)
@@ -39,9 +40,9 @@ pub record HaveOneShape (partial other : Partial) : Type 0 where
   pub sets : contents partial.shape.sets.items ≡ contents other.shape.sets.items
   pub functions : partial.shape.functions.items ≡ other.shape.functions.items
 
--- the rows are those of the groups of a list of records, under the query's grouping sets and set functions
+-- the rows are those of the groups that the query finds in a list of records
 abbrev pub GivesGroups : List Field → TreeForm → Groups → List Row → Type 0
-GivesGroups fields q groups rows = SameBag (found_in groups) (all_found (sets_of fields q) (functions_of fields q) rows)
+GivesGroups fields q groups rows = SameBag (found_in groups) (query_found fields q rows)
 
 -- the rows are those of the groups of the good records of an input, and the refused lines are its refused lines
 pub record IsResultOf (fields : List Field) (q : TreeForm) (groups : Groups) (input : List ℕ) : Type 0 where

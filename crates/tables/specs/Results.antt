@@ -1,6 +1,11 @@
--- What is shown of the groups of a list of records.
+-- What is shown of the groups of a list of records, and what a query finds in them.
 use Rattle.std.specs.Prelude.{ℕ, List, map}
+use Rattle.values.specs.Schema.{Field}
+use Rattle.query_tree.specs.Syntax.{TreeForm}
 use Rattle.query_check.specs.declared.function.ColumnFunction.{ColumnFunction}
+use Rattle.query_check.specs.Functions.{functions_of}
+use Rattle.query_check.specs.Sets.{sets_of}
+use Rattle.query_truth.specs.Kept.{kept}
 use Rattle.groups.specs.Rows.{Row}
 use Rattle.groups.specs.Groups.{Group, groups}
 use Rattle.groups.specs.GroupRows.{group_row}
@@ -13,3 +18,7 @@ found functions group = (group.index, group_row functions group.key group.member
 -- what is shown of all groups of a list of records
 abbrev pub all_found : List (List ℕ) → List ColumnFunction → List Row → List Found
 all_found sets functions rows = map (found functions) (groups sets rows)
+
+-- what the grouping sets of a query find in the records that its WHERE keeps
+abbrev pub query_found : List Field → TreeForm → List Row → List Found
+query_found fields q rows = all_found (sets_of fields q) (functions_of fields q) (kept fields q rows)

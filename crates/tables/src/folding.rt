@@ -6,14 +6,14 @@ ghost use Rattle.tables.specs.Folding.{HasRead};
 
 use crate::sets::Tables;
 use lines::{LineFault, LineRefusal, lines_of, read_record};
-use query::Plan;
+use query::{Plan, holds};
 use std::alloc::{AllocError, Global};
-use values::Record;
+use values::{Record, Truth};
 
 /// The lines of a piece, as far as they have been read.
 #[derive(Debug, Drop)]
 pub(crate) struct Folding {
-    /// The tables of the good records.
+    /// The tables of the good records that are kept.
     pub(crate) tables: Tables,
     /// The number of lines.
     pub(crate) lines: u64,
@@ -29,6 +29,7 @@ impl Folding {
     ghost use Rattle.query.specs.Planned.{fields_of_plan, form_of_plan};
     ghost use Rattle.query_check.specs.Sets.{sets_of};
     ghost use Rattle.query_check.specs.Functions.{functions_of};
+    ghost use Rattle.query_truth.specs.Kept.{kept};
     ghost use Rattle.tables.specs.Folding.{HasRead, ReadsOne, TakesRecord};
     ghost use Rattle.tables.specs.Sets.{AreTablesOf};
 
@@ -58,17 +59,20 @@ impl Folding {
         Ok(())
     }
 
-    /// Takes one more record into the tables.
+    /// Takes one more record into the tables, where it is kept.
     fn take(&mut self, plan: &Plan, taken: Record) -> Result<(), AllocError>
         requires fits { Fits (fields_of_plan plan.now) taken }
         requires room { TakesRecord (fields_of_plan plan.now) (form_of_plan plan.now) self.old }
-        ensures tables { OnOk result ((rows : List (List Datum)) → AreTablesOf (sets_of (fields_of_plan plan.now) (form_of_plan plan.now)) (functions_of (fields_of_plan plan.now) (form_of_plan plan.now)) self.old.tables rows
-            → AreTablesOf (sets_of (fields_of_plan plan.now) (form_of_plan plan.now)) (functions_of (fields_of_plan plan.now) (form_of_plan plan.now)) self.new.tables (rows ++ taken ∷ [])) }
+        ensures tables { OnOk result ((rows : List (List Datum)) → AreTablesOf (sets_of (fields_of_plan plan.now) (form_of_plan plan.now)) (functions_of (fields_of_plan plan.now) (form_of_plan plan.now)) self.old.tables (kept (fields_of_plan plan.now) (form_of_plan plan.now) rows)
+            → AreTablesOf (sets_of (fields_of_plan plan.now) (form_of_plan plan.now)) (functions_of (fields_of_plan plan.now) (form_of_plan plan.now)) self.new.tables (kept (fields_of_plan plan.now) (form_of_plan plan.now) (rows ++ taken ∷ []))) }
         ensures lines { self.new.lines ≡ self.old.lines }
         ensures refused { self.new.refused.items ≡ self.old.refused.items }
     {
-        self.tables
-            .add(plan.sets(), plan.functions(), taken.into_values())
+        if holds(plan, &taken).is(Truth::True) {
+            self.tables
+                .add(plan.sets(), plan.functions(), taken.into_values())?;
+        }
+        Ok(())
     }
 }
 

@@ -13,7 +13,7 @@ use crate::shape::Shape;
 use query::Plan;
 use std::alloc::{AllocError, Global};
 
-/// The result of a query over some pieces of an input: the groups of their good records, the counts
+/// The result of a query over some pieces of an input: the groups of their good records that are kept, the counts
 /// of their lines, and their refused lines.
 ///
 /// Partial results of all pieces, merged in any order, give the result of the whole input.

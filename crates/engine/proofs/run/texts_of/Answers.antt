@@ -1,11 +1,9 @@
 use Rattle.std.proofs.Common.{◌∙◌, ap, map, subst, sym}
 use Rattle.std.specs.List.{All}
 use Rattle.query.specs.Planned.{fields_of_plan, form_of_plan}
-use Rattle.query_check.specs.Functions.{functions_of}
-use Rattle.query_check.specs.Sets.{sets_of}
 use Rattle.lines.specs.Input.{good}
 use Rattle.tables.specs.Found.{found_in, refused_in}
-use Rattle.tables.specs.Results.{all_found}
+use Rattle.tables.specs.Results.{query_found}
 use Rattle.report.specs.Report.{NamesColumn}
 use Rattle.report.specs.Shown.{row_shown}
 use Rattle.report.specs.Text.{report_bytes}
@@ -28,5 +26,5 @@ returns-clause-report c = λ input whole.
     let is = c.in_ok-groups.ensures.whole input whole.pieces whole.stands whole.cut in
     let fit = c.in_ok-groups.ensures.fit whole.pieces whole.stands in
     let blind = c.arranged_law.ensures fields q (found_in groups) fit
-    (all_found (sets_of fields q) (functions_of fields q) (good fields input)) is.rows in
+    (query_found fields q (good fields input)) is.rows in
     c.in_ok-report.ensures ∙ ap (λ rows. report_bytes q.items (map (row_shown fields q) rows)) (sym blind)

@@ -5,15 +5,18 @@ use Rattle.lines.specs.Refusal.{IsRefusal}
 use Rattle.lines.specs.Taken.{taken}
 use Rattle.tables.specs.declared.folding.Folding.{Folding}
 use Rattle.tables.specs.Folding.{HasRead, good_of}
-use Rattle.tables.proofs.Reading.{length-good_of, read-err, read-ok}
+use Rattle.query_truth.specs.Kept.{kept}
+use Rattle.tables.proofs.Reading.{length-good_of, length-kept, read-err, read-ok}
 use Rattle.tables.proofs.folding.Folding.read.Goals as goal
 use Rattle.tables.proofs.folding.Folding.read.Goals.{in-Ok+in_ok-take-in-Ok, in-Err-Fault+in_ok-push-in-Err-Fault}
 
 pub take-requires-clause-room : goal.take-requires-clause-room
 take-requires-clause-room c = record {
-  rows = good_of (fields_of_plan c.args.plan.now) c.requires.seen;
+  rows = kept (fields_of_plan c.args.plan.now) (form_of_plan c.args.plan.now) (good_of (fields_of_plan c.args.plan.now) c.requires.seen);
   are_tables = c.requires.has_read.tables;
-  few = (let h = length-good_of (fields_of_plan c.args.plan.now) c.requires.seen in omega (arith, h, c.requires.few));
+  few = (let h = length-good_of (fields_of_plan c.args.plan.now) c.requires.seen in
+      let k = length-kept (fields_of_plan c.args.plan.now) (form_of_plan c.args.plan.now) (good_of (fields_of_plan c.args.plan.now) c.requires.seen) in
+      omega (arith, h, k, c.requires.few));
 }
 
 pub returns : goal.returns

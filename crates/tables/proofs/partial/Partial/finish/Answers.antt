@@ -5,10 +5,11 @@ use Rattle.groups.specs.Rows.{Row}
 use Rattle.query.specs.Planned.{fields_of_plan, form_of_plan}
 use Rattle.query_check.specs.Functions.{functions_of}
 use Rattle.query_check.specs.Sets.{sets_of}
+use Rattle.query_truth.specs.Kept.{kept}
 use Rattle.tables.specs.Found.{Found, found_in}
 use Rattle.tables.specs.Notes.{note_of}
 use Rattle.tables.specs.Pieces.{records_of}
-use Rattle.tables.specs.Results.{all_found}
+use Rattle.tables.specs.Results.{all_found, query_found}
 use Rattle.tables.proofs.Cutting.{cut-records, cut-refused}
 use Rattle.tables.proofs.Fitting.{found-fit}
 use Rattle.tables.proofs.Numbered.{notes-in_order, numbered-in_order}
@@ -18,7 +19,7 @@ pub returns-clause-fit : goal.returns-clause-fit
 returns-clause-fit c = λ pieces p.
     let fields = fields_of_plan c.args.plan.now in
     let q = form_of_plan c.args.plan.now in
-    let rows = records_of fields pieces in
+    let rows = kept fields q (records_of fields pieces) in
     let found = all_found (sets_of fields q) (functions_of fields q) rows in
     found-fit fields q rows (found_in c.new.result)
     (subst (λ (fs : List Found). SameBag fs found) (sym c.new.ensures.rows) (c.in_ok-rows.ensures (sets_of fields q) (functions_of fields q) rows p.tables))
@@ -35,9 +36,9 @@ returns-clause-whole c = λ input pieces p w.
     let fields = fields_of_plan c.args.plan.now in
     let q = form_of_plan c.args.plan.now in
     record {
-      rows = subst (λ (rows : List Row). SameBag (found_in c.new.result) (all_found (sets_of fields q) (functions_of fields q) rows)) (cut-records fields input pieces w)
-          (subst (λ (fs : List Found). SameBag fs (all_found (sets_of fields q) (functions_of fields q) (records_of fields pieces))) (sym c.new.ensures.rows)
-          (c.in_ok-rows.ensures (sets_of fields q) (functions_of fields q) (records_of fields pieces) p.tables));
+      rows = subst (λ (rows : List Row). SameBag (found_in c.new.result) (query_found fields q rows)) (cut-records fields input pieces w)
+          (subst (λ (fs : List Found). SameBag fs (query_found fields q (records_of fields pieces))) (sym c.new.ensures.rows)
+          (c.in_ok-rows.ensures (sets_of fields q) (functions_of fields q) (kept fields q (records_of fields pieces)) p.tables));
       refused = c.new.ensures.refused
           ∙ c.in_ok-refused.ensures (map (note_of fields) pieces) (IsPermutation-sym _ _ p.notes) (notes-in_order fields pieces w.in_order)
           ∙ cut-refused fields input pieces w;

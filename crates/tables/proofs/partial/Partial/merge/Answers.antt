@@ -8,6 +8,8 @@ use Rattle.query_check.specs.Sets.{sets_of}
 use Rattle.tables.specs.Notes.{IsWellNumbered, Noted, lines_noted, note_in, note_of, notes_in}
 use Rattle.tables.specs.Pieces.{records_of}
 use Rattle.tables.specs.Sets.{AreTablesOf}
+use Rattle.query_truth.specs.Kept.{kept}
+use Rattle.tables.proofs.Reading.{kept-append}
 use Rattle.tables.proofs.Merging.{all-can_join, all-joined_within, counted-append, lines-append, notes-append, records-append, refused-append, within-other}
 use Rattle.tables.proofs.partial.Partial.merge.Goals as goal
 
@@ -42,8 +44,8 @@ returns c = record {
       record {
         sets = p.sets;
         functions = p.functions;
-        tables = subst (λ (rows : List Row). AreTablesOf (sets_of fields q) (functions_of fields q) c.absorb.new.self rows) (sym (records-append fields pieces more))
-            (c.in_ok-absorb.ensures.joined (sets_of fields q) (functions_of fields q) (records_of fields pieces) (records_of fields more) p.tables m.tables);
+        tables = subst (λ (rows : List Row). AreTablesOf (sets_of fields q) (functions_of fields q) c.absorb.new.self rows) (sym (ap (kept fields q) (records-append fields pieces more) ∙ kept-append fields q (records_of fields pieces) (records_of fields more)))
+            (c.in_ok-absorb.ensures.joined (sets_of fields q) (functions_of fields q) (kept fields q (records_of fields pieces)) (kept fields q (records_of fields more)) p.tables m.tables);
         lines = (let x = p.lines in let y = m.lines in let z = lines-append pieces more in omega (arith, x, y, z));
         refused = (let x = p.refused in let y = m.refused in let z = refused-append fields pieces more in omega (arith, x, y, z));
         notes = subst (λ (ns : List Noted). IsPermutation (map (note_of fields) (pieces ++ more)) ns) (sym joined) (notes-append fields pieces more (notes_in a.notes) (notes_in b.notes) p.notes m.notes);

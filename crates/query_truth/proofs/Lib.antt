@@ -1,0 +1,4 @@
+mod Truths
+mod Parts
+mod Safety
+mod Forms

@@ -1,0 +1,15 @@
+use Rattle.std.proofs.Common.{◌≡◌, drop, fold, map, true}
+use Rattle.std.specs.List.{list_all}
+use Rattle.values.specs.declared.comparison.Op.TheVariants.{Eq}
+use Rattle.values.specs.Comparison.{comparison}
+use Rattle.values.specs.Datum.{datum_of}
+use Rattle.values.specs.Truth.{disjunction}
+use Rattle.query_truth.specs.Meaning.{comparable}
+use Rattle.query_truth.specs.Truth.{member_truth}
+use Rattle.query_truth.proofs.condition.member_truth.Given as goal
+
+abbrev pub invariant-loop-other : goal.invariant-loop-other
+invariant-loop-other l = record {
+  told : fold disjunction l.found (map (comparison Eq (datum_of l.value)) (map datum_of (drop l.other-index l.values))) ≡ member_truth (datum_of l.value) (map datum_of l.values);
+  safe : list_all (comparable (datum_of l.value)) (map datum_of (drop l.other-index l.values)) ≡ true;
+}

@@ -1,0 +1,33 @@
+-- The records that WHERE keeps (ISO/IEC 9075-2, <where clause>).
+use Rattle.std.specs.Prelude.{ℕ, Bool, Option, Some, None, List, filter, slice_get, unwrap_or}
+use Rattle.std.specs.Option.{option_and_then}
+use Rattle.values.specs.declared.truth.Truth.{Truth}
+use Rattle.values.specs.declared.truth.Truth.TheVariants.{True}
+use Rattle.values.specs.Datum.{Datum, null}
+use Rattle.values.specs.Schema.{Field}
+use Rattle.query_tree.specs.Syntax.{PredicateForm, TreeForm, name, grouping, function}
+use Rattle.query_check.specs.Columns.{place_of}
+use Rattle.query_truth.specs.Truth.{Valuation, same_truth, truth}
+
+-- the value of the column of a name in a record, NULL where there is no such column
+abbrev pub column_value : List Field → List Datum → List ℕ → Datum
+column_value fields values n = unwrap_or (option_and_then (slice_get values) (place_of fields n)) null
+
+-- In WHERE a name is the record's value of its column. No GROUPING and no set function may stand there.
+abbrev pub record_value : List Field → List Datum → Valuation
+record_value fields values (name n) = column_value fields values n
+record_value fields values (grouping ns) = null
+record_value fields values (function f) = null
+
+-- the truth value of WHERE for a record; it is True where WHERE is not written
+abbrev pub where_truth : List Field → Option PredicateForm → List Datum → Truth
+where_truth fields None values = True
+where_truth fields (Some p) values = truth (record_value fields values) p
+
+-- whether a record is kept: where the predicate is True, not where it is False or Unknown
+abbrev pub is_kept : List Field → TreeForm → List Datum → Bool
+is_kept fields q values = same_truth (where_truth fields q.filter values) True
+
+-- the records that are kept
+abbrev pub kept : List Field → TreeForm → List (List Datum) → List (List Datum)
+kept fields q records = filter (is_kept fields q) records

@@ -1,0 +1,4 @@
+pub mod Truth
+pub mod Kept
+pub mod Meaning
+pub mod Binding

@@ -1,0 +1,104 @@
+-- The truth value of a predicate, for any values of its operands (ISO/IEC 9075-2, <search condition>).
+use Rattle.std.specs.Prelude.{Bool, true, false, List, [], ◌∷◌, map, fold, if◌then◌else◌}
+use Rattle.values.specs.declared.truth.Truth.{Truth}
+use Rattle.values.specs.declared.truth.Truth.TheVariants.{True, Unknown, False}
+use Rattle.values.specs.declared.comparison.Op.TheVariants.{Eq, Le, Ge}
+use Rattle.values.specs.Datum.{Datum, boolean, whole, text, null}
+use Rattle.values.specs.Truth.{conjunction, disjunction, negation}
+use Rattle.values.specs.Comparison.{comparison}
+use Rattle.query_tree.specs.declared.predicate.Literal.{Literal}
+use Rattle.query_tree.specs.declared.predicate.Literal.TheVariants as constant
+use Rattle.query_tree.specs.Syntax.{ExpressionForm, OperandForm, PredicateForm, PredicateForms, name, expression, literal, or_of, and_of, not_of, truth_test, compare, between, member, null_test, column, no_parts, part}
+
+-- ---- truth values
+
+-- a test that is not unknown
+abbrev pub known : Bool → Truth
+known b = if b then True else False
+
+-- with NOT, where it is written
+abbrev pub marked : Bool → Truth → Truth
+marked true t = negation t
+marked false t = t
+
+-- p OR q OR .., from the left; False OR p is p
+abbrev pub any_of : List Truth → Truth
+any_of ts = fold disjunction False ts
+
+-- p AND q AND .., from the left; True AND p is p
+abbrev pub all_of : List Truth → Truth
+all_of ts = fold conjunction True ts
+
+-- whether two truth values are the same
+abbrev pub same_truth : Truth → Truth → Bool
+same_truth True True = true
+same_truth Unknown Unknown = true
+same_truth False False = true
+same_truth t u = false
+
+-- p IS t: never unknown (<boolean test>)
+abbrev pub test_truth : Truth → Truth → Truth
+test_truth p t = known (same_truth p t)
+
+-- ---- atoms
+
+-- whether a value is the null value
+abbrev pub is_null : Datum → Bool
+is_null null = true
+is_null (boolean b) = false
+is_null (whole n) = false
+is_null (text s) = false
+
+-- x IS NULL: never unknown (<null predicate>)
+abbrev pub null_truth : Datum → Truth
+null_truth x = known (is_null x)
+
+-- x BETWEEN y AND z is x >= y AND x <= z (<between predicate>)
+abbrev pub between_truth : Datum → Datum → Datum → Truth
+between_truth x y z = conjunction (comparison Ge x y) (comparison Le x z)
+
+-- x IN (a, b, ..) is x = a OR x = b OR .. (<in predicate>)
+abbrev pub member_truth : Datum → List Datum → Truth
+member_truth x values = any_of (map (comparison Eq x) values)
+
+-- a bare name is its value, unknown where that is NULL; a value of another type is no truth value
+abbrev pub value_truth : Datum → Truth
+value_truth (boolean b) = known b
+value_truth null = Unknown
+value_truth (whole n) = Unknown
+value_truth (text s) = Unknown
+
+-- ---- predicates
+
+-- the values of expressions
+abbrev pub Valuation : Type 0
+Valuation = ExpressionForm → Datum
+
+-- the value of a literal
+abbrev pub literal_value : Literal → Datum
+literal_value (constant.Integer i) = whole i
+literal_value (constant.Text t) = text t
+literal_value (constant.Truth b) = boolean b
+
+-- the value of an operand
+abbrev pub operand_value : Valuation → OperandForm → Datum
+operand_value v (expression e) = v e
+operand_value v (literal a) = literal_value a
+
+abbrev mutual
+  -- the truth value of a predicate, where expressions have these values
+  pub truth : Valuation → PredicateForm → Truth
+  truth v (or_of ps) = any_of (truths v ps)
+  truth v (and_of ps) = all_of (truths v ps)
+  truth v (not_of p) = negation (truth v p)
+  truth v (truth_test p n t) = marked n (test_truth (truth v p) t)
+  truth v (compare x o y) = comparison o (operand_value v x) (operand_value v y)
+  truth v (between x n y z) = marked n (between_truth (operand_value v x) (operand_value v y) (operand_value v z))
+  truth v (member x n ls) = marked n (member_truth (operand_value v x) (map literal_value ls))
+  truth v (null_test x n) = marked n (null_truth (operand_value v x))
+  truth v (column n) = value_truth (v (name n))
+
+  -- those of the parts of an OR or an AND
+  pub truths : Valuation → PredicateForms → List Truth
+  truths v no_parts = []
+  truths v (part p ps) = truth v p ∷ truths v ps

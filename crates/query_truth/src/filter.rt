@@ -1,0 +1,44 @@
+//! The predicate of WHERE, which may not be written.
+
+ghost use Rattle.std.specs.Prelude.{◌≡◌, IfOk, true};
+ghost use Rattle.std.specs.Option.{option_map};
+ghost use Rattle.values.specs.Datum.{data_of};
+ghost use Rattle.values.specs.Schema.{fields_of};
+ghost use Rattle.query_tree.specs.Syntax.{predicate_form};
+ghost use Rattle.query_truth.specs.Binding.{IsConditionOf, filter_safe, filter_truth};
+
+use crate::binding::bind;
+use crate::condition::Condition;
+use query_tree::Predicate;
+use std::alloc::{AllocError, Global};
+use values::{Column, Truth, Value};
+
+/// The condition of the predicate of WHERE, where it is written.
+///
+/// # Errors
+///
+/// `AllocError` where there is no memory for it.
+pub fn bind_filter(
+    alloc: Global,
+    columns: &[Column],
+    filter: &Option<Predicate>,
+) -> Result<Option<Condition>, AllocError>
+    ensures { IfOk result (IsConditionOf (fields_of columns.now) (option_map predicate_form filter.now)) }
+{
+    match filter {
+        Some(predicate) => Ok(Some(bind(alloc, columns, predicate)?)),
+        None => Ok(None),
+    }
+}
+
+/// What the condition of WHERE is worth for a record of these values; without it, True. It takes no
+/// memory.
+pub fn filter_truth(condition: &Option<Condition>, values: &[Value]) -> Truth
+    requires { filter_safe condition.now (data_of values.now) ≡ true }
+    ensures { result ≡ filter_truth condition.now (data_of values.now) }
+{
+    match condition {
+        Some(condition) => condition.truth(values),
+        None => Truth::True,
+    }
+}
