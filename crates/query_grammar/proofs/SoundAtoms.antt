@@ -136,22 +136,22 @@ atom_s : (ts r : List Token) (x : OperandForm) (y : PredicateForm × List Token)
 unfolding atom_after
 atom_s ts r x y p e =
     elim (choose_some (op_at r)
-      (choose (after (is_word w.Not) r)
-        (choose (after (is_word w.In) r)
-          (choose (after (is_word w.Between) r) (column_of x >>= λ q. Some (q, r)) (λ a. between_after x false a))
-          (λ a. member_after x false a))
-        (λ a. negated_after x a))
-      (λ o. operand_at o.1 >>= λ z. Some (compare x o.0 z.0, z.1)) y e) [
+    (choose (after (is_word w.Not) r)
+    (choose (after (is_word w.In) r)
+    (choose (after (is_word w.Between) r) (column_of x >>= λ q. Some (q, r)) (λ a. between_after x false a))
+    (λ a. member_after x false a))
+    (λ a. negated_after x a))
+    (λ o. operand_at o.1 >>= λ z. Some (compare x o.0 z.0, z.1)) y e) [
       | inr h ↦ (let b = bind_some (operand_at h.0.1) (λ z. Some (compare x h.0.0 z.0, z.1)) y h.2 in
           subst (At ts) (some_is (compare x h.0.0 b.0.0, b.0.1) y b.2) (IsAtom.compare p (op_s r h.0 h.1) (operand_s h.0.1 b.0 b.1)))
       | inl h ↦ elim (choose_some (after (is_word w.Not) r)
           (choose (after (is_word w.In) r)
-            (choose (after (is_word w.Between) r) (column_of x >>= λ q. Some (q, r)) (λ a. between_after x false a))
-            (λ a. member_after x false a))
+          (choose (after (is_word w.Between) r) (column_of x >>= λ q. Some (q, r)) (λ a. between_after x false a))
+          (λ a. member_after x false a))
           (λ a. negated_after x a) y h.1) [
-          | inr k ↦ negated_s ts k.0 x y (subst (λ (us : List Token). IsOperand ts x us) (after_word_is w.Not r k.0 k.1) p) k.2
-          | inl k ↦ plain_s ts r x y p k.1
-        ]
+            | inr k ↦ negated_s ts k.0 x y (subst (λ (us : List Token). IsOperand ts x us) (after_word_is w.Not r k.0 k.1) p) k.2
+            | inl k ↦ plain_s ts r x y p k.1
+          ]
     ] where
       plain_s : (ts r : List Token) (x : OperandForm) (y : PredicateForm × List Token) → IsOperand ts x r
           → choose (after (is_word w.In) r) (choose (after (is_word w.Between) r) (column_of x >>= λ q. Some (q, r)) (λ a. between_after x false a)) (λ a. member_after x false a) ≡ Some y → At ts y
@@ -159,10 +159,10 @@ atom_s ts r x y p e =
           elim (choose_some (after (is_word w.In) r) (choose (after (is_word w.Between) r) (column_of x >>= λ q. Some (q, r)) (λ a. between_after x false a)) (λ a. member_after x false a) y e) [
             | inr h ↦ member_s ts r h.0 x false y p (subst (λ (us : List Token). IsMark r false us) (after_word_is w.In r h.0 h.1) IsMark.none) h.2
             | inl h ↦ elim (choose_some (after (is_word w.Between) r) (column_of x >>= λ q. Some (q, r)) (λ a. between_after x false a) y h.1) [
-                | inr k ↦ between_s ts r k.0 x false y p (subst (λ (us : List Token). IsMark r false us) (after_word_is w.Between r k.0 k.1) IsMark.none) k.2
-                | inl k ↦ (let a = bind_some (column_of x) (λ q. Some (q, r)) y k.1 in
-                    subst (At ts) (some_is (a.0, r) y a.2) (column_s ts r x a.0 p a.1))
-              ]
+              | inr k ↦ between_s ts r k.0 x false y p (subst (λ (us : List Token). IsMark r false us) (after_word_is w.Between r k.0 k.1) IsMark.none) k.2
+              | inl k ↦ (let a = bind_some (column_of x) (λ q. Some (q, r)) y k.1 in
+                  subst (At ts) (some_is (a.0, r) y a.2) (column_s ts r x a.0 p a.1))
+            ]
           ]
 
 -- ---- truth tests
@@ -182,8 +182,8 @@ module _ (IsInner : Derivation PredicateForm) where
   unfolding is_after
   is_s ts r x y p e =
       elim (choose_some (after (is_word w.Null) (mark_at r).1)
-        (column_of x >>= λ q. truth_at (mark_at r).1 >>= λ t. Some (truth_test q (mark_at r).0 t.0, t.1))
-        (λ a. test_after (null_test x (mark_at r).0) a) y e) [
+      (column_of x >>= λ q. truth_at (mark_at r).1 >>= λ t. Some (truth_test q (mark_at r).0 t.0, t.1))
+      (λ a. test_after (null_test x (mark_at r).0) a) y e) [
         | inr h ↦ (let mark = subst (λ (us : List Token). IsMark r (mark_at r).0 us) (after_word_is w.Null (mark_at r).1 h.0 h.1) (mark_s r) in
             test_after_s ts h.0 (null_test x (mark_at r).0) y (IsPrimary.atom (IsAtom.null_test p mark)) h.2)
         | inl h ↦ (let a = bind_some (column_of x) (λ q. truth_at (mark_at r).1 >>= λ t. Some (truth_test q (mark_at r).0 t.0, t.1)) y h.1 in

@@ -77,13 +77,13 @@ count_s ts x e =
     let a = only_some (after (is_sign s.Open) ts) (λ a. choose (after (is_sign s.Star) a) (counted_at a) (λ b. choose (after (is_sign s.Close) b) None (λ rest. Some (aggregates.CountRows, rest)))) x e in
     let begins = after_sign_is s.Open ts a.0 a.1 in
     let made : IsAggregate (count_of a.0) x.0 x.1 =
-      elim (choose_some (after (is_sign s.Star) a.0) (counted_at a.0) (λ b. choose (after (is_sign s.Close) b) None (λ rest. Some (aggregates.CountRows, rest))) x a.2) [
-        | inl h ↦ counted_s a.0 x h.1
-        | inr h ↦ (let c = only_some (after (is_sign s.Close) h.0) (λ rest. Some (aggregates.CountRows, rest)) x h.2 in
-            let inside : a.0 ≡ tokens.Sign s.Star ∷ tokens.Sign s.Close ∷ c.0 = after_sign_is s.Star a.0 h.0 h.1 ∙ ap (λ (us : List Token). tokens.Sign s.Star ∷ us) (after_sign_is s.Close h.0 c.0 c.1) in
-            subst (λ (y : Aggregate × List Token). IsAggregate (count_of a.0) y.0 y.1) (some_is (aggregates.CountRows, c.0) x c.2)
-            (subst (λ (us : List Token). IsAggregate (count_of us) aggregates.CountRows c.0) (sym inside) IsAggregate.count_rows))
-      ] in
+    elim (choose_some (after (is_sign s.Star) a.0) (counted_at a.0) (λ b. choose (after (is_sign s.Close) b) None (λ rest. Some (aggregates.CountRows, rest))) x a.2) [
+      | inl h ↦ counted_s a.0 x h.1
+      | inr h ↦ (let c = only_some (after (is_sign s.Close) h.0) (λ rest. Some (aggregates.CountRows, rest)) x h.2 in
+          let inside : a.0 ≡ tokens.Sign s.Star ∷ tokens.Sign s.Close ∷ c.0 = after_sign_is s.Star a.0 h.0 h.1 ∙ ap (λ (us : List Token). tokens.Sign s.Star ∷ us) (after_sign_is s.Close h.0 c.0 c.1) in
+          subst (λ (y : Aggregate × List Token). IsAggregate (count_of a.0) y.0 y.1) (some_is (aggregates.CountRows, c.0) x c.2)
+          (subst (λ (us : List Token). IsAggregate (count_of us) aggregates.CountRows c.0) (sym inside) IsAggregate.count_rows))
+    ] in
     subst (λ (us : List Token). IsAggregate (tokens.Word w.Count ∷ us) x.0 x.1) (sym begins) made
 
 aggregate_s : (ts : List Token) (x : Aggregate × List Token) → aggregate_at ts ≡ Some x → IsAggregate ts x.0 x.1
@@ -114,18 +114,18 @@ pub expression_s : IsSound IsExpression expression_at
 unfolding expression_at
 expression_s ts x e =
     elim (choose_some (name_at ts)
-      (choose (after (is_word w.Grouping) ts)
-        (aggregate_at ts >>= λ f. Some (ExpressionForm.function (over_all f.0), f.1))
-        (λ a. arguments_at a >>= λ ns. Some (ExpressionForm.grouping ns.0, ns.1)))
-      (λ n. Some (ExpressionForm.name n.0, n.1)) x e) [
+    (choose (after (is_word w.Grouping) ts)
+    (aggregate_at ts >>= λ f. Some (ExpressionForm.function (over_all f.0), f.1))
+    (λ a. arguments_at a >>= λ ns. Some (ExpressionForm.grouping ns.0, ns.1)))
+    (λ n. Some (ExpressionForm.name n.0, n.1)) x e) [
       | inr h ↦ subst (λ (y : ExpressionForm × List Token). IsExpression ts y.0 y.1) (some_is (ExpressionForm.name h.0.0, h.0.1) x h.2) (subst (λ us. IsExpression us (ExpressionForm.name h.0.0) h.0.1) (sym (name_is ts h.0 h.1)) IsExpression.name)
       | inl h ↦ elim (choose_some (after (is_word w.Grouping) ts)
           (aggregate_at ts >>= λ f. Some (ExpressionForm.function (over_all f.0), f.1))
           (λ a. arguments_at a >>= λ ns. Some (ExpressionForm.grouping ns.0, ns.1)) x h.1) [
-          | inl k ↦ (let a = bind_some (aggregate_at ts) (λ f. Some (ExpressionForm.function (over_all f.0), f.1)) x k.1 in
-              subst (λ (y : ExpressionForm × List Token). IsExpression ts y.0 y.1) (some_is (ExpressionForm.function (over_all a.0.0), a.0.1) x a.2) (IsExpression.function (IsFunction.plain (aggregate_s ts a.0 a.1))))
-          | inr k ↦ (let a = bind_some (arguments_at k.0) (λ ns. Some (ExpressionForm.grouping ns.0, ns.1)) x k.2 in
-              let made = subst (λ (us : List Token). IsExpression us (ExpressionForm.grouping a.0.0) a.0.1) (sym (after_word_is w.Grouping ts k.0 k.1)) (arguments_s k.0 a.0 a.1) in
-              subst (λ (y : ExpressionForm × List Token). IsExpression ts y.0 y.1) (some_is (ExpressionForm.grouping a.0.0, a.0.1) x a.2) made)
-        ]
+            | inl k ↦ (let a = bind_some (aggregate_at ts) (λ f. Some (ExpressionForm.function (over_all f.0), f.1)) x k.1 in
+                subst (λ (y : ExpressionForm × List Token). IsExpression ts y.0 y.1) (some_is (ExpressionForm.function (over_all a.0.0), a.0.1) x a.2) (IsExpression.function (IsFunction.plain (aggregate_s ts a.0 a.1))))
+            | inr k ↦ (let a = bind_some (arguments_at k.0) (λ ns. Some (ExpressionForm.grouping ns.0, ns.1)) x k.2 in
+                let made = subst (λ (us : List Token). IsExpression us (ExpressionForm.grouping a.0.0) a.0.1) (sym (after_word_is w.Grouping ts k.0 k.1)) (arguments_s k.0 a.0 a.1) in
+                subst (λ (y : ExpressionForm × List Token). IsExpression ts y.0 y.1) (some_is (ExpressionForm.grouping a.0.0, a.0.1) x a.2) made)
+          ]
     ]

@@ -19,7 +19,7 @@ loop-behind-preserved c =
       some = omega (arith, c.in_ok-push-2.ensures.len);
       shorter = omega (arith, c.in-Some.ensures.shorter, c.in_ok-next.ensures.shorter, c.loop-behind.invariant.shorter);
       few = omega (arith, c.in_ok-push-2.ensures.len, c.if-len-eq-MOST_ARGUMENTS.false, c.len.ensures, c.loop-behind.invariant.few);
-      told = ?;
+      told = rw (c.in_ok-push-2.ensures.items, c.in_ok-try_clone.ensures) (front_goes (is_sign Comma) name_at _ c.loop-behind.all.items c.loop-behind.rest.now c.in-Some.behind.now c.in_ok-next.left.now c.in_ok-next.next.now _ c.in-Some.ensures.exact c.in_ok-next.ensures.exact h);
     }
 
 pub returns-clause-exact : goal.returns-clause-exact
