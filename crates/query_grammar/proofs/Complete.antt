@@ -1,5 +1,5 @@
 -- Queries that derive from tokens are read.
-use Rattle.std.proofs.Common.{arith, length, ◌≤◌, ◌≡◌, ℕ, List, [], ◌∷◌, Option, Some, None, Result, Ok, Err, refl, sym, ◌∙◌}
+use Rattle.std.proofs.Common.{arith, length, ◌≡◌, List, [], ◌∷◌, Option, Some, None, Result, Ok, Err, refl, sym, ◌∙◌}
 use Rattle.std.specs.Prelude.{codes, MatchResult}
 use Rattle.query_tokens.specs.declared.token.Token.{Token}
 use Rattle.query_tokens.specs.declared.token.Token.TheVariants as tokens
@@ -13,7 +13,7 @@ use Rattle.query_grammar.specs.declared.fault.GrammarFault.TheVariants as faults
 use Rattle.query_grammar.specs.Fronts.{is_word, is_sign, after}
 use Rattle.query_grammar.specs.Steps.{Gives, name_at}
 use Rattle.query_grammar.specs.QuerySteps.{alias_at, item_at, items_at, from_at, where_at, group_at, groups_at, query_at, whole_at}
-use Rattle.query_grammar.specs.Grammar.{IsRepeated, IsItem, IsWhere, IsGroup, IsGroupBy, IsQuery, Derives}
+use Rattle.query_grammar.specs.Grammar.{IsItem, IsWhere, IsGroup, IsGroupBy, IsQuery, Derives}
 use Rattle.query_grammar.proofs.CompleteLists.{Shrinks, repeated_short, repeated_follow, repeated_c}
 use Rattle.query_grammar.proofs.CompleteExpressions.{expression_c}
 use Rattle.query_grammar.proofs.CompletePredicates.{EndsPredicate, group_ends, nil_ends, predicate_c}

@@ -1,5 +1,5 @@
 -- Atoms that derive from tokens are read, and the truth tests behind them.
-use Rattle.std.proofs.Common.{arith, length, ◌<◌, ◌≤◌, ◌≡◌, ℕ, Bool, true, false, List, ◌∷◌, Some, None, refl, ◌∙◌}
+use Rattle.std.proofs.Common.{arith, length, ◌<◌, ◌≡◌, ℕ, Bool, List, ◌∷◌, Some, None, refl, ◌∙◌}
 use Rattle.values.specs.declared.comparison.Op.{Op}
 use Rattle.values.specs.declared.truth.Truth.{Truth}
 use Rattle.query_tokens.specs.declared.token.Token.{Token}

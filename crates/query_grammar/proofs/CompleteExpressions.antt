@@ -1,12 +1,12 @@
 -- Expressions that derive from tokens are read.
-use Rattle.std.proofs.Common.{arith, length, ◌<◌, ◌≤◌, ◌≡◌, ℕ, List, ◌∷◌, Some, None, refl}
+use Rattle.std.proofs.Common.{arith, length, ◌<◌, ◌≡◌, ℕ, List, ◌∷◌, Some, None, refl}
 use Rattle.query_tokens.specs.declared.token.Token.{Token}
 use Rattle.query_tokens.specs.declared.token.Token.TheVariants as tokens
 use Rattle.query_tokens.specs.declared.token.Word.TheVariants as w
 use Rattle.query_tokens.specs.declared.token.Sign.TheVariants as s
 use Rattle.query_tree.specs.declared.expression.Aggregate.{Aggregate}
-use Rattle.query_tree.specs.Syntax.{ExpressionForm, FunctionForm}
-use Rattle.query_grammar.specs.Fronts.{is_word, is_sign, after}
+use Rattle.query_tree.specs.Syntax.{ExpressionForm}
+use Rattle.query_grammar.specs.Fronts.{is_word, after}
 use Rattle.query_grammar.specs.Steps.{name_at}
 use Rattle.query_grammar.specs.ExpressionSteps.{closed_name_at, argument_at, counted_at, count_at, aggregate_at, arguments_at, expression_at}
 use Rattle.query_grammar.specs.Grammar.{IsRepeated, IsName, IsAggregate, IsFunction, IsExpression}

@@ -1,17 +1,17 @@
 -- Predicates that derive from tokens are read.
-use Rattle.std.proofs.Common.{arith, length, ◌≤◌, ◌≡◌, ℕ, zero, suc, List, [], ◌∷◌, Some, None, refl}
+use Rattle.std.proofs.Common.{arith, length, ◌≡◌, ℕ, zero, suc, List, [], ◌∷◌, Some, None, refl}
 use Rattle.query_tokens.specs.declared.token.Token.{Token}
 use Rattle.query_tokens.specs.declared.token.Token.TheVariants as tokens
 use Rattle.query_tokens.specs.declared.token.Word.TheVariants as w
 use Rattle.query_tokens.specs.declared.token.Sign.TheVariants as s
 use Rattle.query_tree.specs.Syntax.{PredicateForm}
-use Rattle.query_grammar.specs.Fronts.{is_word, is_sign, after}
+use Rattle.query_grammar.specs.Fronts.{is_word, after}
 use Rattle.query_grammar.specs.Steps.{Reader}
 use Rattle.query_grammar.specs.AtomSteps.{op_at}
 use Rattle.query_grammar.specs.PredicateSteps.{test_at, negation_at, conjunction_at, disjunction_at, predicate_at}
 use Rattle.query_grammar.specs.Grammar.{Derivation, IsPrimary, IsTest, IsNegation, IsConjunction, IsDisjunction, IsPredicate}
 use Rattle.query_grammar.proofs.CompleteLists.{Shrinks, repeated_short, repeated_follow, repeated_c}
-use Rattle.query_grammar.proofs.CompleteAtoms.{BeginsAtom, EndsTest, atom_begins, atom_c, atom_test_c, test_none, test_some, truth_short, mark_short, atom_short}
+use Rattle.query_grammar.proofs.CompleteAtoms.{EndsTest, atom_begins, atom_c, atom_test_c, test_none, test_some, truth_short, mark_short, atom_short}
 
 -- ---- what may stand behind a predicate and its parts
 

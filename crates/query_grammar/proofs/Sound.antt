@@ -17,7 +17,7 @@ use Rattle.query_grammar.specs.Steps.{Gives, with_front, more, name_at}
 use Rattle.query_grammar.specs.ExpressionSteps.{expression_at}
 use Rattle.query_grammar.specs.PredicateSteps.{predicate_at}
 use Rattle.query_grammar.specs.QuerySteps.{alias_at, item_at, items_at, from_at, where_at, group_at, groups_at, query_at, at_end, whole_at}
-use Rattle.query_grammar.specs.Grammar.{IsRepeated, IsExpression, IsPredicate, IsItem, IsWhere, IsGroup, IsGroupBy, IsQuery, Derives}
+use Rattle.query_grammar.specs.Grammar.{IsRepeated, IsExpression, IsItem, IsWhere, IsGroup, IsGroupBy, IsQuery, Derives}
 use Rattle.query_grammar.proofs.Heads.{after_word_is}
 use Rattle.query_grammar.proofs.SoundLists.{IsSound, IsListed, only_some, listed_s}
 use Rattle.query_grammar.proofs.SoundExpressions.{name_is, expression_s}

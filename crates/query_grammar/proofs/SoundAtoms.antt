@@ -1,5 +1,5 @@
 -- Atoms that are read from tokens derive from them, and the truth tests behind them.
-use Rattle.std.proofs.Common.{arith, length, ◌<◌, ◌≡◌, ◌⊎◌, ℕ, Bool, true, false, List, [], ◌∷◌, Option, Some, None, refl, sym, ap, subst, ◌∙◌, inl, inr}
+use Rattle.std.proofs.Common.{arith, length, ◌<◌, ◌≡◌, ◌⊎◌, ℕ, Bool, true, false, List, [], ◌∷◌, Option, Some, None, refl, sym, ap, subst, inl, inr}
 use Rattle.values.specs.declared.comparison.Op.{Op}
 use Rattle.values.specs.declared.comparison.Op.TheVariants as op
 use Rattle.values.specs.declared.truth.Truth.{Truth}
@@ -17,9 +17,9 @@ use Rattle.query_grammar.specs.Fronts.{is_word, after}
 use Rattle.query_grammar.specs.Steps.{bracketed_at}
 use Rattle.query_grammar.specs.ExpressionSteps.{expression_at}
 use Rattle.query_grammar.specs.AtomSteps.{literal_at, literals_at, operand_at, op_at, truth_at, mark_at, member_after, between_after, negated_after, column_of, atom_after, test_after, is_after, tested_atom_at}
-use Rattle.query_grammar.specs.Grammar.{Derivation, IsRepeated, IsExpression, IsLiteral, IsOperand, IsOp, IsTruthValue, IsMark, IsAtom, IsPrimary, IsTest}
+use Rattle.query_grammar.specs.Grammar.{Derivation, IsExpression, IsLiteral, IsOperand, IsOp, IsTruthValue, IsMark, IsAtom, IsPrimary, IsTest}
 use Rattle.query_grammar.proofs.Heads.{after_word_is}
-use Rattle.query_grammar.proofs.SoundLists.{IsSound, IsBracketed, only_some, bracketed_s}
+use Rattle.query_grammar.proofs.SoundLists.{IsSound, only_some, bracketed_s}
 use Rattle.query_grammar.proofs.SoundExpressions.{expression_s}
 
 -- An option is none or some.

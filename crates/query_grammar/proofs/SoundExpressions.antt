@@ -1,5 +1,5 @@
 -- Expressions that are read from tokens derive from them.
-use Rattle.std.proofs.Common.{arith, length, ◌<◌, ◌≡◌, ℕ, List, [], ◌∷◌, Option, Some, None, refl, sym, ap, subst, ◌∙◌, inl, inr}
+use Rattle.std.proofs.Common.{arith, length, ◌<◌, ◌≡◌, ℕ, List, [], ◌∷◌, Some, None, sym, ap, subst, ◌∙◌, inl, inr}
 use Rattle.query_tokens.specs.declared.token.Token.{Token}
 use Rattle.query_tokens.specs.declared.token.Token.TheVariants as tokens
 use Rattle.query_tokens.specs.declared.token.Word.TheVariants as w
@@ -14,7 +14,7 @@ use Rattle.query_grammar.specs.Steps.{name_at}
 use Rattle.query_grammar.specs.ExpressionSteps.{closed_name_at, argument_at, counted_at, count_at, aggregate_at, arguments_at, expression_at}
 use Rattle.query_grammar.specs.Grammar.{IsRepeated, IsName, IsAggregate, IsFunction, IsExpression}
 use Rattle.query_grammar.proofs.Heads.{after_word_is, after_sign_is}
-use Rattle.query_grammar.proofs.SoundLists.{IsSound, IsBracketed, only_some, bracketed_s}
+use Rattle.query_grammar.proofs.SoundLists.{IsSound, only_some, bracketed_s}
 
 -- ---- names
 

@@ -1,5 +1,5 @@
 -- Predicates that are read from tokens derive from them.
-use Rattle.std.proofs.Common.{length, ◌≡◌, ℕ, zero, suc, List, ◌∷◌, Option, Some, None, sym, subst, inl, inr}
+use Rattle.std.proofs.Common.{length, ℕ, zero, suc, List, ◌∷◌, Some, None, sym, subst, inl, inr}
 use Rattle.query_tokens.specs.declared.token.Token.{Token}
 use Rattle.query_tokens.specs.declared.token.Token.TheVariants as tokens
 use Rattle.query_tokens.specs.declared.token.Word.TheVariants as w

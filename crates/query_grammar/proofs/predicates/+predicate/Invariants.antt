@@ -1,4 +1,4 @@
-use Rattle.std.proofs.Common.{◌≡◌, ℕ, ◌+◌, ◌*◌, ◌≤◌, length, map}
+use Rattle.std.proofs.Common.{◌+◌, ◌*◌, ◌≤◌, length, map}
 use Rattle.query_tokens.specs.declared.token.Word.TheVariants.{And, Or}
 use Rattle.query_tree.specs.Syntax.{predicate_form}
 use Rattle.query_grammar.specs.Fronts.{is_word}
