@@ -1,5 +1,5 @@
--- What is read from tokens derives from them.
-use Rattle.std.proofs.Common.{arith, rules, length, ◌<◌, ◌≤◌, ◌≡◌, ℕ, zero, suc, Bool, true, cond, List, [], ◌∷◌, ◌++◌, Option, Some, None, Result, Ok, Err, refl, sym, ap, subst, ◌∙◌, inl, inr}
+-- Queries that are read from tokens derive from them.
+use Rattle.std.proofs.Common.{arith, rules, length, ◌<◌, ◌≡◌, ℕ, true, cond, List, [], ◌∷◌, Option, Some, None, Result, Ok, Err, refl, sym, ap, subst, ◌∙◌, inl, inr}
 use Rattle.std.specs.Prelude.{codes, IfOk}
 use Rattle.std.specs.Str.{bytes_eq}
 use Rattle.std.proofs.lemmas.Slice.Eq.{bytes_eq-Decides}
@@ -9,111 +9,19 @@ use Rattle.query_tokens.specs.declared.token.Word.TheVariants as w
 use Rattle.query_tokens.specs.declared.token.Sign.TheVariants as s
 use Rattle.query_tokens.specs.Options.{◌>>=◌, choose}
 use Rattle.query_tokens.proofs.Inversions.{bind_some, choose_some, some_is, test_some}
-use Rattle.query_tree.specs.declared.expression.Aggregate.{Aggregate}
-use Rattle.query_tree.specs.declared.expression.Aggregate.TheVariants as aggregates
 use Rattle.query_tree.specs.declared.tree.Tree.{Tree}
-use Rattle.query_tree.specs.Syntax.{ExpressionForm, GroupForm, ItemForm, TreeForm, over_all, set, tree_form}
+use Rattle.query_tree.specs.Syntax.{ExpressionForm, PredicateForm, GroupForm, ItemForm, TreeForm, set, tree_form}
 use Rattle.query_grammar.specs.declared.fault.GrammarFault.{GrammarFault}
 use Rattle.query_grammar.specs.Fronts.{is_word, is_sign, after}
-use Rattle.query_grammar.specs.Steps.{Gives, Reader, with_front, more, name_at, star_at, argument_at, aggregate_at, expression_at, alias_at, item_at, items_at, from_at, group_at, groups_at, query_at, at_end, whole_at}
-use Rattle.query_grammar.specs.Grammar.{Derivation, IsRepeated, IsAggregate, IsFunction, IsExpression, IsItem, IsGroup, IsGroupBy, IsQuery, Derives}
-use Rattle.query_grammar.proofs.Heads.{after_word_is, after_sign_is}
-
--- A choice whose one way gives nothing: the other way went.
-only_some : {A B : Type 0} (o : Option A) (f : A → Option B) (y : B) → choose o None f ≡ Some y → (x : A) × (o ≡ Some x) × (f x ≡ Some y)
-only_some (Some x) f y e = (x, refl, e)
-only_some None f y e = absurd cc
-
--- ---- repeated parts
-
-repeated_s : {A : Type 0} (sep : Token) (test : Token → Bool) (P : Derivation A) (f : Reader A) → ((ts r : List Token) → after test ts ≡ Some r → ts ≡ sep ∷ r) → ((ts : List Token) (x : A × List Token) → f ts ≡ Some x → P ts x.0 x.1)
-    → (n : ℕ) (ts : List Token) (y : List A × List Token) → more test f n ts ≡ Some y → IsRepeated sep P ts y.0 y.1 × (length y.0 ≤ n)
-unfolding more
-repeated_s {A} sep test P f is sound zero ts y e =
-    elim (choose_some (after test ts) (Some ([], ts)) (λ rest. None) y e) [
-      | inl h ↦ subst (λ (z : List A × List Token). IsRepeated sep P ts z.0 z.1 × (length z.0 ≤ 0)) (some_is ([], ts) y h.1) (IsRepeated.none, omega arith)
-      | inr h ↦ absurd (let q = h.2 in cc)
-    ]
-repeated_s {A} sep test P f is sound (suc n) ts y e =
-    elim (choose_some (after test ts) (Some ([], ts)) (λ rest. f rest >>= λ first. with_front (first.0 ∷ []) (more test f n first.1)) y e) [
-      | inl h ↦ subst (λ (z : List A × List Token). IsRepeated sep P ts z.0 z.1 × (length z.0 ≤ suc n)) (some_is ([], ts) y h.1) (IsRepeated.none, omega arith)
-      | inr h ↦ (let a = bind_some (f h.0) (λ first. with_front (first.0 ∷ []) (more test f n first.1)) y h.2 in
-          let b = bind_some (more test f n a.0.1) (λ x. Some ((a.0.0 ∷ []) ++ x.0, x.1)) y a.2 in
-          let i = repeated_s sep test P f is sound n a.0.1 b.0 b.1 in
-          let made : IsRepeated sep P (sep ∷ h.0) (a.0.0 ∷ b.0.0) b.0.1 = IsRepeated.more (sound h.0 a.0 a.1) i.0 in
-          subst (λ (z : List A × List Token). IsRepeated sep P ts z.0 z.1 × (length z.0 ≤ suc n)) (some_is (a.0.0 ∷ b.0.0, b.0.1) y b.2)
-          (subst (λ us. IsRepeated sep P us (a.0.0 ∷ b.0.0) b.0.1) (sym (is ts h.0 h.1)) made, omega (arith, i.1)))
-    ]
-
--- A first part and those behind it.
-pub record IsListed {A : Type 0} (P : Derivation A) (n : ℕ) (ts : List Token) (y : List A × List Token) : Type 0 where
-  pub first : A
-  pub others : List A
-  pub mid : List Token
-  pub all_is : y.0 ≡ first ∷ others
-  pub head : P ts first mid
-  pub tail : IsRepeated (tokens.Sign s.Comma) P mid others y.1
-  pub few : length others ≤ n
-
-listed_s : {A : Type 0} (P : Derivation A) (f : Reader A) → ((ts : List Token) (x : A × List Token) → f ts ≡ Some x → P ts x.0 x.1)
-    → (n : ℕ) (ts : List Token) (first : A × List Token) (y : List A × List Token) → f ts ≡ Some first → with_front (first.0 ∷ []) (more (is_sign s.Comma) f n first.1) ≡ Some y → IsListed P n ts y
-listed_s {A} P f sound n ts first y e d =
-    let b = bind_some (more (is_sign s.Comma) f n first.1) (λ x. Some ((first.0 ∷ []) ++ x.0, x.1)) y d in
-    let m = repeated_s (tokens.Sign s.Comma) (is_sign s.Comma) P f (after_sign_is s.Comma) sound n first.1 b.0 b.1 in
-    subst (λ (z : List A × List Token). IsListed P n ts z) (some_is (first.0 ∷ b.0.0, b.0.1) y b.2) record { first = first.0; others = b.0.0; mid = first.1; all_is = refl; head = sound ts first e; tail = m.0; few = m.1 }
-
--- ---- leaves
-
-name_is : (ts : List Token) (x : List ℕ × List Token) → name_at ts ≡ Some x → ts ≡ tokens.Name x.0 ∷ x.1
-unfolding name_at
-name_is [] x e = absurd cc
-name_is (tokens.Name n ∷ ts) x e = let h = some_is (n, ts) x e in ap (λ (y : List ℕ × List Token). tokens.Name y.0 ∷ y.1) h
-name_is (y ∷ ts) x e = absurd cc
-
-star_s : (ts : List Token) (x : Aggregate × List Token) → star_at ts ≡ Some x → IsAggregate (tokens.Word w.Count ∷ ts) x.0 x.1
-unfolding star_at
-star_s ts x e =
-    let a = only_some (after (is_sign s.Open) ts) (λ a. choose (after (is_sign s.Star) a) None (λ b. choose (after (is_sign s.Close) b) None (λ rest. Some (aggregates.CountRows, rest)))) x e in
-    let b = only_some (after (is_sign s.Star) a.0) (λ b. choose (after (is_sign s.Close) b) None (λ rest. Some (aggregates.CountRows, rest))) x a.2 in
-    let c = only_some (after (is_sign s.Close) b.0) (λ rest. Some (aggregates.CountRows, rest)) x b.2 in
-    let open_is = after_sign_is s.Open ts a.0 a.1 in
-    let star_is = after_sign_is s.Star a.0 b.0 b.1 in
-    let close_is = after_sign_is s.Close b.0 c.0 c.1 in
-    let whole : tokens.Word w.Count ∷ ts ≡ tokens.Word w.Count ∷ tokens.Sign s.Open ∷ tokens.Sign s.Star ∷ tokens.Sign s.Close ∷ c.0 = cc in
-    subst (λ (y : Aggregate × List Token). IsAggregate (tokens.Word w.Count ∷ ts) y.0 y.1) (some_is (aggregates.CountRows, c.0) x c.2) (subst (λ us. IsAggregate us aggregates.CountRows c.0) (sym whole) IsAggregate.count_rows)
-
-argument_is : (ts : List Token) (x : List ℕ × List Token) → argument_at ts ≡ Some x → ts ≡ tokens.Sign s.Open ∷ tokens.Name x.0 ∷ tokens.Sign s.Close ∷ x.1
-unfolding argument_at
-argument_is ts x e =
-    let a = only_some (after (is_sign s.Open) ts) (λ a. name_at a >>= λ n. choose (after (is_sign s.Close) n.1) None (λ rest. Some (n.0, rest))) x e in
-    let b = bind_some (name_at a.0) (λ n. choose (after (is_sign s.Close) n.1) None (λ rest. Some (n.0, rest))) x a.2 in
-    let c = only_some (after (is_sign s.Close) b.0.1) (λ rest. Some (b.0.0, rest)) x b.2 in
-    let open_is = after_sign_is s.Open ts a.0 a.1 in
-    let name_is = name_is a.0 b.0 b.1 in
-    let close_is = after_sign_is s.Close b.0.1 c.0 c.1 in
-    let same = some_is (b.0.0, c.0) x c.2 in
-    let whole : ts ≡ tokens.Sign s.Open ∷ tokens.Name b.0.0 ∷ tokens.Sign s.Close ∷ c.0 = cc in
-    whole ∙ ap (λ (y : List ℕ × List Token). tokens.Sign s.Open ∷ tokens.Name y.0 ∷ tokens.Sign s.Close ∷ y.1) same
-
-aggregate_s : (ts : List Token) (x : Aggregate × List Token) → aggregate_at ts ≡ Some x → IsAggregate ts x.0 x.1
-unfolding aggregate_at
-aggregate_s ts x e =
-    elim (choose_some (after (is_word w.Count) ts) (choose (after (is_word w.Sum) ts) None (λ r. argument_at r >>= λ n. Some (aggregates.Sum n.0, n.1))) (λ r. star_at r) x e) [
-      | inr h ↦ subst (λ us. IsAggregate us x.0 x.1) (sym (after_word_is w.Count ts h.0 h.1)) (star_s h.0 x h.2)
-      | inl h ↦ (let a = only_some (after (is_word w.Sum) ts) (λ r. argument_at r >>= λ n. Some (aggregates.Sum n.0, n.1)) x h.1 in
-          let b = bind_some (argument_at a.0) (λ n. Some (aggregates.Sum n.0, n.1)) x a.2 in
-          let whole = after_word_is w.Sum ts a.0 a.1 ∙ ap (λ (us : List Token). tokens.Word w.Sum ∷ us) (argument_is a.0 b.0 b.1) in
-          subst (λ (y : Aggregate × List Token). IsAggregate ts y.0 y.1) (some_is (aggregates.Sum b.0.0, b.0.1) x b.2) (subst (λ us. IsAggregate us (aggregates.Sum b.0.0) b.0.1) (sym whole) IsAggregate.sum))
-    ]
-
-expression_s : (ts : List Token) (x : ExpressionForm × List Token) → expression_at ts ≡ Some x → IsExpression ts x.0 x.1
-unfolding expression_at
-expression_s ts x e =
-    elim (choose_some (name_at ts) (aggregate_at ts >>= λ f. Some (ExpressionForm.function (over_all f.0), f.1)) (λ n. Some (ExpressionForm.name n.0, n.1)) x e) [
-      | inr h ↦ subst (λ (y : ExpressionForm × List Token). IsExpression ts y.0 y.1) (some_is (ExpressionForm.name h.0.0, h.0.1) x h.2) (subst (λ us. IsExpression us (ExpressionForm.name h.0.0) h.0.1) (sym (name_is ts h.0 h.1)) IsExpression.name)
-      | inl h ↦ (let a = bind_some (aggregate_at ts) (λ f. Some (ExpressionForm.function (over_all f.0), f.1)) x h.1 in
-          subst (λ (y : ExpressionForm × List Token). IsExpression ts y.0 y.1) (some_is (ExpressionForm.function (over_all a.0.0), a.0.1) x a.2) (IsExpression.function (IsFunction.plain (aggregate_s ts a.0 a.1))))
-    ]
+use Rattle.query_grammar.specs.Steps.{Gives, with_front, more, name_at}
+use Rattle.query_grammar.specs.ExpressionSteps.{expression_at}
+use Rattle.query_grammar.specs.PredicateSteps.{predicate_at}
+use Rattle.query_grammar.specs.QuerySteps.{alias_at, item_at, items_at, from_at, where_at, group_at, groups_at, query_at, at_end, whole_at}
+use Rattle.query_grammar.specs.Grammar.{IsRepeated, IsExpression, IsItem, IsWhere, IsGroup, IsGroupBy, IsQuery, Derives}
+use Rattle.query_grammar.proofs.Heads.{after_word_is}
+use Rattle.query_grammar.proofs.SoundLists.{IsSound, IsListed, only_some, listed_s}
+use Rattle.query_grammar.proofs.SoundExpressions.{name_is, expression_s}
+use Rattle.query_grammar.proofs.SoundPredicates.{predicate_s}
 
 -- An item with this expression and this alias.
 item_of : ExpressionForm → Option (List ℕ) → ItemForm
@@ -129,7 +37,7 @@ alias_s ts mid e x p d =
           subst (λ (y : Option (List ℕ) × List Token). IsItem ts (item_of e y.0) y.1) (some_is (Some a.0.0, a.0.1) x a.2) (IsItem.named (subst (λ us. IsExpression ts e us) whole p)))
     ]
 
-item_s : (ts : List Token) (x : ItemForm × List Token) → item_at ts ≡ Some x → IsItem ts x.0 x.1
+item_s : IsSound IsItem item_at
 unfolding item_at item_of
 item_s ts x e =
     let a = bind_some (expression_at ts) (λ e. alias_at e.1 >>= λ a. Some (item_of e.0 a.0, a.1)) x e in
@@ -155,13 +63,23 @@ from_is ts rest e =
       same_bytes : (xs ys : List ℕ) → bytes_eq xs ys ≡ true → xs ≡ ys
       same_bytes xs ys e = search (rules, bytes_eq-Decides)
 
-group_s : (ts : List Token) (x : GroupForm × List Token) → group_at ts ≡ Some x → IsGroup ts x.0 x.1
+where_s : IsSound IsWhere where_at
+unfolding where_at
+where_s ts x e =
+    elim (choose_some (after (is_word w.Where) ts) (Some (None, ts)) (λ a. predicate_at 65 a >>= λ p. Some (Some p.0, p.1)) x e) [
+      | inl h ↦ subst (λ (y : Option PredicateForm × List Token). IsWhere ts y.0 y.1) (some_is (None, ts) x h.1) IsWhere.none
+      | inr h ↦ (let a = bind_some (predicate_at 65 h.0) (λ p. Some (Some p.0, p.1)) x h.2 in
+          let made : IsWhere (tokens.Word w.Where ∷ h.0) (Some a.0.0) a.0.1 = IsWhere.filter (predicate_s 65 h.0 a.0 a.1) in
+          subst (λ (y : Option PredicateForm × List Token). IsWhere ts y.0 y.1) (some_is (Some a.0.0, a.0.1) x a.2) (subst (λ (us : List Token). IsWhere us (Some a.0.0) a.0.1) (sym (after_word_is w.Where ts h.0 h.1)) made))
+    ]
+
+group_s : IsSound IsGroup group_at
 unfolding group_at
 group_s ts x e =
     let a = bind_some (name_at ts) (λ n. Some (set (n.0 ∷ []), n.1)) x e in
     subst (λ (y : GroupForm × List Token). IsGroup ts y.0 y.1) (some_is (set (a.0.0 ∷ []), a.0.1) x a.2) (subst (λ us. IsGroup us (set (a.0.0 ∷ [])) a.0.1) (sym (name_is ts a.0 a.1)) IsGroup.column)
 
-groups_s : (ts : List Token) (x : List GroupForm × List Token) → groups_at ts ≡ Some x → IsGroupBy ts x.0 x.1
+groups_s : IsSound IsGroupBy groups_at
 unfolding groups_at
 groups_s ts x e =
     elim (choose_some (after (is_word w.Group) ts) (Some ([], ts)) (λ a. choose (after (is_word w.By) a) None (λ b. group_at b >>= λ first. with_front (first.0 ∷ []) (more (is_sign s.Comma) group_at (length first.1) first.1))) x e) [
@@ -174,23 +92,24 @@ groups_s ts x e =
           subst (λ (gs : List GroupForm). IsGroupBy ts gs x.1) (sym l.all_is) (subst (λ us. IsGroupBy us (l.first ∷ l.others) x.1) (sym whole) made))
     ]
 
--- A query of these items and groups.
-tree_of : List ItemForm → List GroupForm → TreeForm
-tree_of is gs = record { items = is; filter = None; groups = gs; having = None; keys = [] }
+-- A query of these items, this predicate of WHERE and these groups.
+tree_of : List ItemForm → Option PredicateForm → List GroupForm → TreeForm
+tree_of is p gs = record { items = is; filter = p; groups = gs; having = None; keys = [] }
 
-query_s : (ts : List Token) (x : TreeForm × List Token) → query_at ts ≡ Some x → IsQuery ts x.0 x.1
+query_s : IsSound IsQuery query_at
 unfolding query_at tree_of
 query_s ts x e =
-    let a = only_some (after (is_word w.Select) ts) (λ a. items_at a >>= λ is. from_at is.1 >>= λ b. groups_at b >>= λ gs. Some (tree_of is.0 gs.0, gs.1)) x e in
-    let b = bind_some (items_at a.0) (λ is. from_at is.1 >>= λ b. groups_at b >>= λ gs. Some (tree_of is.0 gs.0, gs.1)) x a.2 in
-    let c = bind_some (from_at b.0.1) (λ c. groups_at c >>= λ gs. Some (tree_of b.0.0 gs.0, gs.1)) x b.2 in
-    let d = bind_some (groups_at c.0) (λ gs. Some (tree_of b.0.0 gs.0, gs.1)) x c.2 in
+    let a = only_some (after (is_word w.Select) ts) (λ a. items_at a >>= λ is. from_at is.1 >>= λ b. where_at b >>= λ p. groups_at p.1 >>= λ gs. Some (tree_of is.0 p.0 gs.0, gs.1)) x e in
+    let b = bind_some (items_at a.0) (λ is. from_at is.1 >>= λ b. where_at b >>= λ p. groups_at p.1 >>= λ gs. Some (tree_of is.0 p.0 gs.0, gs.1)) x a.2 in
+    let c = bind_some (from_at b.0.1) (λ c. where_at c >>= λ p. groups_at p.1 >>= λ gs. Some (tree_of b.0.0 p.0 gs.0, gs.1)) x b.2 in
+    let f = bind_some (where_at c.0) (λ p. groups_at p.1 >>= λ gs. Some (tree_of b.0.0 p.0 gs.0, gs.1)) x c.2 in
+    let d = bind_some (groups_at f.0.1) (λ gs. Some (tree_of b.0.0 f.0.0 gs.0, gs.1)) x f.2 in
     let l = items_s a.0 b.0 b.1 in
     let tail = subst (λ us. IsRepeated (tokens.Sign s.Comma) IsItem l.mid l.others us) (from_is b.0.1 c.0 c.1) l.tail in
     let few : length l.others < 64 = omega (arith, l.few) in
-    let made : IsQuery (tokens.Word w.Select ∷ a.0) (tree_of (l.first ∷ l.others) d.0.0) d.0.1 = IsQuery.query l.head tail few (groups_s c.0 d.0 d.1) in
-    let named = subst (λ (is : List ItemForm). IsQuery (tokens.Word w.Select ∷ a.0) (tree_of is d.0.0) d.0.1) (sym l.all_is) made in
-    subst (λ (y : TreeForm × List Token). IsQuery ts y.0 y.1) (some_is (tree_of b.0.0 d.0.0, d.0.1) x d.2) (subst (λ us. IsQuery us (tree_of b.0.0 d.0.0) d.0.1) (sym (after_word_is w.Select ts a.0 a.1)) named)
+    let made : IsQuery (tokens.Word w.Select ∷ a.0) (tree_of (l.first ∷ l.others) f.0.0 d.0.0) d.0.1 = IsQuery.query l.head tail few (where_s c.0 f.0 f.1) (groups_s f.0.1 d.0 d.1) in
+    let named = subst (λ (is : List ItemForm). IsQuery (tokens.Word w.Select ∷ a.0) (tree_of is f.0.0 d.0.0) d.0.1) (sym l.all_is) made in
+    subst (λ (y : TreeForm × List Token). IsQuery ts y.0 y.1) (some_is (tree_of b.0.0 f.0.0 d.0.0, d.0.1) x d.2) (subst (λ us. IsQuery us (tree_of b.0.0 f.0.0 d.0.0) d.0.1) (sym (after_word_is w.Select ts a.0 a.1)) named)
 
 ends_s : (n : List Token) (p q : TreeForm) → at_end n p ≡ Some q → (n ≡ []) × (p ≡ q)
 ends_s [] p q e = (refl, some_is p q e)

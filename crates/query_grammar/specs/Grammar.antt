@@ -38,7 +38,7 @@ use Rattle.query_tree.specs.declared.expression.Aggregate.{Aggregate}
 use Rattle.query_tree.specs.declared.expression.Aggregate.TheVariants as aggregates
 use Rattle.query_tree.specs.declared.predicate.Literal.{Literal}
 use Rattle.query_tree.specs.declared.predicate.Literal.TheVariants as literals
-use Rattle.query_tree.specs.Syntax.{ExpressionForm, FunctionForm, OperandForm, PredicateForm, GroupForm, ItemForm, TreeForm, over_all, set, or_of, and_of, not_of, truth_test, compare, between, member, null_test, column, predicate_forms}
+use Rattle.query_tree.specs.Syntax.{ExpressionForm, FunctionForm, OperandForm, PredicateForm, GroupForm, ItemForm, TreeForm, over_all, set, or_of, and_of, not_of, truth_test, predicate_forms}
 
 -- What derives a value from the tokens in front of others.
 abbrev pub Derivation : Type 0 → Type 1

@@ -4,7 +4,8 @@ ghost use Rattle.std.specs.Prelude.{◌≡◌, ◌<◌, ◌≤◌, ◌∷◌, []
 ghost use Rattle.query_tokens.specs.declared.token.Sign.TheVariants.{Comma};
 ghost use Rattle.query_tree.specs.Syntax.{group_form};
 ghost use Rattle.query_grammar.specs.Fronts.{is_sign};
-ghost use Rattle.query_grammar.specs.Steps.{Gives, with_front, more, group_at, groups_at};
+ghost use Rattle.query_grammar.specs.Steps.{Gives, with_front, more};
+ghost use Rattle.query_grammar.specs.QuerySteps.{group_at, groups_at};
 
 use crate::fault::GrammarFault;
 use crate::fronts::{after_sign, after_word, expect_name, expect_word};
@@ -13,7 +14,7 @@ use query_tree::Group;
 use std::alloc::Global;
 
 /// An element of GROUP BY.
-#[tactic(auto, unfolding(crate::specs::Steps::group_at))]
+#[tactic(auto, unfolding(crate::specs::QuerySteps::group_at))]
 fn group(alloc: Global, tokens: &[Token]) -> Result<(Group, &[Token]), GrammarFault>
     ensures exact { Gives (λ x. (group_form x.0, x.1.now)) result (group_at tokens.now) }
     ensures shorter { IfOk result (λ x. length x.1.now < length tokens.now) }
@@ -45,7 +46,7 @@ fn more_groups(
 }
 
 /// The elements of GROUP BY, none where it is not written.
-#[tactic(auto, unfolding(crate::specs::Steps::groups_at))]
+#[tactic(auto, unfolding(crate::specs::QuerySteps::groups_at))]
 pub fn groups(alloc: Global, tokens: &[Token]) -> Result<(Vec<Group>, &[Token]), GrammarFault>
     ensures exact { Gives (λ x. (map group_form x.0.items, x.1.now)) result (groups_at tokens.now) }
     ensures shorter { IfOk result (λ x. length x.1.now ≤ length tokens.now) }

@@ -4,7 +4,8 @@ ghost use Rattle.std.specs.Prelude.{◌≡◌, ◌<◌, ◌≤◌, ◌∷◌, []
 ghost use Rattle.query_tokens.specs.declared.token.Sign.TheVariants.{Comma};
 ghost use Rattle.query_tree.specs.Syntax.{item_form};
 ghost use Rattle.query_grammar.specs.Fronts.{is_sign};
-ghost use Rattle.query_grammar.specs.Steps.{Gives, IsRefusal, with_front, more, alias_at, item_at, items_at};
+ghost use Rattle.query_grammar.specs.Steps.{Gives, IsRefusal, with_front, more};
+ghost use Rattle.query_grammar.specs.QuerySteps.{alias_at, item_at, items_at};
 
 use crate::expressions::expression;
 use crate::fault::GrammarFault;
@@ -17,7 +18,7 @@ use std::alloc::Global;
 const MOST_ITEMS: usize = 64;
 
 /// An alias, or none.
-#[tactic(auto, unfolding(crate::specs::Steps::alias_at))]
+#[tactic(auto, unfolding(crate::specs::QuerySteps::alias_at))]
 fn alias(tokens: &[Token]) -> Result<(Option<Text>, &[Token]), GrammarFault>
     ensures exact { Gives (λ x. (x.0, x.1.now)) result (alias_at tokens.now) }
     ensures shorter { IfOk result (λ x. length x.1.now ≤ length tokens.now) }
@@ -30,24 +31,28 @@ fn alias(tokens: &[Token]) -> Result<(Option<Text>, &[Token]), GrammarFault>
 }
 
 /// An item.
-#[tactic(auto, unfolding(crate::specs::Steps::item_at))]
-fn item(tokens: &[Token]) -> Result<(Item, &[Token]), GrammarFault>
+#[tactic(auto, unfolding(crate::specs::QuerySteps::item_at))]
+fn item(alloc: Global, tokens: &[Token]) -> Result<(Item, &[Token]), GrammarFault>
     ensures exact { Gives (λ x. (item_form x.0, x.1.now)) result (item_at tokens.now) }
     ensures shorter { IfOk result (λ x. length x.1.now < length tokens.now) }
 {
-    let (expression, rest) = expression(tokens)?;
+    let (expression, rest) = expression(alloc, tokens)?;
     let (alias, rest) = alias(rest)?;
     Ok((Item { expression, alias }, rest))
 }
 
 /// The fault of an item too many: the limit where an item begins, else the token.
-fn excess(tokens: &[Token]) -> GrammarFault
+fn excess_item(tokens: &[Token]) -> GrammarFault
     ensures { IsRefusal result }
 {
     match tokens {
         [Token::Name(_), ..] => GrammarFault::OverLimit,
+        [Token::Word(Word::Grouping), ..] => GrammarFault::OverLimit,
         [Token::Word(Word::Count), ..] => GrammarFault::OverLimit,
         [Token::Word(Word::Sum), ..] => GrammarFault::OverLimit,
+        [Token::Word(Word::Min), ..] => GrammarFault::OverLimit,
+        [Token::Word(Word::Max), ..] => GrammarFault::OverLimit,
+        [Token::Word(Word::Avg), ..] => GrammarFault::OverLimit,
         _ => GrammarFault::Unexpected(tokens.len()),
     }
 }
@@ -66,9 +71,9 @@ fn more_items(
     let mut rest = tokens;
     while let Some(behind) = after_sign(rest, Sign::Comma) {
         if all.len() == MOST_ITEMS {
-            return Err(excess(behind));
+            return Err(excess_item(behind));
         }
-        let (next, left) = item(behind)?;
+        let (next, left) = item(alloc, behind)?;
         all.push(next)?;
         rest = left;
     }
@@ -76,11 +81,11 @@ fn more_items(
 }
 
 /// The items of SELECT.
-#[tactic(auto, unfolding(crate::specs::Steps::items_at))]
+#[tactic(auto, unfolding(crate::specs::QuerySteps::items_at))]
 pub fn items(alloc: Global, tokens: &[Token]) -> Result<(Vec<Item>, &[Token]), GrammarFault>
     ensures exact { Gives (λ x. (map item_form x.0.items, x.1.now)) result (items_at tokens.now) }
     ensures shorter { IfOk result (λ x. length x.1.now < length tokens.now) }
 {
-    let (first, rest) = item(tokens)?;
+    let (first, rest) = item(alloc, tokens)?;
     more_items(alloc, first, rest)
 }

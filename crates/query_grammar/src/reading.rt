@@ -1,21 +1,24 @@
 //! Reads a query.
 
 ghost use Rattle.std.specs.Prelude.{◌≡◌, ◌<◌, ◌≤◌, length, IfOk, MatchResult};
-ghost use Rattle.query_tree.specs.Syntax.{TreeForm, tree_form};
+ghost use Rattle.std.specs.Option.{option_map};
+ghost use Rattle.query_tree.specs.Syntax.{TreeForm, tree_form, predicate_form};
 ghost use Rattle.query_grammar.specs.declared.fault.GrammarFault.TheVariants.{OutOfMemory};
 ghost use Rattle.query_grammar.specs.Grammar.{Derives};
-ghost use Rattle.query_grammar.specs.Steps.{Gives, from_at, query_at, whole_at};
+ghost use Rattle.query_grammar.specs.Steps.{Gives};
+ghost use Rattle.query_grammar.specs.QuerySteps.{from_at, where_at, query_at, whole_at};
 
 use crate::fault::GrammarFault;
-use crate::fronts::{expect_name, expect_word, unexpected};
+use crate::fronts::{after_word, expect_name, expect_word, unexpected};
 use crate::groups::groups;
 use crate::items::items;
+use crate::predicates::{MOST_LEVELS, predicate};
 use query_tokens::{Token, Word};
-use query_tree::Tree;
+use query_tree::{Predicate, Tree};
 use std::alloc::Global;
 
 /// What stands behind FROM and the name `lines`.
-#[tactic(auto, unfolding(crate::specs::Steps::from_at))]
+#[tactic(auto, unfolding(crate::specs::QuerySteps::from_at))]
 fn from_lines(tokens: &[Token]) -> Result<&[Token], GrammarFault>
     ensures exact { Gives (λ x. x.now) result (from_at tokens.now) }
     ensures shorter { IfOk result (λ x. length x.now < length tokens.now) }
@@ -28,18 +31,32 @@ fn from_lines(tokens: &[Token]) -> Result<&[Token], GrammarFault>
     Err(unexpected(source))
 }
 
+/// The predicate of WHERE, none where it is not written.
+#[tactic(auto, unfolding(crate::specs::QuerySteps::where_at))]
+fn filter(alloc: Global, tokens: &[Token]) -> Result<(Option<Predicate>, &[Token]), GrammarFault>
+    ensures exact { Gives (λ x. (option_map predicate_form x.0, x.1.now)) result (where_at tokens.now) }
+    ensures shorter { IfOk result (λ x. length x.1.now ≤ length tokens.now) }
+{
+    let Some(rest) = after_word(tokens, Word::Where) else {
+        return Ok((None, tokens));
+    };
+    let (predicate, rest) = predicate(alloc, rest, MOST_LEVELS + 1)?;
+    Ok((Some(predicate), rest))
+}
+
 /// A query in front, and what stands behind it.
-#[tactic(auto, unfolding(crate::specs::Steps::query_at))]
+#[tactic(auto, unfolding(crate::specs::QuerySteps::query_at))]
 fn query(alloc: Global, tokens: &[Token]) -> Result<(Tree, &[Token]), GrammarFault>
     ensures exact { Gives (λ x. (tree_form x.0, x.1.now)) result (query_at tokens.now) }
 {
     let rest = expect_word(tokens, Word::Select)?;
     let (items, rest) = items(alloc, rest)?;
     let rest = from_lines(rest)?;
+    let (filter, rest) = filter(alloc, rest)?;
     let (groups, rest) = groups(alloc, rest)?;
     let tree = Tree {
         items,
-        filter: None,
+        filter,
         groups,
         having: None,
         keys: Vec::new(alloc),
@@ -48,7 +65,7 @@ fn query(alloc: Global, tokens: &[Token]) -> Result<(Tree, &[Token]), GrammarFau
 }
 
 /// The query that all of the tokens are.
-#[tactic(auto, unfolding(crate::specs::Steps::whole_at))]
+#[tactic(auto, unfolding(crate::specs::QuerySteps::whole_at))]
 fn whole(alloc: Global, tokens: &[Token]) -> Result<Tree, GrammarFault>
     ensures { Gives tree_form result (whole_at tokens.now) }
 {

@@ -4,7 +4,7 @@ use Rattle.std.proofs.lemmas.List.{map_push}
 use Rattle.query_tokens.specs.declared.token.Sign.TheVariants.{Comma}
 use Rattle.query_tree.specs.Syntax.{group_form}
 use Rattle.query_grammar.specs.Fronts.{is_sign}
-use Rattle.query_grammar.specs.Steps.{group_at}
+use Rattle.query_grammar.specs.QuerySteps.{group_at}
 use Rattle.query_grammar.proofs.More.{unread_goes, unread_ends, unread_fails}
 use Rattle.query_grammar.proofs.groups.more_groups.Goals as goal
 

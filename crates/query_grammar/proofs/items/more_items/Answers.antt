@@ -4,7 +4,7 @@ use Rattle.std.proofs.lemmas.List.{map_push}
 use Rattle.query_tokens.specs.declared.token.Sign.TheVariants.{Comma}
 use Rattle.query_tree.specs.Syntax.{item_form}
 use Rattle.query_grammar.specs.Fronts.{is_sign}
-use Rattle.query_grammar.specs.Steps.{item_at}
+use Rattle.query_grammar.specs.QuerySteps.{item_at}
 use Rattle.query_grammar.proofs.More.{loop_over, loop_ends, loop_fails, front_goes, refused}
 use Rattle.query_grammar.proofs.items.more_items.Goals as goal
 
@@ -31,4 +31,4 @@ returns-clause-exact c = loop_ends (is_sign Comma) item_at _ (map item_form c.lo
 pub returns-then-len-eq-MOST_ITEMS-clause-exact : goal.returns-then-len-eq-MOST_ITEMS-clause-exact
 returns-then-len-eq-MOST_ITEMS-clause-exact c =
     let k : 64 - vec_len c.loop-behind.all ≡ 0 = omega (arith, c.if-len-eq-MOST_ITEMS.true, c.len.ensures) in
-    refused c.excess.result _ c.excess.ensures (loop_over (is_sign Comma) item_at (map item_form c.loop-behind.all.items) c.loop-behind.rest.now c.in-Some.behind.now _ c.in-Some.ensures.exact (rw k at c.loop-behind.invariant.told))
+    refused c.excess_item.result _ c.excess_item.ensures (loop_over (is_sign Comma) item_at (map item_form c.loop-behind.all.items) c.loop-behind.rest.now c.in-Some.behind.now _ c.in-Some.ensures.exact (rw k at c.loop-behind.invariant.told))

@@ -2,7 +2,8 @@ use Rattle.std.proofs.Common.{◌≡◌, ◌-◌, ◌≤◌, length, map, ◌∷
 use Rattle.query_tokens.specs.declared.token.Sign.TheVariants.{Comma}
 use Rattle.query_tree.specs.Syntax.{item_form}
 use Rattle.query_grammar.specs.Fronts.{is_sign}
-use Rattle.query_grammar.specs.Steps.{with_front, item_at, more}
+use Rattle.query_grammar.specs.Steps.{with_front, more}
+use Rattle.query_grammar.specs.QuerySteps.{item_at}
 use Rattle.query_grammar.proofs.items.more_items.Given as goal
 
 abbrev pub invariant-loop-behind : goal.invariant-loop-behind

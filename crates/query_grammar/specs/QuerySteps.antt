@@ -1,0 +1,55 @@
+-- What the functions of items, groups and whole queries read in front of tokens, one definition for each function,
+-- as it computes it. No public contract rests on this file: what tokens derive is said in Grammar.
+use Rattle.std.specs.Prelude.{ℕ, List, [], ◌∷◌, length, Option, Some, None, cond, codes}
+use Rattle.std.specs.Str.{bytes_eq}
+use Rattle.query_tokens.specs.declared.token.Token.{Token}
+use Rattle.query_tokens.specs.declared.token.Word.TheVariants as w
+use Rattle.query_tokens.specs.declared.token.Sign.TheVariants as s
+use Rattle.query_tokens.specs.Options.{◌>>=◌, choose}
+use Rattle.query_tree.specs.Syntax.{PredicateForm, GroupForm, ItemForm, TreeForm, set}
+use Rattle.query_grammar.specs.Fronts.{is_word, is_sign, after}
+use Rattle.query_grammar.specs.Steps.{Reader, with_front, more, listed_at, name_at}
+use Rattle.query_grammar.specs.ExpressionSteps.{expression_at}
+use Rattle.query_grammar.specs.PredicateSteps.{predicate_at}
+
+-- An alias, or none.
+unfoldable pub alias_at : Reader (Option (List ℕ))
+alias_at ts = choose (after (is_word w.As) ts) (Some (None, ts)) (λ a. name_at a >>= λ n. Some (Some n.0, n.1))
+
+-- An item.
+unfoldable pub item_at : Reader ItemForm
+item_at ts = expression_at ts >>= λ e. alias_at e.1 >>= λ a. Some (record { expression = e.0; alias = a.0 }, a.1)
+
+-- The items of SELECT.
+unfoldable pub items_at : Reader (List ItemForm)
+items_at ts = listed_at item_at 63 ts
+
+-- What stands behind FROM and the name `lines`.
+unfoldable pub from_at : List Token → Option (List Token)
+from_at ts = choose (after (is_word w.From) ts) None (λ a. name_at a >>= λ n. cond (bytes_eq n.0 (codes "lines")) (Some n.1) None)
+
+-- The predicate of WHERE, or none.
+unfoldable pub where_at : Reader (Option PredicateForm)
+where_at ts = choose (after (is_word w.Where) ts) (Some (None, ts)) (λ a. predicate_at 65 a >>= λ p. Some (Some p.0, p.1))
+
+-- An element of GROUP BY.
+unfoldable pub group_at : Reader GroupForm
+group_at ts = name_at ts >>= λ n. Some (set (n.0 ∷ []), n.1)
+
+-- The elements of GROUP BY, or none.
+unfoldable pub groups_at : Reader (List GroupForm)
+groups_at ts = choose (after (is_word w.Group) ts) (Some ([], ts)) (λ a. choose (after (is_word w.By) a) None (λ b. group_at b >>= λ first. with_front (first.0 ∷ []) (more (is_sign s.Comma) group_at (length first.1) first.1)))
+
+-- A query.
+unfoldable pub query_at : Reader TreeForm
+query_at ts = choose (after (is_word w.Select) ts) None (λ a. items_at a >>= λ is. from_at is.1 >>= λ b. where_at b >>= λ p. groups_at p.1 >>= λ gs.
+    Some (record { items = is.0; filter = p.0; groups = gs.0; having = None; keys = [] }, gs.1))
+
+-- What was read, where nothing is left.
+abbrev pub at_end : List Token → TreeForm → Option TreeForm
+at_end [] q = Some q
+at_end (x ∷ ts) q = None
+
+-- A query that all of the tokens are.
+unfoldable pub whole_at : List Token → Option TreeForm
+whole_at ts = query_at ts >>= λ x. at_end x.1 x.0
