@@ -1,0 +1,28 @@
+-- What some text says, its canonical text says.
+use Rattle.std.proofs.Common.{ℕ, List, [], refl, subst}
+use Rattle.std.proofs.Math.Logic.{∥∥₁_elim}
+use Rattle.std.proofs.lemmas.List.{append-nil}
+use Rattle.query_tokens.specs.declared.token.Token.{Token}
+use Rattle.query_tree.specs.Syntax.{TreeForm}
+use Rattle.query_print.specs.Canonical.{canonical_text}
+use Rattle.query_round.specs.Reading.{Says}
+use Rattle.query_round.proofs.Good.{GoodTree}
+use Rattle.query_round.proofs.Onto.{query_onto}
+use Rattle.query_round.proofs.Spelled.{Spelled, spelled_end}
+use Rattle.query_round.proofs.Goes.{Goes, goes_goes}
+
+said_good : (text : List ℕ) (q : TreeForm) → Says text q → GoodTree q
+said_good text q h = ?
+
+good_says : (q : TreeForm) → GoodTree q → Says (canonical_text q) q
+good_says q g = ?
+
+tree_one : (q : TreeForm) → IsProp (GoodTree q)
+tree_one q = ?
+
+some_good : (q : TreeForm) → ∥ ((text : List ℕ) × Says text q) ∥₁ → GoodTree q
+some_good q h = ∥∥₁_elim h (tree_one q) (λ x. said_good x.0 q x.1)
+
+-- What some text says, its canonical text says again.
+pub again : (q : TreeForm) → ∥ ((text : List ℕ) × Says text q) ∥₁ → Says (canonical_text q) q
+again q h = good_says q (some_good q h)

@@ -1,0 +1,9 @@
+mod Good
+mod Onto
+mod Spelled
+mod Goes
+mod Leaves
+mod Derive
+mod Strip
+mod Props
+mod Again
