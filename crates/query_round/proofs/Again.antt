@@ -10,6 +10,8 @@ use Rattle.query_round.proofs.Good.{GoodTree}
 use Rattle.query_round.proofs.Onto.{query_onto}
 use Rattle.query_round.proofs.Spelled.{Spelled, spelled_end}
 use Rattle.query_round.proofs.Goes.{Goes, goes_goes}
+use Rattle.query_round.proofs.Queries.{query_goes}
+use Rattle.query_round.proofs.Derive.{predicate_d}
 
 said_good : (text : List ℕ) (q : TreeForm) → Says text q → GoodTree q
 said_good text q h = ?

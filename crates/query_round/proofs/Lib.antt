@@ -3,6 +3,8 @@ mod Onto
 mod Spelled
 mod Goes
 mod Leaves
+mod Predicates
+mod Queries
 mod Derive
 mod Strip
 mod Props

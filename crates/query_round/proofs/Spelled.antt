@@ -36,7 +36,7 @@ pub spelled_token : {front rest : List ℕ} {k : Token} {ks : List Token} → Is
 spelled_token {front} t s = record { from = λ n. let h = s.from (n + length front) in (n ∷ h.0, SpellsFrom.token t h.1) }
 
 -- What is read in front of a text is spelled there.
-spelled_read : (bs rest : List ℕ) (k : Token) {ks : List Token} → token_at bs ≡ Some (k, rest) → Spelled rest ks → Spelled bs (k ∷ ks)
+pub spelled_read : (bs rest : List ℕ) (k : Token) {ks : List Token} → token_at bs ≡ Some (k, rest) → Spelled rest ks → Spelled bs (k ∷ ks)
 spelled_read bs rest k {ks} e s = let found = token_s bs rest k e in rw found.cut (spelled_token found.is s)
 
 -- ---- where tokens end
