@@ -6,6 +6,9 @@ mod Leaves
 mod Predicates
 mod Queries
 mod Derive
+mod DeriveQuery
+mod Sane
 mod Strip
+mod StripQuery
 mod Props
 mod Again
