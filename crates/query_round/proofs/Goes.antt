@@ -1,11 +1,10 @@
 -- Texts that spell tokens in front of others, and how they are put together.
-use Rattle.std.proofs.Common.{◌≡◌, ℕ, Bool, true, false, cond, List, [], ◌∷◌, ◌++◌, map, refl, append_assoc}
+use Rattle.std.proofs.Common.{◌≡◌, ℕ, true, List, [], ◌∷◌, ◌++◌, map, refl, append_assoc}
 use Rattle.std.specs.Prelude.{codes}
 use Rattle.std.specs.List.{flat_map}
 use Rattle.query_tokens.specs.declared.token.Token.{Token}
 use Rattle.query_tokens.specs.declared.token.Token.TheVariants as tokens
 use Rattle.query_tokens.specs.declared.token.Word.{Word}
-use Rattle.query_tokens.specs.declared.token.Word.TheVariants as w
 use Rattle.query_tokens.specs.declared.token.Sign.TheVariants as s
 use Rattle.query_tokens.specs.Words.{word_text}
 use Rattle.query_print.specs.Canonical.{joined, comma_list, in_brackets}
@@ -38,10 +37,12 @@ pub free_goes : {a b : List ℕ} {f g : Onto} → Free a f → Goes b g → Goes
 free_goes {a} {b} {f} {g} x y = record { goes = λ rest ks q h. rw (append_assoc a b rest) (x.goes (b ++ rest) (g ks) (y.goes rest ks q h)) }
 
 pub goes_free : {a b : List ℕ} {f g : Onto} → Goes a f → Breaks b → Free b g → Free (a ++ b) (λ ks. f (g ks))
-goes_free {a} {b} {f} {g} x at y = record { goes = λ rest ks h. rw (append_assoc a b rest) (x.goes (b ++ rest) (g ks) (at.breaking rest) (y.goes rest ks h)) }
+goes_free {a} {b} {f} {g} x at y =
+    record { goes = λ rest ks h. rw (append_assoc a b rest) (x.goes (b ++ rest) (g ks) (at.breaking rest) (y.goes rest ks h)) }
 
 pub goes_goes : {a b : List ℕ} {f g : Onto} → Goes a f → Begins b → Goes b g → Goes (a ++ b) (λ ks. f (g ks))
-goes_goes {a} {b} {f} {g} x at y = record { goes = λ rest ks q h. rw (append_assoc a b rest) (x.goes (b ++ rest) (g ks) (at.begins rest q) (y.goes rest ks q h)) }
+goes_goes {a} {b} {f} {g} x at y =
+    record { goes = λ rest ks q h. rw (append_assoc a b rest) (x.goes (b ++ rest) (g ks) (at.begins rest q) (y.goes rest ks q h)) }
 
 pub goes_of : {a : List ℕ} {f : Onto} → Free a f → Goes a f
 goes_of x = record { goes = λ rest ks q h. x.goes rest ks h }
@@ -129,14 +130,17 @@ others_begin : (between : List ℕ) (sep : Token) → Separates between sep → 
 others_begin between sep b [] = nothing_begins
 others_begin between sep b (a ∷ texts) = begins_of (breaks_then (others between texts) (breaks_then a b.breaking))
 
-others_go : (between : List ℕ) (sep : Token) → Separates between sep → (texts : List (List ℕ)) (fs : List Onto) → AllGo texts fs → Goes (others between texts) (others_onto sep fs)
+others_go : (between : List ℕ) (sep : Token) → Separates between sep → (texts : List (List ℕ)) (fs : List Onto) → AllGo texts fs
+    → Goes (others between texts) (others_onto sep fs)
 others_go between sep b [] [] g = nothing_goes
 others_go between sep b [] (f ∷ fs) g = absurd g
 others_go between sep b (a ∷ texts) [] g = absurd g
-others_go between sep b (a ∷ texts) (f ∷ fs) g = goes_goes (free_goes b.between g.0) (others_begin between sep b texts) (others_go between sep b texts fs g.1)
+others_go between sep b (a ∷ texts) (f ∷ fs) g =
+    goes_goes (free_goes b.between g.0) (others_begin between sep b texts) (others_go between sep b texts fs g.1)
 
 -- A list of such texts.
-pub list_goes : (between : List ℕ) (sep : Token) → Separates between sep → (texts : List (List ℕ)) (fs : List Onto) → AllGo texts fs → Goes (joined between texts) (list_onto sep fs)
+pub list_goes : (between : List ℕ) (sep : Token) → Separates between sep → (texts : List (List ℕ)) (fs : List Onto) → AllGo texts fs
+    → Goes (joined between texts) (list_onto sep fs)
 list_goes between sep b [] [] g = nothing_goes
 list_goes between sep b [] (f ∷ fs) g = absurd g
 list_goes between sep b (a ∷ texts) [] g = absurd g
@@ -146,6 +150,7 @@ pub commas_go : (texts : List (List ℕ)) (fs : List Onto) → AllGo texts fs �
 commas_go texts fs g = list_goes (codes ", ") (tokens.Sign s.Comma) comma_separates texts fs g
 
 -- The texts of a list whose elements spell.
-pub each_goes : {A : Type 0} (P : A → Type 0) (text : A → List ℕ) (onto : A → Onto) → ((x : A) → P x → Goes (text x) (onto x)) → (xs : List A) → Each P xs → AllGo (map text xs) (map onto xs)
+pub each_goes : {A : Type 0} (P : A → Type 0) (text : A → List ℕ) (onto : A → Onto) → ((x : A) → P x → Goes (text x) (onto x)) → (xs : List A)
+    → Each P xs → AllGo (map text xs) (map onto xs)
 each_goes P text onto goes [] g = tt
 each_goes P text onto goes (x ∷ xs) g = (goes x g.0, each_goes P text onto goes xs g.1)

@@ -1,7 +1,6 @@
 -- Names, expressions, literals, items and groups spell their tokens.
-use Rattle.std.proofs.Common.{arith, length, ◌<◌, ◌≡◌, ℕ, Bool, true, false, cond, List, [], ◌∷◌, ◌++◌, map, Option, Some, None, refl, sym}
-use Rattle.std.specs.Prelude.{codes, is_none, ◌&&◌}
-use Rattle.query_tokens.specs.declared.token.Token.{Token}
+use Rattle.std.proofs.Common.{arith, ◌≡◌, ℕ, Bool, true, false, cond, List, [], ◌∷◌, ◌++◌, map, Option, Some, None, refl}
+use Rattle.std.specs.Prelude.{codes, is_none}
 use Rattle.query_tokens.specs.declared.token.Token.TheVariants as tokens
 use Rattle.query_tokens.specs.declared.token.Word.{Word}
 use Rattle.query_tokens.specs.declared.token.Word.TheVariants as w
@@ -14,10 +13,10 @@ use Rattle.query_tree.specs.declared.predicate.Literal.TheVariants as literals
 use Rattle.query_tree.specs.declared.expression.Aggregate.{Aggregate}
 use Rattle.query_tree.specs.declared.expression.Aggregate.TheVariants as aggregates
 use Rattle.query_tree.specs.Syntax.{ExpressionForm, FunctionForm, OperandForm, GroupForm, ItemForm, name, grouping, function, over_all, over_filtered, set, rollup, cube, sets, group_forms}
-use Rattle.query_print.specs.Canonical.{names_text, aggregate_text, literal_text, expression_text, function_text, operand_text, alias_text, item_text, unit_text, group_text, group_texts}
+use Rattle.query_print.specs.Canonical.{comma_list, aggregate_text, literal_text, expression_text, function_text, operand_text, alias_text, item_text, unit_text, group_text, group_texts}
 use Rattle.query_round.proofs.Good.{Each, Filled, Within, GoodName, GoodAggregate, GoodFunction, GoodExpression, GoodLiteral, GoodOperand, GoodItem, GoodSet, GoodGroup}
 use Rattle.query_round.proofs.Onto.{Onto, commas_onto, name_onto, argument_onto, aggregate_onto, function_onto, expression_onto, literal_onto, operand_onto, alias_onto, item_onto, set_onto, group_onto}
-use Rattle.query_round.proofs.Spelled.{Spelled, no_word, no_name_quote, no_text_quote, spelled_token, spelled_integer, spelled_star}
+use Rattle.query_round.proofs.Spelled.{no_word, no_name_quote, no_text_quote, spelled_token, spelled_integer, spelled_star}
 use Rattle.query_round.proofs.Goes.{Free, Goes, Begins, AllGo, free_free, free_goes, goes_free, goes_goes, goes_of, begins_of, nothing_goes, nothing_begins, word_onto, word_goes, word_free, spaced_free, space_breaks, open_free, open_breaks, close_free, close_breaks, commas_go, each_goes}
 
 -- ---- names and literals
@@ -51,7 +50,8 @@ literal_goes (literals.Truth false) g = word_goes w.False
 -- ---- expressions
 
 -- A function's word and its argument in brackets.
-argument_goes : (word : Word) {front a : List ℕ} {f : Onto} → Free front (λ ks. tokens.Word word ∷ tokens.Sign s.Open ∷ ks) → Goes a f → Goes (front ++ a ++ codes ")") (argument_onto word f)
+argument_goes : (word : Word) {front a : List ℕ} {f : Onto} → Free front (λ ks. tokens.Word word ∷ tokens.Sign s.Open ∷ ks) → Goes a f
+    → Goes (front ++ a ++ codes ")") (argument_onto word f)
 argument_goes word x y = goes_of (goes_free (free_goes x y) close_breaks close_free)
 
 opened : (word : Word) (text : List ℕ) → Goes text (word_onto word) → Free (text ++ codes "(") (λ ks. tokens.Word word ∷ tokens.Sign s.Open ∷ ks)
@@ -61,10 +61,11 @@ star_free : Free (codes "*") (λ ks. tokens.Sign s.Star ∷ ks)
 star_free = record { goes = λ rest ks h. spelled_star h }
 
 aggregate_goes : (f : Aggregate) → GoodAggregate f → Goes (aggregate_text f) (aggregate_onto f)
-aggregate_goes aggregates.CountRows g = argument_goes w.Count {front = codes "COUNT("} {a = codes "*"} (opened w.Count _ (word_goes w.Count)) (goes_of star_free)
+aggregate_goes aggregates.CountRows g =
+    argument_goes w.Count {front = codes "COUNT("} {a = codes "*"} (opened w.Count _ (word_goes w.Count)) (goes_of star_free)
 aggregate_goes (aggregates.Count n) g = argument_goes w.Count (opened w.Count _ (word_goes w.Count)) (name_goes n g)
 aggregate_goes (aggregates.CountDistinct n) g =
-    let front : Free (codes "COUNT(DISTINCT ") (λ ks. tokens.Word w.Count ∷ tokens.Sign s.Open ∷ tokens.Word w.Distinct ∷ ks) = free_free (opened w.Count _ (word_goes w.Count)) (word_free w.Distinct) in
+    let front = free_free (opened w.Count _ (word_goes w.Count)) (word_free w.Distinct) in
     goes_of (goes_free (free_goes front (name_goes n g)) close_breaks close_free)
 aggregate_goes (aggregates.Sum n) g = argument_goes w.Sum (opened w.Sum _ (word_goes w.Sum)) (name_goes n g)
 aggregate_goes (aggregates.Min n) g = argument_goes w.Min (opened w.Min _ (word_goes w.Min)) (name_goes n g)
@@ -75,14 +76,16 @@ function_goes : (f : FunctionForm) → GoodFunction f → Goes (function_text f)
 function_goes (over_all f) g = aggregate_goes f g
 function_goes (over_filtered f p) g = absurd g
 
--- The elements of a list that is not empty.
-pub filled_go : {A : Type 0} (most : ℕ) (P : A → Type 0) (text : A → List ℕ) (onto : A → Onto) → ((x : A) → P x → Goes (text x) (onto x)) → (xs : List A) → Filled most P xs → AllGo (map text xs) (map onto xs)
+-- A list that is not empty, with commas.
+pub filled_go : {A : Type 0} (most : ℕ) (P : A → Type 0) (text : A → List ℕ) (onto : A → Onto)
+    → ((x : A) → P x → Goes (text x) (onto x)) → (xs : List A) → Filled most P xs → Goes (comma_list (map text xs)) (commas_onto (map onto xs))
 filled_go most P text onto goes [] g = absurd g
-filled_go most P text onto goes (x ∷ xs) g = (goes x g.0, each_goes P text onto goes xs g.1)
+filled_go most P text onto goes (x ∷ xs) g = commas_go (map text (x ∷ xs)) (map onto (x ∷ xs)) (goes x g.0, each_goes P text onto goes xs g.1)
 
 pub expression_goes : (e : ExpressionForm) → GoodExpression e → Goes (expression_text e) (expression_onto e)
 expression_goes (name n) g = name_goes n g
-expression_goes (grouping ns) g = argument_goes w.Grouping (opened w.Grouping _ (word_goes w.Grouping)) (commas_go (map name_text ns) (map name_onto ns) (filled_go 8 GoodName name_text name_onto name_goes ns g))
+expression_goes (grouping ns) g =
+    argument_goes w.Grouping (opened w.Grouping _ (word_goes w.Grouping)) (filled_go 8 GoodName name_text name_onto name_goes ns g)
 expression_goes (function f) g = function_goes f g
 
 pub operand_goes : (x : OperandForm) → GoodOperand x → Goes (operand_text x) (operand_onto x)

@@ -11,4 +11,4 @@ mod Sane
 mod Strip
 mod StripQuery
 mod Props
-mod Again
+pub mod Again

@@ -104,7 +104,8 @@ abbrev mutual
   predicate_onto (or_of ps) = list_onto (tokens.Word w.Or) (part_ontos 1 ps)
   predicate_onto (and_of ps) = list_onto (tokens.Word w.And) (part_ontos 2 ps)
   predicate_onto (not_of p) = λ r. tokens.Word w.Not ∷ bracketed_onto 3 (tightness p) (predicate_onto p) r
-  predicate_onto (truth_test p n t) = λ r. bracketed_onto 4 (tightness p) (predicate_onto p) (tokens.Word w.Is ∷ not_onto n (tokens.Word (truth_word t) ∷ r))
+  predicate_onto (truth_test p n t) =
+      λ r. bracketed_onto 4 (tightness p) (predicate_onto p) (tokens.Word w.Is ∷ not_onto n (tokens.Word (truth_word t) ∷ r))
   predicate_onto (compare x o y) = λ r. operand_onto x (tokens.Sign (op_sign o) ∷ operand_onto y r)
   predicate_onto (between x n y z) = λ r. operand_onto x (not_onto n (tokens.Word w.Between ∷ operand_onto y (tokens.Word w.And ∷ operand_onto z r)))
   predicate_onto (member x n ls) = λ r. operand_onto x (not_onto n (tokens.Word w.In ∷ brackets_onto (commas_onto (map literal_onto ls)) r))
@@ -134,6 +135,9 @@ group_onto (rollup us) = λ r. r
 group_onto (cube us) = λ r. r
 group_onto (sets gs) = λ r. r
 
+abbrev pub from_onto : Onto
+from_onto r = tokens.Word w.From ∷ tokens.Name (codes "lines") ∷ r
+
 abbrev pub where_onto : Option PredicateForm → Onto
 where_onto None r = r
 where_onto (Some p) r = tokens.Word w.Where ∷ predicate_onto p r
@@ -143,4 +147,5 @@ group_by_onto [] r = r
 group_by_onto (g ∷ gs) r = tokens.Word w.Group ∷ tokens.Word w.By ∷ commas_onto (map group_onto (g ∷ gs)) r
 
 abbrev pub query_onto : TreeForm → Onto
-query_onto q r = tokens.Word w.Select ∷ commas_onto (map item_onto q.items) (tokens.Word w.From ∷ tokens.Name (codes "lines") ∷ where_onto q.filter (group_by_onto q.groups r))
+query_onto q r =
+    tokens.Word w.Select ∷ commas_onto (map item_onto q.items) (from_onto (where_onto q.filter (group_by_onto q.groups r)))

@@ -1,5 +1,5 @@
 -- The canonical text of a good predicate spells its tokens.
-use Rattle.std.proofs.Common.{◌<◌, ◌≤◌, ◌≡◌, ℕ, zero, suc, Bool, true, false, cond, List, [], ◌∷◌, ◌++◌, map, Some, refl, append_assoc, ◌⊎◌, inl, inr}
+use Rattle.std.proofs.Common.{ℕ, zero, suc, Bool, true, false, cond, List, [], ◌∷◌, ◌++◌, refl, append_assoc, inl, inr}
 use Rattle.std.specs.Prelude.{codes, nat_lt}
 use Rattle.values.specs.declared.comparison.Op.{Op}
 use Rattle.values.specs.declared.comparison.Op.TheVariants as op
@@ -13,10 +13,10 @@ use Rattle.query_tokens.specs.Steps.{token_at, sign_at, order_at, sign_behind_le
 use Rattle.query_tree.specs.declared.predicate.Literal.{Literal}
 use Rattle.query_tree.specs.Syntax.{OperandForm, PredicateForm, PredicateForms, or_of, and_of, not_of, truth_test, compare, between, member, null_test, column, no_parts, part}
 use Rattle.query_print.specs.Canonical.{op_text, truth_text, not_text, literal_text, operand_text, tightness, bracketed_below, in_brackets, predicate_text, part_texts}
-use Rattle.query_round.proofs.Good.{Filled, GoodLiteral, GoodOperand, Deeper, Fits, Good, PartsFit}
+use Rattle.query_round.proofs.Good.{GoodLiteral, GoodOperand, Fits, Good, PartsFit}
 use Rattle.query_round.proofs.Onto.{Onto, op_sign, truth_word, not_onto, literal_onto, operand_onto, brackets_onto, bracketed_onto, predicate_onto, part_ontos}
 use Rattle.query_round.proofs.Spelled.{Spelled, spelled_space, spelled_read}
-use Rattle.query_round.proofs.Goes.{Free, Goes, AllGo, free_free, free_goes, goes_free, goes_of, nothing_free, word_onto, word_goes, word_free, spaced_free, space_breaks, space_free, brackets_free, word_separates, list_goes, commas_go}
+use Rattle.query_round.proofs.Goes.{Free, Goes, AllGo, free_free, free_goes, goes_free, goes_of, nothing_free, word_onto, word_goes, word_free, spaced_free, space_breaks, space_free, brackets_free, word_separates, list_goes}
 use Rattle.query_round.proofs.Leaves.{name_goes, literal_goes, operand_goes, filled_go}
 
 -- ---- operators and keywords
@@ -32,8 +32,11 @@ op_spelled op.Gt {rest} h = spelled_read (62 ∷ 32 ∷ rest) (32 ∷ rest) (tok
 op_spelled op.Ge {rest} h = spelled_read (62 ∷ 61 ∷ 32 ∷ rest) (32 ∷ rest) (tokens.Sign s.GreaterOrEqual) refl (spelled_space h)
 
 op_free : {a : List ℕ} {f : Onto} (o : Op) → Free a f → Free (a ++ op_text o ++ codes " ") (λ ks. f (tokens.Sign (op_sign o) ∷ ks))
-op_free {a} {f} o x = record { goes = λ rest ks h.
-    rw (append_assoc (a ++ op_text o) (codes " ") rest, append_assoc a (op_text o) (32 ∷ rest)) (x.goes (op_text o ++ 32 ∷ rest) (tokens.Sign (op_sign o) ∷ ks) (op_spelled o h)) }
+op_free {a} {f} o x = record {
+  goes = λ rest ks h.
+      let behind = x.goes (op_text o ++ 32 ∷ rest) (tokens.Sign (op_sign o) ∷ ks) (op_spelled o h) in
+      rw (append_assoc (a ++ op_text o) (codes " ") rest, append_assoc a (op_text o) (32 ∷ rest)) behind;
+}
 
 not_free : (n : Bool) → Free (not_text n) (not_onto n)
 not_free true = word_free w.Not
@@ -55,20 +58,23 @@ and_free = spaced_free (word_free w.And)
 spaced_operand : (x : OperandForm) → GoodOperand x → Free (operand_text x ++ codes " ") (operand_onto x)
 spaced_operand x g = goes_free (operand_goes x g) (space_breaks []) space_free
 
-compare_goes : (x : OperandForm) (o : Op) (y : OperandForm) → Good (compare x o y) 0 → Goes (predicate_text (compare x o y)) (predicate_onto (compare x o y))
+compare_goes : (x : OperandForm) (o : Op) (y : OperandForm) → Good (compare x o y) 0
+    → Goes (predicate_text (compare x o y)) (predicate_onto (compare x o y))
 compare_goes x o y g = free_goes (op_free o (spaced_operand x g.0)) (operand_goes y g.1)
 
-between_goes : (x : OperandForm) (n : Bool) (y z : OperandForm) → Good (between x n y z) 0 → Goes (predicate_text (between x n y z)) (predicate_onto (between x n y z))
+between_goes : (x : OperandForm) (n : Bool) (y z : OperandForm) → Good (between x n y z) 0
+    → Goes (predicate_text (between x n y z)) (predicate_onto (between x n y z))
 between_goes x n y z g =
     let word : Free (operand_text x ++ codes " " ++ not_text n ++ codes "BETWEEN ") (λ ks. operand_onto x (not_onto n (tokens.Word w.Between ∷ ks))) =
-      free_free (free_free (spaced_operand x g.0) (not_free n)) (word_free w.Between) in
+    free_free (free_free (spaced_operand x g.0) (not_free n)) (word_free w.Between) in
     free_goes (goes_free (free_goes word (operand_goes y g.1)) (space_breaks _) and_free) (operand_goes z g.2)
 
-member_goes : (x : OperandForm) (n : Bool) (ls : List Literal) → Good (member x n ls) 0 → Goes (predicate_text (member x n ls)) (predicate_onto (member x n ls))
+member_goes : (x : OperandForm) (n : Bool) (ls : List Literal) → Good (member x n ls) 0
+    → Goes (predicate_text (member x n ls)) (predicate_onto (member x n ls))
 member_goes x n ls g =
     let word : Free (operand_text x ++ codes " " ++ not_text n ++ codes "IN ") (λ ks. operand_onto x (not_onto n (tokens.Word w.In ∷ ks))) =
-      free_free (free_free (spaced_operand x g.0) (not_free n)) (word_free w.In) in
-    goes_of (free_free word (brackets_free (commas_go (map literal_text ls) (map literal_onto ls) (filled_go 64 GoodLiteral literal_text literal_onto literal_goes ls g.1))))
+    free_free (free_free (spaced_operand x g.0) (not_free n)) (word_free w.In) in
+    goes_of (free_free word (brackets_free (filled_go 64 GoodLiteral literal_text literal_onto literal_goes ls g.1)))
 
 null_goes : (x : OperandForm) (n : Bool) → GoodOperand x → Goes (predicate_text (null_test x n)) (predicate_onto (null_test x n))
 null_goes x n g = free_goes (free_free (goes_free (operand_goes x g) (space_breaks _) is_free) (not_free n)) (word_goes w.Null)
@@ -84,17 +90,21 @@ fits_some least has zero G (inl h) = absurd h.1
 fits_some least has (suc n) G (inl h) = (n, h.1)
 fits_some least has n G (inr h) = (n, h.1)
 
-part_goes : (least : ℕ) (p : PredicateForm) (n : ℕ) → ((m : ℕ) → Good p m → Goes (predicate_text p) (predicate_onto p)) → Fits least (tightness p) (Good p) n
+part_goes : (least : ℕ) (p : PredicateForm) (n : ℕ) → ((m : ℕ) → Good p m → Goes (predicate_text p) (predicate_onto p))
+    → Fits least (tightness p) (Good p) n
     → Goes (bracketed_below least (tightness p) (predicate_text p)) (bracketed_onto least (tightness p) (predicate_onto p))
 part_goes least p n goes g = let h = fits_some least (tightness p) n (Good p) g in bracketed_at (nat_lt (tightness p) least) (goes h.0 h.1)
 
-test_goes : {a : List ℕ} {f : Onto} (n : Bool) (t : Truth) → Goes a f → Goes (a ++ codes " IS " ++ not_text n ++ truth_text t) (λ ks. f (tokens.Word w.Is ∷ not_onto n (tokens.Word (truth_word t) ∷ ks)))
+test_goes : {a : List ℕ} {f : Onto} (n : Bool) (t : Truth) → Goes a f
+    → Goes (a ++ codes " IS " ++ not_text n ++ truth_text t) (λ ks. f (tokens.Word w.Is ∷ not_onto n (tokens.Word (truth_word t) ∷ ks)))
 test_goes n t x = free_goes (free_free (goes_free x (space_breaks _) is_free) (not_free n)) (truth_goes t)
 
 mutual
   pub predicate_goes : (p : PredicateForm) (n : ℕ) → Good p n → Goes (predicate_text p) (predicate_onto p)
-  predicate_goes (or_of ps) n g = list_goes (codes " OR ") (tokens.Word w.Or) (word_separates w.Or) (part_texts 1 ps) (part_ontos 1 ps) (parts_go 1 ps n g.1)
-  predicate_goes (and_of ps) n g = list_goes (codes " AND ") (tokens.Word w.And) (word_separates w.And) (part_texts 2 ps) (part_ontos 2 ps) (parts_go 2 ps n g.1)
+  predicate_goes (or_of ps) n g =
+      list_goes (codes " OR ") (tokens.Word w.Or) (word_separates w.Or) (part_texts 1 ps) (part_ontos 1 ps) (parts_go 1 ps n g.1)
+  predicate_goes (and_of ps) n g =
+      list_goes (codes " AND ") (tokens.Word w.And) (word_separates w.And) (part_texts 2 ps) (part_ontos 2 ps) (parts_go 2 ps n g.1)
   predicate_goes (not_of p) n g = free_goes (word_free w.Not) (part_goes 3 p n (predicate_goes p) g)
   predicate_goes (truth_test p b t) n g = test_goes b t (part_goes 4 p n (predicate_goes p) g)
   predicate_goes (compare x o y) n g = compare_goes x o y g

@@ -1,13 +1,10 @@
 -- A query is good in one way at most.
 use Rattle.std.proofs.Common.{arith, length, ◌<◌, ◌≤◌, ◌^◌, ℕ, zero, suc, List, [], ◌∷◌, Option, Some, None, ◌⊎◌, inl, inr, ap}
-use Rattle.std.specs.Prelude.{ℤ}
 use Rattle.std.proofs.Math.IntN.{pos, negsuc}
 use Rattle.std.proofs.Math.Bridge.{le_prop}
-use Rattle.query_tree.specs.declared.predicate.Literal.{Literal}
 use Rattle.query_tree.specs.declared.predicate.Literal.TheVariants as literals
-use Rattle.query_tree.specs.declared.expression.Aggregate.{Aggregate}
 use Rattle.query_tree.specs.declared.expression.Aggregate.TheVariants as aggregates
-use Rattle.query_tree.specs.Syntax.{ExpressionForm, FunctionForm, OperandForm, PredicateForm, PredicateForms, GroupForm, ItemForm, TreeForm, name, grouping, function, over_all, over_filtered, or_of, and_of, not_of, truth_test, compare, between, member, null_test, column, no_parts, part, set, rollup, cube, sets}
+use Rattle.query_tree.specs.Syntax.{OperandForm, PredicateForm, PredicateForms, name, grouping, function, over_all, over_filtered, or_of, and_of, not_of, truth_test, compare, between, member, null_test, column, no_parts, part, set, rollup, cube, sets}
 use Rattle.query_print.specs.Canonical.{tightness}
 use Rattle.query_round.proofs.Good.{Each, Filled, Within, Absent, Empty, GoodName, GoodAggregate, GoodFunction, GoodExpression, InRange, GoodLiteral, GoodOperand, IsMany, Deeper, Fits, Good, PartsFit, GoodItem, GoodSet, GoodGroup, GoodTree}
 
@@ -108,7 +105,10 @@ deeper_one G one zero = none_one
 deeper_one G one (suc n) = one n
 
 fits_one : (least has : ℕ) (G : ℕ → Type 0) → AllOne G → AllOne (Fits least has G)
-fits_one least has G one n = either_one (both_one (lt_one has least) (deeper_one G one n)) (both_one (le_one least has) (one n)) (λ x y. let a = x.0 in let b = y.0 in omega arith)
+fits_one least has G one n =
+    let inside = both_one (lt_one has least) (deeper_one G one n) in
+    let alone = both_one (le_one least has) (one n) in
+    either_one inside alone (λ x y. let a = x.0 in let b = y.0 in omega arith)
 
 mutual
   good_one : (p : PredicateForm) (n : ℕ) → IsProp (Good p n)

@@ -1,22 +1,21 @@
 -- The canonical text of a good query spells its tokens.
 use Rattle.std.proofs.Common.{ℕ, List, [], ◌∷◌, ◌++◌, map, Option, Some, None}
 use Rattle.std.specs.Prelude.{codes}
-use Rattle.query_tokens.specs.declared.token.Token.{Token}
 use Rattle.query_tokens.specs.declared.token.Token.TheVariants as tokens
 use Rattle.query_tokens.specs.declared.token.Word.TheVariants as w
 use Rattle.query_tree.specs.Syntax.{PredicateForm, GroupForm, KeyForm, TreeForm, group_forms}
-use Rattle.query_print.specs.Canonical.{comma_list, item_text, group_texts, key_text, predicate_text, predicate_clause, list_clause, canonical_text}
+use Rattle.query_print.specs.Canonical.{comma_list, item_text, group_texts, key_text, predicate_clause, list_clause, canonical_text}
 use Rattle.query_round.proofs.Good.{Each, Within, Absent, Empty, Good, GoodItem, GoodGroup, GoodTree}
-use Rattle.query_round.proofs.Onto.{Onto, commas_onto, item_onto, group_onto, where_onto, group_by_onto, query_onto}
+use Rattle.query_round.proofs.Onto.{Onto, commas_onto, item_onto, group_onto, from_onto, where_onto, group_by_onto, query_onto}
 use Rattle.query_round.proofs.Spelled.{spelled_lines}
-use Rattle.query_round.proofs.Goes.{Free, Goes, Begins, free_free, free_goes, goes_free, goes_goes, begins_of, breaks_then, nothing_goes, nothing_begins, word_goes, word_free, spaced_free, space_breaks, commas_go}
+use Rattle.query_round.proofs.Goes.{Free, Goes, Begins, free_free, free_goes, goes_goes, begins_of, nothing_goes, nothing_begins, word_free, spaced_free, space_breaks, commas_go}
 use Rattle.query_round.proofs.Leaves.{item_goes, groups_go, filled_go}
 use Rattle.query_round.proofs.Predicates.{predicate_goes}
 
 lines_goes : Goes (codes "lines") (λ ks. tokens.Name (codes "lines") ∷ ks)
 lines_goes = record { goes = λ rest ks q h. spelled_lines q h }
 
-from_goes : Goes (codes " FROM lines") (λ ks. tokens.Word w.From ∷ tokens.Name (codes "lines") ∷ ks)
+from_goes : Goes (codes " FROM lines") from_onto
 from_goes = free_goes (spaced_free (word_free w.From)) lines_goes
 
 -- ---- clauses
@@ -54,8 +53,10 @@ keys_go (k ∷ ks) g x = absurd g
 
 -- ---- the query
 
-items_go : (q : TreeForm) → GoodTree q → Goes (codes "SELECT " ++ comma_list (map item_text q.items)) (λ ks. tokens.Word w.Select ∷ commas_onto (map item_onto q.items) ks)
-items_go q g = free_goes (word_free w.Select) (commas_go (map item_text q.items) (map item_onto q.items) (filled_go 64 GoodItem item_text item_onto item_goes q.items g.0))
+items_go : (q : TreeForm) → GoodTree q
+    → Goes (codes "SELECT " ++ comma_list (map item_text q.items)) (λ ks. tokens.Word w.Select ∷ commas_onto (map item_onto q.items) ks)
+items_go q g =
+    free_goes (word_free w.Select) (filled_go 64 GoodItem item_text item_onto item_goes q.items g.0)
 
 pub query_goes : (q : TreeForm) → GoodTree q → Goes (canonical_text q) (query_onto q)
 query_goes q g =

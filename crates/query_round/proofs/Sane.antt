@@ -1,6 +1,6 @@
 -- Names that a text spells are not empty, and its whole numbers fit 64 bits.
-use Rattle.std.proofs.Common.{arith, length, ◌<◌, ◌≤◌, ◌^◌, ◌≡◌, ℕ, zero, suc, true, List, [], ◌∷◌}
-use Rattle.std.proofs.Math.IntN.{pos, negsuc, neg_ℤ}
+use Rattle.std.proofs.Common.{arith, ◌≤◌, ◌^◌, ◌≡◌, ℕ, zero, suc, true, List, [], ◌∷◌}
+use Rattle.std.proofs.Math.IntN.{pos, neg_ℤ}
 use Rattle.query_tokens.specs.declared.token.Token.{Token}
 use Rattle.query_tokens.specs.declared.token.Token.TheVariants as tokens
 use Rattle.query_tokens.specs.Words.{is_word}

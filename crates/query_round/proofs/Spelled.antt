@@ -1,12 +1,12 @@
 -- Tokens in front of a text that continues none of them.
-use Rattle.std.proofs.Common.{arith, length, ◌+◌, ◌<◌, ◌≤◌, ◌^◌, ◌≡◌, ℕ, zero, suc, Bool, true, false, eqb, ◌||◌, List, [], ◌∷◌, ◌++◌, Option, Some, None, refl, subst}
+use Rattle.std.proofs.Common.{arith, length, ◌+◌, ◌<◌, ◌^◌, ◌≡◌, ℕ, suc, Bool, true, false, ◌||◌, List, [], ◌∷◌, ◌++◌, Some, None, refl, subst}
 use Rattle.std.specs.Prelude.{ℤ, codes, ◌==◌}
 use Rattle.std.proofs.Math.IntN.{pos, negsuc, neg_ℤ}
 use Rattle.std.specs.List.{list_all}
 use Rattle.std.specs.Int.{IsInRange}
-use Rattle.std.specs.Char.{is_ascii_alphabetic, is_ascii_digit}
+use Rattle.std.specs.Char.{is_ascii_digit}
 use Rattle.std.specs.Fmt.{decimal, signed_decimal}
-use Rattle.std.specs.Str.Parse.{AllDigits, digits_value}
+use Rattle.std.specs.Str.Parse.{AllDigits}
 use Rattle.std.proofs.lemmas.Bool.Decides.{nat_tests}
 use Rattle.std.proofs.lemmas.Fmt.{digits_decimal, digits_value-decimal, decimal_nonempty}
 use Rattle.std.proofs.lemmas.Str.Parse.{digit_from_value}
@@ -17,9 +17,9 @@ use Rattle.query_tokens.specs.declared.token.Word.TheVariants as w
 use Rattle.query_tokens.specs.declared.token.Sign.TheVariants as s
 use Rattle.query_tokens.specs.Words.{continues_word, is_word, word_text, reserved}
 use Rattle.query_tokens.specs.Spelling.{begins_with, is_digits, IsToken, SpellsFrom}
-use Rattle.query_tokens.specs.Steps.{token_at, sign_at, order_at, sign_behind_less, sign_behind_greater}
+use Rattle.query_tokens.specs.Steps.{token_at, sign_at}
 use Rattle.query_tokens.proofs.Digits.{own}
-use Rattle.query_tokens.proofs.Sound.{Found, token_s}
+use Rattle.query_tokens.proofs.Sound.{token_s}
 use Rattle.query_round.proofs.Good.{InRange}
 
 -- From any byte on, the text spells these tokens.
@@ -101,14 +101,16 @@ word_is w.True = record { word = refl; found = refl }
 word_is w.Unknown = record { word = refl; found = refl }
 word_is w.Where = record { word = refl; found = refl }
 
-pub spelled_word : (x : Word) {rest : List ℕ} {ks : List Token} → breaks rest ≡ true → Spelled rest ks → Spelled (word_text x ++ rest) (tokens.Word x ∷ ks)
+pub spelled_word : (x : Word) {rest : List ℕ} {ks : List Token} → breaks rest ≡ true → Spelled rest ks
+    → Spelled (word_text x ++ rest) (tokens.Word x ∷ ks)
 spelled_word x {rest} q s = let h = word_is x in spelled_token (IsToken.keyword h.word h.found (no_word rest q)) s
 
 lines_is : (is_word (codes "lines") ≡ true) × (reserved (codes "lines") ≡ None)
 unfolding reserved
 lines_is = (refl, refl)
 
-pub spelled_lines : {rest : List ℕ} {ks : List Token} → breaks rest ≡ true → Spelled rest ks → Spelled (codes "lines" ++ rest) (tokens.Name (codes "lines") ∷ ks)
+pub spelled_lines : {rest : List ℕ} {ks : List Token} → breaks rest ≡ true → Spelled rest ks
+    → Spelled (codes "lines" ++ rest) (tokens.Name (codes "lines") ∷ ks)
 spelled_lines {rest} q s = spelled_token (IsToken.name lines_is.0 lines_is.1 (no_word rest q)) s
 
 -- ---- numbers
@@ -130,18 +132,21 @@ decimal_digits n h = some_digits (decimal n) (digits_decimal own n h) (decimal_n
 plain_is : (n : ℕ) (rest : List ℕ) → n < 2 ^ 63 → breaks rest ≡ true → IsToken (decimal n) (tokens.Integer (pos n)) rest
 plain_is n rest h q =
     let e = digits_value-decimal own n (omega arith) in
-    subst (λ m. IsToken (decimal n) (tokens.Integer (pos m)) rest) e (IsToken.number (decimal_digits n (omega arith)) (rw e h) (no_word rest q))
+    let is = IsToken.number (decimal_digits n (omega arith)) (rw e h) (no_word rest q) in
+    subst (λ m. IsToken (decimal n) (tokens.Integer (pos m)) rest) e is
 
 negative_is : (n : ℕ) (rest : List ℕ) → n < 2 ^ 63 → breaks rest ≡ true → IsToken (45 ∷ decimal (suc n)) (tokens.Integer (negsuc n)) rest
 negative_is n rest h q =
     let e = digits_value-decimal own (suc n) (omega arith) in
-    subst (λ m. IsToken (45 ∷ decimal (suc n)) (tokens.Integer (neg_ℤ (pos m))) rest) e (IsToken.negative (decimal_digits (suc n) (omega arith)) (rw e (omega arith)) (no_word rest q))
+    let is = IsToken.negative (decimal_digits (suc n) (omega arith)) (rw e (omega arith)) (no_word rest q) in
+    subst (λ m. IsToken (45 ∷ decimal (suc n)) (tokens.Integer (neg_ℤ (pos m))) rest) e is
 
 integer_is : (i : ℤ) (rest : List ℕ) → InRange i → breaks rest ≡ true → IsToken (signed_decimal i) (tokens.Integer i) rest
 integer_is (pos n) rest h q = plain_is n rest h q
 integer_is (negsuc n) rest h q = negative_is n rest h q
 
-pub spelled_integer : (i : ℤ) {rest : List ℕ} {ks : List Token} → InRange i → breaks rest ≡ true → Spelled rest ks → Spelled (signed_decimal i ++ rest) (tokens.Integer i ∷ ks)
+pub spelled_integer : (i : ℤ) {rest : List ℕ} {ks : List Token} → InRange i → breaks rest ≡ true → Spelled rest ks
+    → Spelled (signed_decimal i ++ rest) (tokens.Integer i ∷ ks)
 spelled_integer i {rest} h q s = spelled_token (integer_is i rest h q) s
 
 -- ---- signs

@@ -1,5 +1,5 @@
 -- Predicates and their parts that sane tokens derive are good.
-use Rattle.std.proofs.Common.{arith, length, ◌<◌, ◌≤◌, ℕ, zero, suc, Bool, true, false, List, [], ◌∷◌, ◌⊎◌, inl, inr}
+use Rattle.std.proofs.Common.{arith, ◌≤◌, ℕ, zero, suc, Bool, List, [], ◌∷◌, inl, inr}
 use Rattle.std.proofs.lemmas.Bool.{cases_lt}
 use Rattle.values.specs.declared.comparison.Op.{Op}
 use Rattle.values.specs.declared.truth.Truth.{Truth}
@@ -19,11 +19,12 @@ use Rattle.query_round.proofs.Sane.{AllSane}
 abbrev pub Leaves : (A : Type 0) → Derivation A → (A → Type 0) → Type 0
 Leaves A D P = (ts r : List Token) (x : A) → D ts x r → AllSane ts → P x × AllSane r
 
-pub repeated_leaves : (A : Type 0) (sep : Token) (D : Derivation A) (P : A → Type 0) → Leaves A D P → {ts r : List Token} {xs : List A} → IsRepeated sep D ts xs r → AllSane ts → Each P xs × AllSane r
+pub repeated_leaves : (A : Type 0) (sep : Token) (D : Derivation A) (P : A → Type 0) → Leaves A D P → {ts r : List Token} {xs : List A}
+    → IsRepeated sep D ts xs r → AllSane ts → Each P xs × AllSane r
 repeated_leaves A sep D P leaves IsRepeated.none h = (tt, h)
-repeated_leaves A sep D P leaves (IsRepeated.more {ts} {mid} {x} d more) h =
+repeated_leaves A sep D P leaves (IsRepeated.more {ts} {mid} {x} d tail) h =
     let first = leaves ts mid x d h.1 in
-    let others = repeated_leaves A sep D P leaves more first.1 in
+    let others = repeated_leaves A sep D P leaves tail first.1 in
     ((first.0, others.0), others.1)
 
 -- ---- expressions
@@ -45,8 +46,8 @@ function_leaves ts r _ (IsFunction.plain {f} d) h = aggregate_leaves ts r f d h
 
 pub expression_leaves : Leaves ExpressionForm IsExpression GoodExpression
 expression_leaves _ _ _ IsExpression.name h = h
-expression_leaves _ _ _ (IsExpression.grouping more few) h =
-    let others = repeated_leaves (List ℕ) (tokens.Sign s.Comma) IsName GoodName name_leaves more h.1.1.1 in
+expression_leaves _ _ _ (IsExpression.grouping tail few) h =
+    let others = repeated_leaves (List ℕ) (tokens.Sign s.Comma) IsName GoodName name_leaves tail h.1.1.1 in
     ((h.1.1.0, others.0, few), others.1.1)
 expression_leaves ts r _ (IsExpression.function {f} d) h = function_leaves ts r f d h
 
@@ -106,10 +107,10 @@ atom_leaves n _ _ _ (IsAtom.between {ts} {u} {v} {mid} {r} {x} {y} {z} a m b c) 
     let g = operand_leaves v (tokens.Word w.And ∷ mid) y b (mark_leaves m f.1).1 in
     let e = operand_leaves mid r z c g.1.1 in
     (tight_good 4 n _ (omega arith) (f.0, g.0, e.0), e.1)
-atom_leaves n _ _ _ (IsAtom.member {ts} {u} {v} {mid} {r} {x} {a = first} i m f more few) h =
+atom_leaves n _ _ _ (IsAtom.member {ts} {u} {v} {mid} {r} {x} {a = first} i m f tail few) h =
     let g = operand_leaves ts u x i h in
     let k = literal_leaves v mid first f (mark_leaves m g.1).1.1 in
-    let j = repeated_leaves Literal (tokens.Sign s.Comma) IsLiteral GoodLiteral literal_leaves more k.1 in
+    let j = repeated_leaves Literal (tokens.Sign s.Comma) IsLiteral GoodLiteral literal_leaves tail k.1 in
     (tight_good 4 n _ (omega arith) (g.0, (k.0, j.0, few)), j.1.1)
 atom_leaves n _ _ _ (IsAtom.null_test {ts} {u} {r} {x} i m) h =
     let g = operand_leaves ts (tokens.Word w.Is ∷ u) x i h in
@@ -125,7 +126,8 @@ parts_fit : (k n : ℕ) (ps : List PredicateForm) → Each (FitAt k n) ps → Pa
 parts_fit k n [] h = tt
 parts_fit k n (p ∷ ps) h = (h.0, parts_fit k n ps h.1)
 
-many_fit : (k n : ℕ) (p q : PredicateForm) (ps : List PredicateForm) → FitAt k n p → Each (FitAt k n) (q ∷ ps) → IsMany (predicate_forms (p ∷ q ∷ ps)) × PartsFit k (predicate_forms (p ∷ q ∷ ps)) n
+many_fit : (k n : ℕ) (p q : PredicateForm) (ps : List PredicateForm) → FitAt k n p → Each (FitAt k n) (q ∷ ps)
+    → IsMany (predicate_forms (p ∷ q ∷ ps)) × PartsFit k (predicate_forms (p ∷ q ∷ ps)) n
 many_fit k n p q ps f h = (tt, (f, parts_fit k n (q ∷ ps) h))
 
 and_tight : (n : ℕ) (p : PredicateForm) (ps : List PredicateForm) → Tight 2 n p → Each (FitAt 2 n) ps → Tight 1 n (conjunction_of p ps)
@@ -136,9 +138,11 @@ or_tight : (n : ℕ) (p : PredicateForm) (ps : List PredicateForm) → Tight 1 n
 or_tight n p [] t h = tight_less 1 0 n p (omega arith) t
 or_tight n p (q ∷ ps) t h = tight_good 0 n (or_of (predicate_forms (p ∷ q ∷ ps))) (omega arith) (many_fit 1 n p q ps (t.fits 1 (omega arith)) h)
 
--- What is tight enough fits.
-fitting : (top n : ℕ) (D : Derivation PredicateForm) → Loose top D n → Leaves PredicateForm D (FitAt top n)
-fitting top n D loose ts r p d h = let g = loose ts r p d h in (g.0.fits top (omega arith), g.1)
+-- The parts behind the first, where each holds together so tightly.
+parts_leave : (top : ℕ) {n : ℕ} (sep : Token) (D : Derivation PredicateForm) → Loose top D n
+    → {ts r : List Token} {ps : List PredicateForm} → IsRepeated sep D ts ps r → AllSane ts → Each (FitAt top n) ps × AllSane r
+parts_leave top {n} sep D loose =
+    repeated_leaves PredicateForm sep D (FitAt top n) (λ ts r p d h. let g = loose ts r p d h in (g.0.fits top (omega arith), g.1))
 
 module _ (n : ℕ) (Inner : Derivation PredicateForm) (inner : Leaves PredicateForm Inner (λ p. Deeper (Good p) n)) where
   primary_leaves : Loose 4 (IsPrimary Inner) n
@@ -153,18 +157,19 @@ module _ (n : ℕ) (Inner : Derivation PredicateForm) (inner : Leaves PredicateF
 
   negation_leaves : Loose 2 (IsNegation Inner) n
   negation_leaves _ _ _ (IsNegation.plain {ts} {r} {p} i) h = let g = test_leaves ts r p i h in (tight_less 3 2 n p (omega arith) g.0, g.1)
-  negation_leaves _ _ _ (IsNegation.not {ts} {r} {p} i) h = let g = test_leaves ts r p i h.1 in (tight_good 2 n (not_of p) (omega arith) (g.0.fits 3 (omega arith)), g.1)
+  negation_leaves _ _ _ (IsNegation.not {ts} {r} {p} i) h =
+      let g = test_leaves ts r p i h.1 in (tight_good 2 n (not_of p) (omega arith) (g.0.fits 3 (omega arith)), g.1)
 
   conjunction_leaves : Loose 1 (IsConjunction Inner) n
-  conjunction_leaves _ _ _ (IsConjunction.parts {ts} {mid} {p} {ps} i more) h =
+  conjunction_leaves _ _ _ (IsConjunction.parts {ts} {mid} {p} {ps} i tail) h =
       let g = negation_leaves ts mid p i h in
-      let j = repeated_leaves PredicateForm (tokens.Word w.And) (IsNegation Inner) (FitAt 2 n) (fitting 2 n (IsNegation Inner) negation_leaves) more g.1 in
+      let j = parts_leave 2 (tokens.Word w.And) (IsNegation Inner) negation_leaves tail g.1 in
       (and_tight n p ps g.0 j.0, j.1)
 
   disjunction_leaves : Loose 0 (IsDisjunction Inner) n
-  disjunction_leaves _ _ _ (IsDisjunction.parts {ts} {mid} {p} {ps} i more) h =
+  disjunction_leaves _ _ _ (IsDisjunction.parts {ts} {mid} {p} {ps} i tail) h =
       let g = conjunction_leaves ts mid p i h in
-      let j = repeated_leaves PredicateForm (tokens.Word w.Or) (IsConjunction Inner) (FitAt 1 n) (fitting 1 n (IsConjunction Inner) conjunction_leaves) more g.1 in
+      let j = parts_leave 1 (tokens.Word w.Or) (IsConjunction Inner) conjunction_leaves tail g.1 in
       (or_tight n p ps g.0 j.0, j.1)
 
 loosest : (has : ℕ) (G : ℕ → Type 0) (n : ℕ) → Fits 0 has G n → G n

@@ -1,13 +1,11 @@
 -- A query that sane tokens derive is good.
-use Rattle.std.proofs.Common.{ℕ, List, [], ◌∷◌, Option, Some, None}
-use Rattle.query_tokens.specs.declared.token.Token.{Token}
+use Rattle.std.proofs.Common.{List, ◌∷◌, Option}
 use Rattle.query_tokens.specs.declared.token.Token.TheVariants as tokens
 use Rattle.query_tokens.specs.declared.token.Word.TheVariants as w
 use Rattle.query_tokens.specs.declared.token.Sign.TheVariants as s
 use Rattle.query_tree.specs.Syntax.{PredicateForm, GroupForm, ItemForm, TreeForm}
 use Rattle.query_round.specs.Grammar.{IsItem, IsWhere, IsGroup, IsGroupBy, IsQuery}
 use Rattle.query_round.proofs.Good.{Each, Within, Good, GoodItem, GoodGroup, GoodTree}
-use Rattle.query_round.proofs.Sane.{AllSane}
 use Rattle.query_round.proofs.Strip.{Leaves, repeated_leaves, expression_leaves, predicate_leaves}
 
 item_leaves : Leaves ItemForm IsItem GoodItem
@@ -23,16 +21,16 @@ group_leaves _ _ _ IsGroup.column h = h
 
 group_by_leaves : Leaves (List GroupForm) IsGroupBy (Each GoodGroup)
 group_by_leaves _ _ _ IsGroupBy.none h = (tt, h)
-group_by_leaves _ _ _ (IsGroupBy.groups {ts} {mid} {g = x} d more) h =
+group_by_leaves _ _ _ (IsGroupBy.groups {ts} {mid} {g = x} d tail) h =
     let first = group_leaves ts mid x d h.1.1 in
-    let others = repeated_leaves GroupForm (tokens.Sign s.Comma) IsGroup GoodGroup group_leaves more first.1 in
+    let others = repeated_leaves GroupForm (tokens.Sign s.Comma) IsGroup GoodGroup group_leaves tail first.1 in
     ((first.0, others.0), others.1)
 
 -- A query that sane tokens derive is good.
 pub query_leaves : Leaves TreeForm IsQuery GoodTree
-query_leaves _ r _ (IsQuery.query {ts} {mid} {after_from} {after_where} {i} {is} {p} {gs} d more few d_where d_groups) h =
+query_leaves _ r _ (IsQuery.query {ts} {mid} {after_from} {after_where} {i} {is} {p} {gs} d tail few d_where d_groups) h =
     let first = item_leaves ts mid i d h.1 in
-    let others = repeated_leaves ItemForm (tokens.Sign s.Comma) IsItem GoodItem item_leaves more first.1 in
+    let others = repeated_leaves ItemForm (tokens.Sign s.Comma) IsItem GoodItem item_leaves tail first.1 in
     let filter = where_leaves after_from after_where p d_where others.1.1.1 in
     let groups = group_by_leaves after_where r gs d_groups filter.1 in
     (((first.0, others.0, few), filter.0, groups.0, tt, tt), groups.1)

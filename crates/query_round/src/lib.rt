@@ -9,5 +9,4 @@ ghost use Rattle.query_tree.specs.Syntax.{TreeForm};
 /// The canonical text of a query that some text says says that query again.
 pub fn reads_again()
     ensures { (q : TreeForm) → ∥ ((text : List ℕ) × Says text q) ∥₁ → Says (canonical_text q) q }
-{
-}
+{}
