@@ -1,12 +1,12 @@
-//! What is printed is read again.
+//! The canonical text of a query is read as that query again.
 #![tactic(auto)]
 
 ghost use Rattle.std.specs.Prelude.{List, ℕ};
 ghost use Rattle.query_print.specs.Canonical.{canonical_text};
-ghost use Rattle.query_round.specs.Reading.{Says};
+ghost use Rattle.query_round.specs.Texts.{IsTextOf};
 ghost use Rattle.query_tree.specs.Syntax.{TreeForm};
 
-/// The canonical text of a query that some text says says that query again.
+/// A law, which has nothing to run: the canonical text of a query that has any text is a text of that query.
 pub fn reads_again()
-    ensures { (q : TreeForm) → ∥ ((text : List ℕ) × Says text q) ∥₁ → Says (canonical_text q) q }
+    ensures { (q : TreeForm) → ∥ ((text : List ℕ) × IsTextOf text q) ∥₁ → IsTextOf (canonical_text q) q }
 {}
