@@ -76,9 +76,6 @@ pub word_free : (x : Word) → Free (word_text x ++ 32 ∷ []) (word_onto x)
 word_free x = record { goes = λ rest ks h. rw (append_assoc (word_text x) (32 ∷ []) rest) (spelled_word x refl (spelled_space h)) }
 
 -- A text behind a space.
-pub spaced_goes : {a : List ℕ} {f : Onto} → Goes a f → Goes (32 ∷ a) f
-spaced_goes x = record { goes = λ rest ks q h. spelled_space (x.goes rest ks q h) }
-
 pub spaced_free : {a : List ℕ} {f : Onto} → Free a f → Free (32 ∷ a) f
 spaced_free x = record { goes = λ rest ks h. spelled_space (x.goes rest ks h) }
 

@@ -7,8 +7,10 @@ use Rattle.values.specs.declared.truth.Truth.{Truth}
 use Rattle.values.specs.declared.truth.Truth.TheVariants as truth
 use Rattle.query_tokens.specs.declared.token.Token.{Token}
 use Rattle.query_tokens.specs.declared.token.Token.TheVariants as tokens
+use Rattle.query_tokens.specs.declared.token.Word.{Word}
 use Rattle.query_tokens.specs.declared.token.Word.TheVariants as w
 use Rattle.query_tokens.specs.declared.token.Sign.TheVariants as s
+use Rattle.query_tokens.specs.Words.{word_text}
 use Rattle.query_tokens.specs.Steps.{token_at, sign_at, order_at, sign_behind_less, sign_behind_greater}
 use Rattle.query_tree.specs.declared.predicate.Literal.{Literal}
 use Rattle.query_tree.specs.Syntax.{OperandForm, PredicateForm, PredicateForms, or_of, and_of, not_of, truth_test, compare, between, member, null_test, column, no_parts, part}
@@ -58,6 +60,11 @@ and_free = spaced_free (word_free w.And)
 spaced_operand : (x : OperandForm) → GoodOperand x → Free (operand_text x ++ codes " ") (operand_onto x)
 spaced_operand x g = goes_free (operand_goes x g) (space_breaks []) space_free
 
+-- An operand, NOT where it is written, and a word.
+marked_free : (x : OperandForm) (n : Bool) (word : Word) → GoodOperand x
+    → Free (operand_text x ++ codes " " ++ not_text n ++ (word_text word ++ 32 ∷ [])) (λ ks. operand_onto x (not_onto n (tokens.Word word ∷ ks)))
+marked_free x n word g = free_free (free_free (spaced_operand x g) (not_free n)) (word_free word)
+
 compare_goes : (x : OperandForm) (o : Op) (y : OperandForm) → Good (compare x o y) 0
     → Goes (predicate_text (compare x o y)) (predicate_onto (compare x o y))
 compare_goes x o y g = free_goes (op_free o (spaced_operand x g.0)) (operand_goes y g.1)
@@ -65,16 +72,13 @@ compare_goes x o y g = free_goes (op_free o (spaced_operand x g.0)) (operand_goe
 between_goes : (x : OperandForm) (n : Bool) (y z : OperandForm) → Good (between x n y z) 0
     → Goes (predicate_text (between x n y z)) (predicate_onto (between x n y z))
 between_goes x n y z g =
-    let word : Free (operand_text x ++ codes " " ++ not_text n ++ codes "BETWEEN ") (λ ks. operand_onto x (not_onto n (tokens.Word w.Between ∷ ks))) =
-    free_free (free_free (spaced_operand x g.0) (not_free n)) (word_free w.Between) in
-    free_goes (goes_free (free_goes word (operand_goes y g.1)) (space_breaks _) and_free) (operand_goes z g.2)
+    let low = free_goes (marked_free x n w.Between g.0) (operand_goes y g.1) in
+    free_goes (goes_free low (space_breaks _) and_free) (operand_goes z g.2)
 
 member_goes : (x : OperandForm) (n : Bool) (ls : List Literal) → Good (member x n ls) 0
     → Goes (predicate_text (member x n ls)) (predicate_onto (member x n ls))
 member_goes x n ls g =
-    let word : Free (operand_text x ++ codes " " ++ not_text n ++ codes "IN ") (λ ks. operand_onto x (not_onto n (tokens.Word w.In ∷ ks))) =
-    free_free (free_free (spaced_operand x g.0) (not_free n)) (word_free w.In) in
-    goes_of (free_free word (brackets_free (filled_go 64 GoodLiteral literal_text literal_onto literal_goes ls g.1)))
+    goes_of (free_free (marked_free x n w.In g.0) (brackets_free (filled_go 64 GoodLiteral literal_text literal_onto literal_goes ls g.1)))
 
 null_goes : (x : OperandForm) (n : Bool) → GoodOperand x → Goes (predicate_text (null_test x n)) (predicate_onto (null_test x n))
 null_goes x n g = free_goes (free_free (goes_free (operand_goes x g) (space_breaks _) is_free) (not_free n)) (word_goes w.Null)
