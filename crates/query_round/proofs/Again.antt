@@ -8,10 +8,10 @@ use Rattle.query_round.specs.Texts.{IsTextOf}
 use Rattle.query_round.proofs.Good.{GoodTree}
 use Rattle.query_round.proofs.Onto.{query_onto}
 use Rattle.query_round.proofs.Spelled.{Spelled, spelled_end}
-use Rattle.query_round.proofs.Queries.{query_goes}
+use Rattle.query_round.proofs.GoesQuery.{query_goes}
 use Rattle.query_round.proofs.DeriveQuery.{query_d}
 use Rattle.query_round.proofs.Sane.{spelled_sane}
-use Rattle.query_round.proofs.StripQuery.{query_leaves}
+use Rattle.query_round.proofs.GoodQuery.{query_leaves}
 use Rattle.query_round.proofs.Props.{tree_one}
 
 text_good : (text : List ℕ) (q : TreeForm) → IsTextOf text q → GoodTree q

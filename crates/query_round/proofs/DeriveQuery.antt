@@ -5,7 +5,7 @@ use Rattle.query_tree.specs.Syntax.{ExpressionForm, PredicateForm, GroupForm, It
 use Rattle.query_round.specs.Grammar.{IsItem, IsWhere, IsGroup, IsGroupBy, IsQuery}
 use Rattle.query_round.proofs.Good.{Each, Within, GoodExpression, Good, GoodItem, GoodSet, GoodGroup, GoodTree}
 use Rattle.query_round.proofs.Onto.{expression_onto, alias_onto, item_onto, set_onto, group_onto, where_onto, group_by_onto, query_onto}
-use Rattle.query_round.proofs.Derive.{commas_derive, expression_d, predicate_d}
+use Rattle.query_round.proofs.DerivePredicates.{commas_derive, expression_d, predicate_d}
 
 aliased_d : (e : ExpressionForm) (n : Option (List ℕ)) (r : List Token) → GoodExpression e
     → IsItem (expression_onto e (alias_onto n r)) record { expression = e; alias = n } r

@@ -19,7 +19,7 @@ use Rattle.query_round.proofs.Good.{GoodLiteral, GoodOperand, Fits, Good, PartsF
 use Rattle.query_round.proofs.Onto.{Onto, op_sign, truth_word, not_onto, literal_onto, operand_onto, brackets_onto, bracketed_onto, predicate_onto, part_ontos}
 use Rattle.query_round.proofs.Spelled.{Spelled, spelled_space, spelled_read}
 use Rattle.query_round.proofs.Goes.{Free, Goes, AllGo, free_free, free_goes, goes_free, goes_of, nothing_free, word_onto, word_goes, word_free, spaced_free, space_breaks, space_free, brackets_free, word_separates, list_goes}
-use Rattle.query_round.proofs.Leaves.{name_goes, literal_goes, operand_goes, filled_go}
+use Rattle.query_round.proofs.GoesExpressions.{name_goes, literal_goes, operand_goes, filled_go}
 
 -- ---- operators and keywords
 

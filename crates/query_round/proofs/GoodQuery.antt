@@ -6,7 +6,7 @@ use Rattle.query_tokens.specs.declared.token.Sign.TheVariants as s
 use Rattle.query_tree.specs.Syntax.{PredicateForm, GroupForm, ItemForm, TreeForm}
 use Rattle.query_round.specs.Grammar.{IsItem, IsWhere, IsGroup, IsGroupBy, IsQuery}
 use Rattle.query_round.proofs.Good.{Each, Within, Good, GoodItem, GoodGroup, GoodTree}
-use Rattle.query_round.proofs.Strip.{Leaves, repeated_leaves, expression_leaves, predicate_leaves}
+use Rattle.query_round.proofs.GoodPredicates.{Leaves, repeated_leaves, expression_leaves, predicate_leaves}
 
 item_leaves : Leaves ItemForm IsItem GoodItem
 item_leaves ts r _ (IsItem.plain {e} d) h = let g = expression_leaves ts r e d h in ((g.0, tt), g.1)

@@ -9,8 +9,8 @@ use Rattle.query_round.proofs.Good.{Each, Within, Absent, Empty, Good, GoodItem,
 use Rattle.query_round.proofs.Onto.{Onto, commas_onto, item_onto, group_onto, from_onto, where_onto, group_by_onto, query_onto}
 use Rattle.query_round.proofs.Spelled.{spelled_lines}
 use Rattle.query_round.proofs.Goes.{Free, Goes, Begins, free_free, free_goes, goes_goes, begins_of, nothing_goes, nothing_begins, word_free, spaced_free, space_breaks, commas_go}
-use Rattle.query_round.proofs.Leaves.{item_goes, groups_go, filled_go}
-use Rattle.query_round.proofs.Predicates.{predicate_goes}
+use Rattle.query_round.proofs.GoesExpressions.{item_goes, groups_go, filled_go}
+use Rattle.query_round.proofs.GoesPredicates.{predicate_goes}
 
 lines_goes : Goes (codes "lines") (λ ks. tokens.Name (codes "lines") ∷ ks)
 lines_goes = record { goes = λ rest ks q h. spelled_lines q h }
