@@ -1,0 +1,205 @@
+-- The tokens of a good query derive it.
+use Rattle.std.proofs.Common.{arith, ◌<◌, ◌≤◌, ◌≡◌, ℕ, zero, suc, Bool, true, false, List, [], ◌∷◌, map, refl, ap, subst, inl, inr}
+use Rattle.std.specs.Prelude.{nat_lt}
+use Rattle.std.proofs.lemmas.Bool.{cases_lt}
+use Rattle.std.proofs.lemmas.Bool.Decides.{nat_tests}
+use Rattle.values.specs.declared.comparison.Op.{Op}
+use Rattle.values.specs.declared.comparison.Op.TheVariants as op
+use Rattle.values.specs.declared.truth.Truth.{Truth}
+use Rattle.values.specs.declared.truth.Truth.TheVariants as truth
+use Rattle.query_tokens.specs.declared.token.Token.{Token}
+use Rattle.query_tokens.specs.declared.token.Token.TheVariants as tokens
+use Rattle.query_tokens.specs.declared.token.Word.TheVariants as w
+use Rattle.query_tokens.specs.declared.token.Sign.TheVariants as s
+use Rattle.query_tree.specs.declared.predicate.Literal.{Literal}
+use Rattle.query_tree.specs.declared.predicate.Literal.TheVariants as literals
+use Rattle.query_tree.specs.declared.expression.Aggregate.{Aggregate}
+use Rattle.query_tree.specs.declared.expression.Aggregate.TheVariants as aggregates
+use Rattle.query_tree.specs.Syntax.{ExpressionForm, FunctionForm, OperandForm, PredicateForm, PredicateForms, name, grouping, function, over_all, over_filtered, or_of, and_of, not_of, truth_test, compare, between, member, null_test, column, no_parts, part, predicate_forms}
+use Rattle.query_print.specs.Canonical.{tightness}
+use Rattle.query_round.specs.Grammar.{Derivation, IsRepeated, IsName, IsAggregate, IsFunction, IsExpression, IsLiteral, IsOperand, IsOp, IsTruthValue, IsMark, IsAtom, IsPrimary, IsTest, IsNegation, IsConjunction, IsDisjunction, IsPredicate}
+use Rattle.query_round.proofs.Good.{Each, Filled, GoodName, GoodFunction, GoodExpression, GoodLiteral, GoodOperand, IsMany, Fits, Good, PartsFit}
+use Rattle.query_round.proofs.Onto.{Onto, others_onto, list_onto, name_onto, aggregate_onto, function_onto, expression_onto, literal_onto, operand_onto, op_sign, truth_word, not_onto, bracketed_onto, predicate_onto, part_ontos}
+
+-- ---- lists
+
+-- The others of a list derive it, where each element is derived from its tokens.
+pub others_derive : {A : Type 0} (sep : Token) (D : Derivation A) (onto : A → Onto) (P : A → Type 0)
+    → ((x : A) (r : List Token) → P x → D (onto x r) x r)
+    → (xs : List A) (r : List Token) → Each P xs → IsRepeated sep D (others_onto sep (map onto xs) r) xs r
+others_derive sep D onto P made [] r g = IsRepeated.none
+others_derive sep D onto P made (x ∷ xs) r g = IsRepeated.more (made x _ g.0) (others_derive sep D onto P made xs r g.1)
+
+-- The same with commas.
+pub commas_derive : {A : Type 0} (D : Derivation A) (onto : A → Onto) (P : A → Type 0) → ((x : A) (r : List Token) → P x → D (onto x r) x r)
+    → (xs : List A) (r : List Token) → Each P xs → IsRepeated (tokens.Sign s.Comma) D (others_onto (tokens.Sign s.Comma) (map onto xs) r) xs r
+commas_derive = others_derive (tokens.Sign s.Comma)
+
+-- ---- expressions
+
+name_d : (n : List ℕ) (r : List Token) → GoodName n → IsName (name_onto n r) n r
+name_d n r g = IsName.name
+
+aggregate_d : (f : Aggregate) (r : List Token) → IsAggregate (aggregate_onto f r) f r
+aggregate_d aggregates.CountRows r = IsAggregate.count_rows
+aggregate_d (aggregates.Count n) r = IsAggregate.count
+aggregate_d (aggregates.CountDistinct n) r = IsAggregate.count_distinct
+aggregate_d (aggregates.Sum n) r = IsAggregate.sum
+aggregate_d (aggregates.Min n) r = IsAggregate.min
+aggregate_d (aggregates.Max n) r = IsAggregate.max
+aggregate_d (aggregates.Avg n) r = IsAggregate.avg
+
+function_d : (f : FunctionForm) (r : List Token) → GoodFunction f → IsFunction (function_onto f r) f r
+function_d (over_all f) r g = IsFunction.plain (aggregate_d f r)
+function_d (over_filtered f p) r g = absurd g
+
+grouping_d : (ns : List (List ℕ)) (r : List Token) → Filled 8 GoodName ns → IsExpression (expression_onto (grouping ns) r) (grouping ns) r
+grouping_d [] r g = absurd g
+grouping_d (n ∷ ns) r g =
+    IsExpression.grouping (commas_derive IsName name_onto GoodName name_d ns (tokens.Sign s.Close ∷ r) g.1) g.2
+
+pub expression_d : (e : ExpressionForm) (r : List Token) → GoodExpression e → IsExpression (expression_onto e r) e r
+expression_d (name n) r g = IsExpression.name
+expression_d (grouping ns) r g = grouping_d ns r g
+expression_d (function f) r g = IsExpression.function (function_d f r g)
+
+-- ---- the leaves of predicates
+
+literal_d : (a : Literal) (r : List Token) → GoodLiteral a → IsLiteral (literal_onto a r) a r
+literal_d (literals.Integer i) r g = IsLiteral.integer
+literal_d (literals.Text t) r g = IsLiteral.text
+literal_d (literals.Truth true) r g = IsLiteral.yes
+literal_d (literals.Truth false) r g = IsLiteral.no
+
+operand_d : (x : OperandForm) (r : List Token) → GoodOperand x → IsOperand (operand_onto x r) x r
+operand_d (OperandForm.expression e) r g = IsOperand.expression (expression_d e r g)
+operand_d (OperandForm.literal a) r g = IsOperand.literal (literal_d a r g)
+
+op_d : (o : Op) (r : List Token) → IsOp (tokens.Sign (op_sign o) ∷ r) o r
+op_d op.Eq r = IsOp.eq
+op_d op.Ne r = IsOp.ne
+op_d op.Lt r = IsOp.lt
+op_d op.Le r = IsOp.le
+op_d op.Gt r = IsOp.gt
+op_d op.Ge r = IsOp.ge
+
+truth_d : (t : Truth) (r : List Token) → IsTruthValue (tokens.Word (truth_word t) ∷ r) t r
+truth_d truth.True r = IsTruthValue.yes
+truth_d truth.False r = IsTruthValue.no
+truth_d truth.Unknown r = IsTruthValue.unknown
+
+mark_d : (n : Bool) (r : List Token) → IsMark (not_onto n r) n r
+mark_d true r = IsMark.not
+mark_d false r = IsMark.none
+
+member_d : (x : OperandForm) (n : Bool) (ls : List Literal) (r : List Token) → GoodOperand x → Filled 64 GoodLiteral ls
+    → IsAtom (predicate_onto (member x n ls) r) (member x n ls) r
+member_d x n [] r g h = absurd h
+member_d x n (a ∷ ls) r g h =
+    let others = commas_derive IsLiteral literal_onto GoodLiteral literal_d ls (tokens.Sign s.Close ∷ r) h.1 in
+    IsAtom.member (operand_d x _ g) (mark_d n _) (literal_d a _ h.0) others h.2
+
+-- ---- levels: what a predicate that holds together so tightly is derived as
+
+abbrev At : ℕ → ℕ → Derivation PredicateForm
+At zero n = IsDisjunction (IsPredicate n)
+At (suc zero) n = IsConjunction (IsPredicate n)
+At (suc (suc zero)) n = IsNegation (IsPredicate n)
+At (suc (suc (suc zero))) n = IsTest (IsPredicate n)
+At (suc (suc (suc (suc k)))) n = IsPrimary (IsPredicate n)
+
+down : (l n : ℕ) (ts r : List Token) (p : PredicateForm) → At (suc l) n ts p r → At l n ts p r
+down zero n ts r p i = IsDisjunction.parts {ps = []} i IsRepeated.none
+down (suc zero) n ts r p i = IsConjunction.parts {ps = []} i IsRepeated.none
+down (suc (suc zero)) n ts r p i = IsNegation.plain i
+down (suc (suc (suc zero))) n ts r p i = IsTest.plain i
+down (suc (suc (suc (suc k)))) n ts r p i = i
+
+lower : (l k n : ℕ) (ts r : List Token) (p : PredicateForm) → k ≤ l → At l n ts p r → At k n ts p r
+lower zero k n ts r p h i = subst (λ j. At j n ts p r) (let e : 0 ≡ k = omega arith in e) i
+lower (suc l) k n ts r p h i =
+    elim (cases_lt k (suc l)) [
+      | inl j ↦ lower l k n ts r p (omega arith) (down l n ts r p i)
+      | inr j ↦ subst (λ x. At x n ts p r) (let e : suc l ≡ k = omega arith in e) i
+    ]
+
+is_less : (a b : ℕ) → a < b → nat_lt a b ≡ true
+is_less a b h = grind (arith, nat_tests)
+
+not_less : (a b : ℕ) → b ≤ a → nat_lt a b ≡ false
+not_less a b h = grind (arith, nat_tests)
+
+bracket : (k n : ℕ) (ts r : List Token) (p : PredicateForm) → k ≤ 4 → At 0 n ts p (tokens.Sign s.Close ∷ r)
+    → At k (suc n) (tokens.Sign s.Open ∷ ts) p r
+unfolding IsPredicate
+bracket k n ts r p h i = lower 4 k (suc n) (tokens.Sign s.Open ∷ ts) r p h (IsPrimary.brackets i)
+
+fits_d : (k has n : ℕ) (p : PredicateForm) (f : Onto) (G : ℕ → Type 0) → ((m : ℕ) (r : List Token) → G m → At has m (f r) p r) → k ≤ 4
+    → (r : List Token) → Fits k has G n → At k n (bracketed_onto k has f r) p r
+fits_d k has zero p f G made room r (inl h) = absurd h.1
+fits_d k has (suc n) p f G made room r (inl h) =
+    let closed : List Token = tokens.Sign s.Close ∷ r in
+    rw (is_less has k h.0) (bracket k n (f closed) r p room (lower has 0 n (f closed) closed p (omega arith) (made n closed h.1)))
+fits_d k has n p f G made room r (inr h) = rw (not_less has k h.0) (lower has k n (f r) r p h.0 (made n r h.1))
+
+-- ---- the parts of an OR or an AND
+
+abbrev listed : PredicateForms → List PredicateForm
+listed no_parts = []
+listed (part p ps) = p ∷ listed ps
+
+listed_again : (ps : PredicateForms) → predicate_forms (listed ps) ≡ ps
+listed_again no_parts = refl
+listed_again (part p ps) = ap (λ (qs : PredicateForms). part p qs) (listed_again ps)
+
+-- The first part, and the others behind it.
+abbrev PartsDerive : ℕ → Token → PredicateForms → ℕ → List Token → Type 0
+PartsDerive k sep no_parts n r = Unit {0}
+PartsDerive k sep (part p ps) n r =
+    At k n (list_onto sep (part_ontos k (part p ps)) r) p (others_onto sep (part_ontos k ps) r)
+    × IsRepeated sep (At k n) (others_onto sep (part_ontos k ps) r) (listed ps) r
+
+or_d : (ps : PredicateForms) (n : ℕ) (r : List Token) → IsMany ps → PartsDerive 1 (tokens.Word w.Or) ps n r
+    → IsDisjunction (IsPredicate n) (predicate_onto (or_of ps) r) (or_of ps) r
+or_d no_parts n r many g = absurd many
+or_d (part p no_parts) n r many g = absurd many
+or_d (part p (part q ps)) n r many g =
+    let ts : List Token = predicate_onto (or_of (part p (part q ps))) r in
+    subst (λ qs. IsDisjunction (IsPredicate n) ts (or_of (part p (part q qs))) r) (listed_again ps) (IsDisjunction.parts g.0 g.1)
+
+and_d : (ps : PredicateForms) (n : ℕ) (r : List Token) → IsMany ps → PartsDerive 2 (tokens.Word w.And) ps n r
+    → IsConjunction (IsPredicate n) (predicate_onto (and_of ps) r) (and_of ps) r
+and_d no_parts n r many g = absurd many
+and_d (part p no_parts) n r many g = absurd many
+and_d (part p (part q ps)) n r many g =
+    let ts : List Token = predicate_onto (and_of (part p (part q ps))) r in
+    subst (λ qs. IsConjunction (IsPredicate n) ts (and_of (part p (part q qs))) r) (listed_again ps) (IsConjunction.parts g.0 g.1)
+
+mutual
+  pub good_d : (p : PredicateForm) (n : ℕ) (r : List Token) → Good p n → At (tightness p) n (predicate_onto p r) p r
+  good_d (or_of ps) n r g = or_d ps n r g.0 (parts_d (tokens.Word w.Or) 1 ps n r (omega arith) g.1)
+  good_d (and_of ps) n r g = and_d ps n r g.0 (parts_d (tokens.Word w.And) 2 ps n r (omega arith) g.1)
+  good_d (not_of p) n r g = IsNegation.not (fits_d 3 (tightness p) n p (predicate_onto p) (Good p) (good_d p) (omega arith) r g)
+  good_d (truth_test p b t) n r g =
+      IsTest.test (fits_d 4 (tightness p) n p (predicate_onto p) (Good p) (good_d p) (omega arith) _ g) (mark_d b _) (truth_d t r)
+  good_d (compare x o y) n r g = IsPrimary.atom (IsAtom.compare (operand_d x _ g.0) (op_d o _) (operand_d y r g.1))
+  good_d (between x b y z) n r g = IsPrimary.atom (IsAtom.between (operand_d x _ g.0) (mark_d b _) (operand_d y _ g.1) (operand_d z r g.2))
+  good_d (member x b ls) n r g = IsPrimary.atom (member_d x b ls r g.0 g.1)
+  good_d (null_test x b) n r g = IsPrimary.atom (IsAtom.null_test (operand_d x _ g) (mark_d b _))
+  good_d (column m) n r g = IsPrimary.atom IsAtom.column
+
+  parts_d : (sep : Token) (k : ℕ) (ps : PredicateForms) (n : ℕ) (r : List Token) → k ≤ 4 → PartsFit k ps n → PartsDerive k sep ps n r
+  parts_d sep k no_parts n r room g = tt
+  parts_d sep k (part p ps) n r room g =
+      (fits_d k (tightness p) n p (predicate_onto p) (Good p) (good_d p) room _ g.0, others_d sep k ps n r room g.1)
+
+  others_d : (sep : Token) (k : ℕ) (ps : PredicateForms) (n : ℕ) (r : List Token) → k ≤ 4 → PartsFit k ps n
+      → IsRepeated sep (At k n) (others_onto sep (part_ontos k ps) r) (listed ps) r
+  others_d sep k no_parts n r room g = IsRepeated.none
+  others_d sep k (part p ps) n r room g =
+      IsRepeated.more (fits_d k (tightness p) n p (predicate_onto p) (Good p) (good_d p) room _ g.0) (others_d sep k ps n r room g.1)
+
+-- The tokens of a good predicate derive it.
+pub predicate_d : (p : PredicateForm) (n : ℕ) (r : List Token) → Good p n → IsPredicate (suc n) (predicate_onto p r) p r
+unfolding IsPredicate
+predicate_d p n r g = lower (tightness p) 0 n (predicate_onto p r) r p (omega arith) (good_d p n r g)

@@ -1,0 +1,126 @@
+-- Names, expressions, literals, items and groups spell their tokens.
+use Rattle.std.proofs.Common.{arith, ◌≡◌, ℕ, Bool, true, false, cond, List, [], ◌∷◌, ◌++◌, map, Option, Some, None, refl}
+use Rattle.std.specs.Prelude.{codes, is_none}
+use Rattle.query_tokens.specs.declared.token.Token.TheVariants as tokens
+use Rattle.query_tokens.specs.declared.token.Word.{Word}
+use Rattle.query_tokens.specs.declared.token.Word.TheVariants as w
+use Rattle.query_tokens.specs.declared.token.Sign.TheVariants as s
+use Rattle.query_tokens.specs.Words.{is_word, reserved, quoted, is_plain_name, name_text}
+use Rattle.query_tokens.specs.Spelling.{IsToken}
+use Rattle.query_tokens.proofs.Inversions.{and_both}
+use Rattle.query_tree.specs.declared.predicate.Literal.{Literal}
+use Rattle.query_tree.specs.declared.predicate.Literal.TheVariants as literals
+use Rattle.query_tree.specs.declared.expression.Aggregate.{Aggregate}
+use Rattle.query_tree.specs.declared.expression.Aggregate.TheVariants as aggregates
+use Rattle.query_tree.specs.Syntax.{ExpressionForm, FunctionForm, OperandForm, GroupForm, ItemForm, name, grouping, function, over_all, over_filtered, set, rollup, cube, sets, group_forms}
+use Rattle.query_print.specs.Canonical.{comma_list, aggregate_text, literal_text, expression_text, function_text, operand_text, alias_text, item_text, unit_text, group_text, group_texts}
+use Rattle.query_round.proofs.Good.{Each, Filled, Within, GoodName, GoodAggregate, GoodFunction, GoodExpression, GoodLiteral, GoodOperand, GoodItem, GoodSet, GoodGroup}
+use Rattle.query_round.proofs.Onto.{Onto, commas_onto, name_onto, argument_onto, aggregate_onto, function_onto, expression_onto, literal_onto, operand_onto, alias_onto, item_onto, set_onto, group_onto}
+use Rattle.query_round.proofs.Spelled.{no_word, no_name_quote, no_text_quote, spelled_token, spelled_integer, spelled_star}
+use Rattle.query_round.proofs.Goes.{Free, Goes, Begins, AllGo, free_free, free_goes, goes_free, goes_goes, goes_of, begins_of, nothing_goes, nothing_begins, word_onto, word_goes, word_free, spaced_free, space_breaks, open_free, open_breaks, close_free, close_breaks, commas_go, each_goes}
+
+-- ---- names and literals
+
+not_reserved : (o : Option Word) → is_none o ≡ true → o ≡ None
+not_reserved None e = refl
+not_reserved (Some x) e = absurd cc
+
+plain_goes : (n : List ℕ) → is_plain_name n ≡ true → Goes n (name_onto n)
+plain_goes n e =
+    let both = and_both (is_word n) (is_none (reserved n)) e in
+    record { goes = λ rest ks q h. spelled_token (IsToken.name both.0 (not_reserved (reserved n) both.1) (no_word rest q)) h }
+
+quoted_goes : (n : List ℕ) → GoodName n → Goes (quoted 34 n) (name_onto n)
+quoted_goes [] g = absurd (omega arith)
+quoted_goes (b ∷ n) g = record { goes = λ rest ks q h. spelled_token (IsToken.quoted_name {first = b} {others = n} (no_name_quote rest q)) h }
+
+name_at : (plain : Bool) (n : List ℕ) → is_plain_name n ≡ plain → GoodName n → Goes (cond plain n (quoted 34 n)) (name_onto n)
+name_at true n e g = plain_goes n e
+name_at false n e g = quoted_goes n g
+
+pub name_goes : (n : List ℕ) → GoodName n → Goes (name_text n) (name_onto n)
+name_goes n g = name_at (is_plain_name n) n refl g
+
+pub literal_goes : (a : Literal) → GoodLiteral a → Goes (literal_text a) (literal_onto a)
+literal_goes (literals.Integer i) g = record { goes = λ rest ks q h. spelled_integer i g q h }
+literal_goes (literals.Text t) g = record { goes = λ rest ks q h. spelled_token (IsToken.text {content = t} (no_text_quote rest q)) h }
+literal_goes (literals.Truth true) g = word_goes w.True
+literal_goes (literals.Truth false) g = word_goes w.False
+
+-- ---- expressions
+
+-- A function's word and its argument in brackets.
+argument_goes : (word : Word) {front a : List ℕ} {f : Onto} → Free front (λ ks. tokens.Word word ∷ tokens.Sign s.Open ∷ ks) → Goes a f
+    → Goes (front ++ a ++ codes ")") (argument_onto word f)
+argument_goes word x y = goes_of (goes_free (free_goes x y) close_breaks close_free)
+
+opened : (word : Word) (text : List ℕ) → Goes text (word_onto word) → Free (text ++ codes "(") (λ ks. tokens.Word word ∷ tokens.Sign s.Open ∷ ks)
+opened word text x = goes_free x open_breaks open_free
+
+star_free : Free (codes "*") (λ ks. tokens.Sign s.Star ∷ ks)
+star_free = record { goes = λ rest ks h. spelled_star h }
+
+aggregate_goes : (f : Aggregate) → GoodAggregate f → Goes (aggregate_text f) (aggregate_onto f)
+aggregate_goes aggregates.CountRows g =
+    argument_goes w.Count {front = codes "COUNT("} {a = codes "*"} (opened w.Count _ (word_goes w.Count)) (goes_of star_free)
+aggregate_goes (aggregates.Count n) g = argument_goes w.Count (opened w.Count _ (word_goes w.Count)) (name_goes n g)
+aggregate_goes (aggregates.CountDistinct n) g =
+    let front = free_free (opened w.Count _ (word_goes w.Count)) (word_free w.Distinct) in
+    goes_of (goes_free (free_goes front (name_goes n g)) close_breaks close_free)
+aggregate_goes (aggregates.Sum n) g = argument_goes w.Sum (opened w.Sum _ (word_goes w.Sum)) (name_goes n g)
+aggregate_goes (aggregates.Min n) g = argument_goes w.Min (opened w.Min _ (word_goes w.Min)) (name_goes n g)
+aggregate_goes (aggregates.Max n) g = argument_goes w.Max (opened w.Max _ (word_goes w.Max)) (name_goes n g)
+aggregate_goes (aggregates.Avg n) g = argument_goes w.Avg (opened w.Avg _ (word_goes w.Avg)) (name_goes n g)
+
+function_goes : (f : FunctionForm) → GoodFunction f → Goes (function_text f) (function_onto f)
+function_goes (over_all f) g = aggregate_goes f g
+function_goes (over_filtered f p) g = absurd g
+
+-- A list that is not empty, with commas.
+pub filled_go : {A : Type 0} (most : ℕ) (P : A → Type 0) (text : A → List ℕ) (onto : A → Onto)
+    → ((x : A) → P x → Goes (text x) (onto x)) → (xs : List A) → Filled most P xs → Goes (comma_list (map text xs)) (commas_onto (map onto xs))
+filled_go most P text onto goes [] g = absurd g
+filled_go most P text onto goes (x ∷ xs) g = commas_go (map text (x ∷ xs)) (map onto (x ∷ xs)) (goes x g.0, each_goes P text onto goes xs g.1)
+
+pub expression_goes : (e : ExpressionForm) → GoodExpression e → Goes (expression_text e) (expression_onto e)
+expression_goes (name n) g = name_goes n g
+expression_goes (grouping ns) g =
+    argument_goes w.Grouping (opened w.Grouping _ (word_goes w.Grouping)) (filled_go 8 GoodName name_text name_onto name_goes ns g)
+expression_goes (function f) g = function_goes f g
+
+pub operand_goes : (x : OperandForm) → GoodOperand x → Goes (operand_text x) (operand_onto x)
+operand_goes (OperandForm.expression e) g = expression_goes e g
+operand_goes (OperandForm.literal a) g = literal_goes a g
+
+-- ---- items
+
+as_free : Free (codes " AS ") (word_onto w.As)
+as_free = spaced_free (word_free w.As)
+
+alias_goes : (n : Option (List ℕ)) → Within GoodName n → Goes (alias_text n) (alias_onto n)
+alias_goes None g = nothing_goes
+alias_goes (Some n) g = free_goes as_free (name_goes n g)
+
+alias_begins : (n : Option (List ℕ)) → Begins (alias_text n)
+alias_begins None = nothing_begins
+alias_begins (Some n) = begins_of (space_breaks _)
+
+pub item_goes : (i : ItemForm) → GoodItem i → Goes (item_text i) (item_onto i)
+item_goes i g = goes_goes (expression_goes i.expression g.0) (alias_begins i.alias) (alias_goes i.alias g.1)
+
+-- ---- groups
+
+set_goes : (ns : List (List ℕ)) → GoodSet ns → Goes (unit_text ns) (set_onto ns)
+set_goes [] g = absurd g
+set_goes (n ∷ []) g = name_goes n g
+set_goes (n ∷ m ∷ ns) g = absurd g
+
+group_goes : (x : GroupForm) → GoodGroup x → Goes (group_text x) (group_onto x)
+group_goes (set ns) g = set_goes ns g
+group_goes (rollup us) g = absurd g
+group_goes (cube us) g = absurd g
+group_goes (sets gs) g = absurd g
+
+pub groups_go : (gs : List GroupForm) → Each GoodGroup gs → AllGo (group_texts (group_forms gs)) (map group_onto gs)
+groups_go [] g = tt
+groups_go (x ∷ gs) g = (group_goes x g.0, groups_go gs g.1)

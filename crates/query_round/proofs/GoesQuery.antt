@@ -1,0 +1,65 @@
+-- The canonical text of a good query spells its tokens.
+use Rattle.std.proofs.Common.{ℕ, List, [], ◌∷◌, ◌++◌, map, Option, Some, None}
+use Rattle.std.specs.Prelude.{codes}
+use Rattle.query_tokens.specs.declared.token.Token.TheVariants as tokens
+use Rattle.query_tokens.specs.declared.token.Word.TheVariants as w
+use Rattle.query_tree.specs.Syntax.{PredicateForm, GroupForm, KeyForm, TreeForm, group_forms}
+use Rattle.query_print.specs.Canonical.{comma_list, item_text, group_texts, key_text, predicate_clause, list_clause, canonical_text}
+use Rattle.query_round.proofs.Good.{Each, Within, Absent, Empty, Good, GoodItem, GoodGroup, GoodTree}
+use Rattle.query_round.proofs.Onto.{Onto, commas_onto, item_onto, group_onto, from_onto, where_onto, group_by_onto, query_onto}
+use Rattle.query_round.proofs.Spelled.{spelled_lines}
+use Rattle.query_round.proofs.Goes.{Free, Goes, Begins, free_free, free_goes, goes_goes, begins_of, nothing_goes, nothing_begins, word_free, spaced_free, space_breaks, commas_go}
+use Rattle.query_round.proofs.GoesExpressions.{item_goes, groups_go, filled_go}
+use Rattle.query_round.proofs.GoesPredicates.{predicate_goes}
+
+lines_goes : Goes (codes "lines") (λ ks. tokens.Name (codes "lines") ∷ ks)
+lines_goes = record { goes = λ rest ks q h. spelled_lines q h }
+
+from_goes : Goes (codes " FROM lines") from_onto
+from_goes = free_goes (spaced_free (word_free w.From)) lines_goes
+
+-- ---- clauses
+
+where_free : Free (codes " WHERE ") (λ ks. tokens.Word w.Where ∷ ks)
+where_free = spaced_free (word_free w.Where)
+
+where_goes : (p : Option PredicateForm) → Within (λ p. Good p 64) p → Goes (predicate_clause (codes " WHERE ") p) (where_onto p)
+where_goes None g = nothing_goes
+where_goes (Some p) g = free_goes where_free (predicate_goes p 64 g)
+
+where_begins : (p : Option PredicateForm) → Begins (predicate_clause (codes " WHERE ") p)
+where_begins None = nothing_begins
+where_begins (Some p) = begins_of (space_breaks _)
+
+group_by_free : Free (codes " GROUP BY ") (λ ks. tokens.Word w.Group ∷ tokens.Word w.By ∷ ks)
+group_by_free = free_free (spaced_free (word_free w.Group)) (word_free w.By)
+
+group_by_goes : (gs : List GroupForm) → Each GoodGroup gs → Goes (list_clause (codes " GROUP BY ") (group_texts (group_forms gs))) (group_by_onto gs)
+group_by_goes [] g = nothing_goes
+group_by_goes (x ∷ gs) g = free_goes group_by_free (commas_go (group_texts (group_forms (x ∷ gs))) (map group_onto (x ∷ gs)) (groups_go (x ∷ gs) g))
+
+group_by_begins : (gs : List GroupForm) → Begins (list_clause (codes " GROUP BY ") (group_texts (group_forms gs)))
+group_by_begins [] = nothing_begins
+group_by_begins (x ∷ gs) = begins_of (space_breaks _)
+
+-- A clause that is not written.
+having_goes : (p : Option PredicateForm) {a : List ℕ} {f : Onto} → Absent p → Goes a f → Goes (a ++ predicate_clause (codes " HAVING ") p) f
+having_goes None g x = goes_goes x nothing_begins nothing_goes
+having_goes (Some p) g x = absurd g
+
+keys_go : (ks : List KeyForm) {a : List ℕ} {f : Onto} → Empty ks → Goes a f → Goes (a ++ list_clause (codes " ORDER BY ") (map key_text ks)) f
+keys_go [] g x = goes_goes x nothing_begins nothing_goes
+keys_go (k ∷ ks) g x = absurd g
+
+-- ---- the query
+
+items_go : (q : TreeForm) → GoodTree q
+    → Goes (codes "SELECT " ++ comma_list (map item_text q.items)) (λ ks. tokens.Word w.Select ∷ commas_onto (map item_onto q.items) ks)
+items_go q g =
+    free_goes (word_free w.Select) (filled_go 64 GoodItem item_text item_onto item_goes q.items g.0)
+
+pub query_goes : (q : TreeForm) → GoodTree q → Goes (canonical_text q) (query_onto q)
+query_goes q g =
+    let head = goes_goes (items_go q g) (begins_of (space_breaks _)) from_goes in
+    let body = goes_goes (goes_goes head (where_begins q.filter) (where_goes q.filter g.1)) (group_by_begins q.groups) (group_by_goes q.groups g.2) in
+    keys_go q.keys g.4 (having_goes q.having g.3 body)

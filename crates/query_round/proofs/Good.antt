@@ -1,0 +1,159 @@
+-- The queries that some text says, apart from any text.
+use Rattle.std.proofs.Common.{length, ◌<◌, ◌≤◌, ◌^◌, ℕ, zero, suc, List, [], ◌∷◌, Option, Some, None, ◌⊎◌, inl, inr}
+use Rattle.std.specs.Prelude.{ℤ}
+use Rattle.std.proofs.Math.IntN.{pos, negsuc}
+use Rattle.query_tree.specs.declared.predicate.Literal.{Literal}
+use Rattle.query_tree.specs.declared.predicate.Literal.TheVariants as literals
+use Rattle.query_tree.specs.declared.expression.Aggregate.{Aggregate}
+use Rattle.query_tree.specs.declared.expression.Aggregate.TheVariants as aggregates
+use Rattle.query_tree.specs.Syntax.{ExpressionForm, FunctionForm, OperandForm, PredicateForm, PredicateForms, GroupForm, ItemForm, TreeForm, name, grouping, function, over_all, over_filtered, or_of, and_of, not_of, truth_test, compare, between, member, null_test, column, no_parts, part, set, rollup, cube, sets}
+use Rattle.query_print.specs.Canonical.{tightness}
+
+-- ---- lists
+
+-- Each of a list has the property.
+abbrev pub Each : {A : Type 0} → (A → Type 0) → List A → Type 0
+Each P [] = Unit {0}
+Each P (x ∷ xs) = P x × Each P xs
+
+-- Each of a list has the property, and the list has one element at least and this many at most.
+abbrev pub Filled : {A : Type 0} → ℕ → (A → Type 0) → List A → Type 0
+Filled most P [] = ⊥
+Filled most P (x ∷ xs) = P x × Each P xs × (length xs < most)
+
+-- What stands in an Option has the property.
+abbrev pub Within : {A : Type 0} → (A → Type 0) → Option A → Type 0
+Within P None = Unit {0}
+Within P (Some x) = P x
+
+-- Nothing stands in an Option, or in a list.
+abbrev pub Absent : {A : Type 0} → Option A → Type 0
+Absent None = Unit {0}
+Absent (Some x) = ⊥
+
+abbrev pub Empty : {A : Type 0} → List A → Type 0
+Empty [] = Unit {0}
+Empty (x ∷ xs) = ⊥
+
+-- ---- expressions
+
+-- A name is not empty.
+abbrev pub GoodName : List ℕ → Type 0
+GoodName n = 0 < length n
+
+abbrev pub GoodAggregate : Aggregate → Type 0
+GoodAggregate aggregates.CountRows = Unit {0}
+GoodAggregate (aggregates.Count n) = GoodName n
+GoodAggregate (aggregates.CountDistinct n) = GoodName n
+GoodAggregate (aggregates.Sum n) = GoodName n
+GoodAggregate (aggregates.Min n) = GoodName n
+GoodAggregate (aggregates.Max n) = GoodName n
+GoodAggregate (aggregates.Avg n) = GoodName n
+
+-- The grammar has no FILTER.
+abbrev pub GoodFunction : FunctionForm → Type 0
+GoodFunction (over_all f) = GoodAggregate f
+GoodFunction (over_filtered f p) = ⊥
+
+abbrev pub GoodExpression : ExpressionForm → Type 0
+GoodExpression (name n) = GoodName n
+GoodExpression (grouping ns) = Filled 8 GoodName ns
+GoodExpression (function f) = GoodFunction f
+
+-- ---- predicates
+
+-- A whole number fits 64 bits.
+abbrev pub InRange : ℤ → Type 0
+InRange (pos n) = n < 2 ^ 63
+InRange (negsuc n) = n < 2 ^ 63
+
+abbrev pub GoodLiteral : Literal → Type 0
+GoodLiteral (literals.Integer i) = InRange i
+GoodLiteral (literals.Text t) = Unit {0}
+GoodLiteral (literals.Truth b) = Unit {0}
+
+abbrev pub GoodOperand : OperandForm → Type 0
+GoodOperand (OperandForm.expression e) = GoodExpression e
+GoodOperand (OperandForm.literal a) = GoodLiteral a
+
+-- OR and AND have two parts or more.
+abbrev pub IsMany : PredicateForms → Type 0
+IsMany no_parts = ⊥
+IsMany (part p no_parts) = ⊥
+IsMany (part p (part q ps)) = Unit {0}
+
+-- One level of brackets less.
+abbrev pub Deeper : (ℕ → Type 0) → ℕ → Type 0
+Deeper G zero = ⊥
+Deeper G (suc n) = G n
+
+-- What is to hold together at least so tightly does, or it stands in brackets.
+abbrev pub Fits : ℕ → ℕ → (ℕ → Type 0) → ℕ → Type 0
+Fits least has G n = ((has < least) × Deeper G n) ⊎ ((least ≤ has) × G n)
+
+-- The canonical text has at most n levels of brackets.
+abbrev mutual
+  pub Good : PredicateForm → ℕ → Type 0
+  Good (or_of ps) n = IsMany ps × PartsFit 1 ps n
+  Good (and_of ps) n = IsMany ps × PartsFit 2 ps n
+  Good (not_of p) n = Fits 3 (tightness p) (Good p) n
+  Good (truth_test p b t) n = Fits 4 (tightness p) (Good p) n
+  Good (compare x o y) n = GoodOperand x × GoodOperand y
+  Good (between x b y z) n = GoodOperand x × GoodOperand y × GoodOperand z
+  Good (member x b ls) n = GoodOperand x × Filled 64 GoodLiteral ls
+  Good (null_test x b) n = GoodOperand x
+  Good (column m) n = GoodName m
+
+  pub PartsFit : ℕ → PredicateForms → ℕ → Type 0
+  PartsFit least no_parts n = Unit {0}
+  PartsFit least (part p ps) n = Fits least (tightness p) (Good p) n × PartsFit least ps n
+
+-- ---- the query
+
+abbrev pub GoodItem : ItemForm → Type 0
+GoodItem i = GoodExpression i.expression × Within GoodName i.alias
+
+-- The grammar has groups of one name only.
+abbrev pub GoodSet : List (List ℕ) → Type 0
+GoodSet [] = ⊥
+GoodSet (n ∷ []) = GoodName n
+GoodSet (n ∷ m ∷ ns) = ⊥
+
+abbrev pub GoodGroup : GroupForm → Type 0
+GoodGroup (set ns) = GoodSet ns
+GoodGroup (rollup us) = ⊥
+GoodGroup (cube us) = ⊥
+GoodGroup (sets gs) = ⊥
+
+-- The grammar has no HAVING and no ORDER BY.
+abbrev pub GoodTree : TreeForm → Type 0
+GoodTree q = Filled 64 GoodItem q.items × Within (λ p. Good p 64) q.filter × Each GoodGroup q.groups × Absent q.having × Empty q.keys
+
+-- ---- more levels of brackets do no harm
+
+deeper_more : (G : ℕ → Type 0) → ((n : ℕ) → G n → G (suc n)) → (n : ℕ) → Deeper G n → G n
+deeper_more G up zero d = absurd d
+deeper_more G up (suc n) d = up n d
+
+fits_more : (least has : ℕ) (G : ℕ → Type 0) → ((n : ℕ) → G n → G (suc n)) → (n : ℕ) → Fits least has G n → Fits least has G (suc n)
+fits_more least has G up n (inl h) = inl (h.0, deeper_more G up n h.1)
+fits_more least has G up n (inr h) = inr (h.0, up n h.1)
+
+mutual
+  pub good_more : (p : PredicateForm) (n : ℕ) → Good p n → Good p (suc n)
+  good_more (or_of ps) n g = (g.0, parts_more 1 ps n g.1)
+  good_more (and_of ps) n g = (g.0, parts_more 2 ps n g.1)
+  good_more (not_of p) n g = fits_more 3 (tightness p) (Good p) (good_more p) n g
+  good_more (truth_test p b t) n g = fits_more 4 (tightness p) (Good p) (good_more p) n g
+  good_more (compare x o y) n g = g
+  good_more (between x b y z) n g = g
+  good_more (member x b ls) n g = g
+  good_more (null_test x b) n g = g
+  good_more (column m) n g = g
+
+  pub parts_more : (least : ℕ) (ps : PredicateForms) (n : ℕ) → PartsFit least ps n → PartsFit least ps (suc n)
+  parts_more least no_parts n g = tt
+  parts_more least (part p ps) n g = (fits_more least (tightness p) (Good p) (good_more p) n g.0, parts_more least ps n g.1)
+
+pub deeper_good : (p : PredicateForm) (n : ℕ) → Deeper (Good p) n → Good p n
+deeper_good p n d = deeper_more (Good p) (good_more p) n d

@@ -1,0 +1,19 @@
+-- What a query is that some text has, and the tokens of its canonical text.
+mod Good
+mod Onto
+mod Props
+-- The canonical text spells these tokens.
+mod Spelled
+mod Goes
+mod GoesExpressions
+mod GoesPredicates
+mod GoesQuery
+-- These tokens derive the query.
+mod DerivePredicates
+mod DeriveQuery
+-- What a text spells and derives is such a query.
+mod Sane
+mod GoodPredicates
+mod GoodQuery
+-- The whole.
+pub mod Again

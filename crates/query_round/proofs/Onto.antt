@@ -1,0 +1,151 @@
+-- The tokens of a canonical text, put in front of others.
+use Rattle.std.proofs.Common.{ℕ, Bool, true, false, cond, List, [], ◌∷◌, map, Option, Some, None}
+use Rattle.std.specs.Prelude.{nat_lt, codes}
+use Rattle.values.specs.declared.comparison.Op.{Op}
+use Rattle.values.specs.declared.comparison.Op.TheVariants as op
+use Rattle.values.specs.declared.truth.Truth.{Truth}
+use Rattle.values.specs.declared.truth.Truth.TheVariants as truth
+use Rattle.query_tokens.specs.declared.token.Token.{Token}
+use Rattle.query_tokens.specs.declared.token.Token.TheVariants as tokens
+use Rattle.query_tokens.specs.declared.token.Word.{Word}
+use Rattle.query_tokens.specs.declared.token.Word.TheVariants as w
+use Rattle.query_tokens.specs.declared.token.Sign.{Sign}
+use Rattle.query_tokens.specs.declared.token.Sign.TheVariants as s
+use Rattle.query_tree.specs.declared.predicate.Literal.{Literal}
+use Rattle.query_tree.specs.declared.predicate.Literal.TheVariants as literals
+use Rattle.query_tree.specs.declared.expression.Aggregate.{Aggregate}
+use Rattle.query_tree.specs.declared.expression.Aggregate.TheVariants as aggregates
+use Rattle.query_tree.specs.Syntax.{ExpressionForm, FunctionForm, OperandForm, PredicateForm, PredicateForms, GroupForm, ItemForm, TreeForm, name, grouping, function, over_all, over_filtered, or_of, and_of, not_of, truth_test, compare, between, member, null_test, column, no_parts, part, set, rollup, cube, sets}
+use Rattle.query_print.specs.Canonical.{tightness}
+
+-- Tokens in front of others.
+abbrev pub Onto : Type 0
+Onto = List Token → List Token
+
+-- ---- lists
+
+-- The others of a list, a separator before each.
+abbrev pub others_onto : Token → List Onto → Onto
+others_onto sep [] r = r
+others_onto sep (f ∷ fs) r = sep ∷ f (others_onto sep fs r)
+
+-- A list, a separator between each and the next.
+abbrev pub list_onto : Token → List Onto → Onto
+list_onto sep [] r = r
+list_onto sep (f ∷ fs) r = f (others_onto sep fs r)
+
+abbrev pub commas_onto : List Onto → Onto
+commas_onto = list_onto (tokens.Sign s.Comma)
+
+-- ---- expressions
+
+abbrev pub name_onto : List ℕ → Onto
+name_onto n r = tokens.Name n ∷ r
+
+-- A function's word and its argument in brackets.
+abbrev pub argument_onto : Word → Onto → Onto
+argument_onto word f r = tokens.Word word ∷ tokens.Sign s.Open ∷ f (tokens.Sign s.Close ∷ r)
+
+abbrev pub aggregate_onto : Aggregate → Onto
+aggregate_onto aggregates.CountRows = argument_onto w.Count (λ r. tokens.Sign s.Star ∷ r)
+aggregate_onto (aggregates.Count n) = argument_onto w.Count (name_onto n)
+aggregate_onto (aggregates.CountDistinct n) = argument_onto w.Count (λ r. tokens.Word w.Distinct ∷ name_onto n r)
+aggregate_onto (aggregates.Sum n) = argument_onto w.Sum (name_onto n)
+aggregate_onto (aggregates.Min n) = argument_onto w.Min (name_onto n)
+aggregate_onto (aggregates.Max n) = argument_onto w.Max (name_onto n)
+aggregate_onto (aggregates.Avg n) = argument_onto w.Avg (name_onto n)
+
+abbrev pub function_onto : FunctionForm → Onto
+function_onto (over_all f) = aggregate_onto f
+function_onto (over_filtered f p) = λ r. r
+
+abbrev pub expression_onto : ExpressionForm → Onto
+expression_onto (name n) = name_onto n
+expression_onto (grouping ns) = argument_onto w.Grouping (commas_onto (map name_onto ns))
+expression_onto (function f) = function_onto f
+
+-- ---- predicates
+
+abbrev pub literal_onto : Literal → Onto
+literal_onto (literals.Integer i) r = tokens.Integer i ∷ r
+literal_onto (literals.Text t) r = tokens.Text t ∷ r
+literal_onto (literals.Truth true) r = tokens.Word w.True ∷ r
+literal_onto (literals.Truth false) r = tokens.Word w.False ∷ r
+
+abbrev pub operand_onto : OperandForm → Onto
+operand_onto (OperandForm.expression e) = expression_onto e
+operand_onto (OperandForm.literal a) = literal_onto a
+
+abbrev pub op_sign : Op → Sign
+op_sign op.Eq = s.Equal
+op_sign op.Ne = s.NotEqual
+op_sign op.Lt = s.Less
+op_sign op.Le = s.LessOrEqual
+op_sign op.Gt = s.Greater
+op_sign op.Ge = s.GreaterOrEqual
+
+abbrev pub truth_word : Truth → Word
+truth_word truth.True = w.True
+truth_word truth.False = w.False
+truth_word truth.Unknown = w.Unknown
+
+abbrev pub not_onto : Bool → Onto
+not_onto true r = tokens.Word w.Not ∷ r
+not_onto false r = r
+
+abbrev pub brackets_onto : Onto → Onto
+brackets_onto f r = tokens.Sign s.Open ∷ f (tokens.Sign s.Close ∷ r)
+
+abbrev pub bracketed_onto : ℕ → ℕ → Onto → Onto
+bracketed_onto least has f = cond (nat_lt has least) (brackets_onto f) f
+
+abbrev mutual
+  pub predicate_onto : PredicateForm → Onto
+  predicate_onto (or_of ps) = list_onto (tokens.Word w.Or) (part_ontos 1 ps)
+  predicate_onto (and_of ps) = list_onto (tokens.Word w.And) (part_ontos 2 ps)
+  predicate_onto (not_of p) = λ r. tokens.Word w.Not ∷ bracketed_onto 3 (tightness p) (predicate_onto p) r
+  predicate_onto (truth_test p n t) =
+      λ r. bracketed_onto 4 (tightness p) (predicate_onto p) (tokens.Word w.Is ∷ not_onto n (tokens.Word (truth_word t) ∷ r))
+  predicate_onto (compare x o y) = λ r. operand_onto x (tokens.Sign (op_sign o) ∷ operand_onto y r)
+  predicate_onto (between x n y z) = λ r. operand_onto x (not_onto n (tokens.Word w.Between ∷ operand_onto y (tokens.Word w.And ∷ operand_onto z r)))
+  predicate_onto (member x n ls) = λ r. operand_onto x (not_onto n (tokens.Word w.In ∷ brackets_onto (commas_onto (map literal_onto ls)) r))
+  predicate_onto (null_test x n) = λ r. operand_onto x (tokens.Word w.Is ∷ not_onto n (tokens.Word w.Null ∷ r))
+  predicate_onto (column n) = name_onto n
+
+  pub part_ontos : ℕ → PredicateForms → List Onto
+  part_ontos least no_parts = []
+  part_ontos least (part p ps) = bracketed_onto least (tightness p) (predicate_onto p) ∷ part_ontos least ps
+
+-- ---- the query
+
+abbrev pub alias_onto : Option (List ℕ) → Onto
+alias_onto None r = r
+alias_onto (Some n) r = tokens.Word w.As ∷ tokens.Name n ∷ r
+
+abbrev pub item_onto : ItemForm → Onto
+item_onto i r = expression_onto i.expression (alias_onto i.alias r)
+
+abbrev pub set_onto : List (List ℕ) → Onto
+set_onto [] r = r
+set_onto (n ∷ ns) r = tokens.Name n ∷ r
+
+abbrev pub group_onto : GroupForm → Onto
+group_onto (set ns) = set_onto ns
+group_onto (rollup us) = λ r. r
+group_onto (cube us) = λ r. r
+group_onto (sets gs) = λ r. r
+
+abbrev pub from_onto : Onto
+from_onto r = tokens.Word w.From ∷ tokens.Name (codes "lines") ∷ r
+
+abbrev pub where_onto : Option PredicateForm → Onto
+where_onto None r = r
+where_onto (Some p) r = tokens.Word w.Where ∷ predicate_onto p r
+
+abbrev pub group_by_onto : List GroupForm → Onto
+group_by_onto [] r = r
+group_by_onto (g ∷ gs) r = tokens.Word w.Group ∷ tokens.Word w.By ∷ commas_onto (map group_onto (g ∷ gs)) r
+
+abbrev pub query_onto : TreeForm → Onto
+query_onto q r =
+    tokens.Word w.Select ∷ commas_onto (map item_onto q.items) (from_onto (where_onto q.filter (group_by_onto q.groups r)))

@@ -1,0 +1,153 @@
+-- A query is good in one way at most.
+use Rattle.std.proofs.Common.{arith, length, ◌<◌, ◌≤◌, ◌^◌, ℕ, zero, suc, List, [], ◌∷◌, Option, Some, None, ◌⊎◌, inl, inr, ap}
+use Rattle.std.proofs.Math.IntN.{pos, negsuc}
+use Rattle.std.proofs.Math.Bridge.{le_prop}
+use Rattle.query_tree.specs.declared.predicate.Literal.TheVariants as literals
+use Rattle.query_tree.specs.declared.expression.Aggregate.TheVariants as aggregates
+use Rattle.query_tree.specs.Syntax.{OperandForm, PredicateForm, PredicateForms, name, grouping, function, over_all, over_filtered, or_of, and_of, not_of, truth_test, compare, between, member, null_test, column, no_parts, part, set, rollup, cube, sets}
+use Rattle.query_print.specs.Canonical.{tightness}
+use Rattle.query_round.proofs.Good.{Each, Filled, Within, Absent, Empty, GoodName, GoodAggregate, GoodFunction, GoodExpression, InRange, GoodLiteral, GoodOperand, IsMany, Deeper, Fits, Good, PartsFit, GoodItem, GoodSet, GoodGroup, GoodTree}
+
+le_one : (a b : ℕ) → IsProp (a ≤ b)
+le_one a b = le_prop
+
+lt_one : (a b : ℕ) → IsProp (a < b)
+lt_one a b = le_prop
+
+unit_one : IsProp (Unit {0})
+unit_one = hlevel
+
+none_one : IsProp ⊥
+none_one = hlevel
+
+both_one : {A B : Type 0} → IsProp A → IsProp B → IsProp (A × B)
+both_one a b = hlevel (a, b)
+
+three_one : {A B C : Type 0} → IsProp A → IsProp B → IsProp C → IsProp (A × B × C)
+three_one a b c = hlevel (a, b, c)
+
+either_one : {A B : Type 0} → IsProp A → IsProp B → (A → B → ⊥) → IsProp (A ⊎ B)
+either_one {A} {B} a b apart (inl x) (inl y) = let put : A → A ⊎ B = λ z. inl z in ap put (a x y)
+either_one {A} {B} a b apart (inr x) (inr y) = let put : B → A ⊎ B = λ z. inr z in ap put (b x y)
+either_one a b apart (inl x) (inr y) = absurd (apart x y)
+either_one a b apart (inr x) (inl y) = absurd (apart y x)
+
+-- ---- lists and options
+
+abbrev AllOne : {A : Type 0} → (A → Type 0) → Type 0
+AllOne {A} P = (x : A) → IsProp (P x)
+
+each_one : {A : Type 0} (P : A → Type 0) → AllOne P → AllOne (Each P)
+each_one P one [] = unit_one
+each_one P one (x ∷ xs) = both_one (one x) (each_one P one xs)
+
+filled_one : {A : Type 0} (most : ℕ) (P : A → Type 0) → AllOne P → AllOne (Filled most P)
+filled_one most P one [] = none_one
+filled_one most P one (x ∷ xs) = three_one (one x) (each_one P one xs) (lt_one (length xs) most)
+
+within_one : {A : Type 0} (P : A → Type 0) → AllOne P → AllOne (Within P)
+within_one P one None = unit_one
+within_one P one (Some x) = one x
+
+absent_one : {A : Type 0} (o : Option A) → IsProp (Absent o)
+absent_one None = unit_one
+absent_one (Some x) = none_one
+
+empty_one : {A : Type 0} (xs : List A) → IsProp (Empty xs)
+empty_one [] = unit_one
+empty_one (x ∷ xs) = none_one
+
+-- ---- expressions
+
+name_one : AllOne GoodName
+name_one n = lt_one 0 (length n)
+
+aggregate_one : AllOne GoodAggregate
+aggregate_one aggregates.CountRows = unit_one
+aggregate_one (aggregates.Count n) = name_one n
+aggregate_one (aggregates.CountDistinct n) = name_one n
+aggregate_one (aggregates.Sum n) = name_one n
+aggregate_one (aggregates.Min n) = name_one n
+aggregate_one (aggregates.Max n) = name_one n
+aggregate_one (aggregates.Avg n) = name_one n
+
+function_one : AllOne GoodFunction
+function_one (over_all f) = aggregate_one f
+function_one (over_filtered f p) = none_one
+
+expression_one : AllOne GoodExpression
+expression_one (name n) = name_one n
+expression_one (grouping ns) = filled_one 8 GoodName name_one ns
+expression_one (function f) = function_one f
+
+-- ---- predicates
+
+range_one : AllOne InRange
+range_one (pos n) = lt_one n (2 ^ 63)
+range_one (negsuc n) = lt_one n (2 ^ 63)
+
+literal_one : AllOne GoodLiteral
+literal_one (literals.Integer i) = range_one i
+literal_one (literals.Text t) = unit_one
+literal_one (literals.Truth b) = unit_one
+
+operand_one : AllOne GoodOperand
+operand_one (OperandForm.expression e) = expression_one e
+operand_one (OperandForm.literal a) = literal_one a
+
+many_one : AllOne IsMany
+many_one no_parts = none_one
+many_one (part p no_parts) = none_one
+many_one (part p (part q ps)) = unit_one
+
+deeper_one : (G : ℕ → Type 0) → AllOne G → AllOne (Deeper G)
+deeper_one G one zero = none_one
+deeper_one G one (suc n) = one n
+
+fits_one : (least has : ℕ) (G : ℕ → Type 0) → AllOne G → AllOne (Fits least has G)
+fits_one least has G one n =
+    let inside = both_one (lt_one has least) (deeper_one G one n) in
+    let alone = both_one (le_one least has) (one n) in
+    either_one inside alone (λ x y. let a = x.0 in let b = y.0 in omega arith)
+
+mutual
+  good_one : (p : PredicateForm) (n : ℕ) → IsProp (Good p n)
+  good_one (or_of ps) n = both_one (many_one ps) (parts_one 1 ps n)
+  good_one (and_of ps) n = both_one (many_one ps) (parts_one 2 ps n)
+  good_one (not_of p) n = fits_one 3 (tightness p) (Good p) (good_one p) n
+  good_one (truth_test p b t) n = fits_one 4 (tightness p) (Good p) (good_one p) n
+  good_one (compare x o y) n = both_one (operand_one x) (operand_one y)
+  good_one (between x b y z) n = three_one (operand_one x) (operand_one y) (operand_one z)
+  good_one (member x b ls) n = both_one (operand_one x) (filled_one 64 GoodLiteral literal_one ls)
+  good_one (null_test x b) n = operand_one x
+  good_one (column m) n = name_one m
+
+  parts_one : (least : ℕ) (ps : PredicateForms) (n : ℕ) → IsProp (PartsFit least ps n)
+  parts_one least no_parts n = unit_one
+  parts_one least (part p ps) n = both_one (fits_one least (tightness p) (Good p) (good_one p) n) (parts_one least ps n)
+
+-- ---- the query
+
+item_one : AllOne GoodItem
+item_one i = both_one (expression_one i.expression) (within_one GoodName name_one i.alias)
+
+set_one : AllOne GoodSet
+set_one [] = none_one
+set_one (n ∷ []) = name_one n
+set_one (n ∷ m ∷ ns) = none_one
+
+group_one : AllOne GoodGroup
+group_one (set ns) = set_one ns
+group_one (rollup us) = none_one
+group_one (cube us) = none_one
+group_one (sets gs) = none_one
+
+-- A query is good in one way at most.
+pub tree_one : AllOne GoodTree
+tree_one q =
+    let items = filled_one 64 GoodItem item_one q.items in
+    let filter = within_one (λ p. Good p 64) (λ p. good_one p 64) q.filter in
+    let groups = each_one GoodGroup group_one q.groups in
+    let having = absent_one q.having in
+    let keys = empty_one q.keys in
+    hlevel (items, filter, groups, having, keys)
