@@ -2,7 +2,7 @@
 use Rattle.std.proofs.Common.{ℕ, List, [], ◌∷◌, Option, Some, None}
 use Rattle.query_tokens.specs.declared.token.Token.{Token}
 use Rattle.query_tree.specs.Syntax.{ExpressionForm, PredicateForm, GroupForm, ItemForm, KeyForm, TreeForm, set, rollup, cube, sets}
-use Rattle.query_round.specs.Grammar.{IsItem, IsWhere, IsGroup, IsGroupBy, IsQuery}
+use Rattle.query_grammar.specs.Grammar.{IsItem, IsWhere, IsGroup, IsGroupBy, IsQuery}
 use Rattle.query_round.proofs.Good.{Each, Within, GoodExpression, Good, GoodItem, GoodSet, GoodGroup, GoodTree}
 use Rattle.query_round.proofs.Onto.{expression_onto, alias_onto, item_onto, set_onto, group_onto, where_onto, group_by_onto, query_onto}
 use Rattle.query_round.proofs.DerivePredicates.{commas_derive, expression_d, predicate_d}

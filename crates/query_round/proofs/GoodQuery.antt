@@ -4,7 +4,7 @@ use Rattle.query_tokens.specs.declared.token.Token.TheVariants as tokens
 use Rattle.query_tokens.specs.declared.token.Word.TheVariants as w
 use Rattle.query_tokens.specs.declared.token.Sign.TheVariants as s
 use Rattle.query_tree.specs.Syntax.{PredicateForm, GroupForm, ItemForm, TreeForm}
-use Rattle.query_round.specs.Grammar.{IsItem, IsWhere, IsGroup, IsGroupBy, IsQuery}
+use Rattle.query_grammar.specs.Grammar.{IsItem, IsWhere, IsGroup, IsGroupBy, IsQuery}
 use Rattle.query_round.proofs.Good.{Each, Within, Good, GoodItem, GoodGroup, GoodTree}
 use Rattle.query_round.proofs.GoodPredicates.{Leaves, repeated_leaves, expression_leaves, predicate_leaves}
 
