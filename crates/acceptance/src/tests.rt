@@ -1,5 +1,6 @@
 mod partials;
 mod plans;
+mod predicates;
 mod queries;
 mod reference;
 mod running;

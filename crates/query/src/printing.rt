@@ -1,13 +1,15 @@
 // The texts of a query and of its plan.
-ghost use Rattle.std.specs.Prelude.{◌≡◌, ◌<◌, IfOk, Some, length, map, option_map, slice_get, string_bytes};
+ghost use Rattle.std.specs.Prelude.{◌≡◌, ◌<◌, ◌≤◌, IfOk, Some, length, map, option_map, slice_get, string_bytes};
 ghost use Rattle.query_check.specs.Sets.{sets_of};
 ghost use Rattle.query_print.specs.Canonical.{canonical_text, header_text, set_text};
+ghost use Rattle.query.specs.Derivation.{Derives};
 ghost use Rattle.query.specs.Form.{form_of};
 ghost use Rattle.query.specs.Planned.{fields_of_plan, form_of_plan};
 
 use crate::plan::Plan;
 use crate::query::Query;
 use query_print::print_tree;
+use query_round::reads_again;
 use std::alloc::{AllocError, Global};
 
 /// The canonical text of a query: keywords in capitals, one space where there is any, brackets only
@@ -18,7 +20,10 @@ use std::alloc::{AllocError, Global};
 /// `AllocError` where there is no memory for the text.
 pub fn print(alloc: Global, query: &Query) -> Result<String, AllocError>
     ensures text { IfOk result (λ text. string_bytes text ≡ canonical_text (form_of query.now)) }
+    // Where it is not too long, it derives the query again, so that `parse` gives it back.
+    ensures again { IfOk result (λ text. length (string_bytes text) ≤ 65536 → Derives (string_bytes text) (form_of query.now)) }
 {
+    reads_again();
     print_tree(alloc, query.tree())
 }
 

@@ -51,6 +51,39 @@ const FAULTS: &[(&str, &str)] = &[
         "SELECT COUNT(*) FROM lines GROUP BY d, z, y",
         "query: unknown column z",
     ),
+    ("SELECT COUNT(*) FROM lines WHERE q > 1 OR d = 'x'", "planned"),
+    (
+        "SELECT COUNT(*) FROM lines WHERE COUNT(*) > 1",
+        "query: function not allowed here",
+    ),
+    (
+        "SELECT COUNT(*) FROM lines WHERE GROUPING(d) = 1",
+        "query: function not allowed here",
+    ),
+    (
+        "SELECT COUNT(*) FROM lines WHERE d > 1",
+        "query: types do not agree",
+    ),
+    (
+        "SELECT COUNT(*) FROM lines WHERE q BETWEEN 1 AND d",
+        "query: types do not agree",
+    ),
+    (
+        "SELECT COUNT(*) FROM lines WHERE q IN (1, 'x')",
+        "query: types do not agree",
+    ),
+    (
+        "SELECT COUNT(*) FROM lines WHERE q",
+        "query: types do not agree",
+    ),
+    (
+        "SELECT COUNT(*) FROM lines WHERE nope > SUM(d)",
+        "query: unknown column nope",
+    ),
+    (
+        "SELECT z FROM lines WHERE y IS NULL GROUP BY x",
+        "query: unknown column y",
+    ),
 ];
 
 #[test]

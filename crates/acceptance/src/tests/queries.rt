@@ -51,7 +51,56 @@ const QUERIES: &[(&str, &str)] = &[
         "SELECT \"1a\", _1a FROM lines",
     ),
     ("SELECT d FROM lines  ", "SELECT d FROM lines"),
+    (
+        "SELECT count(d),count(distinct d),min(d),max(d),avg(q),grouping(d,r) FROM lines GROUP BY d",
+        "SELECT COUNT(d), COUNT(DISTINCT d), MIN(d), MAX(d), AVG(q), GROUPING(d, r) FROM lines GROUP BY d",
+    ),
 ];
+
+/// Predicates of WHERE, each with its canonical text.
+const PREDICATES: &[(&str, &str)] = &[
+    (
+        "NOT((d='it''s'))or q not in(1,-2)and(r is null)is unknown",
+        "NOT d = 'it''s' OR q NOT IN (1, -2) AND r IS NULL IS UNKNOWN",
+    ),
+    (
+        "(a AND (a OR a)) OR (NOT (NOT a))",
+        "a AND (a OR a) OR NOT (NOT a)",
+    ),
+    ("((a IS TRUE)) IS FALSE", "(a IS TRUE) IS FALSE"),
+    ("a or b or(c or d)", "a OR b OR (c OR d)"),
+    ("a and(b and c)", "a AND (b AND c)"),
+    ("(not a)is not true", "(NOT a) IS NOT TRUE"),
+    ("not a is true", "NOT a IS TRUE"),
+    ("q between-1 and 01", "q BETWEEN -1 AND 1"),
+    (
+        "\"select\"<>'' or d<=r and q>=-0",
+        "\"select\" <> '' OR d <= r AND q >= 0",
+    ),
+    ("a=true and b<FALSE", "a = TRUE AND b < FALSE"),
+    ("COUNT(*)>1", "COUNT(*) > 1"),
+    ("1 not between q and 2", "1 NOT BETWEEN q AND 2"),
+];
+
+/// A query of this WHERE.
+fn with_where(alloc: Global, predicate: &str) -> Result<String, Fail> {
+    Ok(format!(in alloc; "SELECT COUNT(*) FROM lines WHERE {predicate}")?)
+}
+
+/// Each prints its canonical text, which reads as the same query.
+#[test]
+fn prints_predicates(rt: HostRuntime) -> Result<(), Fail> {
+    for (predicate, wanted) in PREDICATES {
+        let text = with_where(rt.alloc(), predicate)?;
+        let wanted = with_where(rt.alloc(), wanted)?;
+        let both = [
+            (text.as_str(), wanted.as_str()),
+            (wanted.as_str(), wanted.as_str()),
+        ];
+        assert_printed(&rt, rt.alloc(), both.as_slice())?;
+    }
+    Ok(())
+}
 
 #[test]
 fn prints_canonical_texts(rt: HostRuntime) -> Result<(), Fail> {
@@ -87,7 +136,31 @@ const UNEXPECTED: &[(&str, &str)] = &[
     ("SELECT COUNT(*) FROM LINES", "query: byte 21: unexpected"),
     (
         "SELECT COUNT(*) FROM lines WHERE",
-        "query: byte 27: unexpected",
+        "query: byte 32: unexpected",
+    ),
+    (
+        "SELECT COUNT(*) FROM lines WHERE NOT NOT a",
+        "query: byte 37: unexpected",
+    ),
+    (
+        "SELECT COUNT(*) FROM lines WHERE q = NULL",
+        "query: byte 37: unexpected",
+    ),
+    (
+        "SELECT COUNT(*) FROM lines WHERE COUNT(*)",
+        "query: byte 41: unexpected",
+    ),
+    (
+        "SELECT COUNT(*) FROM lines WHERE q IN ()",
+        "query: byte 39: unexpected",
+    ),
+    (
+        "SELECT COUNT(*) FROM lines WHERE (a OR b",
+        "query: byte 40: unexpected",
+    ),
+    (
+        "SELECT COUNT(*) FROM lines GROUP BY d WHERE a",
+        "query: byte 38: unexpected",
     ),
     ("SELECT COUNT(* FROM lines", "query: byte 15: unexpected"),
     (
@@ -129,6 +202,72 @@ fn takes_64_items_and_no_more(rt: HostRuntime) -> Result<(), Fail> {
             (most.as_str(), most.as_str()),
             (more.as_str(), "query: over a limit"),
         ],
+    )
+}
+
+/// A name in so many brackets.
+fn in_brackets(alloc: Global, levels: usize) -> Result<String, Fail> {
+    let mut text = String::new(alloc);
+    for _ in 0..levels {
+        text.push('(')?;
+    }
+    text.push('a')?;
+    for _ in 0..levels {
+        text.push(')')?;
+    }
+    Ok(text)
+}
+
+/// `q IN` a list of so many literals.
+fn in_list(alloc: Global, count: usize) -> Result<String, Fail> {
+    let mut text = "q IN (0".to_string(alloc)?;
+    for number in 1..count {
+        let item = format!(in alloc; ", {number}")?;
+        text.push_str(item.as_str())?;
+    }
+    text.push(')')?;
+    Ok(text)
+}
+
+/// A query with this WHERE and its canonical text, or its fault.
+fn assert_where(
+    rt: &impl Abort,
+    alloc: Global,
+    predicate: &str,
+    wanted: &str,
+) -> Result<(), Fail> {
+    let text = with_where(alloc, predicate)?;
+    let met = printed(alloc, text.as_str())?;
+    assert_eq!(rt; met.as_str(), wanted, "{predicate}");
+    Ok(())
+}
+
+#[test]
+fn takes_64_levels_and_no_more(rt: HostRuntime) -> Result<(), Fail> {
+    let most = in_brackets(rt.alloc(), 64)?;
+    let more = in_brackets(rt.alloc(), 65)?;
+    let plain = with_where(rt.alloc(), "a")?;
+    assert_where(&rt, rt.alloc(), most.as_str(), plain.as_str())?;
+    assert_where(&rt, rt.alloc(), more.as_str(), "query: over a limit")
+}
+
+#[test]
+fn takes_64_literals_and_no_more(rt: HostRuntime) -> Result<(), Fail> {
+    let most = in_list(rt.alloc(), 64)?;
+    let more = in_list(rt.alloc(), 65)?;
+    let plain = with_where(rt.alloc(), most.as_str())?;
+    assert_where(&rt, rt.alloc(), most.as_str(), plain.as_str())?;
+    assert_where(&rt, rt.alloc(), more.as_str(), "query: over a limit")
+}
+
+#[test]
+fn takes_8_arguments_of_grouping_and_no_more(rt: HostRuntime) -> Result<(), Fail> {
+    let most = "SELECT GROUPING(a, b, c, d, e, f, g, h) FROM lines";
+    let more = "SELECT GROUPING(a, b, c, d, e, f, g, h, i) FROM lines";
+    assert_printed(
+        &rt,
+        rt.alloc(),
+        &[(most, most), (more, "query: over a limit")],
     )
 }
 
@@ -183,11 +322,11 @@ fn is_name(expression: &Expression, wanted: &str) -> bool {
 /// Where memory is refused the answer is want of memory, else the text of the query.
 #[test]
 fn refusal_of_parse_and_print(rt: HostRuntime) {
-    let text = "select d , sum(q) as s from lines group by d";
+    let text = "select d , sum(q) as s from lines where not(a)or q in(1) group by d";
     match canonical(rt.alloc(), text) {
         Ok(text) => assert_eq!(rt;
             text.as_str(),
-            "SELECT d, SUM(q) AS s FROM lines GROUP BY d"
+            "SELECT d, SUM(q) AS s FROM lines WHERE NOT a OR q IN (1) GROUP BY d"
         ),
         Err(fault) => assert!(rt; is_out_of_memory(&fault), "{fault:?}"),
     }

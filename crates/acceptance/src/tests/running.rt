@@ -56,17 +56,17 @@ fn options_of(piece: usize, max_refused: Option<u64>) -> Result<Options, Fail> {
 
 /// An input under columns and a query, and what is written of it.
 #[derive(Clone, Copy)]
-struct Case<'a> {
-    columns: &'a str,
-    query: &'a str,
-    input: &'a [u8],
-    report: &'a [u8],
-    refused: &'a [u8],
-    done: Done,
+pub struct Case<'a> {
+    pub columns: &'a str,
+    pub query: &'a str,
+    pub input: &'a [u8],
+    pub report: &'a [u8],
+    pub refused: &'a [u8],
+    pub done: Done,
 }
 
 /// Runs a case in pieces of several sizes, over readers that give so many bytes a call.
-fn assert_run(rt: &impl Abort, alloc: Global, case: &Case<'_>) -> Result<(), Fail> {
+pub fn assert_run(rt: &impl Abort, alloc: Global, case: &Case<'_>) -> Result<(), Fail> {
     let plan = plan_of(alloc, case.columns, case.query)?;
     for (piece, at_once) in [(1, 7), (20, 1), (67_108_864, 1_000_000)] {
         let options = options_of(piece, None)?;
@@ -84,7 +84,7 @@ fn assert_run(rt: &impl Abort, alloc: Global, case: &Case<'_>) -> Result<(), Fai
 }
 
 /// A case of which no line is refused.
-fn good<'a>(query: &'a str, input: &'a [u8], lines: u64, report: &'a [u8]) -> Case<'a> {
+pub fn good<'a>(query: &'a str, input: &'a [u8], lines: u64, report: &'a [u8]) -> Case<'a> {
     Case {
         columns: COLUMNS,
         query,
