@@ -1,4 +1,5 @@
 // What the program does once its words are read.
+use crate::explaining::explanation;
 use crate::fault::RunFault;
 use crate::run::run_alone;
 use crate::writing::put;
@@ -56,12 +57,13 @@ impl Ending {
 }
 
 /// Does what the words ask for, and answers the status that the program ends with: 0 where no line
-/// is refused or help is asked for, 1 where some are, 2 where the words, the schema or the query are
-/// refused, 3 where the file cannot be opened or read or a text cannot be written, 4 where memory
-/// runs out, 5 where more lines are refused than may be. The report and help go to `out`; the
-/// refused lines and what went wrong go to `err`.
+/// is refused or where help or an explanation is asked for, 1 where some are, 2 where the words, the
+/// schema or the query are refused, 3 where the file cannot be opened or read or a text cannot be
+/// written, 4 where memory runs out, 5 where more lines are refused than may be. The report, the
+/// explanation and help go to `out`; the refused lines and what went wrong go to `err`.
 ///
-/// `opener` is called once at most, and only once the words, the schema and the query are good.
+/// `opener` is called once at most, only once the words, the schema and the query are good, and not
+/// where an explanation is asked for.
 pub fn serve<R: Read + Drop, O: Write, E: Write, F: FnMut(&str) -> Option<R>>(
     alloc: Global,
     asked: Result<Settings<'_>, WordsFault>,
@@ -72,7 +74,7 @@ pub fn serve<R: Read + Drop, O: Write, E: Write, F: FnMut(&str) -> Option<R>>(
     requires { F.IsAlwaysCallable opener.old }
 {
     match asked {
-        Ok(settings) => match reported(alloc, settings, opener, out, err) {
+        Ok(settings) => match carried_out(alloc, settings, opener, out, err) {
             Ok(status) => status,
             Err(ending) => ended(alloc, &ending, err),
         },
@@ -89,8 +91,8 @@ fn plan_of(alloc: Global, settings: Settings<'_>) -> Result<Plan, Ending> {
     check(alloc, query, schema).map_err(Ending::Query)
 }
 
-/// Answers the query that is asked for over the file that is asked for.
-fn reported<R: Read + Drop, O: Write, E: Write, F: FnMut(&str) -> Option<R>>(
+/// Explains the query that is asked for, or answers it over the file that is asked for.
+fn carried_out<R: Read + Drop, O: Write, E: Write, F: FnMut(&str) -> Option<R>>(
     alloc: Global,
     settings: Settings<'_>,
     opener: &mut F,
@@ -100,11 +102,25 @@ fn reported<R: Read + Drop, O: Write, E: Write, F: FnMut(&str) -> Option<R>>(
     requires { F.IsAlwaysCallable opener.old }
 {
     let plan = plan_of(alloc, settings)?;
+    if settings.explain {
+        return explained(alloc, &plan, out);
+    }
     let Some(reader) = opener(settings.file) else {
         return Err(Ending::NotOpened);
     };
     let done = run_alone(alloc, &plan, settings.options, reader, out, err).map_err(Ending::Run)?;
     Ok(if done.refused == 0 { 0 } else { 1 })
+}
+
+/// Writes the explanation of a query.
+fn explained<O: Write>(alloc: Global, plan: &Plan, out: &mut O) -> Result<u8, Ending> {
+    let Ok(text) = explanation(alloc, plan) else {
+        return Err(Ending::OUT_OF_MEMORY);
+    };
+    match put(out, text.as_bytes()) {
+        Ok(()) => Ok(0),
+        Err(_) => Err(Ending::Run(RunFault::WritingReport)),
+    }
 }
 
 /// Says on standard error why the program ends, and answers the status.
