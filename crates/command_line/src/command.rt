@@ -66,9 +66,11 @@ Output:
   order of the columns of GROUP BY, NULL last. NULL is \\N; a text that begins with \\ has one more in front.
   The refused lines go to standard error, each as its number and why: it is over 1048576 bytes,
   not JSON, not an object, or has a member that does not fit its column.
+  With --explain there is no report: standard output has the query on a line, and then a line for
+  each grouping set, as its number from 0 and its columns.
 
 Exit status:
-  0  there is a report, and no line is refused
+  0  there is a report, and no line is refused; or an explanation or help was asked for
   1  there is a report, and some lines are refused
   2  the words, the columns or the query are refused
   3  the file cannot be opened or read, or the output cannot be written

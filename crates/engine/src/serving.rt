@@ -1,4 +1,12 @@
 // What the program does once its words are read.
+ghost use Rattle.std.specs.Prelude.{◌≡◌, ◌≤◌, IfOk, Ok, OnOk, true};
+ghost use Rattle.std.specs.Io.KnownBytes.{Appends};
+ghost use Rattle.values.specs.Schema.{schema_of};
+ghost use Rattle.query_check.specs.Typing.{IsTyped};
+ghost use Rattle.query.specs.Derivation.{Derives};
+ghost use Rattle.query.specs.Planned.{fields_of_plan, form_of_plan};
+ghost use Rattle.engine.specs.Explanation.{Explains, explanation};
+
 use crate::explaining::explanation;
 use crate::fault::RunFault;
 use crate::run::run_alone;
@@ -39,7 +47,9 @@ impl Ending {
     const OUT_OF_MEMORY: Ending = Ending::Run(RunFault::OutOfMemory);
 
     /// The status that the program ends with.
-    fn status(&self) -> u8 {
+    fn status(&self) -> u8
+        ensures { 1 ≤ result }
+    {
         match self {
             Ending::Schema(SchemaFault::OutOfMemory)
             | Ending::Query(QueryFault::OutOfMemory)
@@ -72,6 +82,9 @@ pub fn serve<R: Read + Drop, O: Write, E: Write, F: FnMut(&str) -> Option<R>>(
     err: &mut E,
 ) -> u8
     requires { F.IsAlwaysCallable opener.old }
+    // Where an explanation is asked for and 0 is answered, it is written.
+    ensures explains { IfOk asked.entry (λ settings. settings.explain ≡ true → result ≡ 0
+        → Explains settings.columns.now settings.query.now (O.contents out.old) (O.contents out.new)) }
 {
     match asked {
         Ok(settings) => match carried_out(alloc, settings, opener, out, err) {
@@ -85,7 +98,11 @@ pub fn serve<R: Read + Drop, O: Write, E: Write, F: FnMut(&str) -> Option<R>>(
 }
 
 /// The plan of the query that is asked for, under the columns that are asked for.
-fn plan_of(alloc: Global, settings: Settings<'_>) -> Result<Plan, Ending> {
+fn plan_of(alloc: Global, settings: Settings<'_>) -> Result<Plan, Ending>
+    ensures schema { IfOk result (λ plan. schema_of settings.entry.columns.now ≡ Ok (fields_of_plan plan)) }
+    ensures query { IfOk result (λ plan. Derives settings.entry.query.now (form_of_plan plan)) }
+    ensures typed { IfOk result (λ plan. IsTyped (fields_of_plan plan) (form_of_plan plan)) }
+{
     let schema = Schema::parse(alloc, settings.columns).map_err(Ending::Schema)?;
     let query = parse(alloc, settings.query).map_err(Ending::Query)?;
     check(alloc, query, schema).map_err(Ending::Query)
@@ -100,6 +117,8 @@ fn carried_out<R: Read + Drop, O: Write, E: Write, F: FnMut(&str) -> Option<R>>(
     err: &mut E,
 ) -> Result<u8, Ending>
     requires { F.IsAlwaysCallable opener.old }
+    ensures explains { settings.entry.explain ≡ true → OnOk result
+        (Explains settings.entry.columns.now settings.entry.query.now (O.contents out.old) (O.contents out.new)) }
 {
     let plan = plan_of(alloc, settings)?;
     if settings.explain {
@@ -113,7 +132,10 @@ fn carried_out<R: Read + Drop, O: Write, E: Write, F: FnMut(&str) -> Option<R>>(
 }
 
 /// Writes the explanation of a query.
-fn explained<O: Write>(alloc: Global, plan: &Plan, out: &mut O) -> Result<u8, Ending> {
+fn explained<O: Write>(alloc: Global, plan: &Plan, out: &mut O) -> Result<u8, Ending>
+    ensures { OnOk result (Appends (O.contents out.old) (O.contents out.new)
+        (explanation (fields_of_plan plan.now) (form_of_plan plan.now))) }
+{
     let Ok(text) = explanation(alloc, plan) else {
         return Err(Ending::OUT_OF_MEMORY);
     };
@@ -124,7 +146,9 @@ fn explained<O: Write>(alloc: Global, plan: &Plan, out: &mut O) -> Result<u8, En
 }
 
 /// Says on standard error why the program ends, and answers the status.
-fn ended<E: Write>(alloc: Global, ending: &Ending, err: &mut E) -> u8 {
+fn ended<E: Write>(alloc: Global, ending: &Ending, err: &mut E) -> u8
+    ensures { 1 ≤ result }
+{
     match ending.line(alloc) {
         Ok(line) => {
             let _ = put(err, line.as_bytes());
