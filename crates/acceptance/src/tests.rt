@@ -1,3 +1,4 @@
+mod explaining;
 mod partials;
 mod plans;
 mod predicates;

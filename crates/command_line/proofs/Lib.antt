@@ -1,3 +1,4 @@
+pub mod Flags
 pub mod Numbers
 pub mod Published
 pub mod Required

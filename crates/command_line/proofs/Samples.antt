@@ -1,9 +1,9 @@
 -- What clap publishes for words that are written out: the clauses on the words are not empty.
 use Rattle.std.proofs.Common.{◌≡◌, refl, List, [], ◌∷◌, Some, None, codes}
 use Rattle.clap.proofs.OnLiterals.{clap_on_literals}
-use Rattle.clap.specs.declared.error.kind.ErrorKind.TheVariants.{DisplayHelp, MissingRequiredArgument, ValueValidation}
+use Rattle.clap.specs.declared.error.kind.ErrorKind.TheVariants.{DisplayHelp, MissingRequiredArgument, TooManyValues, ValueValidation}
 use Rattle.clap.specs.Words.{Text, fault_of, matches_of, one_of}
-use Rattle.command_line.specs.Command.{command, value_of}
+use Rattle.command_line.specs.Command.{IsSet, command, value_of}
 
 -- words that are taken
 abbrev words : List Text
@@ -33,6 +33,37 @@ words-piece = refl
 words-max_refused : one_of (codes "max-refused") (matches_of command words) ≡ None
 unfolding clap_on_literals
 words-max_refused = refl
+
+-- the flag, which is `false` where it is not given
+words-explain : value_of (codes "explain") words ≡ Some (codes "false")
+unfolding clap_on_literals
+words-explain = refl
+
+-- words that ask for an explanation
+abbrev explained : List Text
+explained = codes "jlreport" ∷ codes "--explain" ∷ codes "--columns=a" ∷ codes "--query=b" ∷ codes "f" ∷ []
+
+explained-fault : fault_of command explained ≡ []
+unfolding clap_on_literals
+explained-fault = refl
+
+explained-set : IsSet (codes "explain") explained
+unfolding clap_on_literals
+explained-set = refl
+
+explained-file : value_of (codes "file") explained ≡ Some (codes "f")
+unfolding clap_on_literals
+explained-file = refl
+
+-- the file has to be given also there
+explained_nothing-fault : fault_of command (codes "jlreport" ∷ codes "--explain" ∷ codes "--columns=a" ∷ codes "--query=b" ∷ []) ≡ MissingRequiredArgument ∷ []
+unfolding clap_on_literals
+explained_nothing-fault = refl
+
+-- the flag takes no value
+flag_value-fault : fault_of command (codes "jlreport" ∷ codes "--explain=true" ∷ codes "--columns=a" ∷ codes "--query=b" ∷ codes "f" ∷ []) ≡ TooManyValues ∷ []
+unfolding clap_on_literals
+flag_value-fault = refl
 
 -- numbers that are given
 abbrev numbered : List Text

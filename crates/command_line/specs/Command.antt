@@ -1,7 +1,7 @@
 -- The command of the program, and what clap publishes for words under it.
-use Rattle.std.specs.Prelude.{ℕ, List, [], ◌∷◌, Option, Some, true, codes}
+use Rattle.std.specs.Prelude.{◌≡◌, ℕ, List, [], ◌∷◌, Option, Some, true, codes}
 use Rattle.clap.specs.Words.{App, Rule, Text, first_of, matches_of, new_app, new_rule, one_of, with_rule}
-use Rattle.clap.specs.declared.builder.action.ArgAction.TheVariants.{Set}
+use Rattle.clap.specs.declared.builder.action.ArgAction.TheVariants.{Set, SetTrue}
 use Rattle.clap.specs.declared.builder.value_parser.ValueParser.TheVariants.{Unsigned}
 use Rattle.command_line.specs.Numbers.{IsNumberIn}
 
@@ -23,19 +23,24 @@ number_option name defaults = record (new_rule name) {
   defaults = defaults;
 }
 
+-- a flag `--NAME`, which takes no value
+abbrev pub flag : Text → Rule
+flag name = record (new_rule name) { long = Some name; action = Some SetTrue }
+
 -- a word of its own that has to be given
 abbrev pub required_word : Text → Rule
 required_word name = record (new_rule name) { value_names = 1; action = Some Set; required = true }
 
--- `jlreport --columns <SPEC> --query <TEXT> [--piece <BYTES>] [--max-refused <N>] <FILE>`, with pieces of 1,048,576 bytes where
--- they are not given
+-- `jlreport --columns <SPEC> --query <TEXT> [--piece <BYTES>] [--max-refused <N>] [--explain] <FILE>`, with pieces of
+-- 1,048,576 bytes where they are not given
 abbrev pub command : App
 command =
-    with_rule (with_rule (with_rule (with_rule (with_rule (new_app (codes "jlreport"))
+    with_rule (with_rule (with_rule (with_rule (with_rule (with_rule (new_app (codes "jlreport"))
     (required_option (codes "columns")))
     (required_option (codes "query")))
     (number_option (codes "piece") (codes "1048576" ∷ [])))
     (number_option (codes "max-refused") []))
+    (flag (codes "explain")))
     (required_word (codes "file"))
 
 -- the first value that clap publishes for the argument of this name, for words under the command
@@ -45,3 +50,7 @@ value_of name words = first_of name (matches_of command words)
 -- the number that its first value writes, where it has one
 abbrev pub IsNumberOf : Text → List Text → Option ℕ → Type 0
 IsNumberOf name words = IsNumberIn (one_of name (matches_of command words))
+
+-- the flag of this name is set: the value that clap publishes for it, for words under the command, is `true`
+abbrev pub IsSet : Text → List Text → Type 0
+IsSet name words = one_of name (matches_of command words) ≡ Some (codes "true")

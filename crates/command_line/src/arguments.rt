@@ -1,7 +1,7 @@
 // The kinds of argument that the program's command has.
-ghost use Rattle.std.specs.Prelude.{◌≡◌, [], ◌∷◌, Some, false, is_some, true};
+ghost use Rattle.std.specs.Prelude.{◌≡◌, ◌↔◌, [], ◌∷◌, Some, codes, false, is_some, true};
 ghost use Rattle.clap.specs.Words.{first_value, found_of, one_text, rule_of};
-ghost use Rattle.command_line.specs.Command.{number_option, required_option, required_word};
+ghost use Rattle.command_line.specs.Command.{flag, number_option, required_option, required_word};
 ghost use Rattle.command_line.specs.Numbers.{IsNumberIn};
 
 use clap::{Arg, ArgAction, ArgMatches, value_parser};
@@ -56,6 +56,17 @@ pub(crate) fn defaulted_option<'a>(
     number_option(alloc, name, value, help).default_value(default)
 }
 
+/// A flag `--NAME`, which takes no value, with its line of help.
+pub(crate) fn flag<'a>(alloc: Global, name: &'a str, help: &'a str) -> Arg<'a>
+    ensures rule { rule_of result ≡ flag name.now }
+    ensures local { result.global ≡ false }
+{
+    Arg::new(alloc, name)
+        .long(name)
+        .action(ArgAction::SetTrue)
+        .help(help)
+}
+
 /// A word of its own that has to be given, with its line of help.
 pub(crate) fn required_word<'a>(
     alloc: Global,
@@ -89,4 +100,11 @@ pub(crate) fn number_of(matches: &ArgMatches<'_>, name: &str) -> Option<u64>
     ensures { IsNumberIn (one_text (found_of matches.now) name.now) result }
 {
     matches.get_one::<u64>(name)
+}
+
+/// Whether a flag is set: its value is `true`.
+pub(crate) fn is_set(matches: &ArgMatches<'_>, name: &str) -> bool
+    ensures { (result ≡ true) ↔ (one_text (found_of matches.now) name.now ≡ Some (codes "true")) }
+{
+    matches.get_one::<bool>(name).unwrap_or(false)
 }

@@ -1,14 +1,15 @@
 // The command of the program, and what words say under it.
-ghost use Rattle.std.specs.Prelude.{◌≡◌, [], ℕ, IfErr, IfOk, IfSome, IsNone, Some, codes, false};
+ghost use Rattle.std.specs.Prelude.{◌≡◌, ◌↔◌, [], ℕ, IfErr, IfOk, IfSome, IsNone, Some, codes, true};
 ghost use Rattle.clap.specs.Walk.{texts};
 ghost use Rattle.clap.specs.Words.{app_of, fault_of, found_of, kind_of, new_app, one_text};
-ghost use Rattle.command_line.specs.Command.{IsNumberOf, command, value_of};
+ghost use Rattle.command_line.specs.Command.{IsNumberOf, IsSet, command, value_of};
 ghost use Rattle.command_line.specs.Numbers.{IsNumberIn};
 ghost use Rattle.command_line.specs.Ranges.{AreInRange};
 ghost use Rattle.command_line.specs.Refusal.{IsRefusalOf, workers};
 
 use crate::arguments::{
-    defaulted_option, number_of, number_option, required_option, required_word, text_of,
+    defaulted_option, flag, is_set, number_of, number_option, required_option, required_word,
+    text_of,
 };
 use crate::options::Options;
 use crate::words::{Settings, WordsFault};
@@ -34,6 +35,10 @@ const PIECE_HELP: &str = "How many bytes are worked on at once, 1 to 67108864";
 /// What help says of the limit of refused lines.
 const MAX_REFUSED_HELP: &str =
     "How many lines may be refused, 0 to 18446744073709551615 [default: no limit]";
+
+/// What help says of the flag that asks for an explanation.
+const EXPLAIN_HELP: &str =
+    "Print the query in its canonical form and its grouping sets, and read no file";
 
 /// What help says of the file.
 const FILE_HELP: &str = "The file to read, with one JSON object on each line";
@@ -61,9 +66,11 @@ Output:
   order of the columns of GROUP BY, NULL last. NULL is \\N; a text that begins with \\ has one more in front.
   The refused lines go to standard error, each as its number and why: it is over 1048576 bytes,
   not JSON, not an object, or has a member that does not fit its column.
+  With --explain there is no report: standard output has the query on a line, and then a line for
+  each grouping set, as its number from 0 and its columns.
 
 Exit status:
-  0  there is a report, and no line is refused
+  0  there is a report, and no line is refused; or an explanation or help was asked for
   1  there is a report, and some lines are refused
   2  the words, the columns or the query are refused
   3  the file cannot be opened or read, or the output cannot be written
@@ -92,12 +99,14 @@ fn program_command<'a>(alloc: Global) -> Result<Command<'a>, Error>
     let query = required_option(alloc, "query", "TEXT", QUERY_HELP);
     let piece = defaulted_option(alloc, "piece", "BYTES", "1048576", PIECE_HELP);
     let max_refused = number_option(alloc, "max-refused", "N", MAX_REFUSED_HELP);
+    let explain = flag(alloc, "explain", EXPLAIN_HELP);
     let file = required_word(alloc, "file", "FILE", FILE_HELP);
     let command = described_command(alloc)
         .arg(columns)?
         .arg(query)?
         .arg(piece)?
         .arg(max_refused)?
+        .arg(explain)?
         .arg(file)?;
     Ok(command)
 }
@@ -138,7 +147,7 @@ pub fn settings<'a>(alloc: Global, words: &'a [&'a str]) -> Result<Settings<'a>,
     ensures max_refused { IfOk result (λ s.
         IsNumberOf (codes "max-refused") (texts words.now) s.options.max_refused) }
     ensures workers { IfOk result (λ s. s.options.workers ≡ workers) }
-    ensures explain { IfOk result (λ s. s.explain ≡ false) }
+    ensures explain { IfOk result (λ s. (s.explain ≡ true) ↔ IsSet (codes "explain") (texts words.now)) }
     ensures taken { IfOk result (λ _. fault_of command (texts words.now) ≡ []) }
     ensures refused { IfErr result (IsRefusalOf (texts words.now)) }
 {
@@ -152,6 +161,6 @@ pub fn settings<'a>(alloc: Global, words: &'a [&'a str]) -> Result<Settings<'a>,
         query: text_of(&matches, "query"),
         file: text_of(&matches, "file"),
         options,
-        explain: false,
+        explain: is_set(&matches, "explain"),
     })
 }

@@ -1,5 +1,6 @@
 mod Fronts
 pub mod Cuts
+pub mod Explained
 pub mod Tallies
 pub mod Folds
 pub mod Named

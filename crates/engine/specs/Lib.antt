@@ -1,3 +1,4 @@
+pub mod Explanation
 pub mod Pieces
 pub mod Run
 pub mod Written

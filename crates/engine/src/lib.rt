@@ -2,6 +2,7 @@
 #![tactic(auto)]
 
 mod cutting;
+mod explaining;
 mod fault;
 mod folding;
 mod reading;

@@ -1,4 +1,13 @@
 // What the program does once its words are read.
+ghost use Rattle.std.specs.Prelude.{◌≡◌, ◌≤◌, IfOk, Ok, OnOk, true};
+ghost use Rattle.std.specs.Io.KnownBytes.{Appends};
+ghost use Rattle.values.specs.Schema.{schema_of};
+ghost use Rattle.query_check.specs.Typing.{IsTyped};
+ghost use Rattle.query.specs.Derivation.{Derives};
+ghost use Rattle.query.specs.Planned.{fields_of_plan, form_of_plan};
+ghost use Rattle.engine.specs.Explanation.{Explains, explanation};
+
+use crate::explaining::explanation;
 use crate::fault::RunFault;
 use crate::run::run_alone;
 use crate::writing::put;
@@ -38,7 +47,9 @@ impl Ending {
     const OUT_OF_MEMORY: Ending = Ending::Run(RunFault::OutOfMemory);
 
     /// The status that the program ends with.
-    fn status(&self) -> u8 {
+    fn status(&self) -> u8
+        ensures { 1 ≤ result }
+    {
         match self {
             Ending::Schema(SchemaFault::OutOfMemory)
             | Ending::Query(QueryFault::OutOfMemory)
@@ -56,12 +67,13 @@ impl Ending {
 }
 
 /// Does what the words ask for, and answers the status that the program ends with: 0 where no line
-/// is refused or help is asked for, 1 where some are, 2 where the words, the schema or the query are
-/// refused, 3 where the file cannot be opened or read or a text cannot be written, 4 where memory
-/// runs out, 5 where more lines are refused than may be. The report and help go to `out`; the
-/// refused lines and what went wrong go to `err`.
+/// is refused or where help or an explanation is asked for, 1 where some are, 2 where the words, the
+/// schema or the query are refused, 3 where the file cannot be opened or read or a text cannot be
+/// written, 4 where memory runs out, 5 where more lines are refused than may be. The report, the
+/// explanation and help go to `out`; the refused lines and what went wrong go to `err`.
 ///
-/// `opener` is called once at most, and only once the words, the schema and the query are good.
+/// `opener` is called once at most, only once the words, the schema and the query are good, and not
+/// where an explanation is asked for.
 pub fn serve<R: Read + Drop, O: Write, E: Write, F: FnMut(&str) -> Option<R>>(
     alloc: Global,
     asked: Result<Settings<'_>, WordsFault>,
@@ -70,9 +82,12 @@ pub fn serve<R: Read + Drop, O: Write, E: Write, F: FnMut(&str) -> Option<R>>(
     err: &mut E,
 ) -> u8
     requires { F.IsAlwaysCallable opener.old }
+    // Where an explanation is asked for and 0 is answered, it is written.
+    ensures explains { IfOk asked.entry (λ settings. settings.explain ≡ true → result ≡ 0
+        → Explains settings.columns.now settings.query.now (O.contents out.old) (O.contents out.new)) }
 {
     match asked {
-        Ok(settings) => match reported(alloc, settings, opener, out, err) {
+        Ok(settings) => match carried_out(alloc, settings, opener, out, err) {
             Ok(status) => status,
             Err(ending) => ended(alloc, &ending, err),
         },
@@ -83,14 +98,18 @@ pub fn serve<R: Read + Drop, O: Write, E: Write, F: FnMut(&str) -> Option<R>>(
 }
 
 /// The plan of the query that is asked for, under the columns that are asked for.
-fn plan_of(alloc: Global, settings: Settings<'_>) -> Result<Plan, Ending> {
+fn plan_of(alloc: Global, settings: Settings<'_>) -> Result<Plan, Ending>
+    ensures schema { IfOk result (λ plan. schema_of settings.entry.columns.now ≡ Ok (fields_of_plan plan)) }
+    ensures query { IfOk result (λ plan. Derives settings.entry.query.now (form_of_plan plan)) }
+    ensures typed { IfOk result (λ plan. IsTyped (fields_of_plan plan) (form_of_plan plan)) }
+{
     let schema = Schema::parse(alloc, settings.columns).map_err(Ending::Schema)?;
     let query = parse(alloc, settings.query).map_err(Ending::Query)?;
     check(alloc, query, schema).map_err(Ending::Query)
 }
 
-/// Answers the query that is asked for over the file that is asked for.
-fn reported<R: Read + Drop, O: Write, E: Write, F: FnMut(&str) -> Option<R>>(
+/// Explains the query that is asked for, or answers it over the file that is asked for.
+fn carried_out<R: Read + Drop, O: Write, E: Write, F: FnMut(&str) -> Option<R>>(
     alloc: Global,
     settings: Settings<'_>,
     opener: &mut F,
@@ -98,8 +117,13 @@ fn reported<R: Read + Drop, O: Write, E: Write, F: FnMut(&str) -> Option<R>>(
     err: &mut E,
 ) -> Result<u8, Ending>
     requires { F.IsAlwaysCallable opener.old }
+    ensures explains { settings.entry.explain ≡ true → OnOk result
+        (Explains settings.entry.columns.now settings.entry.query.now (O.contents out.old) (O.contents out.new)) }
 {
     let plan = plan_of(alloc, settings)?;
+    if settings.explain {
+        return explained(alloc, &plan, out);
+    }
     let Some(reader) = opener(settings.file) else {
         return Err(Ending::NotOpened);
     };
@@ -107,8 +131,24 @@ fn reported<R: Read + Drop, O: Write, E: Write, F: FnMut(&str) -> Option<R>>(
     Ok(if done.refused == 0 { 0 } else { 1 })
 }
 
+/// Writes the explanation of a query.
+fn explained<O: Write>(alloc: Global, plan: &Plan, out: &mut O) -> Result<u8, Ending>
+    ensures { OnOk result (Appends (O.contents out.old) (O.contents out.new)
+        (explanation (fields_of_plan plan.now) (form_of_plan plan.now))) }
+{
+    let Ok(text) = explanation(alloc, plan) else {
+        return Err(Ending::OUT_OF_MEMORY);
+    };
+    match put(out, text.as_bytes()) {
+        Ok(()) => Ok(0),
+        Err(_) => Err(Ending::Run(RunFault::WritingReport)),
+    }
+}
+
 /// Says on standard error why the program ends, and answers the status.
-fn ended<E: Write>(alloc: Global, ending: &Ending, err: &mut E) -> u8 {
+fn ended<E: Write>(alloc: Global, ending: &Ending, err: &mut E) -> u8
+    ensures { 1 ≤ result }
+{
     match ending.line(alloc) {
         Ok(line) => {
             let _ = put(err, line.as_bytes());

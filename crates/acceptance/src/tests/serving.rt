@@ -11,11 +11,11 @@ use std::test::Fail;
 
 /// What a run of the program leaves.
 #[derive(Drop)]
-struct Ended {
-    out: Vec<u8>,
-    err: Vec<u8>,
-    status: u8,
-    opened: u64,
+pub struct Ended {
+    pub out: Vec<u8>,
+    pub err: Vec<u8>,
+    pub status: u8,
+    pub opened: u64,
 }
 
 /// Runs the program on columns and a query, and a file where it can be opened.
@@ -46,7 +46,14 @@ fn run(alloc: Global, columns: &str, query: &str, file: Option<Source<'_>>) -> E
     }
 }
 
-fn assert_ended(rt: &impl Abort, ended: &Ended, status: u8, out: &[u8], err: &[u8], opened: u64) {
+pub fn assert_ended(
+    rt: &impl Abort,
+    ended: &Ended,
+    status: u8,
+    out: &[u8],
+    err: &[u8],
+    opened: u64,
+) {
     assert_eq!(rt; ended.status, status);
     assert_eq!(rt; ended.out.as_slice(), out);
     assert_eq!(rt; ended.err.as_slice(), err);

@@ -55,6 +55,33 @@ fn taken_words(rt: HostRuntime) {
     assert_taken(&rt, rt.alloc(), like_options.as_slice(), wanted, numbers);
 }
 
+/// Whether words that are taken ask for an explanation of the query.
+fn asks_to_explain(alloc: Global, words: &[&str]) -> Result<bool, Fail> {
+    match settings(alloc, words) {
+        Ok(given) => Ok(given.explain),
+        Err(_) => Err(Fail::from("the words were refused")),
+    }
+}
+
+#[test]
+fn explanation_asked_for(rt: HostRuntime) -> Result<(), Fail> {
+    let first = ["jlreport", "--explain", "--columns=a", "--query=b", "c"];
+    assert!(rt; asks_to_explain(rt.alloc(), first.as_slice())?);
+    let last = ["jlreport", "--columns=a", "--query=b", "c", "--explain"];
+    assert!(rt; asks_to_explain(rt.alloc(), last.as_slice())?);
+    let file = [
+        "jlreport",
+        "--columns=a",
+        "--query=b",
+        "--",
+        "--explain",
+    ];
+    assert!(rt; !asks_to_explain(rt.alloc(), file.as_slice())?);
+    let value = ["jlreport", "--columns=--explain", "--query=b", "c"];
+    assert!(rt; !asks_to_explain(rt.alloc(), value.as_slice())?);
+    Ok(())
+}
+
 #[test]
 fn taken_numbers(rt: HostRuntime) {
     let wanted = ("a", "b", "c");
@@ -126,6 +153,7 @@ Options:
       --query <TEXT>     The query to answer
       --piece <BYTES>    How many bytes are worked on at once, 1 to 67108864 [default: 1048576]
       --max-refused <N>  How many lines may be refused, 0 to 18446744073709551615 [default: no limit]
+      --explain          Print the query in its canonical form and its grouping sets, and read no file
   -h, --help             Print help
 
 Columns:
@@ -170,7 +198,9 @@ fn missing_words(rt: HostRuntime) -> Result<(), Fail> {
     let no_query = ["jlreport", "--columns=q:int", "in.jsonl"];
     assert_refused(&rt, rt.alloc(), no_query.as_slice(), kind, text)?;
     let no_file = ["jlreport", "--columns", "q:int", "--query", "S"];
-    assert_refused(&rt, rt.alloc(), no_file.as_slice(), kind, text)
+    assert_refused(&rt, rt.alloc(), no_file.as_slice(), kind, text)?;
+    let nothing_to_read = ["jlreport", "--columns=q:int", "--query=S", "--explain"];
+    assert_refused(&rt, rt.alloc(), nothing_to_read.as_slice(), kind, text)
 }
 
 #[test]
@@ -205,7 +235,31 @@ fn repeated_options(rt: HostRuntime) -> Result<(), Fail> {
         "a",
     ];
     let text = "error: the argument '--piece <BYTES>' cannot be used multiple times\n";
-    assert_refused(&rt, rt.alloc(), pieces.as_slice(), kind, text)
+    assert_refused(&rt, rt.alloc(), pieces.as_slice(), kind, text)?;
+    let flags = [
+        "jlreport",
+        "--columns=q:int",
+        "--query=S",
+        "--explain",
+        "--explain",
+        "a",
+    ];
+    let text = "error: the argument '--explain' cannot be used multiple times\n";
+    assert_refused(&rt, rt.alloc(), flags.as_slice(), kind, text)
+}
+
+#[test]
+fn value_of_a_flag(rt: HostRuntime) -> Result<(), Fail> {
+    let kind = ErrorKind::TooManyValues;
+    let words = [
+        "jlreport",
+        "--columns=q:int",
+        "--query=S",
+        "--explain=true",
+        "a",
+    ];
+    let text = "error: unexpected value 'true' for '--explain' found; no more were expected\n";
+    assert_refused(&rt, rt.alloc(), words.as_slice(), kind, text)
 }
 
 #[test]

@@ -7,4 +7,5 @@ returns-clause-ok c =
     let two = app_of-added _ _ _ _ _ c.in_ok-arg-2.ensures one c.required_option-query.ensures.rule c.required_option-query.ensures.local in
     let three = app_of-added _ _ _ _ _ c.in_ok-arg-3.ensures two c.defaulted_option-piece.ensures.rule c.defaulted_option-piece.ensures.local in
     let four = app_of-added _ _ _ _ _ c.in_ok-arg-4.ensures three c.number_option-max_refused.ensures.rule c.number_option-max_refused.ensures.local in
-    app_of-added _ _ _ _ _ c.in_ok-command.ensures four c.required_word-file.ensures.rule c.required_word-file.ensures.local
+    let five = app_of-added _ _ _ _ _ c.in_ok-arg-5.ensures four c.flag-explain.ensures.rule c.flag-explain.ensures.local in
+    app_of-added _ _ _ _ _ c.in_ok-command.ensures five c.required_word-file.ensures.rule c.required_word-file.ensures.local

@@ -1,7 +1,10 @@
-use Rattle.std.proofs.Common.{◌∙◌, refl, Some, codes}
+use Rattle.std.proofs.Common.{◌∙◌, refl, rules, Some, codes}
 use Rattle.clap.specs.Walk.{texts}
+use Rattle.clap.specs.Words.{HasKind, fault_of}
+use Rattle.command_line.specs.Command.{command}
+use Rattle.command_line.proofs.Flags.{IsSet-read}
 use Rattle.command_line.proofs.Numbers.{IsNumberIn-published, IsNumberOf-read}
-use Rattle.command_line.proofs.Published.{fault_of-taken, value_of-matches}
+use Rattle.command_line.proofs.Published.{HasKind-refused, fault_of-taken, value_of-matches}
 use Rattle.command_line.proofs.Required.{first_value-required}
 use Rattle.command_line.proofs.command.settings.Goals as goal
 
@@ -12,7 +15,7 @@ pub text_of-requires-2 : goal.text_of-requires-2
 text_of-requires-2 c = first_value-required _ c.in_ok-matches.matches (codes "query") 1 c.in_ok-command.ensures.ok c.in_ok-matches.ensures.parsed refl
 
 pub text_of-requires-3 : goal.text_of-requires-3
-text_of-requires-3 c = first_value-required _ c.in_ok-matches.matches (codes "file") 4 c.in_ok-command.ensures.ok c.in_ok-matches.ensures.parsed refl
+text_of-requires-3 c = first_value-required _ c.in_ok-matches.matches (codes "file") 5 c.in_ok-command.ensures.ok c.in_ok-matches.ensures.parsed refl
 
 pub returns-clause-columns : goal.returns-clause-columns
 returns-clause-columns c =
@@ -34,8 +37,18 @@ pub returns-clause-max_refused : goal.returns-clause-max_refused
 returns-clause-max_refused c =
     IsNumberOf-read _ (texts c.args.words.now) _ (codes "max-refused") _ c.in_ok-command.ensures.ok c.in_ok-matches.ensures.matches c.in-Some.ensures.max_refused
 
+pub returns-clause-explain : goal.returns-clause-explain
+returns-clause-explain c =
+    IsSet-read _ (texts c.args.words.now) _ (codes "explain") c.is_set.result c.in_ok-command.ensures.ok c.in_ok-matches.ensures.matches c.is_set.ensures
+
 pub returns-clause-taken : goal.returns-clause-taken
 returns-clause-taken c = fault_of-taken _ (texts c.args.words.now) c.in_ok-command.ensures.ok c.in_ok-matches.ensures.kinds
+
+pub returns-in_err-matches-clause-refused : goal.returns-in_err-matches-clause-refused
+returns-in_err-matches-clause-refused c =
+    let kind : HasKind (fault_of command (texts c.args.words.now)) c.in_err-matches.field-0.0 =
+    HasKind-refused _ (texts c.args.words.now) c.in_err-matches.field-0.0 c.in_ok-command.ensures.ok c.in_err-matches.ensures.kinds in
+    search rules
 
 pub returns-in_default-clause-refused : goal.returns-in_default-clause-refused
 returns-in_default-clause-refused c = (

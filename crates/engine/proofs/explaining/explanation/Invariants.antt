@@ -1,0 +1,12 @@
+use Rattle.std.proofs.Common.{◌≡◌, ◌++◌, string_bytes}
+use Rattle.std.specs.Prelude.{codes}
+use Rattle.query_check.specs.Sets.{sets_of}
+use Rattle.query_print.specs.Canonical.{canonical_text}
+use Rattle.query.specs.Planned.{fields_of_plan, form_of_plan}
+use Rattle.engine.proofs.Explained.{lines_from}
+use Rattle.engine.proofs.explaining.explanation.Given as goal
+
+abbrev pub invariant-loop-index : goal.invariant-loop-index
+invariant-loop-index l =
+    string_bytes l.text ≡ canonical_text (form_of_plan l.plan) ++ codes "\n"
+    ++ lines_from (fields_of_plan l.plan) 0 l.index-counter (sets_of (fields_of_plan l.plan) (form_of_plan l.plan))

@@ -1,0 +1,24 @@
+use Rattle.std.proofs.Common.{◌≡◌, ◌∙◌, Result, Ok, Err, ap, subst, sym}
+use Rattle.std.specs.Prelude.{IfOk, IsErrAnd, MatchResult}
+use Rattle.std.proofs.lemmas.Result.{IfOk-weaker}
+use Rattle.values.specs.Schema.{schema_of}
+use Rattle.query.specs.Planned.{fields_of_plan}
+use Rattle.engine.proofs.serving.plan_of.Goals as goal
+
+-- what holds of an answer holds where its fault is mapped
+if_mapped : {T E D : Type 0} (P : T → Type 0) (r : Result T E) (s : Result T D) (Q : E → D → Type 0)
+    → MatchResult r (λ x. s ≡ Ok x) (λ e. IsErrAnd s (Q e)) → IfOk r P → IfOk s P
+if_mapped P (Ok x) s Q is holds = subst (λ t. IfOk t P) (sym is) holds
+if_mapped P (Err e) (Ok y) Q is holds = absurd is
+if_mapped P (Err e) (Err d) Q is holds = tt
+
+pub returns-clause-schema : goal.returns-clause-schema
+returns-clause-schema c =
+    let text = c.args.settings.columns.now in
+    let schema = c.in_ok-schema.schema in
+    let columns : schema_of text ≡ Ok schema =
+    subst (λ t. IfOk t (λ fields. schema_of text ≡ Ok fields)) c.in_ok-schema.was
+    (if_mapped (λ fields. schema_of text ≡ Ok fields) c.parse.result c.map_err.result _ c.map_err.ensures.cases c.parse.ensures.columns) in
+    IfOk-weaker c.map_err-3.result (λ plan. fields_of_plan plan ≡ schema) (λ plan. schema_of text ≡ Ok (fields_of_plan plan))
+    (λ plan same. columns ∙ ap Ok (sym same))
+    (if_mapped (λ plan. fields_of_plan plan ≡ schema) c.check.result c.map_err-3.result _ c.map_err-3.ensures.cases c.check.ensures.schema)

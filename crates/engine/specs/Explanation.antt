@@ -1,0 +1,28 @@
+-- The explanation of a query.
+use Rattle.std.specs.Prelude.{◌≡◌, ℕ, List, ◌++◌, Option, Ok, codes, decimal}
+use Rattle.std.specs.Io.KnownBytes.{Appends}
+use Rattle.std.specs.List.{enumerate_from, flat_map}
+use Rattle.values.specs.Schema.{Field, schema_of}
+use Rattle.query_tree.specs.Syntax.{TreeForm}
+use Rattle.query_check.specs.Sets.{sets_of}
+use Rattle.query_check.specs.Typing.{IsTyped}
+use Rattle.query_print.specs.Canonical.{canonical_text, set_text}
+use Rattle.query.specs.Derivation.{Derives}
+
+-- a grouping set on a line: its index, and its columns
+abbrev pub set_line : List Field → ℕ × List ℕ → List ℕ
+set_line fields set = decimal set.0 ++ codes ": " ++ set_text fields set.1 ++ codes "\n"
+
+-- the canonical text of the query on a line, and then a line for each of its grouping sets, with indexes from 0
+abbrev pub explanation : List Field → TreeForm → List ℕ
+explanation fields query =
+    canonical_text query ++ codes "\n" ++ flat_map (set_line fields) (enumerate_from 0 (sets_of fields query))
+
+-- the known bytes grew by the explanation of the query that one text derives, under the columns that another says
+pub record Explains (columns query : List ℕ) (old new : Option (List ℕ)) : Type 0 where
+  pub fields : List Field
+  pub form : TreeForm
+  pub schema : schema_of columns ≡ Ok fields
+  pub derived : Derives query form
+  pub typed : IsTyped fields form
+  pub written : Appends old new (explanation fields form)
