@@ -56,10 +56,13 @@ const DETAILS: &str = "Columns:
   bool  true and false
 
 Query:
-  SELECT ITEM, .. FROM lines [GROUP BY NAME, ..]
+  SELECT ITEM, .. FROM lines [WHERE PREDICATE] [GROUP BY NAME, ..]
 
-  An ITEM is a NAME of GROUP BY, COUNT(*) or SUM(NAME), with AS NAME behind it where its header
-  is to be another one. In double quotes a NAME may be any text.
+  An ITEM is a NAME of GROUP BY, COUNT(*), COUNT(NAME), COUNT(DISTINCT NAME), SUM(NAME), MIN(NAME),
+  MAX(NAME), AVG(NAME) or GROUPING(NAME, ..), with AS NAME behind it where its header is to be
+  another one. A PREDICATE compares NAMEs, whole numbers, 'texts', TRUE and FALSE by =, <>, <, <=,
+  >, >=, BETWEEN, IN, IS NULL and IS TRUE, with NOT, AND, OR and brackets; the lines of which it is
+  true are kept. In double quotes a NAME may be any text.
 
 Output:
   The report goes to standard output, as CSV: a row of headers, then a row for each group in the

@@ -1,3 +1,4 @@
+mod Decided
 mod Fronts
 pub mod Cuts
 pub mod Explained

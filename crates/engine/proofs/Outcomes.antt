@@ -10,7 +10,7 @@ use Rattle.engine.specs.Written.{AppendsBeginning, LeavesWritten}
 use Rattle.std.specs.Io.KnownBytes.{Appends}
 
 -- what holds of the bytes that were read holds of what the reader gives, where that is known
-of-known : (P : List ℕ → Type 0) (bytes : List ℕ) (known : Option (List ℕ)) → IfSome known (λ b. bytes ≡ b) → P bytes → IfSome known P
+pub of-known : (P : List ℕ → Type 0) (bytes : List ℕ) (known : Option (List ℕ)) → IfSome known (λ b. bytes ≡ b) → P bytes → IfSome known P
 of-known P bytes None same h = tt
 of-known P bytes (Some b) same h = subst P same h
 

@@ -1,5 +1,5 @@
 -- What a run writes, and what it leaves where it fails.
-use Rattle.std.specs.Prelude.{◌≡◌, ◌<◌, ◌≤◌, ⊤, ℕ, List, Option, Some, None, IfSome, length}
+use Rattle.std.specs.Prelude.{◌≡◌, ◌<◌, ◌≤◌, ◌↔◌, ⊤, ℕ, List, Option, Some, None, Result, IfErr, IfSome, IsOk, length}
 use Rattle.std.specs.Io.KnownBytes.{Appends, Keeps}
 use Rattle.values.specs.Schema.{Field}
 use Rattle.lines.specs.Input.{good, refused}
@@ -22,6 +22,15 @@ refusals fields input = refusals_of fields (refused fields input)
 abbrev pub IsWithin : Option ℕ → ℕ → Type 0
 IsWithin None count = ⊤
 IsWithin (Some limit) count = count ≤ limit
+
+-- a fault by which something was refused to the run: a read, memory or a write
+abbrev pub Hinders : RunFault → Type 0
+Hinders (TooManyRefused most) = ⊥
+Hinders fault = ⊤
+
+-- where nothing was refused to the run, it is done exactly where not more lines are refused than the limit, and else it answers that too many are
+abbrev pub IsDecided : {X : Type 0} → Result X RunFault → Option ℕ → ℕ → Type 0
+IsDecided result limit count = IfErr result (λ fault. Hinders fault → ⊥) → (IsOk result ↔ IsWithin limit count)
 
 -- what a fault says, and what it leaves of the two outputs: nothing was written, or a beginning of the report and nothing of the list, or the report and
 -- a beginning of the list

@@ -10,7 +10,7 @@ ghost use Rattle.tables.specs.Fitting.{AreFitting};
 ghost use Rattle.tables.specs.Found.{found_in};
 ghost use Rattle.report.specs.Report.{report_of};
 ghost use Rattle.engine.specs.Pieces.{IsWhole};
-ghost use Rattle.engine.specs.Run.{IsWithin, Leaves, Refuses, refusals, report};
+ghost use Rattle.engine.specs.Run.{IsDecided, IsWithin, Leaves, Refuses, refusals, report};
 
 use crate::fault::RunFault;
 use crate::folding::whole_of;
@@ -70,6 +70,9 @@ pub fn run_alone<R: Read + Drop, O: Write, E: Write>(
     ensures refused { IfOk result (λ done. IfSome (R.remaining reader) (λ input.
         done.refused ≡ length (refused (fields_of_plan plan.now) input))) }
     ensures limit { IfOk result (λ done. IsWithin options.max_refused done.refused) }
+    // Where nothing is refused to it, the limit alone decides.
+    ensures decided { IfSome (R.remaining reader) (λ input.
+        IsDecided result options.max_refused (length (refused (fields_of_plan plan.now) input))) }
     ensures fault { IfErr result (λ fault. Leaves fault options.max_refused
         (fields_of_plan plan.now) (form_of_plan plan.now) (R.remaining reader)
         (O.contents out.old) (O.contents out.new) (E.contents err.old) (E.contents err.new)) }
@@ -95,6 +98,7 @@ fn run_on<O: Write, E: Write>(
     ensures lines { IfOk result (λ done. done.lines ≡ length (lines input.now)) }
     ensures refused { IfOk result (λ done. done.refused ≡ length (refused (fields_of_plan plan.now) input.now)) }
     ensures limit { IfOk result (λ done. IsWithin options.max_refused done.refused) }
+    ensures decided { IsDecided result options.max_refused (length (refused (fields_of_plan plan.now) input.now)) }
     ensures fault { IfErr result (λ fault. Leaves fault options.max_refused
         (fields_of_plan plan.now) (form_of_plan plan.now) (Some input.now)
         (O.contents out.old) (O.contents out.new) (E.contents err.old) (E.contents err.new)) }

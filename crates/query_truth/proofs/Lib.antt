@@ -1,3 +1,4 @@
+pub mod Examples
 mod Truths
 mod Parts
 mod Safety

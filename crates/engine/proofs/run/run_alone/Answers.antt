@@ -3,8 +3,8 @@ use Rattle.std.specs.Io.KnownBytes.{Appends}
 use Rattle.lines.specs.Input.{refused}
 use Rattle.lines.specs.Lines.{lines}
 use Rattle.query.specs.Planned.{fields_of_plan, form_of_plan}
-use Rattle.engine.specs.Run.{refusals, report}
-use Rattle.engine.proofs.Outcomes.{if-ok-known, known-slice, on-ok-known}
+use Rattle.engine.specs.Run.{IsDecided, refusals, report}
+use Rattle.engine.proofs.Outcomes.{if-ok-known, known-slice, of-known, on-ok-known}
 use Rattle.engine.proofs.run.run_alone.Goals as goal
 
 pub returns-clause-report : goal.returns-clause-report
@@ -36,3 +36,10 @@ returns-clause-refused g c =
     c.as_slice.result.now (g.R.Read.remaining c.args.reader)
     (known-slice c.as_slice.result.now c.in_ok-input.input.items (g.R.Read.remaining c.args.reader) c.as_slice.ensures.value c.in_ok-input.ensures.bytes)
     c.run_on.ensures.refused
+
+pub returns-clause-decided : goal.returns-clause-decided
+returns-clause-decided g c =
+    of-known (λ input. IsDecided c.run_on.result c.args.options.max_refused (length (refused (fields_of_plan c.args.plan.now) input)))
+    c.as_slice.result.now (g.R.Read.remaining c.args.reader)
+    (known-slice c.as_slice.result.now c.in_ok-input.input.items (g.R.Read.remaining c.args.reader) c.as_slice.ensures.value c.in_ok-input.ensures.bytes)
+    c.run_on.ensures.decided
