@@ -150,42 +150,42 @@ fn mark(tokens: &[Token]) -> (bool, &[Token])
     }
 }
 
-/// The atom of an operand and the literals behind its IN.
+/// The atom of a first operand and the literals behind its IN.
 #[tactic(auto, unfolding(crate::specs::AtomSteps::member_after))]
 fn member(
     alloc: Global,
-    operand: Operand,
+    first: Operand,
     not: bool,
     tokens: &[Token],
 ) -> Result<(Predicate, &[Token]), GrammarFault>
-    ensures exact { Gives (λ x. (predicate_form x.0, x.1.now)) result (member_after (operand_form operand) not tokens.now) }
+    ensures exact { Gives (λ x. (predicate_form x.0, x.1.now)) result (member_after (operand_form first) not tokens.now) }
     ensures shorter { IfOk result (λ x. length x.1.now < length tokens.now) }
 {
     let (literals, rest) = literals(alloc, tokens)?;
     let predicate = Predicate::In {
-        operand,
+        operand: first,
         not,
         literals,
     };
     Ok((predicate, rest))
 }
 
-/// The atom of an operand and the two ends behind its BETWEEN.
+/// The atom of a first operand and the two ends behind its BETWEEN.
 #[tactic(auto, unfolding(crate::specs::AtomSteps::between_after))]
 fn between(
     alloc: Global,
-    operand: Operand,
+    first: Operand,
     not: bool,
     tokens: &[Token],
 ) -> Result<(Predicate, &[Token]), GrammarFault>
-    ensures exact { Gives (λ x. (predicate_form x.0, x.1.now)) result (between_after (operand_form operand) not tokens.now) }
+    ensures exact { Gives (λ x. (predicate_form x.0, x.1.now)) result (between_after (operand_form first) not tokens.now) }
     ensures shorter { IfOk result (λ x. length x.1.now < length tokens.now) }
 {
-    let (low, rest) = crate::atoms::operand(alloc, tokens)?;
+    let (low, rest) = operand(alloc, tokens)?;
     let rest = expect_word(rest, Word::And)?;
-    let (high, rest) = crate::atoms::operand(alloc, rest)?;
+    let (high, rest) = operand(alloc, rest)?;
     let predicate = Predicate::Between {
-        operand,
+        operand: first,
         not,
         low,
         high,
@@ -193,21 +193,21 @@ fn between(
     Ok((predicate, rest))
 }
 
-/// The atom of an operand and what stands behind its NOT.
+/// The atom of a first operand and what stands behind its NOT.
 #[tactic(auto, unfolding(crate::specs::AtomSteps::negated_after))]
 fn negated(
     alloc: Global,
-    operand: Operand,
+    first: Operand,
     tokens: &[Token],
 ) -> Result<(Predicate, &[Token]), GrammarFault>
-    ensures exact { Gives (λ x. (predicate_form x.0, x.1.now)) result (negated_after (operand_form operand) tokens.now) }
+    ensures exact { Gives (λ x. (predicate_form x.0, x.1.now)) result (negated_after (operand_form first) tokens.now) }
     ensures shorter { IfOk result (λ x. length x.1.now < length tokens.now) }
 {
     if let Some(rest) = after_word(tokens, Word::In) {
-        return member(alloc, operand, true, rest);
+        return member(alloc, first, true, rest);
     }
     let rest = expect_word(tokens, Word::Between)?;
-    between(alloc, operand, true, rest)
+    between(alloc, first, true, rest)
 }
 
 /// The atom that an operand alone is: a bare name. Anything else asks for more than these tokens.
@@ -221,31 +221,31 @@ fn column(operand: Operand, tokens: &[Token]) -> Result<Predicate, GrammarFault>
     }
 }
 
-/// The atom of an operand and what stands behind it, unless that is IS.
+/// The atom of a first operand and what stands behind it, unless that is IS.
 #[tactic(auto, unfolding(crate::specs::AtomSteps::atom_after))]
 fn atom(
     alloc: Global,
-    operand: Operand,
+    first: Operand,
     tokens: &[Token],
 ) -> Result<(Predicate, &[Token]), GrammarFault>
-    ensures exact { Gives (λ x. (predicate_form x.0, x.1.now)) result (atom_after (operand_form operand) tokens.now) }
+    ensures exact { Gives (λ x. (predicate_form x.0, x.1.now)) result (atom_after (operand_form first) tokens.now) }
     ensures shorter { IfOk result (λ x. length x.1.now ≤ length tokens.now) }
 {
     if let Some((op, rest)) = operator(tokens) {
-        let (right, rest) = crate::atoms::operand(alloc, rest)?;
-        let left = operand;
+        let (right, rest) = operand(alloc, rest)?;
+        let left = first;
         return Ok((Predicate::Compare { left, op, right }, rest));
     }
     if let Some(rest) = after_word(tokens, Word::Not) {
-        return negated(alloc, operand, rest);
+        return negated(alloc, first, rest);
     }
     if let Some(rest) = after_word(tokens, Word::In) {
-        return member(alloc, operand, false, rest);
+        return member(alloc, first, false, rest);
     }
     if let Some(rest) = after_word(tokens, Word::Between) {
-        return between(alloc, operand, false, rest);
+        return between(alloc, first, false, rest);
     }
-    Ok((column(operand, tokens)?, tokens))
+    Ok((column(first, tokens)?, tokens))
 }
 
 /// A predicate and the truth test behind it, where there is one.
@@ -267,22 +267,23 @@ pub fn tested(
     Ok((Predicate::Is { part, not, truth }, rest))
 }
 
-/// An operand and what stands behind its IS: NULL, and maybe a truth test of that; or the truth
+/// A first operand and what stands behind its IS: NULL, and maybe a truth test of that; or the truth
 /// test of a bare name.
 #[tactic(auto, unfolding(crate::specs::AtomSteps::is_after))]
 fn null_or_truth_test(
     alloc: Global,
-    operand: Operand,
+    first: Operand,
     tokens: &[Token],
 ) -> Result<(Predicate, &[Token]), GrammarFault>
-    ensures exact { Gives (λ x. (predicate_form x.0, x.1.now)) result (is_after (operand_form operand) tokens.now) }
+    ensures exact { Gives (λ x. (predicate_form x.0, x.1.now)) result (is_after (operand_form first) tokens.now) }
     ensures shorter { IfOk result (λ x. length x.1.now ≤ length tokens.now) }
 {
     let (not, rest) = mark(tokens);
     if let Some(rest) = after_word(rest, Word::Null) {
+        let operand = first;
         return tested(alloc, Predicate::IsNull { operand, not }, rest);
     }
-    let column = column(operand, rest)?;
+    let column = column(first, rest)?;
     let (truth, rest) = truth_value(rest)?;
     let part = Box::new(alloc, column)?;
     Ok((Predicate::Is { part, not, truth }, rest))
@@ -294,10 +295,10 @@ pub fn tested_atom(alloc: Global, tokens: &[Token]) -> Result<(Predicate, &[Toke
     ensures exact { Gives (λ x. (predicate_form x.0, x.1.now)) result (tested_atom_at tokens.now) }
     ensures shorter { IfOk result (λ x. length x.1.now < length tokens.now) }
 {
-    let (operand, rest) = operand(alloc, tokens)?;
+    let (first, rest) = operand(alloc, tokens)?;
     if let Some(rest) = after_word(rest, Word::Is) {
-        return null_or_truth_test(alloc, operand, rest);
+        return null_or_truth_test(alloc, first, rest);
     }
-    let (atom, rest) = atom(alloc, operand, rest)?;
+    let (atom, rest) = atom(alloc, first, rest)?;
     tested(alloc, atom, rest)
 }
