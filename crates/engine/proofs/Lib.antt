@@ -1,4 +1,3 @@
-mod Decided
 mod Fronts
 pub mod Cuts
 pub mod Explained
