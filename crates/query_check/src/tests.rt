@@ -1,8 +1,7 @@
 use crate::{Resolved, check_tree, set_count};
 use query_fault::QueryFault;
 use query_tree::{
-    Aggregate, Expression, Group, Item, Key, Literal, Operand, Predicate, SetFunction,
-    Text, Tree,
+    Aggregate, Expression, Group, Item, Key, Literal, Operand, Predicate, SetFunction, Text, Tree,
 };
 use std::alloc::Global;
 use std::process::Abort;

@@ -85,11 +85,7 @@ pub(crate) fn push_predicate(out: &mut String, predicate: &Predicate) -> Result<
             out.push_str(not_text(*not))?;
             out.push_str(truth_text(*truth))
         }
-        Predicate::Compare {
-            left,
-            op,
-            right,
-        } => {
+        Predicate::Compare { left, op, right } => {
             push_operand(out, left)?;
             out.push_str(" ")?;
             out.push_str(op_text(*op))?;

@@ -1,7 +1,6 @@
 use crate::{header, print_tree, set_text};
 use query_tree::{
-    Aggregate, Expression, Group, Item, Key, Literal, Operand, Predicate, SetFunction,
-    Text, Tree,
+    Aggregate, Expression, Group, Item, Key, Literal, Operand, Predicate, SetFunction, Text, Tree,
 };
 use std::alloc::Global;
 use std::test::Fail;

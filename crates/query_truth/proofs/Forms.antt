@@ -36,8 +36,8 @@ comparison-safe x o y values = at values (fold-roll-Condition (List Datum → Bo
 
 pub between-safe : (x : Source) (n : Bool) (y z : Source) (values : List Datum)
     → is_safe (variant.Between x n y z) values
-      ≡ (is_there values x && (is_there values y && (is_there values z
-         && (comparable (source_value values x) (source_value values y) && comparable (source_value values x) (source_value values z)))))
+    ≡ (is_there values x && (is_there values y && (is_there values z
+    && (comparable (source_value values x) (source_value values y) && comparable (source_value values x) (source_value values z)))))
 unfolding roll-Condition denote.Hole.Carrier.roll
 between-safe x n y z values = at values (fold-roll-Condition (List Datum → Bool) safe_step (layer.Between x n y z))
 

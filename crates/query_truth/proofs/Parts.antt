@@ -20,10 +20,10 @@ use Rattle.query_truth.specs.Binding.{ForEachRecord, GivesPredicate, IsSafeWhere
 pub record AreBound (fields : List Field) (made : List Condition) (left all : List Predicate) : Type 0 where
   pub worth : (values : List Datum)
       → map (λ truth. truth values) (map condition_truth made) ++ truths (record_value fields values) (predicate_forms (map predicate_form left))
-        ≡ truths (record_value fields values) (predicate_forms (map predicate_form all))
+      ≡ truths (record_value fields values) (predicate_forms (map predicate_form all))
   pub safe : (grouped : List ℕ) → AreTypedParts fields grouped clause.Where (predicate_forms (map predicate_form all))
       → AreTypedParts fields grouped clause.Where (predicate_forms (map predicate_form left))
-        × ForEachRecord fields (λ values. list_all (λ safe. safe values) (map is_safe made) ≡ true)
+      × ForEachRecord fields (λ values. list_all (λ safe. safe values) (map is_safe made) ≡ true)
 
 both-true : (a b : Bool) → a ≡ true → b ≡ true → (a && (b && true)) ≡ true
 both-true true true e f = refl
@@ -42,12 +42,14 @@ more fields made c p rest all gives safe b = record {
       ∙ ap (λ t. map at (map condition_truth made) ++ t ∷ left) (gives values)
       ∙ b.worth values;
   safe = λ grouped typed.
-      let before = b.safe grouped typed in
-      (before.0.1, λ values fits.
-          let at = λ (safe : List Datum → Bool). safe values in
-          ap (list_all at) (map-append is_safe made (c ∷ []))
-          ∙ list_all-append at (map is_safe made) (is_safe c ∷ [])
-          ∙ both-true _ _ (before.1 values fits) (safe grouped before.0.0 values fits));
+      let before = b.safe grouped typed in (
+        before.0.1,
+        λ values fits.
+            let at = λ (safe : List Datum → Bool). safe values in
+            ap (list_all at) (map-append is_safe made (c ∷ []))
+            ∙ list_all-append at (map is_safe made) (is_safe c ∷ [])
+            ∙ both-true _ _ (before.1 values fits) (safe grouped before.0.0 values fits),
+      );
 }
 
 -- one more condition

@@ -60,7 +60,8 @@ fn operand_source(
 {
     match operand {
         Operand::Expression(Expression::Name(name)) => Ok(column_source(columns, name)),
-        Operand::Expression(Expression::Grouping(_)) | Operand::Expression(Expression::Function(_)) => Ok(Source::Literal(Value::Null)),
+        Operand::Expression(Expression::Grouping(_))
+        | Operand::Expression(Expression::Function(_)) => Ok(Source::Literal(Value::Null)),
         Operand::Literal(literal) => Ok(Source::Literal(literal_value(alloc, literal)?)),
     }
 }

@@ -51,7 +51,10 @@ const FAULTS: &[(&str, &str)] = &[
         "SELECT COUNT(*) FROM lines GROUP BY d, z, y",
         "query: unknown column z",
     ),
-    ("SELECT COUNT(*) FROM lines WHERE q > 1 OR d = 'x'", "planned"),
+    (
+        "SELECT COUNT(*) FROM lines WHERE q > 1 OR d = 'x'",
+        "planned",
+    ),
     (
         "SELECT COUNT(*) FROM lines WHERE COUNT(*) > 1",
         "query: function not allowed here",

@@ -230,12 +230,7 @@ fn in_list(alloc: Global, count: usize) -> Result<String, Fail> {
 }
 
 /// A query with this WHERE and its canonical text, or its fault.
-fn assert_where(
-    rt: &impl Abort,
-    alloc: Global,
-    predicate: &str,
-    wanted: &str,
-) -> Result<(), Fail> {
+fn assert_where(rt: &impl Abort, alloc: Global, predicate: &str, wanted: &str) -> Result<(), Fail> {
     let text = with_where(alloc, predicate)?;
     let met = printed(alloc, text.as_str())?;
     assert_eq!(rt; met.as_str(), wanted, "{predicate}");

@@ -14,7 +14,7 @@ returns-clause-again c =
     (λ text. string_bytes text ≡ canonical_text (tree_form c.tree.result.now))
     (λ text. length (string_bytes text) ≤ 65536 → Derives (string_bytes text) q)
     (λ text is short.
-        let same = is ∙ ap canonical_text c.tree.ensures.form in
-        subst (λ bytes. Derives bytes q) (sym same)
-        (derives-again q c.reads_again.ensures c.tree.ensures.derived (subst (λ bytes. length bytes ≤ 65536) same short)))
+    let same = is ∙ ap canonical_text c.tree.ensures.form in
+    subst (λ bytes. Derives bytes q) (sym same)
+    (derives-again q c.reads_again.ensures c.tree.ensures.derived (subst (λ bytes. length bytes ≤ 65536) same short)))
     c.print_tree.ensures
