@@ -1,5 +1,5 @@
 -- Predicates that derive from tokens are read.
-use Rattle.std.proofs.Common.{arith, length, ◌≡◌, ℕ, zero, suc, List, [], ◌∷◌, Some, None, refl}
+use Rattle.std.proofs.Common.{arith, ◌≡◌, ℕ, zero, suc, List, [], ◌∷◌, Some, None, refl}
 use Rattle.query_tokens.specs.declared.token.Token.{Token}
 use Rattle.query_tokens.specs.declared.token.Token.TheVariants as tokens
 use Rattle.query_tokens.specs.declared.token.Word.TheVariants as w

@@ -1,9 +1,5 @@
 -- Atoms that are read from tokens derive from them, and the truth tests behind them.
 use Rattle.std.proofs.Common.{arith, length, ◌<◌, ◌≡◌, ◌⊎◌, ℕ, Bool, true, false, List, [], ◌∷◌, Option, Some, None, refl, sym, ap, subst, inl, inr}
-use Rattle.values.specs.declared.comparison.Op.{Op}
-use Rattle.values.specs.declared.comparison.Op.TheVariants as op
-use Rattle.values.specs.declared.truth.Truth.{Truth}
-use Rattle.values.specs.declared.truth.Truth.TheVariants as truth
 use Rattle.query_tokens.specs.declared.token.Token.{Token}
 use Rattle.query_tokens.specs.declared.token.Token.TheVariants as tokens
 use Rattle.query_tokens.specs.declared.token.Word.TheVariants as w
@@ -11,7 +7,6 @@ use Rattle.query_tokens.specs.declared.token.Sign.TheVariants as s
 use Rattle.query_tokens.specs.Options.{◌>>=◌, choose}
 use Rattle.query_tokens.proofs.Inversions.{bind_some, choose_some, some_is}
 use Rattle.query_tree.specs.declared.predicate.Literal.{Literal}
-use Rattle.query_tree.specs.declared.predicate.Literal.TheVariants as literals
 use Rattle.query_tree.specs.Syntax.{ExpressionForm, OperandForm, PredicateForm, truth_test, compare, between, member, null_test, column}
 use Rattle.query_grammar.specs.Fronts.{is_word, after}
 use Rattle.query_grammar.specs.Steps.{bracketed_at}

@@ -1,11 +1,10 @@
 -- Predicates that are read from tokens derive from them.
-use Rattle.std.proofs.Common.{length, ℕ, zero, suc, List, ◌∷◌, Some, None, sym, subst, inl, inr}
-use Rattle.query_tokens.specs.declared.token.Token.{Token}
+use Rattle.std.proofs.Common.{length, ℕ, zero, suc, ◌∷◌, Some, None, inl, inr}
 use Rattle.query_tokens.specs.declared.token.Token.TheVariants as tokens
 use Rattle.query_tokens.specs.declared.token.Word.TheVariants as w
 use Rattle.query_tokens.specs.declared.token.Sign.TheVariants as s
 use Rattle.query_tokens.specs.Options.{◌>>=◌, choose}
-use Rattle.query_tokens.proofs.Inversions.{bind_some, choose_some, some_is}
+use Rattle.query_tokens.proofs.Inversions.{bind_some, choose_some}
 use Rattle.query_tree.specs.Syntax.{PredicateForm, not_of}
 use Rattle.query_grammar.specs.Fronts.{is_word, is_sign, after}
 use Rattle.query_grammar.specs.Steps.{Reader, more}
