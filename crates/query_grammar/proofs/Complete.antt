@@ -1,5 +1,5 @@
 -- Queries that derive from tokens are read.
-use Rattle.std.proofs.Common.{arith, length, ◌≡◌, List, [], ◌∷◌, Option, Some, None, Result, Ok, Err, refl, sym, ◌∙◌}
+use Rattle.std.proofs.Common.{arith, ◌≡◌, List, [], ◌∷◌, Option, Some, None, Result, Ok, Err, refl, sym, ◌∙◌}
 use Rattle.std.specs.Prelude.{codes, MatchResult}
 use Rattle.query_tokens.specs.declared.token.Token.{Token}
 use Rattle.query_tokens.specs.declared.token.Token.TheVariants as tokens
@@ -14,7 +14,7 @@ use Rattle.query_grammar.specs.Fronts.{is_word, is_sign, after}
 use Rattle.query_grammar.specs.Steps.{Gives, name_at}
 use Rattle.query_grammar.specs.QuerySteps.{alias_at, item_at, items_at, from_at, where_at, group_at, groups_at, query_at, whole_at}
 use Rattle.query_grammar.specs.Grammar.{IsItem, IsWhere, IsGroup, IsGroupBy, IsQuery, Derives}
-use Rattle.query_grammar.proofs.CompleteLists.{Shrinks, repeated_short, repeated_follow, repeated_c}
+use Rattle.query_grammar.proofs.CompleteLists.{Shrinks, repeated_follow, repeated_c, unlimited_c}
 use Rattle.query_grammar.proofs.CompleteExpressions.{expression_c}
 use Rattle.query_grammar.proofs.CompletePredicates.{EndsPredicate, group_ends, nil_ends, predicate_c}
 
@@ -58,7 +58,7 @@ groups_c : {ts r : List Token} {gs : List GroupForm} → IsGroupBy ts gs r → E
 unfolding groups_at
 groups_c IsGroupBy.none q = rw q.no_group refl
 groups_c (IsGroupBy.groups {ts} {mid} {r} {g} {gs} p b) q =
-    rw (group_c ts mid g p tt, repeated_c (tokens.Sign s.Comma) (is_sign s.Comma) IsGroup group_at (λ _. Unit {0}) refl (λ _. tt) group_c b (length mid) (omega (arith, repeated_short (tokens.Sign s.Comma) IsGroup group_short b)) tt q.no_comma) refl
+    rw (group_c ts mid g p tt, unlimited_c (tokens.Sign s.Comma) (is_sign s.Comma) IsGroup group_at (λ _. Unit {0}) refl (λ _. tt) group_c group_short b tt q.no_comma) refl
 
 -- WHERE ends where GROUP BY begins, written or not.
 groups_begin : {ts r : List Token} {gs : List GroupForm} → IsGroupBy ts gs r → EndsQuery r → EndsWhere ts

@@ -31,6 +31,12 @@ repeated_c sep test P f Q is_sep at_sep complete (IsRepeated.more {ts} {mid} {r}
 repeated_c sep test P f Q is_sep at_sep complete (IsRepeated.more {ts} {mid} {r} {x} {xs} p b) (suc n) fits q stop =
     rw (is_sep, complete ts mid x p (repeated_follow sep P Q at_sep b q), repeated_c sep test P f Q is_sep at_sep complete b n (omega arith) q stop) refl
 
+-- The same with no limit: there are no more parts than tokens.
+pub unlimited_c : {A : Type 0} (sep : Token) (test : Token → Bool) (P : Derivation A) (f : Reader A) (Q : List Token → Type 0) → test sep ≡ true → ((ts : List Token) → Q (sep ∷ ts))
+    → ((ts r : List Token) (x : A) → P ts x r → Q r → f ts ≡ Some (x, r)) → Shrinks P
+    → {ts r : List Token} {xs : List A} → IsRepeated sep P ts xs r → Q r → after test r ≡ None → more test f (length ts) ts ≡ Some (xs, r)
+unlimited_c sep test P f Q is_sep at_sep complete short {ts} b q stop = repeated_c sep test P f Q is_sep at_sep complete b (length ts) (omega (arith, repeated_short sep P short b)) q stop
+
 -- Parts in brackets that are read whatever stands behind them.
 pub bracketed_c : {A : Type 0} (P : Derivation A) (f : Reader A) → ((ts r : List Token) (x : A) → P ts x r → f ts ≡ Some (x, r))
     → (n : ℕ) {ts mid r : List Token} {x : A} {xs : List A} → P ts x mid → IsRepeated (tokens.Sign s.Comma) P mid xs (tokens.Sign s.Close ∷ r) → length xs ≤ n

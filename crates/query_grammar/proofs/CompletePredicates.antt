@@ -1,5 +1,5 @@
 -- Predicates that derive from tokens are read.
-use Rattle.std.proofs.Common.{arith, length, ◌≡◌, ℕ, zero, suc, List, [], ◌∷◌, Some, None, refl}
+use Rattle.std.proofs.Common.{arith, ◌≡◌, ℕ, zero, suc, List, [], ◌∷◌, Some, None, refl}
 use Rattle.query_tokens.specs.declared.token.Token.{Token}
 use Rattle.query_tokens.specs.declared.token.Token.TheVariants as tokens
 use Rattle.query_tokens.specs.declared.token.Word.TheVariants as w
@@ -10,7 +10,7 @@ use Rattle.query_grammar.specs.Steps.{Reader}
 use Rattle.query_grammar.specs.AtomSteps.{op_at}
 use Rattle.query_grammar.specs.PredicateSteps.{test_at, negation_at, conjunction_at, disjunction_at, predicate_at}
 use Rattle.query_grammar.specs.Grammar.{Derivation, IsPrimary, IsTest, IsNegation, IsConjunction, IsDisjunction, IsPredicate}
-use Rattle.query_grammar.proofs.CompleteLists.{Shrinks, repeated_short, repeated_follow, repeated_c}
+use Rattle.query_grammar.proofs.CompleteLists.{Shrinks, repeated_short, repeated_follow, unlimited_c}
 use Rattle.query_grammar.proofs.CompleteAtoms.{EndsTest, atom_begins, atom_c, atom_test_c, test_none, test_some, truth_short, mark_short, atom_short}
 
 -- ---- what may stand behind a predicate and its parts
@@ -45,7 +45,11 @@ nil_ends = record { conjunction = record { test = record { no_op = refl; no_not 
 
 -- ---- predicates
 
-module _ (IsInner : Derivation PredicateForm) (inner : Reader PredicateForm) (inner_c : (ts r : List Token) (p : PredicateForm) → IsInner ts p (tokens.Sign s.Close ∷ r) → inner ts ≡ Some (p, tokens.Sign s.Close ∷ r)) where
+-- A reader that reads what derives before a closing bracket.
+abbrev IsComplete : Derivation PredicateForm → Reader PredicateForm → Type 0
+IsComplete P f = (ts r : List Token) (p : PredicateForm) → P ts p (tokens.Sign s.Close ∷ r) → f ts ≡ Some (p, tokens.Sign s.Close ∷ r)
+
+module _ (IsInner : Derivation PredicateForm) (inner : Reader PredicateForm) (inner_c : IsComplete IsInner inner) where
   test_c : {ts r : List Token} {p : PredicateForm} → IsTest IsInner ts p r → EndsTest r → test_at inner ts ≡ Some (p, r)
   unfolding test_at
   test_c (IsTest.plain (IsPrimary.brackets {ts} {r} {p} i)) q = rw (inner_c ts r p i, test_none p r q.no_is) refl
@@ -71,7 +75,7 @@ module _ (IsInner : Derivation PredicateForm) (inner : Reader PredicateForm) (in
   conjunction_c short (IsConjunction.parts {ts} {mid} {r} {p} {ps} i b) q =
       rw (
         negation_c i (repeated_follow (tokens.Word w.And) (IsNegation IsInner) EndsTest and_ends b q.test),
-        repeated_c (tokens.Word w.And) (is_word w.And) (IsNegation IsInner) (negation_at inner) EndsTest refl and_ends (λ _ _ _ j k. negation_c j k) b (length mid) (omega (arith, repeated_short (tokens.Word w.And) (IsNegation IsInner) short b)) q.test q.no_and,
+        unlimited_c (tokens.Word w.And) (is_word w.And) (IsNegation IsInner) (negation_at inner) EndsTest refl and_ends (λ _ _ _ j k. negation_c j k) short b q.test q.no_and,
       ) refl
 
   disjunction_c : Shrinks (IsNegation IsInner) → Shrinks (IsConjunction IsInner) → {ts r : List Token} {p : PredicateForm} → IsDisjunction IsInner ts p r → EndsPredicate r → disjunction_at inner ts ≡ Some (p, r)
@@ -79,7 +83,7 @@ module _ (IsInner : Derivation PredicateForm) (inner : Reader PredicateForm) (in
   disjunction_c short short_parts (IsDisjunction.parts {ts} {mid} {r} {p} {ps} i b) q =
       rw (
         conjunction_c short i (repeated_follow (tokens.Word w.Or) (IsConjunction IsInner) EndsConjunction or_ends b q.conjunction),
-        repeated_c (tokens.Word w.Or) (is_word w.Or) (IsConjunction IsInner) (conjunction_at inner) EndsConjunction refl or_ends (λ _ _ _ j k. conjunction_c short j k) b (length mid) (omega (arith, repeated_short (tokens.Word w.Or) (IsConjunction IsInner) short_parts b)) q.conjunction q.no_or,
+        unlimited_c (tokens.Word w.Or) (is_word w.Or) (IsConjunction IsInner) (conjunction_at inner) EndsConjunction refl or_ends (λ _ _ _ j k. conjunction_c short j k) short_parts b q.conjunction q.no_or,
       ) refl
 
 -- ---- what a predicate takes
@@ -111,4 +115,6 @@ predicate_short (suc n) ts r p i = disjunction_short (IsPredicate n) (predicate_
 pub predicate_c : (n : ℕ) (ts r : List Token) (p : PredicateForm) → IsPredicate n ts p r → EndsPredicate r → predicate_at n ts ≡ Some (p, r)
 unfolding IsPredicate predicate_at
 predicate_c zero ts r p i q = absurd i
-predicate_c (suc n) ts r p i q = disjunction_c (IsPredicate n) (predicate_at n) (λ us v x j. predicate_c n us (tokens.Sign s.Close ∷ v) x j (close_ends v)) (negation_short (IsPredicate n) (predicate_short n)) (conjunction_short (IsPredicate n) (predicate_short n)) i q
+predicate_c (suc n) ts r p i q =
+    let inner_c : IsComplete (IsPredicate n) (predicate_at n) = λ us v x j. predicate_c n us (tokens.Sign s.Close ∷ v) x j (close_ends v) in
+    disjunction_c (IsPredicate n) (predicate_at n) inner_c (negation_short (IsPredicate n) (predicate_short n)) (conjunction_short (IsPredicate n) (predicate_short n)) i q

@@ -19,7 +19,7 @@ use Rattle.query_grammar.specs.PredicateSteps.{predicate_at}
 use Rattle.query_grammar.specs.QuerySteps.{alias_at, item_at, items_at, from_at, where_at, group_at, groups_at, query_at, at_end, whole_at}
 use Rattle.query_grammar.specs.Grammar.{IsRepeated, IsExpression, IsItem, IsWhere, IsGroup, IsGroupBy, IsQuery, Derives}
 use Rattle.query_grammar.proofs.Heads.{after_word_is}
-use Rattle.query_grammar.proofs.SoundLists.{IsSound, IsListed, only_some, listed_s}
+use Rattle.query_grammar.proofs.SoundLists.{IsSound, IsListed, only_some, read_as, begins_as, leaves_as, listed_s}
 use Rattle.query_grammar.proofs.SoundExpressions.{name_is, expression_s}
 use Rattle.query_grammar.proofs.SoundPredicates.{predicate_s}
 
@@ -42,7 +42,7 @@ unfolding item_at item_of
 item_s ts x e =
     let a = bind_some (expression_at ts) (λ e. alias_at e.1 >>= λ a. Some (item_of e.0 a.0, a.1)) x e in
     let b = bind_some (alias_at a.0.1) (λ b. Some (item_of a.0.0 b.0, b.1)) x a.2 in
-    subst (λ (y : ItemForm × List Token). IsItem ts y.0 y.1) (some_is (item_of a.0.0 b.0.0, b.0.1) x b.2) (alias_s ts a.0.1 a.0.0 b.0 (expression_s ts a.0 a.1) b.1)
+    read_as IsItem b.2 (alias_s ts a.0.1 a.0.0 b.0 (expression_s ts a.0 a.1) b.1)
 
 items_s : (ts : List Token) (y : List ItemForm × List Token) → items_at ts ≡ Some y → IsListed IsItem 63 ts y
 unfolding items_at
@@ -67,29 +67,29 @@ where_s : IsSound IsWhere where_at
 unfolding where_at
 where_s ts x e =
     elim (choose_some (after (is_word w.Where) ts) (Some (None, ts)) (λ a. predicate_at 65 a >>= λ p. Some (Some p.0, p.1)) x e) [
-      | inl h ↦ subst (λ (y : Option PredicateForm × List Token). IsWhere ts y.0 y.1) (some_is (None, ts) x h.1) IsWhere.none
+      | inl h ↦ read_as IsWhere h.1 IsWhere.none
       | inr h ↦ (let a = bind_some (predicate_at 65 h.0) (λ p. Some (Some p.0, p.1)) x h.2 in
           let made : IsWhere (tokens.Word w.Where ∷ h.0) (Some a.0.0) a.0.1 = IsWhere.filter (predicate_s 65 h.0 a.0 a.1) in
-          subst (λ (y : Option PredicateForm × List Token). IsWhere ts y.0 y.1) (some_is (Some a.0.0, a.0.1) x a.2) (subst (λ (us : List Token). IsWhere us (Some a.0.0) a.0.1) (sym (after_word_is w.Where ts h.0 h.1)) made))
+          read_as IsWhere a.2 (begins_as IsWhere (after_word_is w.Where ts h.0 h.1) made))
     ]
 
 group_s : IsSound IsGroup group_at
 unfolding group_at
 group_s ts x e =
     let a = bind_some (name_at ts) (λ n. Some (set (n.0 ∷ []), n.1)) x e in
-    subst (λ (y : GroupForm × List Token). IsGroup ts y.0 y.1) (some_is (set (a.0.0 ∷ []), a.0.1) x a.2) (subst (λ us. IsGroup us (set (a.0.0 ∷ [])) a.0.1) (sym (name_is ts a.0 a.1)) IsGroup.column)
+    read_as IsGroup a.2 (begins_as IsGroup (name_is ts a.0 a.1) IsGroup.column)
 
 groups_s : IsSound IsGroupBy groups_at
 unfolding groups_at
 groups_s ts x e =
     elim (choose_some (after (is_word w.Group) ts) (Some ([], ts)) (λ a. choose (after (is_word w.By) a) None (λ b. group_at b >>= λ first. with_front (first.0 ∷ []) (more (is_sign s.Comma) group_at (length first.1) first.1))) x e) [
-      | inl h ↦ subst (λ (y : List GroupForm × List Token). IsGroupBy ts y.0 y.1) (some_is ([], ts) x h.1) IsGroupBy.none
+      | inl h ↦ read_as IsGroupBy h.1 IsGroupBy.none
       | inr h ↦ (let a = only_some (after (is_word w.By) h.0) (λ b. group_at b >>= λ first. with_front (first.0 ∷ []) (more (is_sign s.Comma) group_at (length first.1) first.1)) x h.2 in
           let b = bind_some (group_at a.0) (λ first. with_front (first.0 ∷ []) (more (is_sign s.Comma) group_at (length first.1) first.1)) x a.2 in
           let l = listed_s IsGroup group_at group_s (length b.0.1) a.0 b.0 x b.1 b.2 in
           let whole = after_word_is w.Group ts h.0 h.1 ∙ ap (λ (us : List Token). tokens.Word w.Group ∷ us) (after_word_is w.By h.0 a.0 a.1) in
           let made : IsGroupBy (tokens.Word w.Group ∷ tokens.Word w.By ∷ a.0) (l.first ∷ l.others) x.1 = IsGroupBy.groups l.head l.tail in
-          subst (λ (gs : List GroupForm). IsGroupBy ts gs x.1) (sym l.all_is) (subst (λ us. IsGroupBy us (l.first ∷ l.others) x.1) (sym whole) made))
+          subst (λ (gs : List GroupForm). IsGroupBy ts gs x.1) (sym l.all_is) (begins_as IsGroupBy whole made))
     ]
 
 -- A query of these items, this predicate of WHERE and these groups.
@@ -105,11 +105,11 @@ query_s ts x e =
     let f = bind_some (where_at c.0) (λ p. groups_at p.1 >>= λ gs. Some (tree_of b.0.0 p.0 gs.0, gs.1)) x c.2 in
     let d = bind_some (groups_at f.0.1) (λ gs. Some (tree_of b.0.0 f.0.0 gs.0, gs.1)) x f.2 in
     let l = items_s a.0 b.0 b.1 in
-    let tail = subst (λ us. IsRepeated (tokens.Sign s.Comma) IsItem l.mid l.others us) (from_is b.0.1 c.0 c.1) l.tail in
+    let tail = leaves_as (IsRepeated (tokens.Sign s.Comma) IsItem) (from_is b.0.1 c.0 c.1) l.tail in
     let few : length l.others < 64 = omega (arith, l.few) in
     let made : IsQuery (tokens.Word w.Select ∷ a.0) (tree_of (l.first ∷ l.others) f.0.0 d.0.0) d.0.1 = IsQuery.query l.head tail few (where_s c.0 f.0 f.1) (groups_s f.0.1 d.0 d.1) in
     let named = subst (λ (is : List ItemForm). IsQuery (tokens.Word w.Select ∷ a.0) (tree_of is f.0.0 d.0.0) d.0.1) (sym l.all_is) made in
-    subst (λ (y : TreeForm × List Token). IsQuery ts y.0 y.1) (some_is (tree_of b.0.0 f.0.0 d.0.0, d.0.1) x d.2) (subst (λ us. IsQuery us (tree_of b.0.0 f.0.0 d.0.0) d.0.1) (sym (after_word_is w.Select ts a.0 a.1)) named)
+    read_as IsQuery d.2 (begins_as IsQuery (after_word_is w.Select ts a.0 a.1) named)
 
 ends_s : (n : List Token) (p q : TreeForm) → at_end n p ≡ Some q → (n ≡ []) × (p ≡ q)
 ends_s [] p q e = (refl, some_is p q e)

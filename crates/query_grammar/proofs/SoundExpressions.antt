@@ -14,7 +14,7 @@ use Rattle.query_grammar.specs.Steps.{name_at}
 use Rattle.query_grammar.specs.ExpressionSteps.{closed_name_at, argument_at, counted_at, count_at, aggregate_at, arguments_at, expression_at}
 use Rattle.query_grammar.specs.Grammar.{IsRepeated, IsName, IsAggregate, IsFunction, IsExpression}
 use Rattle.query_grammar.proofs.Heads.{after_word_is, after_sign_is}
-use Rattle.query_grammar.proofs.SoundLists.{IsSound, only_some, bracketed_s}
+use Rattle.query_grammar.proofs.SoundLists.{IsSound, only_some, read_as, begins_as, bracketed_s}
 
 -- ---- names
 
@@ -25,7 +25,7 @@ name_is (tokens.Name n ∷ ts) x e = let h = some_is (n, ts) x e in ap (λ (y : 
 name_is (y ∷ ts) x e = absurd cc
 
 name_s : IsSound IsName name_at
-name_s ts x e = subst (λ us. IsName us x.0 x.1) (sym (name_is ts x e)) IsName.name
+name_s ts x e = begins_as IsName (name_is ts x e) IsName.name
 
 closed_name_is : (ts : List Token) (x : List ℕ × List Token) → closed_name_at ts ≡ Some x → ts ≡ tokens.Name x.0 ∷ tokens.Sign s.Close ∷ x.1
 unfolding closed_name_at
@@ -49,14 +49,14 @@ of_name : (make : List ℕ → Aggregate) (front : List Token → List Token) �
 of_name make front derives ts x e =
     let a = bind_some (closed_name_at ts) (λ n. Some (make n.0, n.1)) x e in
     let made = subst (λ (us : List Token). IsAggregate (front us) (make a.0.0) a.0.1) (sym (closed_name_is ts a.0 a.1)) (derives a.0.0 a.0.1) in
-    subst (λ (y : Aggregate × List Token). IsAggregate (front ts) y.0 y.1) (some_is (make a.0.0, a.0.1) x a.2) made
+    read_as IsAggregate a.2 made
 
 of_argument : (make : List ℕ → Aggregate) (front : List Token → List Token) → ((n : List ℕ) (r : List Token) → IsAggregate (front (tokens.Sign s.Open ∷ tokens.Name n ∷ tokens.Sign s.Close ∷ r)) (make n) r)
     → (ts : List Token) (x : Aggregate × List Token) → (argument_at ts >>= λ n. Some (make n.0, n.1)) ≡ Some x → IsAggregate (front ts) x.0 x.1
 of_argument make front derives ts x e =
     let a = bind_some (argument_at ts) (λ n. Some (make n.0, n.1)) x e in
     let made = subst (λ (us : List Token). IsAggregate (front us) (make a.0.0) a.0.1) (sym (argument_is ts a.0 a.1)) (derives a.0.0 a.0.1) in
-    subst (λ (y : Aggregate × List Token). IsAggregate (front ts) y.0 y.1) (some_is (make a.0.0, a.0.1) x a.2) made
+    read_as IsAggregate a.2 made
 
 -- The tokens COUNT ( in front of others.
 count_of : List Token → List Token
@@ -71,20 +71,26 @@ counted_s ts x e =
           subst (λ (us : List Token). IsAggregate (count_of us) x.0 x.1) (sym (after_word_is w.Distinct ts h.0 h.1)) made)
     ]
 
+-- COUNT ( and a star.
+star_s : (ts r : List Token) (x : Aggregate × List Token) → after (is_sign s.Star) ts ≡ Some r → choose (after (is_sign s.Close) r) None (λ rest. Some (aggregates.CountRows, rest)) ≡ Some x
+    → IsAggregate (count_of ts) x.0 x.1
+unfolding count_of
+star_s ts r x starred e =
+    let a = only_some (after (is_sign s.Close) r) (λ rest. Some (aggregates.CountRows, rest)) x e in
+    let inside = after_sign_is s.Star ts r starred ∙ ap (λ (us : List Token). tokens.Sign s.Star ∷ us) (after_sign_is s.Close r a.0 a.1) in
+    read_as IsAggregate a.2 (begins_as IsAggregate (ap count_of inside) IsAggregate.count_rows)
+
 count_s : (ts : List Token) (x : Aggregate × List Token) → count_at ts ≡ Some x → IsAggregate (tokens.Word w.Count ∷ ts) x.0 x.1
 unfolding count_at count_of
 count_s ts x e =
-    let a = only_some (after (is_sign s.Open) ts) (λ a. choose (after (is_sign s.Star) a) (counted_at a) (λ b. choose (after (is_sign s.Close) b) None (λ rest. Some (aggregates.CountRows, rest)))) x e in
-    let begins = after_sign_is s.Open ts a.0 a.1 in
+    let a = only_some (after (is_sign s.Open) ts)
+    (λ a. choose (after (is_sign s.Star) a) (counted_at a) (λ b. choose (after (is_sign s.Close) b) None (λ rest. Some (aggregates.CountRows, rest)))) x e in
     let made : IsAggregate (count_of a.0) x.0 x.1 =
     elim (choose_some (after (is_sign s.Star) a.0) (counted_at a.0) (λ b. choose (after (is_sign s.Close) b) None (λ rest. Some (aggregates.CountRows, rest))) x a.2) [
       | inl h ↦ counted_s a.0 x h.1
-      | inr h ↦ (let c = only_some (after (is_sign s.Close) h.0) (λ rest. Some (aggregates.CountRows, rest)) x h.2 in
-          let inside : a.0 ≡ tokens.Sign s.Star ∷ tokens.Sign s.Close ∷ c.0 = after_sign_is s.Star a.0 h.0 h.1 ∙ ap (λ (us : List Token). tokens.Sign s.Star ∷ us) (after_sign_is s.Close h.0 c.0 c.1) in
-          subst (λ (y : Aggregate × List Token). IsAggregate (count_of a.0) y.0 y.1) (some_is (aggregates.CountRows, c.0) x c.2)
-          (subst (λ (us : List Token). IsAggregate (count_of us) aggregates.CountRows c.0) (sym inside) IsAggregate.count_rows))
+      | inr h ↦ star_s a.0 h.0 x h.1 h.2
     ] in
-    subst (λ (us : List Token). IsAggregate (tokens.Word w.Count ∷ us) x.0 x.1) (sym begins) made
+    begins_as IsAggregate (ap (λ (us : List Token). tokens.Word w.Count ∷ us) (after_sign_is s.Open ts a.0 a.1)) made
 
 aggregate_s : (ts : List Token) (x : Aggregate × List Token) → aggregate_at ts ≡ Some x → IsAggregate ts x.0 x.1
 unfolding aggregate_at
@@ -118,14 +124,13 @@ expression_s ts x e =
     (aggregate_at ts >>= λ f. Some (ExpressionForm.function (over_all f.0), f.1))
     (λ a. arguments_at a >>= λ ns. Some (ExpressionForm.grouping ns.0, ns.1)))
     (λ n. Some (ExpressionForm.name n.0, n.1)) x e) [
-      | inr h ↦ subst (λ (y : ExpressionForm × List Token). IsExpression ts y.0 y.1) (some_is (ExpressionForm.name h.0.0, h.0.1) x h.2) (subst (λ us. IsExpression us (ExpressionForm.name h.0.0) h.0.1) (sym (name_is ts h.0 h.1)) IsExpression.name)
+      | inr h ↦ read_as IsExpression h.2 (begins_as IsExpression (name_is ts h.0 h.1) IsExpression.name)
       | inl h ↦ elim (choose_some (after (is_word w.Grouping) ts)
           (aggregate_at ts >>= λ f. Some (ExpressionForm.function (over_all f.0), f.1))
           (λ a. arguments_at a >>= λ ns. Some (ExpressionForm.grouping ns.0, ns.1)) x h.1) [
             | inl k ↦ (let a = bind_some (aggregate_at ts) (λ f. Some (ExpressionForm.function (over_all f.0), f.1)) x k.1 in
-                subst (λ (y : ExpressionForm × List Token). IsExpression ts y.0 y.1) (some_is (ExpressionForm.function (over_all a.0.0), a.0.1) x a.2) (IsExpression.function (IsFunction.plain (aggregate_s ts a.0 a.1))))
+                read_as IsExpression a.2 (IsExpression.function (IsFunction.plain (aggregate_s ts a.0 a.1))))
             | inr k ↦ (let a = bind_some (arguments_at k.0) (λ ns. Some (ExpressionForm.grouping ns.0, ns.1)) x k.2 in
-                let made = subst (λ (us : List Token). IsExpression us (ExpressionForm.grouping a.0.0) a.0.1) (sym (after_word_is w.Grouping ts k.0 k.1)) (arguments_s k.0 a.0 a.1) in
-                subst (λ (y : ExpressionForm × List Token). IsExpression ts y.0 y.1) (some_is (ExpressionForm.grouping a.0.0, a.0.1) x a.2) made)
+                read_as IsExpression a.2 (begins_as IsExpression (after_word_is w.Grouping ts k.0 k.1) (arguments_s k.0 a.0 a.1)))
           ]
     ]

@@ -4,7 +4,7 @@ use Rattle.query_tokens.specs.declared.token.Token.{Token}
 use Rattle.query_tokens.specs.declared.token.Token.TheVariants as tokens
 use Rattle.query_tokens.specs.declared.token.Sign.TheVariants as s
 use Rattle.query_tokens.specs.Options.{◌>>=◌, choose}
-use Rattle.query_tokens.proofs.Inversions.{bind_some, choose_some, some_is}
+use Rattle.query_tokens.proofs.Inversions.{bind_some, choose_some, given, some_is}
 use Rattle.query_grammar.specs.Fronts.{is_sign, after}
 use Rattle.query_grammar.specs.Steps.{Reader, with_front, more, listed_at, bracketed_at}
 use Rattle.query_grammar.specs.Grammar.{Derivation, IsRepeated}
@@ -14,6 +14,18 @@ use Rattle.query_grammar.proofs.Heads.{after_sign_is}
 pub only_some : {A B : Type 0} (o : Option A) (f : A → Option B) (y : B) → choose o None f ≡ Some y → (x : A) × (o ≡ Some x) × (f x ≡ Some y)
 only_some (Some x) f y e = (x, refl, e)
 only_some None f y e = absurd cc
+
+-- What derives from tokens up to a rest, where these are what was read.
+pub read_as : {A : Type 0} (P : Derivation A) {ts r : List Token} {a : A} {x : A × List Token} → given (a, r) ≡ given x → P ts a r → P ts x.0 x.1
+read_as {A} P {ts} {r} {a} {x} e p = subst (λ (y : A × List Token). P ts y.0 y.1) (some_is (a, r) x e) p
+
+-- What derives from tokens, where the tokens are these.
+pub begins_as : {A : Type 0} (P : Derivation A) {ts us r : List Token} {a : A} → ts ≡ us → P us a r → P ts a r
+begins_as {A} P {ts} {us} {r} {a} e p = subst (λ vs. P vs a r) (sym e) p
+
+-- What derives from tokens up to a rest, where the rest is this.
+pub leaves_as : {A : Type 0} (P : Derivation A) {ts r v : List Token} {a : A} → r ≡ v → P ts a r → P ts a v
+leaves_as {A} P {ts} {r} {v} {a} e p = subst (λ vs. P ts a vs) e p
 
 -- A reader whose parts derive from what they are read from.
 abbrev pub IsSound : {A : Type 0} → Derivation A → Reader A → Type 0

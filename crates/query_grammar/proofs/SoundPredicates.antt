@@ -1,11 +1,10 @@
 -- Predicates that are read from tokens derive from them.
-use Rattle.std.proofs.Common.{length, ℕ, zero, suc, List, ◌∷◌, Some, None, sym, subst, inl, inr}
-use Rattle.query_tokens.specs.declared.token.Token.{Token}
+use Rattle.std.proofs.Common.{length, ℕ, zero, suc, ◌∷◌, Some, None, inl, inr}
 use Rattle.query_tokens.specs.declared.token.Token.TheVariants as tokens
 use Rattle.query_tokens.specs.declared.token.Word.TheVariants as w
 use Rattle.query_tokens.specs.declared.token.Sign.TheVariants as s
 use Rattle.query_tokens.specs.Options.{◌>>=◌, choose}
-use Rattle.query_tokens.proofs.Inversions.{bind_some, choose_some, some_is}
+use Rattle.query_tokens.proofs.Inversions.{bind_some, choose_some}
 use Rattle.query_tree.specs.Syntax.{PredicateForm, not_of}
 use Rattle.query_grammar.specs.Fronts.{is_word, is_sign, after}
 use Rattle.query_grammar.specs.Steps.{Reader, more}
@@ -13,7 +12,7 @@ use Rattle.query_grammar.specs.AtomSteps.{test_after, tested_atom_at}
 use Rattle.query_grammar.specs.PredicateSteps.{test_at, negation_at, conjunction_at, disjunction_at, predicate_at}
 use Rattle.query_grammar.specs.Grammar.{Derivation, IsPrimary, IsTest, IsNegation, IsConjunction, IsDisjunction, IsPredicate, conjunction_of, disjunction_of}
 use Rattle.query_grammar.proofs.Heads.{after_word_is, after_sign_is}
-use Rattle.query_grammar.proofs.SoundLists.{IsSound, only_some, repeated_s}
+use Rattle.query_grammar.proofs.SoundLists.{IsSound, only_some, read_as, begins_as, leaves_as, repeated_s}
 use Rattle.query_grammar.proofs.SoundAtoms.{test_after_s, tested_atom_s}
 
 module _ (IsInner : Derivation PredicateForm) (inner : Reader PredicateForm) (inner_s : IsSound IsInner inner) where
@@ -24,9 +23,9 @@ module _ (IsInner : Derivation PredicateForm) (inner : Reader PredicateForm) (in
         | inl h ↦ tested_atom_s IsInner ts x h.1
         | inr h ↦ (let a = bind_some (inner h.0) (λ p. choose (after (is_sign s.Close) p.1) None (λ b. test_after p.0 b)) x h.2 in
             let b = only_some (after (is_sign s.Close) a.0.1) (λ b. test_after a.0.0 b) x a.2 in
-            let inside = subst (λ (us : List Token). IsInner h.0 a.0.0 us) (after_sign_is s.Close a.0.1 b.0 b.1) (inner_s h.0 a.0 a.1) in
+            let inside = leaves_as IsInner (after_sign_is s.Close a.0.1 b.0 b.1) (inner_s h.0 a.0 a.1) in
             let made : IsPrimary IsInner (tokens.Sign s.Open ∷ h.0) a.0.0 b.0 = IsPrimary.brackets inside in
-            test_after_s IsInner ts b.0 a.0.0 x (subst (λ (us : List Token). IsPrimary IsInner us a.0.0 b.0) (sym (after_sign_is s.Open ts h.0 h.1)) made) b.2)
+            test_after_s IsInner ts b.0 a.0.0 x (begins_as (IsPrimary IsInner) (after_sign_is s.Open ts h.0 h.1) made) b.2)
       ]
 
   negation_s : IsSound (IsNegation IsInner) (negation_at inner)
@@ -36,7 +35,7 @@ module _ (IsInner : Derivation PredicateForm) (inner : Reader PredicateForm) (in
         | inl h ↦ IsNegation.plain (test_s ts x h.1)
         | inr h ↦ (let b = bind_some (test_at inner h.0) (λ p. Some (not_of p.0, p.1)) x h.2 in
             let made : IsNegation IsInner (tokens.Word w.Not ∷ h.0) (not_of b.0.0) b.0.1 = IsNegation.not (test_s h.0 b.0 b.1) in
-            subst (λ (y : PredicateForm × List Token). IsNegation IsInner ts y.0 y.1) (some_is (not_of b.0.0, b.0.1) x b.2) (subst (λ (us : List Token). IsNegation IsInner us (not_of b.0.0) b.0.1) (sym (after_word_is w.Not ts h.0 h.1)) made))
+            read_as (IsNegation IsInner) b.2 (begins_as (IsNegation IsInner) (after_word_is w.Not ts h.0 h.1) made))
       ]
 
   conjunction_s : IsSound (IsConjunction IsInner) (conjunction_at inner)
@@ -45,7 +44,7 @@ module _ (IsInner : Derivation PredicateForm) (inner : Reader PredicateForm) (in
       let p = bind_some (negation_at inner ts) (λ p. more (is_word w.And) (negation_at inner) (length p.1) p.1 >>= λ ps. Some (conjunction_of p.0 ps.0, ps.1)) x e in
       let b = bind_some (more (is_word w.And) (negation_at inner) (length p.0.1) p.0.1) (λ ps. Some (conjunction_of p.0.0 ps.0, ps.1)) x p.2 in
       let m = repeated_s (tokens.Word w.And) (is_word w.And) (IsNegation IsInner) (negation_at inner) (after_word_is w.And) negation_s (length p.0.1) p.0.1 b.0 b.1 in
-      subst (λ (y : PredicateForm × List Token). IsConjunction IsInner ts y.0 y.1) (some_is (conjunction_of p.0.0 b.0.0, b.0.1) x b.2) (IsConjunction.parts (negation_s ts p.0 p.1) m.0)
+      read_as (IsConjunction IsInner) b.2 (IsConjunction.parts (negation_s ts p.0 p.1) m.0)
 
   disjunction_s : IsSound (IsDisjunction IsInner) (disjunction_at inner)
   unfolding disjunction_at
@@ -53,7 +52,7 @@ module _ (IsInner : Derivation PredicateForm) (inner : Reader PredicateForm) (in
       let p = bind_some (conjunction_at inner ts) (λ p. more (is_word w.Or) (conjunction_at inner) (length p.1) p.1 >>= λ ps. Some (disjunction_of p.0 ps.0, ps.1)) x e in
       let b = bind_some (more (is_word w.Or) (conjunction_at inner) (length p.0.1) p.0.1) (λ ps. Some (disjunction_of p.0.0 ps.0, ps.1)) x p.2 in
       let m = repeated_s (tokens.Word w.Or) (is_word w.Or) (IsConjunction IsInner) (conjunction_at inner) (after_word_is w.Or) conjunction_s (length p.0.1) p.0.1 b.0 b.1 in
-      subst (λ (y : PredicateForm × List Token). IsDisjunction IsInner ts y.0 y.1) (some_is (disjunction_of p.0.0 b.0.0, b.0.1) x b.2) (IsDisjunction.parts (conjunction_s ts p.0 p.1) m.0)
+      read_as (IsDisjunction IsInner) b.2 (IsDisjunction.parts (conjunction_s ts p.0 p.1) m.0)
 
 pub predicate_s : (n : ℕ) → IsSound (IsPredicate n) (predicate_at n)
 unfolding IsPredicate predicate_at
