@@ -69,13 +69,7 @@ fn explanation_asked_for(rt: HostRuntime) -> Result<(), Fail> {
     assert!(rt; asks_to_explain(rt.alloc(), first.as_slice())?);
     let last = ["jlreport", "--columns=a", "--query=b", "c", "--explain"];
     assert!(rt; asks_to_explain(rt.alloc(), last.as_slice())?);
-    let file = [
-        "jlreport",
-        "--columns=a",
-        "--query=b",
-        "--",
-        "--explain",
-    ];
+    let file = ["jlreport", "--columns=a", "--query=b", "--", "--explain"];
     assert!(rt; !asks_to_explain(rt.alloc(), file.as_slice())?);
     let value = ["jlreport", "--columns=--explain", "--query=b", "c"];
     assert!(rt; !asks_to_explain(rt.alloc(), value.as_slice())?);
