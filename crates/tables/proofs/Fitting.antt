@@ -1,25 +1,28 @@
 -- Rows that are the same bag as those of the groups of records fit the sets and the functions.
-use Rattle.std.proofs.Common.{◌≡◌, ◌≢◌, ◌==◌, ◌+◌, ◌<◌, ◌≤◌, ℕ, zero, suc, nat_lt, Bool, true, false, not, ◌&&◌, ◌||◌, cond, List, [], ◌∷◌, ◌++◌, length, map, get_or, refl, sym, ap, subst, ◌∙◌, arith}
+use Rattle.std.proofs.Common.{◌≡◌, ◌≢◌, ◌==◌, ◌+◌, ◌<◌, ◌≤◌, ℕ, suc, nat_lt, Bool, true, false, ◌&&◌, cond, List, [], ◌∷◌, ◌++◌, length, map, get_or, refl, sym, ap, subst, ◌∙◌, arith}
 use Rattle.std.proofs.lemmas.Bool.Decides.{nat_tests}
 use Rattle.std.proofs.lemmas.List.{get_or-map, length-map, map-append}
 use Rattle.std.proofs.lemmas.List.Elements.{All-from_recursion}
 use Rattle.std.proofs.lemmas.Map.Made.{AllPairs-from_IsDistinct}
 use Rattle.std.specs.Bool.{Decides}
-use Rattle.std.specs.List.{All, AllByRecursion, AllPairs, IsDistinct, enumerate_from, flat_map, list_any, slice_index_or}
+use Rattle.std.specs.List.{AllByRecursion, AllPairs, IsDistinct, enumerate_from, flat_map, slice_index_or}
+use Rattle.values.specs.Fit.{Fits}
 use Rattle.values.specs.Schema.{Field}
 use Rattle.query_tree.specs.Syntax.{TreeForm}
 use Rattle.query_check.specs.declared.function.ColumnFunction.{ColumnFunction}
 use Rattle.query_check.specs.Functions.{functions_of}
 use Rattle.query_check.specs.Sets.{sets_of}
 use Rattle.groups.specs.Rows.{Row}
-use Rattle.groups.specs.Groups.{Key, each_once, keys, members, project, same_key}
-use Rattle.groups.specs.GroupRows.{SameBag, weigh, group_row}
+use Rattle.groups.specs.Groups.{Key, keys, members, project, same_key}
+use Rattle.groups.specs.GroupRows.{SameBag, weigh}
 use Rattle.groups.proofs.GroupsLaw.{keys-distinct}
 use Rattle.groups.proofs.Order.{same_key-Decides}
 use Rattle.tables.specs.Found.{Found}
 use Rattle.tables.specs.Fitting.{AreFitting}
 use Rattle.tables.specs.Results.{all_found, found}
+use Rattle.tables.proofs.Bags.{all-append, all-same}
 use Rattle.tables.proofs.Finding.{set_groups}
+use Rattle.tables.proofs.Types.{IsTyped, all-once, found-typed}
 
 -- a row fits grouping sets and set functions: its index is that of a set, its key has a value for each column of the set, and it has a cell for each function
 record IsFitting (sets : List (List ℕ)) (functions : List ColumnFunction) (row : Found) : Type 0 where
@@ -30,25 +33,6 @@ record IsFitting (sets : List (List ℕ)) (functions : List ColumnFunction) (row
 -- rows are of one group where their index and their key are the same
 abbrev same_group : ℕ × Key → ℕ × Key → Bool
 same_group g h = (g.0 == h.0) && same_key g.1 h.1
-
--- ---- what a test says of each thing of a bag
-
-abbrev fails : {X : Type 0} → (X → Bool) → X → ℕ
-fails t x = cond (t x) 0 1
-
-weigh-fails : {X : Type 0} (t : X → Bool) (xs : List X) → AllByRecursion (λ x. t x ≡ true) xs → weigh (fails t) xs ≡ 0
-weigh-fails t [] h = refl
-weigh-fails t (x ∷ xs) h = let a = ap (λ b. cond b 0 1 + weigh (fails t) xs) h.0 in let b = weigh-fails t xs h.1 in omega (arith, a, b)
-
-none-fails : {X : Type 0} (t : X → Bool) (xs : List X) → weigh (fails t) xs ≡ 0 → AllByRecursion (λ x. t x ≡ true) xs
-none-fails t [] h = tt
-none-fails t (x ∷ xs) h = elim (t x) as (λ b. t x ≡ b → cond b 0 1 + weigh (fails t) xs ≡ 0 → (t x ≡ true) × AllByRecursion (λ y. t y ≡ true) xs) [
-  | true ↦ λ e z. (e, none-fails t xs (omega (arith, z)))
-  | false ↦ λ e z. absurd (omega (arith, z))
-] refl h
-
-all-same : {X : Type 0} (t : X → Bool) (xs ys : List X) → SameBag xs ys → AllByRecursion (λ x. t x ≡ true) ys → AllByRecursion (λ x. t x ≡ true) xs
-all-same t xs ys same h = none-fails t xs (same (fails t) ∙ weigh-fails t ys h)
 
 -- ---- things that stand once
 
@@ -147,10 +131,6 @@ fits-from : (sets : List (List ℕ)) (fs : List ColumnFunction) (row : Found) �
 unfolding fits
 fits-from sets fs row a b c = together _ _ (grind (arith, nat_tests, a)) (together _ _ (eq-true _ _ b) (eq-true _ _ c))
 
-all-once : (P : Key → Type 0) (ks : List Key) → AllByRecursion P ks → AllByRecursion P (each_once ks)
-all-once P [] h = tt
-all-once P (k ∷ ks) h = elim (list_any (same_key k) ks) as (λ b. AllByRecursion P (cond b (each_once ks) (k ∷ each_once ks))) [ true ↦ all-once P ks h.1 | false ↦ (h.0, all-once P ks h.1) ]
-
 projected-length : (set : List ℕ) (rows : List Row) → AllByRecursion (λ k. length k ≡ length set) (map (project set) rows)
 projected-length set [] = tt
 projected-length set (row ∷ rows) = (length-map set _, projected-length set rows)
@@ -158,10 +138,6 @@ projected-length set (row ∷ rows) = (length-map set _, projected-length set ro
 keys-length : (set : List ℕ) (rows : List Row) → AllByRecursion (λ k. length k ≡ length set) (keys set rows)
 keys-length [] rows = (refl, tt)
 keys-length (p ∷ ps) rows = all-once (λ k. length k ≡ length (p ∷ ps)) (map (project (p ∷ ps)) rows) (projected-length (p ∷ ps) rows)
-
-all-append : {X : Type 0} (P : X → Type 0) (xs ys : List X) → AllByRecursion P xs → AllByRecursion P ys → AllByRecursion P (xs ++ ys)
-all-append P [] ys a b = b
-all-append P (x ∷ xs) ys a b = (a.0, all-append P xs ys a.1 b)
 
 set-fits : (sets : List (List ℕ)) (fs : List ColumnFunction) (rows : List Row) (n : ℕ) (s : List ℕ) (ks : List Key) → n < length sets → slice_index_or sets n [] ≡ s → AllByRecursion (λ k. length k ≡ length s) ks
     → AllByRecursion (λ r. fits sets fs r ≡ true) (map (found fs) (map (λ key. record { index = n; key = key; members = members s key rows }) ks))
@@ -246,15 +222,18 @@ places-apart xs d = λ i j e l m same keys.
     let both : place (get_or xs i e) ≡ place (get_or xs j e) = λ k. (same k, keys k) in
     AllPairs-from_IsDistinct same_group-Decides (map place xs) d i j (place e) l (omega (arith, m, long)) (a ∙ both ∙ sym b)
 
-pub found-fit : (fields : List Field) (t : TreeForm) (rows : List Row) (xs : List Found) → SameBag xs (all_found (sets_of fields t) (functions_of fields t) rows) → AreFitting fields t xs
-found-fit fields t rows xs same =
+pub found-fit : (fields : List Field) (t : TreeForm) (rows : List Row) (xs : List Found) → SameBag xs (all_found (sets_of fields t) (functions_of fields t) rows) → AllByRecursion (Fits fields) rows → AreFitting fields t xs
+found-fit fields t rows xs same fit =
     let sets = sets_of fields t in
     let fs = functions_of fields t in
     let each = All-from_recursion (IsFitting sets fs) xs (indexes sets fs xs (all-same (fits sets fs) xs (all_found sets fs rows) same (rows-fit sets fs rows 0 sets (omega arith) (λ i h. ap (λ m. slice_index_or sets m []) (let e : 0 + i ≡ i = omega arith in e))))) in
+    let typed = All-from_recursion (IsTyped fields sets fs) xs (found-typed fields t rows xs same fit) in
     record {
       indexes = λ k d l. (each k d l).within;
       keys = λ k d l. (each k d l).one_each;
+      key_types = λ k d l. (typed k d l).0;
       cells = λ k d l. (each k d l).cells;
+      cell_types = λ k d l. (typed k d l).1;
       distinct = places-apart xs (distinct-same same_group same_group-Decides (map place xs) (map place (all_found sets fs rows))
           (λ f. weigh-places f place xs ∙ same (λ r. f (place r)) ∙ sym (weigh-places f place (all_found sets fs rows)))
           (places-distinct rows 0 sets fs));

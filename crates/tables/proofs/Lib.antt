@@ -12,3 +12,6 @@ pub mod Shuffling
 pub mod Numbered
 pub mod Shapes
 pub mod DistinctSets
+pub mod Bags
+pub mod Taken
+pub mod Types

@@ -1,4 +1,4 @@
-use Rattle.std.proofs.Common.{◌≡◌, ◌∙◌, ℕ, List, map, sym, ap, subst}
+use Rattle.std.proofs.Common.{◌∙◌, List, map, sym, subst}
 use Rattle.std.proofs.lemmas.List.Sorted.{IsPermutation-sym}
 use Rattle.groups.specs.GroupRows.{SameBag}
 use Rattle.groups.specs.Rows.{Row}
@@ -13,6 +13,7 @@ use Rattle.tables.specs.Results.{all_found, query_found}
 use Rattle.tables.proofs.Cutting.{cut-records, cut-refused}
 use Rattle.tables.proofs.Fitting.{found-fit}
 use Rattle.tables.proofs.Numbered.{notes-in_order, numbered-in_order}
+use Rattle.tables.proofs.Taken.{kept-fits}
 use Rattle.tables.proofs.partial.Partial.finish.Goals as goal
 
 pub returns-clause-fit : goal.returns-clause-fit
@@ -23,6 +24,7 @@ returns-clause-fit c = λ pieces p.
     let found = all_found (sets_of fields q) (functions_of fields q) rows in
     found-fit fields q rows (found_in c.new.result)
     (subst (λ (fs : List Found). SameBag fs found) (sym c.new.ensures.rows) (c.in_ok-rows.ensures (sets_of fields q) (functions_of fields q) rows p.tables))
+    (kept-fits fields q pieces)
 
 pub returns-clause-refused : goal.returns-clause-refused
 returns-clause-refused c = λ pieces p o.
