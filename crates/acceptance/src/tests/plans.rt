@@ -224,7 +224,7 @@ fn first_header(alloc: Global, columns: &str, text: &str) -> Result<String, Quer
 /// Where memory is refused the answer is want of memory, else the header.
 #[test]
 fn refusal_of_check_and_header(rt: HostRuntime) {
-    let text = "SELECT d, COUNT(*) FROM lines GROUP BY d";
+    let text = "SELECT d FROM lines WHERE NOT d = 'x' OR q IN (1) AND d > 'a' GROUP BY d";
     match first_header(rt.alloc(), "d:text,q:int", text) {
         Ok(text) => assert_eq!(rt; text.as_str(), "d"),
         Err(fault) => assert!(rt; is_out_of_memory(&fault), "{fault:?}"),
