@@ -30,15 +30,18 @@ pub all-everywhere : {X : Type 0} (P : X → Type 0) (xs : List X) → ((x : X) 
 all-everywhere P [] h = tt
 all-everywhere P (x ∷ xs) h = (h x, all-everywhere P xs h)
 
-pub all-flat_map : {X Y : Type 0} (P : Y → Type 0) (f : X → List Y) (xs : List X) → ((x : X) → AllByRecursion P (f x)) → AllByRecursion P (flat_map f xs)
+pub all-flat_map : {X Y : Type 0} (P : Y → Type 0) (f : X → List Y) (xs : List X) → ((x : X) → AllByRecursion P (f x))
+    → AllByRecursion P (flat_map f xs)
 all-flat_map P f [] h = tt
 all-flat_map P f (x ∷ xs) h = all-append P (f x) (flat_map f xs) (h x) (all-flat_map P f xs h)
 
-added : {X : Type 0} (P : X → Type 0) (o : Option X) (xs : List X) → ((x : X) → o ≡ Some x → P x) → AllByRecursion P xs → AllByRecursion P (cons_option o xs)
+added : {X : Type 0} (P : X → Type 0) (o : Option X) (xs : List X) → ((x : X) → o ≡ Some x → P x) → AllByRecursion P xs
+    → AllByRecursion P (cons_option o xs)
 added P None xs h more = more
 added P (Some x) xs h more = (h x refl, more)
 
-pub all-filter_map : {X Y : Type 0} (P : Y → Type 0) (f : X → Option Y) (xs : List X) → AllByRecursion (λ x. (y : Y) → f x ≡ Some y → P y) xs → AllByRecursion P (filter_map f xs)
+pub all-filter_map : {X Y : Type 0} (P : Y → Type 0) (f : X → Option Y) (xs : List X) → AllByRecursion (λ x. (y : Y) → f x ≡ Some y → P y) xs
+    → AllByRecursion P (filter_map f xs)
 all-filter_map P f [] h = tt
 all-filter_map P f (x ∷ xs) h = added P (f x) (filter_map f xs) h.0 (all-filter_map P f xs h.1)
 
@@ -66,7 +69,8 @@ none-fails t (x ∷ xs) h = elim (t x) as (λ b. t x ≡ b → cond b 0 1 + weig
   | false ↦ λ e z. absurd (omega (arith, z))
 ] refl h
 
-pub all-same : {X : Type 0} (t : X → Bool) (xs ys : List X) → SameBag xs ys → AllByRecursion (λ x. t x ≡ true) ys → AllByRecursion (λ x. t x ≡ true) xs
+pub all-same : {X : Type 0} (t : X → Bool) (xs ys : List X) → SameBag xs ys → AllByRecursion (λ x. t x ≡ true) ys
+    → AllByRecursion (λ x. t x ≡ true) xs
 all-same t xs ys same h = none-fails t xs (same (fails t) ∙ weigh-fails t ys h)
 
 changed : {X : Type 0} (P Q : X → Type 0) (xs : List X) → ((x : X) → P x → Q x) → AllByRecursion P xs → AllByRecursion Q xs
@@ -74,6 +78,7 @@ changed P Q [] h a = tt
 changed P Q (x ∷ xs) h a = (h x a.0, changed P Q xs h a.1)
 
 -- what a test decides and holds of each thing of a list holds of each thing of the same bag
-pub all-decided : {X : Type 0} (t : X → Bool) (P : X → Type 0) → ((x : X) → Decides (t x) (P x)) → (xs ys : List X) → SameBag xs ys → AllByRecursion P ys → AllByRecursion P xs
+pub all-decided : {X : Type 0} (t : X → Bool) (P : X → Type 0) → ((x : X) → Decides (t x) (P x)) → (xs ys : List X) → SameBag xs ys
+    → AllByRecursion P ys → AllByRecursion P xs
 all-decided t P decides xs ys same h =
     changed (λ x. t x ≡ true) P xs (λ x. (decides x).0) (all-same t xs ys same (changed P (λ x. t x ≡ true) ys (λ x. (decides x).1) h))

@@ -6,7 +6,6 @@ use Rattle.std.proofs.lemmas.List.Elements.{All-from_recursion}
 use Rattle.std.proofs.lemmas.Map.Made.{AllPairs-from_IsDistinct}
 use Rattle.std.specs.Bool.{Decides}
 use Rattle.std.specs.List.{AllByRecursion, AllPairs, IsDistinct, enumerate_from, flat_map, slice_index_or}
-use Rattle.values.specs.Fit.{Fits}
 use Rattle.values.specs.Schema.{Field}
 use Rattle.query_tree.specs.Syntax.{TreeForm}
 use Rattle.query_check.specs.declared.function.ColumnFunction.{ColumnFunction}
@@ -22,7 +21,7 @@ use Rattle.tables.specs.Fitting.{AreFitting}
 use Rattle.tables.specs.Results.{all_found, found}
 use Rattle.tables.proofs.Bags.{all-append, all-same}
 use Rattle.tables.proofs.Finding.{set_groups}
-use Rattle.tables.proofs.Types.{IsTyped, all-once, found-typed}
+use Rattle.tables.proofs.Types.{AllFit, IsTyped, all-once, found-typed}
 
 -- a row fits grouping sets and set functions: its index is that of a set, its key has a value for each column of the set, and it has a cell for each function
 record IsFitting (sets : List (List ℕ)) (functions : List ColumnFunction) (row : Found) : Type 0 where
@@ -222,7 +221,8 @@ places-apart xs d = λ i j e l m same keys.
     let both : place (get_or xs i e) ≡ place (get_or xs j e) = λ k. (same k, keys k) in
     AllPairs-from_IsDistinct same_group-Decides (map place xs) d i j (place e) l (omega (arith, m, long)) (a ∙ both ∙ sym b)
 
-pub found-fit : (fields : List Field) (t : TreeForm) (rows : List Row) (xs : List Found) → SameBag xs (all_found (sets_of fields t) (functions_of fields t) rows) → AllByRecursion (Fits fields) rows → AreFitting fields t xs
+pub found-fit : (fields : List Field) (t : TreeForm) (rows : List Row) (xs : List Found)
+    → SameBag xs (all_found (sets_of fields t) (functions_of fields t) rows) → AllFit fields rows → AreFitting fields t xs
 found-fit fields t rows xs same fit =
     let sets = sets_of fields t in
     let fs = functions_of fields t in

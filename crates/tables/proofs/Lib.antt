@@ -15,3 +15,4 @@ pub mod DistinctSets
 pub mod Bags
 pub mod Taken
 pub mod Types
+pub mod TypeTests

@@ -64,7 +64,8 @@ record-fits fields (Some (json.number n)) r e = cc
 record-fits fields (Some (json.string s)) r e = cc
 record-fits fields (Some (json.array js)) r e = cc
 
-unless_long : (fields : List Field) (long : Bool) (value : Option Data) (r : List Datum) → cond long (Err TooLong) (record_of fields value) ≡ Ok r → Fits fields r
+unless_long : (fields : List Field) (long : Bool) (value : Option Data) (r : List Datum) → cond long (Err TooLong) (record_of fields value) ≡ Ok r
+    → Fits fields r
 unless_long fields true value r e = cc
 unless_long fields false value r e = record-fits fields value r e
 
@@ -81,7 +82,8 @@ good-fits fields input =
     (all-map (λ (a : Answer). (r : List Datum) → result_ok a ≡ Some r → Fits fields r) (taken fields) (lines input)
     (all-everywhere _ (lines input) (λ line r e. taken-fits fields line r (ok-is (taken fields line) r e))))
 
-pub kept-fits : (fields : List Field) (q : TreeForm) (pieces : List IndexedPiece) → AllByRecursion (Fits fields) (kept fields q (records_of fields pieces))
+pub kept-fits : (fields : List Field) (q : TreeForm) (pieces : List IndexedPiece)
+    → AllByRecursion (Fits fields) (kept fields q (records_of fields pieces))
 kept-fits fields q pieces =
     all-filter (Fits fields) (is_kept fields q) (records_of fields pieces)
     (all-flat_map (Fits fields) (λ piece. good fields piece.bytes) pieces (λ piece. good-fits fields piece.bytes))

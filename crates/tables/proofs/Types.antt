@@ -1,21 +1,15 @@
 -- What the groups of records that fit a schema show has the types of the columns and of the set functions.
-use Rattle.std.proofs.Common.{◌≡◌, ◌==◌, ◌∙◌, ◌+◌, ◌<◌, ◌^◌, ℕ, zero, suc, ℤ, pos, negsuc, nat_lt, Bool, true, false, ◌&&◌, cond, List, [], ◌∷◌, length, map, Option, Some, None, refl, FitsSigned, sym, ap, subst, arith}
-use Rattle.std.proofs.lemmas.Bool.Decides.{nat_tests}
+use Rattle.std.proofs.Common.{◌≡◌, ◌==◌, ◌∙◌, ◌+◌, ◌<◌, ℕ, zero, suc, ℤ, Bool, true, false, ◌&&◌, cond, List, [], ◌∷◌, length, map, Option, Some, None, refl, sym, ap, subst, arith}
 use Rattle.std.proofs.lemmas.List.{length-map, map-append}
 use Rattle.std.proofs.lemmas.List.Quantifiers.{position-Some}
-use Rattle.std.proofs.lemmas.Int.{ints}
 use Rattle.std.specs.Bool.{Decides}
-use Rattle.std.specs.Int.{w64}
 use Rattle.std.specs.Prelude.{⊤}
 use Rattle.std.specs.List.{AllByRecursion, AllZip, enumerate_from, filter_map, flat_map, list_any, slice_index_or}
 use Rattle.std.specs.Option.{option_map}
 use Rattle.std.specs.Str.{bytes_eq}
-use Rattle.values.specs.declared.schema.Kind.{Kind}
-use Rattle.values.specs.declared.schema.Kind.TheVariants as kind
-use Rattle.values.specs.Datum.{Datum, boolean, whole, text, null}
-use Rattle.values.specs.Fit.{Fits, Holds}
+use Rattle.values.specs.Datum.{Datum, null}
+use Rattle.values.specs.Fit.{Fits}
 use Rattle.values.specs.Schema.{Field, names_of}
-use Rattle.lines.specs.Taken.{is_int64}
 use Rattle.query_tree.specs.declared.expression.Aggregate.{Aggregate}
 use Rattle.query_tree.specs.declared.expression.Aggregate.TheVariants as aggregate
 use Rattle.query_tree.specs.Syntax.{TreeForm}
@@ -25,24 +19,32 @@ use Rattle.query_check.specs.Columns.{kind_at, place_of, places_of}
 use Rattle.query_check.specs.Functions.{aggregates, column_function, functions_of, same_function}
 use Rattle.query_check.specs.Sets.{expanded, grouping_names, grouping_places, ordered_set, sets_of}
 use Rattle.groups.specs.Rows.{Row, column_values, is_present, column_numbers, value_at}
-use Rattle.groups.specs.Functions.{Summary, plain, ratio, agg, average_of, sum_of}
+use Rattle.groups.specs.Functions.{plain, agg, average_of, sum_of}
 use Rattle.groups.specs.GroupRows.{SameBag}
 use Rattle.groups.specs.Groups.{Key, each_once, keys, members, project, same_key}
-use Rattle.tables.specs.Fitting.{IsAverage, IsCount, IsHeld, IsOfColumn, IsSum, HasType}
+use Rattle.tables.specs.Fitting.{IsHeld, HasType}
 use Rattle.tables.specs.Found.{Found}
 use Rattle.tables.specs.Results.{all_found, found}
 use Rattle.tables.proofs.Bags.{all-append, all-decided, all-distinct, all-everywhere, all-filter, all-filter_map, all-map, find-such}
 use Rattle.tables.proofs.Finding.{set_groups}
+use Rattle.tables.proofs.TypeTests.{both-Decides, has_type, held-Decides, is_held, type-Decides, zip-Decides, zip_all}
 
 -- ---- places of columns
 
 abbrev IsPlace : List Field → ℕ → Type 0
 IsPlace fields place = place < length fields
 
-place-within : (fields : List Field) (name : List ℕ) (place : ℕ) → place_of fields name ≡ Some place → IsPlace fields place
-place-within fields name place e = let at = position-Some (bytes_eq name) (names_of fields) place [] e in let long = length-map fields (λ (f : Field). f.name) in omega (arith, at.0, long)
+abbrev ArePlaces : List Field → List ℕ → Type 0
+ArePlaces fields set = AllByRecursion (IsPlace fields) set
 
-set-places : (fields : List Field) (t : TreeForm) (names : List (List ℕ)) → AllByRecursion (IsPlace fields) (ordered_set (grouping_places fields t) (places_of fields names))
+place-within : (fields : List Field) (name : List ℕ) (place : ℕ) → place_of fields name ≡ Some place → IsPlace fields place
+place-within fields name place e =
+    let at = position-Some (bytes_eq name) (names_of fields) place [] e in
+    let long = length-map fields (λ (f : Field). f.name) in
+    omega (arith, at.0, long)
+
+set-places : (fields : List Field) (t : TreeForm) (names : List (List ℕ))
+    → AllByRecursion (IsPlace fields) (ordered_set (grouping_places fields t) (places_of fields names))
 set-places fields t names =
     all-filter (IsPlace fields) _ (grouping_places fields t)
     (all-distinct (IsPlace fields) (λ a b. a == b) (places_of fields (grouping_names t))
@@ -50,8 +52,8 @@ set-places fields t names =
     (all-everywhere _ (grouping_names t) (place-within fields))))
 
 -- each grouping set has places of columns
-sets-places : (fields : List Field) (t : TreeForm) → AllByRecursion (AllByRecursion (IsPlace fields)) (sets_of fields t)
-sets-places fields t = all-map (AllByRecursion (IsPlace fields)) _ (expanded t.groups) (all-everywhere _ (expanded t.groups) (set-places fields t))
+sets-places : (fields : List Field) (t : TreeForm) → AllByRecursion (ArePlaces fields) (sets_of fields t)
+sets-places fields t = all-map (ArePlaces fields) _ (expanded t.groups) (all-everywhere _ (expanded t.groups) (set-places fields t))
 
 -- the least and the greatest value are those of a column
 abbrev TakesColumn : List Field → ColumnFunction → Type 0
@@ -63,18 +65,16 @@ TakesColumn fields (function.CountDistinct place) = ⊤
 TakesColumn fields (function.Sum place) = ⊤
 TakesColumn fields (function.Avg place) = ⊤
 
-placed : (P : ColumnFunction → Type 0) (at : ℕ → ColumnFunction) (o : Option ℕ) (f : ColumnFunction) → option_map at o ≡ Some f → ((place : ℕ) → o ≡ Some place → P (at place)) → P f
+same_function_of : (f g : ColumnFunction) → Some f ≡ Some g → f ≡ g
+same_function_of f g e = cc
+
+placed : (P : ColumnFunction → Type 0) (at : ℕ → ColumnFunction) (o : Option ℕ) (f : ColumnFunction) → option_map at o ≡ Some f
+    → ((place : ℕ) → o ≡ Some place → P (at place)) → P f
 placed P at None f e h = cc
-placed P at (Some place) f e h = subst P (same (at place) f e) (h place refl)
-  where
-    same : (x y : ColumnFunction) → Some x ≡ Some y → x ≡ y
-    same x y e = cc
+placed P at (Some place) f e h = subst P (same_function_of (at place) f e) (h place refl)
 
 of_column : (fields : List Field) (a : Aggregate) (f : ColumnFunction) → column_function fields a ≡ Some f → TakesColumn fields f
-of_column fields aggregate.CountRows f e = subst (TakesColumn fields) (same function.CountRows f e) tt
-  where
-    same : (x y : ColumnFunction) → Some x ≡ Some y → x ≡ y
-    same x y e = cc
+of_column fields aggregate.CountRows f e = subst (TakesColumn fields) (same_function_of function.CountRows f e) tt
 of_column fields (aggregate.Count x) f e = placed (TakesColumn fields) function.Count (place_of fields x) f e (λ place is. tt)
 of_column fields (aggregate.CountDistinct x) f e = placed (TakesColumn fields) function.CountDistinct (place_of fields x) f e (λ place is. tt)
 of_column fields (aggregate.Sum x) f e = placed (TakesColumn fields) function.Sum (place_of fields x) f e (λ place is. tt)
@@ -90,23 +90,31 @@ functions-columns fields t =
 
 -- ---- values of records that fit
 
-value-held : (fields : List Field) (row : Row) (place : ℕ) → Fits fields row → IsPlace fields place → IsHeld (kind_at fields place) (value_at place row)
+abbrev pub AllFit : List Field → List Row → Type 0
+AllFit fields rows = AllByRecursion (Fits fields) rows
+
+abbrev Held : List Field → ℕ → Datum → Type 0
+Held fields place d = IsHeld (kind_at fields place) d
+
+value-held : (fields : List Field) (row : Row) (place : ℕ) → Fits fields row → IsPlace fields place → Held fields place (value_at place row)
 value-held [] row place h l = absurd (omega (arith, l))
 value-held (f ∷ fields) [] place h l = absurd h
 value-held (f ∷ fields) (d ∷ row) zero h l = h.0
 value-held (f ∷ fields) (d ∷ row) (suc place) h l = value-held fields row place h.1 (omega (arith, l))
 
-null-held : (fields : List Field) (place : ℕ) → IsPlace fields place → IsHeld (kind_at fields place) null
+null-held : (fields : List Field) (place : ℕ) → IsPlace fields place → Held fields place null
 null-held [] place l = absurd (omega (arith, l))
 null-held (f ∷ fields) zero l = tt
 null-held (f ∷ fields) (suc place) l = null-held fields place (omega (arith, l))
 
-values-held : (fields : List Field) (place : ℕ) (rows : List Row) → AllByRecursion (Fits fields) rows → IsPlace fields place → AllByRecursion (IsHeld (kind_at fields place)) (map (value_at place) rows)
+values-held : (fields : List Field) (place : ℕ) (rows : List Row) → AllFit fields rows → IsPlace fields place
+    → AllByRecursion (Held fields place) (map (value_at place) rows)
 values-held fields place [] h l = tt
 values-held fields place (row ∷ rows) h l = (value-held fields row place h.0 l, values-held fields place rows h.1 l)
 
-column-held : (fields : List Field) (place : ℕ) (rows : List Row) → AllByRecursion (Fits fields) rows → IsPlace fields place → AllByRecursion (IsHeld (kind_at fields place)) (column_values place rows)
-column-held fields place rows h l = all-filter (IsHeld (kind_at fields place)) is_present (map (value_at place) rows) (values-held fields place rows h l)
+column-held : (fields : List Field) (place : ℕ) (rows : List Row) → AllFit fields rows → IsPlace fields place
+    → AllByRecursion (Held fields place) (column_values place rows)
+column-held fields place rows h l = all-filter (Held fields place) is_present (map (value_at place) rows) (values-held fields place rows h l)
 
 -- ---- cells
 
@@ -118,16 +126,19 @@ average-typed : (fields : List Field) (place : ℕ) (ns : List ℤ) → HasType 
 average-typed fields place [] = tt
 average-typed fields place (n ∷ ns) = omega arith
 
-cell-typed : (fields : List Field) (rows : List Row) (f : ColumnFunction) → AllByRecursion (Fits fields) rows → TakesColumn fields f → HasType fields f (agg f rows)
+cell-typed : (fields : List Field) (rows : List Row) (f : ColumnFunction) → AllFit fields rows → TakesColumn fields f → HasType fields f (agg f rows)
 cell-typed fields rows function.CountRows h l = tt
 cell-typed fields rows (function.Count place) h l = tt
 cell-typed fields rows (function.CountDistinct place) h l = tt
 cell-typed fields rows (function.Sum place) h l = sum-typed fields place (column_numbers place rows)
-cell-typed fields rows (function.Min place) h l = find-such (IsHeld (kind_at fields place)) _ (column_values place rows) null (null-held fields place l) (column-held fields place rows h l)
-cell-typed fields rows (function.Max place) h l = find-such (IsHeld (kind_at fields place)) _ (column_values place rows) null (null-held fields place l) (column-held fields place rows h l)
+cell-typed fields rows (function.Min place) h l =
+    find-such (Held fields place) _ (column_values place rows) null (null-held fields place l) (column-held fields place rows h l)
+cell-typed fields rows (function.Max place) h l =
+    find-such (Held fields place) _ (column_values place rows) null (null-held fields place l) (column-held fields place rows h l)
 cell-typed fields rows (function.Avg place) h l = average-typed fields place (column_numbers place rows)
 
-cells-typed : (fields : List Field) (rows : List Row) (fs : List ColumnFunction) → AllByRecursion (Fits fields) rows → AllByRecursion (TakesColumn fields) fs → AllZip (HasType fields) fs (map (λ f. agg f rows) fs)
+cells-typed : (fields : List Field) (rows : List Row) (fs : List ColumnFunction) → AllFit fields rows → AllByRecursion (TakesColumn fields) fs
+    → AllZip (HasType fields) fs (map (λ f. agg f rows) fs)
 cells-typed fields rows [] h l = tt
 cells-typed fields rows (f ∷ fs) h l = (cell-typed fields rows f h l.0, cells-typed fields rows fs h l.1)
 
@@ -136,144 +147,27 @@ cells-typed fields rows (f ∷ fs) h l = (cell-typed fields rows f h l.0, cells-
 abbrev IsKeyOf : List Field → List ℕ → Key → Type 0
 IsKeyOf fields set key = AllZip (λ place d. IsHeld (kind_at fields place) d) set key
 
-projected-held : (fields : List Field) (set : List ℕ) (row : Row) → Fits fields row → AllByRecursion (IsPlace fields) set → IsKeyOf fields set (project set row)
+projected-held : (fields : List Field) (set : List ℕ) (row : Row) → Fits fields row → ArePlaces fields set → IsKeyOf fields set (project set row)
 projected-held fields [] row h l = tt
 projected-held fields (place ∷ set) row h l = (value-held fields row place h l.0, projected-held fields set row h l.1)
 
-all-projected : (fields : List Field) (set : List ℕ) (rows : List Row) → AllByRecursion (Fits fields) rows → AllByRecursion (IsPlace fields) set → AllByRecursion (IsKeyOf fields set) (map (project set) rows)
+all-projected : (fields : List Field) (set : List ℕ) (rows : List Row) → AllFit fields rows → ArePlaces fields set
+    → AllByRecursion (IsKeyOf fields set) (map (project set) rows)
 all-projected fields set [] h l = tt
 all-projected fields set (row ∷ rows) h l = (projected-held fields set row h.0 l, all-projected fields set rows h.1 l)
 
 pub all-once : (P : Key → Type 0) (ks : List Key) → AllByRecursion P ks → AllByRecursion P (each_once ks)
 all-once P [] h = tt
-all-once P (k ∷ ks) h = elim (list_any (same_key k) ks) as (λ b. AllByRecursion P (cond b (each_once ks) (k ∷ each_once ks))) [ true ↦ all-once P ks h.1 | false ↦ (h.0, all-once P ks h.1) ]
+all-once P (k ∷ ks) h = elim (list_any (same_key k) ks) as (λ b. AllByRecursion P (cond b (each_once ks) (k ∷ each_once ks))) [
+  | true ↦ all-once P ks h.1
+  | false ↦ (h.0, all-once P ks h.1)
+]
 
-keys-typed : (fields : List Field) (set : List ℕ) (rows : List Row) → AllByRecursion (Fits fields) rows → AllByRecursion (IsPlace fields) set → AllByRecursion (IsKeyOf fields set) (keys set rows)
+keys-typed : (fields : List Field) (set : List ℕ) (rows : List Row) → AllFit fields rows → ArePlaces fields set
+    → AllByRecursion (IsKeyOf fields set) (keys set rows)
 keys-typed fields [] rows h l = (tt, tt)
-keys-typed fields (place ∷ set) rows h l = all-once (IsKeyOf fields (place ∷ set)) (map (project (place ∷ set)) rows) (all-projected fields (place ∷ set) rows h l)
-
--- ---- tests of types
-
-never : {P : Type 0} → (P → ⊥) → Decides false P
-never {P} n = (λ e. absurd (no e), λ h. absurd (n h))
-  where
-    no : false ≡ true → ⊥
-    no e = cc
-
-always : {P : Type 0} → P → Decides true P
-always p = (λ e. p, λ h. refl)
-
-both-Decides : {P Q : Type 0} (a b : Bool) → Decides a P → Decides b Q → Decides (a && b) (P × Q)
-both-Decides true b d e = (λ h. (d.0 refl, e.0 h), λ h. e.1 h.1)
-both-Decides false b d e = never (λ h. no (d.1 h.0))
-  where
-    no : false ≡ true → ⊥
-    no e = cc
-
-abbrev zip_all : {A B : Type 0} → (A → B → Bool) → List A → List B → Bool
-zip_all t [] [] = true
-zip_all t [] (y ∷ ys) = false
-zip_all t (x ∷ xs) [] = false
-zip_all t (x ∷ xs) (y ∷ ys) = t x y && zip_all t xs ys
-
-zip-Decides : {A B : Type 0} (t : A → B → Bool) (R : A → B → Type 0) → ((x : A) (y : B) → Decides (t x y) (R x y)) → (xs : List A) (ys : List B) → Decides (zip_all t xs ys) (AllZip R xs ys)
-zip-Decides t R d [] [] = always tt
-zip-Decides t R d [] (y ∷ ys) = never (λ h. h)
-zip-Decides t R d (x ∷ xs) [] = never (λ h. h)
-zip-Decides t R d (x ∷ xs) (y ∷ ys) = both-Decides (t x y) (zip_all t xs ys) (d x y) (zip-Decides t R d xs ys)
-
-int64-Decides : (z : ℤ) → Decides (is_int64 z) (FitsSigned w64 z)
-int64-Decides (pos n) = (λ h. record { sfits = grind (arith, nat_tests, h) }, λ h. let f = h.sfits in let less : n < 2 ^ 63 = omega (arith, ints, f) in grind (arith, nat_tests, less))
-int64-Decides (negsuc n) = (λ h. record { sfits = grind (arith, nat_tests, h) }, λ h. let f = h.sfits in let less : n < 2 ^ 63 = omega (arith, ints, f) in grind (arith, nat_tests, less))
-
-abbrev holds : Kind → Datum → Bool
-holds k null = true
-holds kind.Int (whole n) = is_int64 n
-holds kind.Text (text s) = true
-holds kind.Bool (boolean b) = true
-holds k d = false
-
-holds-Decides : (k : Kind) (d : Datum) → Decides (holds k d) (Holds k d)
-holds-Decides k null = always tt
-holds-Decides kind.Int (whole n) = int64-Decides n
-holds-Decides kind.Text (text s) = always tt
-holds-Decides kind.Bool (boolean b) = always tt
-holds-Decides kind.Int (boolean b) = never (λ h. h)
-holds-Decides kind.Int (text s) = never (λ h. h)
-holds-Decides kind.Text (boolean b) = never (λ h. h)
-holds-Decides kind.Text (whole n) = never (λ h. h)
-holds-Decides kind.Bool (whole n) = never (λ h. h)
-holds-Decides kind.Bool (text s) = never (λ h. h)
-
-abbrev is_held : Option Kind → Datum → Bool
-is_held None d = false
-is_held (Some k) d = holds k d
-
-held-Decides : (o : Option Kind) (d : Datum) → Decides (is_held o d) (IsHeld o d)
-held-Decides None d = never (λ h. h)
-held-Decides (Some k) d = holds-Decides k d
-
-abbrev is_count : Summary → Bool
-is_count (plain (whole (pos n))) = true
-is_count cell = false
-
-count-Decides : (cell : Summary) → Decides (is_count cell) (IsCount cell)
-count-Decides (plain (whole (pos n))) = always tt
-count-Decides (plain (whole (negsuc n))) = never (λ h. h)
-count-Decides (plain (boolean b)) = never (λ h. h)
-count-Decides (plain (text s)) = never (λ h. h)
-count-Decides (plain null) = never (λ h. h)
-count-Decides (ratio sum count) = never (λ h. h)
-
-abbrev is_sum : Summary → Bool
-is_sum (plain (whole n)) = true
-is_sum (plain null) = true
-is_sum cell = false
-
-sum-Decides : (cell : Summary) → Decides (is_sum cell) (IsSum cell)
-sum-Decides (plain (whole n)) = always tt
-sum-Decides (plain null) = always tt
-sum-Decides (plain (boolean b)) = never (λ h. h)
-sum-Decides (plain (text s)) = never (λ h. h)
-sum-Decides (ratio sum count) = never (λ h. h)
-
-abbrev is_of_column : List Field → ℕ → Summary → Bool
-is_of_column fields place (plain d) = is_held (kind_at fields place) d
-is_of_column fields place (ratio sum count) = false
-
-of_column-Decides : (fields : List Field) (place : ℕ) (cell : Summary) → Decides (is_of_column fields place cell) (IsOfColumn fields place cell)
-of_column-Decides fields place (plain d) = held-Decides (kind_at fields place) d
-of_column-Decides fields place (ratio sum count) = never (λ h. h)
-
-abbrev is_average : Summary → Bool
-is_average (plain null) = true
-is_average (ratio sum count) = nat_lt 0 count
-is_average cell = false
-
-average-Decides : (cell : Summary) → Decides (is_average cell) (IsAverage cell)
-average-Decides (plain null) = always tt
-average-Decides (plain (whole n)) = never (λ h. h)
-average-Decides (plain (boolean b)) = never (λ h. h)
-average-Decides (plain (text s)) = never (λ h. h)
-average-Decides (ratio sum count) = (λ h. grind (arith, nat_tests, h), λ h. grind (arith, nat_tests, h))
-
-abbrev has_type : List Field → ColumnFunction → Summary → Bool
-has_type fields function.CountRows cell = is_count cell
-has_type fields (function.Count place) cell = is_count cell
-has_type fields (function.CountDistinct place) cell = is_count cell
-has_type fields (function.Sum place) cell = is_sum cell
-has_type fields (function.Min place) cell = is_of_column fields place cell
-has_type fields (function.Max place) cell = is_of_column fields place cell
-has_type fields (function.Avg place) cell = is_average cell
-
-type-Decides : (fields : List Field) (f : ColumnFunction) (cell : Summary) → Decides (has_type fields f cell) (HasType fields f cell)
-type-Decides fields function.CountRows cell = count-Decides cell
-type-Decides fields (function.Count place) cell = count-Decides cell
-type-Decides fields (function.CountDistinct place) cell = count-Decides cell
-type-Decides fields (function.Sum place) cell = sum-Decides cell
-type-Decides fields (function.Min place) cell = of_column-Decides fields place cell
-type-Decides fields (function.Max place) cell = of_column-Decides fields place cell
-type-Decides fields (function.Avg place) cell = average-Decides cell
+keys-typed fields (place ∷ set) rows h l =
+    all-once (IsKeyOf fields (place ∷ set)) (map (project (place ∷ set)) rows) (all-projected fields (place ∷ set) rows h l)
 
 -- ---- rows
 
@@ -285,13 +179,15 @@ abbrev is_typed : List Field → List (List ℕ) → List ColumnFunction → Fou
 is_typed fields sets fs row =
     zip_all (λ place d. is_held (kind_at fields place) d) (slice_index_or sets row.0 []) row.1.key && zip_all (has_type fields) fs row.1.cells
 
-typed-Decides : (fields : List Field) (sets : List (List ℕ)) (fs : List ColumnFunction) (row : Found) → Decides (is_typed fields sets fs row) (IsTyped fields sets fs row)
+typed-Decides : (fields : List Field) (sets : List (List ℕ)) (fs : List ColumnFunction) (row : Found)
+    → Decides (is_typed fields sets fs row) (IsTyped fields sets fs row)
 typed-Decides fields sets fs row =
     both-Decides _ _
     (zip-Decides _ _ (λ place d. held-Decides (kind_at fields place) d) (slice_index_or sets row.0 []) row.1.key)
     (zip-Decides (has_type fields) (HasType fields) (type-Decides fields) fs row.1.cells)
 
-module _ (fields : List Field) (whole : List (List ℕ)) (fs : List ColumnFunction) (rows : List Row) (fit : AllByRecursion (Fits fields) rows) (columns : AllByRecursion (TakesColumn fields) fs) where
+module _ (fields : List Field) (whole : List (List ℕ)) (fs : List ColumnFunction) (rows : List Row) (fit : AllFit fields rows)
+    (columns : AllByRecursion (TakesColumn fields) fs) where
   set-typed : (n : ℕ) (s : List ℕ) (ks : List Key) → slice_index_or whole n [] ≡ s → AllByRecursion (IsKeyOf fields s) ks
       → AllByRecursion (IsTyped fields whole fs) (map (found fs) (map (λ key. record { index = n; key = key; members = members s key rows }) ks))
   set-typed n s [] e h = tt
@@ -300,21 +196,26 @@ module _ (fields : List Field) (whole : List (List ℕ)) (fs : List ColumnFuncti
     set-typed n s ks e h.1,
   )
 
-  rows-typed : (n : ℕ) (sets : List (List ℕ)) → ((i : ℕ) → i < length sets → slice_index_or whole (n + i) [] ≡ slice_index_or sets i []) → AllByRecursion (AllByRecursion (IsPlace fields)) sets
+  rows-typed : (n : ℕ) (sets : List (List ℕ)) → ((i : ℕ) → i < length sets → slice_index_or whole (n + i) [] ≡ slice_index_or sets i [])
+      → AllByRecursion (ArePlaces fields) sets
       → AllByRecursion (IsTyped fields whole fs) (map (found fs) (flat_map (set_groups rows) (enumerate_from n sets)))
   rows-typed n [] at places = tt
   rows-typed n (s ∷ sets) at places =
       let first : slice_index_or whole n [] ≡ s = ap (λ m. slice_index_or whole m []) (let e : n ≡ n + 0 = omega arith in e) ∙ at 0 (omega arith) in
-      subst (λ rs. AllByRecursion (IsTyped fields whole fs) rs) (sym (map-append (found fs) (set_groups rows (n, s)) (flat_map (set_groups rows) (enumerate_from (n + 1) sets))))
-      (all-append (IsTyped fields whole fs) (map (found fs) (set_groups rows (n, s))) (map (found fs) (flat_map (set_groups rows) (enumerate_from (n + 1) sets)))
+      let more = flat_map (set_groups rows) (enumerate_from (n + 1) sets) in
+      subst (λ rs. AllByRecursion (IsTyped fields whole fs) rs) (sym (map-append (found fs) (set_groups rows (n, s)) more))
+      (all-append (IsTyped fields whole fs) (map (found fs) (set_groups rows (n, s))) (map (found fs) more)
       (set-typed n s (keys s rows) first (keys-typed fields s rows fit places.0))
-      (rows-typed (n + 1) sets (λ i h. ap (λ m. slice_index_or whole m []) (let e : n + 1 + i ≡ n + suc i = omega arith in e) ∙ at (suc i) (omega (arith, h))) places.1))
+      (rows-typed (n + 1) sets
+      (λ i h. ap (λ m. slice_index_or whole m []) (let e : n + 1 + i ≡ n + suc i = omega arith in e) ∙ at (suc i) (omega (arith, h))) places.1))
 
 -- rows that are the same bag as those of the groups of records that fit are typed
-pub found-typed : (fields : List Field) (t : TreeForm) (rows : List Row) (xs : List Found) → SameBag xs (all_found (sets_of fields t) (functions_of fields t) rows) → AllByRecursion (Fits fields) rows
+pub found-typed : (fields : List Field) (t : TreeForm) (rows : List Row) (xs : List Found)
+    → SameBag xs (all_found (sets_of fields t) (functions_of fields t) rows) → AllFit fields rows
     → AllByRecursion (IsTyped fields (sets_of fields t) (functions_of fields t)) xs
 found-typed fields t rows xs same fit =
     let sets = sets_of fields t in
     let fs = functions_of fields t in
     all-decided (is_typed fields sets fs) (IsTyped fields sets fs) (typed-Decides fields sets fs) xs (all_found sets fs rows) same
-    (rows-typed fields sets fs rows fit (functions-columns fields t) 0 sets (λ i h. ap (λ m. slice_index_or sets m []) (let e : 0 + i ≡ i = omega arith in e)) (sets-places fields t))
+    (rows-typed fields sets fs rows fit (functions-columns fields t) 0 sets
+    (λ i h. ap (λ m. slice_index_or sets m []) (let e : 0 + i ≡ i = omega arith in e)) (sets-places fields t))
