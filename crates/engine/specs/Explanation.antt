@@ -18,6 +18,14 @@ abbrev pub explanation : List Field → TreeForm → List ℕ
 explanation fields query =
     canonical_text query ++ codes "\n" ++ flat_map (set_line fields) (enumerate_from 0 (sets_of fields query))
 
+-- the columns and the query of two texts are good: the query is one that its text derives, and it is typed under the columns
+pub record IsAnswerable (columns query : List ℕ) : Type 0 where
+  pub fields : List Field
+  pub form : TreeForm
+  pub schema : schema_of columns ≡ Ok fields
+  pub derived : Derives query form
+  pub typed : IsTyped fields form
+
 -- the known bytes grew by the explanation of the query that one text derives, under the columns that another says
 pub record Explains (columns query : List ℕ) (old new : Option (List ℕ)) : Type 0 where
   pub fields : List Field

@@ -1,11 +1,11 @@
 // What the program does once its words are read.
-ghost use Rattle.std.specs.Prelude.{◌≡◌, ◌≤◌, IfOk, Ok, OnOk, true};
+ghost use Rattle.std.specs.Prelude.{◌≡◌, ◌<◌, ◌≤◌, IfOk, Ok, OnOk, true};
 ghost use Rattle.std.specs.Io.KnownBytes.{Appends};
 ghost use Rattle.values.specs.Schema.{schema_of};
 ghost use Rattle.query_check.specs.Typing.{IsTyped};
 ghost use Rattle.query.specs.Derivation.{Derives};
 ghost use Rattle.query.specs.Planned.{fields_of_plan, form_of_plan};
-ghost use Rattle.engine.specs.Explanation.{Explains, explanation};
+ghost use Rattle.engine.specs.Explanation.{Explains, IsAnswerable, explanation};
 
 use crate::explaining::explanation;
 use crate::fault::RunFault;
@@ -48,7 +48,7 @@ impl Ending {
 
     /// The status that the program ends with.
     fn status(&self) -> u8
-        ensures { 1 ≤ result }
+        ensures { 2 ≤ result }
     {
         match self {
             Ending::Schema(SchemaFault::OutOfMemory)
@@ -82,6 +82,8 @@ pub fn serve<R: Read + Drop, O: Write, E: Write, F: FnMut(&str) -> Option<R>>(
     err: &mut E,
 ) -> u8
     requires { F.IsAlwaysCallable opener.old }
+    // 0 and 1 are answered only where the columns and the query are good.
+    ensures answerable { IfOk asked.entry (λ settings. result < 2 → IsAnswerable settings.columns.now settings.query.now) }
     // Where an explanation is asked for and 0 is answered, it is written.
     ensures explains { IfOk asked.entry (λ settings. settings.explain ≡ true → result ≡ 0
         → Explains settings.columns.now settings.query.now (O.contents out.old) (O.contents out.new)) }
@@ -117,6 +119,7 @@ fn carried_out<R: Read + Drop, O: Write, E: Write, F: FnMut(&str) -> Option<R>>(
     err: &mut E,
 ) -> Result<u8, Ending>
     requires { F.IsAlwaysCallable opener.old }
+    ensures answerable { IfOk result (λ _. IsAnswerable settings.entry.columns.now settings.entry.query.now) }
     ensures explains { settings.entry.explain ≡ true → OnOk result
         (Explains settings.entry.columns.now settings.entry.query.now (O.contents out.old) (O.contents out.new)) }
 {
@@ -147,7 +150,7 @@ fn explained<O: Write>(alloc: Global, plan: &Plan, out: &mut O) -> Result<u8, En
 
 /// Says on standard error why the program ends, and answers the status.
 fn ended<E: Write>(alloc: Global, ending: &Ending, err: &mut E) -> u8
-    ensures { 1 ≤ result }
+    ensures { 2 ≤ result }
 {
     match ending.line(alloc) {
         Ok(line) => {
