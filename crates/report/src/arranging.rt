@@ -2,7 +2,8 @@
 ghost use Rattle.std.specs.Prelude.{◌≡◌, ◌<◌, All, IfOk, length, map};
 ghost use Rattle.query_check.specs.Sets.{sets_of};
 ghost use Rattle.query.specs.Planned.{fields_of_plan, form_of_plan};
-ghost use Rattle.tables.specs.Found.{found_in, row_of};
+ghost use Rattle.tables.specs.Contents.{found_in};
+ghost use Rattle.tables.specs.Found.{row_of};
 ghost use Rattle.tables.specs.Fitting.{AreFitting};
 ghost use Rattle.report.specs.Report.{rows_shown};
 ghost use Rattle.report.specs.Shown.{cells_of, row_shown};

@@ -1,7 +1,7 @@
 // The list of refused lines.
 ghost use Rattle.std.specs.Prelude.{◌≡◌, ◌<◌, ◌++◌, All, IfOk, OnOk, codes, decimal, length};
 ghost use Rattle.query_print.specs.Canonical.{name_at};
-ghost use Rattle.tables.specs.Found.{refused_in};
+ghost use Rattle.tables.specs.Contents.{refused_in};
 ghost use Rattle.report.specs.Report.{NamesColumn, refusals_of};
 ghost use Rattle.report.specs.Text.{fault_text, refused_line};
 

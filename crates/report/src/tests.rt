@@ -1,5 +1,7 @@
 ghost use Rattle.std.specs.Prelude.{◌≡◌, All, IsTrue, length};
 ghost use Rattle.query.specs.Planned.{form_of_plan};
+ghost use Rattle.report.specs.Report.{NamesColumn};
+ghost use Rattle.tables.specs.Contents.{refused_in};
 
 use crate::{Row, arrange, arranged_law, order_law, refused_text, report_text};
 use groups::Cell;
@@ -8,7 +10,7 @@ use query::{Plan, check, parse};
 use std::alloc::Global;
 use std::process::Abort;
 use std::test::Fail;
-use tables::Groups;
+use tables::{Groups, Partial};
 use values::{Schema, Value};
 
 fn plan_of(alloc: Global, columns: &str, text: &str) -> Result<Plan, Fail> {
@@ -83,24 +85,41 @@ fn arranges_no_groups(rt: HostRuntime) -> Result<(), Fail> {
         "r:text",
         "SELECT r, COUNT(*) AS n FROM lines GROUP BY r",
     )?;
-    let groups = Groups::new(Vec::new(alloc), Vec::new(alloc));
+    let partial = Partial::empty(alloc, &plan)?;
+    let groups = partial.finish(&plan)?;
     let rows = arrange(alloc, &groups, &plan)?;
     let report = report_text(alloc, &rows, &plan)?;
     assert_eq!(rt; report.as_slice(), "r,n\n".as_bytes());
     Ok(())
 }
 
+/// Whether the columns that faults name are in the schema.
+fn are_named(groups: &Groups, schema: &Schema) -> bool
+    ensures { IsTrue result → All (λ line. NamesColumn schema.now line.1) (refused_in groups.now) }
+{
+    let width = schema.columns().len();
+    groups.refused().iter().all(|(_, fault)| match fault {
+        LineFault::BadValue(place) => *place < width,
+        _ => true,
+    })
+}
+
+/// One byte more than a line may have.
+const TOO_LONG: usize = 1_048_577;
+
 #[test]
 fn lists_refused_lines(rt: HostRuntime) -> Result<(), Fail> {
     let alloc = rt.alloc();
-    let schema = Schema::parse(alloc, "q:int")?;
-    let mut refused = Vec::new(alloc);
-    refused.push((1, LineFault::NoJson))?;
-    refused.push((2, LineFault::NoObject))?;
-    refused.push((3, LineFault::BadValue(0)))?;
-    refused.push((14, LineFault::TooLong))?;
-    let groups = Groups::new(Vec::new(alloc), refused);
-    let list = refused_text(alloc, &groups, &schema)?;
+    let plan = plan_of(alloc, "q:int", "SELECT COUNT(*) FROM lines")?;
+    let mut input = b"x\n[1]\n{\"q\":true}\n{}\n{}\n{}\n{}\n{}\n{}\n{}\n{}\n{}\n{}\n".to_vec(
+        alloc,
+    )?;
+    input.resize(input.len() + TOO_LONG, b' ')?;
+    let partial = Partial::fold_piece(alloc, &plan, 0, input.as_slice())?;
+    let groups = partial.finish(&plan)?;
+    let schema = plan.schema();
+    assert!(rt; are_named(&groups, schema));
+    let list = refused_text(alloc, &groups, schema)?;
     let wanted =
         "line 1: not JSON\nline 2: not an object\nline 3: bad value in column q\nline 14: too long\n";
     assert_eq!(rt; list.as_slice(), wanted.as_bytes());

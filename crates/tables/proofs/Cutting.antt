@@ -1,9 +1,9 @@
 -- The pieces of an input that was cut between its lines.
-use Rattle.std.proofs.Common.{◌≡◌, ◌+◌, ℕ, suc, List, [], ◌∷◌, ◌++◌, length, map, filter_map, option_map, Option, Result, Ok, Err, refl, sym, ap, ◌∙◌, arith, append-nil, append_assoc}
+use Rattle.std.proofs.Common.{◌≡◌, ◌+◌, ℕ, List, [], ◌∷◌, ◌++◌, length, map, filter_map, Result, Ok, Err, refl, sym, ap, ◌∙◌, arith, append-nil, append_assoc}
 use Rattle.std.proofs.lemmas.List.{map-append, length-map}
 use Rattle.std.proofs.lemmas.List.Elements.{filter_map-append}
 use Rattle.std.specs.List.{enumerate_from}
-use Rattle.std.specs.Result.{result_err, result_ok}
+use Rattle.std.specs.Result.{result_ok}
 use Rattle.values.specs.Datum.{Datum}
 use Rattle.values.specs.Schema.{Field}
 use Rattle.lines.specs.declared.fault.LineFault.{LineFault}
@@ -13,7 +13,7 @@ use Rattle.lines.specs.Pieces.{AllButLast, EndsInFeed}
 use Rattle.lines.specs.Taken.{taken}
 use Rattle.lines.proofs.Splits as splits
 use Rattle.tables.specs.Folding.{good_of}
-use Rattle.tables.specs.Notes.{Noted, note_of, numbered_from}
+use Rattle.tables.specs.Notes.{note_of, numbered_from}
 use Rattle.tables.specs.Pieces.{IndexedPiece, IsCutInto, all_lines, joined_bytes, records_of}
 use Rattle.tables.proofs.Reading.{enumerate-append, numbered_fault}
 

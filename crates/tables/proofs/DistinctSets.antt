@@ -1,5 +1,5 @@
 -- No grouping set of a query has a column twice.
-use Rattle.std.proofs.Common.{◌≡◌, ◌==◌, ℕ, nat_eq, Bool, true, false, not, cond, List, [], ◌∷◌, map, filter, All, refl, subst, sym}
+use Rattle.std.proofs.Common.{◌≡◌, ◌==◌, ℕ, nat_eq, Bool, true, false, not, cond, List, [], ◌∷◌, map, filter, All, refl}
 use Rattle.std.proofs.lemmas.List.Elements.{All-from_recursion}
 use Rattle.std.specs.List.{AllByRecursion, IsDistinct, list_any}
 use Rattle.values.specs.Schema.{Field}

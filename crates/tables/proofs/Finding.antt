@@ -7,7 +7,7 @@ use Rattle.groups.specs.declared.group.Group.{Group}
 use Rattle.groups.specs.Rows.{Row}
 use Rattle.groups.specs.Groups as meaning
 use Rattle.groups.specs.Groups.{Key, keys, members}
-use Rattle.groups.specs.GroupRows.{GroupRow, SameBag, weigh, group_row, group_rows, group_row_in}
+use Rattle.groups.specs.GroupRows.{SameBag, weigh, group_row, group_rows, group_row_in}
 use Rattle.tables.specs.Found.{Found, rows_from}
 use Rattle.tables.specs.Results.{all_found, found}
 use Rattle.tables.specs.Sets.{AreGroupsOf}

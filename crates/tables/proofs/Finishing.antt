@@ -1,5 +1,5 @@
 -- Tables of which the first are finished and the rest not yet.
-use Rattle.std.proofs.Common.{◌≡◌, ◌+◌, ◌<◌, ℕ, List, [], ◌∷◌, ◌++◌, length, map, Vec, Global, arith}
+use Rattle.std.proofs.Common.{◌≡◌, ℕ, List, [], ◌∷◌, ◌++◌, length, map, Vec, Global, arith}
 use Rattle.query_check.specs.declared.function.ColumnFunction.{ColumnFunction}
 use Rattle.groups.specs.declared.group.Group.{Group}
 use Rattle.groups.specs.Rows.{Row}

@@ -1,9 +1,9 @@
 -- Tables of which those before a place have taken the others of their sets, and the rest not yet.
-use Rattle.std.proofs.Common.{◌≡◌, ◌+◌, ◌<◌, ℕ, zero, suc, List, [], ◌∷◌, ◌++◌, length, refl, sym, ap, subst, ◌∙◌, arith, get_or, set}
+use Rattle.std.proofs.Common.{◌≡◌, ◌<◌, ℕ, zero, suc, List, [], ◌∷◌, ◌++◌, length, refl, sym, subst, arith, get_or, set}
 use Rattle.query_check.specs.declared.function.ColumnFunction.{ColumnFunction}
 use Rattle.groups.specs.Rows.{Row}
 use Rattle.groups.specs.Groups.{Key}
-use Rattle.groups.specs.Table.{Contents, IsTableOf, CanJoin, IsJoined}
+use Rattle.groups.specs.Table.{Contents, CanJoin, IsJoined}
 use Rattle.groups.proofs.Meaning.{table-joined}
 use Rattle.tables.specs.Sets.{AreTablesOf, AllCanJoin, AllJoined}
 

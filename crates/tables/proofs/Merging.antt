@@ -1,18 +1,17 @@
 -- Results over some pieces and over others, put together.
-use Rattle.std.proofs.Common.{◌≡◌, ◌+◌, ◌<◌, ◌≤◌, ◌^◌, ℕ, zero, suc, List, [], ◌∷◌, ◌++◌, length, map, Vec, Global, IfSome, refl, sym, ap, subst, ◌∙◌, arith, length-append}
+use Rattle.std.proofs.Common.{◌≡◌, ◌+◌, ◌<◌, ◌≤◌, ◌^◌, ℕ, suc, List, [], ◌∷◌, ◌++◌, length, map, Vec, Global, refl, sym, ap, subst, ◌∙◌, arith, length-append}
 use Rattle.std.proofs.lemmas.Grind.{flat_map-append}
 use Rattle.std.proofs.lemmas.List.{map-append}
 use Rattle.std.proofs.lemmas.List.Sorted.{IsPermutation-append}
 use Rattle.std.proofs.lemmas.List.Sums.{sum_by-append, sum_by-cons}
 use Rattle.std.proofs.lemmas.List.Elements.{All-cons}
-use Rattle.std.specs.List.{All, AllByRecursion, flat_map}
+use Rattle.std.specs.List.{All}
 use Rattle.std.specs.List.Sorted.{IsPermutation}
 use Rattle.values.specs.Schema.{Field}
 use Rattle.lines.specs.Input.{good, refused}
 use Rattle.lines.specs.Lines.{lines}
 use Rattle.query_check.specs.declared.function.ColumnFunction.{ColumnFunction}
-use Rattle.groups.specs.Groups.{Key}
-use Rattle.groups.specs.Table.{Contents, CanJoin, IsJoined, IsTableOf, AreGroupsWithin}
+use Rattle.groups.specs.Table.{Contents}
 use Rattle.groups.proofs.Meaning.{table-within, tables-within, within-can_join}
 use Rattle.groups.specs.Rows.{Row}
 use Rattle.query_check.specs.Resolution.{contents}

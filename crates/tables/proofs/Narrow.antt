@@ -1,7 +1,6 @@
 -- The whole numbers of a record that fits a schema have 64 bits.
-use Rattle.std.proofs.Common.{◌≡◌, ◌^◌, ◌≤◌, ℤ, pos, negsuc, ◌-ℤ◌, ◌≤ℤ◌, List, [], ◌∷◌, FitsSigned, arith}
+use Rattle.std.proofs.Common.{pos, negsuc, List, [], ◌∷◌, arith}
 use Rattle.std.proofs.lemmas.Int.{ints}
-use Rattle.std.specs.Int.{w64}
 use Rattle.values.specs.declared.schema.Kind.{Kind}
 use Rattle.values.specs.declared.schema.Kind.TheVariants as kind
 use Rattle.values.specs.Datum.{Datum, boolean, whole, text, null}

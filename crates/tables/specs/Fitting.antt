@@ -6,6 +6,8 @@ use Rattle.values.specs.Datum.{Datum, whole, null}
 use Rattle.values.specs.Fit.{Holds}
 use Rattle.values.specs.Schema.{Field}
 use Rattle.query_tree.specs.Syntax.{TreeForm}
+use Rattle.query.specs.declared.plan.Plan.{Plan}
+use Rattle.query.specs.Planned.{fields_of_plan, form_of_plan}
 use Rattle.query_check.specs.declared.function.ColumnFunction.{ColumnFunction}
 use Rattle.query_check.specs.declared.function.ColumnFunction.TheVariants as function
 use Rattle.query_check.specs.Columns.{kind_at}
@@ -68,3 +70,7 @@ pub record AreFitting (fields : List Field) (t : TreeForm) (found : List Found) 
   pub cells : All (λ row. length row.1.cells ≡ length (functions_of fields t)) found
   pub cell_types : All (λ row. AllZip (HasType fields) (functions_of fields t) row.1.cells) found
   pub distinct : AllPairs (λ x y. x.0 ≡ y.0 → x.1.key ≢ y.1.key) found
+
+-- groups that fit the query of some plan
+abbrev pub FitSomePlan : List Found → Type 0
+FitSomePlan found = ∥ ((plan : Plan) × AreFitting (fields_of_plan plan) (form_of_plan plan) found) ∥₁

@@ -12,7 +12,7 @@ use Rattle.groups.specs.Rows.{Row}
 use Rattle.groups.specs.GroupRows.{SameBag}
 use Rattle.tables.specs.declared.grouped.Groups.{Groups}
 use Rattle.tables.specs.declared.partial.Partial.{Partial}
-use Rattle.tables.specs.Found.{found_in, refused_in}
+use Rattle.tables.specs.Contents.{found_in, refused_in}
 use Rattle.tables.specs.Results.{query_found}
 use Rattle.tables.specs.Notes.{note_of, notes_in}
 use Rattle.tables.specs.Pieces.{IndexedPiece, all_lines, records_of, refused_within}
@@ -34,6 +34,10 @@ pub record StandsFor (fields : List Field) (q : TreeForm) (partial : Partial) (p
   pub lines : lines_counted partial ≡ length (all_lines pieces)
   pub refused : refused_counted partial ≡ length (refused_within fields pieces)
   pub notes : IsPermutation (map (note_of fields) pieces) (notes_in partial.notes)
+
+-- a partial result of a query stands for some pieces
+abbrev pub IsPartialOf : List Field → TreeForm → Partial → Type 0
+IsPartialOf fields q partial = ∥ ((pieces : List IndexedPiece) × StandsFor fields q partial pieces) ∥₁
 
 -- partial results have one shape where their grouping sets and set functions are the same
 pub record HaveOneShape (partial other : Partial) : Type 0 where

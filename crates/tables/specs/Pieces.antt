@@ -4,7 +4,7 @@ use Rattle.std.specs.List.{flat_map}
 use Rattle.std.specs.List.Sorted.{IsStrictlyIncreasing}
 use Rattle.values.specs.Schema.{Field}
 use Rattle.lines.specs.declared.fault.LineFault.{LineFault}
-use Rattle.lines.specs.Lines.{line_feed, lines}
+use Rattle.lines.specs.Lines.{lines}
 use Rattle.lines.specs.Input.{good, refused}
 use Rattle.lines.specs.Pieces.{AllButLast, EndsInFeed}
 use Rattle.groups.specs.Rows.{Row}

@@ -1,21 +1,29 @@
-ghost use Rattle.std.specs.Prelude.{◌≡◌};
+ghost use Rattle.std.specs.Prelude.{◌≡◌, map};
+ghost use Rattle.std.proofs.Props.{props};
+ghost use Rattle.tables.specs.Fitting.{FitSomePlan};
+ghost use Rattle.tables.specs.Found.{row_of};
 
 use groups::Group;
 use lines::LineFault;
 
 /// What the grouping sets of a query find in an input: their groups, and the refused lines.
+///
+/// The groups fit the plan of some query: the index of each is that of a grouping set, its key has a value for each
+/// column of the set, of the column's type or NULL, it has a cell for each set function, of the function's type, and
+/// no index and key stand twice together. Only `Partial::finish` makes one.
 #[derive(Debug, Drop)]
 pub struct Groups {
     rows: Vec<(usize, Group)>,
     refused: Vec<(u64, LineFault)>,
+    ghost fit: { FitSomePlan (map row_of rows.items) } by { Prim.hlevel props },
 }
 
 impl Groups {
-    ghost use Rattle.std.specs.Prelude.{map};
-    ghost use Rattle.tables.specs.Found.{found_in, refused_in, row_of};
+    ghost use Rattle.tables.specs.Contents.{found_in, refused_in};
 
-    /// These groups and refused lines.
-    pub fn new(rows: Vec<(usize, Group)>, refused: Vec<(u64, LineFault)>) -> Groups
+    /// These groups, which fit the plan of a query, and refused lines.
+    pub(crate) fn new(rows: Vec<(usize, Group)>, refused: Vec<(u64, LineFault)>) -> Groups
+        requires fit { FitSomePlan (map row_of rows.items) }
         ensures rows { found_in result ≡ map row_of rows.items }
         ensures refused { refused_in result ≡ refused.items }
     {
@@ -25,7 +33,8 @@ impl Groups {
     /// The groups, each with the index of its grouping set in the expanded list of sets, in no order
     /// that is said.
     pub fn rows(&self) -> &[(usize, Group)]
-        ensures { map row_of result.now ≡ found_in self.now }
+        ensures rows { map row_of result.now ≡ found_in self.now }
+        ensures fit { FitSomePlan (found_in self.now) }
     {
         self.rows.as_slice()
     }

@@ -40,8 +40,8 @@ impl Partial {
     ghost use Rattle.query.specs.Planned.{fields_of_plan, form_of_plan};
     ghost use Rattle.query_check.specs.Sets.{sets_of};
     ghost use Rattle.query_check.specs.Functions.{functions_of};
-    ghost use Rattle.tables.specs.Found.{found_in, refused_in};
-    ghost use Rattle.tables.specs.Partials.{GivesGroups, HaveOneShape, IsResultOf, StandsFor, lines_counted, refused_counted};
+    ghost use Rattle.tables.specs.Contents.{found_in, refused_in};
+    ghost use Rattle.tables.specs.Partials.{GivesGroups, HaveOneShape, IsPartialOf, IsResultOf, StandsFor, lines_counted, refused_counted};
     ghost use Rattle.tables.specs.Pieces.{AreInOrder, IndexedPiece, IsCutInto, all_lines, records_of, refused_numbered, refused_within};
     ghost use Rattle.tables.specs.Fitting.{AreFitting};
 
@@ -142,6 +142,8 @@ impl Partial {
         requires few { lines_counted self + lines_counted other < 2 ^ 63 }
         ensures stands { IfOk result (λ merged. (fields : List Field) (q : TreeForm) (pieces more : List IndexedPiece)
             → StandsFor fields q self pieces → StandsFor fields q other more → StandsFor fields q merged (pieces ++ more)) }
+        ensures of_plan { IfOk result (λ merged. (fields : List Field) (q : TreeForm)
+            → IsPartialOf fields q self → IsPartialOf fields q other → IsPartialOf fields q merged) }
     {
         let Partial {
             alloc,
@@ -165,12 +167,13 @@ impl Partial {
     }
 
     /// The groups of the good records of all lines of the pieces, and the refused lines by their
-    /// numbers in the input, where no two pieces have one index.
+    /// numbers in the input, where no two pieces have one index. The result is one of this plan.
     ///
     /// # Errors
     ///
     /// `AllocError` where there is no memory for them.
     pub fn finish(self, plan: &Plan) -> Result<Groups, AllocError>
+        requires of_plan { IsPartialOf (fields_of_plan plan.now) (form_of_plan plan.now) self }
         ensures rows { IfOk result (λ groups. (pieces : List IndexedPiece) → StandsFor (fields_of_plan plan.now) (form_of_plan plan.now) self pieces
             → GivesGroups (fields_of_plan plan.now) (form_of_plan plan.now) groups (records_of (fields_of_plan plan.now) pieces)) }
         ensures fit { IfOk result (λ groups. (pieces : List IndexedPiece) → StandsFor (fields_of_plan plan.now) (form_of_plan plan.now) self pieces

@@ -1,12 +1,14 @@
 // Partial results over pieces of an input, merged in several orders.
-ghost use Rattle.std.specs.Prelude.{◌≤◌, ◌<◌, length};
+ghost use Rattle.std.specs.Prelude.{◌≤◌, ◌<◌, ◌^◌, length, IfOk};
+ghost use Rattle.std.proofs.Props.{props};
+ghost use Rattle.query.specs.Planned.{fields_of_plan, form_of_plan};
+ghost use Rattle.tables.specs.Partials.{IsPartialOf};
 
 use super::reference::{Findings, Row, cell_of, findings_of};
 use super::running::{FOUR_BAD, THREE};
-use lines::{LineFault, cut};
+use lines::{LineFault, Piece, cut};
 use query::{ColumnFunction, Plan, QueryFault, check, parse};
 use std::alloc::{AllocError, Global};
-use std::collections::VecDeque;
 use std::process::Abort;
 use std::test::Fail;
 use tables::{Cell, Group, Groups, Partial};
@@ -22,17 +24,6 @@ const BY_D_AND_R: &str = "SELECT d, r, COUNT(*), SUM(q) FROM lines GROUP BY d, r
 
 const BY_R: &str = "SELECT r FROM lines GROUP BY r";
 
-/// How partial results are merged.
-#[derive(Clone, Copy, Debug)]
-enum Order {
-    /// The first with the second, then with the third, and so on.
-    FromTheLeft,
-    /// The last with the one before, then with the one before that, and so on.
-    FromTheRight,
-    /// Each with its neighbour, then these results with each other, and so on.
-    AsATree,
-}
-
 /// The plan of a query's text.
 fn planned(alloc: Global, text: &str) -> Result<Plan, Fail> {
     let schema = Schema::parse(alloc, COLUMNS)?;
@@ -40,99 +31,133 @@ fn planned(alloc: Global, text: &str) -> Result<Plan, Fail> {
     Ok(check(alloc, query, schema)?)
 }
 
-/// The result over each piece of an input, in their order.
-fn partials_of(
-    alloc: Global,
-    plan: &Plan,
-    input: &[u8],
-    target: usize,
-) -> Result<VecDeque<Partial>, Fail>
-    requires { 1 ≤ target }
+/// The result over the pieces of both, which are of the query of a plan.
+fn merge(rt: &impl Abort, plan: &Plan, left: Partial, right: Partial) -> Result<Partial, AllocError>
+    requires left { IsPartialOf (fields_of_plan plan.now) (form_of_plan plan.now) left }
+    requires right { IsPartialOf (fields_of_plan plan.now) (form_of_plan plan.now) right }
+    ensures { IfOk result (λ merged. IsPartialOf (fields_of_plan plan.now) (form_of_plan plan.now) merged) }
 {
-    let mut partials = VecDeque::new(alloc);
-    for (place, piece) in cut(alloc, input, target)?.into_iter().enumerate() {
-        let index = u32::try_from(place)?;
-        let bytes = input.get(piece.start..piece.stop).ok_or("no such piece")?;
-        partials.push_back(Partial::fold_piece(alloc, plan, index, bytes)?)?;
-    }
-    Ok(partials)
-}
-
-/// The result over the pieces of both, which are of one query.
-fn merge(rt: &impl Abort, left: Partial, right: Partial) -> Result<Partial, AllocError> {
     assert!(rt; left.same_shape(&right));
     assert!(rt; left.lines() + right.lines() < 1 << 63);
     left.merge(right)
 }
 
-/// The result over all pieces.
-fn merge_all(
-    rt: &impl Abort,
-    empty: Partial,
-    partials: VecDeque<Partial>,
-    order: Order,
-) -> Result<Partial, Fail> {
-    match order {
-        Order::FromTheLeft => merge_from_the_left(rt, empty, partials),
-        Order::FromTheRight => merge_from_the_right(rt, empty, partials),
-        Order::AsATree => merge_as_a_tree(rt, empty, partials),
+/// The result over some pieces, of the query of a plan.
+#[derive(Drop)]
+struct Merged<'p> {
+    plan: &'p Plan,
+    partial: Partial,
+    ghost of_plan: { IsPartialOf (fields_of_plan plan.now) (form_of_plan plan.now) partial } by { Prim.hlevel props },
+}
+
+impl<'p> Merged<'p> {
+    /// The result over no piece.
+    fn new(alloc: Global, plan: &'p Plan) -> Result<Merged<'p>, AllocError> {
+        let partial = Partial::empty(alloc, plan)?;
+        Ok(Merged { plan, partial })
+    }
+
+    /// With the result over one piece merged into it.
+    fn with(
+        self,
+        rt: &impl Abort,
+        alloc: Global,
+        index: u32,
+        bytes: &[u8],
+    ) -> Result<Merged<'p>, AllocError>
+        requires { length bytes.now < 2 ^ 63 }
+    {
+        let Merged { plan, partial } = self;
+        let piece = Partial::fold_piece(alloc, plan, index, bytes)?;
+        let partial = merge(rt, plan, partial, piece)?;
+        Ok(Merged { plan, partial })
+    }
+
+    /// Merged into the result over one piece.
+    fn within(
+        self,
+        rt: &impl Abort,
+        alloc: Global,
+        index: u32,
+        bytes: &[u8],
+    ) -> Result<Merged<'p>, AllocError>
+        requires { length bytes.now < 2 ^ 63 }
+    {
+        let Merged { plan, partial } = self;
+        let piece = Partial::fold_piece(alloc, plan, index, bytes)?;
+        let partial = merge(rt, plan, piece, partial)?;
+        Ok(Merged { plan, partial })
+    }
+
+    /// Compares the numbers of its lines, and what it gives.
+    fn assert_found(self, rt: &impl Abort, alloc: Global, wanted: &Findings) -> Result<(), Fail> {
+        let Merged { plan, partial } = self;
+        assert_eq!(rt; partial.lines(), wanted.lines);
+        assert_eq!(rt; partial.refused(), wanted.refused.len() as u64);
+        assert_groups(rt, alloc, &partial.finish(plan)?, wanted)
     }
 }
 
-fn merge_from_the_left(
+/// The bytes of a piece.
+fn bytes_of<'a>(input: &'a [u8], piece: &Piece) -> Result<&'a [u8], Fail> {
+    Ok(input.get(piece.start..piece.stop).ok_or("no such piece")?)
+}
+
+/// The first piece is merged into the result over none, then the second into what comes of it, and so on.
+fn merged_from_the_left<'p>(
     rt: &impl Abort,
-    empty: Partial,
-    partials: VecDeque<Partial>,
-) -> Result<Partial, Fail> {
-    let mut merged = empty;
-    for partial in partials {
-        merged = merge(rt, merged, partial)?;
+    alloc: Global,
+    plan: &'p Plan,
+    input: &[u8],
+    pieces: &[Piece],
+) -> Result<Merged<'p>, Fail> {
+    let mut merged = Merged::new(alloc, plan)?;
+    for (place, piece) in pieces.iter().enumerate() {
+        merged = merged.with(rt, alloc, u32::try_from(place)?, bytes_of(input, piece)?)?;
     }
     Ok(merged)
 }
 
-fn merge_from_the_right(
+/// The result over no piece is merged into the last piece, what comes of it into the one before, and so on.
+fn merged_from_the_right<'p>(
     rt: &impl Abort,
-    empty: Partial,
-    partials: VecDeque<Partial>,
-) -> Result<Partial, Fail> {
-    let mut merged = empty;
-    for partial in partials.into_iter().rev() {
-        merged = merge(rt, merged, partial)?;
+    alloc: Global,
+    plan: &'p Plan,
+    input: &[u8],
+    pieces: &[Piece],
+) -> Result<Merged<'p>, Fail> {
+    let mut merged = Merged::new(alloc, plan)?;
+    for (place, piece) in pieces.iter().enumerate().rev() {
+        merged = merged.within(rt, alloc, u32::try_from(place)?, bytes_of(input, piece)?)?;
     }
     Ok(merged)
 }
 
-fn merge_as_a_tree(
-    rt: &impl Abort,
-    empty: Partial,
-    mut partials: VecDeque<Partial>,
-) -> Result<Partial, Fail> {
-    for _ in 1..partials.len() {
-        let left = partials.pop_front().ok_or("no left neighbour")?;
-        let right = partials.pop_front().ok_or("no right neighbour")?;
-        partials.push_back(merge(rt, left, right)?)?;
-    }
-    match partials.pop_front() {
-        Some(merged) => Ok(merge(rt, merged, empty)?),
-        None => Ok(empty),
-    }
-}
-
-/// The result over an input that is cut into pieces.
-fn over_pieces(
+/// What comes of the first half of the pieces is merged with what comes of the second, and each half is treated so.
+fn merged_as_a_tree(
     rt: &impl Abort,
     alloc: Global,
     plan: &Plan,
     input: &[u8],
-    target: usize,
-    order: Order,
+    pieces: &[Piece],
+    first: usize,
 ) -> Result<Partial, Fail>
-    requires { 1 ≤ target }
+    ensures { IfOk result (λ partial. IsPartialOf (fields_of_plan plan.now) (form_of_plan plan.now) partial) }
 {
-    let empty = Partial::empty(alloc, plan)?;
-    let partials = partials_of(alloc, plan, input, target)?;
-    merge_all(rt, empty, partials, order)
+    match pieces {
+        [] => Ok(Partial::empty(alloc, plan)?),
+        [piece] => {
+            let bytes = bytes_of(input, piece)?;
+            Ok(Partial::fold_piece(alloc, plan, u32::try_from(first)?, bytes)?)
+        }
+        _ => {
+            let (left, right) = pieces.split_at(pieces.len() / 2);
+            let second = first.checked_add(left.len()).ok_or("too many pieces")?;
+            let left = merged_as_a_tree(rt, alloc, plan, input, left, first)?;
+            let right = merged_as_a_tree(rt, alloc, plan, input, right, second)?;
+            Ok(merge(rt, plan, left, right)?)
+        }
+    }
 }
 
 /// The rows by the index of their set, those of one set by their keys.
@@ -181,17 +206,12 @@ fn assert_found(
 ) -> Result<(), Fail>
     requires { 1 ≤ target }
 {
-    for order in [Order::FromTheLeft, Order::FromTheRight, Order::AsATree] {
-        let partial = over_pieces(rt, alloc, plan, input, target, order)?;
-        assert_eq!(rt; partial.lines(), wanted.lines, "{order:?} at {target}");
-        assert_eq!(rt;
-            partial.refused(),
-            wanted.refused.len() as u64,
-            "{order:?} at {target}"
-        );
-        assert_groups(rt, alloc, &partial.finish(plan)?, wanted)?;
-    }
-    Ok(())
+    let pieces = cut(alloc, input, target)?;
+    let pieces = pieces.as_slice();
+    merged_from_the_left(rt, alloc, plan, input, pieces)?.assert_found(rt, alloc, wanted)?;
+    merged_from_the_right(rt, alloc, plan, input, pieces)?.assert_found(rt, alloc, wanted)?;
+    let partial = merged_as_a_tree(rt, alloc, plan, input, pieces, 0)?;
+    Merged { plan, partial }.assert_found(rt, alloc, wanted)
 }
 
 /// The same with small pieces, greater ones, and the whole input as one piece.
@@ -592,7 +612,10 @@ fn refusal_of_fold_piece(rt: HostRuntime) {
 }
 
 /// The results over the two pieces of the four lines.
-fn two_partials(alloc: Global, plan: &Plan) -> Result<(Partial, Partial), AllocError> {
+fn two_partials(alloc: Global, plan: &Plan) -> Result<(Partial, Partial), AllocError>
+    ensures first { IfOk result (λ partials. IsPartialOf (fields_of_plan plan.now) (form_of_plan plan.now) partials.0) }
+    ensures second { IfOk result (λ partials. IsPartialOf (fields_of_plan plan.now) (form_of_plan plan.now) partials.1) }
+{
     let first = Partial::fold_piece(alloc, plan, 0, &FOUR[..FIRST_LEN])?;
     let second = Partial::fold_piece(alloc, plan, 1, &FOUR[FIRST_LEN..])?;
     Ok((first, second))
@@ -607,7 +630,7 @@ fn refusal_of_merge(rt: HostRuntime) {
     let Ok((first, second)) = two_partials(rt.alloc(), &plan) else {
         return;
     };
-    let Ok(merged) = merge(&rt, second, first) else {
+    let Ok(merged) = merge(&rt, &plan, second, first) else {
         return;
     };
     assert_four_counted(&rt, &merged);

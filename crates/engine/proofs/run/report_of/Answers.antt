@@ -1,6 +1,6 @@
 use Rattle.std.proofs.Common.{◌∙◌, ap, map}
 use Rattle.query.specs.Planned.{fields_of_plan, form_of_plan}
-use Rattle.tables.specs.Found.{found_in}
+use Rattle.tables.specs.Contents.{found_in}
 use Rattle.report.specs.Order.{arranged}
 use Rattle.report.specs.Shown.{cells_of}
 use Rattle.engine.proofs.Shown.{cell-each}

@@ -2,7 +2,8 @@ use Rattle.std.proofs.Common.{◌≡◌, ◌<◌, ◌++◌, ◌∙◌, List, len
 use Rattle.std.specs.List.{AllByRecursion}
 use Rattle.query_check.specs.Sets.{sets_of}
 use Rattle.query.specs.Planned.{fields_of_plan, form_of_plan}
-use Rattle.tables.specs.Found.{Found, found_in}
+use Rattle.tables.specs.Contents.{found_in}
+use Rattle.tables.specs.Found.{Found}
 use Rattle.tables.specs.Fitting.{AreFitting}
 use Rattle.report.specs.Order.{arranged}
 use Rattle.report.specs.Shown.{cells_of, row_shown}
@@ -16,7 +17,7 @@ loop-group-init c =
     let fields = fields_of_plan c.args.plan.now in
     let t = form_of_plan c.args.plan.now in
     let found = found_in c.args.groups.now in
-    let same = c.rows.ensures in
+    let same = c.rows.ensures.rows in
     let rest : c.into_iter-group-iterator.result.rest.items ≡ c.in_ok-ordered.ordered.items = c.into_iter-group-iterator.ensures.into_iter_gives.0 in
     let left : map row_at c.into_iter-group-iterator.result.rest.items ≡ arranged fields t found =
     ap (map row_at) rest

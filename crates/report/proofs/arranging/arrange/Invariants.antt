@@ -2,7 +2,7 @@ use Rattle.std.proofs.Common.{◌≡◌, ◌++◌, ◌<◌, length, map}
 use Rattle.std.specs.List.{AllByRecursion}
 use Rattle.query_check.specs.Sets.{sets_of}
 use Rattle.query.specs.Planned.{fields_of_plan, form_of_plan}
-use Rattle.tables.specs.Found.{found_in}
+use Rattle.tables.specs.Contents.{found_in}
 use Rattle.report.specs.Report.{rows_shown}
 use Rattle.report.specs.Shown.{cells_of, row_shown}
 use Rattle.report.proofs.Rows.{row_at}

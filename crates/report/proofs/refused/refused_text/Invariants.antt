@@ -1,5 +1,5 @@
 use Rattle.std.proofs.Common.{◌≡◌, take}
-use Rattle.tables.specs.Found.{refused_in}
+use Rattle.tables.specs.Contents.{refused_in}
 use Rattle.report.specs.Text.{refused_bytes}
 use Rattle.report.proofs.refused.refused_text.Given as goal
 

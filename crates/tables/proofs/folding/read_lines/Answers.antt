@@ -1,7 +1,6 @@
 use Rattle.std.proofs.Common.{◌≡◌, ◌+◌, ◌<◌, ◌≤◌, ◌^◌, ◌++◌, ◌∷◌, ℕ, List, length, rules, sym, ap, ◌∙◌, arith, length-append}
 use Rattle.lines.specs.Lines.{lines}
-use Rattle.query.specs.Planned.{fields_of_plan, form_of_plan}
-use Rattle.tables.proofs.Reading.{HasReadSome, length-lines}
+use Rattle.tables.proofs.Reading.{length-lines}
 use Rattle.tables.proofs.folding.read_lines.Goals as goal
 
 -- with one more there are at most as many as all

@@ -1,4 +1,4 @@
-use Rattle.std.proofs.Common.{◌≡◌, ◌+◌, ◌++◌, ◌∷◌, ℕ, List, map, Vec, Global, sym, ap, ◌∙◌, append_assoc}
+use Rattle.std.proofs.Common.{◌++◌, ℕ, List, map, Vec, Global, sym, ap, ◌∙◌, append_assoc}
 use Rattle.groups.specs.declared.group.Group.{Group}
 use Rattle.groups.specs.GroupRows.{group_row_in}
 use Rattle.tables.specs.Found.{row_of, rows_from}

@@ -1,4 +1,4 @@
-use Rattle.std.proofs.Common.{◌≡◌, List, [], ◌∷◌, ◌++◌, Vec, Global, sym, subst, arith}
+use Rattle.std.proofs.Common.{List, ◌∷◌, Vec, Global, sym, subst, arith}
 use Rattle.groups.specs.declared.group.Group.{Group}
 use Rattle.groups.specs.Table.{Contents}
 use Rattle.tables.proofs.Finishing.{AreFinished, finished-step, finished-all}

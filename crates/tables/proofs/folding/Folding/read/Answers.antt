@@ -1,4 +1,4 @@
-use Rattle.std.proofs.Common.{◌≡◌, ◌+◌, ◌++◌, ◌∷◌, [], Ok, Err, sym, ap, subst, ◌∙◌, arith}
+use Rattle.std.proofs.Common.{◌+◌, ◌++◌, ◌∷◌, [], sym, ap, subst, ◌∙◌, arith}
 use Rattle.query.specs.Planned.{fields_of_plan, form_of_plan}
 use Rattle.lines.specs.declared.fault.LineRefusal.{LineRefusal}
 use Rattle.lines.specs.Refusal.{IsRefusal}

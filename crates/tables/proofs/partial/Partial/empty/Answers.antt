@@ -1,8 +1,7 @@
-use Rattle.std.proofs.Common.{◌≡◌, [], All, sym, ap, subst, ◌∙◌, arith}
+use Rattle.std.proofs.Common.{[], arith}
 use Rattle.query.specs.Planned.{fields_of_plan, form_of_plan}
 use Rattle.query_check.specs.Functions.{functions_of}
 use Rattle.query_check.specs.Sets.{sets_of}
-use Rattle.tables.specs.Notes.{IsWellNumbered, lines_noted, note_in}
 use Rattle.tables.proofs.Merging.{all-within, no-notes, within-shape}
 use Rattle.tables.proofs.partial.Partial.empty.Goals as goal
 

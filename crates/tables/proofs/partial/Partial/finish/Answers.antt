@@ -1,4 +1,5 @@
 use Rattle.std.proofs.Common.{◌∙◌, List, map, sym, subst}
+use Rattle.std.proofs.Math.Logic.{∥∥₁_map}
 use Rattle.std.proofs.lemmas.List.Sorted.{IsPermutation-sym}
 use Rattle.groups.specs.GroupRows.{SameBag}
 use Rattle.groups.specs.Rows.{Row}
@@ -6,7 +7,8 @@ use Rattle.query.specs.Planned.{fields_of_plan, form_of_plan}
 use Rattle.query_check.specs.Functions.{functions_of}
 use Rattle.query_check.specs.Sets.{sets_of}
 use Rattle.query_truth.specs.Kept.{kept}
-use Rattle.tables.specs.Found.{Found, found_in}
+use Rattle.tables.specs.Contents.{found_in}
+use Rattle.tables.specs.Found.{Found, row_of}
 use Rattle.tables.specs.Notes.{note_of}
 use Rattle.tables.specs.Pieces.{records_of}
 use Rattle.tables.specs.Results.{all_found, query_found}
@@ -15,6 +17,18 @@ use Rattle.tables.proofs.Fitting.{found-fit}
 use Rattle.tables.proofs.Numbered.{notes-in_order, numbered-in_order}
 use Rattle.tables.proofs.Taken.{kept-fits}
 use Rattle.tables.proofs.partial.Partial.finish.Goals as goal
+
+pub new-requires : goal.new-requires
+new-requires c =
+    let plan = c.args.plan.now in
+    let fields = fields_of_plan plan in
+    let q = form_of_plan plan in
+    let found = map row_of c.in_ok-rows.rows.items in
+    record {
+      fit = ∥∥₁_map c.requires.of_plan (λ s.
+          let rows = kept fields q (records_of fields s.0) in
+          (plan, found-fit fields q rows found (c.in_ok-rows.ensures (sets_of fields q) (functions_of fields q) rows s.1.tables) (kept-fits fields q s.0)));
+    }
 
 pub returns-clause-fit : goal.returns-clause-fit
 returns-clause-fit c = λ pieces p.

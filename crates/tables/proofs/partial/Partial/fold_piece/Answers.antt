@@ -1,13 +1,12 @@
-use Rattle.std.proofs.Common.{◌≡◌, ◌≤◌, [], All, length, sym, ap, subst, ◌∙◌, arith}
+use Rattle.std.proofs.Common.{length, ap, arith}
 use Rattle.lines.specs.Lines.{lines}
 use Rattle.query.specs.Planned.{fields_of_plan, form_of_plan}
 use Rattle.query_check.specs.Functions.{functions_of}
 use Rattle.query_check.specs.Sets.{sets_of}
 use Rattle.query_truth.specs.Kept.{kept}
-use Rattle.tables.specs.Folding.{good_of, refused_of}
-use Rattle.tables.specs.Notes.{IsWellNumbered}
+use Rattle.tables.specs.Folding.{good_of}
 use Rattle.tables.proofs.Merging.{all-within, one-note, within-shape}
-use Rattle.tables.proofs.Reading.{length-good_of, length-kept, length-lines, length-refused_of, refused-numbers, well-numbered}
+use Rattle.tables.proofs.Reading.{length-good_of, length-kept, length-lines, length-refused_of, well-numbered}
 use Rattle.tables.proofs.partial.Partial.fold_piece.Goals as goal
 
 pub invariant_of-result : goal.invariant_of-result

@@ -1,4 +1,5 @@
-use Rattle.std.proofs.Common.{◌≡◌, ◌+◌, ◌++◌, List, All, length, map, sym, ap, subst, ◌∙◌, arith}
+use Rattle.std.proofs.Common.{◌≡◌, ◌++◌, List, All, length, map, sym, ap, subst, ◌∙◌, arith}
+use Rattle.std.proofs.Math.Logic.{∥∥₁_map₂}
 use Rattle.std.proofs.lemmas.List.{map-append}
 use Rattle.std.proofs.lemmas.List.Elements.{All-append}
 use Rattle.std.specs.List.Sorted.{IsPermutation}
@@ -35,19 +36,21 @@ invariant_of-result c =
       numbered = subst (All IsWellNumbered) (sym joined) (All-append IsWellNumbered (notes_in a.notes) (notes_in b.notes) a.numbered b.numbered);
     }
 
-pub returns : goal.returns
-returns c = record {
-  stands = λ fields q pieces more p m.
-      let a = c.args.self in
-      let b = c.args.other in
-      let joined : notes_in c.append.new.self ≡ notes_in a.notes ++ notes_in b.notes = ap (map note_in) c.in_ok-append.ensures.items ∙ map-append note_in a.notes.items b.notes.items in
-      record {
-        sets = p.sets;
-        functions = p.functions;
-        tables = subst (λ (rows : List Row). AreTablesOf (sets_of fields q) (functions_of fields q) c.absorb.new.self rows) (sym (ap (kept fields q) (records-append fields pieces more) ∙ kept-append fields q (records_of fields pieces) (records_of fields more)))
-            (c.in_ok-absorb.ensures.joined (sets_of fields q) (functions_of fields q) (kept fields q (records_of fields pieces)) (kept fields q (records_of fields more)) p.tables m.tables);
-        lines = (let x = p.lines in let y = m.lines in let z = lines-append pieces more in omega (arith, x, y, z));
-        refused = (let x = p.refused in let y = m.refused in let z = refused-append fields pieces more in omega (arith, x, y, z));
-        notes = subst (λ (ns : List Noted). IsPermutation (map (note_of fields) (pieces ++ more)) ns) (sym joined) (notes-append fields pieces more (notes_in a.notes) (notes_in b.notes) p.notes m.notes);
-      };
-}
+pub returns-clause-stands : goal.returns-clause-stands
+returns-clause-stands c = λ fields q pieces more p m.
+    let a = c.args.self in
+    let b = c.args.other in
+    let joined : notes_in c.append.new.self ≡ notes_in a.notes ++ notes_in b.notes = ap (map note_in) c.in_ok-append.ensures.items ∙ map-append note_in a.notes.items b.notes.items in
+    record {
+      sets = p.sets;
+      functions = p.functions;
+      tables = subst (λ (rows : List Row). AreTablesOf (sets_of fields q) (functions_of fields q) c.absorb.new.self rows) (sym (ap (kept fields q) (records-append fields pieces more) ∙ kept-append fields q (records_of fields pieces) (records_of fields more)))
+          (c.in_ok-absorb.ensures.joined (sets_of fields q) (functions_of fields q) (kept fields q (records_of fields pieces)) (kept fields q (records_of fields more)) p.tables m.tables);
+      lines = (let x = p.lines in let y = m.lines in let z = lines-append pieces more in omega (arith, x, y, z));
+      refused = (let x = p.refused in let y = m.refused in let z = refused-append fields pieces more in omega (arith, x, y, z));
+      notes = subst (λ (ns : List Noted). IsPermutation (map (note_of fields) (pieces ++ more)) ns) (sym joined) (notes-append fields pieces more (notes_in a.notes) (notes_in b.notes) p.notes m.notes);
+    }
+
+pub returns-clause-of_plan : goal.returns-clause-of_plan
+returns-clause-of_plan c = λ fields q p m.
+    ∥∥₁_map₂ p m (λ x y. (x.0 ++ y.0, returns-clause-stands c fields q x.0 y.0 x.1 y.1))

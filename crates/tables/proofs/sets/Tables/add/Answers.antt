@@ -1,10 +1,9 @@
-use Rattle.std.proofs.Common.{◌≡◌, ◌+◌, ◌<◌, ℕ, suc, List, [], ◌∷◌, ◌++◌, All, Vec, Global, nat_eq, length, map, set, get_or, rules, sym, ap, subst, ◌∙◌, arith, add-one}
-use Rattle.std.proofs.lemmas.List.{get_or-map}
+use Rattle.std.proofs.Common.{◌≡◌, ◌+◌, ◌<◌, ℕ, suc, List, [], ◌∷◌, ◌++◌, nat_eq, length, set, rules, sym, subst, arith, add-one}
 use Rattle.std.proofs.lemmas.Result.{on_ok_weaker}
 use Rattle.std.specs.List.{IsDistinct}
 use Rattle.values.specs.Datum.{data_of}
 use Rattle.groups.specs.Rows.{Row}
-use Rattle.groups.specs.Table.{Contents, IsTableOf, TakesOne}
+use Rattle.groups.specs.Table.{IsTableOf}
 use Rattle.tables.specs.Sets.{AreTablesOf, places_of}
 use Rattle.tables.proofs.Partly.{ArePartly, partly-at, partly-step, partly-all, partly-length, distinct-at}
 use Rattle.tables.proofs.sets.Tables.add.Goals as goal
