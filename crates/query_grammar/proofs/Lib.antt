@@ -1,12 +1,2 @@
-pub mod Heads
-pub mod More
-pub mod CompleteLists
-pub mod CompleteExpressions
-pub mod CompleteAtoms
-pub mod CompletePredicates
 pub mod Complete
-pub mod SoundLists
-pub mod SoundExpressions
-pub mod SoundAtoms
-pub mod SoundPredicates
 pub mod Sound

@@ -11,17 +11,18 @@ use Rattle.query_tokens.specs.Options.{◌>>=◌, choose}
 use Rattle.query_tokens.proofs.Inversions.{bind_some, choose_some, some_is, test_some}
 use Rattle.query_tree.specs.declared.tree.Tree.{Tree}
 use Rattle.query_tree.specs.Syntax.{ExpressionForm, PredicateForm, GroupForm, ItemForm, TreeForm, set, tree_form}
-use Rattle.query_grammar.specs.declared.fault.GrammarFault.{GrammarFault}
-use Rattle.query_grammar.specs.Fronts.{is_word, is_sign, after}
-use Rattle.query_grammar.specs.Steps.{Gives, with_front, more, name_at}
-use Rattle.query_grammar.specs.ExpressionSteps.{expression_at}
-use Rattle.query_grammar.specs.PredicateSteps.{predicate_at}
+use Rattle.query_predicates.specs.declared.fault.GrammarFault.{GrammarFault}
+use Rattle.query_predicates.specs.Fronts.{is_word, is_sign, after}
+use Rattle.query_predicates.specs.Steps.{Gives, with_front, more, name_at}
+use Rattle.query_predicates.specs.ExpressionSteps.{expression_at}
+use Rattle.query_predicates.specs.PredicateSteps.{predicate_at}
 use Rattle.query_grammar.specs.QuerySteps.{alias_at, item_at, items_at, from_at, where_at, group_at, groups_at, query_at, at_end, whole_at}
-use Rattle.query_grammar.specs.Grammar.{IsRepeated, IsExpression, IsItem, IsWhere, IsGroup, IsGroupBy, IsQuery, Derives}
-use Rattle.query_grammar.proofs.Heads.{after_word_is}
-use Rattle.query_grammar.proofs.SoundLists.{IsSound, IsListed, only_some, read_as, begins_as, leaves_as, listed_s}
-use Rattle.query_grammar.proofs.SoundExpressions.{name_is, expression_s}
-use Rattle.query_grammar.proofs.SoundPredicates.{predicate_s}
+use Rattle.query_predicates.specs.Predicates.{IsRepeated, IsExpression}
+use Rattle.query_grammar.specs.Grammar.{IsItem, IsWhere, IsGroup, IsGroupBy, IsQuery, Derives}
+use Rattle.query_predicates.proofs.Heads.{after_word_is}
+use Rattle.query_predicates.proofs.SoundLists.{IsSound, IsListed, only_some, read_as, begins_as, leaves_as, listed_s}
+use Rattle.query_predicates.proofs.SoundExpressions.{name_is, expression_s}
+use Rattle.query_predicates.proofs.SoundPredicates.{predicate_s}
 
 -- An item with this expression and this alias.
 item_of : ExpressionForm → Option (List ℕ) → ItemForm

@@ -7,10 +7,10 @@ use Rattle.query_tokens.specs.declared.token.Word.TheVariants as w
 use Rattle.query_tokens.specs.declared.token.Sign.TheVariants as s
 use Rattle.query_tokens.specs.Options.{◌>>=◌, choose}
 use Rattle.query_tree.specs.Syntax.{PredicateForm, GroupForm, ItemForm, TreeForm, set}
-use Rattle.query_grammar.specs.Fronts.{is_word, is_sign, after}
-use Rattle.query_grammar.specs.Steps.{Reader, with_front, more, listed_at, name_at}
-use Rattle.query_grammar.specs.ExpressionSteps.{expression_at}
-use Rattle.query_grammar.specs.PredicateSteps.{predicate_at}
+use Rattle.query_predicates.specs.Fronts.{is_word, is_sign, after}
+use Rattle.query_predicates.specs.Steps.{Reader, with_front, more, listed_at, name_at}
+use Rattle.query_predicates.specs.ExpressionSteps.{expression_at}
+use Rattle.query_predicates.specs.PredicateSteps.{predicate_at}
 
 -- An alias, or none.
 unfoldable pub alias_at : Reader (Option (List ℕ))

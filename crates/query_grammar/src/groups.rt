@@ -3,12 +3,11 @@
 ghost use Rattle.std.specs.Prelude.{◌≡◌, ◌<◌, ◌≤◌, ◌∷◌, [], length, map, IfOk};
 ghost use Rattle.query_tokens.specs.declared.token.Sign.TheVariants.{Comma};
 ghost use Rattle.query_tree.specs.Syntax.{group_form};
-ghost use Rattle.query_grammar.specs.Fronts.{is_sign};
-ghost use Rattle.query_grammar.specs.Steps.{Gives, with_front, more};
+ghost use Rattle.query_predicates.specs.Fronts.{is_sign};
+ghost use Rattle.query_predicates.specs.Steps.{Gives, with_front, more};
 ghost use Rattle.query_grammar.specs.QuerySteps.{group_at, groups_at};
 
-use crate::fault::GrammarFault;
-use crate::fronts::{after_sign, after_word, expect_name, expect_word};
+use query_predicates::{GrammarFault, after_sign, after_word, expect_name, expect_word};
 use query_tokens::{Sign, Token, Word};
 use query_tree::Group;
 use std::alloc::Global;

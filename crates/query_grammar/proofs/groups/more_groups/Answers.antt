@@ -3,9 +3,9 @@ use Rattle.std.proofs.lemmas.Result.{err_from_is_err_and}
 use Rattle.std.proofs.lemmas.List.{map_push}
 use Rattle.query_tokens.specs.declared.token.Sign.TheVariants.{Comma}
 use Rattle.query_tree.specs.Syntax.{group_form}
-use Rattle.query_grammar.specs.Fronts.{is_sign}
+use Rattle.query_predicates.specs.Fronts.{is_sign}
 use Rattle.query_grammar.specs.QuerySteps.{group_at}
-use Rattle.query_grammar.proofs.More.{unread_goes, unread_ends, unread_fails}
+use Rattle.query_predicates.proofs.More.{unread_goes, unread_ends, unread_fails}
 use Rattle.query_grammar.proofs.groups.more_groups.Goals as goal
 
 pub returns-in_err-next-clause-exact : goal.returns-in_err-next-clause-exact

@@ -1,10 +1,10 @@
 use Rattle.std.proofs.Common.{◌≤◌, length, map, ◌∷◌, []}
 use Rattle.query_tokens.specs.declared.token.Sign.TheVariants.{Comma}
 use Rattle.query_tree.specs.Syntax.{group_form}
-use Rattle.query_grammar.specs.Fronts.{is_sign}
-use Rattle.query_grammar.specs.Steps.{with_front, more}
+use Rattle.query_predicates.specs.Fronts.{is_sign}
+use Rattle.query_predicates.specs.Steps.{with_front, more}
 use Rattle.query_grammar.specs.QuerySteps.{group_at}
-use Rattle.query_grammar.proofs.More.{Unread}
+use Rattle.query_predicates.proofs.More.{Unread}
 use Rattle.query_grammar.proofs.groups.more_groups.Given as goal
 
 abbrev pub invariant-loop-behind : goal.invariant-loop-behind
