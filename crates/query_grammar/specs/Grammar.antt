@@ -24,8 +24,8 @@
 --     literal = whole number | text | TRUE | FALSE
 --
 -- `lines` is the name `lines`, compared exactly. A query has at most 64 items, a GROUPING at most 8 arguments, an IN at
--- most 64 literals, and brackets of predicates stand in one another at most 64 levels deep. The
--- relations of expressions and predicates stand in Predicates of query_predicates.
+-- most 64 literals, and brackets of predicates stand in one another at most 64 levels deep. The relations of expressions
+-- and predicates stand in Predicates of query_predicates.
 use Rattle.std.specs.Prelude.{◌<◌, ℕ, Option, Some, None, List, [], ◌∷◌, length, codes}
 use Rattle.query_tokens.specs.declared.token.Token.{Token}
 use Rattle.query_tokens.specs.declared.token.Token.TheVariants as tokens

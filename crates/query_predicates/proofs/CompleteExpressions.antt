@@ -12,7 +12,7 @@ use Rattle.query_predicates.specs.ExpressionSteps.{closed_name_at, argument_at, 
 use Rattle.query_predicates.specs.Predicates.{IsRepeated, IsName, IsAggregate, IsFunction, IsExpression}
 use Rattle.query_predicates.proofs.CompleteLists.{Shrinks, repeated_short, bracketed_c}
 
-name_c : (ts r : List Token) (n : List ℕ) → IsName ts n r → name_at ts ≡ Some (n, r)
+pub name_c : (ts r : List Token) (n : List ℕ) → IsName ts n r → name_at ts ≡ Some (n, r)
 unfolding name_at
 name_c _ _ _ IsName.name = refl
 
@@ -54,7 +54,7 @@ expression_c (IsExpression.function (IsFunction.plain f)) = rw ((function_begins
 
 -- ---- what an expression takes
 
-name_short : Shrinks IsName
+pub name_short : Shrinks IsName
 name_short _ _ _ IsName.name = omega arith
 
 aggregate_short : Shrinks IsAggregate

@@ -24,7 +24,7 @@ name_is [] x e = absurd cc
 name_is (tokens.Name n ∷ ts) x e = let h = some_is (n, ts) x e in ap (λ (y : List ℕ × List Token). tokens.Name y.0 ∷ y.1) h
 name_is (y ∷ ts) x e = absurd cc
 
-name_s : IsSound IsName name_at
+pub name_s : IsSound IsName name_at
 name_s ts x e = begins_as IsName (name_is ts x e) IsName.name
 
 closed_name_is : (ts : List Token) (x : List ℕ × List Token) → closed_name_at ts ≡ Some x → ts ≡ tokens.Name x.0 ∷ tokens.Sign s.Close ∷ x.1
