@@ -1,2 +1,4 @@
+pub mod CompleteGroups
 pub mod Complete
+pub mod SoundGroups
 pub mod Sound

@@ -8,7 +8,11 @@
 --     setfn   = COUNT "(" "*" ")" | COUNT "(" [ DISTINCT ] name ")"
 --             | SUM "(" name ")" | MIN "(" name ")" | MAX "(" name ")" | AVG "(" name ")"
 --     group   = set
---     set     = name
+--             | ROLLUP "(" unit { "," unit } ")"
+--             | CUBE "(" unit { "," unit } ")"
+--             | GROUPING SETS "(" group { "," group } ")"
+--     set     = unit | "(" ")"
+--     unit    = name | "(" name { "," name } ")"
 --     pred    = conj { OR conj }
 --     conj    = neg { AND neg }
 --     neg     = [ NOT ] test
@@ -24,15 +28,15 @@
 --     literal = whole number | text | TRUE | FALSE
 --
 -- `lines` is the name `lines`, compared exactly. A query has at most 64 items, a GROUPING at most 8 arguments, an IN at
--- most 64 literals, and brackets of predicates stand in one another at most 64 levels deep. The relations of expressions
--- and predicates stand in Predicates of query_predicates.
-use Rattle.std.specs.Prelude.{◌<◌, ℕ, Option, Some, None, List, [], ◌∷◌, length, codes}
+-- most 64 literals, GROUPING SETS stand in one another at most 16 levels deep, and brackets of predicates at most 64.
+-- The relations of expressions and predicates stand in Predicates of query_predicates.
+use Rattle.std.specs.Prelude.{◌<◌, ℕ, zero, suc, Option, Some, None, List, [], ◌∷◌, length, codes}
 use Rattle.query_tokens.specs.declared.token.Token.{Token}
 use Rattle.query_tokens.specs.declared.token.Token.TheVariants as tokens
 use Rattle.query_tokens.specs.declared.token.Word.TheVariants as w
 use Rattle.query_tokens.specs.declared.token.Sign.TheVariants as s
-use Rattle.query_tree.specs.Syntax.{ExpressionForm, PredicateForm, GroupForm, ItemForm, TreeForm, set}
-use Rattle.query_predicates.specs.Predicates.{IsRepeated, IsExpression, IsPredicate}
+use Rattle.query_tree.specs.Syntax.{ExpressionForm, PredicateForm, GroupForm, ItemForm, TreeForm, group_forms}
+use Rattle.query_predicates.specs.Predicates.{Derivation, IsRepeated, IsName, IsExpression, IsPredicate}
 
 -- ---- the query
 
@@ -46,14 +50,35 @@ pub data IsWhere : List Token → Option PredicateForm → List Token → Type 0
   none : {r : List Token} → IsWhere r None r
   filter : {ts r : List Token} {p : PredicateForm} → IsPredicate 65 ts p r → IsWhere (tokens.Word w.Where ∷ ts) (Some p) r
 
--- group: a set of one name
-pub data IsGroup : List Token → GroupForm → List Token → Type 0 where
-  column : {n : List ℕ} {r : List Token} → IsGroup (tokens.Name n ∷ r) (set (n ∷ [])) r
+-- unit: a name, or names in brackets
+pub data IsUnit : List Token → List (List ℕ) → List Token → Type 0 where
+  column : {n : List ℕ} {r : List Token} → IsUnit (tokens.Name n ∷ r) (n ∷ []) r
+  columns : {mid r : List Token} {n : List ℕ} {ns : List (List ℕ)} → IsRepeated (tokens.Sign s.Comma) IsName mid ns (tokens.Sign s.Close ∷ r) → IsUnit (tokens.Sign s.Open ∷ tokens.Name n ∷ mid) (n ∷ ns) r
 
--- [ GROUP BY group { "," group } ]
+-- set: a unit, or brackets round nothing
+pub data IsSet : List Token → List (List ℕ) → List Token → Type 0 where
+  none : {r : List Token} → IsSet (tokens.Sign s.Open ∷ tokens.Sign s.Close ∷ r) [] r
+  unit : {ts r : List Token} {ns : List (List ℕ)} → IsUnit ts ns r → IsSet ts ns r
+
+-- group, where IsInner is what may stand in the brackets of GROUPING SETS
+pub data IsElement (IsInner : Derivation GroupForm) : List Token → GroupForm → List Token → Type 0 where
+  set : {ts r : List Token} {ns : List (List ℕ)} → IsSet ts ns r → IsElement IsInner ts (GroupForm.set ns) r
+  rollup : {ts mid r : List Token} {u : List (List ℕ)} {us : List (List (List ℕ))} → IsUnit ts u mid → IsRepeated (tokens.Sign s.Comma) IsUnit mid us (tokens.Sign s.Close ∷ r)
+      → IsElement IsInner (tokens.Word w.Rollup ∷ tokens.Sign s.Open ∷ ts) (GroupForm.rollup (u ∷ us)) r
+  cube : {ts mid r : List Token} {u : List (List ℕ)} {us : List (List (List ℕ))} → IsUnit ts u mid → IsRepeated (tokens.Sign s.Comma) IsUnit mid us (tokens.Sign s.Close ∷ r)
+      → IsElement IsInner (tokens.Word w.Cube ∷ tokens.Sign s.Open ∷ ts) (GroupForm.cube (u ∷ us)) r
+  sets : {ts mid r : List Token} {g : GroupForm} {gs : List GroupForm} → IsInner ts g mid → IsRepeated (tokens.Sign s.Comma) IsInner mid gs (tokens.Sign s.Close ∷ r)
+      → IsElement IsInner (tokens.Word w.Grouping ∷ tokens.Word w.Sets ∷ tokens.Sign s.Open ∷ ts) (GroupForm.sets (group_forms (g ∷ gs))) r
+
+-- group, with at most n levels of GROUPING SETS in one another
+unfoldable pub IsGroup : ℕ → List Token → GroupForm → List Token → Type 0
+IsGroup zero ts g r = IsElement (λ ts g r. ⊥) ts g r
+IsGroup (suc n) ts g r = IsElement (IsGroup n) ts g r
+
+-- [ GROUP BY group { "," group } ], with at most 16 levels of GROUPING SETS in one another
 pub data IsGroupBy : List Token → List GroupForm → List Token → Type 0 where
   none : {r : List Token} → IsGroupBy r [] r
-  groups : {ts mid r : List Token} {g : GroupForm} {gs : List GroupForm} → IsGroup ts g mid → IsRepeated (tokens.Sign s.Comma) IsGroup mid gs r → IsGroupBy (tokens.Word w.Group ∷ tokens.Word w.By ∷ ts) (g ∷ gs) r
+  groups : {ts mid r : List Token} {g : GroupForm} {gs : List GroupForm} → IsGroup 16 ts g mid → IsRepeated (tokens.Sign s.Comma) (IsGroup 16) mid gs r → IsGroupBy (tokens.Word w.Group ∷ tokens.Word w.By ∷ ts) (g ∷ gs) r
 
 -- query
 pub data IsQuery : List Token → TreeForm → List Token → Type 0 where

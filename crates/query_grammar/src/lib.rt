@@ -4,6 +4,7 @@
 mod groups;
 mod items;
 mod reading;
+mod units;
 
 pub use query_predicates::GrammarFault;
 pub use reading::read_query;

@@ -37,7 +37,7 @@ commas_derive = others_derive (tokens.Sign s.Comma)
 
 -- ---- expressions
 
-name_d : (n : List ℕ) (r : List Token) → GoodName n → IsName (name_onto n r) n r
+pub name_d : (n : List ℕ) (r : List Token) → GoodName n → IsName (name_onto n r) n r
 name_d n r g = IsName.name
 
 aggregate_d : (f : Aggregate) (r : List Token) → IsAggregate (aggregate_onto f r) f r

@@ -29,7 +29,7 @@ repeated_leaves A sep D P leaves (IsRepeated.more {ts} {mid} {x} d tail) h =
 
 -- ---- expressions
 
-name_leaves : Leaves (List ℕ) IsName GoodName
+pub name_leaves : Leaves (List ℕ) IsName GoodName
 name_leaves _ _ _ IsName.name h = h
 
 aggregate_leaves : Leaves Aggregate IsAggregate GoodAggregate
