@@ -10,7 +10,8 @@ use std::alloc::{AllocError, AllocFailed};
 pub enum GrammarFault {
     /// A token does not continue a query: the first of the last so many tokens, or the end where it is 0.
     Unexpected(usize),
-    /// More than 64 items, 8 arguments of GROUPING, 64 literals behind IN, or 64 levels of brackets in a predicate.
+    /// More than 64 items, 8 arguments of GROUPING, 64 literals behind IN, 16 levels of GROUPING SETS,
+    /// or 64 levels of brackets in a predicate.
     OverLimit,
     /// A growth was refused.
     OutOfMemory,
