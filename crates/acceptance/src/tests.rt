@@ -1,4 +1,5 @@
 mod explaining;
+mod grouping;
 mod partials;
 mod plans;
 mod predicates;

@@ -1,8 +1,9 @@
 //! The query language: reading a query, its canonical text, and its plan under a schema.
 //!
 //! This crate is the whole public surface of the language. The crates below it have its parts: the
-//! syntax tree (`query_tree`), the tokens (`query_tokens`), the grammar (`query_grammar`), the
-//! canonical text (`query_print`), typing (`query_check`), and the truth of predicates (`query_truth`).
+//! syntax tree (`query_tree`), the tokens (`query_tokens`), the grammar (`query_predicates` and
+//! `query_grammar`), the canonical text (`query_print`), typing (`query_check`), and the truth of
+//! predicates (`query_truth`).
 #![tactic(auto)]
 
 mod checking;

@@ -8,15 +8,17 @@ use Rattle.query_tokens.specs.declared.token.Sign.TheVariants as s
 use Rattle.query_tokens.proofs.Inversions.{some_is}
 use Rattle.query_tree.specs.declared.tree.Tree.{Tree}
 use Rattle.query_tree.specs.Syntax.{PredicateForm, GroupForm, ItemForm, TreeForm, tree_form}
-use Rattle.query_grammar.specs.declared.fault.GrammarFault.{GrammarFault}
-use Rattle.query_grammar.specs.declared.fault.GrammarFault.TheVariants as faults
-use Rattle.query_grammar.specs.Fronts.{is_word, is_sign, after}
-use Rattle.query_grammar.specs.Steps.{Gives, name_at}
-use Rattle.query_grammar.specs.QuerySteps.{alias_at, item_at, items_at, from_at, where_at, group_at, groups_at, query_at, whole_at}
+use Rattle.query_predicates.specs.declared.fault.GrammarFault.{GrammarFault}
+use Rattle.query_predicates.specs.declared.fault.GrammarFault.TheVariants as faults
+use Rattle.query_predicates.specs.Fronts.{is_word, is_sign, after}
+use Rattle.query_predicates.specs.Steps.{Gives, name_at}
+use Rattle.query_grammar.specs.GroupSteps.{group_at}
+use Rattle.query_grammar.specs.QuerySteps.{alias_at, item_at, items_at, from_at, where_at, groups_at, query_at, whole_at}
 use Rattle.query_grammar.specs.Grammar.{IsItem, IsWhere, IsGroup, IsGroupBy, IsQuery, Derives}
-use Rattle.query_grammar.proofs.CompleteLists.{Shrinks, repeated_follow, repeated_c, unlimited_c}
-use Rattle.query_grammar.proofs.CompleteExpressions.{expression_c}
-use Rattle.query_grammar.proofs.CompletePredicates.{EndsPredicate, group_ends, nil_ends, predicate_c}
+use Rattle.query_predicates.proofs.CompleteLists.{repeated_follow, repeated_c, unlimited_c}
+use Rattle.query_predicates.proofs.CompleteExpressions.{expression_c}
+use Rattle.query_predicates.proofs.CompletePredicates.{EndsPredicate, group_ends, nil_ends, predicate_c}
+use Rattle.query_grammar.proofs.CompleteGroups.{group_short, group_c}
 
 -- No alias goes on an item that ends here.
 abbrev EndsItem : List Token → Type 0
@@ -41,13 +43,6 @@ unfolding where_at
 where_c IsWhere.none q = rw q.no_where refl
 where_c (IsWhere.filter {ts} {r} {p} i) q = rw (predicate_c 65 ts r p i q.predicate) refl
 
-group_c : (ts r : List Token) (g : GroupForm) → IsGroup ts g r → Unit {0} → group_at ts ≡ Some (g, r)
-unfolding group_at name_at
-group_c _ _ _ IsGroup.column q = refl
-
-group_short : Shrinks IsGroup
-group_short _ _ _ IsGroup.column = omega arith
-
 -- Neither GROUP nor a comma goes on a query that ends here, nor anything of WHERE.
 record EndsQuery (r : List Token) : Type 0 where
   ends_where : EndsWhere r
@@ -58,7 +53,7 @@ groups_c : {ts r : List Token} {gs : List GroupForm} → IsGroupBy ts gs r → E
 unfolding groups_at
 groups_c IsGroupBy.none q = rw q.no_group refl
 groups_c (IsGroupBy.groups {ts} {mid} {r} {g} {gs} p b) q =
-    rw (group_c ts mid g p tt, unlimited_c (tokens.Sign s.Comma) (is_sign s.Comma) IsGroup group_at (λ _. Unit {0}) refl (λ _. tt) group_c group_short b tt q.no_comma) refl
+    rw (group_c 16 ts mid g p, unlimited_c (tokens.Sign s.Comma) (is_sign s.Comma) (IsGroup 16) (group_at 16) (λ _. Unit {0}) refl (λ _. tt) (λ us v x j _. group_c 16 us v x j) (group_short 16) b tt q.no_comma) refl
 
 -- WHERE ends where GROUP BY begins, written or not.
 groups_begin : {ts r : List Token} {gs : List GroupForm} → IsGroupBy ts gs r → EndsQuery r → EndsWhere ts

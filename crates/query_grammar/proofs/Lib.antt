@@ -1,12 +1,4 @@
-pub mod Heads
-pub mod More
-pub mod CompleteLists
-pub mod CompleteExpressions
-pub mod CompleteAtoms
-pub mod CompletePredicates
+pub mod CompleteGroups
 pub mod Complete
-pub mod SoundLists
-pub mod SoundExpressions
-pub mod SoundAtoms
-pub mod SoundPredicates
+pub mod SoundGroups
 pub mod Sound

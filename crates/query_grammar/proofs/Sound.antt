@@ -10,18 +10,21 @@ use Rattle.query_tokens.specs.declared.token.Sign.TheVariants as s
 use Rattle.query_tokens.specs.Options.{◌>>=◌, choose}
 use Rattle.query_tokens.proofs.Inversions.{bind_some, choose_some, some_is, test_some}
 use Rattle.query_tree.specs.declared.tree.Tree.{Tree}
-use Rattle.query_tree.specs.Syntax.{ExpressionForm, PredicateForm, GroupForm, ItemForm, TreeForm, set, tree_form}
-use Rattle.query_grammar.specs.declared.fault.GrammarFault.{GrammarFault}
-use Rattle.query_grammar.specs.Fronts.{is_word, is_sign, after}
-use Rattle.query_grammar.specs.Steps.{Gives, with_front, more, name_at}
-use Rattle.query_grammar.specs.ExpressionSteps.{expression_at}
-use Rattle.query_grammar.specs.PredicateSteps.{predicate_at}
-use Rattle.query_grammar.specs.QuerySteps.{alias_at, item_at, items_at, from_at, where_at, group_at, groups_at, query_at, at_end, whole_at}
-use Rattle.query_grammar.specs.Grammar.{IsRepeated, IsExpression, IsItem, IsWhere, IsGroup, IsGroupBy, IsQuery, Derives}
-use Rattle.query_grammar.proofs.Heads.{after_word_is}
-use Rattle.query_grammar.proofs.SoundLists.{IsSound, IsListed, only_some, read_as, begins_as, leaves_as, listed_s}
-use Rattle.query_grammar.proofs.SoundExpressions.{name_is, expression_s}
-use Rattle.query_grammar.proofs.SoundPredicates.{predicate_s}
+use Rattle.query_tree.specs.Syntax.{ExpressionForm, PredicateForm, GroupForm, ItemForm, TreeForm, tree_form}
+use Rattle.query_predicates.specs.declared.fault.GrammarFault.{GrammarFault}
+use Rattle.query_predicates.specs.Fronts.{is_word, is_sign, after}
+use Rattle.query_predicates.specs.Steps.{Gives, with_front, more, name_at}
+use Rattle.query_predicates.specs.ExpressionSteps.{expression_at}
+use Rattle.query_predicates.specs.PredicateSteps.{predicate_at}
+use Rattle.query_grammar.specs.GroupSteps.{all_at, group_at}
+use Rattle.query_grammar.specs.QuerySteps.{alias_at, item_at, items_at, from_at, where_at, groups_at, query_at, at_end, whole_at}
+use Rattle.query_predicates.specs.Predicates.{IsRepeated, IsExpression}
+use Rattle.query_grammar.specs.Grammar.{IsItem, IsWhere, IsGroup, IsGroupBy, IsQuery, Derives}
+use Rattle.query_predicates.proofs.Heads.{after_word_is}
+use Rattle.query_predicates.proofs.SoundLists.{IsSound, IsListed, only_some, read_as, begins_as, leaves_as, listed_s}
+use Rattle.query_predicates.proofs.SoundExpressions.{name_is, expression_s}
+use Rattle.query_predicates.proofs.SoundPredicates.{predicate_s}
+use Rattle.query_grammar.proofs.SoundGroups.{group_s}
 
 -- An item with this expression and this alias.
 item_of : ExpressionForm → Option (List ℕ) → ItemForm
@@ -73,20 +76,14 @@ where_s ts x e =
           read_as IsWhere a.2 (begins_as IsWhere (after_word_is w.Where ts h.0 h.1) made))
     ]
 
-group_s : IsSound IsGroup group_at
-unfolding group_at
-group_s ts x e =
-    let a = bind_some (name_at ts) (λ n. Some (set (n.0 ∷ []), n.1)) x e in
-    read_as IsGroup a.2 (begins_as IsGroup (name_is ts a.0 a.1) IsGroup.column)
-
 groups_s : IsSound IsGroupBy groups_at
 unfolding groups_at
 groups_s ts x e =
-    elim (choose_some (after (is_word w.Group) ts) (Some ([], ts)) (λ a. choose (after (is_word w.By) a) None (λ b. group_at b >>= λ first. with_front (first.0 ∷ []) (more (is_sign s.Comma) group_at (length first.1) first.1))) x e) [
+    elim (choose_some (after (is_word w.Group) ts) (Some ([], ts)) (λ a. choose (after (is_word w.By) a) None (λ b. all_at (group_at 16) b)) x e) [
       | inl h ↦ read_as IsGroupBy h.1 IsGroupBy.none
-      | inr h ↦ (let a = only_some (after (is_word w.By) h.0) (λ b. group_at b >>= λ first. with_front (first.0 ∷ []) (more (is_sign s.Comma) group_at (length first.1) first.1)) x h.2 in
-          let b = bind_some (group_at a.0) (λ first. with_front (first.0 ∷ []) (more (is_sign s.Comma) group_at (length first.1) first.1)) x a.2 in
-          let l = listed_s IsGroup group_at group_s (length b.0.1) a.0 b.0 x b.1 b.2 in
+      | inr h ↦ (let a = only_some (after (is_word w.By) h.0) (λ b. all_at (group_at 16) b) x h.2 in
+          let b = bind_some (group_at 16 a.0) (λ first. with_front (first.0 ∷ []) (more (is_sign s.Comma) (group_at 16) (length first.1) first.1)) x a.2 in
+          let l = listed_s (IsGroup 16) (group_at 16) (group_s 16) (length b.0.1) a.0 b.0 x b.1 b.2 in
           let whole = after_word_is w.Group ts h.0 h.1 ∙ ap (λ (us : List Token). tokens.Word w.Group ∷ us) (after_word_is w.By h.0 a.0 a.1) in
           let made : IsGroupBy (tokens.Word w.Group ∷ tokens.Word w.By ∷ a.0) (l.first ∷ l.others) x.1 = IsGroupBy.groups l.head l.tail in
           subst (λ (gs : List GroupForm). IsGroupBy ts gs x.1) (sym l.all_is) (begins_as IsGroupBy whole made))

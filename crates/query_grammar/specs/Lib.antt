@@ -1,7 +1,3 @@
-pub mod Fronts
 pub mod Grammar
-pub mod Steps
-pub mod ExpressionSteps
-pub mod AtomSteps
-pub mod PredicateSteps
+pub mod GroupSteps
 pub mod QuerySteps

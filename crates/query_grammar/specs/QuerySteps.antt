@@ -1,16 +1,16 @@
--- What the functions of items, groups and whole queries read in front of tokens, one definition for each function,
+-- What the functions of items and whole queries read in front of tokens, one definition for each function,
 -- as it computes it. No public contract rests on this file: what tokens derive is said in Grammar.
-use Rattle.std.specs.Prelude.{ℕ, List, [], ◌∷◌, length, Option, Some, None, cond, codes}
+use Rattle.std.specs.Prelude.{ℕ, List, [], ◌∷◌, Option, Some, None, cond, codes}
 use Rattle.std.specs.Str.{bytes_eq}
 use Rattle.query_tokens.specs.declared.token.Token.{Token}
 use Rattle.query_tokens.specs.declared.token.Word.TheVariants as w
-use Rattle.query_tokens.specs.declared.token.Sign.TheVariants as s
 use Rattle.query_tokens.specs.Options.{◌>>=◌, choose}
-use Rattle.query_tree.specs.Syntax.{PredicateForm, GroupForm, ItemForm, TreeForm, set}
-use Rattle.query_grammar.specs.Fronts.{is_word, is_sign, after}
-use Rattle.query_grammar.specs.Steps.{Reader, with_front, more, listed_at, name_at}
-use Rattle.query_grammar.specs.ExpressionSteps.{expression_at}
-use Rattle.query_grammar.specs.PredicateSteps.{predicate_at}
+use Rattle.query_tree.specs.Syntax.{PredicateForm, GroupForm, ItemForm, TreeForm}
+use Rattle.query_predicates.specs.Fronts.{is_word, after}
+use Rattle.query_predicates.specs.Steps.{Reader, listed_at, name_at}
+use Rattle.query_predicates.specs.ExpressionSteps.{expression_at}
+use Rattle.query_predicates.specs.PredicateSteps.{predicate_at}
+use Rattle.query_grammar.specs.GroupSteps.{all_at, group_at}
 
 -- An alias, or none.
 unfoldable pub alias_at : Reader (Option (List ℕ))
@@ -32,13 +32,9 @@ from_at ts = choose (after (is_word w.From) ts) None (λ a. name_at a >>= λ n. 
 unfoldable pub where_at : Reader (Option PredicateForm)
 where_at ts = choose (after (is_word w.Where) ts) (Some (None, ts)) (λ a. predicate_at 65 a >>= λ p. Some (Some p.0, p.1))
 
--- An element of GROUP BY.
-unfoldable pub group_at : Reader GroupForm
-group_at ts = name_at ts >>= λ n. Some (set (n.0 ∷ []), n.1)
-
 -- The elements of GROUP BY, or none.
 unfoldable pub groups_at : Reader (List GroupForm)
-groups_at ts = choose (after (is_word w.Group) ts) (Some ([], ts)) (λ a. choose (after (is_word w.By) a) None (λ b. group_at b >>= λ first. with_front (first.0 ∷ []) (more (is_sign s.Comma) group_at (length first.1) first.1)))
+groups_at ts = choose (after (is_word w.Group) ts) (Some ([], ts)) (λ a. choose (after (is_word w.By) a) None (λ b. all_at (group_at 16) b))
 
 -- A query.
 unfoldable pub query_at : Reader TreeForm

@@ -3,42 +3,81 @@
 ghost use Rattle.std.specs.Prelude.{◌≡◌, ◌<◌, ◌≤◌, ◌∷◌, [], length, map, IfOk};
 ghost use Rattle.query_tokens.specs.declared.token.Sign.TheVariants.{Comma};
 ghost use Rattle.query_tree.specs.Syntax.{group_form};
-ghost use Rattle.query_grammar.specs.Fronts.{is_sign};
-ghost use Rattle.query_grammar.specs.Steps.{Gives, with_front, more};
-ghost use Rattle.query_grammar.specs.QuerySteps.{group_at, groups_at};
+ghost use Rattle.query_predicates.specs.Fronts.{is_sign};
+ghost use Rattle.query_predicates.specs.Steps.{Gives, with_front, more};
+ghost use Rattle.query_grammar.specs.GroupSteps.{sets_at, group_at};
+ghost use Rattle.query_grammar.specs.QuerySteps.{groups_at};
 
-use crate::fault::GrammarFault;
-use crate::fronts::{after_sign, after_word, expect_name, expect_word};
+use crate::units::{set, units};
+use query_predicates::{GrammarFault, after_sign, after_word, expect_sign, expect_word};
 use query_tokens::{Sign, Token, Word};
 use query_tree::Group;
 use std::alloc::Global;
 
-/// An element of GROUP BY.
-#[tactic(auto, unfolding(crate::specs::QuerySteps::group_at))]
-fn group(alloc: Global, tokens: &[Token]) -> Result<(Group, &[Token]), GrammarFault>
-    ensures exact { Gives (λ x. (group_form x.0, x.1.now)) result (group_at tokens.now) }
+/// The most levels of GROUPING SETS in one another.
+const MOST_LEVELS: u32 = 16;
+
+/// An element of GROUP BY, with at most so many levels of GROUPING SETS in one another.
+#[cycle(group)]
+#[tactic(auto, unfolding(crate::specs::GroupSteps::element_at))]
+fn group(alloc: Global, tokens: &[Token], levels: u32) -> Result<(Group, &[Token]), GrammarFault>
+    ensures exact { Gives (λ x. (group_form x.0, x.1.now)) result (group_at levels tokens.now) }
     ensures shorter { IfOk result (λ x. length x.1.now < length tokens.now) }
 {
-    let (name, rest) = expect_name(tokens)?;
-    let mut names = Vec::new(alloc);
-    names.push(name.try_clone()?)?;
+    if let Some(rest) = after_word(tokens, Word::Rollup) {
+        let (units, rest) = units(alloc, rest)?;
+        return Ok((Group::Rollup(units), rest));
+    }
+    if let Some(rest) = after_word(tokens, Word::Cube) {
+        let (units, rest) = units(alloc, rest)?;
+        return Ok((Group::Cube(units), rest));
+    }
+    if let Some(rest) = after_word(tokens, Word::Grouping) {
+        return grouping_sets(alloc, rest, levels);
+    }
+    let (names, rest) = set(alloc, tokens)?;
     Ok((Group::Set(names), rest))
 }
 
+/// What stands behind GROUPING: SETS and its bracketed elements, with at most so many levels of
+/// GROUPING SETS in all.
+#[cycle(group)]
+#[tactic(auto, unfolding(crate::specs::GroupSteps::sets_at))]
+fn grouping_sets(
+    alloc: Global,
+    tokens: &[Token],
+    levels: u32,
+) -> Result<(Group, &[Token]), GrammarFault>
+    ensures exact { Gives (λ x. (group_form x.0, x.1.now)) result (sets_at levels tokens.now) }
+    ensures shorter { IfOk result (λ x. length x.1.now < length tokens.now) }
+{
+    if levels == 0 {
+        return Err(GrammarFault::OverLimit);
+    }
+    let rest = expect_word(tokens, Word::Sets)?;
+    let rest = expect_sign(rest, Sign::Open)?;
+    let (first, rest) = group(alloc, rest, levels - 1)?;
+    let (all, rest) = more_groups(alloc, first, rest, levels - 1)?;
+    let rest = expect_sign(rest, Sign::Close)?;
+    Ok((Group::Sets(all), rest))
+}
+
 /// The first element and those behind it, each behind its comma.
+#[cycle(group)]
 fn more_groups(
     alloc: Global,
     first: Group,
     tokens: &[Token],
+    levels: u32,
 ) -> Result<(Vec<Group>, &[Token]), GrammarFault>
-    ensures exact { Gives (λ x. (map group_form x.0.items, x.1.now)) result (with_front (group_form first ∷ []) (more (is_sign Comma) group_at (length tokens.now) tokens.now)) }
+    ensures exact { Gives (λ x. (map group_form x.0.items, x.1.now)) result (with_front (group_form first ∷ []) (more (is_sign Comma) (group_at levels) (length tokens.now) tokens.now)) }
     ensures shorter { IfOk result (λ x. length x.1.now ≤ length tokens.now) }
 {
     let mut all = Vec::new(alloc);
     all.push(first)?;
     let mut rest = tokens;
     while let Some(behind) = after_sign(rest, Sign::Comma) {
-        let (next, left) = group(alloc, behind)?;
+        let (next, left) = group(alloc, behind, levels)?;
         all.push(next)?;
         rest = left;
     }
@@ -55,6 +94,6 @@ pub fn groups(alloc: Global, tokens: &[Token]) -> Result<(Vec<Group>, &[Token]),
         return Ok((Vec::new(alloc), tokens));
     };
     let rest = expect_word(rest, Word::By)?;
-    let (first, rest) = group(alloc, rest)?;
-    more_groups(alloc, first, rest)
+    let (first, rest) = group(alloc, rest, MOST_LEVELS)?;
+    more_groups(alloc, first, rest, MOST_LEVELS)
 }

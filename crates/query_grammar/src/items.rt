@@ -3,13 +3,11 @@
 ghost use Rattle.std.specs.Prelude.{◌≡◌, ◌<◌, ◌≤◌, ◌∷◌, [], length, map, IfOk};
 ghost use Rattle.query_tokens.specs.declared.token.Sign.TheVariants.{Comma};
 ghost use Rattle.query_tree.specs.Syntax.{item_form};
-ghost use Rattle.query_grammar.specs.Fronts.{is_sign};
-ghost use Rattle.query_grammar.specs.Steps.{Gives, IsRefusal, with_front, more};
+ghost use Rattle.query_predicates.specs.Fronts.{is_sign};
+ghost use Rattle.query_predicates.specs.Steps.{Gives, IsRefusal, with_front, more};
 ghost use Rattle.query_grammar.specs.QuerySteps.{alias_at, item_at, items_at};
 
-use crate::expressions::expression;
-use crate::fault::GrammarFault;
-use crate::fronts::{after_sign, after_word, expect_name};
+use query_predicates::{GrammarFault, after_sign, after_word, expect_name, expression};
 use query_tokens::{Sign, Token, Word};
 use query_tree::{Item, Text};
 use std::alloc::Global;

@@ -3,16 +3,16 @@
 ghost use Rattle.std.specs.Prelude.{◌≡◌, ◌<◌, ◌≤◌, length, IfOk, MatchResult};
 ghost use Rattle.std.specs.Option.{option_map};
 ghost use Rattle.query_tree.specs.Syntax.{TreeForm, tree_form, predicate_form};
-ghost use Rattle.query_grammar.specs.declared.fault.GrammarFault.TheVariants.{OutOfMemory};
+ghost use Rattle.query_predicates.specs.declared.fault.GrammarFault.TheVariants.{OutOfMemory};
 ghost use Rattle.query_grammar.specs.Grammar.{Derives};
-ghost use Rattle.query_grammar.specs.Steps.{Gives};
+ghost use Rattle.query_predicates.specs.Steps.{Gives};
 ghost use Rattle.query_grammar.specs.QuerySteps.{from_at, where_at, query_at, whole_at};
 
-use crate::fault::GrammarFault;
-use crate::fronts::{after_word, expect_name, expect_word, unexpected};
 use crate::groups::groups;
 use crate::items::items;
-use crate::predicates::{MOST_LEVELS, predicate};
+use query_predicates::{
+    GrammarFault, MOST_LEVELS, after_word, expect_name, expect_word, predicate, unexpected,
+};
 use query_tokens::{Token, Word};
 use query_tree::{Predicate, Tree};
 use std::alloc::Global;

@@ -1,11 +1,12 @@
 -- The tokens of a good query derive it.
 use Rattle.std.proofs.Common.{ℕ, List, [], ◌∷◌, Option, Some, None}
 use Rattle.query_tokens.specs.declared.token.Token.{Token}
-use Rattle.query_tree.specs.Syntax.{ExpressionForm, PredicateForm, GroupForm, ItemForm, KeyForm, TreeForm, set, rollup, cube, sets}
+use Rattle.query_tree.specs.Syntax.{ExpressionForm, PredicateForm, GroupForm, ItemForm, KeyForm, TreeForm}
 use Rattle.query_grammar.specs.Grammar.{IsItem, IsWhere, IsGroup, IsGroupBy, IsQuery}
-use Rattle.query_round.proofs.Good.{Each, Within, GoodExpression, Good, GoodItem, GoodSet, GoodGroup, GoodTree}
-use Rattle.query_round.proofs.Onto.{expression_onto, alias_onto, item_onto, set_onto, group_onto, where_onto, group_by_onto, query_onto}
+use Rattle.query_round.proofs.Good.{Each, Within, GoodExpression, Good, GoodItem, GoodElement, GoodTree}
+use Rattle.query_round.proofs.Onto.{expression_onto, alias_onto, item_onto, group_onto, where_onto, group_by_onto, query_onto}
 use Rattle.query_round.proofs.DerivePredicates.{commas_derive, expression_d, predicate_d}
+use Rattle.query_round.proofs.DeriveGroups.{group_d}
 
 aliased_d : (e : ExpressionForm) (n : Option (List ℕ)) (r : List Token) → GoodExpression e
     → IsItem (expression_onto e (alias_onto n r)) record { expression = e; alias = n } r
@@ -19,20 +20,9 @@ where_d : (p : Option PredicateForm) (r : List Token) → Within (λ p. Good p 6
 where_d None r g = IsWhere.none
 where_d (Some p) r g = IsWhere.filter (predicate_d p 64 r g)
 
-set_d : (ns : List (List ℕ)) (r : List Token) → GoodSet ns → IsGroup (set_onto ns r) (set ns) r
-set_d [] r g = absurd g
-set_d (n ∷ []) r g = IsGroup.column
-set_d (n ∷ m ∷ ns) r g = absurd g
-
-group_d : (x : GroupForm) (r : List Token) → GoodGroup x → IsGroup (group_onto x r) x r
-group_d (set ns) r g = set_d ns r g
-group_d (rollup us) r g = absurd g
-group_d (cube us) r g = absurd g
-group_d (sets gs) r g = absurd g
-
-group_by_d : (gs : List GroupForm) (r : List Token) → Each GoodGroup gs → IsGroupBy (group_by_onto gs r) gs r
+group_by_d : (gs : List GroupForm) (r : List Token) → Each GoodElement gs → IsGroupBy (group_by_onto gs r) gs r
 group_by_d [] r g = IsGroupBy.none
-group_by_d (x ∷ gs) r g = IsGroupBy.groups (group_d x _ g.0) (commas_derive IsGroup group_onto GoodGroup group_d gs r g.1)
+group_by_d (x ∷ gs) r g = IsGroupBy.groups (group_d x 16 _ g.0) (commas_derive (IsGroup 16) group_onto GoodElement (λ y. group_d y 16) gs r g.1)
 
 abbrev tree : List ItemForm → Option PredicateForm → List GroupForm → Option PredicateForm → List KeyForm → TreeForm
 tree is p gs h ks = record { items = is; filter = p; groups = gs; having = h; keys = ks }

@@ -1,4 +1,4 @@
--- Names, expressions, literals, items and groups spell their tokens.
+-- Names, expressions, literals and items spell their tokens.
 use Rattle.std.proofs.Common.{arith, ◌≡◌, ℕ, Bool, true, false, cond, List, [], ◌∷◌, ◌++◌, map, Option, Some, None, refl}
 use Rattle.std.specs.Prelude.{codes, is_none}
 use Rattle.query_tokens.specs.declared.token.Token.TheVariants as tokens
@@ -12,12 +12,12 @@ use Rattle.query_tree.specs.declared.predicate.Literal.{Literal}
 use Rattle.query_tree.specs.declared.predicate.Literal.TheVariants as literals
 use Rattle.query_tree.specs.declared.expression.Aggregate.{Aggregate}
 use Rattle.query_tree.specs.declared.expression.Aggregate.TheVariants as aggregates
-use Rattle.query_tree.specs.Syntax.{ExpressionForm, FunctionForm, OperandForm, GroupForm, ItemForm, name, grouping, function, over_all, over_filtered, set, rollup, cube, sets, group_forms}
-use Rattle.query_print.specs.Canonical.{comma_list, aggregate_text, literal_text, expression_text, function_text, operand_text, alias_text, item_text, unit_text, group_text, group_texts}
-use Rattle.query_round.proofs.Good.{Each, Filled, Within, GoodName, GoodAggregate, GoodFunction, GoodExpression, GoodLiteral, GoodOperand, GoodItem, GoodSet, GoodGroup}
-use Rattle.query_round.proofs.Onto.{Onto, commas_onto, name_onto, argument_onto, aggregate_onto, function_onto, expression_onto, literal_onto, operand_onto, alias_onto, item_onto, set_onto, group_onto}
+use Rattle.query_tree.specs.Syntax.{ExpressionForm, FunctionForm, OperandForm, ItemForm, name, grouping, function, over_all, over_filtered}
+use Rattle.query_print.specs.Canonical.{comma_list, aggregate_text, literal_text, expression_text, function_text, operand_text, alias_text, item_text}
+use Rattle.query_round.proofs.Good.{Filled, Within, GoodName, GoodAggregate, GoodFunction, GoodExpression, GoodLiteral, GoodOperand, GoodItem}
+use Rattle.query_round.proofs.Onto.{Onto, commas_onto, name_onto, argument_onto, aggregate_onto, function_onto, expression_onto, literal_onto, operand_onto, alias_onto, item_onto}
 use Rattle.query_round.proofs.Spelled.{no_word, no_name_quote, no_text_quote, spelled_token, spelled_integer, spelled_star}
-use Rattle.query_round.proofs.Goes.{Free, Goes, Begins, AllGo, free_free, free_goes, goes_free, goes_goes, goes_of, begins_of, nothing_goes, nothing_begins, word_onto, word_goes, word_free, spaced_free, space_breaks, open_free, open_breaks, close_free, close_breaks, commas_go, each_goes}
+use Rattle.query_round.proofs.Goes.{Free, Goes, Begins, free_free, free_goes, goes_free, goes_goes, goes_of, begins_of, nothing_goes, nothing_begins, word_onto, word_goes, word_free, spaced_free, space_breaks, open_free, open_breaks, close_free, close_breaks, commas_go, each_goes}
 
 -- ---- names and literals
 
@@ -107,20 +107,3 @@ alias_begins (Some n) = begins_of (space_breaks _)
 
 pub item_goes : (i : ItemForm) → GoodItem i → Goes (item_text i) (item_onto i)
 item_goes i g = goes_goes (expression_goes i.expression g.0) (alias_begins i.alias) (alias_goes i.alias g.1)
-
--- ---- groups
-
-set_goes : (ns : List (List ℕ)) → GoodSet ns → Goes (unit_text ns) (set_onto ns)
-set_goes [] g = absurd g
-set_goes (n ∷ []) g = name_goes n g
-set_goes (n ∷ m ∷ ns) g = absurd g
-
-group_goes : (x : GroupForm) → GoodGroup x → Goes (group_text x) (group_onto x)
-group_goes (set ns) g = set_goes ns g
-group_goes (rollup us) g = absurd g
-group_goes (cube us) g = absurd g
-group_goes (sets gs) g = absurd g
-
-pub groups_go : (gs : List GroupForm) → Each GoodGroup gs → AllGo (group_texts (group_forms gs)) (map group_onto gs)
-groups_go [] g = tt
-groups_go (x ∷ gs) g = (group_goes x g.0, groups_go gs g.1)

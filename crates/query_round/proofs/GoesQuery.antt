@@ -5,12 +5,13 @@ use Rattle.query_tokens.specs.declared.token.Token.TheVariants as tokens
 use Rattle.query_tokens.specs.declared.token.Word.TheVariants as w
 use Rattle.query_tree.specs.Syntax.{PredicateForm, GroupForm, KeyForm, TreeForm, group_forms}
 use Rattle.query_print.specs.Canonical.{comma_list, item_text, group_texts, key_text, predicate_clause, list_clause, canonical_text}
-use Rattle.query_round.proofs.Good.{Each, Within, Absent, Empty, Good, GoodItem, GoodGroup, GoodTree}
+use Rattle.query_round.proofs.Good.{Each, Within, Absent, Empty, Good, GoodItem, GoodElement, GoodTree}
 use Rattle.query_round.proofs.Onto.{Onto, commas_onto, item_onto, group_onto, from_onto, where_onto, group_by_onto, query_onto}
 use Rattle.query_round.proofs.Spelled.{spelled_lines}
 use Rattle.query_round.proofs.Goes.{Free, Goes, Begins, free_free, free_goes, goes_goes, begins_of, nothing_goes, nothing_begins, word_free, spaced_free, space_breaks, commas_go}
-use Rattle.query_round.proofs.GoesExpressions.{item_goes, groups_go, filled_go}
+use Rattle.query_round.proofs.GoesExpressions.{item_goes, filled_go}
 use Rattle.query_round.proofs.GoesPredicates.{predicate_goes}
+use Rattle.query_round.proofs.GoesGroups.{groups_go}
 
 lines_goes : Goes (codes "lines") (λ ks. tokens.Name (codes "lines") ∷ ks)
 lines_goes = record { goes = λ rest ks q h. spelled_lines q h }
@@ -34,7 +35,7 @@ where_begins (Some p) = begins_of (space_breaks _)
 group_by_free : Free (codes " GROUP BY ") (λ ks. tokens.Word w.Group ∷ tokens.Word w.By ∷ ks)
 group_by_free = free_free (spaced_free (word_free w.Group)) (word_free w.By)
 
-group_by_goes : (gs : List GroupForm) → Each GoodGroup gs → Goes (list_clause (codes " GROUP BY ") (group_texts (group_forms gs))) (group_by_onto gs)
+group_by_goes : (gs : List GroupForm) → Each GoodElement gs → Goes (list_clause (codes " GROUP BY ") (group_texts (group_forms gs))) (group_by_onto gs)
 group_by_goes [] g = nothing_goes
 group_by_goes (x ∷ gs) g = free_goes group_by_free (commas_go (group_texts (group_forms (x ∷ gs))) (map group_onto (x ∷ gs)) (groups_go (x ∷ gs) g))
 

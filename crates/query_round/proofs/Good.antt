@@ -6,7 +6,7 @@ use Rattle.query_tree.specs.declared.predicate.Literal.{Literal}
 use Rattle.query_tree.specs.declared.predicate.Literal.TheVariants as literals
 use Rattle.query_tree.specs.declared.expression.Aggregate.{Aggregate}
 use Rattle.query_tree.specs.declared.expression.Aggregate.TheVariants as aggregates
-use Rattle.query_tree.specs.Syntax.{ExpressionForm, FunctionForm, OperandForm, PredicateForm, PredicateForms, GroupForm, ItemForm, TreeForm, name, grouping, function, over_all, over_filtered, or_of, and_of, not_of, truth_test, compare, between, member, null_test, column, no_parts, part, set, rollup, cube, sets}
+use Rattle.query_tree.specs.Syntax.{ExpressionForm, FunctionForm, OperandForm, PredicateForm, PredicateForms, GroupForm, GroupForms, ItemForm, TreeForm, name, grouping, function, over_all, over_filtered, or_of, and_of, not_of, truth_test, compare, between, member, null_test, column, no_parts, part, set, rollup, cube, sets, no_groups, group}
 use Rattle.query_print.specs.Canonical.{tightness}
 
 -- ---- lists
@@ -15,6 +15,11 @@ use Rattle.query_print.specs.Canonical.{tightness}
 abbrev pub Each : {A : Type 0} → (A → Type 0) → List A → Type 0
 Each P [] = Unit {0}
 Each P (x ∷ xs) = P x × Each P xs
+
+-- Each of a list has the property, and the list has one element at least.
+abbrev pub Inhabited : {A : Type 0} → (A → Type 0) → List A → Type 0
+Inhabited P [] = ⊥
+Inhabited P (x ∷ xs) = P x × Each P xs
 
 -- Each of a list has the property, and the list has one element at least and this many at most.
 abbrev pub Filled : {A : Type 0} → ℕ → (A → Type 0) → List A → Type 0
@@ -113,21 +118,37 @@ abbrev mutual
 abbrev pub GoodItem : ItemForm → Type 0
 GoodItem i = GoodExpression i.expression × Within GoodName i.alias
 
--- The grammar has groups of one name only.
-abbrev pub GoodSet : List (List ℕ) → Type 0
-GoodSet [] = ⊥
-GoodSet (n ∷ []) = GoodName n
-GoodSet (n ∷ m ∷ ns) = ⊥
+-- A unit has one column at least, a set may have none.
+abbrev pub GoodUnit : List (List ℕ) → Type 0
+GoodUnit = Inhabited GoodName
 
-abbrev pub GoodGroup : GroupForm → Type 0
-GoodGroup (set ns) = GoodSet ns
-GoodGroup (rollup us) = ⊥
-GoodGroup (cube us) = ⊥
-GoodGroup (sets gs) = ⊥
+abbrev pub GoodSet : List (List ℕ) → Type 0
+GoodSet = Each GoodName
+
+-- GROUPING SETS have one element at least.
+abbrev pub IsFilled : GroupForms → Type 0
+IsFilled no_groups = ⊥
+IsFilled (group x gs) = Unit {0}
+
+-- The group has at most n levels of GROUPING SETS.
+abbrev mutual
+  pub GoodGroup : GroupForm → ℕ → Type 0
+  GoodGroup (set ns) n = GoodSet ns
+  GoodGroup (rollup us) n = Inhabited GoodUnit us
+  GoodGroup (cube us) n = Inhabited GoodUnit us
+  GoodGroup (sets gs) n = IsFilled gs × Deeper (GoodGroups gs) n
+
+  pub GoodGroups : GroupForms → ℕ → Type 0
+  GoodGroups no_groups n = Unit {0}
+  GoodGroups (group x gs) n = GoodGroup x n × GoodGroups gs n
+
+-- An element of GROUP BY.
+abbrev pub GoodElement : GroupForm → Type 0
+GoodElement x = GoodGroup x 16
 
 -- The grammar has no HAVING and no ORDER BY.
 abbrev pub GoodTree : TreeForm → Type 0
-GoodTree q = Filled 64 GoodItem q.items × Within (λ p. Good p 64) q.filter × Each GoodGroup q.groups × Absent q.having × Empty q.keys
+GoodTree q = Filled 64 GoodItem q.items × Within (λ p. Good p 64) q.filter × Each GoodElement q.groups × Absent q.having × Empty q.keys
 
 -- ---- more levels of brackets do no harm
 

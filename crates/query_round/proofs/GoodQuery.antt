@@ -5,8 +5,9 @@ use Rattle.query_tokens.specs.declared.token.Word.TheVariants as w
 use Rattle.query_tokens.specs.declared.token.Sign.TheVariants as s
 use Rattle.query_tree.specs.Syntax.{PredicateForm, GroupForm, ItemForm, TreeForm}
 use Rattle.query_grammar.specs.Grammar.{IsItem, IsWhere, IsGroup, IsGroupBy, IsQuery}
-use Rattle.query_round.proofs.Good.{Each, Within, Good, GoodItem, GoodGroup, GoodTree}
+use Rattle.query_round.proofs.Good.{Each, Within, Good, GoodItem, GoodElement, GoodTree}
 use Rattle.query_round.proofs.GoodPredicates.{Leaves, repeated_leaves, expression_leaves, predicate_leaves}
+use Rattle.query_round.proofs.GoodGroups.{group_leaves}
 
 item_leaves : Leaves ItemForm IsItem GoodItem
 item_leaves ts r _ (IsItem.plain {e} d) h = let g = expression_leaves ts r e d h in ((g.0, tt), g.1)
@@ -16,14 +17,11 @@ where_leaves : Leaves (Option PredicateForm) IsWhere (Within (λ p. Good p 64))
 where_leaves _ _ _ IsWhere.none h = (tt, h)
 where_leaves _ r _ (IsWhere.filter {ts} {p} d) h = predicate_leaves 65 ts r p d h.1
 
-group_leaves : Leaves GroupForm IsGroup GoodGroup
-group_leaves _ _ _ IsGroup.column h = h
-
-group_by_leaves : Leaves (List GroupForm) IsGroupBy (Each GoodGroup)
+group_by_leaves : Leaves (List GroupForm) IsGroupBy (Each GoodElement)
 group_by_leaves _ _ _ IsGroupBy.none h = (tt, h)
 group_by_leaves _ _ _ (IsGroupBy.groups {ts} {mid} {g = x} d tail) h =
-    let first = group_leaves ts mid x d h.1.1 in
-    let others = repeated_leaves GroupForm (tokens.Sign s.Comma) IsGroup GoodGroup group_leaves tail first.1 in
+    let first = group_leaves 16 ts mid x d h.1.1 in
+    let others = repeated_leaves GroupForm (tokens.Sign s.Comma) (IsGroup 16) GoodElement (group_leaves 16) tail first.1 in
     ((first.0, others.0), others.1)
 
 -- A query that sane tokens derive is good.

@@ -7,13 +7,16 @@ mod Spelled
 mod Goes
 mod GoesExpressions
 mod GoesPredicates
+mod GoesGroups
 mod GoesQuery
 -- These tokens derive the query.
 mod DerivePredicates
+mod DeriveGroups
 mod DeriveQuery
 -- What a text spells and derives is such a query.
 mod Sane
 mod GoodPredicates
+mod GoodGroups
 mod GoodQuery
 -- The whole.
 pub mod Again

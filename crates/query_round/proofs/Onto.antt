@@ -15,7 +15,7 @@ use Rattle.query_tree.specs.declared.predicate.Literal.{Literal}
 use Rattle.query_tree.specs.declared.predicate.Literal.TheVariants as literals
 use Rattle.query_tree.specs.declared.expression.Aggregate.{Aggregate}
 use Rattle.query_tree.specs.declared.expression.Aggregate.TheVariants as aggregates
-use Rattle.query_tree.specs.Syntax.{ExpressionForm, FunctionForm, OperandForm, PredicateForm, PredicateForms, GroupForm, ItemForm, TreeForm, name, grouping, function, over_all, over_filtered, or_of, and_of, not_of, truth_test, compare, between, member, null_test, column, no_parts, part, set, rollup, cube, sets}
+use Rattle.query_tree.specs.Syntax.{ExpressionForm, FunctionForm, OperandForm, PredicateForm, PredicateForms, GroupForm, GroupForms, ItemForm, TreeForm, name, grouping, function, over_all, over_filtered, or_of, and_of, not_of, truth_test, compare, between, member, null_test, column, no_parts, part, set, rollup, cube, sets, no_groups, group}
 use Rattle.query_print.specs.Canonical.{tightness}
 
 -- Tokens in front of others.
@@ -125,15 +125,26 @@ alias_onto (Some n) r = tokens.Word w.As ∷ tokens.Name n ∷ r
 abbrev pub item_onto : ItemForm → Onto
 item_onto i r = expression_onto i.expression (alias_onto i.alias r)
 
-abbrev pub set_onto : List (List ℕ) → Onto
-set_onto [] r = r
-set_onto (n ∷ ns) r = tokens.Name n ∷ r
+-- A set or a unit.
+abbrev pub unit_onto : List (List ℕ) → Onto
+unit_onto [] = brackets_onto (λ r. r)
+unit_onto (n ∷ []) = name_onto n
+unit_onto (n ∷ m ∷ ns) = brackets_onto (commas_onto (map name_onto (n ∷ m ∷ ns)))
 
-abbrev pub group_onto : GroupForm → Onto
-group_onto (set ns) = set_onto ns
-group_onto (rollup us) = λ r. r
-group_onto (cube us) = λ r. r
-group_onto (sets gs) = λ r. r
+-- Bracketed units.
+abbrev pub units_onto : List (List (List ℕ)) → Onto
+units_onto us = brackets_onto (commas_onto (map unit_onto us))
+
+abbrev mutual
+  pub group_onto : GroupForm → Onto
+  group_onto (set ns) = unit_onto ns
+  group_onto (rollup us) = λ r. tokens.Word w.Rollup ∷ units_onto us r
+  group_onto (cube us) = λ r. tokens.Word w.Cube ∷ units_onto us r
+  group_onto (sets gs) = λ r. tokens.Word w.Grouping ∷ tokens.Word w.Sets ∷ brackets_onto (commas_onto (group_ontos gs)) r
+
+  pub group_ontos : GroupForms → List Onto
+  group_ontos no_groups = []
+  group_ontos (group x gs) = group_onto x ∷ group_ontos gs
 
 abbrev pub from_onto : Onto
 from_onto r = tokens.Word w.From ∷ tokens.Name (codes "lines") ∷ r

@@ -4,9 +4,9 @@ use Rattle.std.proofs.Math.IntN.{pos, negsuc}
 use Rattle.std.proofs.Math.Bridge.{le_prop}
 use Rattle.query_tree.specs.declared.predicate.Literal.TheVariants as literals
 use Rattle.query_tree.specs.declared.expression.Aggregate.TheVariants as aggregates
-use Rattle.query_tree.specs.Syntax.{OperandForm, PredicateForm, PredicateForms, name, grouping, function, over_all, over_filtered, or_of, and_of, not_of, truth_test, compare, between, member, null_test, column, no_parts, part, set, rollup, cube, sets}
+use Rattle.query_tree.specs.Syntax.{OperandForm, PredicateForm, PredicateForms, GroupForm, GroupForms, name, grouping, function, over_all, over_filtered, or_of, and_of, not_of, truth_test, compare, between, member, null_test, column, no_parts, part, set, rollup, cube, sets, no_groups, group}
 use Rattle.query_print.specs.Canonical.{tightness}
-use Rattle.query_round.proofs.Good.{Each, Filled, Within, Absent, Empty, GoodName, GoodAggregate, GoodFunction, GoodExpression, InRange, GoodLiteral, GoodOperand, IsMany, Deeper, Fits, Good, PartsFit, GoodItem, GoodSet, GoodGroup, GoodTree}
+use Rattle.query_round.proofs.Good.{Each, Inhabited, Filled, Within, Absent, Empty, GoodName, GoodAggregate, GoodFunction, GoodExpression, InRange, GoodLiteral, GoodOperand, IsMany, Deeper, Fits, Good, PartsFit, GoodItem, GoodUnit, IsFilled, GoodGroup, GoodGroups, GoodElement, GoodTree}
 
 le_one : (a b : ℕ) → IsProp (a ≤ b)
 le_one a b = le_prop
@@ -40,6 +40,10 @@ AllOne {A} P = (x : A) → IsProp (P x)
 each_one : {A : Type 0} (P : A → Type 0) → AllOne P → AllOne (Each P)
 each_one P one [] = unit_one
 each_one P one (x ∷ xs) = both_one (one x) (each_one P one xs)
+
+inhabited_one : {A : Type 0} (P : A → Type 0) → AllOne P → AllOne (Inhabited P)
+inhabited_one P one [] = none_one
+inhabited_one P one (x ∷ xs) = both_one (one x) (each_one P one xs)
 
 filled_one : {A : Type 0} (most : ℕ) (P : A → Type 0) → AllOne P → AllOne (Filled most P)
 filled_one most P one [] = none_one
@@ -131,23 +135,30 @@ mutual
 item_one : AllOne GoodItem
 item_one i = both_one (expression_one i.expression) (within_one GoodName name_one i.alias)
 
-set_one : AllOne GoodSet
-set_one [] = none_one
-set_one (n ∷ []) = name_one n
-set_one (n ∷ m ∷ ns) = none_one
+unit_list_one : AllOne (Inhabited GoodUnit)
+unit_list_one = inhabited_one GoodUnit (inhabited_one GoodName name_one)
 
-group_one : AllOne GoodGroup
-group_one (set ns) = set_one ns
-group_one (rollup us) = none_one
-group_one (cube us) = none_one
-group_one (sets gs) = none_one
+is_filled_one : AllOne IsFilled
+is_filled_one no_groups = none_one
+is_filled_one (group x gs) = unit_one
+
+mutual
+  group_one : (x : GroupForm) (n : ℕ) → IsProp (GoodGroup x n)
+  group_one (set ns) n = each_one GoodName name_one ns
+  group_one (rollup us) n = unit_list_one us
+  group_one (cube us) n = unit_list_one us
+  group_one (sets gs) n = both_one (is_filled_one gs) (deeper_one (GoodGroups gs) (groups_one gs) n)
+
+  groups_one : (gs : GroupForms) (n : ℕ) → IsProp (GoodGroups gs n)
+  groups_one no_groups n = unit_one
+  groups_one (group x gs) n = both_one (group_one x n) (groups_one gs n)
 
 -- A query is good in one way at most.
 pub tree_one : AllOne GoodTree
 tree_one q =
     let items = filled_one 64 GoodItem item_one q.items in
     let filter = within_one (λ p. Good p 64) (λ p. good_one p 64) q.filter in
-    let groups = each_one GoodGroup group_one q.groups in
+    let groups = each_one GoodElement (λ x. group_one x 16) q.groups in
     let having = absent_one q.having in
     let keys = empty_one q.keys in
     hlevel (items, filter, groups, having, keys)

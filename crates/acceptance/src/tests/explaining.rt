@@ -20,7 +20,7 @@ fn words_for<'a>(columns: &'a str, query: &'a str) -> [&'a str; 7] {
 }
 
 /// Runs the program, to explain a query under columns.
-fn explain(alloc: Global, columns: &str, query: &str) -> Ended {
+pub fn explain(alloc: Global, columns: &str, query: &str) -> Ended {
     let words = words_for(columns, query);
     let mut out = Vec::new(alloc);
     let mut err = Vec::new(alloc);

@@ -13,13 +13,13 @@ fn planned(alloc: Global, schema: Schema, text: &str) -> Result<Plan, QueryFault
 }
 
 /// The plan of a query under columns.
-fn plan(alloc: Global, columns: &str, text: &str) -> Result<Plan, Fail> {
+pub fn plan(alloc: Global, columns: &str, text: &str) -> Result<Plan, Fail> {
     let schema = Schema::parse(alloc, columns)?;
     Ok(planned(alloc, schema, text)?)
 }
 
 /// The text of the fault of a query under columns; `planned` where it has none.
-fn fault_text(alloc: Global, columns: &str, text: &str) -> Result<String, Fail> {
+pub fn fault_text(alloc: Global, columns: &str, text: &str) -> Result<String, Fail> {
     let schema = Schema::parse(alloc, columns)?;
     match planned(alloc, schema, text) {
         Ok(_) => Ok("planned".to_string(alloc)?),

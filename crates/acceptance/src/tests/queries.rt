@@ -5,7 +5,7 @@ use std::process::Abort;
 use std::test::Fail;
 
 /// The canonical text of a query's text.
-fn canonical(alloc: Global, text: &str) -> Result<String, QueryFault> {
+pub fn canonical(alloc: Global, text: &str) -> Result<String, QueryFault> {
     let query = parse(alloc, text)?;
     Ok(print(alloc, &query)?)
 }
@@ -19,7 +19,7 @@ fn printed(alloc: Global, text: &str) -> Result<String, Fail> {
 }
 
 /// Asserts of each text that it has this canonical text, or this fault.
-fn assert_printed(rt: &impl Abort, alloc: Global, cases: &[(&str, &str)]) -> Result<(), Fail> {
+pub fn assert_printed(rt: &impl Abort, alloc: Global, cases: &[(&str, &str)]) -> Result<(), Fail> {
     for (text, wanted) in cases {
         let met = printed(alloc, text)?;
         assert_eq!(rt; met.as_str(), *wanted, "{text}");

@@ -1,0 +1,26 @@
+use Rattle.std.proofs.Common.{◌+◌, ◌*◌, ◌≤◌, length, map, ◌∷◌, []}
+use Rattle.query_tokens.specs.declared.token.Sign.TheVariants.{Comma}
+use Rattle.query_tree.specs.Syntax.{group_form}
+use Rattle.query_predicates.specs.Fronts.{is_sign}
+use Rattle.query_predicates.specs.Steps.{with_front, more}
+use Rattle.query_predicates.proofs.More.{Unread}
+use Rattle.query_grammar.specs.GroupSteps.{group_at}
+use Rattle.query_grammar.proofs.groups.+group.Given as goal
+
+abbrev pub decreases-grouping_sets : goal.decreases-grouping_sets
+decreases-grouping_sets l = 4 * l.levels
+
+abbrev pub decreases-group : goal.decreases-group
+decreases-group l = 4 * l.levels + 1
+
+abbrev pub decreases-more_groups : goal.decreases-more_groups
+decreases-more_groups l = 4 * l.levels + 2
+
+abbrev pub invariant-more_groups-loop-behind : goal.invariant-more_groups-loop-behind
+invariant-more_groups-loop-behind l = record {
+  shorter : length l.rest ≤ length l.fn.tokens;
+  unread : Unread (is_sign Comma) (group_at l.levels) (map group_form l.all.items) l.rest (with_front (group_form l.fn.first ∷ []) (more (is_sign Comma) (group_at l.levels) (length l.fn.tokens) l.fn.tokens));
+}
+
+abbrev pub decreases-more_groups-loop-behind : goal.decreases-more_groups-loop-behind
+decreases-more_groups-loop-behind l = length l.rest

@@ -1,0 +1,225 @@
+-- Atoms that derive from tokens are read, and the truth tests behind them.
+use Rattle.std.proofs.Common.{arith, length, ◌<◌, ◌≡◌, ℕ, Bool, List, ◌∷◌, Some, None, refl, ◌∙◌}
+use Rattle.values.specs.declared.comparison.Op.{Op}
+use Rattle.values.specs.declared.truth.Truth.{Truth}
+use Rattle.query_tokens.specs.declared.token.Token.{Token}
+use Rattle.query_tokens.specs.declared.token.Token.TheVariants as tokens
+use Rattle.query_tokens.specs.declared.token.Word.TheVariants as w
+use Rattle.query_tokens.specs.declared.token.Sign.TheVariants as s
+use Rattle.query_tree.specs.declared.expression.Aggregate.{Aggregate}
+use Rattle.query_tree.specs.declared.predicate.Literal.{Literal}
+use Rattle.query_tree.specs.Syntax.{ExpressionForm, OperandForm, PredicateForm, truth_test, compare, between, member, null_test, column}
+use Rattle.query_predicates.specs.Fronts.{is_word, is_sign, after}
+use Rattle.query_predicates.specs.AtomSteps.{literal_at, literals_at, operand_at, op_at, truth_at, mark_at, member_after, between_after, negated_after, column_of, atom_after, test_after, is_after, tested_atom_at}
+use Rattle.query_predicates.specs.Predicates.{IsRepeated, IsAggregate, IsFunction, IsExpression, IsLiteral, IsOperand, IsOp, IsTruthValue, IsMark, IsAtom}
+use Rattle.query_predicates.proofs.CompleteLists.{Shrinks, repeated_short, bracketed_c}
+use Rattle.query_predicates.proofs.CompleteExpressions.{expression_c, expression_short}
+
+-- ---- leaves
+
+literal_c : (ts r : List Token) (a : Literal) → IsLiteral ts a r → literal_at ts ≡ Some (a, r)
+unfolding literal_at
+literal_c _ _ _ IsLiteral.integer = refl
+literal_c _ _ _ IsLiteral.text = refl
+literal_c _ _ _ IsLiteral.yes = refl
+literal_c _ _ _ IsLiteral.no = refl
+
+literals_c : {ts mid r : List Token} {a : Literal} {ls : List Literal} → IsLiteral ts a mid → IsRepeated (tokens.Sign s.Comma) IsLiteral mid ls (tokens.Sign s.Close ∷ r) → length ls < 64
+    → literals_at (tokens.Sign s.Open ∷ ts) ≡ Some (a ∷ ls, r)
+unfolding literals_at
+literals_c a b few = bracketed_c IsLiteral literal_at literal_c 63 a b (omega arith)
+
+op_c : {ts r : List Token} {o : Op} → IsOp ts o r → op_at ts ≡ Some (o, r)
+unfolding op_at
+op_c IsOp.eq = refl
+op_c IsOp.ne = refl
+op_c IsOp.lt = refl
+op_c IsOp.le = refl
+op_c IsOp.gt = refl
+op_c IsOp.ge = refl
+
+op_no_is : {ts r : List Token} {o : Op} → IsOp ts o r → after (is_word w.Is) ts ≡ None
+op_no_is IsOp.eq = refl
+op_no_is IsOp.ne = refl
+op_no_is IsOp.lt = refl
+op_no_is IsOp.le = refl
+op_no_is IsOp.gt = refl
+op_no_is IsOp.ge = refl
+
+truth_c : {ts r : List Token} {t : Truth} → IsTruthValue ts t r → truth_at ts ≡ Some (t, r)
+unfolding truth_at
+truth_c IsTruthValue.yes = refl
+truth_c IsTruthValue.no = refl
+truth_c IsTruthValue.unknown = refl
+
+truth_no_not : {ts r : List Token} {t : Truth} → IsTruthValue ts t r → after (is_word w.Not) ts ≡ None
+truth_no_not IsTruthValue.yes = refl
+truth_no_not IsTruthValue.no = refl
+truth_no_not IsTruthValue.unknown = refl
+
+truth_no_null : {ts r : List Token} {t : Truth} → IsTruthValue ts t r → after (is_word w.Null) ts ≡ None
+truth_no_null IsTruthValue.yes = refl
+truth_no_null IsTruthValue.no = refl
+truth_no_null IsTruthValue.unknown = refl
+
+mark_c : {ts r : List Token} {n : Bool} → IsMark ts n r → after (is_word w.Not) r ≡ None → mark_at ts ≡ (n, r)
+unfolding mark_at
+mark_c IsMark.none e = rw e refl
+mark_c IsMark.not e = refl
+
+-- ---- operands
+
+aggregate_no_literal : {ts r : List Token} {f : Aggregate} → IsAggregate ts f r → literal_at ts ≡ None
+unfolding literal_at
+aggregate_no_literal IsAggregate.count_rows = refl
+aggregate_no_literal IsAggregate.count = refl
+aggregate_no_literal IsAggregate.count_distinct = refl
+aggregate_no_literal IsAggregate.sum = refl
+aggregate_no_literal IsAggregate.min = refl
+aggregate_no_literal IsAggregate.max = refl
+aggregate_no_literal IsAggregate.avg = refl
+
+expression_no_literal : {ts r : List Token} {e : ExpressionForm} → IsExpression ts e r → literal_at ts ≡ None
+unfolding literal_at
+expression_no_literal IsExpression.name = refl
+expression_no_literal (IsExpression.grouping b few) = refl
+expression_no_literal (IsExpression.function (IsFunction.plain f)) = aggregate_no_literal f
+
+operand_c : {ts r : List Token} {x : OperandForm} → IsOperand ts x r → operand_at ts ≡ Some (x, r)
+unfolding operand_at
+operand_c (IsOperand.expression e) = rw (expression_no_literal e, expression_c e) refl
+operand_c (IsOperand.literal {ts} {r} {a} p) = rw (literal_c ts r a p) refl
+
+-- No operand begins with a bracket or with NOT.
+pub record BeginsAtom (ts : List Token) : Type 0 where
+  pub no_open : after (is_sign s.Open) ts ≡ None
+  pub no_not : after (is_word w.Not) ts ≡ None
+
+aggregate_begins : {ts r : List Token} {f : Aggregate} → IsAggregate ts f r → BeginsAtom ts
+aggregate_begins IsAggregate.count_rows = record { no_open = refl; no_not = refl }
+aggregate_begins IsAggregate.count = record { no_open = refl; no_not = refl }
+aggregate_begins IsAggregate.count_distinct = record { no_open = refl; no_not = refl }
+aggregate_begins IsAggregate.sum = record { no_open = refl; no_not = refl }
+aggregate_begins IsAggregate.min = record { no_open = refl; no_not = refl }
+aggregate_begins IsAggregate.max = record { no_open = refl; no_not = refl }
+aggregate_begins IsAggregate.avg = record { no_open = refl; no_not = refl }
+
+operand_begins : {ts r : List Token} {x : OperandForm} → IsOperand ts x r → BeginsAtom ts
+operand_begins (IsOperand.expression IsExpression.name) = record { no_open = refl; no_not = refl }
+operand_begins (IsOperand.expression (IsExpression.grouping b few)) = record { no_open = refl; no_not = refl }
+operand_begins (IsOperand.expression (IsExpression.function (IsFunction.plain f))) = aggregate_begins f
+operand_begins (IsOperand.literal IsLiteral.integer) = record { no_open = refl; no_not = refl }
+operand_begins (IsOperand.literal IsLiteral.text) = record { no_open = refl; no_not = refl }
+operand_begins (IsOperand.literal IsLiteral.yes) = record { no_open = refl; no_not = refl }
+operand_begins (IsOperand.literal IsLiteral.no) = record { no_open = refl; no_not = refl }
+
+pub atom_begins : {ts r : List Token} {p : PredicateForm} → IsAtom ts p r → BeginsAtom ts
+atom_begins (IsAtom.compare x o y) = operand_begins x
+atom_begins (IsAtom.between x n y z) = operand_begins x
+atom_begins (IsAtom.member x n a b few) = operand_begins x
+atom_begins (IsAtom.null_test x n) = operand_begins x
+atom_begins IsAtom.column = record { no_open = refl; no_not = refl }
+
+-- ---- atoms
+
+-- Nothing goes on that would belong to an atom or to its truth test.
+pub record EndsTest (r : List Token) : Type 0 where
+  pub no_op : op_at r ≡ None
+  pub no_not : after (is_word w.Not) r ≡ None
+  pub no_in : after (is_word w.In) r ≡ None
+  pub no_between : after (is_word w.Between) r ≡ None
+  pub no_is : after (is_word w.Is) r ≡ None
+
+-- An atom that its first tokens make complete is read, and then its truth test.
+compare_c : {ts u v r : List Token} {x y : OperandForm} {o : Op} → IsOperand ts x u → IsOp u o v → IsOperand v y r → tested_atom_at ts ≡ test_after (compare x o y) r
+unfolding tested_atom_at atom_after
+compare_c x o y = rw (operand_c x, op_no_is o, op_c o, operand_c y) refl
+
+between_c : {ts u v mid r : List Token} {x y z : OperandForm} {n : Bool} → IsOperand ts x u → IsMark u n (tokens.Word w.Between ∷ v) → IsOperand v y (tokens.Word w.And ∷ mid) → IsOperand mid z r
+    → tested_atom_at ts ≡ test_after (between x n y z) r
+unfolding tested_atom_at atom_after negated_after between_after op_at
+between_c x IsMark.none y z = rw (operand_c x, operand_c y, operand_c z) refl
+between_c x IsMark.not y z = rw (operand_c x, operand_c y, operand_c z) refl
+
+member_c : {ts u v mid r : List Token} {x : OperandForm} {n : Bool} {a : Literal} {ls : List Literal}
+    → IsOperand ts x u → IsMark u n (tokens.Word w.In ∷ tokens.Sign s.Open ∷ v) → IsLiteral v a mid → IsRepeated (tokens.Sign s.Comma) IsLiteral mid ls (tokens.Sign s.Close ∷ r) → length ls < 64
+    → tested_atom_at ts ≡ test_after (member x n (a ∷ ls)) r
+unfolding tested_atom_at atom_after negated_after member_after op_at
+member_c x IsMark.none a b few = rw (operand_c x, literals_c a b few) refl
+member_c x IsMark.not a b few = rw (operand_c x, literals_c a b few) refl
+
+null_c : {ts u r : List Token} {x : OperandForm} {n : Bool} → IsOperand ts x (tokens.Word w.Is ∷ u) → IsMark u n (tokens.Word w.Null ∷ r) → tested_atom_at ts ≡ test_after (null_test x n) r
+unfolding tested_atom_at is_after
+null_c x n = rw (operand_c x, mark_c n refl) refl
+
+-- An operand that is a bare name.
+name_c : (n : List ℕ) (r : List Token) → operand_at (tokens.Name n ∷ r) ≡ Some (OperandForm.expression (ExpressionForm.name n), r)
+name_c n r = operand_c (IsOperand.expression (IsExpression.name {n = n} {r = r}))
+
+column_c : (n : List ℕ) (r : List Token) → EndsTest r → tested_atom_at (tokens.Name n ∷ r) ≡ Some (column n, r)
+unfolding tested_atom_at atom_after column_of test_after
+column_c n r q = rw (name_c n r, q.no_is, q.no_op, q.no_not, q.no_in, q.no_between, q.no_is) refl
+
+column_test_c : (n : List ℕ) {u v r : List Token} {m : Bool} {t : Truth} → IsMark u m v → IsTruthValue v t r → tested_atom_at (tokens.Name n ∷ tokens.Word w.Is ∷ u) ≡ Some (truth_test (column n) m t, r)
+unfolding tested_atom_at is_after column_of
+column_test_c n {u} m t = rw (name_c n (tokens.Word w.Is ∷ u), mark_c m (truth_no_not t), truth_no_null t, truth_c t) refl
+
+pub test_none : (p : PredicateForm) (r : List Token) → after (is_word w.Is) r ≡ None → test_after p r ≡ Some (p, r)
+unfolding test_after
+test_none p r e = rw e refl
+
+pub test_some : (p : PredicateForm) {u v r : List Token} {n : Bool} {t : Truth} → IsMark u n v → IsTruthValue v t r → test_after p (tokens.Word w.Is ∷ u) ≡ Some (truth_test p n t, r)
+unfolding test_after
+test_some p m t = rw (mark_c m (truth_no_not t), truth_c t) refl
+
+-- An atom without a truth test.
+pub atom_c : {ts r : List Token} {p : PredicateForm} → IsAtom ts p r → EndsTest r → tested_atom_at ts ≡ Some (p, r)
+atom_c (IsAtom.compare x o y) q = compare_c x o y ∙ test_none _ _ q.no_is
+atom_c (IsAtom.between x n y z) q = between_c x n y z ∙ test_none _ _ q.no_is
+atom_c (IsAtom.member x n a b few) q = member_c x n a b few ∙ test_none _ _ q.no_is
+atom_c (IsAtom.null_test x n) q = null_c x n ∙ test_none _ _ q.no_is
+atom_c (IsAtom.column {n} {r}) q = column_c n r q
+
+-- An atom with its truth test.
+pub atom_test_c : {ts u v r : List Token} {p : PredicateForm} {n : Bool} {t : Truth} → IsAtom ts p (tokens.Word w.Is ∷ u) → IsMark u n v → IsTruthValue v t r → tested_atom_at ts ≡ Some (truth_test p n t, r)
+atom_test_c (IsAtom.compare x o y) m t = compare_c x o y ∙ test_some _ m t
+atom_test_c (IsAtom.between x n y z) m t = between_c x n y z ∙ test_some _ m t
+atom_test_c (IsAtom.member x n a b few) m t = member_c x n a b few ∙ test_some _ m t
+atom_test_c (IsAtom.null_test x n) m t = null_c x n ∙ test_some _ m t
+atom_test_c (IsAtom.column {n}) m t = column_test_c n m t
+
+-- ---- what an atom takes
+
+literal_short : Shrinks IsLiteral
+literal_short _ _ _ IsLiteral.integer = omega arith
+literal_short _ _ _ IsLiteral.text = omega arith
+literal_short _ _ _ IsLiteral.yes = omega arith
+literal_short _ _ _ IsLiteral.no = omega arith
+
+operand_short : Shrinks IsOperand
+operand_short _ _ _ (IsOperand.expression {ts} {r} {e} p) = expression_short ts r e p
+operand_short _ _ _ (IsOperand.literal {ts} {r} {a} p) = literal_short ts r a p
+
+op_short : Shrinks IsOp
+op_short _ _ _ IsOp.eq = omega arith
+op_short _ _ _ IsOp.ne = omega arith
+op_short _ _ _ IsOp.lt = omega arith
+op_short _ _ _ IsOp.le = omega arith
+op_short _ _ _ IsOp.gt = omega arith
+op_short _ _ _ IsOp.ge = omega arith
+
+pub truth_short : Shrinks IsTruthValue
+truth_short _ _ _ IsTruthValue.yes = omega arith
+truth_short _ _ _ IsTruthValue.no = omega arith
+truth_short _ _ _ IsTruthValue.unknown = omega arith
+
+pub mark_short : Shrinks IsMark
+mark_short _ _ _ IsMark.none = omega arith
+mark_short _ _ _ IsMark.not = omega arith
+
+pub atom_short : Shrinks IsAtom
+atom_short _ _ _ (IsAtom.compare x o y) = omega (arith, operand_short _ _ _ x, op_short _ _ _ o, operand_short _ _ _ y)
+atom_short _ _ _ (IsAtom.between x n y z) = omega (arith, operand_short _ _ _ x, mark_short _ _ _ n, operand_short _ _ _ y, operand_short _ _ _ z)
+atom_short _ _ _ (IsAtom.member x n a b few) = omega (arith, operand_short _ _ _ x, mark_short _ _ _ n, literal_short _ _ _ a, repeated_short (tokens.Sign s.Comma) IsLiteral literal_short b)
+atom_short _ _ _ (IsAtom.null_test x n) = omega (arith, operand_short _ _ _ x, mark_short _ _ _ n)
+atom_short _ _ _ IsAtom.column = omega arith

@@ -1,0 +1,120 @@
+-- Predicates that derive from tokens are read.
+use Rattle.std.proofs.Common.{arith, ◌≡◌, ℕ, zero, suc, List, [], ◌∷◌, Some, None, refl}
+use Rattle.query_tokens.specs.declared.token.Token.{Token}
+use Rattle.query_tokens.specs.declared.token.Token.TheVariants as tokens
+use Rattle.query_tokens.specs.declared.token.Word.TheVariants as w
+use Rattle.query_tokens.specs.declared.token.Sign.TheVariants as s
+use Rattle.query_tree.specs.Syntax.{PredicateForm}
+use Rattle.query_predicates.specs.Fronts.{is_word, after}
+use Rattle.query_predicates.specs.Steps.{Reader}
+use Rattle.query_predicates.specs.AtomSteps.{op_at}
+use Rattle.query_predicates.specs.PredicateSteps.{test_at, negation_at, conjunction_at, disjunction_at, predicate_at}
+use Rattle.query_predicates.specs.Predicates.{Derivation, IsPrimary, IsTest, IsNegation, IsConjunction, IsDisjunction, IsPredicate}
+use Rattle.query_predicates.proofs.CompleteLists.{Shrinks, repeated_short, repeated_follow, unlimited_c}
+use Rattle.query_predicates.proofs.CompleteAtoms.{EndsTest, atom_begins, atom_c, atom_test_c, test_none, test_some, truth_short, mark_short, atom_short}
+
+-- ---- what may stand behind a predicate and its parts
+
+pub record EndsConjunction (r : List Token) : Type 0 where
+  pub test : EndsTest r
+  pub no_and : after (is_word w.And) r ≡ None
+
+pub record EndsPredicate (r : List Token) : Type 0 where
+  pub conjunction : EndsConjunction r
+  pub no_or : after (is_word w.Or) r ≡ None
+
+and_ends : (ts : List Token) → EndsTest (tokens.Word w.And ∷ ts)
+unfolding op_at
+and_ends ts = record { no_op = refl; no_not = refl; no_in = refl; no_between = refl; no_is = refl }
+
+or_ends : (ts : List Token) → EndsConjunction (tokens.Word w.Or ∷ ts)
+unfolding op_at
+or_ends ts = record { test = record { no_op = refl; no_not = refl; no_in = refl; no_between = refl; no_is = refl }; no_and = refl }
+
+close_ends : (ts : List Token) → EndsPredicate (tokens.Sign s.Close ∷ ts)
+unfolding op_at
+close_ends ts = record { conjunction = record { test = record { no_op = refl; no_not = refl; no_in = refl; no_between = refl; no_is = refl }; no_and = refl }; no_or = refl }
+
+pub group_ends : (ts : List Token) → EndsPredicate (tokens.Word w.Group ∷ ts)
+unfolding op_at
+group_ends ts = record { conjunction = record { test = record { no_op = refl; no_not = refl; no_in = refl; no_between = refl; no_is = refl }; no_and = refl }; no_or = refl }
+
+pub nil_ends : EndsPredicate []
+unfolding op_at
+nil_ends = record { conjunction = record { test = record { no_op = refl; no_not = refl; no_in = refl; no_between = refl; no_is = refl }; no_and = refl }; no_or = refl }
+
+-- ---- predicates
+
+-- A reader that reads what derives before a closing bracket.
+abbrev IsComplete : Derivation PredicateForm → Reader PredicateForm → Type 0
+IsComplete P f = (ts r : List Token) (p : PredicateForm) → P ts p (tokens.Sign s.Close ∷ r) → f ts ≡ Some (p, tokens.Sign s.Close ∷ r)
+
+module _ (IsInner : Derivation PredicateForm) (inner : Reader PredicateForm) (inner_c : IsComplete IsInner inner) where
+  test_c : {ts r : List Token} {p : PredicateForm} → IsTest IsInner ts p r → EndsTest r → test_at inner ts ≡ Some (p, r)
+  unfolding test_at
+  test_c (IsTest.plain (IsPrimary.brackets {ts} {r} {p} i)) q = rw (inner_c ts r p i, test_none p r q.no_is) refl
+  test_c (IsTest.plain (IsPrimary.atom a)) q = rw ((atom_begins a).no_open, atom_c a q) refl
+  test_c (IsTest.test {u = u} (IsPrimary.brackets {ts} {p = p} i) m t) q = rw (inner_c ts (tokens.Word w.Is ∷ u) p i, test_some p m t) refl
+  test_c (IsTest.test (IsPrimary.atom a) m t) q = rw ((atom_begins a).no_open, atom_test_c a m t) refl
+
+  primary_no_not : {ts r : List Token} {p : PredicateForm} → IsPrimary IsInner ts p r → after (is_word w.Not) ts ≡ None
+  primary_no_not (IsPrimary.brackets i) = refl
+  primary_no_not (IsPrimary.atom a) = (atom_begins a).no_not
+
+  test_no_not : {ts r : List Token} {p : PredicateForm} → IsTest IsInner ts p r → after (is_word w.Not) ts ≡ None
+  test_no_not (IsTest.plain i) = primary_no_not i
+  test_no_not (IsTest.test i m t) = primary_no_not i
+
+  negation_c : {ts r : List Token} {p : PredicateForm} → IsNegation IsInner ts p r → EndsTest r → negation_at inner ts ≡ Some (p, r)
+  unfolding negation_at
+  negation_c (IsNegation.plain i) q = rw (test_no_not i, test_c i q) refl
+  negation_c (IsNegation.not i) q = rw (test_c i q) refl
+
+  conjunction_c : Shrinks (IsNegation IsInner) → {ts r : List Token} {p : PredicateForm} → IsConjunction IsInner ts p r → EndsConjunction r → conjunction_at inner ts ≡ Some (p, r)
+  unfolding conjunction_at
+  conjunction_c short (IsConjunction.parts {ts} {mid} {r} {p} {ps} i b) q =
+      rw (
+        negation_c i (repeated_follow (tokens.Word w.And) (IsNegation IsInner) EndsTest and_ends b q.test),
+        unlimited_c (tokens.Word w.And) (is_word w.And) (IsNegation IsInner) (negation_at inner) EndsTest refl and_ends (λ _ _ _ j k. negation_c j k) short b q.test q.no_and,
+      ) refl
+
+  disjunction_c : Shrinks (IsNegation IsInner) → Shrinks (IsConjunction IsInner) → {ts r : List Token} {p : PredicateForm} → IsDisjunction IsInner ts p r → EndsPredicate r → disjunction_at inner ts ≡ Some (p, r)
+  unfolding disjunction_at
+  disjunction_c short short_parts (IsDisjunction.parts {ts} {mid} {r} {p} {ps} i b) q =
+      rw (
+        conjunction_c short i (repeated_follow (tokens.Word w.Or) (IsConjunction IsInner) EndsConjunction or_ends b q.conjunction),
+        unlimited_c (tokens.Word w.Or) (is_word w.Or) (IsConjunction IsInner) (conjunction_at inner) EndsConjunction refl or_ends (λ _ _ _ j k. conjunction_c short j k) short_parts b q.conjunction q.no_or,
+      ) refl
+
+-- ---- what a predicate takes
+
+module _ (IsInner : Derivation PredicateForm) (short : Shrinks IsInner) where
+  primary_short : Shrinks (IsPrimary IsInner)
+  primary_short _ _ _ (IsPrimary.brackets {ts} {r} {p} i) = omega (arith, short ts (tokens.Sign s.Close ∷ r) p i)
+  primary_short _ _ _ (IsPrimary.atom a) = atom_short _ _ _ a
+
+  test_short : Shrinks (IsTest IsInner)
+  test_short _ _ _ (IsTest.plain i) = primary_short _ _ _ i
+  test_short _ _ _ (IsTest.test i m t) = omega (arith, primary_short _ _ _ i, mark_short _ _ _ m, truth_short _ _ _ t)
+
+  negation_short : Shrinks (IsNegation IsInner)
+  negation_short _ _ _ (IsNegation.plain i) = test_short _ _ _ i
+  negation_short _ _ _ (IsNegation.not i) = omega (arith, test_short _ _ _ i)
+
+  conjunction_short : Shrinks (IsConjunction IsInner)
+  conjunction_short _ _ _ (IsConjunction.parts i b) = omega (arith, negation_short _ _ _ i, repeated_short (tokens.Word w.And) (IsNegation IsInner) negation_short b)
+
+  disjunction_short : Shrinks (IsDisjunction IsInner)
+  disjunction_short _ _ _ (IsDisjunction.parts i b) = omega (arith, conjunction_short _ _ _ i, repeated_short (tokens.Word w.Or) (IsConjunction IsInner) conjunction_short b)
+
+predicate_short : (n : ℕ) → Shrinks (IsPredicate n)
+unfolding IsPredicate
+predicate_short zero ts r p i = absurd i
+predicate_short (suc n) ts r p i = disjunction_short (IsPredicate n) (predicate_short n) ts r p i
+
+pub predicate_c : (n : ℕ) (ts r : List Token) (p : PredicateForm) → IsPredicate n ts p r → EndsPredicate r → predicate_at n ts ≡ Some (p, r)
+unfolding IsPredicate predicate_at
+predicate_c zero ts r p i q = absurd i
+predicate_c (suc n) ts r p i q =
+    let inner_c : IsComplete (IsPredicate n) (predicate_at n) = λ us v x j. predicate_c n us (tokens.Sign s.Close ∷ v) x j (close_ends v) in
+    disjunction_c (IsPredicate n) (predicate_at n) inner_c (negation_short (IsPredicate n) (predicate_short n)) (conjunction_short (IsPredicate n) (predicate_short n)) i q

@@ -1,0 +1,109 @@
+-- What the functions of atoms read in front of tokens, one definition for each function, as it computes it.
+-- What tokens derive is said in Predicates.
+use Rattle.std.specs.Prelude.{List, [], ◌∷◌, Option, Some, None, Bool, true, false}
+use Rattle.values.specs.declared.comparison.Op.{Op}
+use Rattle.values.specs.declared.comparison.Op.TheVariants as op
+use Rattle.values.specs.declared.truth.Truth.{Truth}
+use Rattle.values.specs.declared.truth.Truth.TheVariants as truth
+use Rattle.query_tokens.specs.declared.token.Token.{Token}
+use Rattle.query_tokens.specs.declared.token.Token.TheVariants as tokens
+use Rattle.query_tokens.specs.declared.token.Word.TheVariants as w
+use Rattle.query_tokens.specs.declared.token.Sign.TheVariants as s
+use Rattle.query_tokens.specs.Options.{◌>>=◌, choose}
+use Rattle.query_tree.specs.declared.predicate.Literal.{Literal}
+use Rattle.query_tree.specs.declared.predicate.Literal.TheVariants as literals
+use Rattle.query_tree.specs.Syntax.{ExpressionForm, OperandForm, PredicateForm, truth_test, compare, between, member, null_test, column}
+use Rattle.query_predicates.specs.Fronts.{is_word, after}
+use Rattle.query_predicates.specs.Steps.{Reader, bracketed_at}
+use Rattle.query_predicates.specs.ExpressionSteps.{expression_at}
+
+-- A literal.
+unfoldable pub literal_at : Reader Literal
+literal_at [] = None
+literal_at (tokens.Integer i ∷ ts) = Some (literals.Integer i, ts)
+literal_at (tokens.Text t ∷ ts) = Some (literals.Text t, ts)
+literal_at (tokens.Word w.True ∷ ts) = Some (literals.Truth true, ts)
+literal_at (tokens.Word w.False ∷ ts) = Some (literals.Truth false, ts)
+literal_at (x ∷ ts) = None
+
+-- The bracketed literals behind IN.
+unfoldable pub literals_at : Reader (List Literal)
+literals_at ts = bracketed_at literal_at 63 ts
+
+-- An operand.
+unfoldable pub operand_at : Reader OperandForm
+operand_at ts = choose (literal_at ts)
+    (expression_at ts >>= λ e. Some (OperandForm.expression e.0, e.1))
+    (λ a. Some (OperandForm.literal a.0, a.1))
+
+-- An operator.
+unfoldable pub op_at : Reader Op
+op_at [] = None
+op_at (tokens.Sign s.Equal ∷ ts) = Some (op.Eq, ts)
+op_at (tokens.Sign s.NotEqual ∷ ts) = Some (op.Ne, ts)
+op_at (tokens.Sign s.Less ∷ ts) = Some (op.Lt, ts)
+op_at (tokens.Sign s.LessOrEqual ∷ ts) = Some (op.Le, ts)
+op_at (tokens.Sign s.Greater ∷ ts) = Some (op.Gt, ts)
+op_at (tokens.Sign s.GreaterOrEqual ∷ ts) = Some (op.Ge, ts)
+op_at (x ∷ ts) = None
+
+-- A truth value.
+unfoldable pub truth_at : Reader Truth
+truth_at [] = None
+truth_at (tokens.Word w.True ∷ ts) = Some (truth.True, ts)
+truth_at (tokens.Word w.False ∷ ts) = Some (truth.False, ts)
+truth_at (tokens.Word w.Unknown ∷ ts) = Some (truth.Unknown, ts)
+truth_at (x ∷ ts) = None
+
+-- Whether NOT stands in front, and what stands behind it.
+unfoldable pub mark_at : List Token → Bool × List Token
+mark_at ts = choose (after (is_word w.Not) ts) (false, ts) (λ rest. (true, rest))
+
+-- The atom of an operand and the literals behind its IN.
+unfoldable pub member_after : OperandForm → Bool → Reader PredicateForm
+member_after x n ts = literals_at ts >>= λ ls. Some (member x n ls.0, ls.1)
+
+-- The atom of an operand and the two ends behind its BETWEEN.
+unfoldable pub between_after : OperandForm → Bool → Reader PredicateForm
+between_after x n ts = operand_at ts >>= λ y. choose (after (is_word w.And) y.1) None (λ a. operand_at a >>= λ z. Some (between x n y.0 z.0, z.1))
+
+-- The atom of an operand and what stands behind its NOT.
+unfoldable pub negated_after : OperandForm → Reader PredicateForm
+negated_after x ts = choose (after (is_word w.In) ts)
+    (choose (after (is_word w.Between) ts) None (λ a. between_after x true a))
+    (λ a. member_after x true a)
+
+-- The atom that an operand alone is: a bare name.
+unfoldable pub column_of : OperandForm → Option PredicateForm
+column_of (OperandForm.expression (ExpressionForm.name n)) = Some (column n)
+column_of (OperandForm.expression (ExpressionForm.grouping ns)) = None
+column_of (OperandForm.expression (ExpressionForm.function f)) = None
+column_of (OperandForm.literal a) = None
+
+-- The atom of an operand and what stands behind it, unless that is IS.
+unfoldable pub atom_after : OperandForm → Reader PredicateForm
+atom_after x ts = choose (op_at ts)
+    (choose (after (is_word w.Not) ts)
+    (choose (after (is_word w.In) ts)
+    (choose (after (is_word w.Between) ts)
+    (column_of x >>= λ p. Some (p, ts))
+    (λ a. between_after x false a))
+    (λ a. member_after x false a))
+    (λ a. negated_after x a))
+    (λ o. operand_at o.1 >>= λ y. Some (compare x o.0 y.0, y.1))
+
+-- A predicate and the truth test behind it, where there is one.
+unfoldable pub test_after : PredicateForm → Reader PredicateForm
+test_after p ts = choose (after (is_word w.Is) ts) (Some (p, ts)) (λ a. truth_at (mark_at a).1 >>= λ t. Some (truth_test p (mark_at a).0 t.0, t.1))
+
+-- An operand and what stands behind its IS: NULL, and maybe a truth test of that; or the truth test of a bare name.
+unfoldable pub is_after : OperandForm → Reader PredicateForm
+is_after x ts = choose (after (is_word w.Null) (mark_at ts).1)
+    (column_of x >>= λ p. truth_at (mark_at ts).1 >>= λ t. Some (truth_test p (mark_at ts).0 t.0, t.1))
+    (λ a. test_after (null_test x (mark_at ts).0) a)
+
+-- An atom and the truth test behind it, where there is one.
+unfoldable pub tested_atom_at : Reader PredicateForm
+tested_atom_at ts = operand_at ts >>= λ x. choose (after (is_word w.Is) x.1)
+    (atom_after x.0 x.1 >>= λ p. test_after p.0 p.1)
+    (λ a. is_after x.0 a)
