@@ -44,8 +44,7 @@ fn fold_all(
     let mut whole = Partial::empty(alloc, plan)?;
     for (index, piece) in pieces.iter().enumerate() {
         let bytes = &input[piece.start..piece.stop];
-        let part = Partial::fold_piece(alloc, plan, index as u32, bytes)?;
-        whole = whole.merge(part)?;
+        whole = whole.fold_onto(plan, index as u32, bytes)?;
     }
     Ok(whole)
 }

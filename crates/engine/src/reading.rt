@@ -11,7 +11,7 @@ use std::io::Read;
 const INPUT_LIMIT: usize = 0x8000_0000_0000_0000;
 
 /// The number of bytes by which the buffer grows, so that a reader may give as many at once.
-const CHUNK: usize = 1_048_576;
+const CHUNK: usize = 131_072;
 
 /// One read into the buffer from place `at` on. It answers how many bytes the reader gave.
 fn read_at<R: Read>(reader: &mut R, buffer: &mut [u8], at: usize) -> Result<usize, RunFault>

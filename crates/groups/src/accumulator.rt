@@ -31,22 +31,24 @@ pub(crate) enum Accumulator {
 }
 
 impl Accumulator {
-    ghost use Rattle.std.specs.Prelude.{[], ◌∷◌, ◌+◌, ◌^◌, ◌<◌, OnOk, OnErr};
+    ghost use Rattle.std.specs.Prelude.{[], ◌∷◌, ◌+◌, ◌^◌, ◌<◌, IfOk, OnOk, OnErr};
     ghost use Rattle.groups.specs.Kept.{kept, kept_in, taken, joined, summary, HasRoom, IsUnbounded};
     ghost use Rattle.groups.specs.Shown.{summary_of};
 
     /// What is kept of no record.
-    pub(crate) fn new(alloc: Global, function: ColumnFunction) -> Accumulator
-        ensures { kept_in result ≡ kept function [] }
+    pub(crate) fn new(alloc: Global, function: ColumnFunction) -> Result<Accumulator, AllocError>
+        ensures { IfOk result (λ accumulator. kept_in accumulator ≡ kept function []) }
     {
         match function {
-            ColumnFunction::CountRows => Accumulator::Rows,
-            ColumnFunction::Count(_) => Accumulator::Count(0),
-            ColumnFunction::CountDistinct(_) => Accumulator::Distinct(DistinctValues::new(alloc)),
-            ColumnFunction::Sum(_) => Accumulator::Sum(Total::NONE),
-            ColumnFunction::Min(_) => Accumulator::Min(Value::Null),
-            ColumnFunction::Max(_) => Accumulator::Max(Value::Null),
-            ColumnFunction::Avg(_) => Accumulator::Average(Total::NONE),
+            ColumnFunction::CountRows => Ok(Accumulator::Rows),
+            ColumnFunction::Count(_) => Ok(Accumulator::Count(0)),
+            ColumnFunction::CountDistinct(_) => {
+                Ok(Accumulator::Distinct(DistinctValues::new(alloc)?))
+            }
+            ColumnFunction::Sum(_) => Ok(Accumulator::Sum(Total::NONE)),
+            ColumnFunction::Min(_) => Ok(Accumulator::Min(Value::Null)),
+            ColumnFunction::Max(_) => Ok(Accumulator::Max(Value::Null)),
+            ColumnFunction::Avg(_) => Ok(Accumulator::Average(Total::NONE)),
         }
     }
 

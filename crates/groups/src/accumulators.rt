@@ -46,7 +46,7 @@ impl Accumulators {
     {
         let mut parts = Vec::with_capacity(alloc, functions.len())?;
         for function in functions {
-            parts.push(Accumulator::new(alloc, *function))?;
+            parts.push(Accumulator::new(alloc, *function)?)?;
         }
         Ok(Accumulators { lines: 0, parts })
     }

@@ -10,9 +10,11 @@ use std::marker::Model;
 use values::Value;
 
 /// The different values of those that were taken, NULL excepted.
+///
+/// They stand in a box, so that the accumulators of other set functions are small.
 #[derive(Debug, Drop)]
 pub(crate) struct DistinctValues {
-    values: HashSet<Value>,
+    values: Box<HashSet<Value>>,
 }
 
 impl Model for DistinctValues {
@@ -24,23 +26,22 @@ impl Model for DistinctValues {
 
     ghost coded = { set.code coded_datum };
 
-    ghost view = { λ d. set_shown d.values.keys };
+    ghost view = { λ d. set_shown d.values.value.keys };
 }
 
 impl DistinctValues {
-    ghost use Rattle.std.specs.Prelude.{◌≡◌, [], ◌∷◌, OnOk};
+    ghost use Rattle.std.specs.Prelude.{◌≡◌, [], ◌∷◌, IfOk, OnOk};
     ghost use Rattle.std.specs.FinSet as set;
     ghost use Rattle.values.specs.Datum.{datum_of};
     ghost use Rattle.groups.specs.Rows.{present};
     ghost use Rattle.groups.specs.Seen.{set_of};
 
     /// No value.
-    pub(crate) fn new(alloc: Global) -> DistinctValues
-        ensures { result ≡ set.empty }
+    pub(crate) fn new(alloc: Global) -> Result<DistinctValues, AllocError>
+        ensures { IfOk result (λ values. values ≡ set.empty) }
     {
-        DistinctValues {
-            values: HashSet::new(alloc),
-        }
+        let values = Box::new(alloc, HashSet::new(alloc))?;
+        Ok(DistinctValues { values })
     }
 
     /// Takes one more value, of which a copy is kept where it is a new one.
@@ -49,7 +50,7 @@ impl DistinctValues {
     {
         match value {
             Value::Null => Ok(()),
-            _ => insert_copy(&mut self.values, value),
+            _ => insert_copy(&mut *self.values, value),
         }
     }
 
@@ -58,7 +59,7 @@ impl DistinctValues {
         ensures { OnOk result (self.new ≡ set.union self.old other) }
     {
         let DistinctValues { values } = other;
-        for value in values {
+        for value in Box::into_inner(values) {
             self.values.insert(value)?;
         }
         Ok(())

@@ -16,3 +16,4 @@ pub mod Bags
 pub mod Taken
 pub mod Types
 pub mod TypeTests
+pub mod Growing

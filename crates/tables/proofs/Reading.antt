@@ -1,5 +1,5 @@
 -- The lines of a piece as far as they have been read.
-use Rattle.std.proofs.Common.{◌≡◌, ◌==◌, ◌+◌, ◌<◌, ◌≤◌, ℕ, suc, Bool, true, false, cond, List, [], ◌∷◌, ◌++◌, length, map, filter, filter_map, option_map, Option, Some, None, Result, Ok, Err, sym, ap, subst, ◌∙◌, arith, append-nil, length-append}
+use Rattle.std.proofs.Common.{◌≡◌, ◌==◌, ◌+◌, ◌<◌, ◌≤◌, ◌^◌, ℕ, ℤ, zero, suc, Bool, true, false, cond, List, [], ◌∷◌, ◌++◌, length, map, filter, filter_map, option_map, Option, Some, None, Result, Ok, Err, refl, sym, ap, subst, ◌∙◌, arith, append-nil, append_assoc, length-append}
 use Rattle.std.proofs.lemmas.List.{map-append, length-map}
 use Rattle.std.proofs.lemmas.List.Elements.{All-from_recursion, filter-append, filter_map-append}
 use Rattle.std.proofs.lemmas.List.FromFn.{length-enumerate_from}
@@ -15,6 +15,7 @@ use Rattle.query_tree.specs.Syntax.{TreeForm}
 use Rattle.query_check.specs.Functions.{functions_of}
 use Rattle.query_check.specs.Sets.{sets_of}
 use Rattle.query_truth.specs.Kept.{is_kept, kept}
+use Rattle.groups.specs.Rows.{Row}
 use Rattle.groups.specs.Table.{Contents}
 use Rattle.tables.specs.Sets.{AreTablesOf}
 use Rattle.tables.specs.declared.folding.Folding.{Folding}
@@ -132,32 +133,44 @@ refused-numbers fields ls = All-from_recursion (λ line. line.0 ≤ length ls) (
     (at-most (length ls) (refused_of fields ls) (numbers-below (length ls + 1) 1 (map (taken fields) ls) (let long = length-map ls (taken fields) in omega (arith, long))))
 
 -- some lines have been read, and with those that are left they are all
-pub record HasReadSome (fields : List Field) (q : TreeForm) (folding : Folding) (left all : List (List ℕ)) : Type 0 where
+pub record HasReadSome (fields : List Field) (q : TreeForm) (before : List Row) (folding : Folding) (left all : List (List ℕ)) : Type 0 where
   pub seen : List (List ℕ)
-  pub has_read : HasRead fields q folding seen
+  pub has_read : HasRead fields q before folding seen
   pub is : seen ++ left ≡ all
 
 -- ---- a line that has been read
 
-pub read-ok : (fields : List Field) (q : TreeForm) (old new : Folding) (seen : List (List ℕ)) (line : List ℕ) (row : List Datum) → taken fields line ≡ Ok row → HasRead fields q old seen
+pub read-ok : (fields : List Field) (q : TreeForm) (before : List Row) (old new : Folding) (seen : List (List ℕ)) (line : List ℕ) (row : List Datum) → taken fields line ≡ Ok row → HasRead fields q before old seen
     → ((rows : List (List Datum)) → AreTablesOf (sets_of fields q) (functions_of fields q) old.tables (kept fields q rows) → AreTablesOf (sets_of fields q) (functions_of fields q) new.tables (kept fields q (rows ++ row ∷ [])))
     → new.lines ≡ old.lines → new.refused.items ≡ old.refused.items
-    → HasRead fields q (record { tables = new.tables; lines = new.lines + 1; refused = new.refused }) (seen ++ line ∷ [])
-read-ok fields q old new seen line row e h added same stay = record {
-  tables = subst (λ (rows : List (List Datum)). AreTablesOf (sets_of fields q) (functions_of fields q) new.tables (kept fields q rows)) (sym (good-ok fields seen line row e)) (added (good_of fields seen) h.tables);
+    → HasRead fields q before (record { tables = new.tables; lines = new.lines + 1; refused = new.refused }) (seen ++ line ∷ [])
+read-ok fields q before old new seen line row e h added same stay = record {
+  tables = subst (λ (rows : List (List Datum)). AreTablesOf (sets_of fields q) (functions_of fields q) new.tables (kept fields q rows))
+      (append_assoc before (good_of fields seen) (row ∷ []) ∙ ap (λ rows. before ++ rows) (sym (good-ok fields seen line row e)))
+      (added (before ++ good_of fields seen) h.tables);
   lines = (let a = h.lines in let b = length-append seen (line ∷ []) in omega (arith, same, a, b));
   refused = stay ∙ h.refused ∙ sym (refused-ok fields seen line row e);
 }
 
-pub read-err : (fields : List Field) (q : TreeForm) (old new : Folding) (seen : List (List ℕ)) (line : List ℕ) (fault : LineFault) → taken fields line ≡ Err fault → HasRead fields q old seen
+pub read-err : (fields : List Field) (q : TreeForm) (before : List Row) (old new : Folding) (seen : List (List ℕ)) (line : List ℕ) (fault : LineFault) → taken fields line ≡ Err fault → HasRead fields q before old seen
     → new.tables ≡ old.tables → new.lines ≡ old.lines → new.refused.items ≡ old.refused.items ++ (old.lines + 1, fault) ∷ []
-    → HasRead fields q (record { tables = new.tables; lines = new.lines + 1; refused = new.refused }) (seen ++ line ∷ [])
-read-err fields q old new seen line fault e h stay same more = record {
-  tables = subst (λ (ts : List Contents). AreTablesOf (sets_of fields q) (functions_of fields q) ts (kept fields q (good_of fields (seen ++ line ∷ [])))) (sym stay)
-      (subst (λ (rows : List (List Datum)). AreTablesOf (sets_of fields q) (functions_of fields q) old.tables (kept fields q rows)) (sym (good-err fields seen line fault e)) h.tables);
+    → HasRead fields q before (record { tables = new.tables; lines = new.lines + 1; refused = new.refused }) (seen ++ line ∷ [])
+read-err fields q before old new seen line fault e h stay same more = record {
+  tables = subst (λ (ts : List Contents). AreTablesOf (sets_of fields q) (functions_of fields q) ts (kept fields q (before ++ good_of fields (seen ++ line ∷ [])))) (sym stay)
+      (subst (λ (rows : List (List Datum)). AreTablesOf (sets_of fields q) (functions_of fields q) old.tables (kept fields q (before ++ rows))) (sym (good-err fields seen line fault e)) h.tables);
   lines = (let a = h.lines in let b = length-append seen (line ∷ []) in omega (arith, same, a, b));
   refused = more ∙ ap (λ rs. rs ++ (old.lines + 1, fault) ∷ []) h.refused ∙ ap (λ n. refused_of fields seen ++ (n + 1, fault) ∷ []) h.lines ∙ sym (refused-err fields seen line fault e);
 }
+
+-- ---- records behind those of earlier pieces
+
+-- the records that are kept, of earlier ones and of these lines, are no more than the earlier ones and the lines
+pub length-kept_behind : (fields : List Field) (q : TreeForm) (before : List Row) (ls : List (List ℕ)) → length (kept fields q (before ++ good_of fields ls)) ≤ length before + length ls
+length-kept_behind fields q before ls =
+    let few = length-kept fields q (before ++ good_of fields ls) in
+    let both = length-append before (good_of fields ls) in
+    let good = length-good_of fields ls in
+    omega (arith, few, both, good)
 
 -- what is noted of lines that have been read
 pub well-numbered : (fields : List Field) (n : ℕ) (refused : List (ℕ × LineFault)) (ls : List (List ℕ)) → n ≡ length ls → refused ≡ refused_of fields ls → All (λ line. line.0 ≤ n) refused

@@ -1,5 +1,5 @@
 -- What a piece is as far as its lines have been read. Private calls alone speak of it.
-use Rattle.std.specs.Prelude.{◌≡◌, ℕ, ◌+◌, ◌<◌, ◌^◌, List, length, map, filter_map, option_map}
+use Rattle.std.specs.Prelude.{◌≡◌, ℕ, ◌+◌, ◌++◌, ◌<◌, ◌^◌, List, length, map, filter_map, option_map}
 use Rattle.std.specs.List.{enumerate_from}
 use Rattle.std.specs.Result.{result_ok, result_err}
 use Rattle.values.specs.Schema.{Field}
@@ -21,17 +21,18 @@ good_of fields ls = filter_map result_ok (map (taken fields) ls)
 abbrev pub refused_of : List Field → List (List ℕ) → List (ℕ × LineFault)
 refused_of fields ls = filter_map (λ p. option_map (λ fault. (p.0, fault)) (result_err p.1)) (enumerate_from 1 (map (taken fields) ls))
 
--- these lines have been read
-pub record HasRead (fields : List Field) (q : TreeForm) (folding : Folding) (ls : List (List ℕ)) : Type 0 where
-  pub tables : AreTablesOf (sets_of fields q) (functions_of fields q) folding.tables (kept fields q (good_of fields ls))
+-- behind the records of earlier pieces these lines have been read
+pub record HasRead (fields : List Field) (q : TreeForm) (before : List Row) (folding : Folding) (ls : List (List ℕ)) : Type 0 where
+  pub tables : AreTablesOf (sets_of fields q) (functions_of fields q) folding.tables (kept fields q (before ++ good_of fields ls))
   pub lines : folding.lines ≡ length ls
   pub refused : folding.refused.items ≡ refused_of fields ls
 
--- some lines have been read, and with one more there are fewer than 2^63
-pub record ReadsOne (fields : List Field) (q : TreeForm) (folding : Folding) : Type 0 where
+-- some lines have been read, and with so many more there are, with the records of earlier pieces, fewer than 2^63
+pub record ReadsMore (fields : List Field) (q : TreeForm) (folding : Folding) (more : ℕ) : Type 0 where
+  pub before : List Row
   pub seen : List (List ℕ)
-  pub has_read : HasRead fields q folding seen
-  pub few : length seen + 1 < 2 ^ 63
+  pub has_read : HasRead fields q before folding seen
+  pub few : length before + length seen + more < 2 ^ 63
 
 -- the tables are those of some records, fewer than 2^63 with one more
 abbrev pub TakesRecord : List Field → TreeForm → Folding → Type 0

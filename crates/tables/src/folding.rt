@@ -1,8 +1,9 @@
 // Reading the lines of a piece.
-ghost use Rattle.std.specs.Prelude.{◌≡◌, ◌<◌, ◌^◌, IfOk, length};
+ghost use Rattle.std.specs.Prelude.{◌≡◌, ◌++◌, ℕ, List, IfOk, length};
 ghost use Rattle.lines.specs.Lines.{lines};
 ghost use Rattle.query.specs.Planned.{fields_of_plan, form_of_plan};
-ghost use Rattle.tables.specs.Folding.{HasRead};
+ghost use Rattle.groups.specs.Rows.{Row};
+ghost use Rattle.tables.specs.Folding.{HasRead, ReadsMore};
 
 use crate::sets::Tables;
 use lines::{LineFault, LineRefusal, lines_of, read_record};
@@ -22,7 +23,7 @@ pub(crate) struct Folding {
 }
 
 impl Folding {
-    ghost use Rattle.std.specs.Prelude.{[], ◌∷◌, ◌++◌, ◌+◌, ℕ, List, OnOk, IfOk};
+    ghost use Rattle.std.specs.Prelude.{◌≡◌, [], ◌∷◌, ◌++◌, ℕ, List, OnOk, IfOk};
     ghost use Rattle.values.specs.Datum.{Datum};
     ghost use Rattle.values.specs.Fit.{Fits};
     ghost use Rattle.lines.specs.Taken.{taken};
@@ -30,25 +31,36 @@ impl Folding {
     ghost use Rattle.query_check.specs.Sets.{sets_of};
     ghost use Rattle.query_check.specs.Functions.{functions_of};
     ghost use Rattle.query_truth.specs.Kept.{kept};
-    ghost use Rattle.tables.specs.Folding.{HasRead, ReadsOne, TakesRecord};
+    ghost use Rattle.groups.specs.Rows.{Row};
+    ghost use Rattle.tables.specs.Folding.{HasRead, ReadsMore, TakesRecord};
     ghost use Rattle.tables.specs.Sets.{AreTablesOf};
 
     /// No line has been read.
     pub(crate) fn new(alloc: Global, plan: &Plan) -> Result<Folding, AllocError>
-        ensures { IfOk result (λ folding. HasRead (fields_of_plan plan.now) (form_of_plan plan.now) folding []) }
+        ensures { IfOk result (λ folding. HasRead (fields_of_plan plan.now) (form_of_plan plan.now) [] folding []) }
     {
-        Ok(Folding {
-            tables: Tables::new(alloc, plan.sets(), plan.functions())?,
+        let tables = Tables::new(alloc, plan.sets(), plan.functions())?;
+        Ok(Folding::onto(alloc, tables))
+    }
+
+    /// No line has been read behind the records that tables have.
+    pub(crate) fn onto(alloc: Global, tables: Tables) -> Folding
+        ensures tables { result.tables ≡ tables }
+        ensures lines { result.lines ≡ 0 }
+        ensures refused { result.refused.items ≡ [] }
+    {
+        Folding {
+            tables,
             lines: 0,
             refused: Vec::new(alloc),
-        })
+        }
     }
 
     /// Reads one more line. After an error what has been read is of no use.
     pub(crate) fn read(&mut self, alloc: Global, plan: &Plan, line: &[u8]) -> Result<(), AllocError>
-        requires { ReadsOne (fields_of_plan plan.now) (form_of_plan plan.now) self.old }
-        ensures { OnOk result ((seen : List (List ℕ)) → HasRead (fields_of_plan plan.now) (form_of_plan plan.now) self.old seen
-            → HasRead (fields_of_plan plan.now) (form_of_plan plan.now) self.new (seen ++ line.now ∷ [])) }
+        requires { ReadsMore (fields_of_plan plan.now) (form_of_plan plan.now) self.old 1 }
+        ensures { OnOk result ((before : List Row) (seen : List (List ℕ)) → HasRead (fields_of_plan plan.now) (form_of_plan plan.now) before self.old seen
+            → HasRead (fields_of_plan plan.now) (form_of_plan plan.now) before self.new (seen ++ line.now ∷ [])) }
     {
         match read_record(alloc, plan.schema(), line) {
             Ok(taken) => self.take(plan, taken)?,
@@ -76,12 +88,18 @@ impl Folding {
     }
 }
 
-/// Reads the lines of a piece.
-pub(crate) fn read_lines(alloc: Global, plan: &Plan, piece: &[u8]) -> Result<Folding, AllocError>
-    requires { length piece.now < 2 ^ 63 }
-    ensures { IfOk result (λ folding. HasRead (fields_of_plan plan.now) (form_of_plan plan.now) folding (lines piece.now)) }
+/// Reads the lines of a piece behind earlier pieces. After an error what has been read is of no use.
+pub(crate) fn read_lines(
+    alloc: Global,
+    plan: &Plan,
+    folding: Folding,
+    piece: &[u8],
+) -> Result<Folding, AllocError>
+    requires { ReadsMore (fields_of_plan plan.now) (form_of_plan plan.now) folding (length (lines piece.now)) }
+    ensures { IfOk result (λ done. (before : List Row) (seen : List (List ℕ)) → HasRead (fields_of_plan plan.now) (form_of_plan plan.now) before folding seen
+        → HasRead (fields_of_plan plan.now) (form_of_plan plan.now) before done (seen ++ lines piece.now)) }
 {
-    let mut folding = Folding::new(alloc, plan)?;
+    let mut folding = folding;
     for line in lines_of(piece) {
         folding.read(alloc, plan, line)?;
     }

@@ -36,6 +36,7 @@ impl Partial {
     ghost use Rattle.std.specs.Prelude.{[], ◌∷◌, ◌++◌, ◌+◌, ◌↔◌, ℕ, List, IfOk, IsTrue};
     ghost use Rattle.std.specs.List.Sorted.{IsPermutation};
     ghost use Rattle.values.specs.Schema.{Field};
+    ghost use Rattle.lines.specs.Lines.{lines};
     ghost use Rattle.query_tree.specs.Syntax.{TreeForm};
     ghost use Rattle.query.specs.Planned.{fields_of_plan, form_of_plan};
     ghost use Rattle.query_check.specs.Sets.{sets_of};
@@ -81,11 +82,12 @@ impl Partial {
             StandsFor (fields_of_plan plan.now) (form_of_plan plan.now) partial (record { index = index; bytes = piece.now } ∷ [])) }
     {
         let shape = Shape::of(alloc, plan)?;
+        let folding = Folding::new(alloc, plan)?;
         let Folding {
             tables,
             lines,
             refused,
-        } = read_lines(alloc, plan, piece)?;
+        } = read_lines(alloc, plan, folding, piece)?;
         let count = refused.len() as u64;
         let notes = one_note(
             alloc,
@@ -101,6 +103,44 @@ impl Partial {
             tables,
             lines,
             refused: count,
+            notes,
+        })
+    }
+
+    /// The result over the pieces of this one and one piece more, which has this index among the
+    /// pieces of its input. Its records go into the tables that are there.
+    ///
+    /// # Errors
+    ///
+    /// `AllocError` where there is no memory for it; what was there is given up then.
+    pub fn fold_onto(self, plan: &Plan, index: u32, piece: &[u8]) -> Result<Partial, AllocError>
+        requires of_plan { (pieces : List IndexedPiece) × StandsFor (fields_of_plan plan.now) (form_of_plan plan.now) self pieces }
+        requires few { lines_counted self + length (lines piece.now) < 2 ^ 63 }
+        ensures stands { IfOk result (λ partial. (pieces : List IndexedPiece) → StandsFor (fields_of_plan plan.now) (form_of_plan plan.now) self pieces
+            → StandsFor (fields_of_plan plan.now) (form_of_plan plan.now) partial (pieces ++ record { index = index; bytes = piece.now } ∷ [])) }
+    {
+        let Partial {
+            alloc,
+            shape,
+            tables,
+            lines,
+            refused,
+            mut notes,
+        } = self;
+        let folding = Folding::onto(alloc, tables);
+        let folding = read_lines(alloc, plan, folding, piece)?;
+        let more = folding.refused.len() as u64;
+        notes.push(Note {
+            index,
+            lines: folding.lines,
+            refused: folding.refused,
+        })?;
+        Ok(Partial {
+            alloc,
+            shape,
+            tables: folding.tables,
+            lines: lines + folding.lines,
+            refused: refused + more,
             notes,
         })
     }

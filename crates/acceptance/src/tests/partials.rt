@@ -640,6 +640,29 @@ fn refusal_of_merge(rt: HostRuntime) {
     assert_four_found(&rt, &groups);
 }
 
+/// A piece of the four lines folded onto the result over the one before.
+fn folded_on(rt: &impl Abort, alloc: Global, plan: &Plan) -> Result<Partial, AllocError> {
+    let first = Partial::fold_piece(alloc, plan, 0, &FOUR[..FIRST_LEN])?;
+    assert!(rt; first.lines() < 1 << 62);
+    first.fold_onto(plan, 1, &FOUR[FIRST_LEN..])
+}
+
+/// The same of a piece folded onto a result: the result over both, or want of memory.
+#[test]
+fn refusal_of_fold_onto(rt: HostRuntime) {
+    let Some(plan) = planned_or_refused(&rt, rt.alloc(), BY_D) else {
+        return;
+    };
+    let Ok(folded) = folded_on(&rt, rt.alloc(), &plan) else {
+        return;
+    };
+    assert_four_counted(&rt, &folded);
+    let Ok(groups) = folded.finish(&plan) else {
+        return;
+    };
+    assert_four_found(&rt, &groups);
+}
+
 /// The same of the groups of no line: the one group, or want of memory.
 #[test]
 fn refusal_of_finish(rt: HostRuntime) {

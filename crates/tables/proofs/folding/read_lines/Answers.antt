@@ -1,18 +1,50 @@
-use Rattle.std.proofs.Common.{◌≡◌, ◌+◌, ◌<◌, ◌≤◌, ◌^◌, ◌++◌, ◌∷◌, ℕ, List, length, rules, sym, ap, ◌∙◌, arith, length-append}
+use Rattle.std.proofs.Common.{◌≡◌, ◌+◌, ◌<◌, ◌≤◌, ◌^◌, ◌++◌, ◌∷◌, [], ℕ, List, length, rules, subst, sym, ap, ◌∙◌, append_assoc, append-nil, arith, length-append}
 use Rattle.lines.specs.Lines.{lines}
-use Rattle.tables.proofs.Reading.{length-lines}
+use Rattle.query.specs.Planned.{fields_of_plan, form_of_plan}
+use Rattle.tables.specs.Folding.{HasRead}
+use Rattle.tables.proofs.Reading.{HasReadSome}
 use Rattle.tables.proofs.folding.read_lines.Goals as goal
 
 -- with one more there are at most as many as all
-few : (seen rest all : List (List ℕ)) (line : List ℕ) (bytes : List ℕ) → seen ++ line ∷ rest ≡ all → length all ≤ length bytes → length bytes < 2 ^ 63 → length seen + 1 < 2 ^ 63
-few seen rest all line bytes e h short = let a = ap length (sym e) ∙ length-append seen (line ∷ rest) in omega (arith, a, h, short)
+few : (before : ℕ) (seen rest start more : List (List ℕ)) (line : List ℕ) → seen ++ line ∷ rest ≡ start ++ more → before + length start + length more < 2 ^ 63
+    → before + length seen + 1 < 2 ^ 63
+few before seen rest start more line e short =
+    let a = ap length e in
+    let b = length-append seen (line ∷ rest) in
+    let d = length-append start more in
+    omega (arith, a, b, d, short)
+
+pub loop-line-init : goal.loop-line-init
+loop-line-init c = λ before seen h. record {
+  seen = seen;
+  has_read = h;
+  is = ap (λ ls. seen ++ ls) (c.into_iter-line-iterator.ensures.into_iter_gives ∙ c.lines_of-line-items.ensures);
+}
 
 pub read-requires : goal.read-requires
 read-requires c =
     let left : c.loop-line.line-iterator ≡ c.in-Some.line.now ∷ c.next.new.self = search rules in
-    let v = c.loop-line.invariant in
+    let v = c.loop-line.invariant c.requires.before c.requires.seen c.requires.has_read in
     record {
+      before = c.requires.before;
       seen = v.seen;
       has_read = v.has_read;
-      few = few v.seen c.next.new.self (lines c.args.piece.now) c.in-Some.line.now c.args.piece.now (ap (λ ls. v.seen ++ ls) (sym left) ∙ v.is) (length-lines c.args.piece.now) c.requires;
+      few = few (length c.requires.before) v.seen c.next.new.self c.requires.seen (lines c.args.piece.now) c.in-Some.line.now
+          (ap (λ ls. v.seen ++ ls) (sym left) ∙ v.is) c.requires.few;
     }
+
+pub loop-line-preserved : goal.loop-line-preserved
+loop-line-preserved c = λ before seen h.
+    let left : c.loop-line.line-iterator ≡ c.in-Some.line.now ∷ c.next.new.self = search rules in
+    let v = c.loop-line.invariant before seen h in
+    record {
+      seen = v.seen ++ c.in-Some.line.now ∷ [];
+      has_read = c.in_ok-read.ensures before v.seen v.has_read;
+      is = append_assoc v.seen (c.in-Some.line.now ∷ []) c.next.new.self ∙ ap (λ ls. v.seen ++ ls) (sym left) ∙ v.is;
+    }
+
+pub returns : goal.returns
+returns c = λ before seen h.
+    let v = c.loop-line.invariant before seen h in
+    subst (HasRead (fields_of_plan c.args.plan.now) (form_of_plan c.args.plan.now) before c.loop-line.folding)
+    (sym (append-nil v.seen) ∙ ap (λ ls. v.seen ++ ls) (sym c.in-None.ensures.steps.0) ∙ v.is) v.has_read

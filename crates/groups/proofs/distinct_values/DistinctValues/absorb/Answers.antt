@@ -11,16 +11,17 @@ pub loop-value-preserved : goal.loop-value-preserved
 loop-value-preserved c =
     let rest = c.next.new.self in
     let more = rest_more (λ (x : Value). x) c.loop-value.value-iterator rest c.next.result c.in-Some.value c.in-Some.is c.next.ensures.steps in
-    let so_far = c.loop-value.self-inside.values.keys in
+    let so_far = c.deref_mut.result.now.keys in
     ap (λ (s : Values). set.union s (set_shown rest))
     (shown-insert so_far c.insert.new.self.keys c.in-Some.value c.in_ok-insert.field-0 c.in_ok-insert.ensures.added c.in_ok-insert.ensures.keys)
     ∙ moved (set_shown so_far) (datum_of c.in-Some.value) (data_of rest)
     ∙ ap (λ vs. set.union (set_shown so_far) (set_shown vs)) (sym more)
+    ∙ ap (λ held. set.union (set_shown held.keys) (set_shown c.loop-value.value-iterator)) c.deref_mut.ensures.value
     ∙ c.loop-value.invariant
 
 pub returns : goal.returns
 returns c =
-    let all = set_shown c.loop-value.self-inside.values.keys in
+    let all = set_shown c.loop-value.self-inside.values.value.keys in
     sym (union-empty all)
     ∙ ap (λ vs. set.union all (set_shown vs)) (sym (rest_all (λ (x : Value). x) c.loop-value.value-iterator c.next.new.self c.next.result c.in-None.is c.next.ensures.steps))
     ∙ c.loop-value.invariant

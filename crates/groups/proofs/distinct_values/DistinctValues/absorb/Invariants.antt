@@ -5,4 +5,4 @@ use Rattle.groups.proofs.distinct_values.DistinctValues.absorb.Given as goal
 
 -- the values so far with those that are left are those of both
 abbrev pub invariant-loop-value : goal.invariant-loop-value
-invariant-loop-value l = set.union (set_shown l.self-inside.values.keys) (set_shown l.value-iterator) ≡ set.union l.fn.self l.fn.other
+invariant-loop-value l = set.union (set_shown l.self-inside.values.value.keys) (set_shown l.value-iterator) ≡ set.union l.fn.self l.fn.other

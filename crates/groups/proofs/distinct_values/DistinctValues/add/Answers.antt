@@ -13,6 +13,7 @@ pub returns-in_default : goal.returns-in_default
 returns-in_default c =
     let value = c.args.value.now in
     on_ok_weaker c.insert_copy.result
-    (λ (h : set_shown c.insert_copy.new.values.keys ≡ set.insert (set_shown c.self.inside.values.keys) (datum_of value)).
-    h ∙ ap (λ (s : Values). set.insert s (datum_of value)) c.self.view_is ∙ sym (union-present c.args.self.now value c.in_default.not-Null))
+    (λ (h : set_shown c.insert_copy.new.values.keys ≡ set.insert (set_shown c.deref_mut.result.now.keys) (datum_of value)).
+    h ∙ ap (λ held. set.insert (set_shown held.keys) (datum_of value)) c.deref_mut.ensures.value
+    ∙ ap (λ (s : Values). set.insert s (datum_of value)) c.self.view_is ∙ sym (union-present c.args.self.now value c.in_default.not-Null))
     c.insert_copy.ensures

@@ -6,32 +6,33 @@ use Rattle.lines.specs.Taken.{taken}
 use Rattle.tables.specs.declared.folding.Folding.{Folding}
 use Rattle.tables.specs.Folding.{HasRead, good_of}
 use Rattle.query_truth.specs.Kept.{kept}
-use Rattle.tables.proofs.Reading.{length-good_of, length-kept, read-err, read-ok}
+use Rattle.tables.proofs.Reading.{length-kept_behind, read-err, read-ok}
 use Rattle.tables.proofs.folding.Folding.read.Goals as goal
 use Rattle.tables.proofs.folding.Folding.read.Goals.{in-Ok+in_ok-take-in-Ok, in-Err-Fault+in_ok-push-in-Err-Fault}
 
 pub take-requires-clause-room : goal.take-requires-clause-room
-take-requires-clause-room c = record {
-  rows = kept (fields_of_plan c.args.plan.now) (form_of_plan c.args.plan.now) (good_of (fields_of_plan c.args.plan.now) c.requires.seen);
-  are_tables = c.requires.has_read.tables;
-  few = (let h = length-good_of (fields_of_plan c.args.plan.now) c.requires.seen in
-      let k = length-kept (fields_of_plan c.args.plan.now) (form_of_plan c.args.plan.now) (good_of (fields_of_plan c.args.plan.now) c.requires.seen) in
-      omega (arith, h, k, c.requires.few));
-}
+take-requires-clause-room c =
+    let fields = fields_of_plan c.args.plan.now in
+    let q = form_of_plan c.args.plan.now in
+    record {
+      rows = kept fields q (c.requires.before ++ good_of fields c.requires.seen);
+      are_tables = c.requires.has_read.tables;
+      few = (let h = length-kept_behind fields q c.requires.before c.requires.seen in omega (arith, h, c.requires.few));
+    }
 
 pub returns : goal.returns
-returns c = λ seen h.
+returns c = λ before seen h.
     let fields = fields_of_plan c.args.plan.now in
     let q = form_of_plan c.args.plan.now in
     let line = c.args.line.now in
     elim c.match-read_record.branch [
       | in-Ok+in_ok-take-in-Ok w ↦
-          subst (λ (f : Folding). HasRead fields q (record { tables = f.tables; lines = f.lines + 1; refused = f.refused }) (seen ++ line ∷ [])) (sym w.self-is)
-          (read-ok fields q c.args.self.now w.take.new.self seen line w.in-Ok.taken
+          subst (λ (f : Folding). HasRead fields q before (record { tables = f.tables; lines = f.lines + 1; refused = f.refused }) (seen ++ line ∷ [])) (sym w.self-is)
+          (read-ok fields q before c.args.self.now w.take.new.self seen line w.in-Ok.taken
           (ap (λ fs. taken fs line) (sym c.schema.ensures.schema) ∙ w.in-Ok.ensures.ok) h
           w.in_ok-take-in-Ok.ensures.tables w.in_ok-take-in-Ok.ensures.lines w.in_ok-take-in-Ok.ensures.refused)
       | in-Err-Fault+in_ok-push-in-Err-Fault w ↦
-          read-err fields q c.args.self.now c.match-read_record.self seen line w.in-Err-Fault.fault
+          read-err fields q before c.args.self.now c.match-read_record.self seen line w.in-Err-Fault.fault
           (ap (λ fs. taken fs line) (sym c.schema.ensures.schema) ∙ subst (λ (r : LineRefusal). IsRefusal r (taken c.schema.result.now line)) w.in-Err-Fault.field-0-is w.in-Err-Fault.ensures.refused) h
           (ap (λ (f : Folding). f.tables) w.self-is) (ap (λ (f : Folding). f.lines) w.self-is)
           (ap (λ (f : Folding). f.refused.items) w.self-is ∙ w.in_ok-push-in-Err-Fault.ensures.items)

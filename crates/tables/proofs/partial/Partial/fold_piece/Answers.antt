@@ -1,13 +1,28 @@
-use Rattle.std.proofs.Common.{length, ap, arith}
+use Rattle.std.proofs.Common.{◌≡◌, ◌≤◌, ◌∷◌, [], All, List, length, map, sym, ap, subst, ◌∙◌, arith}
 use Rattle.lines.specs.Lines.{lines}
 use Rattle.query.specs.Planned.{fields_of_plan, form_of_plan}
 use Rattle.query_check.specs.Functions.{functions_of}
 use Rattle.query_check.specs.Sets.{sets_of}
 use Rattle.query_truth.specs.Kept.{kept}
-use Rattle.tables.specs.Folding.{good_of}
+use Rattle.tables.specs.Folding.{good_of, refused_of}
+use Rattle.groups.specs.Rows.{Row}
+use Rattle.std.proofs.lemmas.List.Sorted.{IsPermutation-refl}
+use Rattle.std.specs.List.Sorted.{IsPermutation}
+use Rattle.tables.specs.Notes.{IsWellNumbered, Noted, note_in, note_of}
+use Rattle.tables.specs.Pieces.{IndexedPiece}
+use Rattle.tables.specs.Sets.{AreTablesOf}
+use Rattle.tables.proofs.Growing.{lines-more, notes-more, records-more, refused-more}
 use Rattle.tables.proofs.Merging.{all-within, one-note, within-shape}
-use Rattle.tables.proofs.Reading.{length-good_of, length-kept, length-lines, length-refused_of, well-numbered}
+use Rattle.tables.proofs.Reading.{length-good_of, length-kept, length-lines, length-refused_of, refused-numbers, well-numbered}
 use Rattle.tables.proofs.partial.Partial.fold_piece.Goals as goal
+
+pub read_lines-requires : goal.read_lines-requires
+read_lines-requires c = record {
+  before = [];
+  seen = [];
+  has_read = c.in_ok-folding.ensures;
+  few = (let short = length-lines c.args.piece.now in omega (arith, short, c.requires));
+}
 
 pub invariant_of-result : goal.invariant_of-result
 invariant_of-result c =
@@ -15,7 +30,7 @@ invariant_of-result c =
     let q = form_of_plan c.args.plan.now in
     let shape = c.in_ok-shape.shape in
     let ls = lines c.args.piece.now in
-    let read = c.in_ok-tables.ensures in
+    let read = c.in_ok-tables.ensures [] [] c.in_ok-folding.ensures in
     let folding = c.in_ok-tables.field-0 in
     let good = length-good_of fields ls in
     let few = length-kept fields q (good_of fields ls) in
@@ -29,4 +44,24 @@ invariant_of-result c =
           (all-within (sets_of fields q) (functions_of fields q) folding.tables (kept fields q (good_of fields ls)) folding.lines (omega (arith, good, few, count)) read.tables);
       counted = notes.0;
       numbered = notes.1;
+    }
+
+pub returns : goal.returns
+returns c =
+    let fields = fields_of_plan c.args.plan.now in
+    let q = form_of_plan c.args.plan.now in
+    let bytes = c.args.piece.now in
+    let folding = c.in_ok-tables.field-0 in
+    let read = c.in_ok-tables.ensures [] [] c.in_ok-folding.ensures in
+    record {
+      stands = record {
+        sets = c.in_ok-shape.ensures.sets;
+        functions = c.in_ok-shape.ensures.functions;
+        tables = subst (λ (rows : List Row). AreTablesOf (sets_of fields q) (functions_of fields q) folding.tables (kept fields q rows)) (sym (records-more fields [] c.args.index bytes)) read.tables;
+        lines = (let y = read.lines in let z = lines-more [] c.args.index bytes in omega (arith, y, z));
+        refused = (let n = c.len-count.ensures in let y = ap length read.refused in let z = refused-more fields [] c.args.index bytes in omega (arith, n, y, z));
+        notes = subst (λ (ns : List Noted). IsPermutation (map (note_of fields) (record { index = c.args.index; bytes = bytes } ∷ [])) ns)
+            (sym (ap (map note_in) c.in_ok-notes.ensures))
+            (notes-more fields [] [] c.args.index bytes folding.lines folding.refused.items read.lines read.refused (IsPermutation-refl []));
+      };
     }

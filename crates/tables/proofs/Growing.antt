@@ -1,0 +1,91 @@
+-- A result over some pieces, and one piece more.
+use Rattle.std.proofs.Common.{◌≡◌, ◌+◌, ◌<◌, ◌≤◌, ◌^◌, ℕ, List, [], ◌∷◌, ◌++◌, length, map, refl, sym, ap, subst, ◌∙◌, arith, append-nil, length-append}
+use Rattle.std.proofs.lemmas.List.{map-append}
+use Rattle.std.proofs.lemmas.List.Elements.{All-append}
+use Rattle.std.proofs.lemmas.List.Sorted.{IsPermutation-refl}
+use Rattle.std.specs.List.{All}
+use Rattle.std.specs.List.Sorted.{IsPermutation}
+use Rattle.values.specs.Schema.{Field}
+use Rattle.lines.specs.declared.fault.LineFault.{LineFault}
+use Rattle.lines.specs.Input.{good, refused}
+use Rattle.lines.specs.Lines.{lines}
+use Rattle.query_tree.specs.Syntax.{TreeForm}
+use Rattle.query_check.specs.Functions.{functions_of}
+use Rattle.query_check.specs.Sets.{sets_of}
+use Rattle.query_truth.specs.Kept.{kept}
+use Rattle.groups.specs.Rows.{Row}
+use Rattle.groups.specs.Table.{Contents}
+use Rattle.tables.specs.declared.folding.Folding.{Folding}
+use Rattle.tables.specs.declared.note.Note.{Note}
+use Rattle.tables.specs.Folding.{HasRead, good_of}
+use Rattle.tables.specs.Notes.{IsWellNumbered, Noted, lines_noted, note_in, note_of}
+use Rattle.tables.specs.Pieces.{IndexedPiece, all_lines, records_of, refused_within}
+use Rattle.tables.specs.Sets.{AreTablesOf}
+use Rattle.tables.proofs.Merging.{counted-append, lines-append, notes-append, one-note, records-append, refused-append}
+use Rattle.tables.proofs.Reading.{length-good_of}
+
+-- ---- before the first line of the piece
+
+-- pieces have at most as many good records as lines
+pub few-records : (fields : List Field) (pieces : List IndexedPiece) → length (records_of fields pieces) ≤ length (all_lines pieces)
+few-records fields [] = omega arith
+few-records fields (p ∷ pieces) =
+    let more = few-records fields pieces in
+    let here = length-good_of fields (lines p.bytes) in
+    let a = length-append (good fields p.bytes) (records_of fields pieces) in
+    let b = length-append (lines p.bytes) (all_lines pieces) in
+    omega (arith, more, here, a, b)
+
+-- behind the pieces no line has been read
+pub begun : (fields : List Field) (q : TreeForm) (pieces : List IndexedPiece) (tables : List Contents) (folding : Folding)
+    → AreTablesOf (sets_of fields q) (functions_of fields q) tables (kept fields q (records_of fields pieces))
+    → folding.tables ≡ tables → folding.lines ≡ 0 → folding.refused.items ≡ [] → HasRead fields q (records_of fields pieces) folding []
+begun fields q pieces tables folding held same none nothing = record {
+  tables = subst (λ (ts : List Contents). AreTablesOf (sets_of fields q) (functions_of fields q) ts (kept fields q (records_of fields pieces ++ []))) (sym same)
+      (subst (λ (rows : List Row). AreTablesOf (sets_of fields q) (functions_of fields q) tables (kept fields q rows)) (sym (append-nil (records_of fields pieces))) held);
+  lines = none;
+  refused = nothing;
+}
+
+-- ---- the piece behind the others
+
+abbrev piece_at : ℕ → List ℕ → IndexedPiece
+piece_at index bytes = record { index = index; bytes = bytes }
+
+pub records-more : (fields : List Field) (pieces : List IndexedPiece) (index : ℕ) (bytes : List ℕ)
+    → records_of fields (pieces ++ piece_at index bytes ∷ []) ≡ records_of fields pieces ++ good fields bytes
+records-more fields pieces index bytes =
+    records-append fields pieces (piece_at index bytes ∷ []) ∙ ap (λ rows. records_of fields pieces ++ rows) (append-nil (good fields bytes))
+
+pub lines-more : (pieces : List IndexedPiece) (index : ℕ) (bytes : List ℕ)
+    → length (all_lines (pieces ++ piece_at index bytes ∷ [])) ≡ length (all_lines pieces) + length (lines bytes)
+lines-more pieces index bytes =
+    lines-append pieces (piece_at index bytes ∷ []) ∙ ap (λ ls. length (all_lines pieces) + length ls) (append-nil (lines bytes))
+
+pub refused-more : (fields : List Field) (pieces : List IndexedPiece) (index : ℕ) (bytes : List ℕ)
+    → length (refused_within fields (pieces ++ piece_at index bytes ∷ [])) ≡ length (refused_within fields pieces) + length (refused fields bytes)
+refused-more fields pieces index bytes =
+    refused-append fields pieces (piece_at index bytes ∷ []) ∙ ap (λ rs. length (refused_within fields pieces) + length rs) (append-nil (refused fields bytes))
+
+abbrev noted : ℕ → ℕ → List (ℕ × LineFault) → Noted
+noted index n rs = record { index = index; lines = n; refused = rs }
+
+-- the note of the piece behind those of the others
+pub notes-more : (fields : List Field) (pieces : List IndexedPiece) (ns : List Noted) (index : ℕ) (bytes : List ℕ) (n : ℕ) (rs : List (ℕ × LineFault))
+    → n ≡ length (lines bytes) → rs ≡ refused fields bytes → IsPermutation (map (note_of fields) pieces) ns
+    → IsPermutation (map (note_of fields) (pieces ++ piece_at index bytes ∷ [])) (ns ++ noted index n rs ∷ [])
+notes-more fields pieces ns index bytes n rs e f p =
+    notes-append fields pieces (piece_at index bytes ∷ []) ns (noted index n rs ∷ []) p
+    (subst (λ (note : Noted). IsPermutation (map (note_of fields) (piece_at index bytes ∷ [])) (note ∷ []))
+    (ap (λ m. noted index m (refused fields bytes)) (sym e) ∙ ap (noted index n) (sym f))
+    (IsPermutation-refl (note_of fields (piece_at index bytes) ∷ [])))
+
+-- one note more
+pub one-noted_more : (old new : List Note) (note : Note) (n : ℕ) → new ≡ old ++ note ∷ [] → lines_noted (map note_in old) ≡ n → All IsWellNumbered (map note_in old)
+    → IsWellNumbered (note_in note) → (lines_noted (map note_in new) ≡ n + note.lines) × All IsWellNumbered (map note_in new)
+one-noted_more old new note n e counted well w =
+    let one = one-note (note ∷ []) note refl w in
+    let joined = ap (map note_in) e ∙ map-append note_in old (note ∷ []) in (
+      ap lines_noted joined ∙ counted-append (map note_in old) (note_in note ∷ []) n note.lines counted one.0,
+      subst (λ (ns : List Noted). All IsWellNumbered ns) (sym joined) (All-append IsWellNumbered (map note_in old) (note_in note ∷ []) well one.1),
+    )
