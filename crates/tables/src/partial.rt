@@ -118,6 +118,7 @@ impl Partial {
         requires few { lines_counted self + length (lines piece.now) < 2 ^ 63 }
         ensures stands { IfOk result (λ partial. (pieces : List IndexedPiece) → StandsFor (fields_of_plan plan.now) (form_of_plan plan.now) self pieces
             → StandsFor (fields_of_plan plan.now) (form_of_plan plan.now) partial (pieces ++ record { index = index; bytes = piece.now } ∷ [])) }
+        ensures of_plan { IfOk result (IsPartialOf (fields_of_plan plan.now) (form_of_plan plan.now)) }
     {
         let Partial {
             alloc,

@@ -641,7 +641,9 @@ fn refusal_of_merge(rt: HostRuntime) {
 }
 
 /// A piece of the four lines folded onto the result over the one before.
-fn folded_on(rt: &impl Abort, alloc: Global, plan: &Plan) -> Result<Partial, AllocError> {
+fn folded_on(rt: &impl Abort, alloc: Global, plan: &Plan) -> Result<Partial, AllocError>
+    ensures { IfOk result (IsPartialOf (fields_of_plan plan.now) (form_of_plan plan.now)) }
+{
     let first = Partial::fold_piece(alloc, plan, 0, &FOUR[..FIRST_LEN])?;
     assert!(rt; first.lines() < 1 << 62);
     first.fold_onto(plan, 1, &FOUR[FIRST_LEN..])

@@ -72,24 +72,27 @@ invariant_of-result c =
       numbered = noted.1;
     }
 
-pub returns : goal.returns
-returns c = record {
-  stands = λ pieces p.
-      let fields = fields_of_plan c.args.plan.now in
-      let q = form_of_plan c.args.plan.now in
-      let self = c.args.self in
-      let folding = c.in_ok-folding.folding in
-      let bytes = c.args.piece.now in
-      let read = c.in_ok-folding.ensures (records_of fields pieces) []
-      (begun fields q pieces self.tables c.onto-folding.result p.tables c.onto-folding.ensures.tables c.onto-folding.ensures.lines c.onto-folding.ensures.refused) in
-      record {
-        sets = p.sets;
-        functions = p.functions;
-        tables = subst (λ (rows : List Row). AreTablesOf (sets_of fields q) (functions_of fields q) folding.tables (kept fields q rows)) (sym (records-more fields pieces c.args.index bytes)) read.tables;
-        lines = (let x = p.lines in let y = read.lines in let z = lines-more pieces c.args.index bytes in omega (arith, x, y, z));
-        refused = (let x = p.refused in let n = c.len-more.ensures in let y = ap length read.refused in let z = refused-more fields pieces c.args.index bytes in omega (arith, x, n, y, z));
-        notes = subst (λ (ns : List Noted). IsPermutation (map (note_of fields) (pieces ++ record { index = c.args.index; bytes = bytes } ∷ [])) ns)
-            (sym (ap (map note_in) c.in_ok-push.ensures.items ∙ map-append note_in self.notes.items _))
-            (notes-more fields pieces (map note_in self.notes.items) c.args.index bytes folding.lines folding.refused.items read.lines read.refused p.notes);
-      };
-}
+pub returns-clause-stands : goal.returns-clause-stands
+returns-clause-stands c = λ pieces p.
+    let fields = fields_of_plan c.args.plan.now in
+    let q = form_of_plan c.args.plan.now in
+    let self = c.args.self in
+    let folding = c.in_ok-folding.folding in
+    let bytes = c.args.piece.now in
+    let read = c.in_ok-folding.ensures (records_of fields pieces) []
+    (begun fields q pieces self.tables c.onto-folding.result p.tables c.onto-folding.ensures.tables c.onto-folding.ensures.lines c.onto-folding.ensures.refused) in
+    record {
+      sets = p.sets;
+      functions = p.functions;
+      tables = subst (λ (rows : List Row). AreTablesOf (sets_of fields q) (functions_of fields q) folding.tables (kept fields q rows)) (sym (records-more fields pieces c.args.index bytes)) read.tables;
+      lines = (let x = p.lines in let y = read.lines in let z = lines-more pieces c.args.index bytes in omega (arith, x, y, z));
+      refused = (let x = p.refused in let n = c.len-more.ensures in let y = ap length read.refused in let z = refused-more fields pieces c.args.index bytes in omega (arith, x, n, y, z));
+      notes = subst (λ (ns : List Noted). IsPermutation (map (note_of fields) (pieces ++ record { index = c.args.index; bytes = bytes } ∷ [])) ns)
+          (sym (ap (map note_in) c.in_ok-push.ensures.items ∙ map-append note_in self.notes.items _))
+          (notes-more fields pieces (map note_in self.notes.items) c.args.index bytes folding.lines folding.refused.items read.lines read.refused p.notes);
+    }
+
+pub returns-clause-of_plan : goal.returns-clause-of_plan
+returns-clause-of_plan c =
+    let pieces = c.requires.of_plan.0 in
+    ∣ (pieces ++ record { index = c.args.index; bytes = c.args.piece.now } ∷ [], returns-clause-stands c pieces c.requires.of_plan.1) ∣₁
