@@ -1,3 +1,4 @@
+mod clauses;
 mod explaining;
 mod grouping;
 mod partials;

@@ -7,18 +7,19 @@ use Rattle.query_tokens.specs.declared.token.Word.TheVariants as w
 use Rattle.query_tokens.specs.declared.token.Sign.TheVariants as s
 use Rattle.query_tokens.proofs.Inversions.{some_is}
 use Rattle.query_tree.specs.declared.tree.Tree.{Tree}
-use Rattle.query_tree.specs.Syntax.{PredicateForm, GroupForm, ItemForm, TreeForm, tree_form}
+use Rattle.query_tree.specs.Syntax.{PredicateForm, GroupForm, ItemForm, KeyForm, TreeForm, tree_form}
 use Rattle.query_predicates.specs.declared.fault.GrammarFault.{GrammarFault}
 use Rattle.query_predicates.specs.declared.fault.GrammarFault.TheVariants as faults
 use Rattle.query_predicates.specs.Fronts.{is_word, is_sign, after}
 use Rattle.query_predicates.specs.Steps.{Gives, name_at}
 use Rattle.query_grammar.specs.GroupSteps.{group_at}
-use Rattle.query_grammar.specs.QuerySteps.{alias_at, item_at, items_at, from_at, where_at, groups_at, query_at, whole_at}
-use Rattle.query_grammar.specs.Grammar.{IsItem, IsWhere, IsGroup, IsGroupBy, IsQuery, Derives}
+use Rattle.query_grammar.specs.QuerySteps.{alias_at, item_at, items_at, from_at, clause_at, groups_at, query_at, whole_at}
+use Rattle.query_grammar.specs.Grammar.{IsItem, IsWhere, IsGroup, IsGroupBy, IsHaving, IsOrderBy, IsQuery, Derives}
 use Rattle.query_predicates.proofs.CompleteLists.{repeated_follow, repeated_c, unlimited_c}
 use Rattle.query_predicates.proofs.CompleteExpressions.{expression_c}
-use Rattle.query_predicates.proofs.CompletePredicates.{EndsPredicate, group_ends, nil_ends, predicate_c}
+use Rattle.query_predicates.proofs.CompletePredicates.{EndsPredicate, group_ends, having_ends, order_ends, nil_ends, predicate_c}
 use Rattle.query_grammar.proofs.CompleteGroups.{group_short, group_c}
+use Rattle.query_grammar.proofs.CompleteKeys.{EndsKeys, keys_c, nil_ends_keys}
 
 -- No alias goes on an item that ends here.
 abbrev EndsItem : List Token → Type 0
@@ -38,41 +39,76 @@ record EndsWhere (r : List Token) : Type 0 where
   predicate : EndsPredicate r
   no_where : after (is_word w.Where) r ≡ None
 
-where_c : {ts r : List Token} {p : Option PredicateForm} → IsWhere ts p r → EndsWhere r → where_at ts ≡ Some (p, r)
-unfolding where_at
+where_c : {ts r : List Token} {p : Option PredicateForm} → IsWhere ts p r → EndsWhere r → clause_at w.Where ts ≡ Some (p, r)
+unfolding clause_at
 where_c IsWhere.none q = rw q.no_where refl
 where_c (IsWhere.filter {ts} {r} {p} i) q = rw (predicate_c 65 ts r p i q.predicate) refl
 
--- Neither GROUP nor a comma goes on a query that ends here, nor anything of WHERE.
-record EndsQuery (r : List Token) : Type 0 where
+-- What may stand behind GROUP BY, written or not.
+record EndsGroups (r : List Token) : Type 0 where
   ends_where : EndsWhere r
   no_group : after (is_word w.Group) r ≡ None
   no_comma : after (is_sign s.Comma) r ≡ None
 
-groups_c : {ts r : List Token} {gs : List GroupForm} → IsGroupBy ts gs r → EndsQuery r → groups_at ts ≡ Some (gs, r)
+groups_c : {ts r : List Token} {gs : List GroupForm} → IsGroupBy ts gs r → EndsGroups r → groups_at ts ≡ Some (gs, r)
 unfolding groups_at
 groups_c IsGroupBy.none q = rw q.no_group refl
 groups_c (IsGroupBy.groups {ts} {mid} {r} {g} {gs} p b) q =
     rw (group_c 16 ts mid g p, unlimited_c (tokens.Sign s.Comma) (is_sign s.Comma) (IsGroup 16) (group_at 16) (λ _. Unit {0}) refl (λ _. tt) (λ us v x j _. group_c 16 us v x j) (group_short 16) b tt q.no_comma) refl
 
 -- WHERE ends where GROUP BY begins, written or not.
-groups_begin : {ts r : List Token} {gs : List GroupForm} → IsGroupBy ts gs r → EndsQuery r → EndsWhere ts
+groups_begin : {ts r : List Token} {gs : List GroupForm} → IsGroupBy ts gs r → EndsGroups r → EndsWhere ts
 groups_begin IsGroupBy.none q = q.ends_where
 groups_begin (IsGroupBy.groups {ts} p b) q = record { predicate = group_ends (tokens.Word w.By ∷ ts); no_where = refl }
 
+-- What may stand behind HAVING, written or not.
+record EndsHaving (r : List Token) : Type 0 where
+  ends_groups : EndsGroups r
+  no_having : after (is_word w.Having) r ≡ None
+
+having_c : {ts r : List Token} {p : Option PredicateForm} → IsHaving ts p r → EndsHaving r → clause_at w.Having ts ≡ Some (p, r)
+unfolding clause_at
+having_c IsHaving.none q = rw q.no_having refl
+having_c (IsHaving.filter {ts} {r} {p} i) q = rw (predicate_c 65 ts r p i q.ends_groups.ends_where.predicate) refl
+
+-- GROUP BY ends where HAVING begins, written or not.
+having_begins : {ts r : List Token} {p : Option PredicateForm} → IsHaving ts p r → EndsHaving r → EndsGroups ts
+having_begins IsHaving.none q = q.ends_groups
+having_begins (IsHaving.filter {ts} i) q = record { ends_where = record { predicate = having_ends ts; no_where = refl }; no_group = refl; no_comma = refl }
+
+-- What may stand behind a query.
+record EndsQuery (r : List Token) : Type 0 where
+  ends_having : EndsHaving r
+  ends_keys : EndsKeys r
+
+-- HAVING ends where ORDER BY begins, written or not.
+keys_begin : {ts r : List Token} {ks : List KeyForm} → IsOrderBy ts ks r → EndsQuery r → EndsHaving ts
+keys_begin IsOrderBy.none q = q.ends_having
+keys_begin (IsOrderBy.keys {ts} p b) q = record {
+  ends_groups = record { ends_where = record { predicate = order_ends (tokens.Word w.By ∷ ts); no_where = refl }; no_group = refl; no_comma = refl };
+  no_having = refl;
+}
+
 query_c : {ts r : List Token} {q : TreeForm} → IsQuery ts q r → EndsQuery r → query_at ts ≡ Some (q, r)
 unfolding query_at items_at
-query_c (IsQuery.query {ts} {mid} {after_from} {after_where} {r} {i} {is} {p} {gs} first others few f g) q =
+query_c (IsQuery.query {ts} {mid} {after_from} {after_where} {after_groups} {after_having} {r} {i} {is} {p} {h} {gs} {ks} first others few d_where d_groups d_having d_keys) q =
+    let behind_groups : EndsHaving after_having = keys_begin d_keys q in
+    let behind_where : EndsGroups after_groups = having_begins d_having behind_groups in
     rw (
       item_c ts mid i first (repeated_follow (tokens.Sign s.Comma) IsItem EndsItem (λ _. refl) others refl),
       repeated_c (tokens.Sign s.Comma) (is_sign s.Comma) IsItem item_at EndsItem refl (λ _. refl) item_c others 63 (omega arith) refl refl,
       from_c after_from,
-      where_c f (groups_begin g q),
-      groups_c g q,
+      where_c d_where (groups_begin d_groups behind_where),
+      groups_c d_groups behind_where,
+      having_c d_having behind_groups,
+      keys_c d_keys q.ends_keys,
     ) refl
 
 nil_ends_query : EndsQuery []
-nil_ends_query = record { ends_where = record { predicate = nil_ends; no_where = refl }; no_group = refl; no_comma = refl }
+nil_ends_query = record {
+  ends_having = record { ends_groups = record { ends_where = record { predicate = nil_ends; no_where = refl }; no_group = refl; no_comma = refl }; no_having = refl };
+  ends_keys = nil_ends_keys;
+}
 
 whole_c : (ts : List Token) (q : TreeForm) → Derives ts q → whole_at ts ≡ Some q
 unfolding whole_at

@@ -1,4 +1,6 @@
 pub mod CompleteGroups
+pub mod CompleteKeys
 pub mod Complete
 pub mod SoundGroups
+pub mod SoundKeys
 pub mod Sound

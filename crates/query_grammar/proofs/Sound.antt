@@ -5,26 +5,29 @@ use Rattle.std.specs.Str.{bytes_eq}
 use Rattle.std.proofs.lemmas.Slice.Eq.{bytes_eq-Decides}
 use Rattle.query_tokens.specs.declared.token.Token.{Token}
 use Rattle.query_tokens.specs.declared.token.Token.TheVariants as tokens
+use Rattle.query_tokens.specs.declared.token.Word.{Word}
 use Rattle.query_tokens.specs.declared.token.Word.TheVariants as w
 use Rattle.query_tokens.specs.declared.token.Sign.TheVariants as s
 use Rattle.query_tokens.specs.Options.{◌>>=◌, choose}
 use Rattle.query_tokens.proofs.Inversions.{bind_some, choose_some, some_is, test_some}
 use Rattle.query_tree.specs.declared.tree.Tree.{Tree}
-use Rattle.query_tree.specs.Syntax.{ExpressionForm, PredicateForm, GroupForm, ItemForm, TreeForm, tree_form}
+use Rattle.query_tree.specs.Syntax.{ExpressionForm, PredicateForm, GroupForm, ItemForm, KeyForm, TreeForm, tree_form}
 use Rattle.query_predicates.specs.declared.fault.GrammarFault.{GrammarFault}
 use Rattle.query_predicates.specs.Fronts.{is_word, is_sign, after}
 use Rattle.query_predicates.specs.Steps.{Gives, with_front, more, name_at}
 use Rattle.query_predicates.specs.ExpressionSteps.{expression_at}
 use Rattle.query_predicates.specs.PredicateSteps.{predicate_at}
 use Rattle.query_grammar.specs.GroupSteps.{all_at, group_at}
-use Rattle.query_grammar.specs.QuerySteps.{alias_at, item_at, items_at, from_at, where_at, groups_at, query_at, at_end, whole_at}
-use Rattle.query_predicates.specs.Predicates.{IsRepeated, IsExpression}
-use Rattle.query_grammar.specs.Grammar.{IsItem, IsWhere, IsGroup, IsGroupBy, IsQuery, Derives}
+use Rattle.query_grammar.specs.KeySteps.{keys_at}
+use Rattle.query_grammar.specs.QuerySteps.{alias_at, item_at, items_at, from_at, clause_at, groups_at, query_at, at_end, whole_at}
+use Rattle.query_predicates.specs.Predicates.{Derivation, IsRepeated, IsExpression, IsPredicate}
+use Rattle.query_grammar.specs.Grammar.{IsItem, IsWhere, IsGroup, IsGroupBy, IsHaving, IsQuery, Derives}
 use Rattle.query_predicates.proofs.Heads.{after_word_is}
 use Rattle.query_predicates.proofs.SoundLists.{IsSound, IsListed, only_some, read_as, begins_as, leaves_as, listed_s}
 use Rattle.query_predicates.proofs.SoundExpressions.{name_is, expression_s}
 use Rattle.query_predicates.proofs.SoundPredicates.{predicate_s}
 use Rattle.query_grammar.proofs.SoundGroups.{group_s}
+use Rattle.query_grammar.proofs.SoundKeys.{keys_s}
 
 -- An item with this expression and this alias.
 item_of : ExpressionForm → Option (List ℕ) → ItemForm
@@ -66,15 +69,23 @@ from_is ts rest e =
       same_bytes : (xs ys : List ℕ) → bytes_eq xs ys ≡ true → xs ≡ ys
       same_bytes xs ys e = search (rules, bytes_eq-Decides)
 
-where_s : IsSound IsWhere where_at
-unfolding where_at
-where_s ts x e =
-    elim (choose_some (after (is_word w.Where) ts) (Some (None, ts)) (λ a. predicate_at 65 a >>= λ p. Some (Some p.0, p.1)) x e) [
-      | inl h ↦ read_as IsWhere h.1 IsWhere.none
+-- A clause of one predicate behind its word, or none.
+clause_s : (word : Word) (P : Derivation (Option PredicateForm)) → ((r : List Token) → P r None r)
+    → ((ts r : List Token) (p : PredicateForm) → IsPredicate 65 ts p r → P (tokens.Word word ∷ ts) (Some p) r) → IsSound P (clause_at word)
+unfolding clause_at
+clause_s word P absent written ts x e =
+    elim (choose_some (after (is_word word) ts) (Some (None, ts)) (λ a. predicate_at 65 a >>= λ p. Some (Some p.0, p.1)) x e) [
+      | inl h ↦ read_as P h.1 (absent ts)
       | inr h ↦ (let a = bind_some (predicate_at 65 h.0) (λ p. Some (Some p.0, p.1)) x h.2 in
-          let made : IsWhere (tokens.Word w.Where ∷ h.0) (Some a.0.0) a.0.1 = IsWhere.filter (predicate_s 65 h.0 a.0 a.1) in
-          read_as IsWhere a.2 (begins_as IsWhere (after_word_is w.Where ts h.0 h.1) made))
+          let made : P (tokens.Word word ∷ h.0) (Some a.0.0) a.0.1 = written h.0 a.0.1 a.0.0 (predicate_s 65 h.0 a.0 a.1) in
+          read_as P a.2 (begins_as P (after_word_is word ts h.0 h.1) made))
     ]
+
+where_s : IsSound IsWhere (clause_at w.Where)
+where_s = clause_s w.Where IsWhere (λ r. IsWhere.none) (λ ts r p d. IsWhere.filter d)
+
+having_s : IsSound IsHaving (clause_at w.Having)
+having_s = clause_s w.Having IsHaving (λ r. IsHaving.none) (λ ts r p d. IsHaving.filter d)
 
 groups_s : IsSound IsGroupBy groups_at
 unfolding groups_at
@@ -89,24 +100,31 @@ groups_s ts x e =
           subst (λ (gs : List GroupForm). IsGroupBy ts gs x.1) (sym l.all_is) (begins_as IsGroupBy whole made))
     ]
 
--- A query of these items, this predicate of WHERE and these groups.
-tree_of : List ItemForm → Option PredicateForm → List GroupForm → TreeForm
-tree_of is p gs = record { items = is; filter = p; groups = gs; having = None; keys = [] }
+-- A query of these clauses.
+tree_of : List ItemForm → Option PredicateForm → List GroupForm → Option PredicateForm → List KeyForm → TreeForm
+tree_of is p gs h ks = record { items = is; filter = p; groups = gs; having = h; keys = ks }
 
 query_s : IsSound IsQuery query_at
 unfolding query_at tree_of
 query_s ts x e =
-    let a = only_some (after (is_word w.Select) ts) (λ a. items_at a >>= λ is. from_at is.1 >>= λ b. where_at b >>= λ p. groups_at p.1 >>= λ gs. Some (tree_of is.0 p.0 gs.0, gs.1)) x e in
-    let b = bind_some (items_at a.0) (λ is. from_at is.1 >>= λ b. where_at b >>= λ p. groups_at p.1 >>= λ gs. Some (tree_of is.0 p.0 gs.0, gs.1)) x a.2 in
-    let c = bind_some (from_at b.0.1) (λ c. where_at c >>= λ p. groups_at p.1 >>= λ gs. Some (tree_of b.0.0 p.0 gs.0, gs.1)) x b.2 in
-    let f = bind_some (where_at c.0) (λ p. groups_at p.1 >>= λ gs. Some (tree_of b.0.0 p.0 gs.0, gs.1)) x c.2 in
-    let d = bind_some (groups_at f.0.1) (λ gs. Some (tree_of b.0.0 f.0.0 gs.0, gs.1)) x f.2 in
+    let a = only_some (after (is_word w.Select) ts)
+    (λ a. items_at a >>= λ is. from_at is.1 >>= λ b. clause_at w.Where b >>= λ p. groups_at p.1 >>= λ gs. clause_at w.Having gs.1 >>= λ h. keys_at h.1 >>= λ ks. Some (tree_of is.0 p.0 gs.0 h.0 ks.0, ks.1)) x e in
+    let b = bind_some (items_at a.0)
+    (λ is. from_at is.1 >>= λ b. clause_at w.Where b >>= λ p. groups_at p.1 >>= λ gs. clause_at w.Having gs.1 >>= λ h. keys_at h.1 >>= λ ks. Some (tree_of is.0 p.0 gs.0 h.0 ks.0, ks.1)) x a.2 in
+    let c = bind_some (from_at b.0.1)
+    (λ c. clause_at w.Where c >>= λ p. groups_at p.1 >>= λ gs. clause_at w.Having gs.1 >>= λ h. keys_at h.1 >>= λ ks. Some (tree_of b.0.0 p.0 gs.0 h.0 ks.0, ks.1)) x b.2 in
+    let f = bind_some (clause_at w.Where c.0)
+    (λ p. groups_at p.1 >>= λ gs. clause_at w.Having gs.1 >>= λ h. keys_at h.1 >>= λ ks. Some (tree_of b.0.0 p.0 gs.0 h.0 ks.0, ks.1)) x c.2 in
+    let d = bind_some (groups_at f.0.1) (λ gs. clause_at w.Having gs.1 >>= λ h. keys_at h.1 >>= λ ks. Some (tree_of b.0.0 f.0.0 gs.0 h.0 ks.0, ks.1)) x f.2 in
+    let h = bind_some (clause_at w.Having d.0.1) (λ h. keys_at h.1 >>= λ ks. Some (tree_of b.0.0 f.0.0 d.0.0 h.0 ks.0, ks.1)) x d.2 in
+    let k = bind_some (keys_at h.0.1) (λ ks. Some (tree_of b.0.0 f.0.0 d.0.0 h.0.0 ks.0, ks.1)) x h.2 in
     let l = items_s a.0 b.0 b.1 in
     let tail = leaves_as (IsRepeated (tokens.Sign s.Comma) IsItem) (from_is b.0.1 c.0 c.1) l.tail in
     let few : length l.others < 64 = omega (arith, l.few) in
-    let made : IsQuery (tokens.Word w.Select ∷ a.0) (tree_of (l.first ∷ l.others) f.0.0 d.0.0) d.0.1 = IsQuery.query l.head tail few (where_s c.0 f.0 f.1) (groups_s f.0.1 d.0 d.1) in
-    let named = subst (λ (is : List ItemForm). IsQuery (tokens.Word w.Select ∷ a.0) (tree_of is f.0.0 d.0.0) d.0.1) (sym l.all_is) made in
-    read_as IsQuery d.2 (begins_as IsQuery (after_word_is w.Select ts a.0 a.1) named)
+    let made : IsQuery (tokens.Word w.Select ∷ a.0) (tree_of (l.first ∷ l.others) f.0.0 d.0.0 h.0.0 k.0.0) k.0.1 =
+    IsQuery.query l.head tail few (where_s c.0 f.0 f.1) (groups_s f.0.1 d.0 d.1) (having_s d.0.1 h.0 h.1) (keys_s h.0.1 k.0 k.1) in
+    let named = subst (λ (is : List ItemForm). IsQuery (tokens.Word w.Select ∷ a.0) (tree_of is f.0.0 d.0.0 h.0.0 k.0.0) k.0.1) (sym l.all_is) made in
+    read_as IsQuery k.2 (begins_as IsQuery (after_word_is w.Select ts a.0 a.1) named)
 
 ends_s : (n : List Token) (p q : TreeForm) → at_end n p ≡ Some q → (n ≡ []) × (p ≡ q)
 ends_s [] p q e = (refl, some_is p q e)

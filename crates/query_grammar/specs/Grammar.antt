@@ -2,8 +2,11 @@
 -- derive `x`, and that `rest` stands behind them. Words in capitals are keywords, `{ x }` is none or more, `[ x ]` is
 -- none or one, `|` parts choices:
 --
---     query   = SELECT item { "," item } FROM lines [ WHERE pred ] [ GROUP BY group { "," group } ]
+--     query   = SELECT item { "," item } FROM lines
+--               [ WHERE pred ] [ GROUP BY group { "," group } ]
+--               [ HAVING pred ] [ ORDER BY key { "," key } ]
 --     item    = expr [ AS name ]
+--     key     = expr [ ASC | DESC ] [ NULLS FIRST | NULLS LAST ]
 --     expr    = name | GROUPING "(" name { "," name } ")" | setfn
 --     setfn   = COUNT "(" "*" ")" | COUNT "(" [ DISTINCT ] name ")"
 --             | SUM "(" name ")" | MIN "(" name ")" | MAX "(" name ")" | AVG "(" name ")"
@@ -27,15 +30,16 @@
 --     operand = expr | literal
 --     literal = whole number | text | TRUE | FALSE
 --
--- `lines` is the name `lines`, compared exactly. A query has at most 64 items, a GROUPING at most 8 arguments, an IN at
+-- `lines` is the name `lines`, compared exactly. Where it is not written, a key is ASC, and NULL is last under ASC and first
+-- under DESC. A query has at most 64 items, a GROUPING at most 8 arguments, an IN at
 -- most 64 literals, GROUPING SETS stand in one another at most 16 levels deep, and brackets of predicates at most 64.
 -- The relations of expressions and predicates stand in Predicates of query_predicates.
-use Rattle.std.specs.Prelude.{◌<◌, ℕ, zero, suc, Option, Some, None, List, [], ◌∷◌, length, codes}
+use Rattle.std.specs.Prelude.{◌<◌, ℕ, zero, suc, Bool, true, false, Option, Some, None, List, [], ◌∷◌, length, codes}
 use Rattle.query_tokens.specs.declared.token.Token.{Token}
 use Rattle.query_tokens.specs.declared.token.Token.TheVariants as tokens
 use Rattle.query_tokens.specs.declared.token.Word.TheVariants as w
 use Rattle.query_tokens.specs.declared.token.Sign.TheVariants as s
-use Rattle.query_tree.specs.Syntax.{ExpressionForm, PredicateForm, GroupForm, ItemForm, TreeForm, group_forms}
+use Rattle.query_tree.specs.Syntax.{ExpressionForm, PredicateForm, GroupForm, ItemForm, KeyForm, TreeForm, group_forms}
 use Rattle.query_predicates.specs.Predicates.{Derivation, IsRepeated, IsName, IsExpression, IsPredicate}
 
 -- ---- the query
@@ -80,12 +84,38 @@ pub data IsGroupBy : List Token → List GroupForm → List Token → Type 0 whe
   none : {r : List Token} → IsGroupBy r [] r
   groups : {ts mid r : List Token} {g : GroupForm} {gs : List GroupForm} → IsGroup 16 ts g mid → IsRepeated (tokens.Sign s.Comma) (IsGroup 16) mid gs r → IsGroupBy (tokens.Word w.Group ∷ tokens.Word w.By ∷ ts) (g ∷ gs) r
 
+-- [ HAVING pred ], with at most 64 levels of brackets
+pub data IsHaving : List Token → Option PredicateForm → List Token → Type 0 where
+  none : {r : List Token} → IsHaving r None r
+  filter : {ts r : List Token} {p : PredicateForm} → IsPredicate 65 ts p r → IsHaving (tokens.Word w.Having ∷ ts) (Some p) r
+
+-- [ ASC | DESC ], and whether it is DESC
+pub data IsDirection : List Token → Bool → List Token → Type 0 where
+  none : {r : List Token} → IsDirection r false r
+  ascending : {r : List Token} → IsDirection (tokens.Word w.Asc ∷ r) false r
+  descending : {r : List Token} → IsDirection (tokens.Word w.Desc ∷ r) true r
+
+-- [ NULLS FIRST | NULLS LAST ], and whether NULL is first; where it is not written, NULL is first exactly under DESC
+pub data IsNullOrdering (descending : Bool) : List Token → Bool → List Token → Type 0 where
+  none : {r : List Token} → IsNullOrdering descending r descending r
+  first : {r : List Token} → IsNullOrdering descending (tokens.Word w.Nulls ∷ tokens.Word w.First ∷ r) true r
+  last : {r : List Token} → IsNullOrdering descending (tokens.Word w.Nulls ∷ tokens.Word w.Last ∷ r) false r
+
+-- key
+pub data IsKey : List Token → KeyForm → List Token → Type 0 where
+  key : {ts u v r : List Token} {e : ExpressionForm} {d n : Bool} → IsExpression ts e u → IsDirection u d v → IsNullOrdering d v n r → IsKey ts record { expression = e; descending = d; nulls_first = n } r
+
+-- [ ORDER BY key { "," key } ]
+pub data IsOrderBy : List Token → List KeyForm → List Token → Type 0 where
+  none : {r : List Token} → IsOrderBy r [] r
+  keys : {ts mid r : List Token} {k : KeyForm} {ks : List KeyForm} → IsKey ts k mid → IsRepeated (tokens.Sign s.Comma) IsKey mid ks r → IsOrderBy (tokens.Word w.Order ∷ tokens.Word w.By ∷ ts) (k ∷ ks) r
+
 -- query
 pub data IsQuery : List Token → TreeForm → List Token → Type 0 where
-  query : {ts mid after_from after_where r : List Token} {i : ItemForm} {is : List ItemForm} {p : Option PredicateForm} {gs : List GroupForm}
+  query : {ts mid after_from after_where after_groups after_having r : List Token} {i : ItemForm} {is : List ItemForm} {p h : Option PredicateForm} {gs : List GroupForm} {ks : List KeyForm}
       → IsItem ts i mid → IsRepeated (tokens.Sign s.Comma) IsItem mid is (tokens.Word w.From ∷ tokens.Name (codes "lines") ∷ after_from) → length is < 64
-      → IsWhere after_from p after_where → IsGroupBy after_where gs r
-      → IsQuery (tokens.Word w.Select ∷ ts) record { items = i ∷ is; filter = p; groups = gs; having = None; keys = [] } r
+      → IsWhere after_from p after_where → IsGroupBy after_where gs after_groups → IsHaving after_groups h after_having → IsOrderBy after_having ks r
+      → IsQuery (tokens.Word w.Select ∷ ts) record { items = i ∷ is; filter = p; groups = gs; having = h; keys = ks } r
 
 -- All of the tokens derive the query, within the limits.
 abbrev pub Derives : List Token → TreeForm → Type 0

@@ -1,3 +1,4 @@
 pub mod Grammar
 pub mod GroupSteps
+pub mod KeySteps
 pub mod QuerySteps

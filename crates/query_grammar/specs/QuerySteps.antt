@@ -3,6 +3,7 @@
 use Rattle.std.specs.Prelude.{ℕ, List, [], ◌∷◌, Option, Some, None, cond, codes}
 use Rattle.std.specs.Str.{bytes_eq}
 use Rattle.query_tokens.specs.declared.token.Token.{Token}
+use Rattle.query_tokens.specs.declared.token.Word.{Word}
 use Rattle.query_tokens.specs.declared.token.Word.TheVariants as w
 use Rattle.query_tokens.specs.Options.{◌>>=◌, choose}
 use Rattle.query_tree.specs.Syntax.{PredicateForm, GroupForm, ItemForm, TreeForm}
@@ -11,6 +12,7 @@ use Rattle.query_predicates.specs.Steps.{Reader, listed_at, name_at}
 use Rattle.query_predicates.specs.ExpressionSteps.{expression_at}
 use Rattle.query_predicates.specs.PredicateSteps.{predicate_at}
 use Rattle.query_grammar.specs.GroupSteps.{all_at, group_at}
+use Rattle.query_grammar.specs.KeySteps.{keys_at}
 
 -- An alias, or none.
 unfoldable pub alias_at : Reader (Option (List ℕ))
@@ -28,9 +30,9 @@ items_at ts = listed_at item_at 63 ts
 unfoldable pub from_at : List Token → Option (List Token)
 from_at ts = choose (after (is_word w.From) ts) None (λ a. name_at a >>= λ n. cond (bytes_eq n.0 (codes "lines")) (Some n.1) None)
 
--- The predicate of WHERE, or none.
-unfoldable pub where_at : Reader (Option PredicateForm)
-where_at ts = choose (after (is_word w.Where) ts) (Some (None, ts)) (λ a. predicate_at 65 a >>= λ p. Some (Some p.0, p.1))
+-- The predicate of WHERE or HAVING behind its word, or none.
+unfoldable pub clause_at : Word → Reader (Option PredicateForm)
+clause_at word ts = choose (after (is_word word) ts) (Some (None, ts)) (λ a. predicate_at 65 a >>= λ p. Some (Some p.0, p.1))
 
 -- The elements of GROUP BY, or none.
 unfoldable pub groups_at : Reader (List GroupForm)
@@ -38,8 +40,8 @@ groups_at ts = choose (after (is_word w.Group) ts) (Some ([], ts)) (λ a. choose
 
 -- A query.
 unfoldable pub query_at : Reader TreeForm
-query_at ts = choose (after (is_word w.Select) ts) None (λ a. items_at a >>= λ is. from_at is.1 >>= λ b. where_at b >>= λ p. groups_at p.1 >>= λ gs.
-    Some (record { items = is.0; filter = p.0; groups = gs.0; having = None; keys = [] }, gs.1))
+query_at ts = choose (after (is_word w.Select) ts) None (λ a. items_at a >>= λ is. from_at is.1 >>= λ b. clause_at w.Where b >>= λ p. groups_at p.1 >>= λ gs.
+    clause_at w.Having gs.1 >>= λ h. keys_at h.1 >>= λ ks. Some (record { items = is.0; filter = p.0; groups = gs.0; having = h.0; keys = ks.0 }, ks.1))
 
 -- What was read, where nothing is left.
 abbrev pub at_end : List Token → TreeForm → Option TreeForm

@@ -3,6 +3,7 @@
 
 mod groups;
 mod items;
+mod keys;
 mod reading;
 mod units;
 

@@ -6,10 +6,11 @@ ghost use Rattle.query_tree.specs.Syntax.{TreeForm, tree_form, predicate_form};
 ghost use Rattle.query_predicates.specs.declared.fault.GrammarFault.TheVariants.{OutOfMemory};
 ghost use Rattle.query_grammar.specs.Grammar.{Derives};
 ghost use Rattle.query_predicates.specs.Steps.{Gives};
-ghost use Rattle.query_grammar.specs.QuerySteps.{from_at, where_at, query_at, whole_at};
+ghost use Rattle.query_grammar.specs.QuerySteps.{from_at, clause_at, query_at, whole_at};
 
 use crate::groups::groups;
 use crate::items::items;
+use crate::keys::keys;
 use query_predicates::{
     GrammarFault, MOST_LEVELS, after_word, expect_name, expect_word, predicate, unexpected,
 };
@@ -31,13 +32,17 @@ fn from_lines(tokens: &[Token]) -> Result<&[Token], GrammarFault>
     Err(unexpected(source))
 }
 
-/// The predicate of WHERE, none where it is not written.
-#[tactic(auto, unfolding(crate::specs::QuerySteps::where_at))]
-fn filter(alloc: Global, tokens: &[Token]) -> Result<(Option<Predicate>, &[Token]), GrammarFault>
-    ensures exact { Gives (λ x. (option_map predicate_form x.0, x.1.now)) result (where_at tokens.now) }
+/// The predicate of WHERE or HAVING behind its word, none where it is not written.
+#[tactic(auto, unfolding(crate::specs::QuerySteps::clause_at))]
+fn clause(
+    alloc: Global,
+    tokens: &[Token],
+    word: Word,
+) -> Result<(Option<Predicate>, &[Token]), GrammarFault>
+    ensures exact { Gives (λ x. (option_map predicate_form x.0, x.1.now)) result (clause_at word tokens.now) }
     ensures shorter { IfOk result (λ x. length x.1.now ≤ length tokens.now) }
 {
-    let Some(rest) = after_word(tokens, Word::Where) else {
+    let Some(rest) = after_word(tokens, word) else {
         return Ok((None, tokens));
     };
     let (predicate, rest) = predicate(alloc, rest, MOST_LEVELS + 1)?;
@@ -52,14 +57,16 @@ fn query(alloc: Global, tokens: &[Token]) -> Result<(Tree, &[Token]), GrammarFau
     let rest = expect_word(tokens, Word::Select)?;
     let (items, rest) = items(alloc, rest)?;
     let rest = from_lines(rest)?;
-    let (filter, rest) = filter(alloc, rest)?;
+    let (filter, rest) = clause(alloc, rest, Word::Where)?;
     let (groups, rest) = groups(alloc, rest)?;
+    let (having, rest) = clause(alloc, rest, Word::Having)?;
+    let (keys, rest) = keys(alloc, rest)?;
     let tree = Tree {
         items,
         filter,
         groups,
-        having: None,
-        keys: Vec::new(alloc),
+        having,
+        keys,
     };
     Ok((tree, rest))
 }

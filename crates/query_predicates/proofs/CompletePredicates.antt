@@ -39,6 +39,14 @@ pub group_ends : (ts : List Token) → EndsPredicate (tokens.Word w.Group ∷ ts
 unfolding op_at
 group_ends ts = record { conjunction = record { test = record { no_op = refl; no_not = refl; no_in = refl; no_between = refl; no_is = refl }; no_and = refl }; no_or = refl }
 
+pub having_ends : (ts : List Token) → EndsPredicate (tokens.Word w.Having ∷ ts)
+unfolding op_at
+having_ends ts = record { conjunction = record { test = record { no_op = refl; no_not = refl; no_in = refl; no_between = refl; no_is = refl }; no_and = refl }; no_or = refl }
+
+pub order_ends : (ts : List Token) → EndsPredicate (tokens.Word w.Order ∷ ts)
+unfolding op_at
+order_ends ts = record { conjunction = record { test = record { no_op = refl; no_not = refl; no_in = refl; no_between = refl; no_is = refl }; no_and = refl }; no_or = refl }
+
 pub nil_ends : EndsPredicate []
 unfolding op_at
 nil_ends = record { conjunction = record { test = record { no_op = refl; no_not = refl; no_in = refl; no_between = refl; no_is = refl }; no_and = refl }; no_or = refl }

@@ -1,10 +1,10 @@
 -- The tokens of a good query derive it.
-use Rattle.std.proofs.Common.{ℕ, List, [], ◌∷◌, Option, Some, None}
+use Rattle.std.proofs.Common.{ℕ, Bool, true, false, List, [], ◌∷◌, Option, Some, None}
 use Rattle.query_tokens.specs.declared.token.Token.{Token}
 use Rattle.query_tree.specs.Syntax.{ExpressionForm, PredicateForm, GroupForm, ItemForm, KeyForm, TreeForm}
-use Rattle.query_grammar.specs.Grammar.{IsItem, IsWhere, IsGroup, IsGroupBy, IsQuery}
-use Rattle.query_round.proofs.Good.{Each, Within, GoodExpression, Good, GoodItem, GoodElement, GoodTree}
-use Rattle.query_round.proofs.Onto.{expression_onto, alias_onto, item_onto, group_onto, where_onto, group_by_onto, query_onto}
+use Rattle.query_grammar.specs.Grammar.{IsItem, IsWhere, IsGroup, IsGroupBy, IsHaving, IsDirection, IsNullOrdering, IsKey, IsOrderBy, IsQuery}
+use Rattle.query_round.proofs.Good.{Each, Within, GoodExpression, Good, GoodItem, GoodElement, GoodKey, GoodTree}
+use Rattle.query_round.proofs.Onto.{expression_onto, alias_onto, item_onto, group_onto, where_onto, group_by_onto, having_onto, direction_onto, nulls_onto, key_onto, order_by_onto, query_onto}
 use Rattle.query_round.proofs.DerivePredicates.{commas_derive, expression_d, predicate_d}
 use Rattle.query_round.proofs.DeriveGroups.{group_d}
 
@@ -24,18 +24,37 @@ group_by_d : (gs : List GroupForm) (r : List Token) → Each GoodElement gs → 
 group_by_d [] r g = IsGroupBy.none
 group_by_d (x ∷ gs) r g = IsGroupBy.groups (group_d x 16 _ g.0) (commas_derive (IsGroup 16) group_onto GoodElement (λ y. group_d y 16) gs r g.1)
 
+having_d : (p : Option PredicateForm) (r : List Token) → Within (λ p. Good p 64) p → IsHaving (having_onto p r) p r
+having_d None r g = IsHaving.none
+having_d (Some p) r g = IsHaving.filter (predicate_d p 64 r g)
+
+direction_d : (d : Bool) (r : List Token) → IsDirection (direction_onto d r) d r
+direction_d true r = IsDirection.descending
+direction_d false r = IsDirection.none
+
+nulls_d : (d n : Bool) (r : List Token) → IsNullOrdering d (nulls_onto d n r) n r
+nulls_d true true r = IsNullOrdering.none
+nulls_d true false r = IsNullOrdering.last
+nulls_d false true r = IsNullOrdering.first
+nulls_d false false r = IsNullOrdering.none
+
+key_d : (k : KeyForm) (r : List Token) → GoodKey k → IsKey (key_onto k r) k r
+key_d k r g = IsKey.key (expression_d k.expression _ g) (direction_d k.descending _) (nulls_d k.descending k.nulls_first r)
+
+order_by_d : (ks : List KeyForm) (r : List Token) → Each GoodKey ks → IsOrderBy (order_by_onto ks r) ks r
+order_by_d [] r g = IsOrderBy.none
+order_by_d (k ∷ ks) r g = IsOrderBy.keys (key_d k _ g.0) (commas_derive IsKey key_onto GoodKey key_d ks r g.1)
+
 abbrev tree : List ItemForm → Option PredicateForm → List GroupForm → Option PredicateForm → List KeyForm → TreeForm
 tree is p gs h ks = record { items = is; filter = p; groups = gs; having = h; keys = ks }
 
 parts_d : (is : List ItemForm) (p : Option PredicateForm) (gs : List GroupForm) (h : Option PredicateForm) (ks : List KeyForm) (r : List Token)
     → GoodTree (tree is p gs h ks) → IsQuery (query_onto (tree is p gs h ks) r) (tree is p gs h ks) r
 parts_d [] p gs h ks r g = absurd g.0
-parts_d (i ∷ is) p gs (Some h) ks r g = absurd g.3
-parts_d (i ∷ is) p gs None (k ∷ ks) r g = absurd g.4
-parts_d (i ∷ is) p gs None [] r g =
+parts_d (i ∷ is) p gs h ks r g =
     let items = g.0 in
     let others = commas_derive IsItem item_onto GoodItem item_d is _ items.1 in
-    IsQuery.query (item_d i _ items.0) others items.2 (where_d p _ g.1) (group_by_d gs r g.2)
+    IsQuery.query (item_d i _ items.0) others items.2 (where_d p _ g.1) (group_by_d gs _ g.2) (having_d h _ g.3) (order_by_d ks r g.4)
 
 -- The tokens of a good query derive it.
 pub query_d : (q : TreeForm) (r : List Token) → GoodTree q → IsQuery (query_onto q r) q r

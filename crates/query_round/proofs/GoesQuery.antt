@@ -1,15 +1,15 @@
 -- The canonical text of a good query spells its tokens.
-use Rattle.std.proofs.Common.{ℕ, List, [], ◌∷◌, ◌++◌, map, Option, Some, None}
+use Rattle.std.proofs.Common.{Bool, true, false, List, [], ◌∷◌, ◌++◌, map, Option, Some, None}
 use Rattle.std.specs.Prelude.{codes}
 use Rattle.query_tokens.specs.declared.token.Token.TheVariants as tokens
 use Rattle.query_tokens.specs.declared.token.Word.TheVariants as w
 use Rattle.query_tree.specs.Syntax.{PredicateForm, GroupForm, KeyForm, TreeForm, group_forms}
-use Rattle.query_print.specs.Canonical.{comma_list, item_text, group_texts, key_text, predicate_clause, list_clause, canonical_text}
-use Rattle.query_round.proofs.Good.{Each, Within, Absent, Empty, Good, GoodItem, GoodElement, GoodTree}
-use Rattle.query_round.proofs.Onto.{Onto, commas_onto, item_onto, group_onto, from_onto, where_onto, group_by_onto, query_onto}
+use Rattle.query_print.specs.Canonical.{comma_list, item_text, group_texts, nulls_text, direction_text, key_text, predicate_clause, list_clause, canonical_text}
+use Rattle.query_round.proofs.Good.{Each, Within, Good, GoodItem, GoodElement, GoodKey, GoodTree}
+use Rattle.query_round.proofs.Onto.{commas_onto, item_onto, group_onto, from_onto, where_onto, group_by_onto, having_onto, direction_onto, nulls_onto, key_onto, order_by_onto, query_onto}
 use Rattle.query_round.proofs.Spelled.{spelled_lines}
-use Rattle.query_round.proofs.Goes.{Free, Goes, Begins, free_free, free_goes, goes_goes, begins_of, nothing_goes, nothing_begins, word_free, spaced_free, space_breaks, commas_go}
-use Rattle.query_round.proofs.GoesExpressions.{item_goes, filled_go}
+use Rattle.query_round.proofs.Goes.{Free, Goes, Begins, free_free, free_goes, goes_goes, begins_of, nothing_goes, nothing_begins, word_goes, word_free, spaced_free, space_free, space_breaks, commas_go, each_goes}
+use Rattle.query_round.proofs.GoesExpressions.{expression_goes, item_goes, filled_go}
 use Rattle.query_round.proofs.GoesPredicates.{predicate_goes}
 use Rattle.query_round.proofs.GoesGroups.{groups_go}
 
@@ -43,14 +43,58 @@ group_by_begins : (gs : List GroupForm) → Begins (list_clause (codes " GROUP B
 group_by_begins [] = nothing_begins
 group_by_begins (x ∷ gs) = begins_of (space_breaks _)
 
--- A clause that is not written.
-having_goes : (p : Option PredicateForm) {a : List ℕ} {f : Onto} → Absent p → Goes a f → Goes (a ++ predicate_clause (codes " HAVING ") p) f
-having_goes None g x = goes_goes x nothing_begins nothing_goes
-having_goes (Some p) g x = absurd g
+having_free : Free (codes " HAVING ") (λ ks. tokens.Word w.Having ∷ ks)
+having_free = spaced_free (word_free w.Having)
 
-keys_go : (ks : List KeyForm) {a : List ℕ} {f : Onto} → Empty ks → Goes a f → Goes (a ++ list_clause (codes " ORDER BY ") (map key_text ks)) f
-keys_go [] g x = goes_goes x nothing_begins nothing_goes
-keys_go (k ∷ ks) g x = absurd g
+having_goes : (p : Option PredicateForm) → Within (λ p. Good p 64) p → Goes (predicate_clause (codes " HAVING ") p) (having_onto p)
+having_goes None g = nothing_goes
+having_goes (Some p) g = free_goes having_free (predicate_goes p 64 g)
+
+having_begins : (p : Option PredicateForm) → Begins (predicate_clause (codes " HAVING ") p)
+having_begins None = nothing_begins
+having_begins (Some p) = begins_of (space_breaks _)
+
+-- ---- keys
+
+direction_goes : (d : Bool) → Goes (direction_text d) (direction_onto d)
+direction_goes true = free_goes space_free (word_goes w.Desc)
+direction_goes false = nothing_goes
+
+direction_begins : (d : Bool) → Begins (direction_text d)
+direction_begins true = begins_of (space_breaks _)
+direction_begins false = nothing_begins
+
+nulls_free : Free (codes " NULLS ") (λ ks. tokens.Word w.Nulls ∷ ks)
+nulls_free = spaced_free (word_free w.Nulls)
+
+nulls_go : (d n : Bool) → Goes (nulls_text d n) (nulls_onto d n)
+nulls_go true true = nothing_goes
+nulls_go true false = free_goes nulls_free (word_goes w.Last)
+nulls_go false true = free_goes nulls_free (word_goes w.First)
+nulls_go false false = nothing_goes
+
+nulls_begin : (d n : Bool) → Begins (nulls_text d n)
+nulls_begin true true = nothing_begins
+nulls_begin true false = begins_of (space_breaks _)
+nulls_begin false true = begins_of (space_breaks _)
+nulls_begin false false = nothing_begins
+
+key_goes : (k : KeyForm) → GoodKey k → Goes (key_text k) (key_onto k)
+key_goes k g =
+    let directed = goes_goes (expression_goes k.expression g) (direction_begins k.descending) (direction_goes k.descending) in
+    goes_goes directed (nulls_begin k.descending k.nulls_first) (nulls_go k.descending k.nulls_first)
+
+order_by_free : Free (codes " ORDER BY ") (λ ks. tokens.Word w.Order ∷ tokens.Word w.By ∷ ks)
+order_by_free = free_free (spaced_free (word_free w.Order)) (word_free w.By)
+
+order_by_goes : (ks : List KeyForm) → Each GoodKey ks → Goes (list_clause (codes " ORDER BY ") (map key_text ks)) (order_by_onto ks)
+order_by_goes [] g = nothing_goes
+order_by_goes (k ∷ ks) g =
+    free_goes order_by_free (commas_go (map key_text (k ∷ ks)) (map key_onto (k ∷ ks)) (each_goes GoodKey key_text key_onto key_goes (k ∷ ks) g))
+
+order_by_begins : (ks : List KeyForm) → Begins (list_clause (codes " ORDER BY ") (map key_text ks))
+order_by_begins [] = nothing_begins
+order_by_begins (k ∷ ks) = begins_of (space_breaks _)
 
 -- ---- the query
 
@@ -63,4 +107,4 @@ pub query_goes : (q : TreeForm) → GoodTree q → Goes (canonical_text q) (quer
 query_goes q g =
     let head = goes_goes (items_go q g) (begins_of (space_breaks _)) from_goes in
     let body = goes_goes (goes_goes head (where_begins q.filter) (where_goes q.filter g.1)) (group_by_begins q.groups) (group_by_goes q.groups g.2) in
-    keys_go q.keys g.4 (having_goes q.having g.3 body)
+    goes_goes (goes_goes body (having_begins q.having) (having_goes q.having g.3)) (order_by_begins q.keys) (order_by_goes q.keys g.4)

@@ -6,7 +6,7 @@ use Rattle.query_tree.specs.declared.predicate.Literal.{Literal}
 use Rattle.query_tree.specs.declared.predicate.Literal.TheVariants as literals
 use Rattle.query_tree.specs.declared.expression.Aggregate.{Aggregate}
 use Rattle.query_tree.specs.declared.expression.Aggregate.TheVariants as aggregates
-use Rattle.query_tree.specs.Syntax.{ExpressionForm, FunctionForm, OperandForm, PredicateForm, PredicateForms, GroupForm, GroupForms, ItemForm, TreeForm, name, grouping, function, over_all, over_filtered, or_of, and_of, not_of, truth_test, compare, between, member, null_test, column, no_parts, part, set, rollup, cube, sets, no_groups, group}
+use Rattle.query_tree.specs.Syntax.{ExpressionForm, FunctionForm, OperandForm, PredicateForm, PredicateForms, GroupForm, GroupForms, ItemForm, KeyForm, TreeForm, name, grouping, function, over_all, over_filtered, or_of, and_of, not_of, truth_test, compare, between, member, null_test, column, no_parts, part, set, rollup, cube, sets, no_groups, group}
 use Rattle.query_print.specs.Canonical.{tightness}
 
 -- ---- lists
@@ -30,15 +30,6 @@ Filled most P (x ∷ xs) = P x × Each P xs × (length xs < most)
 abbrev pub Within : {A : Type 0} → (A → Type 0) → Option A → Type 0
 Within P None = Unit {0}
 Within P (Some x) = P x
-
--- Nothing stands in an Option, or in a list.
-abbrev pub Absent : {A : Type 0} → Option A → Type 0
-Absent None = Unit {0}
-Absent (Some x) = ⊥
-
-abbrev pub Empty : {A : Type 0} → List A → Type 0
-Empty [] = Unit {0}
-Empty (x ∷ xs) = ⊥
 
 -- ---- expressions
 
@@ -146,9 +137,11 @@ abbrev mutual
 abbrev pub GoodElement : GroupForm → Type 0
 GoodElement x = GoodGroup x 16
 
--- The grammar has no HAVING and no ORDER BY.
+abbrev pub GoodKey : KeyForm → Type 0
+GoodKey k = GoodExpression k.expression
+
 abbrev pub GoodTree : TreeForm → Type 0
-GoodTree q = Filled 64 GoodItem q.items × Within (λ p. Good p 64) q.filter × Each GoodElement q.groups × Absent q.having × Empty q.keys
+GoodTree q = Filled 64 GoodItem q.items × Within (λ p. Good p 64) q.filter × Each GoodElement q.groups × Within (λ p. Good p 64) q.having × Each GoodKey q.keys
 
 -- ---- more levels of brackets do no harm
 

@@ -1,13 +1,15 @@
 -- A query that sane tokens derive is good.
-use Rattle.std.proofs.Common.{List, ◌∷◌, Option}
+use Rattle.std.proofs.Common.{Bool, List, ◌∷◌, Option}
+use Rattle.query_tokens.specs.declared.token.Token.{Token}
 use Rattle.query_tokens.specs.declared.token.Token.TheVariants as tokens
 use Rattle.query_tokens.specs.declared.token.Word.TheVariants as w
 use Rattle.query_tokens.specs.declared.token.Sign.TheVariants as s
-use Rattle.query_tree.specs.Syntax.{PredicateForm, GroupForm, ItemForm, TreeForm}
-use Rattle.query_grammar.specs.Grammar.{IsItem, IsWhere, IsGroup, IsGroupBy, IsQuery}
-use Rattle.query_round.proofs.Good.{Each, Within, Good, GoodItem, GoodElement, GoodTree}
+use Rattle.query_tree.specs.Syntax.{PredicateForm, GroupForm, ItemForm, KeyForm, TreeForm}
+use Rattle.query_grammar.specs.Grammar.{IsItem, IsWhere, IsGroup, IsGroupBy, IsHaving, IsDirection, IsNullOrdering, IsKey, IsOrderBy, IsQuery}
+use Rattle.query_round.proofs.Good.{Each, Within, Good, GoodItem, GoodElement, GoodKey, GoodTree}
 use Rattle.query_round.proofs.GoodPredicates.{Leaves, repeated_leaves, expression_leaves, predicate_leaves}
 use Rattle.query_round.proofs.GoodGroups.{group_leaves}
+use Rattle.query_round.proofs.Sane.{AllSane}
 
 item_leaves : Leaves ItemForm IsItem GoodItem
 item_leaves ts r _ (IsItem.plain {e} d) h = let g = expression_leaves ts r e d h in ((g.0, tt), g.1)
@@ -24,11 +26,39 @@ group_by_leaves _ _ _ (IsGroupBy.groups {ts} {mid} {g = x} d tail) h =
     let others = repeated_leaves GroupForm (tokens.Sign s.Comma) (IsGroup 16) GoodElement (group_leaves 16) tail first.1 in
     ((first.0, others.0), others.1)
 
+having_leaves : Leaves (Option PredicateForm) IsHaving (Within (λ p. Good p 64))
+having_leaves _ _ _ IsHaving.none h = (tt, h)
+having_leaves _ r _ (IsHaving.filter {ts} {p} d) h = predicate_leaves 65 ts r p d h.1
+
+direction_leaves : {ts r : List Token} {d : Bool} → IsDirection ts d r → AllSane ts → AllSane r
+direction_leaves IsDirection.none h = h
+direction_leaves IsDirection.ascending h = h.1
+direction_leaves IsDirection.descending h = h.1
+
+null_ordering_leaves : {ts r : List Token} {d n : Bool} → IsNullOrdering d ts n r → AllSane ts → AllSane r
+null_ordering_leaves IsNullOrdering.none h = h
+null_ordering_leaves IsNullOrdering.first h = h.1.1
+null_ordering_leaves IsNullOrdering.last h = h.1.1
+
+key_leaves : Leaves KeyForm IsKey GoodKey
+key_leaves _ _ _ (IsKey.key {ts} {u} {e} d direction nulls) h =
+    let g = expression_leaves ts u e d h in
+    (g.0, null_ordering_leaves nulls (direction_leaves direction g.1))
+
+order_by_leaves : Leaves (List KeyForm) IsOrderBy (Each GoodKey)
+order_by_leaves _ _ _ IsOrderBy.none h = (tt, h)
+order_by_leaves _ _ _ (IsOrderBy.keys {ts} {mid} {k} d tail) h =
+    let first = key_leaves ts mid k d h.1.1 in
+    let others = repeated_leaves KeyForm (tokens.Sign s.Comma) IsKey GoodKey key_leaves tail first.1 in
+    ((first.0, others.0), others.1)
+
 -- A query that sane tokens derive is good.
 pub query_leaves : Leaves TreeForm IsQuery GoodTree
-query_leaves _ r _ (IsQuery.query {ts} {mid} {after_from} {after_where} {i} {is} {p} {gs} d tail few d_where d_groups) h =
+query_leaves _ r _ (IsQuery.query {ts} {mid} {after_from} {after_where} {after_groups} {after_having} {i} {is} {p} {h = had} {gs} {ks} d tail few d_where d_groups d_having d_keys) h =
     let first = item_leaves ts mid i d h.1 in
     let others = repeated_leaves ItemForm (tokens.Sign s.Comma) IsItem GoodItem item_leaves tail first.1 in
     let filter = where_leaves after_from after_where p d_where others.1.1.1 in
-    let groups = group_by_leaves after_where r gs d_groups filter.1 in
-    (((first.0, others.0, few), filter.0, groups.0, tt, tt), groups.1)
+    let groups = group_by_leaves after_where after_groups gs d_groups filter.1 in
+    let having = having_leaves after_groups after_having had d_having groups.1 in
+    let keys = order_by_leaves after_having r ks d_keys having.1 in
+    (((first.0, others.0, few), filter.0, groups.0, having.0, keys.0), keys.1)

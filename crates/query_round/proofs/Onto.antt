@@ -15,7 +15,7 @@ use Rattle.query_tree.specs.declared.predicate.Literal.{Literal}
 use Rattle.query_tree.specs.declared.predicate.Literal.TheVariants as literals
 use Rattle.query_tree.specs.declared.expression.Aggregate.{Aggregate}
 use Rattle.query_tree.specs.declared.expression.Aggregate.TheVariants as aggregates
-use Rattle.query_tree.specs.Syntax.{ExpressionForm, FunctionForm, OperandForm, PredicateForm, PredicateForms, GroupForm, GroupForms, ItemForm, TreeForm, name, grouping, function, over_all, over_filtered, or_of, and_of, not_of, truth_test, compare, between, member, null_test, column, no_parts, part, set, rollup, cube, sets, no_groups, group}
+use Rattle.query_tree.specs.Syntax.{ExpressionForm, FunctionForm, OperandForm, PredicateForm, PredicateForms, GroupForm, GroupForms, ItemForm, KeyForm, TreeForm, name, grouping, function, over_all, over_filtered, or_of, and_of, not_of, truth_test, compare, between, member, null_test, column, no_parts, part, set, rollup, cube, sets, no_groups, group}
 use Rattle.query_print.specs.Canonical.{tightness}
 
 -- Tokens in front of others.
@@ -157,6 +157,29 @@ abbrev pub group_by_onto : List GroupForm → Onto
 group_by_onto [] r = r
 group_by_onto (g ∷ gs) r = tokens.Word w.Group ∷ tokens.Word w.By ∷ commas_onto (map group_onto (g ∷ gs)) r
 
+abbrev pub having_onto : Option PredicateForm → Onto
+having_onto None r = r
+having_onto (Some p) r = tokens.Word w.Having ∷ predicate_onto p r
+
+abbrev pub direction_onto : Bool → Onto
+direction_onto true r = tokens.Word w.Desc ∷ r
+direction_onto false r = r
+
+-- Where NULL stands is written only where it is not the default.
+abbrev pub nulls_onto : Bool → Bool → Onto
+nulls_onto true true r = r
+nulls_onto true false r = tokens.Word w.Nulls ∷ tokens.Word w.Last ∷ r
+nulls_onto false true r = tokens.Word w.Nulls ∷ tokens.Word w.First ∷ r
+nulls_onto false false r = r
+
+abbrev pub key_onto : KeyForm → Onto
+key_onto k r = expression_onto k.expression (direction_onto k.descending (nulls_onto k.descending k.nulls_first r))
+
+abbrev pub order_by_onto : List KeyForm → Onto
+order_by_onto [] r = r
+order_by_onto (k ∷ ks) r = tokens.Word w.Order ∷ tokens.Word w.By ∷ commas_onto (map key_onto (k ∷ ks)) r
+
 abbrev pub query_onto : TreeForm → Onto
 query_onto q r =
-    tokens.Word w.Select ∷ commas_onto (map item_onto q.items) (from_onto (where_onto q.filter (group_by_onto q.groups r)))
+    tokens.Word w.Select ∷ commas_onto (map item_onto q.items)
+    (from_onto (where_onto q.filter (group_by_onto q.groups (having_onto q.having (order_by_onto q.keys r)))))

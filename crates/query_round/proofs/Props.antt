@@ -1,12 +1,12 @@
 -- A query is good in one way at most.
-use Rattle.std.proofs.Common.{arith, length, ◌<◌, ◌≤◌, ◌^◌, ℕ, zero, suc, List, [], ◌∷◌, Option, Some, None, ◌⊎◌, inl, inr, ap}
+use Rattle.std.proofs.Common.{arith, length, ◌<◌, ◌≤◌, ◌^◌, ℕ, zero, suc, [], ◌∷◌, Some, None, ◌⊎◌, inl, inr, ap}
 use Rattle.std.proofs.Math.IntN.{pos, negsuc}
 use Rattle.std.proofs.Math.Bridge.{le_prop}
 use Rattle.query_tree.specs.declared.predicate.Literal.TheVariants as literals
 use Rattle.query_tree.specs.declared.expression.Aggregate.TheVariants as aggregates
 use Rattle.query_tree.specs.Syntax.{OperandForm, PredicateForm, PredicateForms, GroupForm, GroupForms, name, grouping, function, over_all, over_filtered, or_of, and_of, not_of, truth_test, compare, between, member, null_test, column, no_parts, part, set, rollup, cube, sets, no_groups, group}
 use Rattle.query_print.specs.Canonical.{tightness}
-use Rattle.query_round.proofs.Good.{Each, Inhabited, Filled, Within, Absent, Empty, GoodName, GoodAggregate, GoodFunction, GoodExpression, InRange, GoodLiteral, GoodOperand, IsMany, Deeper, Fits, Good, PartsFit, GoodItem, GoodUnit, IsFilled, GoodGroup, GoodGroups, GoodElement, GoodTree}
+use Rattle.query_round.proofs.Good.{Each, Inhabited, Filled, Within, GoodName, GoodAggregate, GoodFunction, GoodExpression, InRange, GoodLiteral, GoodOperand, IsMany, Deeper, Fits, Good, PartsFit, GoodItem, GoodUnit, IsFilled, GoodGroup, GoodGroups, GoodElement, GoodKey, GoodTree}
 
 le_one : (a b : ℕ) → IsProp (a ≤ b)
 le_one a b = le_prop
@@ -52,14 +52,6 @@ filled_one most P one (x ∷ xs) = three_one (one x) (each_one P one xs) (lt_one
 within_one : {A : Type 0} (P : A → Type 0) → AllOne P → AllOne (Within P)
 within_one P one None = unit_one
 within_one P one (Some x) = one x
-
-absent_one : {A : Type 0} (o : Option A) → IsProp (Absent o)
-absent_one None = unit_one
-absent_one (Some x) = none_one
-
-empty_one : {A : Type 0} (xs : List A) → IsProp (Empty xs)
-empty_one [] = unit_one
-empty_one (x ∷ xs) = none_one
 
 -- ---- expressions
 
@@ -159,6 +151,6 @@ tree_one q =
     let items = filled_one 64 GoodItem item_one q.items in
     let filter = within_one (λ p. Good p 64) (λ p. good_one p 64) q.filter in
     let groups = each_one GoodElement (λ x. group_one x 16) q.groups in
-    let having = absent_one q.having in
-    let keys = empty_one q.keys in
+    let having = within_one (λ p. Good p 64) (λ p. good_one p 64) q.having in
+    let keys = each_one GoodKey (λ k. expression_one k.expression) q.keys in
     hlevel (items, filter, groups, having, keys)

@@ -206,7 +206,7 @@ fn takes_64_items_and_no_more(rt: HostRuntime) -> Result<(), Fail> {
 }
 
 /// A name in so many brackets.
-fn in_brackets(alloc: Global, levels: usize) -> Result<String, Fail> {
+pub fn in_brackets(alloc: Global, levels: usize) -> Result<String, Fail> {
     let mut text = String::new(alloc);
     for _ in 0..levels {
         text.push('(')?;

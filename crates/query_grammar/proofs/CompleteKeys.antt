@@ -1,0 +1,78 @@
+-- Keys that derive from tokens are read.
+use Rattle.std.proofs.Common.{arith, length, ◌≤◌, ◌≡◌, Bool, List, [], ◌∷◌, Some, None, refl}
+use Rattle.query_tokens.specs.declared.token.Token.{Token}
+use Rattle.query_tokens.specs.declared.token.Token.TheVariants as tokens
+use Rattle.query_tokens.specs.declared.token.Word.TheVariants as w
+use Rattle.query_tokens.specs.declared.token.Sign.TheVariants as s
+use Rattle.query_tree.specs.Syntax.{KeyForm}
+use Rattle.query_predicates.specs.Fronts.{is_word, is_sign, after}
+use Rattle.query_predicates.proofs.CompleteLists.{Shrinks, repeated_follow, unlimited_c}
+use Rattle.query_predicates.proofs.CompleteExpressions.{expression_c, expression_short}
+use Rattle.query_grammar.specs.KeySteps.{direction_at, null_ordering_at, key_at, keys_at}
+use Rattle.query_grammar.specs.Grammar.{IsDirection, IsNullOrdering, IsKey, IsOrderBy}
+
+-- Neither ASC nor DESC goes on a direction that ends here.
+pub record EndsDirection (r : List Token) : Type 0 where
+  pub no_asc : after (is_word w.Asc) r ≡ None
+  pub no_desc : after (is_word w.Desc) r ≡ None
+
+-- Nothing goes on a key that ends here.
+pub record EndsKey (r : List Token) : Type 0 where
+  pub direction : EndsDirection r
+  pub no_nulls : after (is_word w.Nulls) r ≡ None
+
+-- Neither a comma goes on the keys that end here, nor anything of a key, nor do they begin.
+pub record EndsKeys (r : List Token) : Type 0 where
+  pub key : EndsKey r
+  pub no_order : after (is_word w.Order) r ≡ None
+  pub no_comma : after (is_sign s.Comma) r ≡ None
+
+direction_c : {ts r : List Token} {d : Bool} → IsDirection ts d r → EndsDirection r → direction_at ts ≡ (d, r)
+unfolding direction_at
+direction_c IsDirection.none q = rw (q.no_desc, q.no_asc) refl
+direction_c IsDirection.ascending q = refl
+direction_c IsDirection.descending q = refl
+
+null_ordering_c : {ts r : List Token} {d n : Bool} → IsNullOrdering d ts n r → EndsKey r → null_ordering_at d ts ≡ Some (n, r)
+unfolding null_ordering_at
+null_ordering_c IsNullOrdering.none q = rw q.no_nulls refl
+null_ordering_c IsNullOrdering.first q = refl
+null_ordering_c IsNullOrdering.last q = refl
+
+-- A direction ends where the place of NULL is said, written or not.
+null_ordering_begins : {ts r : List Token} {d n : Bool} → IsNullOrdering d ts n r → EndsKey r → EndsDirection ts
+null_ordering_begins IsNullOrdering.none q = q.direction
+null_ordering_begins IsNullOrdering.first q = record { no_asc = refl; no_desc = refl }
+null_ordering_begins IsNullOrdering.last q = record { no_asc = refl; no_desc = refl }
+
+key_c : (ts r : List Token) (k : KeyForm) → IsKey ts k r → EndsKey r → key_at ts ≡ Some (k, r)
+unfolding key_at
+key_c _ _ _ (IsKey.key e d n) q = rw (expression_c e, direction_c d (null_ordering_begins n q), null_ordering_c n q) refl
+
+direction_short : {ts r : List Token} {d : Bool} → IsDirection ts d r → length r ≤ length ts
+direction_short IsDirection.none = omega arith
+direction_short IsDirection.ascending = omega arith
+direction_short IsDirection.descending = omega arith
+
+null_ordering_short : {ts r : List Token} {d n : Bool} → IsNullOrdering d ts n r → length r ≤ length ts
+null_ordering_short IsNullOrdering.none = omega arith
+null_ordering_short IsNullOrdering.first = omega arith
+null_ordering_short IsNullOrdering.last = omega arith
+
+key_short : Shrinks IsKey
+key_short _ _ _ (IsKey.key {ts} {u} {v} {r} {e} p d n) = omega (arith, expression_short ts u e p, direction_short d, null_ordering_short n)
+
+comma_ends : (ts : List Token) → EndsKey (tokens.Sign s.Comma ∷ ts)
+comma_ends ts = record { direction = record { no_asc = refl; no_desc = refl }; no_nulls = refl }
+
+pub keys_c : {ts r : List Token} {ks : List KeyForm} → IsOrderBy ts ks r → EndsKeys r → keys_at ts ≡ Some (ks, r)
+unfolding keys_at
+keys_c IsOrderBy.none q = rw q.no_order refl
+keys_c (IsOrderBy.keys {ts} {mid} {r} {k} {ks} p b) q =
+    rw (
+      key_c ts mid k p (repeated_follow (tokens.Sign s.Comma) IsKey EndsKey comma_ends b q.key),
+      unlimited_c (tokens.Sign s.Comma) (is_sign s.Comma) IsKey key_at EndsKey refl comma_ends key_c key_short b q.key q.no_comma,
+    ) refl
+
+pub nil_ends_keys : EndsKeys []
+nil_ends_keys = record { key = record { direction = record { no_asc = refl; no_desc = refl }; no_nulls = refl }; no_order = refl; no_comma = refl }

@@ -1,0 +1,95 @@
+//! Reads the keys of ORDER BY.
+
+ghost use Rattle.std.specs.Prelude.{◌≡◌, ◌<◌, ◌≤◌, ◌∷◌, [], length, map, IfOk};
+ghost use Rattle.query_tokens.specs.declared.token.Sign.TheVariants.{Comma};
+ghost use Rattle.query_tree.specs.Syntax.{key_form};
+ghost use Rattle.query_predicates.specs.Fronts.{is_sign};
+ghost use Rattle.query_predicates.specs.Steps.{Gives, with_front, more};
+ghost use Rattle.query_grammar.specs.KeySteps.{direction_at, null_ordering_at, key_at, keys_at};
+
+use query_predicates::{GrammarFault, after_sign, after_word, expect_word, expression};
+use query_tokens::{Sign, Token, Word};
+use query_tree::Key;
+use std::alloc::Global;
+
+/// Whether DESC is written, and what stands behind it or behind ASC.
+#[tactic(auto, unfolding(crate::specs::KeySteps::direction_at))]
+fn direction(tokens: &[Token]) -> (bool, &[Token])
+    ensures exact { direction_at tokens.now ≡ (result.0, result.1.now) }
+    ensures shorter { length result.1.now ≤ length tokens.now }
+{
+    if let Some(rest) = after_word(tokens, Word::Desc) {
+        return (true, rest);
+    }
+    match after_word(tokens, Word::Asc) {
+        Some(rest) => (false, rest),
+        None => (false, tokens),
+    }
+}
+
+/// Whether NULL is first: as it is written, else exactly under DESC.
+#[tactic(auto, unfolding(crate::specs::KeySteps::null_ordering_at))]
+fn null_ordering(tokens: &[Token], descending: bool) -> Result<(bool, &[Token]), GrammarFault>
+    ensures exact { Gives (λ x. (x.0, x.1.now)) result (null_ordering_at descending tokens.now) }
+    ensures shorter { IfOk result (λ x. length x.1.now ≤ length tokens.now) }
+{
+    let Some(rest) = after_word(tokens, Word::Nulls) else {
+        return Ok((descending, tokens));
+    };
+    if let Some(rest) = after_word(rest, Word::First) {
+        return Ok((true, rest));
+    }
+    let rest = expect_word(rest, Word::Last)?;
+    Ok((false, rest))
+}
+
+/// A key, with its defaults resolved.
+#[tactic(auto, unfolding(crate::specs::KeySteps::key_at))]
+fn key(alloc: Global, tokens: &[Token]) -> Result<(Key, &[Token]), GrammarFault>
+    ensures exact { Gives (λ x. (key_form x.0, x.1.now)) result (key_at tokens.now) }
+    ensures shorter { IfOk result (λ x. length x.1.now < length tokens.now) }
+{
+    let (expression, rest) = expression(alloc, tokens)?;
+    let (descending, rest) = direction(rest);
+    let (nulls_first, rest) = null_ordering(rest, descending)?;
+    let key = Key {
+        expression,
+        descending,
+        nulls_first,
+    };
+    Ok((key, rest))
+}
+
+/// The first key and those behind it, each behind its comma.
+fn more_keys(
+    alloc: Global,
+    first: Key,
+    tokens: &[Token],
+) -> Result<(Vec<Key>, &[Token]), GrammarFault>
+    ensures exact { Gives (λ x. (map key_form x.0.items, x.1.now)) result (with_front (key_form first ∷ []) (more (is_sign Comma) key_at (length tokens.now) tokens.now)) }
+    ensures shorter { IfOk result (λ x. length x.1.now ≤ length tokens.now) }
+{
+    let mut all = Vec::new(alloc);
+    all.push(first)?;
+    let mut rest = tokens;
+    while let Some(behind) = after_sign(rest, Sign::Comma) {
+        let (next, left) = key(alloc, behind)?;
+        all.push(next)?;
+        rest = left;
+    }
+    Ok((all, rest))
+}
+
+/// The keys of ORDER BY, none where it is not written.
+#[tactic(auto, unfolding(crate::specs::KeySteps::keys_at))]
+pub fn keys(alloc: Global, tokens: &[Token]) -> Result<(Vec<Key>, &[Token]), GrammarFault>
+    ensures exact { Gives (λ x. (map key_form x.0.items, x.1.now)) result (keys_at tokens.now) }
+    ensures shorter { IfOk result (λ x. length x.1.now ≤ length tokens.now) }
+{
+    let Some(rest) = after_word(tokens, Word::Order) else {
+        return Ok((Vec::new(alloc), tokens));
+    };
+    let rest = expect_word(rest, Word::By)?;
+    let (first, rest) = key(alloc, rest)?;
+    more_keys(alloc, first, rest)
+}
