@@ -6,3 +6,4 @@ pub mod Keys
 pub mod Maps
 pub mod Wide
 mod Examples
+pub mod Filtering

@@ -1,5 +1,6 @@
-pub mod Order
 pub mod Shown
+pub mod Having
+pub mod Order
 pub mod Text
 pub mod Report
 pub mod Laws
