@@ -1,5 +1,5 @@
 -- The order in which the rows of a report stand.
-use Rattle.std.specs.Prelude.{◌≡◌, ℕ, false, Bool, ⊤, List, [], ◌∷◌, map, if◌then◌else◌}
+use Rattle.std.specs.Prelude.{◌≡◌, false, Bool, ⊤, List, [], ◌∷◌, map, if◌then◌else◌}
 use Rattle.std.specs.declared.cmp.Ordering.{Ordering}
 use Rattle.std.specs.declared.cmp.Ordering.TheVariants.{Less, Equal, Greater}
 use Rattle.std.specs.Ordering.{is_gt, nat_cmp, ordering_reverse, ordering_then}
