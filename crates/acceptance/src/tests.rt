@@ -1,4 +1,5 @@
 mod explaining;
+mod ordering;
 mod partials;
 mod plans;
 mod predicates;
