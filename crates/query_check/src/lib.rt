@@ -13,7 +13,7 @@ mod typing;
 pub use columns::place_of;
 pub use expansion::set_count;
 pub use function::ColumnFunction;
-pub use resolution::{Resolved, check_tree};
+pub use resolution::{Resolved, check_tree, key_expression};
 pub use scope::Clause;
 
 #[cfg(test)]

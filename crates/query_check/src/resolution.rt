@@ -93,7 +93,7 @@ fn check_items(scope: &Scope, items: &[Item]) -> Result<(), QueryFault>
 }
 
 /// The expression that a key stands for: that of the item whose alias it is, else its own.
-fn key_expression<'a>(items: &'a [Item], expression: &'a Expression) -> &'a Expression
+pub fn key_expression<'a>(items: &'a [Item], expression: &'a Expression) -> &'a Expression
     ensures { expression_form result.now ≡ key_expression (map item_form items.now) (expression_form expression.now) }
 {
     let Expression::Name(name) = expression else {

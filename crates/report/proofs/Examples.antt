@@ -1,5 +1,6 @@
 -- The definitions at some values.
 use Rattle.std.proofs.Common.{◌≡◌, ℕ, pos, negsuc, true, false, List, [], ◌∷◌, codes, refl, None, Some}
+use Rattle.std.specs.declared.cmp.Ordering.TheVariants.{Greater}
 use Rattle.std.specs.Fmt.{digits}
 use Rattle.csv.specs.Writing.{fields_text, is_blank}
 use Rattle.values.specs.Datum.{Datum, whole, text, null}
@@ -7,9 +8,10 @@ use Rattle.values.specs.Schema.{Field}
 use Rattle.values.specs.declared.schema.Kind.TheVariants as kind
 use Rattle.lines.specs.declared.fault.LineFault.TheVariants.{NoJson, BadValue}
 use Rattle.query_tree.specs.declared.expression.Aggregate.TheVariants as aggregate
-use Rattle.query_tree.specs.Syntax.{TreeForm, name, grouping, function, over_all, rollup}
+use Rattle.query_tree.specs.Syntax.{KeyForm, TreeForm, name, grouping, function, over_all, rollup}
 use Rattle.groups.specs.Functions.{Summary, plain, ratio}
 use Rattle.tables.specs.Found.{Found}
+use Rattle.report.specs.Order.{arranged, under_key}
 use Rattle.report.specs.Report.{refusals_of, report_of, rows_shown}
 use Rattle.report.specs.Shown.{number_of_digits}
 use Rattle.report.specs.Text.{cell_field, marked, report_bytes}
@@ -60,6 +62,25 @@ rows-of-a-rollup = refl
 report-of-a-rollup : report_of fields query found ≡ codes "day,g,n\nx,0,1\nx,0,1\nx,1,2\ny,1,1\n\\N,3,3\n"
 unfolding digits fields_text is_blank
 report-of-a-rollup = refl
+
+-- ---- a report with keys
+
+abbrev ordered_by : List KeyForm → TreeForm
+ordered_by keys = record { items = query.items; filter = None; groups = query.groups; having = None; keys = keys }
+
+-- ORDER BY n DESC, r NULLS FIRST: of the rows of one record, those that show NULL for r are first; of these the one of the first set is
+by-a-count : arranged fields (ordered_by (record { expression = name (codes "n"); descending = true; nulls_first = true } ∷ record { expression = name (codes "r"); descending = false; nulls_first = true } ∷ [])) found
+    ≡ group 2 [] 3 ∷ group 1 (text (codes "x") ∷ []) 2 ∷ group 0 (text (codes "x") ∷ null ∷ []) 1 ∷ group 1 (text (codes "y") ∷ []) 1 ∷ group 0 (text (codes "x") ∷ text (codes "n") ∷ []) 1 ∷ []
+by-a-count = refl
+
+-- ORDER BY GROUPING(d, r) DESC, day DESC NULLS LAST: the alias of the first item stands for it
+by-an-alias : rows_shown fields (ordered_by (record { expression = grouping (codes "d" ∷ codes "r" ∷ []); descending = true; nulls_first = true } ∷ record { expression = name (codes "day"); descending = true; nulls_first = false } ∷ [])) found
+    ≡ shown null 3 3 ∷ shown (text (codes "y")) 1 1 ∷ shown (text (codes "x")) 1 2 ∷ shown (text (codes "x")) 0 1 ∷ shown (text (codes "x")) 0 1 ∷ []
+by-an-alias = refl
+
+-- DESC does not turn the place of NULL
+null-under-desc : under_key (record { expression = name (codes "r"); descending = true; nulls_first = false }) null (text (codes "n")) ≡ Greater
+null-under-desc = refl
 
 -- a row of one empty field, and a header that is not marked
 a-lone-field : report_bytes (record { expression = name (codes "r"); alias = Some (codes "\\") } ∷ []) ((plain (text []) ∷ []) ∷ []) ≡ codes "\\\n\"\"\n"

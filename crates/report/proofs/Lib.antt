@@ -1,8 +1,10 @@
 pub mod Sorting
 pub mod Sameness
 pub mod Places
+pub mod Totals
 pub mod Rows
-pub mod Keys
+pub mod KeyOrder
 pub mod Maps
 pub mod Wide
 mod Examples
+pub mod Filtering

@@ -10,7 +10,7 @@ use Rattle.values.specs.Datum.{Datum, null}
 use Rattle.values.specs.Order.{value_order}
 use Rattle.query_check.specs.Columns.{distinct}
 use Rattle.groups.specs.Groups.{Key}
-use Rattle.report.specs.Order.{value_in}
+use Rattle.report.specs.Shown.{value_in}
 
 -- ---- lists of places without repeats
 

@@ -1,44 +1,40 @@
 -- The order of rows that fit a query.
-use Rattle.std.proofs.Common.{◌≡◌, ◌≢◌, ◌<◌, ℕ, suc, ◌==◌, Bool, true, false, List, [], ◌∷◌, length, map, get_or, refl, sym, ap, subst, ◌∙◌, arith, All, AllPairs, IsPermutation, IsSortedBy, Bor}
+use Rattle.std.proofs.Common.{◌≡◌, ◌≢◌, ◌<◌, ℕ, suc, ◌==◌, Bool, true, false, List, [], ◌∷◌, length, map, get_or, slice_index_or, refl, sym, ap, subst, ◌∙◌, arith, All, AllPairs, IsPermutation, IsSortedBy, Bor}
 use Rattle.std.specs.Prelude.{filter}
 use Rattle.std.specs.declared.cmp.Ordering.{Ordering}
 use Rattle.std.specs.declared.cmp.Ordering.TheVariants.{Less, Equal, Greater}
 use Rattle.std.specs.Ordering.{is_eq, is_gt, is_lt, nat_cmp, ordering_then}
-use Rattle.std.specs.Cmp.{IsTotalOrder, Equal-is, nat_cmp_total, on_total, then_total}
-use Rattle.std.specs.Cmp.Lexicographic.{slice_cmp, lists_total}
+use Rattle.std.specs.Cmp.{Equal-is}
+use Rattle.std.specs.Cmp.Lexicographic.{slice_cmp}
 use Rattle.std.specs.List.{AllByRecursion, list_any}
 use Rattle.std.proofs.lemmas.List.{get_or-map, length-map}
-use Rattle.std.proofs.lemmas.List.Elements.{recursion_from_All}
+use Rattle.std.proofs.lemmas.List.Elements.{All-from_recursion, recursion_from_All}
 use Rattle.std.proofs.lemmas.List.Sorted.{All-permutation, IsPermutation-map}
 use Rattle.std.proofs.lemmas.Map.Lookups.{exact_unsigned}
+use Rattle.values.specs.Datum.{Datum, null}
 use Rattle.values.specs.Order.{value_order}
 use Rattle.values.specs.Schema.{Field}
-use Rattle.query_tree.specs.Syntax.{TreeForm}
+use Rattle.query_tree.specs.Syntax.{KeyForm, TreeForm}
 use Rattle.query_check.specs.Columns.{places_of}
 use Rattle.query_check.specs.Sets.{expanded, grouping_names, grouping_places, ordered_set, sets_of}
 use Rattle.groups.specs.declared.group.Group.{Group}
 use Rattle.groups.specs.Groups.{key_order}
-use Rattle.groups.proofs.Order.{value_total, key_total, key_antisymmetric}
+use Rattle.groups.specs.GroupRows.{SameBag}
+use Rattle.groups.proofs.Order.{key_antisymmetric}
 use Rattle.tables.specs.Found.{Found, row_of}
-use Rattle.report.specs.Order.{grouping_values, before, NoneBefore, Ascends, arranged}
+use Rattle.report.specs.Having.{rows_kept}
+use Rattle.report.specs.Order.{grouping_values, key_value, under_key, under_keys, before, NoneBefore, Ascends, in_order, arranged}
+use Rattle.report.specs.Ranked.{Ranked, by_key, by_rank, key_values, ranked, under_values}
 use Rattle.tables.specs.Fitting.{AreFitting, set_of}
 use Rattle.report.specs.Laws.{IsTheOrder, IsBlind}
+use Rattle.report.proofs.Filtering.{kept-bag, kept-fit}
+use Rattle.report.proofs.Totals.{before-total, by_rank-total}
 use Rattle.report.proofs.Sorting.{all-in_order, Apart, apart-in_order, ascends-in_order, ascends-sorted, bag-permutation, one-list, weigh-in_order}
 use Rattle.report.proofs.Sameness.{both-tied, found-tells, same_found}
 use Rattle.report.proofs.Maps.{map-twice}
 use Rattle.report.proofs.Places.{different-distinct, order-same_set}
 
 -- ---- one row and another
-
--- the order of the code: by the index, then by the key
-abbrev pub by_key : Found → Found → Ordering
-by_key x y = ordering_then (nat_cmp x.0 y.0) (key_order x.1.key y.1.key)
-
-pub by_key-total : IsTotalOrder by_key
-by_key-total = then_total (on_total (λ (x : Found). x.0) nat_cmp_total) (on_total (λ (x : Found). x.1.key) key_total)
-
-pub before-total : (fields : List Field) (t : TreeForm) → IsTotalOrder (before fields t)
-before-total fields t = then_total (on_total (λ (x : Found). x.0) nat_cmp_total) (on_total (grouping_values fields t) (lists_total value_total))
 
 -- the index of the row is that of a set, and its key has a value for each column
 abbrev pub IsFit : List Field → TreeForm → Found → Type 0
@@ -53,8 +49,12 @@ set-part fields t x within =
     let n = length-map (expanded t.groups) (λ (names : List (List ℕ)). ordered_set (grouping_places fields t) (places_of fields names)) in
     get_or-map (λ (names : List (List ℕ)). ordered_set (grouping_places fields t) (places_of fields names)) (expanded t.groups) x.0 [] [] (omega (arith, within, n))
 
--- rows that fit stand as the code has them
-same-order : (fields : List Field) (t : TreeForm) (x y : Found) → IsFit fields t x → IsFit fields t y → before fields t x y ≡ by_key x y
+-- how two rows stand to each other by the index of their grouping set, and in one set by what they show for the grouping columns
+abbrev by_columns : List Field → TreeForm → Found → Found → Ordering
+by_columns fields t x y = ordering_then (nat_cmp x.0 y.0) (slice_cmp value_order (grouping_values fields t x) (grouping_values fields t y))
+
+-- rows that fit stand so as their keys do
+same-order : (fields : List Field) (t : TreeForm) (x y : Found) → IsFit fields t x → IsFit fields t y → by_columns fields t x y ≡ by_key x y
 same-order fields t x y fx fy =
     elim (nat_cmp x.0 y.0) as (λ (o : Ordering). nat_cmp x.0 y.0 ≡ o → ordering_then o (slice_cmp value_order (grouping_values fields t x) (grouping_values fields t y)) ≡ ordering_then o (key_order x.1.key y.1.key)) [
       | Less ↦ λ _. refl
@@ -64,22 +64,48 @@ same-order fields t x y fx fy =
       | Greater ↦ λ _. refl
     ] refl
 
+-- the first value of each list out of the way
+later : (place : ℕ) (ks : List KeyForm) (x y : Datum) (xs ys : List Datum) → under_values (suc place) ks (x ∷ xs) (y ∷ ys) ≡ under_values place ks xs ys
+later place [] x y xs ys = refl
+later place (k ∷ ks) x y xs ys = ap (ordering_then (under_key k (slice_index_or xs place null) (slice_index_or ys place null))) (later (suc place) ks x y xs ys)
+
+-- the values of the keys stand as the rows do under the keys
+same-values : (fields : List Field) (t : TreeForm) (x y : Found) (ks : List KeyForm) → under_keys fields t ks x y ≡ under_values 0 ks (map (key_value fields t x) ks) (map (key_value fields t y) ks)
+same-values fields t x y [] = refl
+same-values fields t x y (k ∷ ks) =
+    ap (ordering_then (under_key k (key_value fields t x k) (key_value fields t y k)))
+    (same-values fields t x y ks ∙ sym (later 0 ks (key_value fields t x k) (key_value fields t y k) (map (key_value fields t x) ks) (map (key_value fields t y) ks)))
+
+-- the values beside the row are those of the keys, and the row fits
+abbrev IsRight : List Field → TreeForm → Ranked → Type 0
+IsRight fields t r = (r.0 ≡ key_values fields t r.1) × IsFit fields t r.1
+
+-- rows that fit stand as the values beside them have them
+same-rank : (fields : List Field) (t : TreeForm) (r s : Ranked) → IsRight fields t r → IsRight fields t s → before fields t r.1 s.1 ≡ by_rank t.keys r s
+same-rank fields t r s p q =
+    ap (λ (o : Ordering). ordering_then o (by_columns fields t r.1 s.1)) (same-values fields t r.1 s.1 t.keys ∙ (λ i. under_values 0 t.keys (sym p.0 i) (sym q.0 i)))
+    ∙ ap (ordering_then (under_values 0 t.keys r.0 s.0)) (same-order fields t r.1 s.1 p.1 q.1)
+
 -- ---- lists of rows
 
-none-same : (fields : List Field) (t : TreeForm) (x : Found) (ys : List Found) → IsFit fields t x → AllByRecursion (IsFit fields t) ys → NoneBefore by_key x ys → NoneBefore (before fields t) x ys
-none-same fields t x [] fx all n = tt
-none-same fields t x (y ∷ ys) fx all n = (ap is_gt (same-order fields t x y fx all.0) ∙ n.0, none-same fields t x ys fx all.1 n.1)
+abbrev row_beside : Ranked → Found
+row_beside r = r.1
 
-ascends-same : (fields : List Field) (t : TreeForm) (ys : List Found) → AllByRecursion (IsFit fields t) ys → Ascends by_key ys → Ascends (before fields t) ys
+none-same : (fields : List Field) (t : TreeForm) (r : Ranked) (rs : List Ranked) → IsRight fields t r → AllByRecursion (IsRight fields t) rs → NoneBefore (by_rank t.keys) r rs → NoneBefore (before fields t) r.1 (map row_beside rs)
+none-same fields t r [] p all n = tt
+none-same fields t r (s ∷ rs) p all n = (ap is_gt (same-rank fields t r s p all.0) ∙ n.0, none-same fields t r rs p all.1 n.1)
+
+ascends-same : (fields : List Field) (t : TreeForm) (rs : List Ranked) → AllByRecursion (IsRight fields t) rs → Ascends (by_rank t.keys) rs → Ascends (before fields t) (map row_beside rs)
 ascends-same fields t [] all a = tt
-ascends-same fields t (y ∷ ys) all a = (none-same fields t y ys all.0 all.1 a.0, ascends-same fields t ys all.1 a.1)
+ascends-same fields t (r ∷ rs) all a = (none-same fields t r rs all.0 all.1 a.0, ascends-same fields t rs all.1 a.1)
 
 -- two rows with other keys under one index do not tie
 untied : (fields : List Field) (t : TreeForm) (x y : Found) → IsFit fields t x → IsFit fields t y → (x.0 ≡ y.0 → x.1.key ≢ y.1.key) → is_eq (before fields t x y) ≡ false
 untied fields t x y fx fy other =
     elim (is_eq (before fields t x y)) as (λ (b : Bool). is_eq (before fields t x y) ≡ b → b ≡ false) [
       | true ↦ λ e.
-          let tied = both-tied (nat_cmp x.0 y.0) (key_order x.1.key y.1.key) (sym (same-order fields t x y fx fy) ∙ (Equal-is (before fields t x y)).0 e) in
+          let under = both-tied (under_keys fields t t.keys x y) (by_columns fields t x y) ((Equal-is (before fields t x y)).0 e) in
+          let tied = both-tied (nat_cmp x.0 y.0) (key_order x.1.key y.1.key) (sym (same-order fields t x y fx fy) ∙ under.1) in
           absurd (other (exact_unsigned x.0 y.0 tied.0) (key_antisymmetric x.1.key y.1.key tied.1))
       | false ↦ λ _. refl
     ] refl
@@ -98,30 +124,36 @@ apart fields t (x ∷ found) all pairs = (
 all-fit : (fields : List Field) (t : TreeForm) (found : List Found) → AreFitting fields t found → All (IsFit fields t) found
 all-fit fields t found fit k d within = (fit.indexes k d within, fit.keys k d within)
 
-apart-fitting : (fields : List Field) (t : TreeForm) (found : List Found) → AreFitting fields t found → Apart (before fields t) (arranged fields t found)
+apart-fitting : (fields : List Field) (t : TreeForm) (found : List Found) → AreFitting fields t found → Apart (before fields t) (in_order (before fields t) found)
 apart-fitting fields t found fit =
     apart-in_order (before-total fields t) found (apart fields t found (recursion_from_All (IsFit fields t) found (all-fit fields t found fit)) fit.distinct)
 
--- in their order the rows have indexes of sets
+-- in their order the rows that HAVING keeps have indexes of sets
 pub within-arranged : (fields : List Field) (t : TreeForm) (found : List Found) → AreFitting fields t found → AllByRecursion (λ x. x.0 < length (sets_of fields t)) (arranged fields t found)
-within-arranged fields t found fit = all-in_order (before fields t) (λ x. x.0 < length (sets_of fields t)) found (recursion_from_All (λ (x : Found). x.0 < length (sets_of fields t)) found fit.indexes)
+within-arranged fields t found fit =
+    let kept = kept-fit fields t found fit in
+    all-in_order (before fields t) (λ x. x.0 < length (sets_of fields t)) (rows_kept fields t found) (recursion_from_All (λ (x : Found). x.0 < length (sets_of fields t)) (rows_kept fields t found) kept.indexes)
 
 -- ---- the laws
 
+-- rows that ascend are in order
+only-order : (fields : List Field) (t : TreeForm) (found others : List Found) → AreFitting fields t found → SameBag found others → Ascends (before fields t) others → others ≡ in_order (before fields t) found
+only-order fields t found others fit bag up =
+    sym (one-list (before-total fields t) same_found found-tells (in_order (before fields t) found) others (apart-fitting fields t found fit) (ascends-in_order (before-total fields t) found) up
+    (λ f. weigh-in_order (before fields t) f found ∙ bag f))
+
 pub the-order : (fields : List Field) (t : TreeForm) (found : List Found) → AreFitting fields t found → IsTheOrder fields t found
 the-order fields t found fit = record {
-  same = λ f. sym (weigh-in_order (before fields t) f found);
-  ascends = ascends-in_order (before-total fields t) found;
-  only = λ others bag up.
-      sym (one-list (before-total fields t) same_found found-tells (arranged fields t found) others (apart-fitting fields t found fit) (ascends-in_order (before-total fields t) found) up
-      (λ f. weigh-in_order (before fields t) f found ∙ bag f));
+  same = λ f. sym (weigh-in_order (before fields t) f (rows_kept fields t found));
+  ascends = ascends-in_order (before-total fields t) (rows_kept fields t found);
+  only = λ others. only-order fields t (rows_kept fields t found) others (kept-fit fields t found fit);
 }
 
 pub is-blind : (fields : List Field) (t : TreeForm) (found : List Found) → AreFitting fields t found → IsBlind fields t found
 is-blind fields t found fit others bag =
-    sym (one-list (before-total fields t) same_found found-tells (arranged fields t found) (arranged fields t others) (apart-fitting fields t found fit)
-    (ascends-in_order (before-total fields t) found) (ascends-in_order (before-total fields t) others)
-    (λ f. weigh-in_order (before fields t) f found ∙ bag f ∙ sym (weigh-in_order (before fields t) f others)))
+    only-order fields t (rows_kept fields t found) (arranged fields t others) (kept-fit fields t found fit)
+    (λ f. kept-bag fields t found others bag f ∙ sym (weigh-in_order (before fields t) f (rows_kept fields t others)))
+    (ascends-in_order (before-total fields t) (rows_kept fields t others))
 
 -- ---- the code's sort
 
@@ -129,13 +161,35 @@ is-blind fields t found fit others bag =
 abbrev pub row_at : Bor (ℕ × Group) → Found
 row_at r = row_of r.now
 
--- references that are sorted by index and key are the rows in their order
-pub sorted-rows : (fields : List Field) (t : TreeForm) (rows : List (ℕ × Group)) (refs sorted : List (Bor (ℕ × Group))) → map (λ (r : Bor (ℕ × Group)). r.now) refs ≡ rows → IsPermutation refs sorted
-    → IsSortedBy (λ a b. is_lt (by_key (row_at a) (row_at b))) sorted → AreFitting fields t (map row_of rows) → map row_at sorted ≡ arranged fields t (map row_of rows)
-sorted-rows fields t rows refs sorted are moved up fit =
-    let same : map row_at refs ≡ map row_of rows = sym (map-twice row_of (λ (r : Bor (ℕ × Group)). r.now) refs) ∙ ap (map row_of) are in
-    let there : IsPermutation (map row_of rows) (map row_at sorted) = subst (λ (xs : List Found). IsPermutation xs (map row_at sorted)) same (IsPermutation-map row_at refs sorted moved) in
-    let fits : AllByRecursion (IsFit fields t) (map row_at sorted) =
-    recursion_from_All (IsFit fields t) (map row_at sorted) (All-permutation (IsFit fields t) (map row_of rows) (map row_at sorted) there (all-fit fields t (map row_of rows) fit)) in
-    (the-order fields t (map row_of rows) fit).only (map row_at sorted) (bag-permutation (map row_of rows) (map row_at sorted) there)
-    (ascends-same fields t (map row_at sorted) fits (ascends-sorted by_key-total row_at sorted up))
+each-right : (fields : List Field) (t : TreeForm) (found : List Found) → AllByRecursion (IsFit fields t) found → AllByRecursion (IsRight fields t) (map (ranked fields t) found)
+each-right fields t [] all = tt
+each-right fields t (x ∷ found) all = ((refl, all.0), each-right fields t found all.1)
+
+rows-beside : (fields : List Field) (t : TreeForm) (found : List Found) → map row_beside (map (ranked fields t) found) ≡ found
+rows-beside fields t [] = refl
+rows-beside fields t (x ∷ found) = ap (λ (xs : List Found). x ∷ xs) (rows-beside fields t found)
+
+-- what is sorted by values that are those of the keys, by index and by key has the rows in their order
+pub sorted-ranks : {Y : Type 0} (rank : Y → Ranked) (fields : List Field) (t : TreeForm) (found : List Found) (gathered sorted : List Y) → map rank gathered ≡ map (ranked fields t) found → IsPermutation gathered sorted
+    → IsSortedBy (λ a b. is_lt (by_rank t.keys (rank a) (rank b))) sorted → AreFitting fields t found → map (λ y. (rank y).1) sorted ≡ in_order (before fields t) found
+sorted-ranks {Y} rank fields t found gathered sorted are moved up fit =
+    let there : IsPermutation (map (ranked fields t) found) (map rank sorted) = subst (λ (rs : List Ranked). IsPermutation rs (map rank sorted)) are (IsPermutation-map rank gathered sorted moved) in
+    let fits : AllByRecursion (IsRight fields t) (map (ranked fields t) found) = each-right fields t found (recursion_from_All (IsFit fields t) found (all-fit fields t found fit)) in
+    let right : AllByRecursion (IsRight fields t) (map rank sorted) =
+    recursion_from_All (IsRight fields t) (map rank sorted) (All-permutation (IsRight fields t) (map (ranked fields t) found) (map rank sorted) there (All-from_recursion (IsRight fields t) (map (ranked fields t) found) fits)) in
+    let rows : IsPermutation found (map row_beside (map rank sorted)) =
+    subst (λ (xs : List Found). IsPermutation xs (map row_beside (map rank sorted))) (rows-beside fields t found) (IsPermutation-map row_beside (map (ranked fields t) found) (map rank sorted) there) in
+    sym (map-twice row_beside rank sorted)
+    ∙ only-order fields t found (map row_beside (map rank sorted)) fit (bag-permutation found (map row_beside (map rank sorted)) rows)
+    (ascends-same fields t (map rank sorted) right (ascends-sorted (by_rank-total t.keys) rank sorted up))
+
+-- without keys of ORDER BY references that are sorted by index and key are the rows in their order
+pub sorted-rows : (fields : List Field) (t : TreeForm) (refs sorted : List (Bor (ℕ × Group))) → t.keys ≡ [] → IsPermutation refs sorted → IsSortedBy (λ a b. is_lt (by_key (row_at a) (row_at b))) sorted
+    → AreFitting fields t (map row_at refs) → map row_at sorted ≡ in_order (before fields t) (map row_at refs)
+sorted-rows fields t refs sorted none moved up fit =
+    let bare : Bor (ℕ × Group) → Ranked = λ r. ([], row_at r) in
+    let are : map bare refs ≡ map (ranked fields t) (map row_at refs) =
+    (λ i. map (λ (r : Bor (ℕ × Group)). (map (key_value fields t (row_at r)) (sym none i), row_at r)) refs) ∙ sym (map-twice (ranked fields t) row_at refs) in
+    sorted-ranks bare fields t (map row_at refs) refs sorted are moved
+    (subst (λ (ks : List KeyForm). IsSortedBy (λ a b. is_lt (by_rank ks (bare a) (bare b))) sorted) (sym none) up)
+    fit

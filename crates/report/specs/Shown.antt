@@ -1,5 +1,5 @@
 -- What a row of a report shows for each item of SELECT.
-use Rattle.std.specs.Prelude.{ℕ, ◌+◌, ◌*◌, ◌==◌, nat_lt, pos, Bool, false, not, List, [], ◌∷◌, length, map, reverse, position, slice_get, Option, unwrap_or, if◌then◌else◌}
+use Rattle.std.specs.Prelude.{ℕ, ◌+◌, ◌*◌, ◌==◌, nat_lt, pos, Bool, false, not, List, [], ◌∷◌, length, map, reverse, position, slice_get, slice_index_or, Option, unwrap_or, if◌then◌else◌}
 use Rattle.std.specs.List.{list_any}
 use Rattle.std.specs.Option.{option_map_or, option_and_then}
 use Rattle.values.specs.Datum.{Datum, whole, null}
@@ -11,10 +11,13 @@ use Rattle.query_check.specs.Functions.{aggregate_of, column_function, functions
 use Rattle.groups.specs.Functions.{Summary, plain}
 use Rattle.groups.specs.Groups.{Key}
 use Rattle.tables.specs.Found.{Found}
-use Rattle.report.specs.Order.{value_in}
 use Rattle.tables.specs.Fitting.{set_of}
 use Rattle.report.specs.declared.row.Row.{Row}
 use Rattle.groups.specs.Shown.{summary_of}
+
+-- the value that a row of a grouping set shows for a column: the column's part of the key, and NULL where the column is not in the set
+abbrev pub value_in : List ℕ → Key → ℕ → Datum
+value_in set key place = option_map_or (λ at. slice_index_or key at null) (position (λ column. column == place) set) null
 
 -- A typed query names grouping columns and set functions that it has; where another one would, it shows NULL.
 

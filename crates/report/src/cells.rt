@@ -8,7 +8,7 @@ ghost use Rattle.query_check.specs.Functions.{column_function};
 ghost use Rattle.query.specs.Planned.{fields_of_plan, form_of_plan};
 ghost use Rattle.groups.specs.Functions.{plain};
 ghost use Rattle.groups.specs.Shown.{summary_of};
-ghost use Rattle.report.specs.Order.{value_in};
+ghost use Rattle.report.specs.Shown.{value_in};
 ghost use Rattle.report.specs.Shown.{expression_shown, function_place, function_shown, grouping_number, grouping_shown, is_rolled_up, name_shown};
 
 use groups::{Cell, Group};

@@ -7,6 +7,7 @@
 mod arranging;
 mod cells;
 mod fields;
+mod keys;
 mod laws;
 mod ordering;
 mod refused;

@@ -4,7 +4,7 @@ use Rattle.std.proofs.lemmas.Iterator.{YieldsList-from_slice}
 use Rattle.std.proofs.lemmas.Iterator.Search.{position_from_yields_List}
 use Rattle.std.proofs.lemmas.Result.{IfOk-weaker}
 use Rattle.values.specs.Datum.{data_of, datum_of, null}
-use Rattle.report.specs.Order.{value_in}
+use Rattle.report.specs.Shown.{value_in}
 use Rattle.report.proofs.cells.value_in.Goals as goal
 
 pub returns-in-Some : goal.returns-in-Some

@@ -2,7 +2,7 @@ use Rattle.std.proofs.Common.{◌∙◌, ap, Ordering}
 use Rattle.std.specs.Ordering.{ordering_then}
 use Rattle.values.specs.Datum.{data_of}
 use Rattle.groups.specs.Groups.{key_order}
-use Rattle.report.proofs.Keys.{key_cmp-is}
+use Rattle.report.proofs.KeyOrder.{key_cmp-is}
 use Rattle.report.proofs.ordering.compare.Goals as goal
 
 pub returns-in-Equal : goal.returns-in-Equal

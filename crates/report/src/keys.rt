@@ -1,0 +1,98 @@
+// The keys of ORDER BY: their values for a row, and how such values stand to each other.
+ghost use Rattle.std.specs.Prelude.{◌≡◌, ◌<◌, IfOk, length, map, slice_index_or};
+ghost use Rattle.std.specs.Ordering.{nat_cmp};
+ghost use Rattle.values.specs.Datum.{data_of, datum_of, null};
+ghost use Rattle.query_tree.specs.Syntax.{expression_form, key_form};
+ghost use Rattle.query_check.specs.Sets.{sets_of};
+ghost use Rattle.query_check.specs.Typing.{key_expression};
+ghost use Rattle.query.specs.Planned.{fields_of_plan, form_of_plan};
+ghost use Rattle.groups.specs.Shown.{summary_of};
+ghost use Rattle.tables.specs.Found.{row_of};
+ghost use Rattle.report.specs.Having.{cell_value};
+ghost use Rattle.report.specs.Order.{null_order, under_key};
+ghost use Rattle.report.specs.Ranked.{key_values, under_values};
+ghost use Rattle.report.specs.Shown.{expression_shown};
+
+use crate::cells::expression_cell;
+use groups::{Cell, Group};
+use query::{Key, Plan};
+use query_check::key_expression;
+use std::alloc::{AllocError, Global};
+use std::cmp::Ordering;
+use values::Value;
+
+// ---- the values of keys
+
+/// The values of the keys for a group, which stands beside the index of its grouping set.
+pub(crate) fn key_values(
+    alloc: Global,
+    plan: &Plan,
+    found: &(usize, Group),
+) -> Result<Vec<Value>, AllocError>
+    requires { found.now.0 < length (sets_of (fields_of_plan plan.now) (form_of_plan plan.now)) }
+    ensures { IfOk result (λ values. data_of values.items ≡ key_values (fields_of_plan plan.now) (form_of_plan plan.now) (row_of found.now)) }
+{
+    let (index, group) = found;
+    let set = &plan.sets()[*index];
+    let keys = plan.query().tree().keys.as_slice();
+    let mut values = Vec::with_capacity(alloc, keys.len())?;
+    for key in keys {
+        values.push(key_value(plan, set, group, key)?)?;
+    }
+    Ok(values)
+}
+
+/// The value of a key for a group of a grouping set.
+fn key_value(plan: &Plan, set: &[usize], group: &Group, key: &Key) -> Result<Value, AllocError>
+    ensures { IfOk result (λ value. datum_of value ≡ cell_value (expression_shown (fields_of_plan plan.now) (form_of_plan plan.now) set.now (data_of group.now.key.items) (map summary_of group.now.cells.items) (key_expression (form_of_plan plan.now).items (key_form key.now).expression))) }
+{
+    let items = plan.query().tree().items.as_slice();
+    let expression = key_expression(items, &key.expression);
+    match expression_cell(plan, set, group, expression)? {
+        Cell::Plain(value) => Ok(value),
+        Cell::Ratio(..) => Ok(Value::Null),
+    }
+}
+
+// ---- values under keys
+
+/// How NULL stands to a value that is not NULL.
+fn null_order(nulls_first: bool) -> Ordering
+    ensures { result ≡ null_order nulls_first }
+{
+    if nulls_first {
+        Ordering::Less
+    } else {
+        Ordering::Greater
+    }
+}
+
+/// How two values stand to each other under a key.
+fn under_key(key: &Key, a: &Value, b: &Value) -> Ordering
+    ensures { result ≡ under_key (key_form key.now) (datum_of a.now) (datum_of b.now) }
+{
+    match (a, b) {
+        (Value::Null, Value::Null) => Ordering::Equal,
+        (Value::Null, _) => null_order(key.nulls_first),
+        (_, Value::Null) => null_order(key.nulls_first).reverse(),
+        _ if key.descending => a.order(b).reverse(),
+        _ => a.order(b),
+    }
+}
+
+/// How two rows with these values of the keys stand to each other: as under the first key that tells them apart.
+/// There is NULL behind the end of a list.
+pub(crate) fn under_values(keys: &[Key], a: &[Value], b: &[Value]) -> Ordering
+    ensures { result ≡ under_values 0 (map key_form keys.now) (data_of a.now) (data_of b.now) }
+{
+    let null = Value::Null;
+    for (place, key) in keys.iter().enumerate() {
+        let left = a.get(place).unwrap_or(&null);
+        let right = b.get(place).unwrap_or(&null);
+        match under_key(key, left, right) {
+            Ordering::Equal => {}
+            other => return other,
+        }
+    }
+    Ordering::Equal
+}
