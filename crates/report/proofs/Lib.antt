@@ -7,3 +7,4 @@ pub mod Maps
 pub mod Wide
 mod Examples
 pub mod Filtering
+pub mod RowValues

@@ -7,6 +7,7 @@
 mod arranging;
 mod cells;
 mod fields;
+mod having;
 mod laws;
 mod ordering;
 mod refused;
