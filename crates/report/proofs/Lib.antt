@@ -8,3 +8,4 @@ pub mod Wide
 mod Examples
 pub mod Filtering
 pub mod RowValues
+pub mod Keeping
