@@ -1,5 +1,5 @@
 -- The rows that HAVING keeps fit the query as all rows do.
-use Rattle.std.proofs.Common.{◌≡◌, ◌≢◌, ◌<◌, ◌+◌, ℕ, Bool, true, false, cond, List, [], ◌∷◌, length, refl, sym, ap, ◌∙◌}
+use Rattle.std.proofs.Common.{◌≡◌, ◌≢◌, ◌<◌, ◌+◌, ℕ, Bool, true, false, cond, List, [], ◌∷◌, length, refl, sym, ap, ◌∙◌, arith}
 use Rattle.std.specs.Prelude.{filter}
 use Rattle.std.specs.List.{AllZip}
 use Rattle.std.proofs.lemmas.List.Elements.{All-filter}
@@ -29,7 +29,11 @@ kept-fit fields t found fit =
 -- what is filtered weighs what is kept of each thing
 weigh-filter : {X : Type 0} (weight : X → ℕ) (p : X → Bool) (xs : List X) → weigh weight (filter p xs) ≡ weigh (λ x. cond (p x) (weight x) 0) xs
 weigh-filter {X} weight p [] = refl
-weigh-filter {X} weight p (x ∷ xs) = elim (p x) as (λ (b : Bool). weigh weight (cond b (x ∷ filter p xs) (filter p xs)) ≡ cond b (weight x) 0 + weigh (λ (y : X). cond (p y) (weight y) 0) xs) [ true ↦ ap (λ n. weight x + n) (weigh-filter weight p xs) | false ↦ weigh-filter weight p xs ]
+weigh-filter {X} weight p (x ∷ xs) =
+    elim (p x) as (λ (b : Bool). weigh weight (cond b (x ∷ filter p xs) (filter p xs)) ≡ cond b (weight x) 0 + weigh (λ (y : X). cond (p y) (weight y) 0) xs) [
+      | true ↦ ap (λ n. weight x + n) (weigh-filter weight p xs)
+      | false ↦ let bare : (n : ℕ) → n ≡ 0 + n = λ n. omega arith in weigh-filter weight p xs ∙ bare (weigh (λ (y : X). cond (p y) (weight y) 0) xs)
+    ]
 
 -- rows that are the same bag are so where HAVING has kept its own
 pub kept-bag : (fields : List Field) (t : TreeForm) (xs ys : List Found) → SameBag xs ys → SameBag (rows_kept fields t xs) (rows_kept fields t ys)

@@ -3,10 +3,9 @@ use Rattle.std.proofs.Common.{◌≡◌, ◌≢◌, ◌∙◌, ◌<◌, ℕ, Boo
 use Rattle.std.specs.Prelude.{filter}
 use Rattle.std.proofs.Math.Logic.{∥∥₁_elim}
 use Rattle.std.specs.Coded.{Coded-set, coded_bool}
-use Rattle.std.specs.List.{AllZip}
+use Rattle.std.specs.List.{AllByRecursion, AllZip}
 use Rattle.std.proofs.lemmas.List.{get_or-map, length-map}
-use Rattle.std.proofs.lemmas.List.Elements.{All-from_recursion}
-use Rattle.std.proofs.lemmas.List.Kept.{AllPairs-cons}
+use Rattle.std.proofs.lemmas.List.Elements.{All-from_recursion, recursion_from_All}
 use Rattle.values.specs.Schema.{Field}
 use Rattle.query_tree.specs.Syntax.{PredicateForm, TreeForm}
 use Rattle.query_check.specs.declared.scope.Clause.TheVariants as clause
@@ -20,6 +19,9 @@ use Rattle.groups.specs.declared.group.Group.{Group}
 use Rattle.tables.specs.Fitting.{AreFitting, HasType, IsHeld, set_of}
 use Rattle.tables.specs.Found.{Found, row_of}
 use Rattle.report.specs.Having.{is_row_kept, rows_kept}
+use Rattle.report.specs.Order.{arranged, before}
+use Rattle.report.proofs.Filtering.{kept-fit}
+use Rattle.report.proofs.Sorting.{all-in_order}
 
 -- ---- typing
 
@@ -70,3 +72,11 @@ filter-all p (x ∷ xs) h = rw (h x) (ap (λ (ys : List Found). x ∷ ys) (filte
 -- all rows are kept
 pub all-kept : (fields : List Field) (t : TreeForm) (found : List Found) → t.having ≡ None → rows_kept fields t found ≡ found
 all-kept fields t found e = filter-all (is_row_kept fields t) found (λ x. rw e refl)
+
+-- ---- the rows that are kept, in their order
+
+-- they have indexes of sets
+pub within-kept : (fields : List Field) (t : TreeForm) (found : List Found) → AreFitting fields t found → AllByRecursion (λ x. x.0 < length (sets_of fields t)) (arranged fields t found)
+within-kept fields t found fit =
+    let kept = rows_kept fields t found in
+    all-in_order (before fields t) (λ x. x.0 < length (sets_of fields t)) kept (recursion_from_All (λ (x : Found). x.0 < length (sets_of fields t)) kept (kept-fit fields t found fit).indexes)
