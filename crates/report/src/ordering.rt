@@ -1,15 +1,15 @@
 // The order of rows.
-ghost use Rattle.std.specs.Prelude.{◌≡◌, IfOk, List, map};
+ghost use Rattle.std.specs.Prelude.{◌≡◌, IfOk, map};
 ghost use Rattle.std.specs.Ordering.{nat_cmp, ordering_then};
 ghost use Rattle.values.specs.Datum.{data_of};
-ghost use Rattle.values.specs.Schema.{Field};
-ghost use Rattle.query_tree.specs.Syntax.{TreeForm};
+ghost use Rattle.query.specs.Planned.{fields_of_plan, form_of_plan};
 ghost use Rattle.groups.specs.Groups.{key_order};
 ghost use Rattle.tables.specs.Found.{row_of};
 ghost use Rattle.tables.specs.Fitting.{AreFitting};
-ghost use Rattle.report.specs.Order.{arranged};
+ghost use Rattle.report.specs.Order.{before, in_order};
 
 use groups::Group;
+use query::Plan;
 use std::alloc::{AllocError, Global};
 use std::cmp::Ordering;
 
@@ -27,11 +27,13 @@ fn compare(a: &(usize, Group), b: &(usize, Group)) -> Ordering
 /// The groups in the order of their rows.
 pub(crate) fn in_order<'a>(
     alloc: Global,
-    rows: &'a [(usize, Group)],
+    plan: &Plan,
+    rows: Vec<&'a (usize, Group)>,
 ) -> Result<Vec<&'a (usize, Group)>, AllocError>
-    ensures { IfOk result (λ v. (fields : List Field) (t : TreeForm) → AreFitting fields t (map row_of rows.now) → map (λ r. row_of r.now) v.items ≡ arranged fields t (map row_of rows.now)) }
+    requires { AreFitting (fields_of_plan plan.now) (form_of_plan plan.now) (map (λ r. row_of r.now) rows.items) }
+    ensures { IfOk result (λ v. map (λ r. row_of r.now) v.items ≡ in_order (before (fields_of_plan plan.now) (form_of_plan plan.now)) (map (λ r. row_of r.now) rows.entry.items)) }
 {
-    let mut ordered: Vec<&(usize, Group)> = rows.iter().collect(alloc)?;
+    let mut ordered = rows;
     ordered.sort_by(|a, b| compare(a, b))?;
     Ok(ordered)
 }
