@@ -226,11 +226,7 @@ fn expression_value(
 }
 
 /// The value that the row of a group shows for the column of a name.
-fn column_value(
-    plan: &Plan,
-    found: &(usize, Group),
-    column: &Text,
-) -> Result<Value, AllocError>
+fn column_value(plan: &Plan, found: &(usize, Group), column: &Text) -> Result<Value, AllocError>
     requires { found.now.0 < length (sets_of (fields_of_plan plan.now) (form_of_plan plan.now)) }
     ensures { IfOk result (λ value. datum_of value ≡ row_value (fields_of_plan plan.now) (form_of_plan plan.now) (row_of found.now) (name column.now)) }
 {
