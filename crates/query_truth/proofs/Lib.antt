@@ -1,5 +1,5 @@
 pub mod Examples
-mod Truths
+pub mod Truths
 mod Parts
-mod Safety
+pub mod Safety
 mod Forms

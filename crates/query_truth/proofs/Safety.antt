@@ -27,15 +27,14 @@ use Rattle.query_truth.specs.Meaning.{comparable, source_value}
 use Rattle.query_truth.specs.Truth.{literal_value, operand_value}
 
 -- whether a value is of a type, or NULL
-is_of : Kind → Datum → Bool
+abbrev pub is_of : Kind → Datum → Bool
 is_of k null = true
 is_of kind.Int (whole n) = true
 is_of kind.Text (text s) = true
 is_of kind.Bool (boolean b) = true
 is_of k d = false
 
-comparable-of : (k : Kind) (a b : Datum) → is_of k a ≡ true → is_of k b ≡ true → comparable a b ≡ true
-unfolding is_of
+pub comparable-of : (k : Kind) (a b : Datum) → is_of k a ≡ true → is_of k b ≡ true → comparable a b ≡ true
 comparable-of k null b e f = refl
 comparable-of k (boolean a) null e f = refl
 comparable-of k (whole a) null e f = refl
@@ -56,8 +55,7 @@ comparable-of kind.Bool (text a) b e f = absurd cc
 comparable-of kind.Text (text a) (boolean b) e f = absurd cc
 comparable-of kind.Text (text a) (whole b) e f = absurd cc
 
-is_of-held : (k : Kind) (d : Datum) → Holds k d → is_of k d ≡ true
-unfolding is_of
+pub is_of-held : (k : Kind) (d : Datum) → Holds k d → is_of k d ≡ true
 is_of-held k null h = refl
 is_of-held kind.Int (whole n) h = refl
 is_of-held kind.Text (text s) h = refl
@@ -69,8 +67,7 @@ is_of-held kind.Text (whole n) h = absurd h
 is_of-held kind.Bool (whole n) h = absurd h
 is_of-held kind.Bool (text s) h = absurd h
 
-is_of-literal : (a : Literal) → is_of (literal_kind a) (literal_value a) ≡ true
-unfolding is_of
+pub is_of-literal : (a : Literal) → is_of (literal_kind a) (literal_value a) ≡ true
 is_of-literal (constant.Integer i) = refl
 is_of-literal (constant.Text t) = refl
 is_of-literal (constant.Truth b) = refl
@@ -95,7 +92,7 @@ both-true true true e f = refl
 both-true true false e f = absurd cc
 both-true false b e f = absurd cc
 
-cases : {A : Type 0} (o : Option A) → (o ≡ None) ⊎ ((x : A) × (o ≡ Some x))
+pub cases : {A : Type 0} (o : Option A) → (o ≡ None) ⊎ ((x : A) × (o ≡ Some x))
 cases None = inl refl
 cases (Some x) = inr (x, refl)
 

@@ -16,7 +16,11 @@ use std::alloc::{AllocError, Global};
 use values::{Column, Op, Value};
 
 /// The value that a literal writes.
-fn literal_value(alloc: Global, literal: &Literal) -> Result<Value, AllocError>
+///
+/// # Errors
+///
+/// `AllocError` where there is no memory for it.
+pub fn literal_value(alloc: Global, literal: &Literal) -> Result<Value, AllocError>
     ensures { IfOk result (λ value. datum_of value ≡ literal_value literal.now) }
 {
     Ok(match literal {
@@ -27,7 +31,11 @@ fn literal_value(alloc: Global, literal: &Literal) -> Result<Value, AllocError>
 }
 
 /// The values that literals write.
-fn literal_values(alloc: Global, literals: &[Literal]) -> Result<Vec<Value>, AllocError>
+///
+/// # Errors
+///
+/// `AllocError` where there is no memory for them.
+pub fn literal_values(alloc: Global, literals: &[Literal]) -> Result<Vec<Value>, AllocError>
     ensures { IfOk result (λ values. map datum_of values.items ≡ map literal_value literals.now) }
 {
     let mut values = Vec::with_capacity(alloc, literals.len())?;

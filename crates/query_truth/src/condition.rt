@@ -94,21 +94,21 @@ impl Source {
 }
 
 /// A truth value, or with NOT its negation.
-fn marked(not: bool, truth: Truth) -> Truth
+pub fn marked(not: bool, truth: Truth) -> Truth
     ensures { result ≡ marked not truth }
 {
     if not { truth.not() } else { truth }
 }
 
 /// The truth value of `value IS NULL`.
-fn null_truth(value: &Value) -> Truth
+pub fn null_truth(value: &Value) -> Truth
     ensures { result ≡ null_truth (datum_of value.now) }
 {
     Truth::from(matches!(value, Value::Null))
 }
 
 /// The truth value of `value BETWEEN low AND high`.
-fn between_truth(value: &Value, low: &Value, high: &Value) -> Truth
+pub fn between_truth(value: &Value, low: &Value, high: &Value) -> Truth
     requires low { comparable (datum_of value.now) (datum_of low.now) ≡ true }
     requires high { comparable (datum_of value.now) (datum_of high.now) ≡ true }
     ensures { result ≡ between_truth (datum_of value.now) (datum_of low.now) (datum_of high.now) }
@@ -117,7 +117,7 @@ fn between_truth(value: &Value, low: &Value, high: &Value) -> Truth
 }
 
 /// The truth value of `value IN (..)`.
-fn member_truth(value: &Value, values: &[Value]) -> Truth
+pub fn member_truth(value: &Value, values: &[Value]) -> Truth
     requires { list_all (comparable (datum_of value.now)) (map datum_of values.now) ≡ true }
     ensures { result ≡ member_truth (datum_of value.now) (map datum_of values.now) }
 {
@@ -132,7 +132,7 @@ fn member_truth(value: &Value, values: &[Value]) -> Truth
 }
 
 /// The truth value that a value is; NULL is unknown.
-fn value_truth(value: &Value) -> Truth
+pub fn value_truth(value: &Value) -> Truth
     ensures { result ≡ value_truth (datum_of value.now) }
 {
     match value {

@@ -5,5 +5,8 @@ mod binding;
 mod condition;
 mod filter;
 
-pub use condition::{Condition, Source};
+pub use binding::{literal_value, literal_values};
+pub use condition::{
+    Condition, Source, between_truth, marked, member_truth, null_truth, value_truth,
+};
 pub use filter::{bind_filter, filter_truth};

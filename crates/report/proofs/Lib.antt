@@ -8,3 +8,5 @@ pub mod Maps
 pub mod Wide
 mod Examples
 pub mod Filtering
+pub mod RowValues
+pub mod Keeping

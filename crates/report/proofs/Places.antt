@@ -76,13 +76,13 @@ later-place : (g c : ℕ) (set : List ℕ) → (g == c) ≡ false → position_o
 later-place g c set h = rw h (one-add (position_or_len (λ column. column == c) set))
 
 -- the first column of a set has the first value
-value_in-first : (g : ℕ) (set : List ℕ) (k : Datum) (ks : Key) → value_in (g ∷ set) (k ∷ ks) g ≡ k
+pub value_in-first : (g : ℕ) (set : List ℕ) (k : Datum) (ks : Key) → value_in (g ∷ set) (k ∷ ks) g ≡ k
 value_in-first g set k ks =
     ap (λ (n : ℕ). at_place n (suc (length set)) (k ∷ ks)) (first-place g set)
     ∙ ap (λ (b : Bool). option_map_or (λ at. slice_index_or (k ∷ ks) at null) (cond b (Some 0) None) null) (above_none (length set))
 
 -- every other column has its value in the rest
-value_in-other : (g c : ℕ) (set : List ℕ) (k : Datum) (ks : Key) → (g == c) ≡ false → value_in (g ∷ set) (k ∷ ks) c ≡ value_in set ks c
+pub value_in-other : (g c : ℕ) (set : List ℕ) (k : Datum) (ks : Key) → (g == c) ≡ false → value_in (g ∷ set) (k ∷ ks) c ≡ value_in set ks c
 value_in-other g c set k ks h =
     ap (λ (n : ℕ). at_place n (suc (length set)) (k ∷ ks)) (later-place g c set h) ∙ at_place-more (position_or_len (λ column. column == c) set) (length set) k ks
 
@@ -91,7 +91,7 @@ past g [] h = refl
 past g (c ∷ set) h = later-place c g set (other_way g c h.0) ∙ ap suc (past g set h.1)
 
 -- a column that is not in the set has NULL
-value_in-missing : (g : ℕ) (set : List ℕ) (ks : Key) → Misses g set → value_in set ks g ≡ null
+pub value_in-missing : (g : ℕ) (set : List ℕ) (ks : Key) → Misses g set → value_in set ks g ≡ null
 value_in-missing g set ks h =
     ap (λ (n : ℕ). at_place n (length set) ks) (past g set h)
     ∙ ap (λ (b : Bool). option_map_or (λ at. slice_index_or ks at null) (cond b (Some (length set)) None) null) (not_below (length set))

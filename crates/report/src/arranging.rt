@@ -9,6 +9,7 @@ ghost use Rattle.report.specs.Report.{rows_shown};
 ghost use Rattle.report.specs.Shown.{cells_of, row_shown};
 
 use crate::cells::expression_cell;
+use crate::having::kept_rows;
 use crate::ordering::in_order;
 use crate::row::Row;
 use groups::Group;
@@ -16,12 +17,14 @@ use query::Plan;
 use std::alloc::{AllocError, Global};
 use tables::Groups;
 
-/// The rows of a report: one for each group, in the order of the index of its grouping set, and in one set by the
-/// grouping columns in the order in which GROUP BY first names them, ascending and with NULL last. A grouping column
-/// that is not in the set of the row is NULL.
+/// The rows of a report: one for each group for which the predicate of HAVING is True, and for each group where HAVING
+/// is not written. They stand by the keys of ORDER BY, from the first, then in the order of the index of the grouping
+/// set, and in one set by the grouping columns in the order in which GROUP BY first names them, ascending and with NULL
+/// last. A grouping column that is not in the set of the row is NULL.
 ///
 /// The groups fit the plan: the index of each is that of a grouping set, its key has a value for each column of the
-/// set, it has a cell for each set function, and no index and key stand twice together.
+/// set, it has a cell for each set function, each value and cell is of its type, and no index and key stand twice
+/// together.
 ///
 /// # Errors
 ///
@@ -31,7 +34,8 @@ pub fn arrange(alloc: Global, groups: &Groups, plan: &Plan) -> Result<Vec<Row>, 
     ensures cells { IfOk result (λ rows. map cells_of rows.items ≡ rows_shown (fields_of_plan plan.now) (form_of_plan plan.now) (found_in groups.now)) }
     ensures wide { IfOk result (λ rows. All (λ row. length row.cells.items ≡ length (form_of_plan plan.now).items) rows.items) }
 {
-    let ordered = in_order(alloc, groups.rows())?;
+    let kept = kept_rows(alloc, plan, groups.rows())?;
+    let ordered = in_order(alloc, plan, kept)?;
     let mut rows = Vec::with_capacity(alloc, ordered.len())?;
     for group in ordered {
         rows.push(row_for(alloc, plan, group)?)?;

@@ -74,7 +74,7 @@ fn value_at(key: &[Value], place: usize) -> Result<Value, AllocError>
 }
 
 /// What a key of a grouping set shows for the column of a name.
-fn name_value(
+pub(crate) fn name_value(
     columns: &[Column],
     set: &[usize],
     key: &[Value],

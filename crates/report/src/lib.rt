@@ -8,6 +8,7 @@ mod arranging;
 mod cells;
 mod fields;
 mod keys;
+mod having;
 mod laws;
 mod ordering;
 mod refused;

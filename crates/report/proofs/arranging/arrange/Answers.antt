@@ -1,35 +1,47 @@
-use Rattle.std.proofs.Common.{◌≡◌, ◌<◌, ◌++◌, ◌∙◌, List, length, map, sym, ap, subst}
+use Rattle.std.proofs.Common.{◌≡◌, ◌<◌, ◌++◌, ◌∙◌, Bor, List, ℕ, length, map, sym, ap, subst}
 use Rattle.std.specs.List.{AllByRecursion}
 use Rattle.query_check.specs.Sets.{sets_of}
 use Rattle.query.specs.Planned.{fields_of_plan, form_of_plan}
+use Rattle.groups.specs.declared.group.Group.{Group}
 use Rattle.tables.specs.Contents.{found_in}
-use Rattle.tables.specs.Found.{Found}
+use Rattle.tables.specs.Found.{Found, row_of}
 use Rattle.tables.specs.Fitting.{AreFitting}
-use Rattle.report.specs.Order.{arranged}
+use Rattle.report.specs.Order.{arranged, before, in_order}
 use Rattle.report.specs.Shown.{cells_of, row_shown}
 use Rattle.report.specs.declared.row.Row.{Row}
-use Rattle.report.proofs.Rows.{row_at, within-arranged}
+use Rattle.report.proofs.Filtering.{kept-fit}
+use Rattle.report.proofs.Keeping.{within-kept}
 use Rattle.report.proofs.Wide.{all-wide}
 use Rattle.report.proofs.arranging.arrange.Goals as goal
+
+pub kept_rows-requires : goal.kept_rows-requires
+kept_rows-requires c = subst (AreFitting (fields_of_plan c.args.plan.now) (form_of_plan c.args.plan.now)) (sym c.rows.ensures.rows) c.requires
+
+pub in_order-requires : goal.in_order-requires
+in_order-requires c =
+    let fields = fields_of_plan c.args.plan.now in
+    let t = form_of_plan c.args.plan.now in
+    subst (AreFitting fields t) (sym c.in_ok-kept.ensures) (kept-fit fields t (map row_of c.rows.result.now) (subst (AreFitting fields t) (sym c.rows.ensures.rows) c.requires))
 
 pub loop-group-init : goal.loop-group-init
 loop-group-init c =
     let fields = fields_of_plan c.args.plan.now in
     let t = form_of_plan c.args.plan.now in
     let found = found_in c.args.groups.now in
-    let same = c.rows.ensures.rows in
+    let shows = λ (r : Bor (ℕ × Group)). row_of r.now in
     let rest : c.into_iter-group-iterator.result.rest.items ≡ c.in_ok-ordered.ordered.items = c.into_iter-group-iterator.ensures.into_iter_gives.0 in
-    let left : map row_at c.into_iter-group-iterator.result.rest.items ≡ arranged fields t found =
-    ap (map row_at) rest
-    ∙ c.in_ok-ordered.ensures fields t (subst (λ (f : List Found). AreFitting fields t f) (sym same) c.requires)
-    ∙ ap (arranged fields t) same in
+    let left : map shows c.into_iter-group-iterator.result.rest.items ≡ arranged fields t found =
+    ap (map shows) rest
+    ∙ c.in_ok-ordered.ensures
+    ∙ ap (in_order (before fields t)) c.in_ok-kept.ensures
+    ∙ ap (arranged fields t) c.rows.ensures.rows in
     record {
-      shown = ap (λ (rows : List Row). map cells_of rows ++ map (row_shown fields t) (map row_at c.into_iter-group-iterator.result.rest.items)) c.in_ok-rows.ensures.items ∙ ap (map (row_shown fields t)) left;
-      within = subst (λ (f : List Found). AllByRecursion (λ x. x.0 < length (sets_of fields t)) f) (sym left) (within-arranged fields t found c.requires);
+      shown = ap (λ (rows : List Row). map cells_of rows ++ map (row_shown fields t) (map shows c.into_iter-group-iterator.result.rest.items)) c.in_ok-rows.ensures.items ∙ ap (map (row_shown fields t)) left;
+      within = subst (λ (f : List Found). AllByRecursion (λ x. x.0 < length (sets_of fields t)) f) (sym left) (within-kept fields t found c.requires);
     }
 
 pub returns-clause-wide : goal.returns-clause-wide
 returns-clause-wide c =
     let fields = fields_of_plan c.args.plan.now in
     let t = form_of_plan c.args.plan.now in
-    all-wide fields t c.loop-group.rows.items (map (row_shown fields t) (map row_at c.loop-group.group-iterator.rest.items)) (arranged fields t (found_in c.args.groups.now)) c.loop-group.invariant.shown
+    all-wide fields t c.loop-group.rows.items (map (row_shown fields t) (map (λ (r : Bor (ℕ × Group)). row_of r.now) c.loop-group.group-iterator.rest.items)) (arranged fields t (found_in c.args.groups.now)) c.loop-group.invariant.shown

@@ -1,0 +1,41 @@
+use Rattle.std.proofs.Common.{◌≡◌, ◌∙◌, Bor, IfOk, List, None, Option, Some, ap, map, rules, sym, ℕ}
+use Rattle.std.specs.Option.{option_map}
+use Rattle.std.specs.Global.{Vec}
+use Rattle.std.proofs.lemmas.Iterator.{YieldsList-from_slice}
+use Rattle.std.proofs.lemmas.Iterator.Consumers.{map_from_collect}
+use Rattle.std.proofs.lemmas.Result.{IfOk-weaker}
+use Rattle.query_tree.specs.declared.expression.Predicate.{Predicate}
+use Rattle.query_tree.specs.Syntax.{PredicateForm, TreeForm, predicate_form}
+use Rattle.query.specs.Planned.{fields_of_plan, form_of_plan}
+use Rattle.groups.specs.declared.group.Group.{Group}
+use Rattle.tables.specs.Found.{row_of}
+use Rattle.report.specs.Having.{rows_kept}
+use Rattle.report.proofs.Keeping.{all-kept, group-fits, having-typed}
+use Rattle.report.proofs.Maps.{map-twice}
+use Rattle.report.proofs.having.kept_rows.Goals as goal
+
+pub returns-in_default : goal.returns-in_default
+returns-in_default c =
+    let fields = fields_of_plan c.args.plan.now in
+    let t = form_of_plan c.args.plan.now in
+    let none : c.tree.result.now.having ≡ None = search rules in
+    let unwritten : t.having ≡ None =
+    ap (λ (f : TreeForm). f.having) (sym (c.tree.ensures.form ∙ c.query.ensures.query)) ∙ ap (option_map predicate_form) none in
+    let now = λ (r : Bor (ℕ × Group)). r.now in
+    let gathered : IfOk c.collect.result (λ v. map now v.items ≡ c.args.rows.now) = map_from_collect {s = c.iter.result} c.collect.result c.collect.ensures.ran (YieldsList-from_slice c.args.rows.now (search rules)) in
+    IfOk-weaker c.collect.result
+    (λ v. map now v.items ≡ c.args.rows.now)
+    (λ v. map (λ (r : Bor (ℕ × Group)). row_of r.now) v.items ≡ rows_kept fields t (map row_of c.args.rows.now))
+    (λ v h. sym (map-twice row_of now v.items) ∙ ap (map row_of) h ∙ sym (all-kept fields t (map row_of c.args.rows.now) unwritten))
+    gathered
+
+pub row_truth-requires-clause-fits : goal.row_truth-requires-clause-fits
+row_truth-requires-clause-fits c =
+    group-fits (fields_of_plan c.args.plan.now) (form_of_plan c.args.plan.now) c.args.rows.now c.loop-found.found-index c.found-item.result c.loop-found-test.true c.found-item.is c.requires
+
+pub row_truth-requires-clause-typed : goal.row_truth-requires-clause-typed
+row_truth-requires-clause-typed c =
+    let t = form_of_plan c.args.plan.now in
+    let written : t.having ≡ Some (predicate_form c.in-Some.having) =
+    ap (λ (f : TreeForm). f.having) (sym (c.tree.ensures.form ∙ c.query.ensures.query)) ∙ ap (option_map predicate_form) c.in-Some.is in
+    having-typed (fields_of_plan c.args.plan.now) t (predicate_form c.in-Some.having) c.query.ensures.typed written
