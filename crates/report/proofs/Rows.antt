@@ -29,7 +29,7 @@ use Rattle.tables.specs.Fitting.{AreFitting, set_of}
 use Rattle.report.specs.Laws.{IsTheOrder, IsBlind}
 use Rattle.report.proofs.Filtering.{kept-bag, kept-fit}
 use Rattle.report.proofs.Totals.{before-total, by_rank-total}
-use Rattle.report.proofs.Sorting.{all-in_order, Apart, apart-in_order, ascends-in_order, ascends-sorted, bag-permutation, one-list, weigh-in_order}
+use Rattle.report.proofs.Sorting.{Apart, apart-in_order, ascends-in_order, ascends-sorted, bag-permutation, one-list, weigh-in_order}
 use Rattle.report.proofs.Sameness.{both-tied, found-tells, same_found}
 use Rattle.report.proofs.Maps.{map-twice}
 use Rattle.report.proofs.Places.{different-distinct, order-same_set}
@@ -127,12 +127,6 @@ all-fit fields t found fit k d within = (fit.indexes k d within, fit.keys k d wi
 apart-fitting : (fields : List Field) (t : TreeForm) (found : List Found) → AreFitting fields t found → Apart (before fields t) (in_order (before fields t) found)
 apart-fitting fields t found fit =
     apart-in_order (before-total fields t) found (apart fields t found (recursion_from_All (IsFit fields t) found (all-fit fields t found fit)) fit.distinct)
-
--- in their order the rows that HAVING keeps have indexes of sets
-pub within-arranged : (fields : List Field) (t : TreeForm) (found : List Found) → AreFitting fields t found → AllByRecursion (λ x. x.0 < length (sets_of fields t)) (arranged fields t found)
-within-arranged fields t found fit =
-    let kept = kept-fit fields t found fit in
-    all-in_order (before fields t) (λ x. x.0 < length (sets_of fields t)) (rows_kept fields t found) (recursion_from_All (λ (x : Found). x.0 < length (sets_of fields t)) (rows_kept fields t found) kept.indexes)
 
 -- ---- the laws
 
