@@ -1,4 +1,5 @@
 mod explaining;
+mod having;
 mod partials;
 mod plans;
 mod predicates;

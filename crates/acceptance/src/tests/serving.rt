@@ -19,7 +19,7 @@ pub struct Ended {
 }
 
 /// Runs the program on columns and a query, and a file where it can be opened.
-fn run(alloc: Global, columns: &str, query: &str, file: Option<Source<'_>>) -> Ended {
+pub fn run(alloc: Global, columns: &str, query: &str, file: Option<Source<'_>>) -> Ended {
     let words = [
         "jlreport",
         "--columns",
