@@ -1,6 +1,7 @@
 mod clauses;
 mod explaining;
 mod grouping;
+mod having;
 mod ordering;
 mod partials;
 mod plans;
