@@ -1,9 +1,8 @@
 -- The value that a row shows for an expression that is typed in HAVING is of the type of the expression, or NULL.
-use Rattle.std.proofs.Common.{◌≡◌, ◌∙◌, ◌<◌, ◌⊎◌, inl, inr, ℕ, zero, suc, pos, negsuc, ◌==◌, Bool, true, false, cond, Option, Some, None, List, [], ◌∷◌, get_or, length, map, nat_lt, position, refl, sym, ap, subst, arith, All}
+use Rattle.std.proofs.Common.{◌≡◌, ◌∙◌, ◌<◌, inl, inr, ℕ, zero, suc, pos, negsuc, ◌==◌, Bool, true, false, cond, Option, Some, None, List, [], ◌∷◌, get_or, length, map, nat_lt, position, refl, sym, ap, subst, arith, All}
 use Rattle.std.proofs.lemmas.Bool.Decides.{nat_tests}
 use Rattle.std.proofs.lemmas.List.Elements.{recursion_from_All}
 use Rattle.std.proofs.lemmas.List.Quantifiers.{position-Some}
-use Rattle.std.proofs.lemmas.Option.{slice_get-get_or}
 use Rattle.std.specs.Global.{Vec}
 use Rattle.std.specs.List.{AllByRecursion, AllZip, list_all}
 use Rattle.std.specs.Option.{option_and_then, option_map, option_map_or}
@@ -26,7 +25,7 @@ use Rattle.query_check.specs.declared.function.ColumnFunction.{ColumnFunction}
 use Rattle.query_check.specs.declared.function.ColumnFunction.TheVariants as at
 use Rattle.query_check.specs.declared.scope.Clause.TheVariants as clause
 use Rattle.query_check.specs.Columns.{column_kind, kind_at, place_of}
-use Rattle.query_check.specs.Functions.{column_function, functions_of, same_function}
+use Rattle.query_check.specs.Functions.{functions_of, same_function}
 use Rattle.query_check.specs.Sets.{sets_of}
 use Rattle.query_check.specs.Typing.{IsOfOneKind, IsTypedExpression, IsTypedOperand, aggregate_kind, expression_kind, literal_kind, operand_kind}
 use Rattle.query_truth.specs.Meaning.{comparable}
@@ -38,7 +37,7 @@ use Rattle.groups.specs.Groups.{Key}
 use Rattle.tables.specs.Fitting.{AreFitting, HasType, IsHeld, set_of}
 use Rattle.tables.specs.Found.{Found}
 use Rattle.report.specs.Having.{cell_value, row_value}
-use Rattle.report.specs.Shown.{function_place, function_shown, grouping_number, grouping_shown, name_shown, value_in}
+use Rattle.report.specs.Shown.{function_shown, grouping_number, grouping_shown, name_shown, value_in}
 use Rattle.report.proofs.Places.{value_in-first, value_in-missing, value_in-other}
 
 -- the index of a row that fits is that of a grouping set

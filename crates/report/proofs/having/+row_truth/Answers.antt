@@ -1,4 +1,4 @@
-use Rattle.std.proofs.Common.{◌≡◌, ◌∙◌, List, false, ap, map, refl, subst, sym}
+use Rattle.std.proofs.Common.{◌∙◌, List, false, ap, map, refl, subst, sym}
 use Rattle.values.specs.Truth.{conjunction, disjunction}
 use Rattle.query_tree.specs.declared.expression.Predicate.{Predicate}
 use Rattle.query_tree.specs.declared.predicate.Literal.{Literal}

@@ -1,4 +1,4 @@
-use Rattle.std.proofs.Common.{◌≡◌, ◌∙◌, sym, subst}
+use Rattle.std.proofs.Common.{sym, subst}
 use Rattle.values.specs.Comparison.{AreComparable}
 use Rattle.values.specs.Datum.{Datum, datum_of}
 use Rattle.query_tree.specs.Syntax.{operand_form}

@@ -1,11 +1,9 @@
-use Rattle.std.proofs.Common.{◌≡◌, ◌∙◌, Bor, IfOk, List, None, Option, Some, ap, map, rules, sym, ℕ}
+use Rattle.std.proofs.Common.{◌≡◌, ◌∙◌, Bor, IfOk, None, Some, ap, map, rules, sym, ℕ}
 use Rattle.std.specs.Option.{option_map}
-use Rattle.std.specs.Global.{Vec}
 use Rattle.std.proofs.lemmas.Iterator.{YieldsList-from_slice}
 use Rattle.std.proofs.lemmas.Iterator.Consumers.{map_from_collect}
 use Rattle.std.proofs.lemmas.Result.{IfOk-weaker}
-use Rattle.query_tree.specs.declared.expression.Predicate.{Predicate}
-use Rattle.query_tree.specs.Syntax.{PredicateForm, TreeForm, predicate_form}
+use Rattle.query_tree.specs.Syntax.{TreeForm, predicate_form}
 use Rattle.query.specs.Planned.{fields_of_plan, form_of_plan}
 use Rattle.groups.specs.declared.group.Group.{Group}
 use Rattle.tables.specs.Found.{row_of}

@@ -1,4 +1,4 @@
-use Rattle.std.proofs.Common.{◌≡◌, ◌∙◌, List, ap, map}
+use Rattle.std.proofs.Common.{◌∙◌, ap, map}
 use Rattle.std.specs.List.{list_all}
 use Rattle.values.specs.Datum.{Datum, datum_of}
 use Rattle.query_tree.specs.Syntax.{operand_form}

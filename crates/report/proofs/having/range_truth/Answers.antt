@@ -1,4 +1,4 @@
-use Rattle.std.proofs.Common.{◌≡◌, ◌∙◌, ap}
+use Rattle.std.proofs.Common.{◌∙◌, ap}
 use Rattle.values.specs.Datum.{Datum, datum_of}
 use Rattle.query_tree.specs.Syntax.{operand_form}
 use Rattle.query_check.specs.Sets.{grouping_places}
