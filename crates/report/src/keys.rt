@@ -1,8 +1,7 @@
 // The keys of ORDER BY: their values for a row, and how such values stand to each other.
-ghost use Rattle.std.specs.Prelude.{◌≡◌, ◌<◌, IfOk, length, map, slice_index_or};
-ghost use Rattle.std.specs.Ordering.{nat_cmp};
-ghost use Rattle.values.specs.Datum.{data_of, datum_of, null};
-ghost use Rattle.query_tree.specs.Syntax.{expression_form, key_form};
+ghost use Rattle.std.specs.Prelude.{◌≡◌, ◌<◌, IfOk, length, map};
+ghost use Rattle.values.specs.Datum.{data_of, datum_of};
+ghost use Rattle.query_tree.specs.Syntax.{key_form};
 ghost use Rattle.query_check.specs.Sets.{sets_of};
 ghost use Rattle.query_check.specs.Typing.{key_expression};
 ghost use Rattle.query.specs.Planned.{fields_of_plan, form_of_plan};
