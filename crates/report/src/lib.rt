@@ -7,8 +7,8 @@
 mod arranging;
 mod cells;
 mod fields;
-mod keys;
 mod having;
+mod keys;
 mod laws;
 mod ordering;
 mod refused;
