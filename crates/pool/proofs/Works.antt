@@ -1,0 +1,116 @@
+-- The pieces of a hand, each at most once.
+use Rattle.std.proofs.Common.{◌≡◌, ◌≢◌, ℕ, zero, suc, ◌+◌, ◌-◌, ◌*◌, ◌/◌, ◌%◌, ◌^◌, ◌<◌, ◌≤◌, Bool, true, false, true≢false, List, [], ◌∷◌, ◌++◌, length, set, sym, refl, ap, ◌∙◌, subst, ⊎_elim, append_assoc, arith, mul-le-mul_left, add-zero}
+use Rattle.std.proofs.Math.Nat.{div-add-mod, mod-eq_of_lt}
+use Rattle.std.proofs.lemmas.Bool.{cases_eq, cases_lt}
+use mathlib.Core.Option.{some, some-injective, some-ne-none}
+use lib.ListN.{get_elem?}
+use Rattle.pool.specs.Dealing.{dealt, times}
+use Rattle.pool.specs.Totals.{gathered, sum_below, sum_list, once_below}
+use Rattle.pool.specs.Lawful.{Lawful}
+use Rattle.pool.specs.Seen.{Seen, Took, IsWithin}
+use Rattle.pool.specs.Holding.{Holding, IsHolding, IsRound, Gained, lists_of, numbers_of}
+use Rattle.pool.specs.Done.{Grown, Turns, Follows}
+use Rattle.pool.specs.Answered.{Answers}
+use Rattle.pool.specs.declared.deal.Next.{Next}
+use Rattle.pool.proofs.Nexts.{belongs_next}
+use Rattle.pool.proofs.Rules.{times-append}
+use Rattle.pool.proofs.Deals.{dealt_times}
+use Rattle.pool.proofs.Gather.{one_if, times-middle, sum_list-middle, sum_list-within, gathered-middle, gathered_load, gathered_fits, gathered_weight}
+
+-- no two of k numbers in a row are congruent modulo k
+mod_apart : (a d k : ℕ) → 0 < d → d < k → (a + d) % k ≢ a % k
+mod_apart a d k pos few e =
+    let p : k * ((a + d) / k) + (a + d) % k ≡ a + d = div-add-mod (a + d) k in
+    let q : k * (a / k) + a % k ≡ a = div-add-mod a k in
+    ⊎_elim (λ (l : (a + d) / k < a / k + 1). let m = mul-le-mul_left k (let b : (a + d) / k ≤ a / k = omega arith in b) in omega (arith, m))
+    (λ (g : a / k + 1 ≤ (a + d) / k). let m = mul-le-mul_left k g in omega (arith, m))
+    (cases_lt ((a + d) / k) (a / k + 1))
+
+round_within : (number hands pieces z r : ℕ) (ss : List Seen) → IsRound number hands pieces r ss → r + length ss ≤ hands
+    → (times z (lists_of ss) ≤ once_below z pieces) × (((j : ℕ) → r ≤ j → j < r + length ss → (number + j) % hands ≢ z % hands) → times z (lists_of ss) ≡ 0)
+round_within number hands pieces z r [] round fits = (omega arith, λ _. refl)
+round_within number hands pieces z r (s ∷ ss) round fits =
+    let rest = round_within number hands pieces z (r + 1) ss round.3 (omega arith) in
+    let both = times-append z s.list (lists_of ss) in
+    let most : times z s.list ≤ times z (dealt hands ((number + r) % hands) pieces) = subst (λ l. times z s.list ≤ times z l) round.1 (round.2.0 z) in
+    let its = dealt_times hands ((number + r) % hands) pieces z in (
+      ⊎_elim (λ (e : z % hands ≡ (number + r) % hands).
+          let none = rest.1 (λ j low high same. mod_apart (number + r) (let d : ℕ = j - r in d) hands (omega arith) (omega arith) (ap (λ n. n % hands) (let s : number + r + (j - r) ≡ number + j = omega arith in s) ∙ same ∙ e)) in
+          let a = its.0 e in omega arith)
+          (λ (n : z % hands ≢ (number + r) % hands). let a = its.1 n in let b = rest.0 in omega arith) (cases_eq (z % hands) ((number + r) % hands)),
+      (λ away. let a = its.1 (λ (e : z % hands ≡ (number + r) % hands). away r (omega arith) (omega arith) (sym e)) in
+          let b = rest.1 (λ j low high. away j (omega arith) (omega arith)) in
+          omega arith),
+    )
+
+mod_small : (a k : ℕ) → a < k → (a + 0) % k ≡ a
+mod_small a k h = rw add-zero (mod-eq_of_lt h)
+
+pub holding_within : (h : Holding) (z : ℕ) → IsHolding h → times z (numbers_of h) ≤ once_below z h.pieces
+holding_within h z is =
+    let s : h.own.seen.numbers ≡ dealt h.hands ((h.number + 0) % h.hands) h.pieces = is.2 ∙ ap (λ n. dealt h.hands n h.pieces) (sym (mod_small h.number h.hands is.0)) in
+    (round_within h.number h.hands h.pieces z 0 (h.own.seen ∷ h.others) (is.1, s, is.6, is.4) (omega (arith, is.3))).0
+
+lists_grown : (ss : List Seen) (r x : ℕ) (old s : Seen) → get_elem? ss r ≡ some old → s.list ≡ old.list ++ x ∷ [] → Grown (lists_of ss) x (lists_of (set ss r s))
+lists_grown [] r x old s at e = absurd (some-ne-none old (sym at))
+lists_grown (t ∷ ts) zero x old s at e =
+    let same = ap (λ (u : Seen). u.list) (some-injective t old at) in
+    (t.list, lists_of ts, refl, ap (λ l. l ++ lists_of ts) (e ∙ ap (λ l. l ++ x ∷ []) (sym same)) ∙ append_assoc t.list (x ∷ []) (lists_of ts))
+lists_grown (t ∷ ts) (suc r) x old s at e =
+    let g = lists_grown ts r x old s at e in
+    (t.list ++ g.0, g.1, ap (λ l. t.list ++ l) g.2 ∙ sym (append_assoc t.list g.0 g.1), ap (λ l. t.list ++ l) g.3 ∙ sym (append_assoc t.list g.0 (x ∷ g.1)))
+
+pub holding_grown : (h k : Holding) (x : ℕ) → Gained h x k → Grown (numbers_of h) x (numbers_of k)
+holding_grown h k x = λ g. ⊎_elim
+    (λ (o : _). let e = ap (λ (u : Seen). u.list) o.1.0 in
+    (h.own.seen.list, lists_of h.others, refl, ap numbers_of o.2 ∙ ap (λ l. l ++ lists_of h.others) e ∙ append_assoc h.own.seen.list (x ∷ []) (lists_of h.others)))
+    (λ (o : _). let e = ap (λ (u : Seen). u.list) o.4.0 in let g = lists_grown h.others o.0 x o.1 o.2 o.3 e in
+    (h.own.seen.list ++ g.0, g.1, ap (λ l. h.own.seen.list ++ l) g.2 ∙ sym (append_assoc h.own.seen.list g.0 g.1), ap numbers_of o.5 ∙ ap (λ l. h.own.seen.list ++ l) g.3 ∙ sym (append_assoc h.own.seen.list g.0 (x ∷ g.1))))
+    g
+
+module _ {M : Type 0} {fits : M → Type 0} {unit : M} {combined : M → M → M} {piece : ℕ → M} {weight load : M → ℕ} (laws : Lawful fits unit combined piece weight load) where
+  pub grown_gathered : (old new : List ℕ) (x : ℕ) → Grown old x new → gathered unit combined piece new ≡ combined (gathered unit combined piece old) (piece x)
+  grown_gathered old new x g = ap (gathered unit combined piece) g.3 ∙ gathered-middle laws x g.0 g.1 ∙ ap (λ l. combined (gathered unit combined piece l) (piece x)) (sym g.2)
+
+  pub grown_room : (old new : List ℕ) (x n : ℕ) → Grown old x new → ((z : ℕ) → times z new ≤ once_below z n) → load (gathered unit combined piece old) + load (piece x) ≤ sum_below (λ i. load (piece i)) n
+  grown_room old new x n g within =
+      let f : ℕ → ℕ = λ i. load (piece i) in
+      let a = sum_list-within f n new within in
+      let b = ap (sum_list f) g.3 ∙ sum_list-middle f x g.0 g.1 in
+      let c = gathered_load laws old in
+      let d = ap (sum_list f) g.2 in
+      omega arith
+
+  pub weights_at_most_loads : (xs : List ℕ) → sum_list (λ i. weight (piece i)) xs ≤ sum_list (λ i. load (piece i)) xs
+  weights_at_most_loads [] = omega arith
+  weights_at_most_loads (x ∷ xs) = omega (arith, laws.weight_at_most_load (piece x) (laws.piece_fits x), weights_at_most_loads xs)
+
+pub grown_sum : (f : ℕ → ℕ) (old new : List ℕ) (x : ℕ) → Grown old x new → sum_list f new ≡ sum_list f old + f x
+grown_sum f old new x g = let b = ap (sum_list f) g.3 ∙ sum_list-middle f x g.0 g.1 in let d = ap (sum_list f) g.2 in omega arith
+
+module _ {M : Type 0} {fits : M → Type 0} {unit : M} {combined : M → M → M} {piece : ℕ → M} {weight load : M → ℕ} (laws : Lawful fits unit combined piece weight load) where
+  pub turn_room : (old new : List ℕ) (x n s : ℕ) → Grown old x new → ((z : ℕ) → times z new ≤ once_below z n) → s + sum_below (λ i. load (piece i)) n < 2 ^ 63 + sum_list (λ i. weight (piece i)) old → s + load (piece x) < 2 ^ 63
+  turn_room old new x n s g within room =
+      let a = grown_room laws old new x n g within in
+      let b = gathered_load laws old in
+      let c = weights_at_most_loads laws old in
+      omega arith
+
+  -- what one turn keeps: the part is the combination of the pieces in the hand's list, and the share has grown by their weights
+  pub turns_keep : (before : ℕ) (h : Holding) (m : M) (s : ℕ) (more : Bool) (k : Holding) (n : M) (t : ℕ) → Turns combined piece weight h m s more k n t → m ≡ gathered unit combined piece (numbers_of h) → s ≡ before + sum_list (λ i. weight (piece i)) (numbers_of h)
+      → (n ≡ gathered unit combined piece (numbers_of k)) × (t ≡ before + sum_list (λ i. weight (piece i)) (numbers_of k))
+  turns_keep before h m s more k n t turns a b =
+      ⊎_elim (λ o. (o.3 ∙ a ∙ ap (gathered unit combined piece) (sym o.2), (let c = ap (sum_list (λ i. weight (piece i))) o.2 in omega (arith, o.4))))
+      (λ o. let g = o.1 in
+      (g.2 ∙ ap (λ l. combined l (piece g.0)) a ∙ sym (grown_gathered laws (numbers_of h) (numbers_of k) g.0 g.1), (let c = grown_sum (λ i. weight (piece i)) (numbers_of h) (numbers_of k) g.0 g.1 in omega (arith, g.3))))
+      turns.2
+
+  -- the last turn
+  pub turns_end : (h : Holding) (m : M) (s : ℕ) (more : Bool) (k : Holding) (n : M) (t : ℕ) → Turns combined piece weight h m s more k n t → more ≡ false → k.spent ≡ true
+  turns_end h m s more k n t turns e = ⊎_elim (λ o. o.1) (λ o. absurd (true≢false (sym o.0 ∙ e))) turns.2
+
+pub follows_next : (h k : Holding) (answer : Next) → Answers h k answer → IsHolding k → Follows h k
+follows_next h k answer a i names pieces hands number b = belongs_next names pieces hands number h k answer a i b
+
+pub gained_pieces : (h k : Holding) (x : ℕ) → Gained h x k → k.pieces ≡ h.pieces
+gained_pieces h k x = λ g. ⊎_elim (λ (o : _). ap (λ (u : Holding). u.pieces) o.2) (λ (o : _). ap (λ (u : Holding). u.pieces) o.5) g

@@ -1,0 +1,132 @@
+// A number that many threads add to, and that each of them may read.
+ghost use Rattle.std.specs.Prelude.{◌≡◌, ℕ, ◌+◌, ◌-◌, ◌^◌, ◌<◌, ◌≤◌, min, IfOk, IfErr, vec_len, All, sum_by, length};
+
+use std::alloc::{AllocError, Global};
+use std::sync::ledger::{Blank, Ledger};
+use std::sync::{Mutex, Wait, ledger};
+
+#[derive(Drop)]
+struct Tally<L: Ledger> {
+    number: u128,
+    reported: ledger::Book<L>,
+    ghost kept: { number ≡ min reported.total (2 ^ 128 - 1) },
+}
+
+/// The sum of what all shares reported.
+#[derive(Drop)]
+pub struct Book<L: Ledger> {
+    tally: Mutex<Tally<L>>,
+}
+
+/// What one worker reported.
+#[derive(Drop)]
+pub struct Share<L: Ledger> {
+    pub sum: u64,
+    token: ledger::Share<L>,
+    ghost one_part: { token.parts ≡ 1 },
+    ghost same: { token.amount ≡ sum },
+}
+
+impl<L: Ledger> Tally<L> {
+    fn add(&mut self, token: &mut ledger::Share<L>, weight: u64) -> u128
+        requires { 0 < token.old.parts }
+        ensures amount { token.new.amount ≡ token.old.amount + weight }
+        ensures parts { token.new.parts ≡ token.old.parts }
+        ensures number { min token.new.amount (2 ^ 128 - 1) ≤ result }
+        ensures exact { result ≡ min (self.old.reported.total + weight) (2 ^ 128 - 1) }
+    {
+        let Tally { number, reported } = self;
+        reported.add(token, weight);
+        reported.audit(token);
+        *number = number.saturating_add(weight as u128);
+        *number
+    }
+
+    fn last(self, token: &mut ledger::Share<L>) -> u128
+        requires { token.old.parts ≡ L.parts }
+        ensures { result ≡ min token.old.amount (2 ^ 128 - 1) }
+    {
+        let Tally {
+            number,
+            mut reported,
+        } = self;
+        reported.audit(token);
+        number
+    }
+}
+
+impl<L: Ledger> Share<L> {
+    pub fn sum(&self) -> u64
+        ensures { result ≡ self.now.sum }
+    {
+        self.sum
+    }
+
+    fn of(token: ledger::Share<L>) -> Share<L>
+        requires { (token.parts ≡ 1) × (token.amount ≡ 0) }
+        ensures { result.sum ≡ 0 }
+    {
+        Share { sum: 0, token }
+    }
+}
+
+impl<L: Ledger> Book<L> {
+    /// A book, and a share for each hand.
+    pub fn new(
+        alloc: Global,
+        blank: Blank,
+        hands: usize,
+    ) -> Result<(Book<L>, Vec<Share<L>>), AllocError>
+        requires hands { (1 ≤ hands) × (hands ≤ 64) }
+        requires name { blank.name ≡ L.name }
+        requires parts { (blank.parts ≡ L.parts) × (L.parts ≡ hands) }
+        ensures each { IfOk result (λ r. vec_len r.1 ≡ hands) }
+        ensures none { IfOk result (λ r. All (λ s. s.sum ≡ 0) r.1.items) }
+    {
+        let (reported, mut rest) = blank.open::<L>();
+        let mut shares = Vec::new(alloc);
+        for _i in 0..hands {
+            let share = Share::of(rest.split_off(1, 0));
+            if shares.push(share).is_err() {
+                return Err(AllocError);
+            }
+        }
+        let tally = Mutex::new(Tally {
+            number: 0,
+            reported,
+        });
+        Ok((Book { tally }, shares))
+    }
+
+    /// Adds to the share and to the book. The book's number after it.
+    pub fn report<R: Wait>(&self, rt: &R, share: &mut Share<L>, weight: u64) -> u128
+        requires { share.old.sum + weight < 2 ^ 63 }
+        ensures sum { share.new.sum ≡ share.old.sum + weight }
+        ensures least { share.new.sum ≤ result }
+    {
+        let Share { sum, token } = share;
+        *sum += weight;
+        self.tally.lock(rt).add(token, weight)
+    }
+
+    /// The sum of all shares.
+    pub fn close(self, shares: Vec<Share<L>>) -> u128
+        requires all { vec_len shares ≡ L.parts }
+        requires few { vec_len shares ≤ 64 }
+        ensures { result ≡ sum_by (λ s. s.sum) shares.items }
+    {
+        let Book { tally } = self;
+        let tally = tally.into_inner();
+        let mut shares = shares;
+        let Some(first) = shares.pop() else {
+            return 0;
+        };
+        let Share { sum: _, token } = first;
+        let mut all = token;
+        while let Some(next) = shares.pop() {
+            let Share { sum: _, token } = next;
+            all.merge(token);
+        }
+        tally.last(&mut all)
+    }
+}

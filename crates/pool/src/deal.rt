@@ -1,0 +1,413 @@
+// Hands that take numbers from their own deque, and then from the others.
+ghost use Rattle.std.specs.Prelude.{length, ◌%◌, ◌↔◌, All, IsTrue, ◌≡◌, ℕ, List, ◌+◌, ◌-◌, ◌<◌, ◌≤◌, true, false, [], ◌∷◌, ◌++◌, MatchOption, IfOk, IfSome, IfNone};
+ghost use Rattle.pool.specs.Seen.{Seen, WasEmpty, Took, with_seen, now_closed, told_view, Shut, Looked, IsThief};
+ghost use Rattle.pool.specs.Holding.{Steals, IsHolding, InOrder, new_holding};
+ghost use Rattle.pool.specs.Answered.{Answers};
+ghost use Rattle.pool.specs.Settled.{list_from, Reaches, AllReach, told, AreAll, AllSpent, joined, pieces_of, KnowsAbove};
+ghost use Rattle.pool.specs.Totals.{once_below};
+ghost use Rattle.pool.specs.Rule.{held, Seated, Apart, lent_view, giving_view, given_view};
+ghost use Rattle.pool.specs.Dealing.{times};
+ghost use Rattle.crossbeam_deque.specs.Handles.{worker_deque, worker_flavor, worker_view, view as pass_view, IsPassOf};
+
+use crate::protocol::{
+    Blank, Dealing, Gather, GiveOpen, GiveShut, LendOpen, LendShut, Return, Seal, Taken, Whole,
+    Within,
+};
+use crate::view::{Task, View};
+use crossbeam_deque::{Pass, Steal, Stealer, Worker};
+use std::alloc::Global;
+use std::marker::Model;
+use std::mem;
+
+pub type Deque = Worker<Task, Global, View, Dealing>;
+
+/// The end of a deque that its own hand takes from.
+#[derive(Drop)]
+pub struct Own {
+    pub worker: Deque,
+    pub closed: bool,
+}
+
+impl Model for Own {
+    ghost use Rattle.std.specs.Prelude.{◌≡◌};
+    ghost use Rattle.pool.specs.Seen.{Owned, owned_of, IsOwner};
+    ghost use Rattle.crossbeam_deque.specs.Handles.{worker_deque, worker_view, worker_flavor};
+
+    ghost Value = { Owned };
+
+    ghost view = { λ o. owned_of (worker_deque o.worker) (worker_view o.worker) o.closed };
+
+    ghost invariant = { λ o. (worker_flavor o.worker ≡ 0) × IsOwner (worker_view o.worker) o.closed };
+}
+
+/// The end of another hand's deque.
+#[derive(Drop)]
+pub struct Reach {
+    pub thief: Stealer<Task, Global, View, Dealing>,
+    pub pass: Pass<Task, View, Global>,
+    pub closed: bool,
+}
+
+impl Model for Reach {
+    ghost use Rattle.std.specs.Prelude.{◌≡◌};
+    ghost use Rattle.pool.specs.Seen.{Seen, seen_of, IsThief};
+    ghost use Rattle.crossbeam_deque.specs.Handles.{view as pass_view, IsPassOf, stealer_deque, stealer_flavor};
+
+    ghost Value = { Seen };
+
+    ghost view = { λ r. seen_of (stealer_deque r.thief) (pass_view r.pass) };
+
+    ghost invariant = { λ r. IsPassOf (stealer_deque r.thief) r.pass × (stealer_flavor r.thief ≡ 0) × IsThief (pass_view r.pass) r.closed };
+}
+
+impl Own {
+    /// The first number of the deque. None, where only end marks are left: from then on there is none for good.
+    fn take(&mut self) -> Option<u32>
+        requires { self.old.closed ≡ false }
+        ensures { MatchOption result ((self.new ≡ now_closed self.old) × WasEmpty self.old.seen) (λ x. (s : Seen) × Took self.old.seen x s × (self.new ≡ with_seen self.old s)) }
+    {
+        match self.worker.pop_as::<Taken>() {
+            Some(Task::Number(x)) => Some(x),
+            Some(Task::End) => {
+                self.closed = true;
+                None
+            }
+            None => unreachable!(),
+        }
+    }
+}
+
+impl Reach {
+    /// The first number of the deque, if this one try got it.
+    fn take(&mut self) -> Option<u32>
+        ensures { MatchOption result (self.new ≡ self.old) (λ x. Took self.old x self.new) }
+    {
+        if self.closed {
+            return None;
+        }
+        match self.thief.steal_as::<Taken>(&mut self.pass) {
+            Steal::Success(Task::Number(x)) => Some(x),
+            Steal::Success(Task::End) => {
+                self.closed = true;
+                None
+            }
+            Steal::Empty => None,
+            Steal::Retry => None,
+        }
+    }
+
+    /// Shows the owner of a deque with no number left what this hand has of it, for good.
+    fn show(&mut self, worker: &mut Deque)
+        requires deque { self.old.deque ≡ worker_deque worker.old }
+        requires numbers { self.old.numbers ≡ (worker_view worker.old).numbers }
+        requires apart { self.old.place ≡ 0 → ⊥ }
+        requires owner { Shut (worker_view worker.old) }
+        ensures same { self.new ≡ self.old }
+        ensures deque { (worker_deque worker.new ≡ worker_deque worker.old) × (worker_flavor worker.new ≡ worker_flavor worker.old) }
+        ensures shown { worker_view worker.new ≡ told_view (worker_view worker.old) (worker_view worker.new).ends ((self.old.place, self.old.list) ∷ []) }
+    {
+        let blank = worker.another::<Blank>();
+        let pass = mem::replace(&mut self.pass, blank);
+        worker.absorb::<Gather>(pass);
+        let back = worker.another::<Return>();
+        drop(mem::replace(&mut self.pass, back));
+        self.closed = true;
+    }
+}
+
+/// What a hand answers.
+#[derive(Clone, Copy, Debug, PartialEq, Eq)]
+pub enum Next {
+    Piece(u32),
+    /// The own deque is empty for good, and one try at each other gave nothing.
+    Spent,
+    /// The own deque refused memory.
+    Memory,
+}
+
+/// One worker's end of a deal.
+#[derive(Drop)]
+pub struct Hand {
+    number: usize,
+    hands: usize,
+    pieces: u32,
+    own: Own,
+    others: Vec<Reach>,
+    spent: bool,
+}
+
+impl Model for Hand {
+    ghost use Rattle.pool.specs.Holding.{Holding, IsHolding};
+
+    ghost Value = { Holding };
+
+    ghost view = { λ h. record { number = h.number; hands = h.hands; pieces = h.pieces; own = h.own; others = h.others.items; spent = h.spent } };
+
+    ghost invariant = { λ h. IsHolding record { number = h.number; hands = h.hands; pieces = h.pieces; own = h.own; others = h.others.items; spent = h.spent } };
+}
+
+/// One try at each, in turn, until one gives a number.
+fn steal(others: &mut Vec<Reach>) -> Option<u32>
+    ensures { Steals others.old.items result others.new.items }
+{
+    for r in 0..others.len() {
+        let other = &mut others[r];
+        if let Some(x) = other.take() {
+            return Some(x);
+        }
+    }
+    None
+}
+
+// The first of its own deque, unless it was found to have none before.
+fn own_first(own: &mut Own) -> Option<u32>
+    ensures none { IfNone result ((own.new ≡ now_closed own.old) × (own.old.closed ≡ false → WasEmpty own.old.seen)) }
+    ensures some { IfSome result (λ x. (s : Seen) × Took own.old.seen x s × (own.new ≡ with_seen own.old s) × (own.old.closed ≡ false)) }
+{
+    if own.closed {
+        return None;
+    }
+    own.take()
+}
+
+impl Hand {
+    /// A number of its own deque, or else of another.
+    pub fn next(&mut self) -> Next
+        ensures answer { Answers self.old self.new result }
+        ensures holding { IsHolding self.new }
+        ensures order { InOrder self.new }
+    {
+        if let Some(x) = own_first(&mut self.own) {
+            return Next::Piece(x);
+        }
+        if let Some(x) = steal(&mut self.others) {
+            return Next::Piece(x);
+        }
+        self.spent = true;
+        Next::Spent
+    }
+}
+
+impl Hand {
+    /// Shows the owner of the deque at this place what this hand has of it.
+    fn show(&mut self, worker: &mut Deque, place: usize)
+        requires reach { Reaches (worker_deque worker.old) (worker_view worker.old).numbers place self.old }
+        requires owner { Shut (worker_view worker.old) }
+        ensures same { self.new ≡ self.old }
+        ensures deque { (worker_deque worker.new ≡ worker_deque worker.old) × (worker_flavor worker.new ≡ worker_flavor worker.old) }
+        ensures shown { worker_view worker.new ≡ told_view (worker_view worker.old) (worker_view worker.new).ends ((place, list_from place self.old) ∷ []) }
+    {
+        let other = &mut self.others[place - 1];
+        other.show(worker);
+    }
+}
+
+/// Each of these hands shows what it has. The first has this place, and the others the places below.
+fn show_all(worker: &mut Deque, hands: &mut [Hand], place: usize)
+    requires reach { AllReach (worker_deque worker.old) (worker_view worker.old).numbers place hands.old }
+    requires owner { Shut (worker_view worker.old) }
+    ensures same { hands.new ≡ hands.old }
+    ensures deque { (worker_deque worker.new ≡ worker_deque worker.old) × (worker_flavor worker.new ≡ worker_flavor worker.old) }
+    ensures shown { worker_view worker.new ≡ told_view (worker_view worker.old) (worker_view worker.new).ends (told place hands.old) }
+{
+    for i in 0..hands.len() {
+        let hand = &mut hands[i];
+        hand.show(worker, place - i);
+    }
+}
+
+impl Own {
+    /// All other hands show what they have of the deque, which has no number left. What was shown is forgotten.
+    fn account(&mut self, before: &mut [Hand], after: &mut [Hand])
+        requires closed { self.old.closed ≡ true }
+        requires few { length before.old + length after.old < 64 }
+        requires count { self.old.made ≡ length before.old + length after.old + 1 }
+        requires after { AllReach self.old.seen.deque self.old.seen.numbers (length before.old + length after.old) after.old }
+        requires before { AllReach self.old.seen.deque self.old.seen.numbers (length before.old) before.old }
+        ensures same { (self.new ≡ self.old) × (before.new ≡ before.old) × (after.new ≡ after.old) }
+        ensures account { (x : ℕ) → times x self.old.seen.list + (held x (told (length before.old + length after.old) after.old) + held x (told (length before.old) before.old)) ≡ times x self.old.seen.numbers }
+    {
+        let first = before.len();
+        let place = first + after.len();
+        let worker = &mut self.worker;
+        show_all(worker, after, place);
+        show_all(worker, before, first);
+        worker.len_as::<Whole>();
+        drop(worker.another::<Seal>());
+    }
+}
+
+impl Hand {
+    /// Whether it has answered Spent.
+    fn is_spent(&self) -> bool
+        ensures { result ≡ self.now.spent }
+    {
+        self.spent
+    }
+
+    /// How many pieces its deal has.
+    pub fn pieces(&self) -> u32
+        ensures { result ≡ self.now.pieces }
+    {
+        self.pieces
+    }
+
+    /// The other hands of the deal show what they have of this hand's deque, which has no number left.
+    fn account(&mut self, before: &mut [Hand], after: &mut [Hand])
+        requires closed { self.old.own.closed ≡ true }
+        requires few { length before.old + length after.old < 64 }
+        requires count { self.old.own.made ≡ length before.old + length after.old + 1 }
+        requires after { AllReach self.old.own.seen.deque self.old.own.seen.numbers (length before.old + length after.old) after.old }
+        requires before { AllReach self.old.own.seen.deque self.old.own.seen.numbers (length before.old) before.old }
+        ensures same { (self.new ≡ self.old) × (before.new ≡ before.old) × (after.new ≡ after.old) }
+        ensures account { (x : ℕ) → times x self.old.own.seen.list + (held x (told (length before.old + length after.old) after.old) + held x (told (length before.old) before.old)) ≡ times x self.old.own.seen.numbers }
+    {
+        self.own.account(before, after);
+    }
+}
+
+/// The pieces of the deque of the hand d are in the lists, each as often as it was dealt.
+fn account_of(hands: &mut [Hand], d: usize)
+    requires deal { AreAll hands.old }
+    requires low { d < length hands.old }
+    requires spent { AllSpent hands.old }
+    ensures same { hands.new ≡ hands.old }
+    ensures account { (x : ℕ) → x % length hands.old ≡ d → times x (joined hands.old) ≡ once_below x (pieces_of hands.old) }
+{
+    let (before, rest) = hands.split_at_mut(d);
+    let Some((mine, after)) = rest.split_first_mut() else {
+        unreachable!();
+    };
+    mine.account(before, after);
+}
+
+fn all_spent(hands: &[Hand]) -> bool
+    ensures { IsTrue result ↔ AllSpent hands.now }
+{
+    for i in 0..hands.len() {
+        if !hands[i].is_spent() {
+            return false;
+        }
+    }
+    true
+}
+
+/// The pieces of all deques are in the lists.
+fn account_all(hands: &mut [Hand])
+    requires deal { AreAll hands.old }
+    requires spent { AllSpent hands.old }
+    ensures same { hands.new ≡ hands.old }
+    ensures whole { (x : ℕ) → times x (joined hands.old) ≡ once_below x (pieces_of hands.old) }
+{
+    for d in 0..hands.len() {
+        account_of(hands, d);
+    }
+}
+
+/// Whether each hand of the deal has answered Spent. Then their lists joined hold each piece exactly once. It takes no memory.
+pub fn settled(hands: &mut [Hand]) -> bool
+    requires deal { AreAll hands.old }
+    ensures same { hands.new ≡ hands.old }
+    ensures answer { IsTrue result ↔ AllSpent hands.old }
+    ensures whole { IsTrue result → (x : ℕ) → times x (joined hands.old) ≡ once_below x (pieces_of hands.old) }
+{
+    if !all_spent(hands) {
+        return false;
+    }
+    account_all(hands);
+    true
+}
+
+/// A hand that has taken nothing.
+pub fn first_hand(number: usize, hands: usize, pieces: u32, own: Own, others: Vec<Reach>) -> Hand
+    requires { IsHolding (new_holding number hands pieces own others.items) }
+    ensures is { result ≡ new_holding number hands pieces own others.items }
+    ensures holding { IsHolding result }
+{
+    Hand {
+        number,
+        hands,
+        pieces,
+        own,
+        others,
+        spent: false,
+    }
+}
+
+/// The owner takes in a seat of its deque, behind its own.
+fn take_in(worker: &mut Deque, pass: Pass<Task, View, Global>, closed: bool)
+    requires pass { IsPassOf (worker_deque worker.old) pass × IsThief (pass_view pass) closed }
+    requires owner { ((worker_view worker.old).filling ≡ false) × Seated (worker_view worker.old).known }
+    ensures deque { (worker_deque worker.new ≡ worker_deque worker.old) × (worker_flavor worker.new ≡ worker_flavor worker.old) }
+    ensures lent { worker_view worker.new ≡ lent_view (worker_view worker.new).closed (worker_view worker.old) (pass_view pass) }
+    ensures closed { (closed ≡ true → (worker_view worker.new).closed ≡ true) × ((worker_view worker.old).closed ≡ true → (worker_view worker.new).closed ≡ true) }
+{
+    if closed {
+        worker.absorb::<LendShut>(pass);
+        return;
+    }
+    worker.absorb::<LendOpen>(pass);
+}
+
+/// The second hand that the owner knows has its seat again.
+fn give_back(worker: &mut Deque, closed: bool) -> Pass<Task, View, Global>
+    requires second { (p : ℕ × List ℕ) × (q : ℕ × List ℕ) × (more : List (ℕ × List ℕ)) × ((worker_view worker.old).known ≡ p ∷ q ∷ more) × (p.0 ≡ q.0 → ⊥) × Apart q.0 more }
+    requires owner { ((worker_view worker.old).filling ≡ false) × (closed ≡ false → 0 < (worker_view worker.old).ends) }
+    ensures deque { (worker_deque worker.new ≡ worker_deque worker.old) × (worker_flavor worker.new ≡ worker_flavor worker.old) }
+    ensures pass { IsPassOf (worker_deque worker.old) result }
+    ensures given { (n : ℕ) × (worker_view worker.new ≡ giving_view n (worker_view worker.old)) × (pass_view result ≡ given_view n (worker_view worker.old)) × (closed ≡ false → n ≡ 1) × (closed ≡ true → n ≡ 0) }
+{
+    if closed {
+        return worker.another::<GiveShut>();
+    }
+    worker.another::<GiveOpen>()
+}
+
+impl Reach {
+    /// The owner of the deque takes in this hand's seat.
+    #[cycle(compare)]
+    fn lend(&mut self, worker: &mut Deque, others: &mut [Hand], more: &mut [Hand], place: usize)
+        requires place { (self.old.place ≡ place) × (0 < place) × (place ≡ length others.old + length more.old + 1) × (place < 64) }
+        requires deque { self.old.deque ≡ worker_deque worker.old }
+        requires numbers { self.old.numbers ≡ (worker_view worker.old).numbers }
+        requires owner { KnowsAbove place (worker_view worker.old) }
+        requires others { AllReach (worker_deque worker.old) (worker_view worker.old).numbers (place - 1) others.old }
+        requires more { AllReach (worker_deque worker.old) (worker_view worker.old).numbers (length more.old) more.old }
+        ensures same { (self.new ≡ self.old) × (others.new ≡ others.old) × (more.new ≡ more.old) }
+        ensures deque { (worker_deque worker.new ≡ worker_deque worker.old) × (worker_flavor worker.new ≡ worker_flavor worker.old) }
+        ensures looked { Looked (worker_view worker.old) (worker_view worker.new) }
+        ensures within { (x : ℕ) → held x (worker_view worker.old).known + (times x self.old.list + (held x (told (place - 1) others.old) + held x (told (length more.old) more.old))) ≤ times x (worker_view worker.old).numbers }
+    {
+        let closed = self.closed;
+        let blank = worker.another::<Blank>();
+        let pass = mem::replace(&mut self.pass, blank);
+        take_in(worker, pass, closed);
+        compare(worker, others, more, place - 1);
+        let back = give_back(worker, closed);
+        drop(mem::replace(&mut self.pass, back));
+    }
+}
+
+/// The owner of the deque takes in the seats of these hands, of which the first has this place and the others those below, learns that their lists hold no number more often than it was dealt, and gives the seats back.
+#[cycle(compare)]
+fn compare(worker: &mut Deque, hands: &mut [Hand], more: &mut [Hand], place: usize)
+    requires place { (place ≡ length hands.old + length more.old) × (place < 64) }
+    requires owner { KnowsAbove place (worker_view worker.old) }
+    requires hands { AllReach (worker_deque worker.old) (worker_view worker.old).numbers place hands.old }
+    requires more { AllReach (worker_deque worker.old) (worker_view worker.old).numbers (length more.old) more.old }
+    ensures same { (hands.new ≡ hands.old) × (more.new ≡ more.old) }
+    ensures deque { (worker_deque worker.new ≡ worker_deque worker.old) × (worker_flavor worker.new ≡ worker_flavor worker.old) }
+    ensures looked { Looked (worker_view worker.old) (worker_view worker.new) }
+    ensures within { (x : ℕ) → held x (worker_view worker.old).known + (held x (told place hands.old) + held x (told (length more.old) more.old)) ≤ times x (worker_view worker.old).numbers }
+{
+    if let Some((hand, rest)) = hands.split_first_mut() {
+        let reach = &mut hand.others[place - 1];
+        reach.lend(worker, rest, more, place);
+        return;
+    }
+    if more.len() > 0 {
+        compare(worker, more, &mut [], place);
+        return;
+    }
+    worker.len_as::<Within>();
+}

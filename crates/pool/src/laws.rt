@@ -1,0 +1,76 @@
+// What a pool works on.
+ghost use Rattle.std.specs.Prelude.{◌≡◌, ℕ, ◌+◌, ◌^◌, ◌<◌, IfOk};
+ghost use Rattle.pool.specs.Lawful.{Lawful};
+
+use std::alloc::AllocError;
+
+/// What a pool answers.
+#[derive(Drop)]
+pub enum Outcome<P> {
+    /// All pieces combined.
+    Whole(P),
+    /// The weights add up to more than the limit.
+    Over,
+}
+
+#[derive(Debug, Clone, Copy, PartialEq, Eq)]
+pub enum PoolFault {
+    /// Memory ran out, and no thread was refused.
+    OutOfMemory,
+    /// A thread could not be started.
+    ThreadNotStarted,
+}
+
+/// Numbered pieces, whose parts combine in any order.
+pub trait Work {
+    type Part: Send + Drop;
+
+    /// What a part means.
+    ghost Meaning: { Type 0 };
+
+    ghost meaning: { Self.Part → Self.Meaning };
+
+    /// The meanings that parts of this work have.
+    ghost fits: { Self → Self.Meaning → Type 0 };
+
+    ghost unit_meaning: { Self → Self.Meaning };
+
+    ghost piece_meaning: { Self → ℕ → Self.Meaning };
+
+    ghost combined: { Self → Self.Meaning → Self.Meaning → Self.Meaning };
+
+    ghost weight_of: { Self → Self.Meaning → ℕ };
+
+    ghost load_of: { Self → Self.Meaning → ℕ };
+
+    fn unit(&self) -> Result<Self::Part, AllocError>
+        ensures { IfOk result (λ p. Self.meaning p ≡ Self.unit_meaning self.now) };
+
+    fn piece(&self, i: u32) -> Result<Self::Part, AllocError>
+        ensures { IfOk result (λ p. Self.meaning p ≡ Self.piece_meaning self.now i) };
+
+    fn combine(&self, a: Self::Part, b: Self::Part) -> Result<Self::Part, AllocError>
+        requires parts { Self.fits self.now (Self.meaning a) × Self.fits self.now (Self.meaning b) }
+        requires room { Self.load_of self.now (Self.meaning a) + Self.load_of self.now (Self.meaning b) < 2 ^ 63 }
+        ensures { IfOk result (λ p. Self.meaning p ≡ Self.combined self.now (Self.meaning a) (Self.meaning b)) };
+
+    /// A part with one piece more.
+    fn add(&self, part: Self::Part, i: u32) -> Result<Self::Part, AllocError>
+        requires part { Self.fits self.now (Self.meaning part) }
+        requires more { Self.load_of self.now (Self.meaning part) + Self.load_of self.now (Self.piece_meaning self.now i) < 2 ^ 63 }
+        ensures { IfOk result (λ p. Self.meaning p ≡ Self.combined self.now (Self.meaning part) (Self.piece_meaning self.now i)) }
+    {
+        let piece = self.piece(i)?;
+        self.combine(part, piece)
+    }
+
+    fn weight(&self, p: &Self::Part) -> u64
+        requires { Self.fits self.now (Self.meaning p.now) × (Self.load_of self.now (Self.meaning p.now) < 2 ^ 63) }
+        ensures { result ≡ Self.weight_of self.now (Self.meaning p.now) };
+
+    fn load(&self, p: &Self::Part) -> u64
+        requires { Self.fits self.now (Self.meaning p.now) × (Self.load_of self.now (Self.meaning p.now) < 2 ^ 63) }
+        ensures { result ≡ Self.load_of self.now (Self.meaning p.now) };
+
+    ghost lawful: { (w : Self) → Lawful (Self.fits w) (Self.unit_meaning w) (Self.combined w) (Self.piece_meaning w) (Self.weight_of w) (Self.load_of w) };
+}

@@ -1,0 +1,26 @@
+// All pieces on the calling thread.
+ghost use Rattle.std.specs.Prelude.{◌≡◌, ℕ, ◌+◌, ◌^◌, ◌<◌, ◌≤◌, MatchResult, IfOk};
+ghost use Rattle.pool.specs.Totals.{total, sum_below};
+ghost use Rattle.pool.specs.Outcomes.{Decides};
+
+use crate::laws::{Outcome, PoolFault, Work};
+
+/// The combination of all pieces, or Over where their weights add up to more than the limit.
+pub fn alone<W: Work>(work: &W, pieces: u32, limit: u64) -> Result<Outcome<W::Part>, PoolFault>
+    requires loads { sum_below (λ i. W.load_of work.now (W.piece_meaning work.now i)) pieces < 2 ^ 63 }
+    ensures { MatchResult result (Decides W.meaning (total (W.unit_meaning work.now) (W.combined work.now) (W.piece_meaning work.now) pieces) (sum_below (λ i. W.weight_of work.now (W.piece_meaning work.now i)) pieces) limit) (λ e. e ≡ PoolFault.OutOfMemory) }
+{
+    let Ok(mut part) = work.unit() else {
+        return Err(PoolFault::OutOfMemory);
+    };
+    for i in 0..pieces {
+        let Ok(both) = work.add(part, i) else {
+            return Err(PoolFault::OutOfMemory);
+        };
+        part = both;
+    }
+    if work.weight(&part) > limit {
+        return Ok(Outcome::Over);
+    }
+    Ok(Outcome::Whole(part))
+}

@@ -1,0 +1,115 @@
+// A deque that is filled, and then gives out its seats.
+ghost use Rattle.std.specs.Prelude.{◌≡◌, ℕ, ◌+◌, ◌-◌, ◌<◌, ◌≤◌, true, false, [], ◌∷◌, ◌++◌, IfOk, OnOk};
+ghost use Rattle.pool.specs.Dealing.{dealt};
+ghost use Rattle.pool.specs.Seen.{Seen, Offer, Owned, seated, offered, owned_first};
+
+use crate::deal::{Deque, Own, Reach};
+use crate::protocol::{Fill, Mark, Seal, Seat};
+use crate::view::Task;
+use std::alloc::{AllocError, Global};
+use std::marker::Model;
+
+/// A deque that is being filled. Contracts see it as its numbers.
+#[derive(Drop)]
+pub struct Filling {
+    worker: Deque,
+}
+
+impl Model for Filling {
+    ghost use Rattle.std.specs.Prelude.{◌≡◌, ℕ, List, true, false, [], ◌∷◌};
+    ghost use Rattle.pool.specs.Rule.{view_of};
+    ghost use Rattle.crossbeam_deque.specs.Handles.{worker_deque, worker_view, worker_flavor};
+
+    ghost Value = { List ℕ };
+
+    ghost view = { λ s. (worker_view s.worker).numbers };
+
+    ghost invariant = { λ s. (worker_flavor s.worker ≡ 0) × (worker_view s.worker ≡ view_of true true 0 1 (worker_view s.worker).numbers ((0, []) ∷ []) false []) };
+}
+
+#[derive(Drop)]
+pub struct Source {
+    worker: Deque,
+    hands: usize,
+}
+
+impl Model for Source {
+    ghost use Rattle.std.specs.Prelude.{◌≡◌, ◌-◌, ◌+◌, ◌<◌, ◌≤◌, true, false, [], ◌∷◌};
+    ghost use Rattle.pool.specs.Rule.{view_of};
+    ghost use Rattle.pool.specs.Seen.{Offer, offer_of};
+    ghost use Rattle.crossbeam_deque.specs.Handles.{worker_deque, worker_view, worker_flavor};
+
+    ghost Value = { Offer };
+
+    ghost view = { λ s. offer_of (worker_deque s.worker) (worker_view s.worker) s.hands };
+
+    ghost invariant = { λ s. (worker_flavor s.worker ≡ 0) × (worker_view s.worker ≡ view_of false true (s.hands + 1 - (worker_view s.worker).made) (worker_view s.worker).made (worker_view s.worker).numbers ((0, []) ∷ []) false []) × ((worker_view s.worker).made ≤ s.hands) };
+}
+
+impl Filling {
+    /// A deque with no number and room for this many tasks.
+    pub fn new(alloc: Global, room: usize) -> Result<Filling, AllocError>
+        ensures { IfOk result (λ f. f ≡ []) }
+    {
+        let Ok(worker) = Deque::fifo_as(alloc, room) else {
+            return Err(AllocError);
+        };
+        Ok(Filling { worker })
+    }
+
+    /// The number goes behind all others.
+    pub fn fill(&mut self, number: u32) -> Result<(), AllocError>
+        ensures { OnOk result (self.new ≡ self.old ++ number ∷ []) }
+    {
+        if self.worker.push_as::<Fill>(Task::Number(number)).is_err() {
+            return Err(AllocError);
+        }
+        Ok(())
+    }
+
+    /// No number joins from now on. Behind the numbers lies an end mark for each hand.
+    pub fn seal(self, hands: usize) -> Result<Source, AllocError>
+        requires { (0 < hands) × (hands < 65) }
+        ensures { IfOk result (λ s. (s.numbers ≡ self) × (s.made ≡ 1) × (s.hands ≡ hands)) }
+    {
+        let Filling { mut worker } = self;
+        for _mark in 0..hands {
+            if worker.push_as::<Mark>(Task::End).is_err() {
+                return Err(AllocError);
+            }
+        }
+        drop(worker.another::<Seal>());
+        Ok(Source { worker, hands })
+    }
+}
+
+impl Source {
+    /// A seat for the next hand in the round.
+    pub fn seat(&mut self) -> Result<Reach, AllocError>
+        requires { self.old.made < self.old.hands }
+        ensures left { IfOk result (λ r. self.new ≡ offered self.old (self.old.made + 1)) }
+        ensures seat { IfOk result (λ r. r ≡ seated self.old) }
+    {
+        let Ok(thief) = self.worker.stealer() else {
+            return Err(AllocError);
+        };
+        let pass = self.worker.another::<Seat>();
+        Ok(Reach {
+            thief,
+            pass,
+            closed: false,
+        })
+    }
+
+    /// The owner's own end, once each other hand has its seat.
+    pub fn own(self) -> Own
+        requires { self.made ≡ self.hands }
+        ensures { result ≡ owned_first self }
+    {
+        let Source { worker, hands: _ } = self;
+        Own {
+            worker,
+            closed: false,
+        }
+    }
+}

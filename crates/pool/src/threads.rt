@@ -1,0 +1,269 @@
+// The hands of a deal, each on a thread of its own.
+ghost use Rattle.std.specs.Prelude.{◌≡◌, ℕ, ◌+◌, ◌^◌, ◌<◌, ◌≤◌, ◌⊎◌, ◌++◌, ◌∷◌, [], IfOk, IfErr, vec_len, length, List};
+ghost use Rattle.pool.specs.Totals.{gathered, sum_below, sum_list, total, once_below};
+ghost use Rattle.pool.specs.Outcomes.{Decides};
+ghost use Rattle.pool.specs.Dealing.{times};
+ghost use Rattle.pool.specs.Holding.{Holding, numbers_of};
+ghost use Rattle.pool.specs.Settled.{AreAll, AllSpent, joined, pieces_of};
+ghost use Rattle.pool.specs.Done.{Did};
+ghost use Rattle.pool.specs.Fanned.{AreReady, DidAll, CameBack, NeedNoThread, AreGathered, flat, Settles};
+ghost use Rattle.pool.specs.Assembly.{IsNewDeal};
+ghost use mathlib.Core.Option.{some};
+ghost use lib.ListN.{get_elem?};
+
+use crate::book::{Book, Share};
+use crate::deal::{Hand, settled};
+use crate::dealing::Deal;
+use crate::growing::put_last;
+use crate::laws::{Outcome, PoolFault, Work};
+use crate::worker::{Done, start, work_off};
+use std::alloc::{AllocError, Global};
+use std::marker::{Brand, Send, Sync};
+use std::sync::Wait;
+use std::sync::ledger::{Blank, Ledger};
+use std::thread;
+use std::thread::{Scope, Threads};
+
+/// What all workers gave back, in the order of their hands.
+#[derive(Drop)]
+pub struct Gathered<P, L: Ledger> {
+    pub hands: Vec<Hand>,
+    pub shares: Vec<Share<L>>,
+    pub parts: Vec<P>,
+}
+
+/// One more worker's.
+fn with_done<P: Drop, L: Ledger>(
+    gathered: Gathered<P, L>,
+    done: Done<P, L>,
+) -> Result<Gathered<P, L>, AllocError>
+    ensures hands { IfOk result (λ g. g.hands.items ≡ gathered.hands.items ++ done.hand ∷ []) }
+    ensures shares { IfOk result (λ g. g.shares.items ≡ gathered.shares.items ++ done.share ∷ []) }
+    ensures parts { IfOk result (λ g. g.parts.items ≡ gathered.parts.items ++ done.part ∷ []) }
+{
+    let Gathered {
+        mut hands,
+        mut shares,
+        mut parts,
+    } = gathered;
+    let Done { hand, share, part } = done;
+    put_last(&mut hands, hand)?;
+    put_last(&mut shares, share)?;
+    put_last(&mut parts, part)?;
+    Ok(Gathered {
+        hands,
+        shares,
+        parts,
+    })
+}
+
+/// Each hand goes on to Spent: the first on the calling thread, each other on its own, and where there is no piece all on the calling one.
+fn spread<'s, E, W: Work + Sync, L: Ledger + Send + Sync, R: Threads + Wait + Sync>(
+    scope: &Scope<'s, E>,
+    rt: &'s R,
+    alloc: Global,
+    work: &'s W,
+    book: &'s Book<L>,
+    hands: Vec<Hand>,
+    shares: Vec<Share<L>>,
+) -> Result<Gathered<W::Part, L>, PoolFault>
+    requires ready { AreReady (λ i. W.load_of work.now (W.piece_meaning work.now i)) (λ s. s.sum) hands.items shares.items }
+    ensures did { IfOk result (λ g. DidAll (W.unit_meaning work.now) (W.combined work.now) (W.piece_meaning work.now) (W.weight_of work.now) (λ s. s.sum) W.meaning hands.items shares.items g.hands.items g.shares.items g.parts.items) }
+    ensures alone { NeedNoThread hands.items → IfErr result (λ e. e ≡ PoolFault.OutOfMemory) }
+{
+    let mut hands = hands;
+    let mut shares = shares;
+    let Some(hand) = hands.pop() else {
+        return Ok(Gathered {
+            hands: Vec::new(alloc),
+            shares: Vec::new(alloc),
+            parts: Vec::new(alloc),
+        });
+    };
+    let Some(share) = shares.pop() else {
+        unreachable!();
+    };
+    if hands.is_empty() || hand.pieces() == 0 {
+        let others = match spread(scope, rt, alloc, work, book, hands, shares) {
+            Ok(others) => others,
+            Err(fault) => return Err(fault),
+        };
+        let Ok(done) = work_off(rt, work, book, hand, share) else {
+            return Err(PoolFault::OutOfMemory);
+        };
+        let Ok(all) = with_done(others, done) else {
+            return Err(PoolFault::OutOfMemory);
+        };
+        return Ok(all);
+    }
+    let Some(handle) = start(scope, rt, work, book, hand, share) else {
+        return Err(PoolFault::ThreadNotStarted);
+    };
+    let others = match spread(scope, rt, alloc, work, book, hands, shares) {
+        Ok(others) => others,
+        Err(fault) => return Err(fault),
+    };
+    let Ok(done) = handle.join(rt) else {
+        return Err(PoolFault::OutOfMemory);
+    };
+    let Ok(all) = with_done(others, done) else {
+        return Err(PoolFault::OutOfMemory);
+    };
+    Ok(all)
+}
+
+/// As `spread`, with a scope of its own.
+fn gather<W: Work + Sync, L: Ledger + Send + Sync, R: Threads + Wait + Sync>(
+    rt: &R,
+    alloc: Global,
+    work: &W,
+    book: &Book<L>,
+    hands: Vec<Hand>,
+    shares: Vec<Share<L>>,
+) -> Result<Gathered<W::Part, L>, PoolFault>
+    requires ready { AreReady (λ i. W.load_of work.now (W.piece_meaning work.now i)) (λ s. s.sum) hands.items shares.items }
+    ensures did { IfOk result (λ g. DidAll (W.unit_meaning work.now) (W.combined work.now) (W.piece_meaning work.now) (W.weight_of work.now) (λ s. s.sum) W.meaning hands.items shares.items g.hands.items g.shares.items g.parts.items) }
+    ensures alone { NeedNoThread hands.items → IfErr result (λ e. e ≡ PoolFault.OutOfMemory) }
+{
+    thread::scope(
+        thread::scope_env(),
+        rt,
+        move |scope| -> Result<Gathered<W::Part, L>, PoolFault>
+            requires { AreReady (λ i. W.load_of work.now (W.piece_meaning work.now i)) (λ s. s.sum) hands.items shares.items }
+            ensures did { IfOk result (λ g. DidAll (W.unit_meaning work.entry.now) (W.combined work.entry.now) (W.piece_meaning work.entry.now) (W.weight_of work.entry.now) (λ s. s.sum) W.meaning hands.items shares.items g.hands.items g.shares.items g.parts.items) }
+            ensures alone { NeedNoThread hands.items → IfErr result (λ e. e ≡ PoolFault.OutOfMemory) }
+        { spread(scope, rt, alloc, work, book, hands, shares) },
+    )
+}
+
+/// All parts, combined. No piece is in their lists twice.
+fn combine_all<W: Work>(work: &W, parts: Vec<W::Part>) -> Result<W::Part, AllocError>
+    requires { (n : ℕ) × (sum_below (λ i. W.load_of work.now (W.piece_meaning work.now i)) n < 2 ^ 63) × ((lists : List (List ℕ)) × AreGathered (W.unit_meaning work.now) (W.combined work.now) (W.piece_meaning work.now) W.meaning lists parts.items × ((x : ℕ) → times x (flat lists) ≤ once_below x n)) }
+    ensures { (lists : List (List ℕ)) → AreGathered (W.unit_meaning work.now) (W.combined work.now) (W.piece_meaning work.now) W.meaning lists parts.items → IfOk result (λ p. W.meaning p ≡ gathered (W.unit_meaning work.now) (W.combined work.now) (W.piece_meaning work.now) (flat lists)) }
+{
+    let mut all = work.unit()?;
+    for part in parts {
+        all = work.combine(all, part)?;
+    }
+    Ok(all)
+}
+
+/// The hands of a deal have all answered Spent: their lists joined hold each piece once.
+fn settle(hands: &mut Vec<Hand>)
+    requires deal { AreAll hands.old.items }
+    requires spent { AllSpent hands.old.items }
+    ensures same { hands.new.items ≡ hands.old.items }
+    ensures whole { (x : ℕ) → times x (joined hands.old.items) ≡ once_below x (pieces_of hands.old.items) }
+{
+    if !settled(hands.as_mut_slice()) {
+        unreachable!();
+    }
+}
+
+/// All pieces of a deal, each hand on a thread of its own but the first, which works on the calling one. The hands and shares come back in their order.
+pub fn fan_on<W: Work + Sync, L: Ledger + Send + Sync, R: Threads + Wait + Sync>(
+    rt: &R,
+    alloc: Global,
+    work: &W,
+    hands: Vec<Hand>,
+    limit: u64,
+    book: &Book<L>,
+    _stop: u64,
+    shares: Vec<Share<L>>,
+) -> Result<(Outcome<W::Part>, Vec<Hand>, Vec<Share<L>>), PoolFault>
+    requires deal { IsNewDeal (pieces_of hands.items) (vec_len hands) hands.items }
+    requires count { vec_len shares ≡ vec_len hands }
+    requires loads { sum_below (λ i. W.load_of work.now (W.piece_meaning work.now i)) (pieces_of hands.items) < 2 ^ 63 }
+    requires room { (i : ℕ) (s : _) → get_elem? shares.items i ≡ some s → sum_below (λ i. W.load_of work.now (W.piece_meaning work.now i)) (pieces_of hands.items) + s.sum < 2 ^ 63 }
+    ensures decided { IfOk result (λ r. Decides W.meaning (total (W.unit_meaning work.now) (W.combined work.now) (W.piece_meaning work.now) (pieces_of hands.items)) (sum_below (λ i. W.weight_of work.now (W.piece_meaning work.now i)) (pieces_of hands.items)) limit r.0) }
+    ensures deal { IfOk result (λ r. AreAll r.1.items × (pieces_of r.1.items ≡ pieces_of hands.items)) }
+    ensures back { IfOk result (λ r. CameBack (λ i. W.weight_of work.now (W.piece_meaning work.now i)) (λ s. s.sum) hands.items shares.items r.1.items r.2.items) }
+    ensures once { IfOk result (λ r. (x : ℕ) → times x (joined r.1.items) ≤ once_below x (pieces_of hands.items)) }
+    ensures settled { IfOk result (λ r. Settles r.0 r.1.items) }
+    ensures alone { (vec_len hands ≡ 1) ⊎ (pieces_of hands.items ≡ 0) → IfErr result (λ e. e ≡ PoolFault.OutOfMemory) }
+{
+    let gathered = match gather(rt, alloc, work, book, hands, shares) {
+        Ok(gathered) => gathered,
+        Err(fault) => return Err(fault),
+    };
+    let Gathered {
+        mut hands,
+        shares,
+        parts,
+    } = gathered;
+    settle(&mut hands);
+    let Ok(part) = combine_all(work, parts) else {
+        return Err(PoolFault::OutOfMemory);
+    };
+    if work.weight(&part) > limit {
+        return Ok((Outcome::Over, hands, shares));
+    }
+    Ok((Outcome::Whole(part), hands, shares))
+}
+
+/// `fan_out` with a book of the ledger L.
+fn with_book<L: Ledger + Send + Sync, W: Work + Sync, R: Threads + Wait + Sync>(
+    rt: &R,
+    alloc: Global,
+    work: &W,
+    pieces: u32,
+    hands: usize,
+    limit: u64,
+    blank: Blank,
+) -> Result<Outcome<W::Part>, PoolFault>
+    requires pieces { pieces ≤ 1048576 }
+    requires hands { (1 ≤ hands) × (hands ≤ 64) }
+    requires loads { sum_below (λ i. W.load_of work.now (W.piece_meaning work.now i)) pieces < 2 ^ 63 }
+    requires name { blank.name ≡ L.name }
+    requires parts { (blank.parts ≡ L.parts) × (L.parts ≡ hands) }
+    ensures decided { IfOk result (Decides W.meaning (total (W.unit_meaning work.now) (W.combined work.now) (W.piece_meaning work.now) pieces) (sum_below (λ i. W.weight_of work.now (W.piece_meaning work.now i)) pieces) limit) }
+    ensures alone { (hands ≡ 1) ⊎ (pieces ≡ 0) → IfErr result (λ e. e ≡ PoolFault.OutOfMemory) }
+{
+    let Ok(deal) = Deal::new(alloc, pieces, hands) else {
+        return Err(PoolFault::OutOfMemory);
+    };
+    let Ok((book, shares)) = Book::<L>::new(alloc, blank, hands) else {
+        return Err(PoolFault::OutOfMemory);
+    };
+    let (outcome, shares) = match fan_on(
+        rt,
+        alloc,
+        work,
+        deal.into_hands(),
+        limit,
+        &book,
+        limit,
+        shares,
+    ) {
+        Ok((outcome, _, shares)) => (outcome, shares),
+        Err(fault) => return Err(fault),
+    };
+    book.close(shares);
+    Ok(outcome)
+}
+
+/// All pieces, on as many threads as there are hands, the calling one among them.
+pub fn fan_out<W: Work + Sync, R: Threads + Wait + Sync>(
+    rt: &R,
+    alloc: Global,
+    work: &W,
+    pieces: u32,
+    hands: usize,
+    limit: u64,
+) -> Result<Outcome<W::Part>, PoolFault>
+    requires pieces { pieces ≤ 1048576 }
+    requires hands { (1 ≤ hands) × (hands ≤ 64) }
+    requires loads { sum_below (λ i. W.load_of work.now (W.piece_meaning work.now i)) pieces < 2 ^ 63 }
+    ensures decided { IfOk result (Decides W.meaning (total (W.unit_meaning work.now) (W.combined work.now) (W.piece_meaning work.now) pieces) (sum_below (λ i. W.weight_of work.now (W.piece_meaning work.now i)) pieces) limit) }
+    ensures alone { (hands ≡ 1) ⊎ (pieces ≡ 0) → IfErr result (λ e. e ≡ PoolFault.OutOfMemory) }
+{
+    with_book::<Brand, W, R>(
+        rt,
+        alloc,
+        work,
+        pieces,
+        hands,
+        limit,
+        Blank::new(hands as u64),
+    )
+}
