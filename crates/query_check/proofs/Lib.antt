@@ -2,6 +2,7 @@ pub mod Rows
 pub mod Places
 pub mod Distinct
 pub mod Expansions
+pub mod Products
 pub mod Counts
 pub mod Headers
 pub mod TypedLemmas
