@@ -4,6 +4,7 @@ pub mod Distinct
 pub mod Expansions
 pub mod Products
 pub mod Counts
+pub mod RollupCube
 pub mod Headers
 pub mod TypedLemmas
 pub mod WholeLemmas

@@ -7,6 +7,7 @@ mod counting;
 mod expansion;
 mod function;
 mod joining;
+mod laws;
 mod names;
 mod product;
 mod resolution;
@@ -16,6 +17,7 @@ mod typing;
 pub use columns::place_of;
 pub use counting::set_count;
 pub use function::ColumnFunction;
+pub use laws::{cube_law, rollup_law};
 pub use resolution::{Resolved, check_tree, key_expression};
 pub use scope::Clause;
 
