@@ -4,7 +4,7 @@ use Rattle.std.specs.Global.{Vec}
 use Rattle.std.proofs.lemmas.Bool.{cases_lt}
 use Rattle.std.proofs.lemmas.Bool.Decides.{nat_tests}
 use Rattle.std.proofs.lemmas.List.{length-map}
-use Rattle.std.proofs.Math.Nat.{mul_comm, mul-le-mul_left, pow-suc}
+use Rattle.std.proofs.Math.Nat.{mul_assoc, mul_comm, mul-le-mul_left, pow-suc}
 use Rattle.query_tree.specs.declared.group.Group.TheVariants as variant
 use Rattle.query_tree.specs.Syntax.{GroupForm, group_form, units_form}
 use Rattle.query_fault.specs.declared.QueryFault.TheVariants.{OverLimit}
@@ -60,6 +60,21 @@ capped_product a b m =
         | inr less ↦ (let e : min b m ≡ b = omega arith in let f : min a m ≡ a = omega arith in rw (e, f) refl)
       ]
     ]
+
+-- A product with one capped factor, capped.
+capped_left : (a b m : ℕ) → min (min a m * b) m ≡ min (a * b) m
+capped_left a b m =
+    let twice : min (min a m) m ≡ min a m = omega arith in
+    sym (ap (λ (n : ℕ). min (n * min b m) m) (sym twice) ∙ capped_product (min a m) b m) ∙ capped_product a b m
+
+-- A turn of the loop: the sets of an element are counted, and those of the elements that are left are not.
+pub count_turn : (firsts seconds : List (List (List ℕ))) (old found new most : ℕ) → found ≡ min (length firsts) most → new ≡ min (old * found) most → min (new * length seconds) most ≡ min (old * length (crossed firsts seconds)) most
+count_turn firsts seconds old found new most counted told =
+    ap (λ (n : ℕ). min (n * length seconds) most) told
+    ∙ capped_left (old * found) (length seconds) most
+    ∙ ap (λ (n : ℕ). min n most) (mul_assoc old found (length seconds) ∙ (ap (λ (n : ℕ). old * (n * length seconds)) counted ∙ mul_comm old (min (length firsts) most * length seconds) ∙ mul_assoc (min (length firsts) most) (length seconds) old))
+    ∙ capped_left (length firsts) (length seconds * old) most
+    ∙ ap (λ (n : ℕ). min n most) (sym (mul_assoc (length firsts) (length seconds) old) ∙ mul_comm (length firsts * length seconds) old ∙ ap (λ (n : ℕ). old * n) (sym (length_crossed firsts seconds)))
 
 -- Whether a capped number is above 64 is whether the number is.
 pub capped_limit : (n m : ℕ) → 64 < m → nat_lt 64 (min n m) ≡ nat_lt 64 n

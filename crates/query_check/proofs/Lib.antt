@@ -2,7 +2,9 @@ pub mod Rows
 pub mod Places
 pub mod Distinct
 pub mod Expansions
+pub mod Products
 pub mod Counts
+pub mod RollupCube
 pub mod Headers
 pub mod TypedLemmas
 pub mod WholeLemmas

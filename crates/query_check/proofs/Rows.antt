@@ -1,7 +1,6 @@
 -- Faults and places of lists, one after the other.
-use Rattle.std.proofs.Common.{◌≡◌, ◌∙◌, ℕ, suc, ◌+◌, ◌-◌, ◌<◌, ◌≤◌, arith, map, take, List, [], ◌∷◌, ◌++◌, length, drop, get_or, Option, Some, None, Result, Ok, Err, IfOk, refl, sym, ap, append_assoc}
+use Rattle.std.proofs.Common.{◌≡◌, ◌∙◌, ℕ, ◌+◌, ◌<◌, ◌≤◌, arith, Bool, true, false, ◌||◌, map, List, [], ◌∷◌, ◌++◌, length, drop, get_or, Option, Some, None, Result, Ok, Err, IfOk, refl, sym, ap, append_assoc}
 use Rattle.std.proofs.lemmas.List.{append-nil, at_drop_all, at_drop_more}
-use Rattle.std.proofs.Math.Seq.{take-append_seam}
 use Rattle.std.specs.Option.{option_or}
 use Rattle.std.proofs.lemmas.List.Elements.{filter_map-append}
 use Rattle.query_fault.specs.declared.QueryFault.{QueryFault}
@@ -33,14 +32,16 @@ pub ok_same : {T E Y : Type 0} (r : Result T E) (f : T → Y) (a b : Y) → IfOk
 ok_same (Ok v) f a b h e = h ∙ e
 ok_same (Err x) f a b h e = tt
 
--- A list is its first element and the others.
-pub first_others : {X : Type 0} (xs : List X) (x : X) → 1 ≤ length xs → x ≡ get_or xs 0 x → x ∷ take (length xs - 1) (drop 1 xs) ≡ xs
-first_others [] x some e = absurd (omega arith)
-first_others {X} (y ∷ ys) x some e =
-    let n : suc (length ys) - 1 ≡ length ys = omega arith in
-    ap (λ (z : X). z ∷ take (suc (length ys) - 1) ys) e
-    ∙ ap (λ (m : ℕ). y ∷ take m ys) n
-    ∙ ap (λ (zs : List X). y ∷ zs) (ap (take (length ys)) (sym (append-nil ys)) ∙ take-append_seam ys [])
+-- Anything or true is true.
+pub or_true : (b : Bool) → (b || true) ≡ true
+or_true true = refl
+or_true false = refl
+
+-- A list of one element.
+pub only_one : {X : Type 0} (xs : List X) (x : X) → 1 ≤ length xs → length xs < 2 → x ≡ get_or xs 0 x → x ∷ [] ≡ xs
+only_one [] x some few e = absurd (omega arith)
+only_one {X} (y ∷ []) x some few e = ap (λ (z : X). z ∷ []) e
+only_one (y ∷ z ∷ zs) x some few e = absurd (omega arith)
 
 -- A loop that appends, at its end.
 pub appended_end : {X Y : Type 0} (F : List X → List Y) → F [] ≡ [] → (xs : List X) (i : ℕ) → length xs ≤ i → (old total : List Y) → old ++ F (drop i xs) ≡ total → old ≡ total

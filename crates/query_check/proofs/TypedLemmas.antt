@@ -18,6 +18,7 @@ use Rattle.query_check.specs.declared.scope.Clause.TheVariants as clause
 use Rattle.query_check.specs.Columns.{column_kind, kind_at, place_of}
 use Rattle.query_check.specs.Typing.{IsGrouped, IsTypedName, HasKind, IsTypedAggregate, MayStand, IsTypedFunction, IsTypedGrouping, IsTypedExpression, IsTypedOperand, IsOfOneKind, IsTypedPredicate, AreTypedParts, IsTypedClause, literal_kind, operand_kind}
 use Rattle.query_check.specs.Faults.{first_fault, fault_unless, column_fault, grouped_at_fault, grouped_fault, name_fault, is_integer, is_ordered, is_truth, argument_fault, aggregate_fault, may_stand, function_fault, grouping_fault, expression_fault, operand_fault, same_kind, agreement_fault, predicate_fault, parts_fault, clause_fault}
+use Rattle.query_check.proofs.Rows.{or_true}
 
 -- ---- faults in a row
 
@@ -59,11 +60,6 @@ contains_from_any (y ∷ ys) x h =
       | true ↦ λ e _. (0, omega arith, grind (arith, nat_tests))
       | false ↦ λ e k. let below = contains_from_any ys x k in (suc below.0, omega arith, below.2)
     ] refl h
-
--- Anything or true is true.
-or_true : (b : Bool) → (b || true) ≡ true
-or_true true = refl
-or_true false = refl
 
 -- A place that is among others passes the test.
 any_at : (xs : List ℕ) (x k : ℕ) → k < length xs → get_or xs k x ≡ x → list_any (λ y. y == x) xs ≡ true

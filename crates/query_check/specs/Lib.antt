@@ -1,5 +1,6 @@
 pub mod Columns
 pub mod Sets
+pub mod Laws
 pub mod Functions
 pub mod Typing
 pub mod Faults

@@ -3,16 +3,21 @@
 #![tactic(auto)]
 
 mod columns;
+mod counting;
 mod expansion;
 mod function;
+mod joining;
+mod laws;
 mod names;
+mod product;
 mod resolution;
 mod scope;
 mod typing;
 
 pub use columns::place_of;
-pub use expansion::set_count;
+pub use counting::set_count;
 pub use function::ColumnFunction;
+pub use laws::{cube_law, rollup_law};
 pub use resolution::{Resolved, check_tree, key_expression};
 pub use scope::Clause;
 

@@ -15,7 +15,8 @@ ghost use Rattle.query_check.specs.Faults.{Answers, clause_fault, clauses_fault,
 ghost use Rattle.query_fault.specs.declared.QueryFault.TheVariants.{OutOfMemory, RepeatedHeader};
 ghost use Rattle.query_check.specs.Resolution.{resolution_of};
 
-use crate::expansion::{expand, set_count};
+use crate::counting::set_count;
+use crate::expansion::expand;
 use crate::function::{ColumnFunction, column_function};
 use crate::names::{check_groups, grouping_places};
 use crate::scope::{Clause, Scope};

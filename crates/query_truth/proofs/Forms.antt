@@ -1,5 +1,5 @@
 -- What conditions are worth, and whether they can be evaluated, by their cases.
-use Rattle.std.proofs.Common.{◌≡◌, ◌∙◌, Bool, ◌&&◌, List, map, sym, ap}
+use Rattle.std.proofs.Common.{◌≡◌, ◌∙◌, ℕ, Bool, ◌&&◌, List, map, sym, ap}
 use Rattle.std.specs.Global.{Vec}
 use Rattle.std.specs.List.{list_all}
 use Rattle.values.specs.declared.comparison.Op.{Op}
@@ -10,14 +10,15 @@ use Rattle.query_tree.specs.declared.expression.Predicate.{Predicate}
 use Rattle.query_tree.specs.declared.expression.Predicate.TheVariants as predicate
 use Rattle.query_tree.specs.declared.expression.Expression.TheOpen as predicate_layer
 use Rattle.query_tree.specs.declared.expression.Expression.TheFolds.{fold-roll-Predicate}
-use Rattle.query_tree.specs.Syntax.{ExpressionForm, FunctionForm, OperandForm, PredicateForm, and_of, expression_step, function_step, operand_step, or_of, predicate_form, predicate_forms, predicate_step}
+use Rattle.query_tree.specs.declared.expression.Expression.TheViews.{roll-Predicate}
+use Rattle.query_tree.specs.Syntax.{ExpressionForm, FunctionForm, OperandForm, PredicateForm, and_of, column, expression_step, function_step, operand_step, or_of, predicate_form, predicate_forms, predicate_step}
 use Rattle.query_truth.specs.declared.condition.Source.{Source}
 use Rattle.query_truth.specs.declared.condition.Condition.{Condition}
 use Rattle.query_truth.specs.declared.condition.Condition.TheVariants as variant
 use Rattle.query_truth.specs.declared.condition.Condition.TheOpen as layer
 use Rattle.query_truth.specs.declared.condition.Condition.TheViews.{roll-Condition}
 use Rattle.query_truth.specs.declared.condition.Condition.TheFolds.{fold-roll-Condition}
-use Rattle.query_truth.specs.Meaning.{comparable, condition_truth, is_safe, is_there, safe_step, source_value, truth_step}
+use Rattle.query_truth.specs.Meaning.{comparable, condition_truth, is_safe, is_there, is_truth_value, safe_step, source_value, truth_step}
 use Rattle.query_truth.specs.Truth.{all_of, any_of}
 
 at : {A : Type 0} (values : List Datum) {f g : List Datum → A} → f ≡ g → f values ≡ g values
@@ -50,6 +51,10 @@ pub null-safe : (x : Source) (n : Bool) (values : List Datum) → is_safe (varia
 unfolding roll-Condition denote.Hole.Carrier.roll
 null-safe x n values = at values (fold-roll-Condition (List Datum → Bool) safe_step (layer.IsNull x n))
 
+pub name-safe : (x : Source) (values : List Datum) → is_safe (variant.Holds x) values ≡ (is_there values x && is_truth_value (source_value values x))
+unfolding roll-Condition denote.Hole.Carrier.roll
+name-safe x values = at values (fold-roll-Condition (List Datum → Bool) safe_step (layer.Holds x))
+
 -- ---- the form of an OR and of an AND
 
 pub or_form : (v : Vec Predicate) → predicate_form (predicate.Or v) ≡ or_of (predicate_forms (map predicate_form v.items))
@@ -59,3 +64,9 @@ or_form v = ap predicate_form (sym (predicate.rolls-Or v))
 pub and_form : (v : Vec Predicate) → predicate_form (predicate.And v) ≡ and_of (predicate_forms (map predicate_form v.items))
 and_form v = ap predicate_form (sym (predicate.rolls-And v))
     ∙ fold-roll-Predicate ExpressionForm OperandForm PredicateForm FunctionForm expression_step operand_step predicate_step function_step (predicate_layer.And v)
+
+-- ---- the form of a bare name
+
+pub column_form : (n : List ℕ) → predicate_form (predicate.Column n) ≡ column n
+unfolding roll-Predicate denote.Hole.Carrier.roll
+column_form n = fold-roll-Predicate ExpressionForm OperandForm PredicateForm FunctionForm expression_step operand_step predicate_step function_step (predicate_layer.Column n)

@@ -22,8 +22,8 @@ use Rattle.query_check.specs.Columns.{column_kind, kind_at, place_of}
 use Rattle.query_check.specs.Typing.{IsOfOneKind, IsTypedOperand, literal_kind, operand_kind}
 use Rattle.query_truth.specs.Kept.{column_value, record_value}
 use Rattle.query_truth.specs.declared.condition.Source.{Source}
-use Rattle.query_truth.specs.Binding.{GivesOperand}
-use Rattle.query_truth.specs.Meaning.{comparable, source_value}
+use Rattle.query_truth.specs.Binding.{GivesColumn, GivesOperand}
+use Rattle.query_truth.specs.Meaning.{comparable, is_truth_value, source_value}
 use Rattle.query_truth.specs.Truth.{literal_value, operand_value}
 
 -- whether a value is of a type, or NULL
@@ -54,6 +54,12 @@ comparable-of kind.Int (text a) b e f = absurd cc
 comparable-of kind.Bool (text a) b e f = absurd cc
 comparable-of kind.Text (text a) (boolean b) e f = absurd cc
 comparable-of kind.Text (text a) (whole b) e f = absurd cc
+
+pub truth-of : (d : Datum) → is_of kind.Bool d ≡ true → is_truth_value d ≡ true
+truth-of null e = refl
+truth-of (boolean b) e = refl
+truth-of (whole n) e = absurd cc
+truth-of (text s) e = absurd cc
 
 pub is_of-held : (k : Kind) (d : Datum) → Holds k d → is_of k d ≡ true
 is_of-held k null h = refl
@@ -185,3 +191,7 @@ pub compared-all : (fields : List Field) (grouped : List ℕ) (values : List Dat
 compared-all fields grouped values x s ls ds gives same xt one fits =
     ap (λ a. list_all (comparable a) ds) (gives values) ∙ ap (list_all (comparable (operand_value (record_value fields values) x))) same
     ∙ comparable-literals fields grouped x ls values xt one fits
+
+pub told : (fields : List Field) (values : List Datum) (n : List ℕ) (s : Source)
+    → GivesColumn fields n s → column_kind fields n ≡ Some kind.Bool → Fits fields values → is_truth_value (source_value values s) ≡ true
+told fields values n s gives has fits = ap is_truth_value (gives values) ∙ truth-of (column_value fields values n) (column-of fields n kind.Bool values has fits)

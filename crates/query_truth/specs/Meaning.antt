@@ -33,6 +33,13 @@ comparable (whole a) (whole b) = true
 comparable (text a) (text b) = true
 comparable a b = Bool.false
 
+-- whether a value is a truth value, or NULL
+abbrev pub is_truth_value : Datum → Bool
+is_truth_value null = true
+is_truth_value (boolean b) = true
+is_truth_value (whole n) = Bool.false
+is_truth_value (text s) = Bool.false
+
 -- a condition whose parts are worth this already
 abbrev pub truth_step : Condition-F (List Datum → Truth) → List Datum → Truth
 truth_step (layer.Or ps) values = any_of (map (λ p. p values) ps.items)
@@ -62,8 +69,9 @@ safe_step (layer.Between x n y z) values =
     && (comparable (source_value values x) (source_value values y) && comparable (source_value values x) (source_value values z))))
 safe_step (layer.In x n ls) values = is_there values x && list_all (comparable (source_value values x)) (map datum_of ls.items)
 safe_step (layer.IsNull x n) values = is_there values x
-safe_step (layer.Holds x) values = is_there values x
+safe_step (layer.Holds x) values = is_there values x && is_truth_value (source_value values x)
 
--- whether a condition can be evaluated under values: these are there, and only values of one type, or NULL, are compared
+-- whether a condition can be evaluated under values: these are there, only values of one type, or NULL, are compared, and
+-- what stands alone is a truth value, or NULL
 abbrev pub is_safe : Condition → List Datum → Bool
 is_safe = fold-Condition (List Datum → Bool) safe_step

@@ -3,7 +3,7 @@
 ghost use Rattle.std.specs.Prelude.{◌≡◌, map, true, IfOk};
 ghost use Rattle.values.specs.Datum.{datum_of};
 ghost use Rattle.values.specs.Schema.{fields_of};
-ghost use Rattle.query_tree.specs.Syntax.{between, compare, member, null_test, operand_form, predicate_form, predicate_forms};
+ghost use Rattle.query_tree.specs.Syntax.{between, column, compare, member, null_test, operand_form, predicate_form, predicate_forms};
 ghost use Rattle.query_check.specs.Typing.{IsColumn};
 ghost use Rattle.query_truth.specs.Truth.{literal_value};
 ghost use Rattle.query_truth.specs.Meaning.{is_there};
@@ -147,6 +147,14 @@ fn bind_null_test(
     Ok(Condition::IsNull { operand, not })
 }
 
+/// The condition of a bare name.
+fn bind_column(columns: &[Column], name: &Text) -> Condition
+    ensures value { GivesPredicate (fields_of columns.now) (column name.now) result }
+    ensures safe { IsSafeWhereTyped (fields_of columns.now) (column name.now) result }
+{
+    Condition::Holds(column_source(columns, name))
+}
+
 /// The condition of a predicate of WHERE.
 ///
 /// # Errors
@@ -191,7 +199,7 @@ pub(crate) fn bind(
             literals,
         } => bind_membership(alloc, columns, operand, *not, literals),
         Predicate::IsNull { operand, not } => bind_null_test(alloc, columns, operand, *not),
-        Predicate::Column(name) => Ok(Condition::Holds(column_source(columns, name))),
+        Predicate::Column(name) => Ok(bind_column(columns, name)),
     }
 }
 

@@ -4,7 +4,7 @@ ghost use Rattle.std.specs.Prelude.{◌≡◌, map, true};
 ghost use Rattle.std.specs.List.{list_all};
 ghost use Rattle.values.specs.Datum.{data_of, datum_of};
 ghost use Rattle.query_truth.specs.Truth.{all_of, any_of, between_truth, marked, member_truth, null_truth, value_truth};
-ghost use Rattle.query_truth.specs.Meaning.{comparable, condition_truth, is_safe, is_there, source_value};
+ghost use Rattle.query_truth.specs.Meaning.{comparable, condition_truth, is_safe, is_there, is_truth_value, source_value};
 
 use values::{Op, Truth, Value, compare};
 
@@ -133,11 +133,13 @@ pub fn member_truth(value: &Value, values: &[Value]) -> Truth
 
 /// The truth value that a value is; NULL is unknown.
 pub fn value_truth(value: &Value) -> Truth
+    requires { is_truth_value (datum_of value.now) ≡ true }
     ensures { result ≡ value_truth (datum_of value.now) }
 {
     match value {
         Value::Bool(holds) => Truth::from(*holds),
-        Value::Null | Value::Int(_) | Value::Text(_) => Truth::Unknown,
+        Value::Null => Truth::Unknown,
+        Value::Int(_) | Value::Text(_) => unreachable!(),
     }
 }
 

@@ -20,17 +20,17 @@ use Rattle.query_tree.specs.declared.expression.Predicate.TheVariants as predica
 use Rattle.query_tree.specs.declared.expression.Expression.TheOpen as layer
 use Rattle.query_tree.specs.declared.expression.Expression.TheFolds.{fold-roll-Predicate}
 use Rattle.query_tree.specs.declared.expression.Expression.TheViews.{roll-Predicate}
-use Rattle.query_tree.specs.Syntax.{ExpressionForm, FunctionForm, OperandForm, PredicateForm, TreeForm, expression_step, function_step, member, operand_form, operand_step, predicate_form, predicate_step, name, grouping, function, over_all, over_filtered, expression, literal}
+use Rattle.query_tree.specs.Syntax.{ExpressionForm, FunctionForm, OperandForm, PredicateForm, TreeForm, column, expression_step, function_step, member, operand_form, operand_step, predicate_form, predicate_step, name, grouping, function, over_all, over_filtered, expression, literal}
 use Rattle.query_check.specs.declared.function.ColumnFunction.{ColumnFunction}
 use Rattle.query_check.specs.declared.function.ColumnFunction.TheVariants as at
 use Rattle.query_check.specs.declared.scope.Clause.TheVariants as clause
 use Rattle.query_check.specs.Columns.{column_kind, kind_at, place_of}
 use Rattle.query_check.specs.Functions.{functions_of, same_function}
 use Rattle.query_check.specs.Sets.{sets_of}
-use Rattle.query_check.specs.Typing.{IsOfOneKind, IsTypedExpression, IsTypedOperand, aggregate_kind, expression_kind, literal_kind, operand_kind}
-use Rattle.query_truth.specs.Meaning.{comparable}
+use Rattle.query_check.specs.Typing.{IsOfOneKind, IsTypedExpression, IsTypedOperand, IsTypedPredicate, aggregate_kind, expression_kind, literal_kind, operand_kind}
+use Rattle.query_truth.specs.Meaning.{comparable, is_truth_value}
 use Rattle.query_truth.specs.Truth.{literal_value, operand_value}
-use Rattle.query_truth.proofs.Safety.{both-true, cases, comparable-of, is_of, is_of-held, is_of-literal}
+use Rattle.query_truth.proofs.Safety.{both-true, cases, comparable-of, is_of, is_of-held, is_of-literal, truth-of}
 use Rattle.query_truth.proofs.Truths.{comparable-is}
 use Rattle.groups.specs.Functions.{Summary, plain, ratio}
 use Rattle.groups.specs.Groups.{Key}
@@ -230,3 +230,14 @@ comparable-literals fields t row grouped x ls fit xt same = go ls (recursion_fro
 pub member_form : (x : Operand) (n : Bool) (v : Vec Literal) → predicate_form (predicate.In x n v) ≡ member (operand_form x) n v.items
 unfolding roll-Predicate denote.Hole.Carrier.roll
 member_form x n v = fold-roll-Predicate ExpressionForm OperandForm PredicateForm FunctionForm expression_step operand_step predicate_step function_step (layer.In x n v)
+
+-- ---- a bare name
+
+pub column_form : (n : List ℕ) → predicate_form (predicate.Column n) ≡ column n
+unfolding roll-Predicate denote.Hole.Carrier.roll
+column_form n = fold-roll-Predicate ExpressionForm OperandForm PredicateForm FunctionForm expression_step operand_step predicate_step function_step (layer.Column n)
+
+-- the value of a name that stands alone is a truth value, or NULL
+pub truth-shown : (fields : List Field) (t : TreeForm) (row : Found) (grouped n : List ℕ) → AreFitting fields t (row ∷ [])
+    → IsTypedPredicate fields grouped clause.Having (column n) → is_truth_value (row_value fields t row (name n)) ≡ true
+truth-shown fields t row grouped n fit typed = truth-of (row_value fields t row (name n)) (shown-of fields t row grouped kind.Bool (name n) fit typed.0 typed.1)

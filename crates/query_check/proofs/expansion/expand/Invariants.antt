@@ -1,7 +1,9 @@
-use Rattle.std.proofs.Common.{◌≡◌, ◌++◌, drop, map}
-use Rattle.query_check.specs.Sets.{ordered_set}
-use Rattle.query_check.specs.Resolution.{contents}
+use Rattle.std.proofs.Common.{◌≡◌, drop, map}
+use Rattle.values.specs.Schema.{fields_of}
+use Rattle.query_tree.specs.Syntax.{group_form}
+use Rattle.query_check.specs.Columns.{places_of}
+use Rattle.query_check.specs.Sets.{crossed, expanded, ordered_set}
 use Rattle.query_check.proofs.expansion.expand.Given as goal
 
-abbrev pub invariant-loop-places : goal.invariant-loop-places
-invariant-loop-places l = contents l.sets.items ++ map (ordered_set l.grouping) (contents (drop l.places-index l.places-items)) ≡ map (ordered_set l.grouping) (contents l.places-items)
+abbrev pub invariant-loop-group : goal.invariant-loop-group
+invariant-loop-group l = map (ordered_set l.grouping) (crossed l.product (map (places_of (fields_of l.columns)) (expanded (map group_form (drop l.group-index l.groups))))) ≡ map (ordered_set l.grouping) (map (places_of (fields_of l.columns)) (expanded (map group_form l.groups)))

@@ -1,10 +1,12 @@
 use Rattle.std.proofs.Common.{ap, map, List, drop, ◌+◌, sym, subst, ◌∙◌}
 use Rattle.values.specs.Schema.{fields_of}
 use Rattle.query_tree.specs.Syntax.{predicate_form, predicate_forms}
+use Rattle.query_check.specs.declared.scope.Clause.TheVariants as clause
+use Rattle.query_check.specs.Typing.{IsTypedPredicate}
 use Rattle.query_truth.specs.Kept.{record_value}
 use Rattle.query_truth.specs.Truth.{all_of, any_of, truth, truths}
 use Rattle.query_truth.specs.declared.condition.Condition.{Condition}
-use Rattle.query_truth.proofs.Forms.{and-worth, and_form, or-worth, or_form}
+use Rattle.query_truth.proofs.Forms.{and-worth, and_form, column_form, or-worth, or_form}
 use Rattle.query_truth.proofs.Parts.{AreBound, bound-more}
 use Rattle.query_truth.proofs.binding.+bind.Goals as goal
 
@@ -30,3 +32,9 @@ bind-returns-in_ok-bind_parts-in-And-clause-value t c = λ values.
     ∙ ap (λ parts. all_of (truths (record_value (fields_of c.args.columns.now) values) (predicate_forms (map predicate_form parts)))) c.deref-in-And.ensures.value
     ∙ ap (truth (record_value (fields_of c.args.columns.now) values)) (sym (and_form c.in-And.parts))
     ∙ ap (λ p. truth (record_value (fields_of c.args.columns.now) values) (predicate_form p)) (sym c.in-And.is)
+
+pub bind-returns-in-Column-clause-safe : goal.bind-returns-in-Column-clause-safe
+bind-returns-in-Column-clause-safe t c = λ grouped typed values fits.
+    c.bind_column.ensures.safe grouped
+    (subst (IsTypedPredicate (fields_of c.args.columns.now) grouped clause.Where) (ap predicate_form c.in-Column.is ∙ column_form c.in-Column.name) typed)
+    values fits

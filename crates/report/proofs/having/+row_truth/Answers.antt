@@ -6,12 +6,13 @@ use Rattle.query_tree.specs.Syntax.{member, operand_form, predicate_form, predic
 use Rattle.query_check.specs.declared.scope.Clause.TheVariants as clause
 use Rattle.query_check.specs.Sets.{grouping_places}
 use Rattle.query_check.specs.Typing.{IsTypedPredicate}
+use Rattle.query_truth.specs.Meaning.{is_truth_value}
 use Rattle.query_truth.specs.Truth.{truth, truths}
 use Rattle.query_truth.proofs.Truths.{settled-false, settled-true}
 use Rattle.query.specs.Planned.{fields_of_plan, form_of_plan}
 use Rattle.tables.specs.Found.{row_of}
 use Rattle.report.specs.Having.{row_value}
-use Rattle.report.proofs.RowValues.{member_form, within}
+use Rattle.report.proofs.RowValues.{column_form, member_form, truth-shown, within}
 use Rattle.report.proofs.having.+row_truth.Goals as goal
 
 pub any_truth-returns-then-is : goal.any_truth-returns-then-is
@@ -38,3 +39,12 @@ row_truth-list_truth-requires-clause-typed t c =
 
 pub row_truth-column_value-requires : goal.row_truth-column_value-requires
 row_truth-column_value-requires t c = within (fields_of_plan c.args.plan.now) (form_of_plan c.args.plan.now) (row_of c.args.found.now) c.requires.fits
+
+pub row_truth-value_truth-requires : goal.row_truth-value_truth-requires
+row_truth-value_truth-requires t c =
+    let fields = fields_of_plan c.args.plan.now in
+    let form = form_of_plan c.args.plan.now in
+    let grouped = grouping_places fields form in
+    ap is_truth_value c.in_ok-column_value-in-Column.ensures
+    ∙ truth-shown fields form (row_of c.args.found.now) grouped c.in-Column.name c.requires.fits
+    (subst (IsTypedPredicate fields grouped clause.Having) (ap predicate_form c.in-Column.is ∙ column_form c.in-Column.name) c.requires.typed)

@@ -4,7 +4,7 @@ use Rattle.std.proofs.lemmas.List.{map-append}
 use Rattle.query_check.specs.Sets.{crossed}
 use Rattle.query_check.specs.Resolution.{contents}
 use Rattle.query_check.proofs.Rows.{appended_turn}
-use Rattle.query_check.proofs.expansion.crossed.Goals as goal
+use Rattle.query_check.proofs.joining.crossed.Goals as goal
 
 pub loop-first-preserved : goal.loop-first-preserved
 loop-first-preserved c =

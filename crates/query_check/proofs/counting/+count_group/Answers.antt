@@ -1,6 +1,6 @@
 use Rattle.std.proofs.Common.{◌≡◌, arith, length, ap}
 use Rattle.query_check.proofs.Counts.{rollup_count, cube_count}
-use Rattle.query_check.proofs.expansion.+count_group.Goals as goal
+use Rattle.query_check.proofs.counting.+count_group.Goals as goal
 
 pub returns-in-Rollup : goal.returns-in-Rollup
 returns-in-Rollup t c = rw (c.in-Rollup.is, rollup_count c.in-Rollup.units) (grind (arith, c.saturating_add.ensures, c.len.ensures))

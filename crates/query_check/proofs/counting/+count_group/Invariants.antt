@@ -1,7 +1,7 @@
 use Rattle.std.proofs.Common.{◌≡◌, ◌+◌, ◌^◌, ◌<◌, drop, map, min, length}
 use Rattle.query_tree.specs.Syntax.{group_form, group_forms}
 use Rattle.query_check.specs.Sets.{group_sets, groups_sets}
-use Rattle.query_check.proofs.expansion.+count_group.Given as goal
+use Rattle.query_check.proofs.counting.+count_group.Given as goal
 
 abbrev pub invariant-loop-unit : goal.invariant-loop-unit
 invariant-loop-unit l = l.count ≡ min (2 ^ l._unit-index) 18446744073709551615

@@ -1,0 +1,42 @@
+//! How many sets GROUP BY stands for.
+
+ghost use Rattle.std.specs.Prelude.{◌≡◌, length, map, min};
+ghost use Rattle.query_tree.specs.Syntax.{group_form, group_forms};
+ghost use Rattle.query_check.specs.Sets.{expanded, group_sets};
+
+use query_tree::Group;
+
+/// How many sets an element of GROUP BY stands for, or the greatest number of 64 bits where they are more.
+fn count_group(group: &Group) -> u64
+    ensures { result ≡ min (length (group_sets (group_form group.now))) u64.MAX }
+{
+    match group {
+        Group::Set(_) => 1,
+        Group::Rollup(units) => (units.len() as u64).saturating_add(1),
+        Group::Cube(units) => {
+            let mut count: u64 = 1;
+            for _unit in units {
+                count = count.saturating_mul(2);
+            }
+            count
+        }
+        Group::Sets(groups) => {
+            let mut count: u64 = 0;
+            for group in groups {
+                count = count.saturating_add(count_group(group));
+            }
+            count
+        }
+    }
+}
+
+/// How many sets GROUP BY stands for, or the greatest number of 64 bits where they are more.
+pub fn set_count(groups: &[Group]) -> u64
+    ensures { result ≡ min (length (expanded (map group_form groups.now))) u64.MAX }
+{
+    let mut count: u64 = 1;
+    for group in groups {
+        count = count.saturating_mul(count_group(group));
+    }
+    count
+}
