@@ -8,14 +8,14 @@ use Rattle.query_tokens.specs.declared.token.Sign.TheVariants as s
 use Rattle.query_tokens.proofs.Inversions.{some_is}
 use Rattle.query_tree.specs.declared.tree.Tree.{Tree}
 use Rattle.query_tree.specs.Syntax.{PredicateForm, GroupForm, ItemForm, KeyForm, TreeForm, tree_form}
-use Rattle.query_predicates.specs.declared.fault.GrammarFault.{GrammarFault}
-use Rattle.query_predicates.specs.declared.fault.GrammarFault.TheVariants as faults
-use Rattle.query_predicates.specs.Fronts.{is_word, is_sign, after}
-use Rattle.query_predicates.specs.Steps.{Gives, name_at}
+use Rattle.query_leaves.specs.declared.fault.GrammarFault.{GrammarFault}
+use Rattle.query_leaves.specs.declared.fault.GrammarFault.TheVariants as faults
+use Rattle.query_leaves.specs.Fronts.{is_word, is_sign, after}
+use Rattle.query_leaves.specs.Steps.{Gives, name_at}
 use Rattle.query_grammar.specs.GroupSteps.{group_at}
 use Rattle.query_grammar.specs.QuerySteps.{alias_at, item_at, items_at, from_at, clause_at, groups_at, query_at, whole_at}
 use Rattle.query_grammar.specs.Grammar.{IsItem, IsWhere, IsGroup, IsGroupBy, IsHaving, IsOrderBy, IsQuery, Derives}
-use Rattle.query_predicates.proofs.CompleteLists.{repeated_follow, repeated_c, unlimited_c}
+use Rattle.query_leaves.proofs.CompleteLists.{repeated_follow, repeated_c, unlimited_c}
 use Rattle.query_predicates.proofs.CompleteExpressions.{expression_c}
 use Rattle.query_predicates.proofs.CompletePredicates.{EndsPredicate, group_ends, having_ends, order_ends, nil_ends, predicate_c}
 use Rattle.query_grammar.proofs.CompleteGroups.{group_short, group_c}

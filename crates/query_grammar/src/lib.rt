@@ -7,5 +7,5 @@ mod keys;
 mod reading;
 mod units;
 
-pub use query_predicates::GrammarFault;
+pub use query_leaves::GrammarFault;
 pub use reading::read_query;

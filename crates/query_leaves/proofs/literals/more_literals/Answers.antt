@@ -1,10 +1,10 @@
 use Rattle.std.proofs.Common.{◌≡◌, ◌-◌, suc, vec_len, arith}
 use Rattle.std.proofs.lemmas.Result.{err_from_is_err_and}
 use Rattle.query_tokens.specs.declared.token.Sign.TheVariants.{Comma}
-use Rattle.query_predicates.specs.Fronts.{is_sign}
-use Rattle.query_predicates.specs.AtomSteps.{literal_at}
-use Rattle.query_predicates.proofs.More.{loop_over, loop_ends, loop_fails, front_goes, refused}
-use Rattle.query_predicates.proofs.atoms.more_literals.Goals as goal
+use Rattle.query_leaves.specs.Fronts.{is_sign}
+use Rattle.query_leaves.specs.LeafSteps.{literal_at}
+use Rattle.query_leaves.proofs.More.{loop_over, loop_ends, loop_fails, front_goes, refused}
+use Rattle.query_leaves.proofs.literals.more_literals.Goals as goal
 
 pub returns-in_err-next-clause-exact : goal.returns-in_err-next-clause-exact
 returns-in_err-next-clause-exact c =

@@ -1,9 +1,9 @@
 use Rattle.std.proofs.Common.{◌≡◌, ◌-◌, ◌≤◌, length, ◌∷◌, [], vec_len}
 use Rattle.query_tokens.specs.declared.token.Sign.TheVariants.{Comma}
-use Rattle.query_predicates.specs.Fronts.{is_sign}
-use Rattle.query_predicates.specs.Steps.{with_front, more}
-use Rattle.query_predicates.specs.AtomSteps.{literal_at}
-use Rattle.query_predicates.proofs.atoms.more_literals.Given as goal
+use Rattle.query_leaves.specs.Fronts.{is_sign}
+use Rattle.query_leaves.specs.Steps.{with_front, more}
+use Rattle.query_leaves.specs.LeafSteps.{literal_at}
+use Rattle.query_leaves.proofs.literals.more_literals.Given as goal
 
 abbrev pub invariant-loop-behind : goal.invariant-loop-behind
 invariant-loop-behind l = record {

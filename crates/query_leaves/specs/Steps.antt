@@ -1,12 +1,12 @@
 -- What the functions of this crate read in front of tokens, one definition for each function, as it computes it. The
 -- grammar of queries is proved sound and complete over these. What tokens derive is said in Predicates.
 use Rattle.std.specs.Prelude.{◌≡◌, ℕ, zero, suc, Bool, List, [], ◌∷◌, ◌++◌, Option, Some, None, Result, Ok, Err}
-use Rattle.query_predicates.specs.declared.fault.GrammarFault.{GrammarFault}
-use Rattle.query_predicates.specs.declared.fault.GrammarFault.TheVariants as faults
+use Rattle.query_leaves.specs.declared.fault.GrammarFault.{GrammarFault}
+use Rattle.query_leaves.specs.declared.fault.GrammarFault.TheVariants as faults
 use Rattle.query_tokens.specs.declared.token.Token.{Token}
 use Rattle.query_tokens.specs.declared.token.Token.TheVariants as tokens
 use Rattle.query_tokens.specs.declared.token.Sign.TheVariants as s
-use Rattle.query_predicates.specs.Fronts.{is_sign, after}
+use Rattle.query_leaves.specs.Fronts.{is_sign, after}
 use Rattle.query_tokens.specs.Options.{◌>>=◌, choose}
 
 -- A fault that is no want of memory comes only where nothing is read.

@@ -5,10 +5,10 @@ use Rattle.query_tokens.specs.declared.token.Token.TheVariants as tokens
 use Rattle.query_tokens.specs.declared.token.Sign.TheVariants as s
 use Rattle.query_tokens.specs.Options.{◌>>=◌, choose}
 use Rattle.query_tokens.proofs.Inversions.{bind_some, choose_some, given, some_is}
-use Rattle.query_predicates.specs.Fronts.{is_sign, after}
-use Rattle.query_predicates.specs.Steps.{Reader, with_front, more, listed_at, bracketed_at}
-use Rattle.query_predicates.specs.Predicates.{Derivation, IsRepeated}
-use Rattle.query_predicates.proofs.Heads.{after_sign_is}
+use Rattle.query_leaves.specs.Fronts.{is_sign, after}
+use Rattle.query_leaves.specs.Steps.{Reader, with_front, more, listed_at, bracketed_at}
+use Rattle.query_leaves.specs.Leaves.{Derivation, IsRepeated}
+use Rattle.query_leaves.proofs.Heads.{after_sign_is}
 
 -- A choice whose one way gives nothing: the other way went.
 pub only_some : {A B : Type 0} (o : Option A) (f : A → Option B) (y : B) → choose o None f ≡ Some y → (x : A) × (o ≡ Some x) × (f x ≡ Some y)

@@ -1,7 +1,7 @@
 //! Why tokens derive no query.
 
 ghost use Rattle.std.specs.Prelude.{◌≡◌};
-ghost use Rattle.query_predicates.specs.declared.fault.GrammarFault.TheVariants.{OutOfMemory};
+ghost use Rattle.query_leaves.specs.declared.fault.GrammarFault.TheVariants.{OutOfMemory};
 
 use std::alloc::{AllocError, AllocFailed};
 

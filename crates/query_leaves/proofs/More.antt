@@ -2,10 +2,10 @@
 use Rattle.std.proofs.Common.{arith, length, ◌<◌, ◌≤◌, ◌≡◌, ℕ, zero, suc, Bool, List, [], ◌∷◌, ◌++◌, Option, Some, None, refl, sym, ap, ◌∙◌, append_assoc}
 use Rattle.std.proofs.lemmas.List.{append-nil}
 use Rattle.query_tokens.specs.declared.token.Token.{Token}
-use Rattle.query_predicates.specs.Fronts.{after}
-use Rattle.query_predicates.specs.Steps.{Fails, IsRefusal, Reader, with_front, more}
-use Rattle.query_predicates.specs.declared.fault.GrammarFault.{GrammarFault}
-use Rattle.query_predicates.specs.declared.fault.GrammarFault.TheVariants as faults
+use Rattle.query_leaves.specs.Fronts.{after}
+use Rattle.query_leaves.specs.Steps.{Fails, IsRefusal, Reader, with_front, more}
+use Rattle.query_leaves.specs.declared.fault.GrammarFault.{GrammarFault}
+use Rattle.query_leaves.specs.declared.fault.GrammarFault.TheVariants as faults
 
 -- the list ends
 pub more_ends : {A : Type 0} (sep : Token → Bool) (f : Reader A) (n : ℕ) (ts : List Token) → after sep ts ≡ None → more sep f n ts ≡ Some ([], ts)

@@ -2,9 +2,9 @@
 
 ghost use Rattle.std.specs.Prelude.{◌≡◌, ◌<◌, length, IfOk, IfSome};
 ghost use Rattle.query_tokens.specs.Options.{Tells};
-ghost use Rattle.query_predicates.specs.declared.fault.GrammarFault.TheVariants.{Unexpected};
-ghost use Rattle.query_predicates.specs.Fronts.{is_word, is_sign, after};
-ghost use Rattle.query_predicates.specs.Steps.{Gives, name_at};
+ghost use Rattle.query_leaves.specs.declared.fault.GrammarFault.TheVariants.{Unexpected};
+ghost use Rattle.query_leaves.specs.Fronts.{is_word, is_sign, after};
+ghost use Rattle.query_leaves.specs.Steps.{Gives, name_at};
 
 use crate::fault::GrammarFault;
 use query_tokens::{Sign, Token, Word};

@@ -3,9 +3,9 @@ use Rattle.std.proofs.Common.{arith, length, ◌+◌, ◌≤◌, ◌≡◌, ℕ,
 use Rattle.query_tokens.specs.declared.token.Token.{Token}
 use Rattle.query_tokens.specs.declared.token.Token.TheVariants as tokens
 use Rattle.query_tokens.specs.declared.token.Sign.TheVariants as s
-use Rattle.query_predicates.specs.Fronts.{is_sign, after}
-use Rattle.query_predicates.specs.Steps.{Reader, more, bracketed_at}
-use Rattle.query_predicates.specs.Predicates.{Derivation, IsRepeated}
+use Rattle.query_leaves.specs.Fronts.{is_sign, after}
+use Rattle.query_leaves.specs.Steps.{Reader, more, bracketed_at}
+use Rattle.query_leaves.specs.Leaves.{Derivation, IsRepeated}
 
 -- A part takes no less than nothing.
 abbrev pub Shrinks : {A : Type 0} → Derivation A → Type 0

@@ -7,7 +7,7 @@ use Rattle.query_tokens.specs.declared.token.Word.{Word}
 use Rattle.query_tokens.specs.declared.token.Word.TheVariants as w
 use Rattle.query_tokens.specs.declared.token.Sign.{Sign}
 use Rattle.query_tokens.specs.declared.token.Sign.TheVariants as s
-use Rattle.query_predicates.specs.Fronts.{word_code, sign_code, is_word, is_sign, after}
+use Rattle.query_leaves.specs.Fronts.{word_code, sign_code, is_word, is_sign, after}
 
 -- The word at a place among all words.
 word_with : ℕ → Word

@@ -1,8 +1,8 @@
 use Rattle.std.proofs.Common.{◌≡◌, ◌-◌, ◌≤◌, length, ◌∷◌, [], vec_len}
 use Rattle.query_tokens.specs.declared.token.Sign.TheVariants.{Comma}
-use Rattle.query_predicates.specs.Fronts.{is_sign}
-use Rattle.query_predicates.specs.Steps.{with_front, name_at, more}
-use Rattle.query_predicates.proofs.expressions.more_arguments.Given as goal
+use Rattle.query_leaves.specs.Fronts.{is_sign}
+use Rattle.query_leaves.specs.Steps.{with_front, name_at, more}
+use Rattle.query_leaves.proofs.arguments.more_arguments.Given as goal
 
 abbrev pub invariant-loop-behind : goal.invariant-loop-behind
 invariant-loop-behind l = record {
