@@ -2,6 +2,7 @@
 #![tactic(auto)]
 
 mod fault;
+mod laws;
 mod names;
 mod numbers;
 mod quotes;
@@ -13,6 +14,7 @@ mod token;
 mod words;
 
 pub use fault::TokenFault;
+pub use laws::spells_one;
 pub use names::{is_plain_name, push_name, push_quoted};
 pub use reading::{Tokens, read_tokens};
 pub use token::{Sign, Token, Word};
