@@ -120,3 +120,7 @@ read ts (Ok t) e q d = some_is (tree_form t) q (sym e ∙ whole_c ts q d)
 read ts (Err faults.OutOfMemory) e q d = refl
 read ts (Err faults.OverLimit) e q d = absurd (let k = whole_c ts q d in cc)
 read ts (Err (faults.Unexpected n)) e q d = absurd (let k = whole_c ts q d in cc)
+
+-- No tokens derive two queries: what they derive is what is read of them.
+pub one : (ts : List Token) (p q : TreeForm) → Derives ts p → Derives ts q → p ≡ q
+one ts p q d e = some_is p q (sym (whole_c ts p d) ∙ whole_c ts q e)
