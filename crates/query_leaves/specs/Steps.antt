@@ -1,5 +1,5 @@
--- What the functions of this crate read in front of tokens, one definition for each function, as it computes it. The
--- grammar of queries is proved sound and complete over these. What tokens derive is said in Predicates.
+-- How the functions of the grammar read what stands in front of tokens, one definition for each step, as it is computed.
+-- The grammar of queries is proved sound and complete over these. What tokens derive is said in Leaves.
 use Rattle.std.specs.Prelude.{◌≡◌, ℕ, zero, suc, Bool, List, [], ◌∷◌, ◌++◌, Option, Some, None, Result, Ok, Err}
 use Rattle.query_leaves.specs.declared.fault.GrammarFault.{GrammarFault}
 use Rattle.query_leaves.specs.declared.fault.GrammarFault.TheVariants as faults
