@@ -8,8 +8,6 @@ mod numbers;
 mod quotes;
 mod reading;
 mod signs;
-#[cfg(test)]
-mod tests;
 mod token;
 mod words;
 
