@@ -99,18 +99,17 @@ fn program_command<'a>(alloc: Global) -> Result<Command<'a>, Error>
     ensures err { IfErr result (λ e. kind_of e ≡ ErrorKind.OutOfMemory) }
 {
     let columns = required_option(alloc, "columns", "SPEC", COLUMNS_HELP);
+    let command = described_command(alloc).arg(columns)?;
     let query = required_option(alloc, "query", "TEXT", QUERY_HELP);
+    let command = command.arg(query)?;
     let piece = defaulted_option(alloc, "piece", "BYTES", "1048576", PIECE_HELP);
+    let command = command.arg(piece)?;
     let max_refused = number_option(alloc, "max-refused", "N", MAX_REFUSED_HELP);
+    let command = command.arg(max_refused)?;
     let explain = flag(alloc, "explain", EXPLAIN_HELP);
+    let command = command.arg(explain)?;
     let file = required_word(alloc, "file", "FILE", FILE_HELP);
-    let command = described_command(alloc)
-        .arg(columns)?
-        .arg(query)?
-        .arg(piece)?
-        .arg(max_refused)?
-        .arg(explain)?
-        .arg(file)?;
+    let command = command.arg(file)?;
     Ok(command)
 }
 

@@ -2,3 +2,4 @@ pub mod Examples
 mod Again
 mod FunctionCodes
 mod TruthCodes
+mod Unique

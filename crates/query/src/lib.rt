@@ -1,13 +1,14 @@
 //! The query language: reading a query, its canonical text, and its plan under a schema.
 //!
 //! This crate is the whole public surface of the language. The crates below it have its parts: the
-//! syntax tree (`query_tree`), the tokens (`query_tokens`), the grammar (`query_predicates` and
-//! `query_grammar`), the canonical text (`query_print`), typing (`query_check`), and the truth of
-//! predicates (`query_truth`).
+//! syntax tree (`query_tree`), the tokens (`query_tokens`), the grammar (`query_leaves`,
+//! `query_predicates` and `query_grammar`), the canonical text (`query_print`), typing
+//! (`query_check`), and the truth of predicates (`query_truth`).
 #![tactic(auto)]
 
 mod checking;
 mod holding;
+mod laws;
 mod parsing;
 mod plan;
 mod printing;
@@ -15,6 +16,7 @@ mod query;
 
 pub use checking::check;
 pub use holding::holds;
+pub use laws::derives_one;
 pub use parsing::parse;
 pub use plan::Plan;
 pub use printing::{header, print, set_text};

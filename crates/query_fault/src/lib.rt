@@ -55,6 +55,3 @@ impl<T: Drop> From<AllocFailed<T>> for QueryFault {
         QueryFault::OutOfMemory
     }
 }
-
-#[cfg(test)]
-mod tests;

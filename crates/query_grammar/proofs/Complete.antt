@@ -8,14 +8,14 @@ use Rattle.query_tokens.specs.declared.token.Sign.TheVariants as s
 use Rattle.query_tokens.proofs.Inversions.{some_is}
 use Rattle.query_tree.specs.declared.tree.Tree.{Tree}
 use Rattle.query_tree.specs.Syntax.{PredicateForm, GroupForm, ItemForm, KeyForm, TreeForm, tree_form}
-use Rattle.query_predicates.specs.declared.fault.GrammarFault.{GrammarFault}
-use Rattle.query_predicates.specs.declared.fault.GrammarFault.TheVariants as faults
-use Rattle.query_predicates.specs.Fronts.{is_word, is_sign, after}
-use Rattle.query_predicates.specs.Steps.{Gives, name_at}
+use Rattle.query_leaves.specs.declared.fault.GrammarFault.{GrammarFault}
+use Rattle.query_leaves.specs.declared.fault.GrammarFault.TheVariants as faults
+use Rattle.query_leaves.specs.Fronts.{is_word, is_sign, after}
+use Rattle.query_leaves.specs.Steps.{Gives, name_at}
 use Rattle.query_grammar.specs.GroupSteps.{group_at}
 use Rattle.query_grammar.specs.QuerySteps.{alias_at, item_at, items_at, from_at, clause_at, groups_at, query_at, whole_at}
 use Rattle.query_grammar.specs.Grammar.{IsItem, IsWhere, IsGroup, IsGroupBy, IsHaving, IsOrderBy, IsQuery, Derives}
-use Rattle.query_predicates.proofs.CompleteLists.{repeated_follow, repeated_c, unlimited_c}
+use Rattle.query_leaves.proofs.CompleteLists.{repeated_follow, repeated_c, unlimited_c}
 use Rattle.query_predicates.proofs.CompleteExpressions.{expression_c}
 use Rattle.query_predicates.proofs.CompletePredicates.{EndsPredicate, group_ends, having_ends, order_ends, nil_ends, predicate_c}
 use Rattle.query_grammar.proofs.CompleteGroups.{group_short, group_c}
@@ -120,3 +120,7 @@ read ts (Ok t) e q d = some_is (tree_form t) q (sym e ∙ whole_c ts q d)
 read ts (Err faults.OutOfMemory) e q d = refl
 read ts (Err faults.OverLimit) e q d = absurd (let k = whole_c ts q d in cc)
 read ts (Err (faults.Unexpected n)) e q d = absurd (let k = whole_c ts q d in cc)
+
+-- No tokens derive two queries: what they derive is what is read of them.
+pub one : (ts : List Token) (p q : TreeForm) → Derives ts p → Derives ts q → p ≡ q
+one ts p q d e = some_is p q (sym (whole_c ts p d) ∙ whole_c ts q e)

@@ -5,11 +5,11 @@ use Rattle.query_tokens.specs.declared.token.Token.TheVariants as tokens
 use Rattle.query_tokens.specs.declared.token.Word.TheVariants as w
 use Rattle.query_tokens.specs.declared.token.Sign.TheVariants as s
 use Rattle.query_tree.specs.Syntax.{GroupForm, sets, group_forms}
-use Rattle.query_predicates.specs.Fronts.{is_word, is_sign, after}
-use Rattle.query_predicates.specs.Steps.{Reader, name_at}
-use Rattle.query_predicates.specs.Predicates.{Derivation, IsRepeated, IsName}
-use Rattle.query_predicates.proofs.CompleteLists.{Shrinks, repeated_short, unlimited_c}
-use Rattle.query_predicates.proofs.CompleteExpressions.{name_c, name_short}
+use Rattle.query_leaves.specs.Fronts.{is_word, is_sign, after}
+use Rattle.query_leaves.specs.Steps.{Reader, name_at}
+use Rattle.query_leaves.specs.Leaves.{Derivation, IsRepeated, IsName}
+use Rattle.query_leaves.proofs.CompleteLists.{Shrinks, repeated_short, unlimited_c}
+use Rattle.query_leaves.proofs.CompleteLeaves.{name_c, name_short}
 use Rattle.query_grammar.specs.GroupSteps.{enclosed_at, unit_at, units_at, nothing_at, set_at, element_at, sets_at, group_at}
 use Rattle.query_grammar.specs.Grammar.{IsUnit, IsSet, IsElement, IsGroup}
 

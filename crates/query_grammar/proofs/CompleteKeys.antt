@@ -5,8 +5,8 @@ use Rattle.query_tokens.specs.declared.token.Token.TheVariants as tokens
 use Rattle.query_tokens.specs.declared.token.Word.TheVariants as w
 use Rattle.query_tokens.specs.declared.token.Sign.TheVariants as s
 use Rattle.query_tree.specs.Syntax.{KeyForm}
-use Rattle.query_predicates.specs.Fronts.{is_word, is_sign, after}
-use Rattle.query_predicates.proofs.CompleteLists.{Shrinks, repeated_follow, unlimited_c}
+use Rattle.query_leaves.specs.Fronts.{is_word, is_sign, after}
+use Rattle.query_leaves.proofs.CompleteLists.{Shrinks, repeated_follow, unlimited_c}
 use Rattle.query_predicates.proofs.CompleteExpressions.{expression_c, expression_short}
 use Rattle.query_grammar.specs.KeySteps.{direction_at, null_ordering_at, key_at, keys_at}
 use Rattle.query_grammar.specs.Grammar.{IsDirection, IsNullOrdering, IsKey, IsOrderBy}

@@ -12,19 +12,21 @@ use Rattle.query_tokens.specs.Options.{◌>>=◌, choose}
 use Rattle.query_tokens.proofs.Inversions.{bind_some, choose_some, some_is, test_some}
 use Rattle.query_tree.specs.declared.tree.Tree.{Tree}
 use Rattle.query_tree.specs.Syntax.{ExpressionForm, PredicateForm, GroupForm, ItemForm, KeyForm, TreeForm, tree_form}
-use Rattle.query_predicates.specs.declared.fault.GrammarFault.{GrammarFault}
-use Rattle.query_predicates.specs.Fronts.{is_word, is_sign, after}
-use Rattle.query_predicates.specs.Steps.{Gives, with_front, more, name_at}
+use Rattle.query_leaves.specs.declared.fault.GrammarFault.{GrammarFault}
+use Rattle.query_leaves.specs.Fronts.{is_word, is_sign, after}
+use Rattle.query_leaves.specs.Steps.{Gives, with_front, more, name_at}
 use Rattle.query_predicates.specs.ExpressionSteps.{expression_at}
 use Rattle.query_predicates.specs.PredicateSteps.{predicate_at}
 use Rattle.query_grammar.specs.GroupSteps.{all_at, group_at}
 use Rattle.query_grammar.specs.KeySteps.{keys_at}
 use Rattle.query_grammar.specs.QuerySteps.{alias_at, item_at, items_at, from_at, clause_at, groups_at, query_at, at_end, whole_at}
-use Rattle.query_predicates.specs.Predicates.{Derivation, IsRepeated, IsExpression, IsPredicate}
+use Rattle.query_leaves.specs.Leaves.{Derivation, IsRepeated}
+use Rattle.query_predicates.specs.Predicates.{IsExpression, IsPredicate}
 use Rattle.query_grammar.specs.Grammar.{IsItem, IsWhere, IsGroup, IsGroupBy, IsHaving, IsQuery, Derives}
-use Rattle.query_predicates.proofs.Heads.{after_word_is}
-use Rattle.query_predicates.proofs.SoundLists.{IsSound, IsListed, only_some, read_as, begins_as, leaves_as, listed_s}
-use Rattle.query_predicates.proofs.SoundExpressions.{name_is, expression_s}
+use Rattle.query_leaves.proofs.Heads.{after_word_is}
+use Rattle.query_leaves.proofs.SoundLists.{IsSound, IsListed, only_some, read_as, begins_as, leaves_as, listed_s}
+use Rattle.query_leaves.proofs.SoundLeaves.{name_is}
+use Rattle.query_predicates.proofs.SoundExpressions.{expression_s}
 use Rattle.query_predicates.proofs.SoundPredicates.{predicate_s}
 use Rattle.query_grammar.proofs.SoundGroups.{group_s}
 use Rattle.query_grammar.proofs.SoundKeys.{keys_s}

@@ -7,12 +7,12 @@ use Rattle.query_tokens.specs.declared.token.Sign.TheVariants as s
 use Rattle.query_tokens.specs.Options.{◌>>=◌, choose}
 use Rattle.query_tokens.proofs.Inversions.{bind_some, choose_some, some_is}
 use Rattle.query_tree.specs.Syntax.{GroupForm, set, rollup, cube, sets, group_forms}
-use Rattle.query_predicates.specs.Fronts.{is_word, is_sign, after}
-use Rattle.query_predicates.specs.Steps.{Reader, with_front, more, name_at}
-use Rattle.query_predicates.specs.Predicates.{Derivation, IsRepeated, IsName}
-use Rattle.query_predicates.proofs.Heads.{after_word_is, after_sign_is}
-use Rattle.query_predicates.proofs.SoundLists.{IsSound, IsListed, IsBracketed, only_some, read_as, begins_as, listed_s}
-use Rattle.query_predicates.proofs.SoundExpressions.{name_is, name_s}
+use Rattle.query_leaves.specs.Fronts.{is_word, is_sign, after}
+use Rattle.query_leaves.specs.Steps.{Reader, with_front, more, name_at}
+use Rattle.query_leaves.specs.Leaves.{Derivation, IsRepeated, IsName}
+use Rattle.query_leaves.proofs.Heads.{after_word_is, after_sign_is}
+use Rattle.query_leaves.proofs.SoundLists.{IsSound, IsListed, IsBracketed, only_some, read_as, begins_as, listed_s}
+use Rattle.query_leaves.proofs.SoundLeaves.{name_is, name_s}
 use Rattle.query_grammar.specs.GroupSteps.{all_at, enclosed_at, unit_at, units_at, nothing_at, set_at, element_at, sets_at, group_at}
 use Rattle.query_grammar.specs.Grammar.{IsUnit, IsSet, IsElement, IsGroup}
 

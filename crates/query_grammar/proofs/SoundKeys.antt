@@ -7,11 +7,11 @@ use Rattle.query_tokens.specs.declared.token.Sign.TheVariants as s
 use Rattle.query_tokens.specs.Options.{◌>>=◌, choose}
 use Rattle.query_tokens.proofs.Inversions.{bind_some, choose_some}
 use Rattle.query_tree.specs.Syntax.{ExpressionForm, KeyForm}
-use Rattle.query_predicates.specs.Fronts.{is_word, is_sign, after}
-use Rattle.query_predicates.specs.Steps.{with_front, more}
+use Rattle.query_leaves.specs.Fronts.{is_word, is_sign, after}
+use Rattle.query_leaves.specs.Steps.{with_front, more}
 use Rattle.query_predicates.specs.ExpressionSteps.{expression_at}
-use Rattle.query_predicates.proofs.Heads.{after_word_is}
-use Rattle.query_predicates.proofs.SoundLists.{IsSound, only_some, read_as, begins_as, listed_s}
+use Rattle.query_leaves.proofs.Heads.{after_word_is}
+use Rattle.query_leaves.proofs.SoundLists.{IsSound, only_some, read_as, begins_as, listed_s}
 use Rattle.query_predicates.proofs.SoundExpressions.{expression_s}
 use Rattle.query_grammar.specs.GroupSteps.{all_at}
 use Rattle.query_grammar.specs.KeySteps.{direction_at, null_ordering_at, key_at, keys_at}

@@ -1,50 +1,20 @@
--- The grammar of queries, with one case for each production. `P ts x rest` says that the tokens in front of `ts`
--- derive `x`, and that `rest` stands behind them. Words in capitals are keywords, `{ x }` is none or more, `[ x ]` is
--- none or one, `|` parts choices:
---
---     query   = SELECT item { "," item } FROM lines
---               [ WHERE pred ] [ GROUP BY group { "," group } ]
---               [ HAVING pred ] [ ORDER BY key { "," key } ]
---     item    = expr [ AS name ]
---     key     = expr [ ASC | DESC ] [ NULLS FIRST | NULLS LAST ]
---     expr    = name | GROUPING "(" name { "," name } ")" | setfn
---     setfn   = COUNT "(" "*" ")" | COUNT "(" [ DISTINCT ] name ")"
---             | SUM "(" name ")" | MIN "(" name ")" | MAX "(" name ")" | AVG "(" name ")"
---     group   = set
---             | ROLLUP "(" unit { "," unit } ")"
---             | CUBE "(" unit { "," unit } ")"
---             | GROUPING SETS "(" group { "," group } ")"
---     set     = unit | "(" ")"
---     unit    = name | "(" name { "," name } ")"
---     pred    = conj { OR conj }
---     conj    = neg { AND neg }
---     neg     = [ NOT ] test
---     test    = prim [ IS [ NOT ] ( TRUE | FALSE | UNKNOWN ) ]
---     prim    = "(" pred ")" | atom
---     atom    = operand cmp operand
---             | operand [ NOT ] BETWEEN operand AND operand
---             | operand [ NOT ] IN "(" literal { "," literal } ")"
---             | operand IS [ NOT ] NULL
---             | name
---     cmp     = "=" | "<>" | "<" | "<=" | ">" | ">="
---     operand = expr | literal
---     literal = whole number | text | TRUE | FALSE
---
--- `lines` is the name `lines`, compared exactly. Where it is not written, a key is ASC, and NULL is last under ASC and first
--- under DESC. A query has at most 64 items, a GROUPING at most 8 arguments, an IN at
--- most 64 literals, GROUPING SETS stand in one another at most 16 levels deep, and brackets of predicates at most 64.
--- The relations of expressions and predicates stand in Predicates of query_predicates.
+-- The grammar of queries, with one case for each production. `P ts x rest` says that the tokens in front of `ts` derive
+-- `x`, and that `rest` stands behind them. The production is written above its relation: words in capitals are keywords,
+-- words in small letters are other productions, `{ x }` is none or more, `[ x ]` is none or one, `|` parts choices. The
+-- relations of expressions and predicates stand in Predicates of query_predicates, and those of names in Leaves of
+-- query_leaves.
 use Rattle.std.specs.Prelude.{◌<◌, ℕ, zero, suc, Bool, true, false, Option, Some, None, List, [], ◌∷◌, length, codes}
 use Rattle.query_tokens.specs.declared.token.Token.{Token}
 use Rattle.query_tokens.specs.declared.token.Token.TheVariants as tokens
 use Rattle.query_tokens.specs.declared.token.Word.TheVariants as w
 use Rattle.query_tokens.specs.declared.token.Sign.TheVariants as s
 use Rattle.query_tree.specs.Syntax.{ExpressionForm, PredicateForm, GroupForm, ItemForm, KeyForm, TreeForm, group_forms}
-use Rattle.query_predicates.specs.Predicates.{Derivation, IsRepeated, IsName, IsExpression, IsPredicate}
+use Rattle.query_leaves.specs.Leaves.{Derivation, IsRepeated, IsName}
+use Rattle.query_predicates.specs.Predicates.{IsExpression, IsPredicate}
 
 -- ---- the query
 
--- item: an expression with an alias or none
+-- item = expr [ AS name ]
 pub data IsItem : List Token → ItemForm → List Token → Type 0 where
   plain : {ts r : List Token} {e : ExpressionForm} → IsExpression ts e r → IsItem ts record { expression = e; alias = None } r
   named : {ts r : List Token} {e : ExpressionForm} {n : List ℕ} → IsExpression ts e (tokens.Word w.As ∷ tokens.Name n ∷ r) → IsItem ts record { expression = e; alias = Some n } r
@@ -54,17 +24,21 @@ pub data IsWhere : List Token → Option PredicateForm → List Token → Type 0
   none : {r : List Token} → IsWhere r None r
   filter : {ts r : List Token} {p : PredicateForm} → IsPredicate 65 ts p r → IsWhere (tokens.Word w.Where ∷ ts) (Some p) r
 
--- unit: a name, or names in brackets
+-- unit = name | "(" name { "," name } ")"
 pub data IsUnit : List Token → List (List ℕ) → List Token → Type 0 where
   column : {n : List ℕ} {r : List Token} → IsUnit (tokens.Name n ∷ r) (n ∷ []) r
   columns : {mid r : List Token} {n : List ℕ} {ns : List (List ℕ)} → IsRepeated (tokens.Sign s.Comma) IsName mid ns (tokens.Sign s.Close ∷ r) → IsUnit (tokens.Sign s.Open ∷ tokens.Name n ∷ mid) (n ∷ ns) r
 
--- set: a unit, or brackets round nothing
+-- set = unit | "(" ")"
 pub data IsSet : List Token → List (List ℕ) → List Token → Type 0 where
   none : {r : List Token} → IsSet (tokens.Sign s.Open ∷ tokens.Sign s.Close ∷ r) [] r
   unit : {ts r : List Token} {ns : List (List ℕ)} → IsUnit ts ns r → IsSet ts ns r
 
--- group, where IsInner is what may stand in the brackets of GROUPING SETS
+-- group = set
+--       | ROLLUP "(" unit { "," unit } ")"
+--       | CUBE "(" unit { "," unit } ")"
+--       | GROUPING SETS "(" group { "," group } ")"
+-- where IsInner is what may stand in the brackets of GROUPING SETS
 pub data IsElement (IsInner : Derivation GroupForm) : List Token → GroupForm → List Token → Type 0 where
   set : {ts r : List Token} {ns : List (List ℕ)} → IsSet ts ns r → IsElement IsInner ts (GroupForm.set ns) r
   rollup : {ts mid r : List Token} {u : List (List ℕ)} {us : List (List (List ℕ))} → IsUnit ts u mid → IsRepeated (tokens.Sign s.Comma) IsUnit mid us (tokens.Sign s.Close ∷ r)
@@ -101,7 +75,7 @@ pub data IsNullOrdering (descending : Bool) : List Token → Bool → List Token
   first : {r : List Token} → IsNullOrdering descending (tokens.Word w.Nulls ∷ tokens.Word w.First ∷ r) true r
   last : {r : List Token} → IsNullOrdering descending (tokens.Word w.Nulls ∷ tokens.Word w.Last ∷ r) false r
 
--- key
+-- key = expr [ ASC | DESC ] [ NULLS FIRST | NULLS LAST ]
 pub data IsKey : List Token → KeyForm → List Token → Type 0 where
   key : {ts u v r : List Token} {e : ExpressionForm} {d n : Bool} → IsExpression ts e u → IsDirection u d v → IsNullOrdering d v n r → IsKey ts record { expression = e; descending = d; nulls_first = n } r
 
@@ -110,7 +84,10 @@ pub data IsOrderBy : List Token → List KeyForm → List Token → Type 0 where
   none : {r : List Token} → IsOrderBy r [] r
   keys : {ts mid r : List Token} {k : KeyForm} {ks : List KeyForm} → IsKey ts k mid → IsRepeated (tokens.Sign s.Comma) IsKey mid ks r → IsOrderBy (tokens.Word w.Order ∷ tokens.Word w.By ∷ ts) (k ∷ ks) r
 
--- query
+-- query = SELECT item { "," item } FROM lines
+--         [ WHERE pred ] [ GROUP BY group { "," group } ]
+--         [ HAVING pred ] [ ORDER BY key { "," key } ]
+-- with at most 64 items; `lines` is the name `lines`, compared exactly
 pub data IsQuery : List Token → TreeForm → List Token → Type 0 where
   query : {ts mid after_from after_where after_groups after_having r : List Token} {i : ItemForm} {is : List ItemForm} {p h : Option PredicateForm} {gs : List GroupForm} {ks : List KeyForm}
       → IsItem ts i mid → IsRepeated (tokens.Sign s.Comma) IsItem mid is (tokens.Word w.From ∷ tokens.Name (codes "lines") ∷ after_from) → length is < 64

@@ -6,8 +6,8 @@ use Rattle.query_tokens.specs.declared.token.Word.TheVariants as w
 use Rattle.query_tokens.specs.declared.token.Sign.TheVariants as s
 use Rattle.query_tokens.specs.Options.{◌>>=◌, choose}
 use Rattle.query_tree.specs.Syntax.{GroupForm, set, rollup, cube, sets, group_forms}
-use Rattle.query_predicates.specs.Fronts.{is_word, is_sign, after}
-use Rattle.query_predicates.specs.Steps.{Reader, with_front, more, name_at}
+use Rattle.query_leaves.specs.Fronts.{is_word, is_sign, after}
+use Rattle.query_leaves.specs.Steps.{Reader, with_front, more, name_at}
 
 -- A part and those behind it, each behind its comma.
 abbrev pub all_at : {A : Type 0} → Reader A → Reader (List A)

@@ -5,8 +5,8 @@ use Rattle.query_tokens.specs.declared.token.Token.{Token}
 use Rattle.query_tokens.specs.declared.token.Word.TheVariants as w
 use Rattle.query_tokens.specs.Options.{◌>>=◌, choose}
 use Rattle.query_tree.specs.Syntax.{KeyForm}
-use Rattle.query_predicates.specs.Fronts.{is_word, after}
-use Rattle.query_predicates.specs.Steps.{Reader}
+use Rattle.query_leaves.specs.Fronts.{is_word, after}
+use Rattle.query_leaves.specs.Steps.{Reader}
 use Rattle.query_predicates.specs.ExpressionSteps.{expression_at}
 use Rattle.query_grammar.specs.GroupSteps.{all_at}
 

@@ -7,8 +7,8 @@ use Rattle.query_tokens.specs.declared.token.Word.{Word}
 use Rattle.query_tokens.specs.declared.token.Word.TheVariants as w
 use Rattle.query_tokens.specs.Options.{◌>>=◌, choose}
 use Rattle.query_tree.specs.Syntax.{PredicateForm, GroupForm, ItemForm, TreeForm}
-use Rattle.query_predicates.specs.Fronts.{is_word, after}
-use Rattle.query_predicates.specs.Steps.{Reader, listed_at, name_at}
+use Rattle.query_leaves.specs.Fronts.{is_word, after}
+use Rattle.query_leaves.specs.Steps.{Reader, listed_at, name_at}
 use Rattle.query_predicates.specs.ExpressionSteps.{expression_at}
 use Rattle.query_predicates.specs.PredicateSteps.{predicate_at}
 use Rattle.query_grammar.specs.GroupSteps.{all_at, group_at}

@@ -3,13 +3,13 @@
 ghost use Rattle.std.specs.Prelude.{◌≡◌, ◌<◌, ◌≤◌, ◌∷◌, [], length, map, IfOk};
 ghost use Rattle.query_tokens.specs.declared.token.Sign.TheVariants.{Comma};
 ghost use Rattle.query_tree.specs.Syntax.{group_form};
-ghost use Rattle.query_predicates.specs.Fronts.{is_sign};
-ghost use Rattle.query_predicates.specs.Steps.{Gives, with_front, more};
+ghost use Rattle.query_leaves.specs.Fronts.{is_sign};
+ghost use Rattle.query_leaves.specs.Steps.{Gives, with_front, more};
 ghost use Rattle.query_grammar.specs.GroupSteps.{sets_at, group_at};
 ghost use Rattle.query_grammar.specs.QuerySteps.{groups_at};
 
 use crate::units::{set, units};
-use query_predicates::{GrammarFault, after_sign, after_word, expect_sign, expect_word};
+use query_leaves::{GrammarFault, after_sign, after_word, expect_sign, expect_word, keep};
 use query_tokens::{Sign, Token, Word};
 use query_tree::Group;
 use std::alloc::Global;
@@ -58,7 +58,7 @@ fn grouping_sets(
     let rest = expect_sign(rest, Sign::Open)?;
     let (first, rest) = group(alloc, rest, levels - 1)?;
     let (all, rest) = more_groups(alloc, first, rest, levels - 1)?;
-    let rest = expect_sign(rest, Sign::Close)?;
+    let (all, rest) = keep(all, expect_sign(rest, Sign::Close))?;
     Ok((Group::Sets(all), rest))
 }
 

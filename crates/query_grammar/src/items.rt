@@ -3,11 +3,12 @@
 ghost use Rattle.std.specs.Prelude.{◌≡◌, ◌<◌, ◌≤◌, ◌∷◌, [], length, map, IfOk};
 ghost use Rattle.query_tokens.specs.declared.token.Sign.TheVariants.{Comma};
 ghost use Rattle.query_tree.specs.Syntax.{item_form};
-ghost use Rattle.query_predicates.specs.Fronts.{is_sign};
-ghost use Rattle.query_predicates.specs.Steps.{Gives, IsRefusal, with_front, more};
+ghost use Rattle.query_leaves.specs.Fronts.{is_sign};
+ghost use Rattle.query_leaves.specs.Steps.{Gives, IsRefusal, with_front, more};
 ghost use Rattle.query_grammar.specs.QuerySteps.{alias_at, item_at, items_at};
 
-use query_predicates::{GrammarFault, after_sign, after_word, expect_name, expression};
+use query_leaves::{GrammarFault, after_sign, after_word, expect_name, keep};
+use query_predicates::expression;
 use query_tokens::{Sign, Token, Word};
 use query_tree::{Item, Text};
 use std::alloc::Global;
@@ -35,7 +36,7 @@ fn item(alloc: Global, tokens: &[Token]) -> Result<(Item, &[Token]), GrammarFaul
     ensures shorter { IfOk result (λ x. length x.1.now < length tokens.now) }
 {
     let (expression, rest) = expression(alloc, tokens)?;
-    let (alias, rest) = alias(rest)?;
+    let (expression, (alias, rest)) = keep(expression, alias(rest))?;
     Ok((Item { expression, alias }, rest))
 }
 

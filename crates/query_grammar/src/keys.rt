@@ -3,11 +3,12 @@
 ghost use Rattle.std.specs.Prelude.{◌≡◌, ◌<◌, ◌≤◌, ◌∷◌, [], length, map, IfOk};
 ghost use Rattle.query_tokens.specs.declared.token.Sign.TheVariants.{Comma};
 ghost use Rattle.query_tree.specs.Syntax.{key_form};
-ghost use Rattle.query_predicates.specs.Fronts.{is_sign};
-ghost use Rattle.query_predicates.specs.Steps.{Gives, with_front, more};
+ghost use Rattle.query_leaves.specs.Fronts.{is_sign};
+ghost use Rattle.query_leaves.specs.Steps.{Gives, with_front, more};
 ghost use Rattle.query_grammar.specs.KeySteps.{direction_at, null_ordering_at, key_at, keys_at};
 
-use query_predicates::{GrammarFault, after_sign, after_word, expect_word, expression};
+use query_leaves::{GrammarFault, after_sign, after_word, expect_word, keep};
+use query_predicates::expression;
 use query_tokens::{Sign, Token, Word};
 use query_tree::Key;
 use std::alloc::Global;
@@ -51,7 +52,7 @@ fn key(alloc: Global, tokens: &[Token]) -> Result<(Key, &[Token]), GrammarFault>
 {
     let (expression, rest) = expression(alloc, tokens)?;
     let (descending, rest) = direction(rest);
-    let (nulls_first, rest) = null_ordering(rest, descending)?;
+    let (expression, (nulls_first, rest)) = keep(expression, null_ordering(rest, descending))?;
     let key = Key {
         expression,
         descending,

@@ -4,8 +4,10 @@
 mod groups;
 mod items;
 mod keys;
+mod laws;
 mod reading;
 mod units;
 
-pub use query_predicates::GrammarFault;
+pub use laws::derives_one;
+pub use query_leaves::GrammarFault;
 pub use reading::read_query;

@@ -3,17 +3,16 @@
 ghost use Rattle.std.specs.Prelude.{◌≡◌, ◌<◌, ◌≤◌, length, IfOk, MatchResult};
 ghost use Rattle.std.specs.Option.{option_map};
 ghost use Rattle.query_tree.specs.Syntax.{TreeForm, tree_form, predicate_form};
-ghost use Rattle.query_predicates.specs.declared.fault.GrammarFault.TheVariants.{OutOfMemory};
+ghost use Rattle.query_leaves.specs.declared.fault.GrammarFault.TheVariants.{OutOfMemory};
 ghost use Rattle.query_grammar.specs.Grammar.{Derives};
-ghost use Rattle.query_predicates.specs.Steps.{Gives};
+ghost use Rattle.query_leaves.specs.Steps.{Gives};
 ghost use Rattle.query_grammar.specs.QuerySteps.{from_at, clause_at, query_at, whole_at};
 
 use crate::groups::groups;
 use crate::items::items;
 use crate::keys::keys;
-use query_predicates::{
-    GrammarFault, MOST_LEVELS, after_word, expect_name, expect_word, predicate, unexpected,
-};
+use query_leaves::{GrammarFault, after_word, expect_name, expect_word, keep, unexpected};
+use query_predicates::{MOST_LEVELS, predicate};
 use query_tokens::{Token, Word};
 use query_tree::{Predicate, Tree};
 use std::alloc::Global;
@@ -56,11 +55,14 @@ fn query(alloc: Global, tokens: &[Token]) -> Result<(Tree, &[Token]), GrammarFau
 {
     let rest = expect_word(tokens, Word::Select)?;
     let (items, rest) = items(alloc, rest)?;
-    let rest = from_lines(rest)?;
-    let (filter, rest) = clause(alloc, rest, Word::Where)?;
-    let (groups, rest) = groups(alloc, rest)?;
-    let (having, rest) = clause(alloc, rest, Word::Having)?;
-    let (keys, rest) = keys(alloc, rest)?;
+    let (items, rest) = keep(items, from_lines(rest))?;
+    let (items, (filter, rest)) = keep(items, clause(alloc, rest, Word::Where))?;
+    let ((items, filter), (groups, rest)) = keep((items, filter), groups(alloc, rest))?;
+    let found = clause(alloc, rest, Word::Having);
+    let ((items, filter, groups), (having, rest)) = keep((items, filter, groups), found)?;
+    let found = keys(alloc, rest);
+    let (read, (keys, rest)) = keep((items, filter, groups, having), found)?;
+    let (items, filter, groups, having) = read;
     let tree = Tree {
         items,
         filter,

@@ -4,11 +4,11 @@ ghost use Rattle.std.specs.Prelude.{◌≡◌, ◌<◌, ◌≤◌, ◌∷◌, []
 ghost use Rattle.query_tokens.specs.Options.{Tells};
 ghost use Rattle.query_tokens.specs.declared.token.Sign.TheVariants.{Comma};
 ghost use Rattle.query_tree.specs.Syntax.{units_form};
-ghost use Rattle.query_predicates.specs.Fronts.{is_sign};
-ghost use Rattle.query_predicates.specs.Steps.{Gives, with_front, more, name_at};
+ghost use Rattle.query_leaves.specs.Fronts.{is_sign};
+ghost use Rattle.query_leaves.specs.Steps.{Gives, with_front, more, name_at};
 ghost use Rattle.query_grammar.specs.GroupSteps.{unit_at, units_at, nothing_at, set_at};
 
-use query_predicates::{GrammarFault, after_sign, expect_name, expect_sign, name};
+use query_leaves::{GrammarFault, after_sign, expect_name, expect_sign, keep, name};
 use query_tokens::{Sign, Token};
 use query_tree::Text;
 use std::alloc::Global;
@@ -47,7 +47,7 @@ fn unit(alloc: Global, tokens: &[Token]) -> Result<(Vec<Text>, &[Token]), Gramma
     let rest = expect_sign(tokens, Sign::Open)?;
     let (first, rest) = expect_name(rest)?;
     let (names, rest) = more_names(alloc, first.try_clone()?, rest)?;
-    let rest = expect_sign(rest, Sign::Close)?;
+    let (names, rest) = keep(names, expect_sign(rest, Sign::Close))?;
     Ok((names, rest))
 }
 
@@ -80,7 +80,7 @@ pub fn units(alloc: Global, tokens: &[Token]) -> Result<(Vec<Vec<Text>>, &[Token
     let rest = expect_sign(tokens, Sign::Open)?;
     let (first, rest) = unit(alloc, rest)?;
     let (all, rest) = more_units(alloc, first, rest)?;
-    let rest = expect_sign(rest, Sign::Close)?;
+    let (all, rest) = keep(all, expect_sign(rest, Sign::Close))?;
     Ok((all, rest))
 }
 

@@ -9,75 +9,16 @@ use Rattle.query_tokens.specs.declared.token.Sign.TheVariants as s
 use Rattle.query_tree.specs.declared.expression.Aggregate.{Aggregate}
 use Rattle.query_tree.specs.declared.predicate.Literal.{Literal}
 use Rattle.query_tree.specs.Syntax.{ExpressionForm, OperandForm, PredicateForm, truth_test, compare, between, member, null_test, column}
-use Rattle.query_predicates.specs.Fronts.{is_word, is_sign, after}
-use Rattle.query_predicates.specs.AtomSteps.{literal_at, literals_at, operand_at, op_at, truth_at, mark_at, member_after, between_after, negated_after, column_of, atom_after, test_after, is_after, tested_atom_at}
-use Rattle.query_predicates.specs.Predicates.{IsRepeated, IsAggregate, IsFunction, IsExpression, IsLiteral, IsOperand, IsOp, IsTruthValue, IsMark, IsAtom}
-use Rattle.query_predicates.proofs.CompleteLists.{Shrinks, repeated_short, bracketed_c}
+use Rattle.query_leaves.specs.Fronts.{is_word, is_sign, after}
+use Rattle.query_leaves.specs.LeafSteps.{literal_at, op_at}
+use Rattle.query_predicates.specs.AtomSteps.{operand_at, member_after, between_after, negated_after, column_of, atom_after, test_after, is_after, tested_atom_at}
+use Rattle.query_leaves.specs.Leaves.{IsRepeated, IsAggregate, IsLiteral, IsOp, IsTruthValue, IsMark}
+use Rattle.query_predicates.specs.Predicates.{IsFunction, IsExpression, IsOperand, IsAtom}
+use Rattle.query_leaves.proofs.CompleteLists.{Shrinks, repeated_short}
 use Rattle.query_predicates.proofs.CompleteExpressions.{expression_c, expression_short}
-
--- ---- leaves
-
-literal_c : (ts r : List Token) (a : Literal) → IsLiteral ts a r → literal_at ts ≡ Some (a, r)
-unfolding literal_at
-literal_c _ _ _ IsLiteral.integer = refl
-literal_c _ _ _ IsLiteral.text = refl
-literal_c _ _ _ IsLiteral.yes = refl
-literal_c _ _ _ IsLiteral.no = refl
-
-literals_c : {ts mid r : List Token} {a : Literal} {ls : List Literal} → IsLiteral ts a mid → IsRepeated (tokens.Sign s.Comma) IsLiteral mid ls (tokens.Sign s.Close ∷ r) → length ls < 64
-    → literals_at (tokens.Sign s.Open ∷ ts) ≡ Some (a ∷ ls, r)
-unfolding literals_at
-literals_c a b few = bracketed_c IsLiteral literal_at literal_c 63 a b (omega arith)
-
-op_c : {ts r : List Token} {o : Op} → IsOp ts o r → op_at ts ≡ Some (o, r)
-unfolding op_at
-op_c IsOp.eq = refl
-op_c IsOp.ne = refl
-op_c IsOp.lt = refl
-op_c IsOp.le = refl
-op_c IsOp.gt = refl
-op_c IsOp.ge = refl
-
-op_no_is : {ts r : List Token} {o : Op} → IsOp ts o r → after (is_word w.Is) ts ≡ None
-op_no_is IsOp.eq = refl
-op_no_is IsOp.ne = refl
-op_no_is IsOp.lt = refl
-op_no_is IsOp.le = refl
-op_no_is IsOp.gt = refl
-op_no_is IsOp.ge = refl
-
-truth_c : {ts r : List Token} {t : Truth} → IsTruthValue ts t r → truth_at ts ≡ Some (t, r)
-unfolding truth_at
-truth_c IsTruthValue.yes = refl
-truth_c IsTruthValue.no = refl
-truth_c IsTruthValue.unknown = refl
-
-truth_no_not : {ts r : List Token} {t : Truth} → IsTruthValue ts t r → after (is_word w.Not) ts ≡ None
-truth_no_not IsTruthValue.yes = refl
-truth_no_not IsTruthValue.no = refl
-truth_no_not IsTruthValue.unknown = refl
-
-truth_no_null : {ts r : List Token} {t : Truth} → IsTruthValue ts t r → after (is_word w.Null) ts ≡ None
-truth_no_null IsTruthValue.yes = refl
-truth_no_null IsTruthValue.no = refl
-truth_no_null IsTruthValue.unknown = refl
-
-mark_c : {ts r : List Token} {n : Bool} → IsMark ts n r → after (is_word w.Not) r ≡ None → mark_at ts ≡ (n, r)
-unfolding mark_at
-mark_c IsMark.none e = rw e refl
-mark_c IsMark.not e = refl
+use Rattle.query_leaves.proofs.CompleteLeaves.{literal_c, literals_c, op_c, op_no_is, truth_c, truth_no_not, truth_no_null, mark_c, aggregate_no_literal, literal_short, op_short, mark_short}
 
 -- ---- operands
-
-aggregate_no_literal : {ts r : List Token} {f : Aggregate} → IsAggregate ts f r → literal_at ts ≡ None
-unfolding literal_at
-aggregate_no_literal IsAggregate.count_rows = refl
-aggregate_no_literal IsAggregate.count = refl
-aggregate_no_literal IsAggregate.count_distinct = refl
-aggregate_no_literal IsAggregate.sum = refl
-aggregate_no_literal IsAggregate.min = refl
-aggregate_no_literal IsAggregate.max = refl
-aggregate_no_literal IsAggregate.avg = refl
 
 expression_no_literal : {ts r : List Token} {e : ExpressionForm} → IsExpression ts e r → literal_at ts ≡ None
 unfolding literal_at
@@ -190,32 +131,9 @@ atom_test_c (IsAtom.column {n}) m t = column_test_c n m t
 
 -- ---- what an atom takes
 
-literal_short : Shrinks IsLiteral
-literal_short _ _ _ IsLiteral.integer = omega arith
-literal_short _ _ _ IsLiteral.text = omega arith
-literal_short _ _ _ IsLiteral.yes = omega arith
-literal_short _ _ _ IsLiteral.no = omega arith
-
 operand_short : Shrinks IsOperand
 operand_short _ _ _ (IsOperand.expression {ts} {r} {e} p) = expression_short ts r e p
 operand_short _ _ _ (IsOperand.literal {ts} {r} {a} p) = literal_short ts r a p
-
-op_short : Shrinks IsOp
-op_short _ _ _ IsOp.eq = omega arith
-op_short _ _ _ IsOp.ne = omega arith
-op_short _ _ _ IsOp.lt = omega arith
-op_short _ _ _ IsOp.le = omega arith
-op_short _ _ _ IsOp.gt = omega arith
-op_short _ _ _ IsOp.ge = omega arith
-
-pub truth_short : Shrinks IsTruthValue
-truth_short _ _ _ IsTruthValue.yes = omega arith
-truth_short _ _ _ IsTruthValue.no = omega arith
-truth_short _ _ _ IsTruthValue.unknown = omega arith
-
-pub mark_short : Shrinks IsMark
-mark_short _ _ _ IsMark.none = omega arith
-mark_short _ _ _ IsMark.not = omega arith
 
 pub atom_short : Shrinks IsAtom
 atom_short _ _ _ (IsAtom.compare x o y) = omega (arith, operand_short _ _ _ x, op_short _ _ _ o, operand_short _ _ _ y)

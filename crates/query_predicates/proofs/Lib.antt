@@ -1,10 +1,6 @@
-pub mod Heads
-pub mod More
-pub mod CompleteLists
 pub mod CompleteExpressions
 pub mod CompleteAtoms
 pub mod CompletePredicates
-pub mod SoundLists
 pub mod SoundExpressions
 pub mod SoundAtoms
 pub mod SoundPredicates

@@ -1,64 +1,23 @@
 -- Atoms that are read from tokens derive from them, and the truth tests behind them.
-use Rattle.std.proofs.Common.{arith, length, ◌<◌, ◌≡◌, ◌⊎◌, ℕ, Bool, true, false, List, [], ◌∷◌, Option, Some, None, refl, sym, ap, subst, inl, inr}
+use Rattle.std.proofs.Common.{arith, length, ◌<◌, ◌≡◌, ℕ, Bool, true, false, List, ◌∷◌, Some, None, refl, sym, ap, subst, inl, inr}
 use Rattle.query_tokens.specs.declared.token.Token.{Token}
 use Rattle.query_tokens.specs.declared.token.Token.TheVariants as tokens
 use Rattle.query_tokens.specs.declared.token.Word.TheVariants as w
-use Rattle.query_tokens.specs.declared.token.Sign.TheVariants as s
 use Rattle.query_tokens.specs.Options.{◌>>=◌, choose}
 use Rattle.query_tokens.proofs.Inversions.{bind_some, choose_some, some_is}
 use Rattle.query_tree.specs.declared.predicate.Literal.{Literal}
 use Rattle.query_tree.specs.Syntax.{ExpressionForm, OperandForm, PredicateForm, truth_test, compare, between, member, null_test, column}
-use Rattle.query_predicates.specs.Fronts.{is_word, after}
-use Rattle.query_predicates.specs.Steps.{bracketed_at}
+use Rattle.query_leaves.specs.Fronts.{is_word, after}
+use Rattle.query_leaves.specs.Steps.{bracketed_at}
 use Rattle.query_predicates.specs.ExpressionSteps.{expression_at}
-use Rattle.query_predicates.specs.AtomSteps.{literal_at, literals_at, operand_at, op_at, truth_at, mark_at, member_after, between_after, negated_after, column_of, atom_after, test_after, is_after, tested_atom_at}
-use Rattle.query_predicates.specs.Predicates.{Derivation, IsExpression, IsLiteral, IsOperand, IsOp, IsTruthValue, IsMark, IsAtom, IsPrimary, IsTest}
-use Rattle.query_predicates.proofs.Heads.{after_word_is}
-use Rattle.query_predicates.proofs.SoundLists.{IsSound, only_some, read_as, begins_as, leaves_as, bracketed_s}
+use Rattle.query_leaves.specs.LeafSteps.{literal_at, literals_at, op_at, truth_at, mark_at}
+use Rattle.query_predicates.specs.AtomSteps.{operand_at, member_after, between_after, negated_after, column_of, atom_after, test_after, is_after, tested_atom_at}
+use Rattle.query_leaves.specs.Leaves.{Derivation, IsLiteral, IsMark}
+use Rattle.query_predicates.specs.Predicates.{IsExpression, IsOperand, IsAtom, IsPrimary, IsTest}
+use Rattle.query_leaves.proofs.Heads.{after_word_is}
+use Rattle.query_leaves.proofs.SoundLists.{IsSound, only_some, read_as, begins_as, leaves_as, bracketed_s}
 use Rattle.query_predicates.proofs.SoundExpressions.{expression_s}
-
--- An option is none or some.
-cases : {A : Type 0} (o : Option A) → (o ≡ None) ⊎ ((x : A) × (o ≡ Some x))
-cases None = inl refl
-cases (Some x) = inr (x, refl)
-
--- ---- leaves
-
-literal_s : IsSound IsLiteral literal_at
-unfolding literal_at
-literal_s [] x e = absurd cc
-literal_s (tokens.Integer i ∷ ts) x e = read_as IsLiteral e IsLiteral.integer
-literal_s (tokens.Text n ∷ ts) x e = read_as IsLiteral e IsLiteral.text
-literal_s (tokens.Word w.True ∷ ts) x e = read_as IsLiteral e IsLiteral.yes
-literal_s (tokens.Word w.False ∷ ts) x e = read_as IsLiteral e IsLiteral.no
-literal_s (y ∷ ts) x e = absurd cc
-
-op_s : IsSound IsOp op_at
-unfolding op_at
-op_s [] x e = absurd cc
-op_s (tokens.Sign s.Equal ∷ ts) x e = read_as IsOp e IsOp.eq
-op_s (tokens.Sign s.NotEqual ∷ ts) x e = read_as IsOp e IsOp.ne
-op_s (tokens.Sign s.Less ∷ ts) x e = read_as IsOp e IsOp.lt
-op_s (tokens.Sign s.LessOrEqual ∷ ts) x e = read_as IsOp e IsOp.le
-op_s (tokens.Sign s.Greater ∷ ts) x e = read_as IsOp e IsOp.gt
-op_s (tokens.Sign s.GreaterOrEqual ∷ ts) x e = read_as IsOp e IsOp.ge
-op_s (y ∷ ts) x e = absurd cc
-
-truth_s : IsSound IsTruthValue truth_at
-unfolding truth_at
-truth_s [] x e = absurd cc
-truth_s (tokens.Word w.True ∷ ts) x e = read_as IsTruthValue e IsTruthValue.yes
-truth_s (tokens.Word w.False ∷ ts) x e = read_as IsTruthValue e IsTruthValue.no
-truth_s (tokens.Word w.Unknown ∷ ts) x e = read_as IsTruthValue e IsTruthValue.unknown
-truth_s (y ∷ ts) x e = absurd cc
-
-mark_s : (ts : List Token) → IsMark ts (mark_at ts).0 (mark_at ts).1
-unfolding mark_at
-mark_s ts =
-    elim (cases (after (is_word w.Not) ts)) [
-      | inl e ↦ rw e IsMark.none
-      | inr p ↦ rw p.1 (begins_as IsMark (after_word_is w.Not ts p.0 p.1) IsMark.not)
-    ]
+use Rattle.query_leaves.proofs.SoundLeaves.{literal_s, op_s, truth_s, mark_s}
 
 operand_s : IsSound IsOperand operand_at
 unfolding operand_at

@@ -1,63 +1,19 @@
 -- What the functions of atoms read in front of tokens, one definition for each function, as it computes it.
 -- What tokens derive is said in Predicates.
-use Rattle.std.specs.Prelude.{List, [], ◌∷◌, Option, Some, None, Bool, true, false}
-use Rattle.values.specs.declared.comparison.Op.{Op}
-use Rattle.values.specs.declared.comparison.Op.TheVariants as op
-use Rattle.values.specs.declared.truth.Truth.{Truth}
-use Rattle.values.specs.declared.truth.Truth.TheVariants as truth
-use Rattle.query_tokens.specs.declared.token.Token.{Token}
-use Rattle.query_tokens.specs.declared.token.Token.TheVariants as tokens
+use Rattle.std.specs.Prelude.{Option, Some, None, Bool, true, false}
 use Rattle.query_tokens.specs.declared.token.Word.TheVariants as w
-use Rattle.query_tokens.specs.declared.token.Sign.TheVariants as s
 use Rattle.query_tokens.specs.Options.{◌>>=◌, choose}
-use Rattle.query_tree.specs.declared.predicate.Literal.{Literal}
-use Rattle.query_tree.specs.declared.predicate.Literal.TheVariants as literals
 use Rattle.query_tree.specs.Syntax.{ExpressionForm, OperandForm, PredicateForm, truth_test, compare, between, member, null_test, column}
-use Rattle.query_predicates.specs.Fronts.{is_word, after}
-use Rattle.query_predicates.specs.Steps.{Reader, bracketed_at}
+use Rattle.query_leaves.specs.Fronts.{is_word, after}
+use Rattle.query_leaves.specs.Steps.{Reader}
+use Rattle.query_leaves.specs.LeafSteps.{literal_at, literals_at, op_at, truth_at, mark_at}
 use Rattle.query_predicates.specs.ExpressionSteps.{expression_at}
-
--- A literal.
-unfoldable pub literal_at : Reader Literal
-literal_at [] = None
-literal_at (tokens.Integer i ∷ ts) = Some (literals.Integer i, ts)
-literal_at (tokens.Text t ∷ ts) = Some (literals.Text t, ts)
-literal_at (tokens.Word w.True ∷ ts) = Some (literals.Truth true, ts)
-literal_at (tokens.Word w.False ∷ ts) = Some (literals.Truth false, ts)
-literal_at (x ∷ ts) = None
-
--- The bracketed literals behind IN.
-unfoldable pub literals_at : Reader (List Literal)
-literals_at ts = bracketed_at literal_at 63 ts
 
 -- An operand.
 unfoldable pub operand_at : Reader OperandForm
 operand_at ts = choose (literal_at ts)
     (expression_at ts >>= λ e. Some (OperandForm.expression e.0, e.1))
     (λ a. Some (OperandForm.literal a.0, a.1))
-
--- An operator.
-unfoldable pub op_at : Reader Op
-op_at [] = None
-op_at (tokens.Sign s.Equal ∷ ts) = Some (op.Eq, ts)
-op_at (tokens.Sign s.NotEqual ∷ ts) = Some (op.Ne, ts)
-op_at (tokens.Sign s.Less ∷ ts) = Some (op.Lt, ts)
-op_at (tokens.Sign s.LessOrEqual ∷ ts) = Some (op.Le, ts)
-op_at (tokens.Sign s.Greater ∷ ts) = Some (op.Gt, ts)
-op_at (tokens.Sign s.GreaterOrEqual ∷ ts) = Some (op.Ge, ts)
-op_at (x ∷ ts) = None
-
--- A truth value.
-unfoldable pub truth_at : Reader Truth
-truth_at [] = None
-truth_at (tokens.Word w.True ∷ ts) = Some (truth.True, ts)
-truth_at (tokens.Word w.False ∷ ts) = Some (truth.False, ts)
-truth_at (tokens.Word w.Unknown ∷ ts) = Some (truth.Unknown, ts)
-truth_at (x ∷ ts) = None
-
--- Whether NOT stands in front, and what stands behind it.
-unfoldable pub mark_at : List Token → Bool × List Token
-mark_at ts = choose (after (is_word w.Not) ts) (false, ts) (λ rest. (true, rest))
 
 -- The atom of an operand and the literals behind its IN.
 unfoldable pub member_after : OperandForm → Bool → Reader PredicateForm

@@ -5,9 +5,9 @@ use Rattle.query_tokens.specs.declared.token.Word.TheVariants as w
 use Rattle.query_tokens.specs.declared.token.Sign.TheVariants as s
 use Rattle.query_tokens.specs.Options.{◌>>=◌, choose}
 use Rattle.query_tree.specs.Syntax.{PredicateForm, not_of}
-use Rattle.query_predicates.specs.Fronts.{is_word, is_sign, after}
+use Rattle.query_leaves.specs.Fronts.{is_word, is_sign, after}
 use Rattle.query_predicates.specs.Predicates.{conjunction_of, disjunction_of}
-use Rattle.query_predicates.specs.Steps.{Reader, more}
+use Rattle.query_leaves.specs.Steps.{Reader, more}
 use Rattle.query_predicates.specs.AtomSteps.{test_after, tested_atom_at}
 
 -- A predicate in brackets or an atom, and the truth test behind it, where there is one.

@@ -1,98 +1,18 @@
 //! Reads atoms, and the truth tests behind them.
 
-ghost use Rattle.std.specs.Prelude.{◌≡◌, ◌<◌, ◌≤◌, ◌∷◌, [], length, IfOk, IfSome};
-ghost use Rattle.query_tokens.specs.Options.{Tells};
-ghost use Rattle.query_tokens.specs.declared.token.Sign.TheVariants.{Comma};
+ghost use Rattle.std.specs.Prelude.{◌<◌, ◌≤◌, length, IfOk};
 ghost use Rattle.query_tree.specs.Syntax.{operand_form, predicate_form};
-ghost use Rattle.query_predicates.specs.Fronts.{is_sign};
-ghost use Rattle.query_predicates.specs.Steps.{Gives, IsRefusal, with_front, more};
-ghost use Rattle.query_predicates.specs.AtomSteps.{literal_at, literals_at, operand_at, op_at, truth_at, mark_at, member_after, between_after, negated_after, column_of, atom_after, test_after, is_after, tested_atom_at};
+ghost use Rattle.query_leaves.specs.Steps.{Gives};
+ghost use Rattle.query_predicates.specs.AtomSteps.{operand_at, member_after, between_after, negated_after, column_of, atom_after, test_after, is_after, tested_atom_at};
 
 use crate::expressions::expression;
-use crate::fault::GrammarFault;
-use crate::fronts::{after_sign, after_word, expect_sign, expect_word, unexpected};
-use query_tokens::{Sign, Token, Word};
-use query_tree::{Expression, Literal, Operand, Predicate};
-use std::alloc::{AllocError, Global};
-use values::{Op, Truth};
-
-/// The most literals of an IN list.
-const MOST_LITERALS: usize = 64;
-
-/// A literal in front, and what stands behind it.
-#[tactic(auto, unfolding(crate::specs::AtomSteps::literal_at))]
-fn literal(tokens: &[Token]) -> Result<Option<(Literal, &[Token])>, AllocError>
-    ensures exact { IfOk result (λ found. Tells (λ x. (x.0, x.1.now)) found (literal_at tokens.now)) }
-    ensures shorter { IfOk result (λ found. IfSome found (λ x. length x.1.now < length tokens.now)) }
-{
-    match tokens {
-        [Token::Integer(value), rest @ ..] => Ok(Some((Literal::Integer(*value), rest))),
-        [Token::Text(text), rest @ ..] => Ok(Some((Literal::Text(text.try_clone()?), rest))),
-        [Token::Word(Word::True), rest @ ..] => Ok(Some((Literal::Truth(true), rest))),
-        [Token::Word(Word::False), rest @ ..] => Ok(Some((Literal::Truth(false), rest))),
-        _ => Ok(None),
-    }
-}
-
-/// A literal that has to stand in front, and what stands behind it.
-fn expect_literal(tokens: &[Token]) -> Result<(Literal, &[Token]), GrammarFault>
-    ensures exact { Gives (λ x. (x.0, x.1.now)) result (literal_at tokens.now) }
-    ensures shorter { IfOk result (λ x. length x.1.now < length tokens.now) }
-{
-    match literal(tokens)? {
-        None => Err(unexpected(tokens)),
-        Some(found) => Ok(found),
-    }
-}
-
-/// The fault of a literal of an IN list too many: the limit where one begins, else the token.
-fn excess_literal(tokens: &[Token]) -> GrammarFault
-    ensures { IsRefusal result }
-{
-    match tokens {
-        [Token::Integer(_), ..] => GrammarFault::OverLimit,
-        [Token::Text(_), ..] => GrammarFault::OverLimit,
-        [Token::Word(Word::True), ..] => GrammarFault::OverLimit,
-        [Token::Word(Word::False), ..] => GrammarFault::OverLimit,
-        _ => GrammarFault::Unexpected(tokens.len()),
-    }
-}
-
-/// The first literal of an IN list and those behind it, each behind its comma.
-fn more_literals(
-    alloc: Global,
-    first: Literal,
-    tokens: &[Token],
-) -> Result<(Vec<Literal>, &[Token]), GrammarFault>
-    ensures exact { Gives (λ x. (x.0.items, x.1.now)) result (with_front (first ∷ []) (more (is_sign Comma) literal_at 63 tokens.now)) }
-    ensures shorter { IfOk result (λ x. length x.1.now ≤ length tokens.now) }
-{
-    let mut all = Vec::new(alloc);
-    all.push(first)?;
-    let mut rest = tokens;
-    while let Some(behind) = after_sign(rest, Sign::Comma) {
-        if all.len() == MOST_LITERALS {
-            return Err(excess_literal(behind));
-        }
-        let (next, left) = expect_literal(behind)?;
-        all.push(next)?;
-        rest = left;
-    }
-    Ok((all, rest))
-}
-
-/// The bracketed literals behind IN.
-#[tactic(auto, unfolding(crate::specs::AtomSteps::literals_at))]
-fn literals(alloc: Global, tokens: &[Token]) -> Result<(Vec<Literal>, &[Token]), GrammarFault>
-    ensures exact { Gives (λ x. (x.0.items, x.1.now)) result (literals_at tokens.now) }
-    ensures shorter { IfOk result (λ x. length x.1.now < length tokens.now) }
-{
-    let rest = expect_sign(tokens, Sign::Open)?;
-    let (first, rest) = expect_literal(rest)?;
-    let (all, rest) = more_literals(alloc, first, rest)?;
-    let rest = expect_sign(rest, Sign::Close)?;
-    Ok((all, rest))
-}
+use query_leaves::{
+    GrammarFault, after_word, expect_word, in_list, keep, literal, mark, operator, truth_value,
+    unexpected,
+};
+use query_tokens::{Token, Word};
+use query_tree::{Expression, Operand, Predicate};
+use std::alloc::Global;
 
 /// An operand.
 #[tactic(auto, unfolding(crate::specs::AtomSteps::operand_at))]
@@ -107,49 +27,6 @@ fn operand(alloc: Global, tokens: &[Token]) -> Result<(Operand, &[Token]), Gramm
     Ok((Operand::Expression(expression), rest))
 }
 
-/// An operator in front, and what stands behind it.
-#[tactic(auto, unfolding(crate::specs::AtomSteps::op_at))]
-fn operator(tokens: &[Token]) -> Option<(Op, &[Token])>
-    ensures exact { Tells (λ x. (x.0, x.1.now)) result (op_at tokens.now) }
-    ensures shorter { IfSome result (λ x. length x.1.now < length tokens.now) }
-{
-    match tokens {
-        [Token::Sign(Sign::Equal), rest @ ..] => Some((Op::Eq, rest)),
-        [Token::Sign(Sign::NotEqual), rest @ ..] => Some((Op::Ne, rest)),
-        [Token::Sign(Sign::Less), rest @ ..] => Some((Op::Lt, rest)),
-        [Token::Sign(Sign::LessOrEqual), rest @ ..] => Some((Op::Le, rest)),
-        [Token::Sign(Sign::Greater), rest @ ..] => Some((Op::Gt, rest)),
-        [Token::Sign(Sign::GreaterOrEqual), rest @ ..] => Some((Op::Ge, rest)),
-        _ => None,
-    }
-}
-
-/// A truth value that has to stand in front, and what stands behind it.
-#[tactic(auto, unfolding(crate::specs::AtomSteps::truth_at))]
-fn truth_value(tokens: &[Token]) -> Result<(Truth, &[Token]), GrammarFault>
-    ensures exact { Gives (λ x. (x.0, x.1.now)) result (truth_at tokens.now) }
-    ensures shorter { IfOk result (λ x. length x.1.now < length tokens.now) }
-{
-    match tokens {
-        [Token::Word(Word::True), rest @ ..] => Ok((Truth::True, rest)),
-        [Token::Word(Word::False), rest @ ..] => Ok((Truth::False, rest)),
-        [Token::Word(Word::Unknown), rest @ ..] => Ok((Truth::Unknown, rest)),
-        _ => Err(unexpected(tokens)),
-    }
-}
-
-/// Whether NOT stands in front, and what stands behind it.
-#[tactic(auto, unfolding(crate::specs::AtomSteps::mark_at))]
-fn mark(tokens: &[Token]) -> (bool, &[Token])
-    ensures exact { mark_at tokens.now ≡ (result.0, result.1.now) }
-    ensures shorter { length result.1.now ≤ length tokens.now }
-{
-    match after_word(tokens, Word::Not) {
-        None => (false, tokens),
-        Some(rest) => (true, rest),
-    }
-}
-
 /// The atom of a first operand and the literals behind its IN.
 #[tactic(auto, unfolding(crate::specs::AtomSteps::member_after))]
 fn member(
@@ -161,7 +38,7 @@ fn member(
     ensures exact { Gives (λ x. (predicate_form x.0, x.1.now)) result (member_after (operand_form first) not tokens.now) }
     ensures shorter { IfOk result (λ x. length x.1.now < length tokens.now) }
 {
-    let (literals, rest) = literals(alloc, tokens)?;
+    let (first, (literals, rest)) = keep(first, in_list(alloc, tokens))?;
     let predicate = Predicate::In {
         operand: first,
         not,
@@ -181,9 +58,9 @@ fn between(
     ensures exact { Gives (λ x. (predicate_form x.0, x.1.now)) result (between_after (operand_form first) not tokens.now) }
     ensures shorter { IfOk result (λ x. length x.1.now < length tokens.now) }
 {
-    let (low, rest) = operand(alloc, tokens)?;
-    let rest = expect_word(rest, Word::And)?;
-    let (high, rest) = operand(alloc, rest)?;
+    let (first, (low, rest)) = keep(first, operand(alloc, tokens))?;
+    let ((first, low), rest) = keep((first, low), expect_word(rest, Word::And))?;
+    let ((first, low), (high, rest)) = keep((first, low), operand(alloc, rest))?;
     let predicate = Predicate::Between {
         operand: first,
         not,
@@ -206,7 +83,7 @@ fn negated(
     if let Some(rest) = after_word(tokens, Word::In) {
         return member(alloc, first, true, rest);
     }
-    let rest = expect_word(tokens, Word::Between)?;
+    let (first, rest) = keep(first, expect_word(tokens, Word::Between))?;
     between(alloc, first, true, rest)
 }
 
@@ -217,7 +94,9 @@ fn column(operand: Operand, tokens: &[Token]) -> Result<Predicate, GrammarFault>
 {
     match operand {
         Operand::Expression(Expression::Name(name)) => Ok(Predicate::Column(name)),
-        _ => Err(unexpected(tokens)),
+        Operand::Expression(Expression::Grouping(_))
+        | Operand::Expression(Expression::Function(_))
+        | Operand::Literal(_) => Err(unexpected(tokens)),
     }
 }
 
@@ -232,8 +111,7 @@ fn atom(
     ensures shorter { IfOk result (λ x. length x.1.now ≤ length tokens.now) }
 {
     if let Some((op, rest)) = operator(tokens) {
-        let (right, rest) = operand(alloc, rest)?;
-        let left = first;
+        let (left, (right, rest)) = keep(first, operand(alloc, rest))?;
         return Ok((Predicate::Compare { left, op, right }, rest));
     }
     if let Some(rest) = after_word(tokens, Word::Not) {
@@ -262,7 +140,7 @@ pub fn tested(
         return Ok((predicate, tokens));
     };
     let (not, rest) = mark(rest);
-    let (truth, rest) = truth_value(rest)?;
+    let (predicate, (truth, rest)) = keep(predicate, truth_value(rest))?;
     let part = Box::new(alloc, predicate)?;
     Ok((Predicate::Is { part, not, truth }, rest))
 }
@@ -284,7 +162,7 @@ fn null_or_truth_test(
         return tested(alloc, Predicate::IsNull { operand, not }, rest);
     }
     let column = column(first, rest)?;
-    let (truth, rest) = truth_value(rest)?;
+    let (column, (truth, rest)) = keep(column, truth_value(rest))?;
     let part = Box::new(alloc, column)?;
     Ok((Predicate::Is { part, not, truth }, rest))
 }

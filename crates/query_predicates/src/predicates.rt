@@ -3,15 +3,14 @@
 ghost use Rattle.std.specs.Prelude.{◌≡◌, ◌<◌, ◌≤◌, length, map, IfOk, MatchResult};
 ghost use Rattle.query_tokens.specs.declared.token.Word.TheVariants.{And, Or};
 ghost use Rattle.query_tree.specs.Syntax.{predicate_form};
-ghost use Rattle.query_predicates.specs.declared.fault.GrammarFault.TheVariants.{OutOfMemory};
-ghost use Rattle.query_predicates.specs.Fronts.{is_word};
+ghost use Rattle.query_leaves.specs.declared.fault.GrammarFault.TheVariants.{OutOfMemory};
+ghost use Rattle.query_leaves.specs.Fronts.{is_word};
 ghost use Rattle.query_predicates.specs.Predicates.{conjunction_of, disjunction_of};
-ghost use Rattle.query_predicates.specs.Steps.{Gives, more};
+ghost use Rattle.query_leaves.specs.Steps.{Gives, more};
 ghost use Rattle.query_predicates.specs.PredicateSteps.{test_at, negation_at, conjunction_at, predicate_at};
 
 use crate::atoms::{tested, tested_atom};
-use crate::fault::GrammarFault;
-use crate::fronts::{after_sign, after_word, expect_sign};
+use query_leaves::{GrammarFault, after_sign, after_word, expect_sign, keep};
 use query_tokens::{Sign, Token, Word};
 use query_tree::Predicate;
 use std::alloc::Global;
@@ -54,7 +53,7 @@ fn test(alloc: Global, tokens: &[Token], levels: u32) -> Result<(Predicate, &[To
         return tested_atom(alloc, tokens);
     };
     let (inner, rest) = predicate(alloc, rest, levels)?;
-    let rest = expect_sign(rest, Sign::Close)?;
+    let (inner, rest) = keep(inner, expect_sign(rest, Sign::Close))?;
     tested(alloc, inner, rest)
 }
 
@@ -108,7 +107,7 @@ fn conjunction(
     ensures shorter { IfOk result (λ x. length x.1.now < length tokens.now) }
 {
     let (first, rest) = negation(alloc, tokens, levels)?;
-    let (others, rest) = more_negations(alloc, rest, levels)?;
+    let (first, (others, rest)) = keep(first, more_negations(alloc, rest, levels))?;
     Ok((and_of(first, others)?, rest))
 }
 
@@ -147,6 +146,6 @@ pub fn predicate(
         return Err(GrammarFault::OverLimit);
     }
     let (first, rest) = conjunction(alloc, tokens, levels - 1)?;
-    let (others, rest) = more_conjunctions(alloc, rest, levels - 1)?;
+    let (first, (others, rest)) = keep(first, more_conjunctions(alloc, rest, levels - 1))?;
     Ok((or_of(first, others)?, rest))
 }

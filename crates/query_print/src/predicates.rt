@@ -20,7 +20,11 @@ fn tightness(predicate: &Predicate) -> u32
         Predicate::And(_) => 1,
         Predicate::Not(_) => 2,
         Predicate::Is { .. } => 3,
-        _ => 4,
+        Predicate::Compare { .. }
+        | Predicate::Between { .. }
+        | Predicate::In { .. }
+        | Predicate::IsNull { .. }
+        | Predicate::Column(_) => 4,
     }
 }
 

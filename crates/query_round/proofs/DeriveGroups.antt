@@ -4,7 +4,7 @@ use Rattle.query_tokens.specs.declared.token.Token.{Token}
 use Rattle.query_tokens.specs.declared.token.Token.TheVariants as tokens
 use Rattle.query_tokens.specs.declared.token.Sign.TheVariants as s
 use Rattle.query_tree.specs.Syntax.{GroupForm, GroupForms, set, rollup, cube, sets, no_groups, group, group_forms}
-use Rattle.query_predicates.specs.Predicates.{Derivation, IsRepeated, IsName}
+use Rattle.query_leaves.specs.Leaves.{Derivation, IsRepeated, IsName}
 use Rattle.query_grammar.specs.Grammar.{IsUnit, IsSet, IsElement, IsGroup}
 use Rattle.query_round.proofs.Good.{Inhabited, GoodName, GoodUnit, GoodSet, GoodGroup, GoodGroups}
 use Rattle.query_round.proofs.Onto.{others_onto, name_onto, unit_onto, group_onto, group_ontos}

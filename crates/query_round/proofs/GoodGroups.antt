@@ -3,7 +3,7 @@ use Rattle.std.proofs.Common.{ℕ, zero, suc, List, [], ◌∷◌}
 use Rattle.query_tokens.specs.declared.token.Token.TheVariants as tokens
 use Rattle.query_tokens.specs.declared.token.Sign.TheVariants as s
 use Rattle.query_tree.specs.Syntax.{GroupForm, group_forms}
-use Rattle.query_predicates.specs.Predicates.{Derivation, IsName}
+use Rattle.query_leaves.specs.Leaves.{Derivation, IsName}
 use Rattle.query_grammar.specs.Grammar.{IsUnit, IsSet, IsElement, IsGroup}
 use Rattle.query_round.proofs.Good.{Each, GoodName, Deeper, GoodUnit, GoodSet, GoodGroup, GoodGroups}
 use Rattle.query_round.proofs.GoodPredicates.{Leaves, repeated_leaves, name_leaves}

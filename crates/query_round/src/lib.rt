@@ -6,9 +6,6 @@ ghost use Rattle.query_print.specs.Canonical.{canonical_text};
 ghost use Rattle.query_round.specs.Texts.{IsTextOf};
 ghost use Rattle.query_tree.specs.Syntax.{TreeForm};
 
-#[cfg(test)]
-mod tests;
-
 /// A law, with no work to do: the canonical text of a query that has any text is a text of that query.
 pub fn reads_again()
     ensures { (q : TreeForm) → ∥ ((text : List ℕ) × IsTextOf text q) ∥₁ → IsTextOf (canonical_text q) q }

@@ -7,3 +7,4 @@ pub mod Fronts
 pub mod Sound
 pub mod Complete
 pub mod Progress
+pub mod Unique

@@ -55,7 +55,7 @@ unspaced [] e = refl
 unspaced (b ∷ bs) e = none_tried (eqb b 32) (eqb b 9) (eqb b 10) (eqb b 13) bs e
 
 -- White space is passed.
-space_passed : (b : ℕ) (bs : List ℕ) → is_space b ≡ true → after_space (b ∷ bs) ≡ Some bs
+pub space_passed : (b : ℕ) (bs : List ℕ) → is_space b ≡ true → after_space (b ∷ bs) ≡ Some bs
 space_passed b bs h = some_tried (eqb b 32) (eqb b 9) (eqb b 10) (eqb b 13) bs h
 
 which : (a b c d : Bool) → (a || b || c || d) ≡ true → (a ≡ true) ⊎ ((b ≡ true) ⊎ ((c ≡ true) ⊎ (d ≡ true)))
@@ -87,7 +87,7 @@ pub record IsFirst (n : ℕ) (rest : List ℕ) (m : ℕ) (k : Token) (ks : List 
   pub starts_are : starts ≡ n ∷ places
   pub spelled : SpellsFrom m rest others places
 
-after_no_token : {front rest : List ℕ} {k : Token} → IsToken front k rest → (left : List ℕ) → after_space (front ++ rest) ≡ Some left → ⊥
+pub after_no_token : {front rest : List ℕ} {k : Token} → IsToken front k rest → (left : List ℕ) → after_space (front ++ rest) ≡ Some left → ⊥
 after_no_token {front} {rest} {k} t left e =
     let sp = spaced (front ++ rest) left e in
     let none = space_no_token sp.first left sp.is in

@@ -2,17 +2,17 @@
 #![tactic(auto)]
 
 mod fault;
+mod laws;
 mod names;
 mod numbers;
 mod quotes;
 mod reading;
 mod signs;
-#[cfg(test)]
-mod tests;
 mod token;
 mod words;
 
 pub use fault::TokenFault;
+pub use laws::spells_one;
 pub use names::{is_plain_name, push_name, push_quoted};
 pub use reading::{Tokens, read_tokens};
 pub use token::{Sign, Token, Word};

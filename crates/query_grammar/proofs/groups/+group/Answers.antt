@@ -3,8 +3,8 @@ use Rattle.std.proofs.lemmas.Result.{err_from_is_err_and}
 use Rattle.std.proofs.lemmas.List.{map_push}
 use Rattle.query_tokens.specs.declared.token.Sign.TheVariants.{Comma}
 use Rattle.query_tree.specs.Syntax.{group_form}
-use Rattle.query_predicates.specs.Fronts.{is_sign}
-use Rattle.query_predicates.proofs.More.{unread_goes, unread_ends, unread_fails}
+use Rattle.query_leaves.specs.Fronts.{is_sign}
+use Rattle.query_leaves.proofs.More.{unread_goes, unread_ends, unread_fails}
 use Rattle.query_grammar.specs.GroupSteps.{group_at}
 use Rattle.query_grammar.proofs.groups.+group.Goals as goal
 

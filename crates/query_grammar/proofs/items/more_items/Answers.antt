@@ -3,9 +3,9 @@ use Rattle.std.proofs.lemmas.Result.{err_from_is_err_and}
 use Rattle.std.proofs.lemmas.List.{map_push}
 use Rattle.query_tokens.specs.declared.token.Sign.TheVariants.{Comma}
 use Rattle.query_tree.specs.Syntax.{item_form}
-use Rattle.query_predicates.specs.Fronts.{is_sign}
+use Rattle.query_leaves.specs.Fronts.{is_sign}
 use Rattle.query_grammar.specs.QuerySteps.{item_at}
-use Rattle.query_predicates.proofs.More.{loop_over, loop_ends, loop_fails, front_goes, refused}
+use Rattle.query_leaves.proofs.More.{loop_over, loop_ends, loop_fails, front_goes, refused}
 use Rattle.query_grammar.proofs.items.more_items.Goals as goal
 
 pub returns-in_err-next-clause-exact : goal.returns-in_err-next-clause-exact

@@ -1,8 +1,8 @@
 use Rattle.std.proofs.Common.{◌≡◌, ◌-◌, ◌≤◌, length, map, ◌∷◌, [], vec_len}
 use Rattle.query_tokens.specs.declared.token.Sign.TheVariants.{Comma}
 use Rattle.query_tree.specs.Syntax.{item_form}
-use Rattle.query_predicates.specs.Fronts.{is_sign}
-use Rattle.query_predicates.specs.Steps.{with_front, more}
+use Rattle.query_leaves.specs.Fronts.{is_sign}
+use Rattle.query_leaves.specs.Steps.{with_front, more}
 use Rattle.query_grammar.specs.QuerySteps.{item_at}
 use Rattle.query_grammar.proofs.items.more_items.Given as goal
 

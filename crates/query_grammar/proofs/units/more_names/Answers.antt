@@ -1,9 +1,9 @@
 use Rattle.std.proofs.Common.{◌≤◌, length, arith}
 use Rattle.std.proofs.lemmas.Result.{err_from_is_err_and}
 use Rattle.query_tokens.specs.declared.token.Sign.TheVariants.{Comma}
-use Rattle.query_predicates.specs.Fronts.{is_sign}
-use Rattle.query_predicates.specs.Steps.{name_at}
-use Rattle.query_predicates.proofs.More.{unread_goes, unread_ends, unread_fails}
+use Rattle.query_leaves.specs.Fronts.{is_sign}
+use Rattle.query_leaves.specs.Steps.{name_at}
+use Rattle.query_leaves.proofs.More.{unread_goes, unread_ends, unread_fails}
 use Rattle.query_grammar.proofs.units.more_names.Goals as goal
 
 pub returns-in_err-next-clause-exact : goal.returns-in_err-next-clause-exact

@@ -1,8 +1,8 @@
 use Rattle.std.proofs.Common.{◌≤◌, length, ◌∷◌, []}
 use Rattle.query_tokens.specs.declared.token.Sign.TheVariants.{Comma}
-use Rattle.query_predicates.specs.Fronts.{is_sign}
-use Rattle.query_predicates.specs.Steps.{with_front, more, name_at}
-use Rattle.query_predicates.proofs.More.{Unread}
+use Rattle.query_leaves.specs.Fronts.{is_sign}
+use Rattle.query_leaves.specs.Steps.{with_front, more, name_at}
+use Rattle.query_leaves.proofs.More.{Unread}
 use Rattle.query_grammar.proofs.units.more_names.Given as goal
 
 abbrev pub invariant-loop-behind : goal.invariant-loop-behind

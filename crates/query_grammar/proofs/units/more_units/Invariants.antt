@@ -1,9 +1,9 @@
 use Rattle.std.proofs.Common.{◌≤◌, length, ◌∷◌, []}
 use Rattle.query_tokens.specs.declared.token.Sign.TheVariants.{Comma}
 use Rattle.query_tree.specs.Syntax.{units_form}
-use Rattle.query_predicates.specs.Fronts.{is_sign}
-use Rattle.query_predicates.specs.Steps.{with_front, more}
-use Rattle.query_predicates.proofs.More.{Unread}
+use Rattle.query_leaves.specs.Fronts.{is_sign}
+use Rattle.query_leaves.specs.Steps.{with_front, more}
+use Rattle.query_leaves.proofs.More.{Unread}
 use Rattle.query_grammar.specs.GroupSteps.{unit_at}
 use Rattle.query_grammar.proofs.units.more_units.Given as goal
 

@@ -3,9 +3,9 @@ use Rattle.std.proofs.lemmas.Result.{err_from_is_err_and}
 use Rattle.std.proofs.lemmas.List.{map_push}
 use Rattle.query_tokens.specs.declared.token.Word.TheVariants.{And, Or}
 use Rattle.query_tree.specs.Syntax.{predicate_form}
-use Rattle.query_predicates.specs.Fronts.{is_word}
+use Rattle.query_leaves.specs.Fronts.{is_word}
 use Rattle.query_predicates.specs.PredicateSteps.{negation_at, conjunction_at, predicate_at}
-use Rattle.query_predicates.proofs.More.{unread_goes, unread_ends, unread_fails}
+use Rattle.query_leaves.proofs.More.{unread_goes, unread_ends, unread_fails}
 use Rattle.query_predicates.proofs.predicates.+predicate.Goals as goal
 
 pub more_negations-returns-in_err-part-clause-exact : goal.more_negations-returns-in_err-part-clause-exact

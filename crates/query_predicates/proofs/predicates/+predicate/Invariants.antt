@@ -1,10 +1,10 @@
 use Rattle.std.proofs.Common.{◌+◌, ◌*◌, ◌≤◌, length, map}
 use Rattle.query_tokens.specs.declared.token.Word.TheVariants.{And, Or}
 use Rattle.query_tree.specs.Syntax.{predicate_form}
-use Rattle.query_predicates.specs.Fronts.{is_word}
-use Rattle.query_predicates.specs.Steps.{more}
+use Rattle.query_leaves.specs.Fronts.{is_word}
+use Rattle.query_leaves.specs.Steps.{more}
 use Rattle.query_predicates.specs.PredicateSteps.{negation_at, conjunction_at, predicate_at}
-use Rattle.query_predicates.proofs.More.{Unread}
+use Rattle.query_leaves.proofs.More.{Unread}
 use Rattle.query_predicates.proofs.predicates.+predicate.Given as goal
 
 abbrev pub decreases-test : goal.decreases-test

@@ -1,0 +1,14 @@
+-- No text derives two queries.
+use Rattle.std.proofs.Common.{◌≡◌, ℕ, List, subst, sym}
+use Rattle.query_tokens.specs.declared.token.Token.{Token}
+use Rattle.query_tokens.specs.Spelling.{Spells}
+use Rattle.query_tree.specs.Syntax.{TreeForm}
+use Rattle.query_grammar.specs.Grammar.{Derives as TokensDerive}
+use Rattle.query.specs.Derivation.{Derives}
+
+pub one : ((text : List ℕ) (ks others : List Token) (starts places : List ℕ) → Spells text ks starts → Spells text others places → (ks ≡ others) × (starts ≡ places))
+    → ((ts : List Token) (p q : TreeForm) → TokensDerive ts p → TokensDerive ts q → p ≡ q)
+    → (text : List ℕ) (p q : TreeForm) → Derives text p → Derives text q → p ≡ q
+one spells derives text p q d e =
+    let same = (spells text e.tokens d.tokens e.starts d.starts e.spelled d.spelled).0 in
+    derives d.tokens p q d.derived (subst (λ (ts : List Token). TokensDerive ts q) same e.derived)

@@ -1,0 +1,31 @@
+use Rattle.std.proofs.Common.{◌≡◌, ◌-◌, suc, vec_len, arith}
+use Rattle.std.proofs.lemmas.Result.{err_from_is_err_and}
+use Rattle.query_tokens.specs.declared.token.Sign.TheVariants.{Comma}
+use Rattle.query_leaves.specs.Fronts.{is_sign}
+use Rattle.query_leaves.specs.Steps.{name_at}
+use Rattle.query_leaves.proofs.More.{loop_over, loop_ends, loop_fails, front_goes, refused}
+use Rattle.query_leaves.proofs.arguments.more_arguments.Goals as goal
+
+pub returns-in_err-next-clause-exact : goal.returns-in_err-next-clause-exact
+returns-in_err-next-clause-exact c =
+    let p = err_from_is_err_and c.from_residual-in_err-next.result c.from_residual-in_err-next.ensures.1 in
+    rw (p.1, p.2) (loop_fails c.in_err-next.field-0.0 (is_sign Comma) name_at _ c.loop-behind.all.items c.loop-behind.rest.now c.in-Some.behind.now _ c.in-Some.ensures.exact c.in_err-next.ensures.exact c.loop-behind.invariant.told)
+
+pub loop-behind-preserved : goal.loop-behind-preserved
+loop-behind-preserved c =
+    let k : 8 - vec_len c.loop-behind.all ≡ suc (8 - vec_len c.push-in-Some.new.self) = omega (arith, c.in_ok-push-2.ensures.len, c.if-len-eq-MOST_ARGUMENTS.false, c.len.ensures, c.loop-behind.invariant.few) in
+    let h = rw k at c.loop-behind.invariant.told in
+    record {
+      some = omega (arith, c.in_ok-push-2.ensures.len);
+      shorter = omega (arith, c.in-Some.ensures.shorter, c.in_ok-next.ensures.shorter, c.loop-behind.invariant.shorter);
+      few = omega (arith, c.in_ok-push-2.ensures.len, c.if-len-eq-MOST_ARGUMENTS.false, c.len.ensures, c.loop-behind.invariant.few);
+      told = rw (c.in_ok-push-2.ensures.items, c.in_ok-try_clone.ensures) (front_goes (is_sign Comma) name_at _ c.loop-behind.all.items c.loop-behind.rest.now c.in-Some.behind.now c.in_ok-next.left.now c.in_ok-next.next.now _ c.in-Some.ensures.exact c.in_ok-next.ensures.exact h);
+    }
+
+pub returns-clause-exact : goal.returns-clause-exact
+returns-clause-exact c = loop_ends (is_sign Comma) name_at _ c.loop-behind.all.items c.loop-behind.rest.now _ c.in_default.ensures.exact c.loop-behind.invariant.told
+
+pub returns-then-len-eq-MOST_ARGUMENTS-clause-exact : goal.returns-then-len-eq-MOST_ARGUMENTS-clause-exact
+returns-then-len-eq-MOST_ARGUMENTS-clause-exact c =
+    let k : 8 - vec_len c.loop-behind.all ≡ 0 = omega (arith, c.if-len-eq-MOST_ARGUMENTS.true, c.len.ensures) in
+    refused c.excess_argument.result _ c.excess_argument.ensures (loop_over (is_sign Comma) name_at c.loop-behind.all.items c.loop-behind.rest.now c.in-Some.behind.now _ c.in-Some.ensures.exact (rw k at c.loop-behind.invariant.told))

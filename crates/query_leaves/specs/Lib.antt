@@ -1,0 +1,4 @@
+pub mod Fronts
+pub mod Leaves
+pub mod Steps
+pub mod LeafSteps

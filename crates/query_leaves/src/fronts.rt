@@ -1,0 +1,85 @@
+//! The token in front.
+
+ghost use Rattle.std.specs.Prelude.{◌≡◌, ◌<◌, length, IfOk, IfSome};
+ghost use Rattle.query_tokens.specs.Options.{Tells};
+ghost use Rattle.query_leaves.specs.declared.fault.GrammarFault.TheVariants.{Unexpected};
+ghost use Rattle.query_leaves.specs.Fronts.{is_word, is_sign, after};
+ghost use Rattle.query_leaves.specs.Steps.{Gives, name_at};
+
+use crate::fault::GrammarFault;
+use query_tokens::{Sign, Token, Word};
+use query_tree::Text;
+
+/// What stands behind a reserved word in front.
+pub fn after_word(tokens: &[Token], word: Word) -> Option<&[Token]>
+    ensures exact { Tells (λ x. x.now) result (after (is_word word) tokens.now) }
+    ensures shorter { IfSome result (λ x. length x.now < length tokens.now) }
+{
+    match tokens {
+        [Token::Word(found), rest @ ..] if *found as u8 == word as u8 => Some(rest),
+        _ => None,
+    }
+}
+
+/// What stands behind a sign in front.
+pub fn after_sign(tokens: &[Token], sign: Sign) -> Option<&[Token]>
+    ensures exact { Tells (λ x. x.now) result (after (is_sign sign) tokens.now) }
+    ensures shorter { IfSome result (λ x. length x.now < length tokens.now) }
+{
+    match tokens {
+        [Token::Sign(found), rest @ ..] if *found as u8 == sign as u8 => Some(rest),
+        _ => None,
+    }
+}
+
+/// A name in front, and what stands behind it.
+#[tactic(auto, unfolding(crate::specs::Steps::name_at))]
+pub fn name(tokens: &[Token]) -> Option<(&Text, &[Token])>
+    ensures exact { Tells (λ x. (x.0.now, x.1.now)) result (name_at tokens.now) }
+    ensures shorter { IfSome result (λ x. length x.1.now < length tokens.now) }
+{
+    match tokens {
+        [Token::Name(name), rest @ ..] => Some((name, rest)),
+        _ => None,
+    }
+}
+
+/// The fault of the first of these tokens.
+pub fn unexpected(tokens: &[Token]) -> GrammarFault
+    ensures { result ≡ Unexpected (length tokens.now) }
+{
+    GrammarFault::Unexpected(tokens.len())
+}
+
+/// What stands behind a reserved word that has to stand in front.
+pub fn expect_word(tokens: &[Token], word: Word) -> Result<&[Token], GrammarFault>
+    ensures exact { Gives (λ x. x.now) result (after (is_word word) tokens.now) }
+    ensures shorter { IfOk result (λ x. length x.now < length tokens.now) }
+{
+    match after_word(tokens, word) {
+        None => Err(unexpected(tokens)),
+        Some(rest) => Ok(rest),
+    }
+}
+
+/// What stands behind a sign that has to stand in front.
+pub fn expect_sign(tokens: &[Token], sign: Sign) -> Result<&[Token], GrammarFault>
+    ensures exact { Gives (λ x. x.now) result (after (is_sign sign) tokens.now) }
+    ensures shorter { IfOk result (λ x. length x.now < length tokens.now) }
+{
+    match after_sign(tokens, sign) {
+        None => Err(unexpected(tokens)),
+        Some(rest) => Ok(rest),
+    }
+}
+
+/// A name that has to stand in front, and what stands behind it.
+pub fn expect_name(tokens: &[Token]) -> Result<(&Text, &[Token]), GrammarFault>
+    ensures exact { Gives (λ x. (x.0.now, x.1.now)) result (name_at tokens.now) }
+    ensures shorter { IfOk result (λ x. length x.1.now < length tokens.now) }
+{
+    match name(tokens) {
+        None => Err(unexpected(tokens)),
+        Some(found) => Ok(found),
+    }
+}

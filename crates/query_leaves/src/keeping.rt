@@ -1,0 +1,18 @@
+//! What was read, kept beside what is read next.
+
+ghost use Rattle.std.specs.Prelude.{◌≡◌, Err, MatchResult, Ok};
+
+use crate::fault::GrammarFault;
+
+/// Keeps what was read beside what was found behind it; where nothing was found, what was read is dropped.
+pub fn keep<T: Drop, X>(read: T, found: Result<X, GrammarFault>) -> Result<(T, X), GrammarFault>
+    ensures { MatchResult result (λ both. (both.0 ≡ read) × (found ≡ Ok both.1)) (λ fault. found ≡ Err fault) }
+{
+    match found {
+        Ok(found) => Ok((read, found)),
+        Err(fault) => {
+            drop(read);
+            Err(fault)
+        }
+    }
+}

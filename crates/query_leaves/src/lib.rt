@@ -1,0 +1,22 @@
+//! The leaves of the grammar, which hold no expression and no predicate: names, the names of GROUPING, set functions
+//! apart from their FILTER, literals, operators and truth values. Which of them the tokens in front of others derive, and
+//! readers of them.
+//!
+//! The grammar of expressions, predicates and queries stands on this crate, and takes its readers of single tokens too.
+#![tactic(auto)]
+
+mod arguments;
+mod fault;
+mod fronts;
+mod functions;
+mod keeping;
+mod literals;
+mod operators;
+
+pub use arguments::grouping_names;
+pub use fault::GrammarFault;
+pub use fronts::{after_sign, after_word, expect_name, expect_sign, expect_word, name, unexpected};
+pub use functions::aggregate;
+pub use keeping::keep;
+pub use literals::{in_list, literal};
+pub use operators::{mark, operator, truth_value};
