@@ -235,6 +235,19 @@ impl Own {
         worker.len_as::<Whole>();
         drop(worker.another::<Seal>());
     }
+
+    /// The owner looks at what all other hands have of the deque, whether or not numbers are left there: with its own list, they hold no number more often than it was dealt.
+    fn apart(&mut self, before: &mut [Hand], after: &mut [Hand])
+        requires few { length before.old + length after.old < 64 }
+        requires count { self.old.made ≡ length before.old + length after.old + 1 }
+        requires after { AllReach self.old.seen.deque self.old.seen.numbers (length before.old + length after.old) after.old }
+        requires before { AllReach self.old.seen.deque self.old.seen.numbers (length before.old) before.old }
+        ensures same { (self.new ≡ self.old) × (before.new ≡ before.old) × (after.new ≡ after.old) }
+        ensures apart { (x : ℕ) → times x self.old.seen.list + (held x (told (length before.old + length after.old) after.old) + held x (told (length before.old) before.old)) ≤ times x self.old.seen.numbers }
+    {
+        let place = before.len() + after.len();
+        compare(&mut self.worker, after, before, place);
+    }
 }
 
 impl Hand {
@@ -264,6 +277,18 @@ impl Hand {
     {
         self.own.account(before, after);
     }
+
+    /// The other hands of the deal show what they have of this hand's deque, in which numbers may be left.
+    fn apart(&mut self, before: &mut [Hand], after: &mut [Hand])
+        requires few { length before.old + length after.old < 64 }
+        requires count { self.old.own.made ≡ length before.old + length after.old + 1 }
+        requires after { AllReach self.old.own.seen.deque self.old.own.seen.numbers (length before.old + length after.old) after.old }
+        requires before { AllReach self.old.own.seen.deque self.old.own.seen.numbers (length before.old) before.old }
+        ensures same { (self.new ≡ self.old) × (before.new ≡ before.old) × (after.new ≡ after.old) }
+        ensures apart { (x : ℕ) → times x self.old.own.seen.list + (held x (told (length before.old + length after.old) after.old) + held x (told (length before.old) before.old)) ≤ times x self.old.own.seen.numbers }
+    {
+        self.own.apart(before, after);
+    }
 }
 
 /// The pieces of the deque of the hand d are in the lists, each as often as it was dealt.
@@ -279,6 +304,31 @@ fn account_of(hands: &mut [Hand], d: usize)
         unreachable!();
     };
     mine.account(before, after);
+}
+
+/// No piece of the deque of the hand d is in the lists more than once.
+fn apart_of(hands: &mut [Hand], d: usize)
+    requires deal { AreAll hands.old }
+    requires low { d < length hands.old }
+    ensures same { hands.new ≡ hands.old }
+    ensures apart { (x : ℕ) → x % length hands.old ≡ d → times x (joined hands.old) ≤ once_below x (pieces_of hands.old) }
+{
+    let (before, rest) = hands.split_at_mut(d);
+    let Some((mine, after)) = rest.split_first_mut() else {
+        unreachable!();
+    };
+    mine.apart(before, after);
+}
+
+/// The hands of a deal have no piece twice, and none that the deal does not have, whether or not they have answered Spent. It takes no memory.
+pub fn apart(hands: &mut [Hand])
+    requires deal { AreAll hands.old }
+    ensures same { hands.new ≡ hands.old }
+    ensures apart { (x : ℕ) → times x (joined hands.old) ≤ once_below x (pieces_of hands.old) }
+{
+    for d in 0..hands.len() {
+        apart_of(hands, d);
+    }
 }
 
 fn all_spent(hands: &[Hand]) -> bool
