@@ -235,7 +235,14 @@ fn hundred<L: Ledger + Send + Sync, R: Threads + Wait + Sync>(
     let hands = Deal::new(alloc, 100, 4)?.into_hands();
     let (book, shares) = Book::<L>::new(alloc, blank, 4)?;
     let (outcome, mut hands, shares) = fan_on(
-        rt, alloc, &Ones, hands, limit, &book, limit, shares,
+        rt,
+        alloc,
+        &Ones,
+        hands,
+        limit,
+        &book,
+        limit as u128,
+        shares,
     )?;
     Ok((outcome, settled(hands.as_mut_slice()), book.close(shares)))
 }

@@ -1,10 +1,10 @@
-use Rattle.std.proofs.Common.{◌≡◌, ◌∙◌, ℕ, ◌+◌, ◌≤◌, length, ap, subst, arith}
+use Rattle.std.proofs.Common.{◌∙◌, ℕ, ◌+◌, ◌≤◌, length, ap, subst}
 use Rattle.pool.specs.Dealing.{times}
 use Rattle.pool.specs.Rule.{held}
 use Rattle.crossbeam_deque.specs.Handles.{worker_view}
 use Rattle.pool.specs.Seen.{Owned}
 use Rattle.pool.specs.Settled.{told}
-use Rattle.pool.proofs.Looks.{knows_own, looked_owner, looked_same, owner_within}
+use Rattle.pool.proofs.Looks.{knows_own, looked_same, owner_within}
 use Rattle.pool.proofs.deal.Own.apart.Goals as goal
 
 pub compare-requires-clause-owner : goal.compare-requires-clause-owner
