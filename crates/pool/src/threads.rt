@@ -251,7 +251,15 @@ fn conclude<W: Work, L: Ledger>(
     Ok((Outcome::Whole(part), hands, shares))
 }
 
-/// All pieces of a deal, each hand on a thread of its own but the first, which works on the calling one. The hands and shares come back in their order.
+/// Does all pieces of a new deal: hand 0 on the calling thread, each other hand on a thread of its own. With one hand,
+/// or no piece, no thread is started.
+///
+/// Each worker reports its weights to its share of the book, and may stop once the book's number is above `stop`. Where
+/// what they did weighs more than `limit`, the answer is `Over`. Else the calling thread does what is left.
+/// The hands and shares come back in their order.
+///
+/// All threads have ended when it answers. The errors are want of memory, and that a thread could not be started, which
+/// comes first. Hands and shares are then given up.
 pub fn fan_on<W: Work + Sync, L: Ledger + Send + Sync, R: Threads + Wait + Sync>(
     rt: &R,
     alloc: Global,
@@ -341,7 +349,11 @@ fn with_book<L: Ledger + Send + Sync, W: Work + Sync, R: Threads + Wait + Sync>(
     Ok(outcome)
 }
 
-/// All pieces, on as many threads as there are hands, the calling one among them.
+/// Does the pieces below a number, at most 1,048,576, on 1 to 64 threads, the calling one among them. With one hand, or
+/// no piece, no thread is started. It answers the combination of all parts, or `Over` where they weigh more than `limit`.
+///
+/// All threads have ended when it answers. The errors are want of memory, and that a thread could not be started, which
+/// comes first.
 pub fn fan_out<W: Work + Sync, R: Threads + Wait + Sync>(
     rt: &R,
     alloc: Global,

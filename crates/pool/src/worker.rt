@@ -140,6 +140,7 @@ pub fn work_off<W: Work, L: Ledger, R: Wait>(
     go_on(rt, work, book, stop, Done { hand, share, part })
 }
 
+/// A worker on a thread of its own.
 pub type Running<'s, W, P, L> = PromisedHandle<Result<Done<P, L>, AllocError>, Promised<'s, W, L>>;
 
 /// Starts one worker on a thread of its own.
