@@ -1,11 +1,11 @@
 -- The owner takes in a seat, looks on, and gives the seat back.
-use Rattle.std.proofs.Common.{◌≡◌, ℕ, zero, suc, Bool, true, false, true≢false, ◌+◌, ◌-◌, ◌<◌, ◌≤◌, List, [], ◌∷◌, ◌++◌, length, sym, ap, ◌∙◌, subst, refl, ⊎_elim, arith}
+use Rattle.std.proofs.Common.{◌≡◌, ℕ, suc, Bool, true, false, ◌+◌, ◌-◌, ◌<◌, ◌≤◌, List, [], ◌∷◌, ◌++◌, sym, ap, ◌∙◌, subst, ⊎_elim, arith}
 use Rattle.std.proofs.lemmas.Bool.{cases_Bool}
 use Rattle.std.specs.declared.alloc.Global.{Global}
 use Rattle.pool.specs.declared.view.View.{View}
 use Rattle.pool.specs.Dealing.{times}
 use Rattle.pool.specs.Rule.{view_of, held, front, rest, Up, Apart, lent_view, giving_view, given_view}
-use Rattle.pool.specs.Seen.{Seen, seen_of, place_of, list_of, IsThief, Looked}
+use Rattle.pool.specs.Seen.{seen_of, owned_of, place_of, list_of, IsThief, IsOwner, Looked}
 use Rattle.pool.specs.Settled.{KnowsAbove}
 use Rattle.pool.proofs.Rules.{up_apart}
 
@@ -102,3 +102,25 @@ module _ {closed : Bool} (place n : ℕ) (v0 v1 v2 v3 v4 w r : View) (positive :
       let z = ap (held x) ka.2.2 in
       let m = ap (times x) (ap (λ (u : View). u.numbers) b2 ∙ ap (λ (u : View). u.numbers) b1) in
       omega (arith, k, z, m, h)
+
+-- an owner that knows its own list alone, and how many hands there are
+pub knows_own : {b : Bool} (place : ℕ) (v : View) → IsOwner v b → v.made ≡ place + 1 → KnowsAbove place v
+knows_own place v is made = (is.0, is.1, (list_of v.known, [], is.2, tt, omega (arith, made)))
+
+pub looked_owner : {b : Bool} (v w : View) → IsOwner v b → Looked v w → IsOwner w b
+looked_owner v w is looked =
+    let e = looked.0 in
+    let k = ap (λ (u : View). u.known) e in (
+      ap (λ (u : View). u.filling) e ∙ is.0,
+      ap (λ (u : View). u.owner) e ∙ is.1,
+      k ∙ is.2 ∙ ap (λ l. (0, list_of l) ∷ []) (sym k),
+      ap (λ (u : View). u.shown) e ∙ is.3,
+      (λ c. let a = is.4 c in let m = looked.1 in omega (arith, a, m)),
+      λ c. looked.2 (is.5 c),
+    )
+
+pub looked_same : (b : Bool) (deque new : (ℕ × ℕ) × Global) (v w : View) → new ≡ deque → Looked v w → owned_of new w b ≡ owned_of deque v b
+looked_same b deque new v w same looked = ap (λ u. owned_of new u b) looked.0 ∙ ap (λ d. owned_of d v b) same
+
+pub owner_within : {b : Bool} (v : View) (x a : ℕ) → IsOwner v b → held x v.known + a ≤ times x v.numbers → times x (list_of v.known) + a ≤ times x v.numbers
+owner_within v x a is h = let k = ap (held x) is.2 in omega (arith, k, h)

@@ -352,6 +352,7 @@ module _ (port : ℕ) (v : View) (hand : ℕ) (list : List ℕ) (is : v.known �
               let here : Ascends (lists' hand ++ xs) = subst (λ (s : State). Ascends (s.lists hand ++ s.deque)) (after-snoc schedule hand (begin numbers) ∙ ap (step hand) kept.reached) run in
               let list_up : Ascends (list ++ x ∷ []) = subst Ascends theirs'.1 (ascends_front (lists' hand) xs here) in
               subst AllAscend (sym now) (list_up, tt)),
+          (schedule, xs, lists, subst (λ n. after schedule (begin n) ≡ state (x ∷ xs) lists) (sym (mine.same (subst Seated (sym is) tt))) kept.reached, had seat lists made port v.known mine.theirs),
         ),
       )
 

@@ -1,5 +1,5 @@
 -- The pieces of a hand, each at most once.
-use Rattle.std.proofs.Common.{◌≡◌, ◌≢◌, ℕ, zero, suc, ◌+◌, ◌-◌, ◌*◌, ◌/◌, ◌%◌, ◌^◌, ◌<◌, ◌≤◌, Bool, true, false, true≢false, List, [], ◌∷◌, ◌++◌, length, set, sym, refl, ap, ◌∙◌, subst, ⊎_elim, append_assoc, arith, mul-le-mul_left, add-zero}
+use Rattle.std.proofs.Common.{◌≡◌, ◌≢◌, ℕ, zero, suc, ◌+◌, ◌-◌, ◌*◌, ◌/◌, ◌%◌, ◌^◌, ◌<◌, ◌≤◌, List, [], ◌∷◌, ◌++◌, length, set, sym, refl, ap, ◌∙◌, subst, ⊎_elim, append_assoc, arith, mul-le-mul_left, add-zero}
 use Rattle.std.proofs.Math.Nat.{div-add-mod, mod-eq_of_lt}
 use Rattle.std.proofs.lemmas.Bool.{cases_eq, cases_lt}
 use mathlib.Core.Option.{some, some-injective, some-ne-none}
@@ -7,15 +7,16 @@ use lib.ListN.{get_elem?}
 use Rattle.pool.specs.Dealing.{dealt, times}
 use Rattle.pool.specs.Totals.{gathered, sum_below, sum_list, once_below}
 use Rattle.pool.specs.Lawful.{Lawful}
-use Rattle.pool.specs.Seen.{Seen, Took, IsWithin}
+use Rattle.pool.specs.Seen.{Seen}
 use Rattle.pool.specs.Holding.{Holding, IsHolding, IsRound, Gained, lists_of, numbers_of}
-use Rattle.pool.specs.Done.{Grown, Turns, Follows}
+use Rattle.std.specs.Prelude.{Option, Some, None}
+use Rattle.pool.specs.Done.{Grown, Turned, Follows}
 use Rattle.pool.specs.Answered.{Answers}
 use Rattle.pool.specs.declared.deal.Next.{Next}
 use Rattle.pool.proofs.Nexts.{belongs_next}
 use Rattle.pool.proofs.Rules.{times-append}
 use Rattle.pool.proofs.Deals.{dealt_times}
-use Rattle.pool.proofs.Gather.{one_if, times-middle, sum_list-middle, sum_list-within, gathered-middle, gathered_load, gathered_fits, gathered_weight}
+use Rattle.pool.proofs.Gather.{sum_list-middle, sum_list-within, gathered-middle, gathered_load}
 
 -- no two of k numbers in a row are congruent modulo k
 mod_apart : (a d k : ℕ) → 0 < d → d < k → (a + d) % k ≢ a % k
@@ -96,18 +97,15 @@ module _ {M : Type 0} {fits : M → Type 0} {unit : M} {combined : M → M → M
       let c = weights_at_most_loads laws old in
       omega arith
 
-  -- what one turn keeps: the part is the combination of the pieces in the hand's list, and the share has grown by their weights
-  pub turns_keep : (before : ℕ) (h : Holding) (m : M) (s : ℕ) (more : Bool) (k : Holding) (n : M) (t : ℕ) → Turns combined piece weight h m s more k n t → m ≡ gathered unit combined piece (numbers_of h) → s ≡ before + sum_list (λ i. weight (piece i)) (numbers_of h)
-      → (n ≡ gathered unit combined piece (numbers_of k)) × (t ≡ before + sum_list (λ i. weight (piece i)) (numbers_of k))
-  turns_keep before h m s more k n t turns a b =
-      ⊎_elim (λ o. (o.3 ∙ a ∙ ap (gathered unit combined piece) (sym o.2), (let c = ap (sum_list (λ i. weight (piece i))) o.2 in omega (arith, o.4))))
-      (λ o. let g = o.1 in
-      (g.2 ∙ ap (λ l. combined l (piece g.0)) a ∙ sym (grown_gathered laws (numbers_of h) (numbers_of k) g.0 g.1), (let c = grown_sum (λ i. weight (piece i)) (numbers_of h) (numbers_of k) g.0 g.1 in omega (arith, g.3))))
-      turns.2
-
-  -- the last turn
-  pub turns_end : (h : Holding) (m : M) (s : ℕ) (more : Bool) (k : Holding) (n : M) (t : ℕ) → Turns combined piece weight h m s more k n t → more ≡ false → k.spent ≡ true
-  turns_end h m s more k n t turns e = ⊎_elim (λ o. o.1) (λ o. absurd (true≢false (sym o.0 ∙ e))) turns.2
+  -- what one turn keeps: the part is the combination of the pieces in the hand's list, and the share has grown by the weights of those that joined it
+  pub turned_keep : (a b : ℕ) (h : Holding) (m : M) (s : ℕ) (answer : Option ℕ) (k : Holding) (n : M) (t : ℕ) → Turned combined piece weight h m s answer k n t → m ≡ gathered unit combined piece (numbers_of h) → s + a ≡ b + sum_list (λ i. weight (piece i)) (numbers_of h)
+      → (n ≡ gathered unit combined piece (numbers_of k)) × (t + a ≡ b + sum_list (λ i. weight (piece i)) (numbers_of k))
+  turned_keep a b h m s None k n t turned e f =
+      (turned.2 ∙ e ∙ ap (gathered unit combined piece) (sym turned.1), (let c = ap (sum_list (λ i. weight (piece i))) turned.1 in let d = turned.3 in omega (arith, c, d, f)))
+  turned_keep a b h m s (Some number) k n t turned e f =
+      let x = turned.0 in
+      let g = turned.1 in
+      (turned.2 ∙ ap (λ l. combined l (piece x)) e ∙ sym (grown_gathered laws (numbers_of h) (numbers_of k) x g), (let c = grown_sum (λ i. weight (piece i)) (numbers_of h) (numbers_of k) x g in let d = turned.3 in omega (arith, c, d, f)))
 
 pub follows_next : (h k : Holding) (answer : Next) → Answers h k answer → IsHolding k → Follows h k
 follows_next h k answer a i names pieces hands number b = belongs_next names pieces hands number h k answer a i b

@@ -1,5 +1,5 @@
 -- What a worker does.
-use Rattle.std.specs.Prelude.{◌≡◌, ℕ, Bool, true, false, ◌+◌, ◌⊎◌, List, ◌∷◌, ◌++◌}
+use Rattle.std.specs.Prelude.{◌≡◌, ℕ, true, ◌+◌, List, ◌∷◌, ◌++◌, Option, Some, None}
 use Rattle.std.specs.declared.alloc.Global.{Global}
 use Rattle.pool.specs.Totals.{gathered, sum_list}
 use Rattle.pool.specs.Holding.{Holding, numbers_of}
@@ -13,14 +13,16 @@ Follows h k = (names : ℕ → (ℕ × ℕ) × Global) (pieces hands number : �
 abbrev pub Grown : List ℕ → ℕ → List ℕ → Type 0
 Grown old x new = (ys : List ℕ) × (zs : List ℕ) × (old ≡ ys ++ zs) × (new ≡ ys ++ x ∷ zs)
 
--- the hand was spent and there is no more to do; or one piece more is in the hand's list, the part and the share's sum
-abbrev pub Turns : {M : Type 0} → (M → M → M) → (ℕ → M) → (M → ℕ) → Holding → M → ℕ → Bool → Holding → M → ℕ → Type 0
-Turns combined piece weight h m s more k n t =
-    (k.pieces ≡ h.pieces) × Follows h k
-    × (((more ≡ false) × (k.spent ≡ true) × (numbers_of k ≡ numbers_of h) × (n ≡ m) × (t ≡ s))
-    ⊎ ((more ≡ true) × ((x : ℕ) × Grown (numbers_of h) x (numbers_of k) × (n ≡ combined m (piece x)) × (t ≡ s + weight (piece x)))))
+-- the hand was spent, and nothing else changed; or one piece more is in the hand's list, the part and the share's sum, and the book answered a number
+abbrev pub Turned : {M : Type 0} → (M → M → M) → (ℕ → M) → (M → ℕ) → Holding → M → ℕ → Option ℕ → Holding → M → ℕ → Type 0
+Turned combined piece weight h m s None k n t = (k.spent ≡ true) × (numbers_of k ≡ numbers_of h) × (n ≡ m) × (t ≡ s)
+Turned combined piece weight h m s (Some number) k n t = (x : ℕ) × Grown (numbers_of h) x (numbers_of k) × (n ≡ combined m (piece x)) × (t ≡ s + weight (piece x))
 
--- a hand went on to Spent: the part is the combination of the pieces in its list, and the share has grown by their weights
+-- one turn of a worker: its hand keeps its seat
+abbrev pub Turns : {M : Type 0} → (M → M → M) → (ℕ → M) → (M → ℕ) → Holding → M → ℕ → Option ℕ → Holding → M → ℕ → Type 0
+Turns combined piece weight h m s answer k n t = (k.pieces ≡ h.pieces) × Follows h k × Turned combined piece weight h m s answer k n t
+
+-- a worker went on: its hand keeps its seat, the part is the combination of the pieces in the hand's list, and the share has grown by the weights of those that joined the list
 abbrev pub Did : {M : Type 0} → M → (M → M → M) → (ℕ → M) → (M → ℕ) → Holding → ℕ → Holding → ℕ → M → Type 0
 Did unit combined piece weight h s k t m =
-    Follows h k × (k.spent ≡ true) × (m ≡ gathered unit combined piece (numbers_of k)) × (t ≡ s + sum_list (λ i. weight (piece i)) (numbers_of k))
+    Follows h k × (m ≡ gathered unit combined piece (numbers_of k)) × (t + sum_list (λ i. weight (piece i)) (numbers_of h) ≡ s + sum_list (λ i. weight (piece i)) (numbers_of k))

@@ -15,12 +15,20 @@ AreReady loads sum hs ss =
     (length hs ≡ length ss)
     × ((i : ℕ) (h : Holding) (s : _) → get_elem? hs i ≡ some h → get_elem? ss i ≡ some s → (numbers_of h ≡ []) × (sum_below loads h.pieces + sum s < 2 ^ 63))
 
--- each hand went on to Spent, as `Did` says, with its share and its part
+-- each hand went on as `Did` says, with its share and its part
 abbrev pub DidAll : {M S P : Type 0} → M → (M → M → M) → (ℕ → M) → (M → ℕ) → (S → ℕ) → (P → M) → List Holding → List S → List Holding → List S → List P → Type 0
 DidAll unit combined piece weight sum meaning [] ss ks ts ps = (ss ≡ []) × (ks ≡ []) × (ts ≡ []) × (ps ≡ [])
 DidAll unit combined piece weight sum meaning (h ∷ hs) ss ks ts ps =
     (s : _) × (k : Holding) × (t : _) × (p : _) × (ss' : List _) × (ks' : List Holding) × (ts' : List _) × (ps' : List _)
     × (ss ≡ s ∷ ss') × (ks ≡ k ∷ ks') × (ts ≡ t ∷ ts') × (ps ≡ p ∷ ps') × Did unit combined piece weight h (sum s) k (sum t) (meaning p) × DidAll unit combined piece weight sum meaning hs ss' ks' ts' ps'
+
+-- as many hands as shares and parts. Each part is the combination of the pieces in its hand's list, and each share has room for the loads of those that the hand may still take
+abbrev pub AreUnderWay : {M S P : Type 0} → M → (M → M → M) → (ℕ → M) → (M → ℕ) → (M → ℕ) → (S → ℕ) → (P → M) → List Holding → List S → List P → Type 0
+AreUnderWay unit combined piece weight load sum meaning ks ts ps =
+    (length ks ≡ length ts) × (length ks ≡ length ps)
+    × ((i : ℕ) (k : Holding) (t : _) (p : _) → get_elem? ks i ≡ some k → get_elem? ts i ≡ some t → get_elem? ps i ≡ some p
+    → (meaning p ≡ gathered unit combined piece (numbers_of k)) × (sum_below (λ j. load (piece j)) k.pieces < 2 ^ 63)
+    × (sum t + sum_below (λ j. load (piece j)) k.pieces < 2 ^ 63 + sum_list (λ j. weight (piece j)) (numbers_of k)))
 
 -- the hands and shares came back in their order: each hand has its seat, and its share has grown by the weights of the pieces in its list
 abbrev pub CameBack : {S : Type 0} → (ℕ → ℕ) → (S → ℕ) → List Holding → List S → List Holding → List S → Type 0
@@ -37,6 +45,11 @@ NeedNoThread hs = (i : ℕ) (h : Holding) → get_elem? hs i ≡ some h → (i �
 abbrev pub flat : List (List ℕ) → List ℕ
 flat [] = []
 flat (l ∷ ls) = l ++ flat ls
+
+-- the lists of these hands
+abbrev pub lists_in : List Holding → List (List ℕ)
+lists_in [] = []
+lists_in (k ∷ ks) = numbers_of k ∷ lists_in ks
 
 -- each part is the combination of the pieces of its list
 abbrev pub AreGathered : {M P : Type 0} → M → (M → M → M) → (ℕ → M) → (P → M) → List (List ℕ) → List P → Type 0

@@ -5,6 +5,7 @@ use std::alloc::{AllocError, Global};
 use std::sync::ledger::{Blank, Ledger};
 use std::sync::{Mutex, Wait, ledger};
 
+/// What is behind the lock: the sum of what all shares reported, held at the greatest number.
 #[derive(Drop)]
 struct Tally<L: Ledger> {
     number: u128,
@@ -12,7 +13,7 @@ struct Tally<L: Ledger> {
     ghost kept: { number ≡ min reported.total (2 ^ 128 - 1) },
 }
 
-/// The sum of what all shares reported.
+/// The sum of what all workers reported. L says which shares are of this book.
 #[derive(Drop)]
 pub struct Book<L: Ledger> {
     tally: Mutex<Tally<L>>,
@@ -28,12 +29,14 @@ pub struct Share<L: Ledger> {
 }
 
 impl<L: Ledger> Tally<L> {
+    /// Adds to a share and to the number, which it answers.
     fn add(&mut self, token: &mut ledger::Share<L>, weight: u64) -> u128
         requires { 0 < token.old.parts }
         ensures amount { token.new.amount ≡ token.old.amount + weight }
         ensures parts { token.new.parts ≡ token.old.parts }
         ensures number { min token.new.amount (2 ^ 128 - 1) ≤ result }
         ensures exact { result ≡ min (self.old.reported.total + weight) (2 ^ 128 - 1) }
+        ensures whole { token.old.parts ≡ L.parts → result ≡ min token.new.amount (2 ^ 128 - 1) }
     {
         let Tally { number, reported } = self;
         reported.add(token, weight);
@@ -42,6 +45,7 @@ impl<L: Ledger> Tally<L> {
         *number
     }
 
+    /// The number, once one token stands for all shares.
     fn last(self, token: &mut ledger::Share<L>) -> u128
         requires { token.old.parts ≡ L.parts }
         ensures { result ≡ min token.old.amount (2 ^ 128 - 1) }
@@ -56,12 +60,14 @@ impl<L: Ledger> Tally<L> {
 }
 
 impl<L: Ledger> Share<L> {
+    /// What this share reported.
     pub fn sum(&self) -> u64
         ensures { result ≡ self.now.sum }
     {
         self.sum
     }
 
+    /// The share that this token stands for.
     fn of(token: ledger::Share<L>) -> Share<L>
         requires { (token.parts ≡ 1) × (token.amount ≡ 0) }
         ensures { result.sum ≡ 0 }
@@ -71,7 +77,7 @@ impl<L: Ledger> Share<L> {
 }
 
 impl<L: Ledger> Book<L> {
-    /// A book, and a share for each hand.
+    /// A book at 0, and a share for each of 1 to 64 hands. The blank is of L, with as many parts. The error is want of memory.
     pub fn new(
         alloc: Global,
         blank: Blank,
@@ -98,18 +104,19 @@ impl<L: Ledger> Book<L> {
         Ok((Book { tally }, shares))
     }
 
-    /// Adds to the share and to the book. The book's number after it.
+    /// Adds a weight to the share and to the book, and answers the book's number after it, which others may have added to. It may wait for the lock.
     pub fn report<R: Wait>(&self, rt: &R, share: &mut Share<L>, weight: u64) -> u128
         requires { share.old.sum + weight < 2 ^ 63 }
         ensures sum { share.new.sum ≡ share.old.sum + weight }
         ensures least { share.new.sum ≤ result }
+        ensures only { L.parts ≡ 1 → result ≡ share.new.sum }
     {
         let Share { sum, token } = share;
         *sum += weight;
         self.tally.lock(rt).add(token, weight)
     }
 
-    /// The sum of all shares.
+    /// The sum of all shares, which are those that were made with the book.
     pub fn close(self, shares: Vec<Share<L>>) -> u128
         requires all { vec_len shares ≡ L.parts }
         requires few { vec_len shares ≤ 64 }

@@ -1,4 +1,4 @@
-// Hands that take numbers from their own deque, and then from the others.
+// Hands, which take numbers from their own deque, and then from those of the others.
 ghost use Rattle.std.specs.Prelude.{length, ◌%◌, ◌↔◌, All, IsTrue, ◌≡◌, ℕ, List, ◌+◌, ◌-◌, ◌<◌, ◌≤◌, true, false, [], ◌∷◌, ◌++◌, MatchOption, IfOk, IfSome, IfNone};
 ghost use Rattle.pool.specs.Seen.{Seen, WasEmpty, Took, with_seen, now_closed, told_view, Shut, Looked, IsThief};
 ghost use Rattle.pool.specs.Holding.{Steals, IsHolding, InOrder, new_holding};
@@ -19,6 +19,7 @@ use std::alloc::Global;
 use std::marker::Model;
 use std::mem;
 
+/// A deque of one deal, under the rule of `protocol`.
 pub type Deque = Worker<Task, Global, View, Dealing>;
 
 /// The end of a deque that its own hand takes from.
@@ -115,17 +116,19 @@ impl Reach {
     }
 }
 
-/// What a hand answers.
+/// What a hand answers when it is asked for a piece.
 #[derive(Clone, Copy, Debug, PartialEq, Eq)]
 pub enum Next {
+    /// This piece is the hand's, and no other hand gets it.
     Piece(u32),
-    /// The own deque is empty for good, and one try at each other gave nothing.
+    /// The hand's own deque is empty for good, and one try at each other deque gave nothing.
     Spent,
-    /// The own deque refused memory.
+    /// The hand's own deque was refused memory, and the hand has what it had.
     Memory,
 }
 
-/// One worker's end of a deal.
+/// One worker's end of a deal: its own deque, and its way into the deques of the other hands.
+/// Contracts see what the hand was given from each, in order.
 #[derive(Drop)]
 pub struct Hand {
     number: usize,
@@ -159,7 +162,7 @@ fn steal(others: &mut Vec<Reach>) -> Option<u32>
     None
 }
 
-// The first of its own deque, unless it was found to have none before.
+/// The first of its own deque, unless it was found to have none before.
 fn own_first(own: &mut Own) -> Option<u32>
     ensures none { IfNone result ((own.new ≡ now_closed own.old) × (own.old.closed ≡ false → WasEmpty own.old.seen)) }
     ensures some { IfSome result (λ x. (s : Seen) × Took own.old.seen x s × (own.new ≡ with_seen own.old s) × (own.old.closed ≡ false)) }
@@ -171,7 +174,8 @@ fn own_first(own: &mut Own) -> Option<u32>
 }
 
 impl Hand {
-    /// A number of its own deque, or else of another.
+    /// A piece: the first of the hand's own deque, or, once that is empty, the first of another's. It tries each other
+    /// deque once, from the next hand's on and round. It takes no lock, waits for nobody, and returns.
     pub fn next(&mut self) -> Next
         ensures answer { Answers self.old self.new result }
         ensures holding { IsHolding self.new }
@@ -235,6 +239,19 @@ impl Own {
         worker.len_as::<Whole>();
         drop(worker.another::<Seal>());
     }
+
+    /// The owner looks at what all other hands have of the deque, whether or not numbers are left there: with its own list, they hold no number more often than it was dealt.
+    fn apart(&mut self, before: &mut [Hand], after: &mut [Hand])
+        requires few { length before.old + length after.old < 64 }
+        requires count { self.old.made ≡ length before.old + length after.old + 1 }
+        requires after { AllReach self.old.seen.deque self.old.seen.numbers (length before.old + length after.old) after.old }
+        requires before { AllReach self.old.seen.deque self.old.seen.numbers (length before.old) before.old }
+        ensures same { (self.new ≡ self.old) × (before.new ≡ before.old) × (after.new ≡ after.old) }
+        ensures apart { (x : ℕ) → times x self.old.seen.list + (held x (told (length before.old + length after.old) after.old) + held x (told (length before.old) before.old)) ≤ times x self.old.seen.numbers }
+    {
+        let place = before.len() + after.len();
+        compare(&mut self.worker, after, before, place);
+    }
 }
 
 impl Hand {
@@ -264,6 +281,18 @@ impl Hand {
     {
         self.own.account(before, after);
     }
+
+    /// The other hands of the deal show what they have of this hand's deque, in which numbers may be left.
+    fn apart(&mut self, before: &mut [Hand], after: &mut [Hand])
+        requires few { length before.old + length after.old < 64 }
+        requires count { self.old.own.made ≡ length before.old + length after.old + 1 }
+        requires after { AllReach self.old.own.seen.deque self.old.own.seen.numbers (length before.old + length after.old) after.old }
+        requires before { AllReach self.old.own.seen.deque self.old.own.seen.numbers (length before.old) before.old }
+        ensures same { (self.new ≡ self.old) × (before.new ≡ before.old) × (after.new ≡ after.old) }
+        ensures apart { (x : ℕ) → times x self.old.own.seen.list + (held x (told (length before.old + length after.old) after.old) + held x (told (length before.old) before.old)) ≤ times x self.old.own.seen.numbers }
+    {
+        self.own.apart(before, after);
+    }
 }
 
 /// The pieces of the deque of the hand d are in the lists, each as often as it was dealt.
@@ -281,6 +310,32 @@ fn account_of(hands: &mut [Hand], d: usize)
     mine.account(before, after);
 }
 
+/// No piece of the deque of the hand d is in the lists more than once.
+fn apart_of(hands: &mut [Hand], d: usize)
+    requires deal { AreAll hands.old }
+    requires low { d < length hands.old }
+    ensures same { hands.new ≡ hands.old }
+    ensures apart { (x : ℕ) → x % length hands.old ≡ d → times x (joined hands.old) ≤ once_below x (pieces_of hands.old) }
+{
+    let (before, rest) = hands.split_at_mut(d);
+    let Some((mine, after)) = rest.split_first_mut() else {
+        unreachable!();
+    };
+    mine.apart(before, after);
+}
+
+/// The hands of a deal have no piece twice, and none that the deal does not have, whether or not they have answered Spent. It takes no memory.
+pub fn apart(hands: &mut [Hand])
+    requires deal { AreAll hands.old }
+    ensures same { hands.new ≡ hands.old }
+    ensures apart { (x : ℕ) → times x (joined hands.old) ≤ once_below x (pieces_of hands.old) }
+{
+    for d in 0..hands.len() {
+        apart_of(hands, d);
+    }
+}
+
+/// Whether each of these has answered Spent.
 fn all_spent(hands: &[Hand]) -> bool
     ensures { IsTrue result ↔ AllSpent hands.now }
 {
@@ -304,7 +359,8 @@ fn account_all(hands: &mut [Hand])
     }
 }
 
-/// Whether each hand of the deal has answered Spent. Then their lists joined hold each piece exactly once. It takes no memory.
+/// Whether each hand of the deal has answered Spent. Then what they were given, joined, is each piece exactly once.
+/// It takes no memory, and leaves the hands as they were.
 pub fn settled(hands: &mut [Hand]) -> bool
     requires deal { AreAll hands.old }
     ensures same { hands.new ≡ hands.old }

@@ -178,7 +178,9 @@ impl Model for Deal {
 }
 
 impl Deal {
-    /// The pieces below this number. Each goes to the deque of the hand that it is congruent to, ascending.
+    /// Deals the pieces below this number to as many deques as there are hands. Hand h owns the deque of the pieces
+    /// that are congruent to h modulo the number of hands, in ascending order. No piece is added later. The error is
+    /// want of memory.
     pub fn new(alloc: Global, pieces: u32, hands: usize) -> Result<Deal, AllocError>
         requires pieces { pieces ≤ 1048576 }
         requires hands { (1 ≤ hands) × (hands ≤ 64) }
@@ -193,7 +195,7 @@ impl Deal {
         Ok(Deal { hands })
     }
 
-    /// The hands, by their numbers.
+    /// The hands, from hand 0 on.
     pub fn into_hands(self) -> Vec<Hand>
         ensures { result.items ≡ self }
     {

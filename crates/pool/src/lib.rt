@@ -1,4 +1,18 @@
-// Numbered work, dealt among threads.
+//! Numbered work, done by many threads, whose result does not depend on who does which piece.
+//!
+//! A `Work` has pieces with the numbers 0, 1, 2 and so on. Each gives a part, parts combine in any order, and each has a
+//! weight. `fan_out` and `alone` do the pieces below a number, and answer their combination, or `Over` where their
+//! weights add up to more than a limit.
+//!
+//! Pieces are dealt. A `Deal` puts each piece into one of as many deques as there are workers, in turn, before any
+//! worker begins. A `Hand` is one worker's end of the deal. It takes the first piece of its own deque, and once that is
+//! empty the first piece of another's, which is then stolen. So no worker is idle while pieces are left, and no lock is
+//! taken. The rule of a deque says that each piece is in the deque or in the list of just one hand, at any moment of
+//! any schedule.
+//!
+//! A `Book` is a number that all workers add the weights of their pieces to, so that each can see when the limit is
+//! passed, and stop. A `Share` is what one worker has added. Since others add too, the number may be above what a
+//! worker knows of. What is answered rests on the weights of the parts alone.
 #![tactic(auto)]
 
 mod book;

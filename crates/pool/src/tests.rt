@@ -1,18 +1,21 @@
-// What no clause says: that the calls give their answers where memory and threads are ample.
-ghost use Rattle.std.specs.Prelude.{◌≡◌, ℕ, ◌<◌, ◌^◌};
+// What no clause says: that the calls give their answers where memory and threads are ample, that threads run side by side, and who gets which piece.
+ghost use Rattle.std.specs.Prelude.{◌≡◌, ℕ, ◌<◌, ◌≤◌, ◌^◌, vec_len};
 ghost use Rattle.pool.specs.Totals.{sum_below};
+ghost use Rattle.pool.specs.Settled.{AreAll};
 
-use crate::book::Book;
-use crate::deal::{Next, settled};
+use crate::book::{Book, Share};
+use crate::deal::{Hand, Next, settled};
 use crate::dealing::Deal;
-use crate::laws::{Outcome, Work};
+use crate::laws::{Outcome, PoolFault, Work};
 use crate::single::alone;
 use crate::threads::{fan_on, fan_out};
 use std::alloc::{AllocError, Global};
 use std::marker::{Brand, Send, Sync};
 use std::sync::Wait;
+use std::sync::atomic::{AtomicU64, Ordering};
 use std::sync::ledger::{Blank, Ledger};
 use std::test::Fail;
+use std::thread;
 use std::thread::Threads;
 
 /// Piece i is the number i, and parts are added.
@@ -20,7 +23,7 @@ struct Numbers;
 
 impl Work for Numbers {
     ghost use Rattle.std.specs.Prelude.{◌≡◌, ℕ, ◌+◌, refl};
-    ghost use Rattle.pool.specs.Plain.{numbers_lawful};
+    ghost use Rattle.pool.specs.Plain.{added_lawful};
 
     type Part = u64;
 
@@ -40,7 +43,7 @@ impl Work for Numbers {
 
     ghost load_of = { λ w m. m };
 
-    ghost lawful = { λ w. numbers_lawful };
+    ghost lawful = { λ w. added_lawful (λ i. i) };
 
     fn unit(&self) -> Result<u64, AllocError> {
         Ok(0)
@@ -63,122 +66,12 @@ impl Work for Numbers {
     }
 }
 
-fn is_whole(outcome: &Outcome<u64>, of: u64) -> bool {
-    match outcome {
-        Outcome::Whole(p) => *p == of,
-        Outcome::Over => false,
-    }
-}
-
-fn is_over(outcome: &Outcome<u64>) -> bool {
-    match outcome {
-        Outcome::Whole(_) => false,
-        Outcome::Over => true,
-    }
-}
-
-/// Piece i is the number i, and parts are added.
-struct Sums;
-
-impl Work for Sums {
-    ghost use Rattle.std.specs.Prelude.{◌≡◌, ℕ, ◌+◌, refl};
-    ghost use Rattle.pool.specs.Plain.{numbers_lawful};
-
-    type Part = u64;
-
-    ghost Meaning = { ℕ };
-
-    ghost meaning = { λ p. p };
-
-    ghost fits = { λ w m. Unit {0} };
-
-    ghost unit_meaning = { λ w. 0 };
-
-    ghost piece_meaning = { λ w i. i };
-
-    ghost combined = { λ w a b. a + b };
-
-    ghost weight_of = { λ w m. m };
-
-    ghost load_of = { λ w m. m };
-
-    ghost lawful = { λ w. numbers_lawful };
-
-    fn unit(&self) -> Result<u64, AllocError> {
-        Ok(0)
-    }
-
-    fn piece(&self, i: u32) -> Result<u64, AllocError> {
-        Ok(i as u64)
-    }
-
-    fn combine(&self, a: u64, b: u64) -> Result<u64, AllocError> {
-        Ok(a + b)
-    }
-
-    fn add(&self, part: u64, i: u32) -> Result<u64, AllocError> {
-        Ok(part + i as u64)
-    }
-
-    fn weight(&self, p: &u64) -> u64 {
-        *p
-    }
-
-    fn load(&self, p: &u64) -> u64 {
-        *p
-    }
-}
-
-#[test]
-fn four_alone(rt: HostRuntime) -> Result<(), Fail> {
-    assert!(rt; is_whole(&alone(&Numbers, 4, 6)?, 6));
-    assert!(rt; is_over(&alone(&Numbers, 4, 5)?));
-    assert!(rt; is_whole(&alone(&Sums, 4, 6)?, 6));
-    Ok(())
-}
-
-#[test]
-fn four_on_threads(rt: HostRuntime) -> Result<(), Fail> {
-    let alloc = rt.alloc();
-    assert!(rt; is_whole(&fan_out(&rt, alloc, &Numbers, 4, 1, 6)?, 6));
-    assert!(rt; is_whole(&fan_out(&rt, alloc, &Numbers, 4, 2, 6)?, 6));
-    assert!(rt; is_whole(&fan_out(&rt, alloc, &Sums, 4, 8, 6)?, 6));
-    assert!(rt; is_over(&fan_out(&rt, alloc, &Numbers, 4, 8, 5)?));
-    assert!(rt; is_whole(&fan_out(&rt, alloc, &Numbers, 0, 8, 0)?, 0));
-    Ok(())
-}
-
-/// Two hands on one thread: the second is robbed of its first piece.
-#[test]
-fn stolen(rt: HostRuntime) -> Result<(), Fail> {
-    let mut hands = Deal::new(rt.alloc(), 4, 2)?.into_hands();
-    assert!(rt; hands[0].next() == Next::Piece(0));
-    assert!(rt; hands[0].next() == Next::Piece(2));
-    assert!(rt; hands[0].next() == Next::Piece(1));
-    assert!(rt; hands[1].next() == Next::Piece(3));
-    assert!(rt; hands[1].next() == Next::Spent);
-    assert!(rt; hands[0].next() == Next::Spent);
-    Ok(())
-}
-
-/// More hands than pieces: a hand steals from the first deque in its round that has one.
-#[test]
-fn few_pieces(rt: HostRuntime) -> Result<(), Fail> {
-    let mut hands = Deal::new(rt.alloc(), 2, 4)?.into_hands();
-    assert!(rt; hands[2].next() == Next::Piece(0));
-    assert!(rt; hands[3].next() == Next::Piece(1));
-    for k in 0..hands.len() {
-        assert!(rt; hands[k].next() == Next::Spent);
-    }
-    Ok(())
-}
-
-/// Each piece is 1.
+/// Each piece is 1, and parts are added, also one piece at a time.
 struct Ones;
 
 impl Work for Ones {
     ghost use Rattle.std.specs.Prelude.{◌≡◌, ℕ, ◌+◌, refl};
-    ghost use Rattle.pool.specs.Plain.{ones_lawful};
+    ghost use Rattle.pool.specs.Plain.{added_lawful};
 
     type Part = u64;
 
@@ -198,7 +91,7 @@ impl Work for Ones {
 
     ghost load_of = { λ w m. m };
 
-    ghost lawful = { λ w. ones_lawful };
+    ghost lawful = { λ w. added_lawful (λ i. 1) };
 
     fn unit(&self) -> Result<u64, AllocError> {
         Ok(0)
@@ -212,6 +105,10 @@ impl Work for Ones {
         Ok(a + b)
     }
 
+    fn add(&self, part: u64, _i: u32) -> Result<u64, AllocError> {
+        Ok(part + 1)
+    }
+
     fn weight(&self, p: &u64) -> u64 {
         *p
     }
@@ -221,33 +118,409 @@ impl Work for Ones {
     }
 }
 
-/// What comes of a hundred pieces, whether the hands that come back are settled, and what the book holds.
-fn hundred<L: Ledger + Send + Sync, R: Threads + Wait + Sync>(
+/// Whoever makes a piece waits a while for who makes the other one. Nothing has a weight.
+#[derive(Drop)]
+struct Meeting {
+    came: AtomicU64,
+    met: AtomicU64,
+}
+
+impl Work for Meeting {
+    ghost use Rattle.std.specs.Prelude.{◌≡◌, ℕ, ◌+◌, refl};
+    ghost use Rattle.pool.specs.Plain.{weightless_lawful};
+
+    type Part = u64;
+
+    ghost Meaning = { ℕ };
+
+    ghost meaning = { λ p. p };
+
+    ghost fits = { λ w m. m ≡ 0 };
+
+    ghost unit_meaning = { λ w. 0 };
+
+    ghost piece_meaning = { λ w i. 0 };
+
+    ghost combined = { λ w a b. a };
+
+    ghost weight_of = { λ w m. 0 };
+
+    ghost load_of = { λ w m. 0 };
+
+    ghost lawful = { λ w. weightless_lawful };
+
+    fn unit(&self) -> Result<u64, AllocError> {
+        Ok(0)
+    }
+
+    fn piece(&self, _i: u32) -> Result<u64, AllocError> {
+        self.came.fetch_add(1, Ordering::SeqCst);
+        for _ in 0..200_000_000 {
+            if self.came.load(Ordering::SeqCst) == 2 {
+                self.met.fetch_add(1, Ordering::SeqCst);
+                return Ok(0);
+            }
+        }
+        Ok(0)
+    }
+
+    fn combine(&self, a: u64, _b: u64) -> Result<u64, AllocError> {
+        Ok(a)
+    }
+
+    fn weight(&self, _p: &u64) -> u64 {
+        0
+    }
+
+    fn load(&self, _p: &u64) -> u64 {
+        0
+    }
+}
+
+fn new_meeting() -> Meeting {
+    Meeting {
+        came: AtomicU64::new(0),
+        met: AtomicU64::new(0),
+    }
+}
+
+fn is_whole(outcome: &Outcome<u64>, of: u64) -> bool {
+    match outcome {
+        Outcome::Whole(p) => *p == of,
+        Outcome::Over => false,
+    }
+}
+
+fn is_over(outcome: &Outcome<u64>) -> bool {
+    match outcome {
+        Outcome::Whole(_) => false,
+        Outcome::Over => true,
+    }
+}
+
+/// What `fan_on` makes of a new deal: the outcome, whether the hands that come back are settled, and the book's sum.
+fn on_deal<L: Ledger + Send + Sync, W: Work + Sync, R: Threads + Wait + Sync>(
     rt: &R,
     alloc: Global,
+    work: &W,
+    pieces: u32,
+    hands: usize,
     limit: u64,
+    stop: u128,
     blank: Blank,
-) -> Result<(Outcome<u64>, bool, u128), Fail>
+) -> Result<(Outcome<W::Part>, bool, u128), Fail>
+    requires pieces { pieces ≤ 1048576 }
+    requires hands { (1 ≤ hands) × (hands ≤ 64) }
+    requires loads { sum_below (λ i. W.load_of work.now (W.piece_meaning work.now i)) pieces < 2 ^ 63 }
     requires name { blank.name ≡ L.name }
-    requires parts { (blank.parts ≡ L.parts) × (L.parts ≡ 4) }
-    requires loads { sum_below (λ i. 1) 100 < 2 ^ 63 }
+    requires parts { (blank.parts ≡ L.parts) × (L.parts ≡ hands) }
 {
-    let hands = Deal::new(alloc, 100, 4)?.into_hands();
-    let (book, shares) = Book::<L>::new(alloc, blank, 4)?;
+    let deal = Deal::new(alloc, pieces, hands)?;
+    let (book, shares) = Book::<L>::new(alloc, blank, hands)?;
     let (outcome, mut hands, shares) = fan_on(
-        rt, alloc, &Ones, hands, limit, &book, limit, shares,
+        rt,
+        alloc,
+        work,
+        deal.into_hands(),
+        limit,
+        &book,
+        stop,
+        shares,
     )?;
     Ok((outcome, settled(hands.as_mut_slice()), book.close(shares)))
 }
 
+/// Whether pieces of weight i are decided rightly, at the limits 6 and 5.
+fn decides_four<R: Threads + Wait + Sync>(rt: &R, alloc: Global, hands: usize) -> Result<bool, Fail>
+    requires { (1 ≤ hands) × (hands ≤ 64) }
+{
+    let six = fan_out(rt, alloc, &Numbers, 4, hands, 6)?;
+    let five = fan_out(rt, alloc, &Numbers, 4, hands, 5)?;
+    Ok(is_whole(&six, 6) && is_over(&five))
+}
+
 #[test]
-fn a_hundred(rt: HostRuntime) -> Result<(), Fail> {
-    let (outcome, all, sum) = hundred::<Brand, HostRuntime>(&rt, rt.alloc(), 100, Blank::new(4))?;
-    assert!(rt; is_whole(&outcome, 100));
-    assert!(rt; all);
-    assert!(rt; sum == 100);
-    let (outcome, _, sum) = hundred::<Brand, HostRuntime>(&rt, rt.alloc(), 99, Blank::new(4))?;
-    assert!(rt; is_over(&outcome));
-    assert!(rt; sum == 100);
+fn pieces_of_their_own_weight(rt: HostRuntime) -> Result<(), Fail> {
+    let alloc = rt.alloc();
+    assert!(rt; is_whole(&alone(&Numbers, 4, 6)?, 6));
+    assert!(rt; is_over(&alone(&Numbers, 4, 5)?));
+    assert!(rt; decides_four(&rt, alloc, 1)?);
+    assert!(rt; decides_four(&rt, alloc, 2)?);
+    assert!(rt; decides_four(&rt, alloc, 8)?);
+    assert!(rt; is_whole(&fan_out(&rt, alloc, &Numbers, 0, 8, 0)?, 0));
     Ok(())
+}
+
+/// Whether four pieces of weight 1 are decided rightly each time, at the limits 4, 3 and 0.
+fn decides_each_time<R: Threads + Wait + Sync>(
+    rt: &R,
+    alloc: Global,
+    hands: usize,
+) -> Result<bool, Fail>
+    requires { (1 ≤ hands) × (hands ≤ 64) }
+{
+    for _ in 0..200 {
+        let four = fan_out(rt, alloc, &Ones, 4, hands, 4)?;
+        let three = fan_out(rt, alloc, &Ones, 4, hands, 3)?;
+        let none = fan_out(rt, alloc, &Ones, 4, hands, 0)?;
+        if !is_whole(&four, 4) || !is_over(&three) || !is_over(&none) {
+            return Ok(false);
+        }
+    }
+    Ok(true)
+}
+
+#[test]
+fn limits(rt: HostRuntime) -> Result<(), Fail> {
+    assert!(rt; decides_each_time(&rt, rt.alloc(), 1)?);
+    assert!(rt; decides_each_time(&rt, rt.alloc(), 2)?);
+    assert!(rt; decides_each_time(&rt, rt.alloc(), 4)?);
+    assert!(rt; decides_each_time(&rt, rt.alloc(), 64)?);
+    Ok(())
+}
+
+/// Two workers are inside a piece at one time.
+#[test]
+fn workers_meet(rt: HostRuntime) -> Result<(), Fail> {
+    let meeting = new_meeting();
+    drop(fan_out(&rt, rt.alloc(), &meeting, 2, 2, 0)?);
+    assert!(rt; meeting.met.load(Ordering::SeqCst) == 2);
+    let meeting = new_meeting();
+    drop(on_deal::<Brand, Meeting, HostRuntime>(
+        &rt,
+        rt.alloc(),
+        &meeting,
+        2,
+        2,
+        0,
+        0,
+        Blank::new(2),
+    )?);
+    assert!(rt; meeting.met.load(Ordering::SeqCst) == 2);
+    Ok(())
+}
+
+/// Workers that stop after their first piece leave the others to the calling thread.
+#[test]
+fn hundred_pieces(rt: HostRuntime) -> Result<(), Fail> {
+    let (outcome, all, sum) = on_deal::<Brand, Ones, HostRuntime>(
+        &rt,
+        rt.alloc(),
+        &Ones,
+        100,
+        4,
+        100,
+        100,
+        Blank::new(4),
+    )?;
+    assert!(rt; is_whole(&outcome, 100) && all && sum == 100);
+    let (outcome, all, sum) = on_deal::<Brand, Ones, HostRuntime>(
+        &rt,
+        rt.alloc(),
+        &Ones,
+        100,
+        4,
+        100,
+        0,
+        Blank::new(4),
+    )?;
+    assert!(rt; is_whole(&outcome, 100) && all && sum == 100);
+    let (outcome, _, _) = on_deal::<Brand, Ones, HostRuntime>(
+        &rt,
+        rt.alloc(),
+        &Ones,
+        100,
+        4,
+        99,
+        99,
+        Blank::new(4),
+    )?;
+    assert!(rt; is_over(&outcome));
+    Ok(())
+}
+
+/// Whether the hands answer so, one call after the other.
+fn answer_so(hands: &mut Vec<Hand>, trace: &[(usize, Next)]) -> bool {
+    for i in 0..trace.len() {
+        let (hand, answer) = trace[i];
+        match hands.get_mut(hand) {
+            Some(hand) => {
+                if hand.next() != answer {
+                    return false;
+                }
+            }
+            None => return false,
+        }
+    }
+    true
+}
+
+/// A hand takes its own pieces first, and then steals from the first deque in its round that has one.
+#[test]
+fn traces(rt: HostRuntime) -> Result<(), Fail> {
+    let mut hands = Deal::new(rt.alloc(), 2, 4)?.into_hands();
+    assert!(rt;
+        answer_so(
+            &mut hands,
+            &[
+                (2, Next::Piece(0)),
+                (3, Next::Piece(1)),
+                (0, Next::Spent),
+                (1, Next::Spent),
+                (2, Next::Spent),
+                (3, Next::Spent),
+            ]
+        )
+    );
+    let mut hands = Deal::new(rt.alloc(), 4, 2)?.into_hands();
+    assert!(rt;
+        answer_so(
+            &mut hands,
+            &[
+                (0, Next::Piece(0)),
+                (0, Next::Piece(2)),
+                (0, Next::Piece(1)),
+                (1, Next::Piece(3)),
+                (1, Next::Spent),
+                (0, Next::Spent),
+            ]
+        )
+    );
+    Ok(())
+}
+
+/// Whether this hand, asked next, answers Spent, where the hands were not settled before.
+fn is_spent_late(hands: &mut Vec<Hand>, k: usize) -> bool
+    requires deal { AreAll hands.old.items }
+    requires low { k < vec_len hands.old }
+    ensures deal { AreAll hands.new.items }
+    ensures count { vec_len hands.new ≡ vec_len hands.old }
+{
+    let late = !settled(hands.as_mut_slice());
+    let hand = &mut hands[k];
+    hand.next() == Next::Spent && late
+}
+
+#[test]
+fn nothing_to_deal(rt: HostRuntime) -> Result<(), Fail> {
+    let mut hands = Deal::new(rt.alloc(), 0, 3)?.into_hands();
+    assert!(rt; is_spent_late(&mut hands, 0));
+    assert!(rt; is_spent_late(&mut hands, 1));
+    assert!(rt; is_spent_late(&mut hands, 2));
+    assert!(rt; settled(hands.as_mut_slice()));
+    Ok(())
+}
+
+/// The pieces that a hand gets, until it is spent.
+fn noted(alloc: Global, hand: Hand) -> Result<Vec<u32>, AllocError> {
+    let mut hand = hand;
+    let mut pieces = Vec::new(alloc);
+    for _ in 0..1001 {
+        match hand.next() {
+            Next::Piece(i) => pieces.push(i)?,
+            Next::Spent => return Ok(pieces),
+            Next::Memory => return Err(AllocError),
+        }
+    }
+    Ok(pieces)
+}
+
+/// Whether those of each of the four deques ascend.
+fn ascend(pieces: &[u32]) -> bool {
+    let mut least = [0, 0, 0, 0];
+    for i in 0..pieces.len() {
+        let piece = pieces[i];
+        let deque = piece as usize % 4;
+        if piece < least[deque] || piece == u32::MAX {
+            return false;
+        }
+        least[deque] = piece + 1;
+    }
+    true
+}
+
+/// Whether four threads, each with a hand, got each piece of a thousand once.
+fn get_each_once<R: Threads + Sync>(rt: &R, alloc: Global) -> Result<bool, Fail> {
+    let hands = Deal::new(alloc, 1000, 4)?.into_hands();
+    let mut all = Vec::new(alloc);
+    for pieces in thread::map_vec(rt, hands, &|hand| noted(alloc, hand))? {
+        let mut pieces = pieces?;
+        if !ascend(pieces.as_slice()) {
+            return Ok(false);
+        }
+        all.append(&mut pieces)?;
+    }
+    all.sort()?;
+    for i in 0..all.len() {
+        if all[i] as usize != i {
+            return Ok(false);
+        }
+    }
+    Ok(all.len() == 1000)
+}
+
+#[test]
+fn four_threads(rt: HostRuntime) -> Result<(), Fail> {
+    for _ in 0..200 {
+        assert!(rt; get_each_once(&rt, rt.alloc())?);
+    }
+    Ok(())
+}
+
+/// Reports a small weight to a share that has reported little.
+fn reported<L: Ledger, R: Wait>(rt: &R, book: &Book<L>, share: &mut Share<L>, weight: u64) -> u128
+    requires { weight < 10 }
+{
+    if share.sum() > 10 {
+        return 0;
+    }
+    book.report(rt, share, weight)
+}
+
+/// What a book of two shares answers to 3, 4 and 5, the first and the last from one share, and what it closes with.
+fn reports<L: Ledger, R: Wait>(rt: &R, alloc: Global, blank: Blank) -> Result<[u128; 4], AllocError>
+    requires { (blank.name ≡ L.name) × (blank.parts ≡ L.parts) × (L.parts ≡ 2) }
+{
+    let (book, mut shares) = Book::<L>::new(alloc, blank, 2)?;
+    let three = reported(rt, &book, &mut shares[0], 3);
+    let seven = reported(rt, &book, &mut shares[1], 4);
+    let twelve = reported(rt, &book, &mut shares[0], 5);
+    Ok([three, seven, twelve, book.close(shares)])
+}
+
+#[test]
+fn book_of_two(rt: HostRuntime) -> Result<(), Fail> {
+    let answers = reports::<Brand, HostRuntime>(&rt, rt.alloc(), Blank::new(2))?;
+    assert!(rt; answers == [3, 7, 12, 12]);
+    Ok(())
+}
+
+// For the loop that refuses each allocation in turn: the right answer, or want of memory.
+
+#[test]
+fn refusal_of_deal(rt: HostRuntime) {
+    match Deal::new(rt.alloc(), 1, 2) {
+        Ok(deal) => {
+            let mut hands = deal.into_hands();
+            assert!(rt; answer_so(&mut hands, &[(1, Next::Piece(0)), (0, Next::Spent)]));
+        }
+        Err(AllocError) => {}
+    }
+}
+
+#[test]
+fn refusal_of_book(rt: HostRuntime) {
+    match reports::<Brand, HostRuntime>(&rt, rt.alloc(), Blank::new(2)) {
+        Ok(answers) => assert!(rt; answers == [3, 7, 12, 12]),
+        Err(AllocError) => {}
+    }
+}
+
+#[test]
+fn refusal_of_fan_out(rt: HostRuntime) {
+    match fan_out(&rt, rt.alloc(), &Numbers, 4, 2, 6) {
+        Ok(outcome) => assert!(rt; is_whole(&outcome, 6)),
+        Err(PoolFault::OutOfMemory) => {}
+        Err(PoolFault::ThreadNotStarted) => {}
+    }
 }

@@ -6,17 +6,17 @@ ghost use Rattle.pool.specs.Dealing.{times};
 ghost use Rattle.pool.specs.Holding.{Holding, numbers_of};
 ghost use Rattle.pool.specs.Settled.{AreAll, AllSpent, joined, pieces_of};
 ghost use Rattle.pool.specs.Done.{Did};
-ghost use Rattle.pool.specs.Fanned.{AreReady, DidAll, CameBack, NeedNoThread, AreGathered, flat, Settles};
+ghost use Rattle.pool.specs.Fanned.{AreReady, DidAll, AreUnderWay, CameBack, NeedNoThread, AreGathered, flat, lists_in, Settles};
 ghost use Rattle.pool.specs.Assembly.{IsNewDeal};
 ghost use mathlib.Core.Option.{some};
 ghost use lib.ListN.{get_elem?};
 
 use crate::book::{Book, Share};
-use crate::deal::{Hand, settled};
+use crate::deal::{Hand, apart, settled};
 use crate::dealing::Deal;
 use crate::growing::put_last;
 use crate::laws::{Outcome, PoolFault, Work};
-use crate::worker::{Done, start, work_off};
+use crate::worker::{Done, go_on, start, work_off};
 use std::alloc::{AllocError, Global};
 use std::marker::{Brand, Send, Sync};
 use std::sync::Wait;
@@ -57,13 +57,14 @@ fn with_done<P: Drop, L: Ledger>(
     })
 }
 
-/// Each hand goes on to Spent: the first on the calling thread, each other on its own, and where there is no piece all on the calling one.
+/// Each hand works until it is spent or the book is above `stop`: the first on the calling thread, each other on its own, and where there is no piece all on the calling one.
 fn spread<'s, E, W: Work + Sync, L: Ledger + Send + Sync, R: Threads + Wait + Sync>(
     scope: &Scope<'s, E>,
     rt: &'s R,
     alloc: Global,
     work: &'s W,
     book: &'s Book<L>,
+    stop: u128,
     hands: Vec<Hand>,
     shares: Vec<Share<L>>,
 ) -> Result<Gathered<W::Part, L>, PoolFault>
@@ -84,11 +85,11 @@ fn spread<'s, E, W: Work + Sync, L: Ledger + Send + Sync, R: Threads + Wait + Sy
         unreachable!();
     };
     if hands.is_empty() || hand.pieces() == 0 {
-        let others = match spread(scope, rt, alloc, work, book, hands, shares) {
+        let others = match spread(scope, rt, alloc, work, book, stop, hands, shares) {
             Ok(others) => others,
             Err(fault) => return Err(fault),
         };
-        let Ok(done) = work_off(rt, work, book, hand, share) else {
+        let Ok(done) = work_off(rt, work, book, stop, hand, share) else {
             return Err(PoolFault::OutOfMemory);
         };
         let Ok(all) = with_done(others, done) else {
@@ -96,10 +97,10 @@ fn spread<'s, E, W: Work + Sync, L: Ledger + Send + Sync, R: Threads + Wait + Sy
         };
         return Ok(all);
     }
-    let Some(handle) = start(scope, rt, work, book, hand, share) else {
+    let Some(handle) = start(scope, rt, work, book, stop, hand, share) else {
         return Err(PoolFault::ThreadNotStarted);
     };
-    let others = match spread(scope, rt, alloc, work, book, hands, shares) {
+    let others = match spread(scope, rt, alloc, work, book, stop, hands, shares) {
         Ok(others) => others,
         Err(fault) => return Err(fault),
     };
@@ -118,6 +119,7 @@ fn gather<W: Work + Sync, L: Ledger + Send + Sync, R: Threads + Wait + Sync>(
     alloc: Global,
     work: &W,
     book: &Book<L>,
+    stop: u128,
     hands: Vec<Hand>,
     shares: Vec<Share<L>>,
 ) -> Result<Gathered<W::Part, L>, PoolFault>
@@ -132,8 +134,61 @@ fn gather<W: Work + Sync, L: Ledger + Send + Sync, R: Threads + Wait + Sync>(
             requires { AreReady (λ i. W.load_of work.now (W.piece_meaning work.now i)) (λ s. s.sum) hands.items shares.items }
             ensures did { IfOk result (λ g. DidAll (W.unit_meaning work.entry.now) (W.combined work.entry.now) (W.piece_meaning work.entry.now) (W.weight_of work.entry.now) (λ s. s.sum) W.meaning hands.items shares.items g.hands.items g.shares.items g.parts.items) }
             ensures alone { NeedNoThread hands.items → IfErr result (λ e. e ≡ PoolFault.OutOfMemory) }
-        { spread(scope, rt, alloc, work, book, hands, shares) },
+        { spread(scope, rt, alloc, work, book, stop, hands, shares) },
     )
+}
+
+/// The weights of all parts, added up. No piece is in their lists twice.
+fn weigh<W: Work>(work: &W, parts: &Vec<W::Part>) -> u64
+    requires { (n : ℕ) × (sum_below (λ i. W.load_of work.now (W.piece_meaning work.now i)) n < 2 ^ 63) × ((lists : List (List ℕ)) × AreGathered (W.unit_meaning work.now) (W.combined work.now) (W.piece_meaning work.now) W.meaning lists parts.now.items × ((x : ℕ) → times x (flat lists) ≤ once_below x n)) }
+    ensures { (lists : List (List ℕ)) → AreGathered (W.unit_meaning work.now) (W.combined work.now) (W.piece_meaning work.now) W.meaning lists parts.now.items → result ≡ sum_list (λ i. W.weight_of work.now (W.piece_meaning work.now i)) (flat lists) }
+{
+    let mut sum = 0;
+    for part in parts {
+        sum += work.weight(part);
+    }
+    sum
+}
+
+/// Each hand goes on until it is spent, on the calling thread.
+fn finish_all<W: Work, L: Ledger, R: Wait>(
+    rt: &R,
+    alloc: Global,
+    work: &W,
+    book: &Book<L>,
+    gathered: Gathered<W::Part, L>,
+) -> Result<Gathered<W::Part, L>, AllocError>
+    requires { AreUnderWay (W.unit_meaning work.now) (W.combined work.now) (W.piece_meaning work.now) (W.weight_of work.now) (W.load_of work.now) (λ s. s.sum) W.meaning gathered.hands.items gathered.shares.items gathered.parts.items }
+    ensures did { IfOk result (λ g. DidAll (W.unit_meaning work.now) (W.combined work.now) (W.piece_meaning work.now) (W.weight_of work.now) (λ s. s.sum) W.meaning gathered.hands.items gathered.shares.items g.hands.items g.shares.items g.parts.items) }
+    ensures spent { IfOk result (λ g. AllSpent g.hands.items) }
+{
+    let Gathered {
+        mut hands,
+        mut shares,
+        mut parts,
+    } = gathered;
+    let Some(hand) = hands.pop() else {
+        return Ok(Gathered {
+            hands: Vec::new(alloc),
+            shares: Vec::new(alloc),
+            parts: Vec::new(alloc),
+        });
+    };
+    let Some(share) = shares.pop() else {
+        unreachable!();
+    };
+    let Some(part) = parts.pop() else {
+        unreachable!();
+    };
+    let fewer = Gathered {
+        hands,
+        shares,
+        parts,
+    };
+    let others = finish_all(rt, alloc, work, book, fewer)?;
+    let done = go_on(rt, work, book, u128::MAX, Done { hand, share, part })?;
+    let all = with_done(others, done)?;
+    Ok(all)
 }
 
 /// All parts, combined. No piece is in their lists twice.
@@ -160,7 +215,51 @@ fn settle(hands: &mut Vec<Hand>)
     }
 }
 
-/// All pieces of a deal, each hand on a thread of its own but the first, which works on the calling one. The hands and shares come back in their order.
+/// The hands of a deal have no piece twice, also where some are not spent.
+fn keep_apart(hands: &mut Vec<Hand>)
+    requires { AreAll hands.old.items }
+    ensures same { hands.new.items ≡ hands.old.items }
+    ensures apart { (x : ℕ) → times x (joined hands.old.items) ≤ once_below x (pieces_of hands.old.items) }
+{
+    apart(hands.as_mut_slice());
+}
+
+/// What comes of all pieces, once each hand is spent.
+fn conclude<W: Work, L: Ledger>(
+    work: &W,
+    limit: u64,
+    finished: Gathered<W::Part, L>,
+) -> Result<(Outcome<W::Part>, Vec<Hand>, Vec<Share<L>>), AllocError>
+    requires deal { AreAll finished.hands.items }
+    requires spent { AllSpent finished.hands.items }
+    requires loads { sum_below (λ i. W.load_of work.now (W.piece_meaning work.now i)) (pieces_of finished.hands.items) < 2 ^ 63 }
+    requires parts { AreGathered (W.unit_meaning work.now) (W.combined work.now) (W.piece_meaning work.now) W.meaning (lists_in finished.hands.items) finished.parts.items }
+    ensures decided { IfOk result (λ r. Decides W.meaning (total (W.unit_meaning work.now) (W.combined work.now) (W.piece_meaning work.now) (pieces_of finished.hands.items)) (sum_below (λ i. W.weight_of work.now (W.piece_meaning work.now i)) (pieces_of finished.hands.items)) limit r.0) }
+    ensures same { IfOk result (λ r. (r.1.items ≡ finished.hands.items) × (r.2.items ≡ finished.shares.items)) }
+    ensures once { IfOk result (λ r. (x : ℕ) → times x (joined finished.hands.items) ≡ once_below x (pieces_of finished.hands.items)) }
+{
+    let Gathered {
+        mut hands,
+        shares,
+        parts,
+    } = finished;
+    settle(&mut hands);
+    let part = combine_all(work, parts)?;
+    if work.weight(&part) > limit {
+        return Ok((Outcome::Over, hands, shares));
+    }
+    Ok((Outcome::Whole(part), hands, shares))
+}
+
+/// Does all pieces of a new deal: hand 0 on the calling thread, each other hand on a thread of its own. With one hand,
+/// or no piece, no thread is started.
+///
+/// Each worker reports its weights to its share of the book, and may stop once the book's number is above `stop`. Where
+/// what they did weighs more than `limit`, the answer is `Over`. Else the calling thread does what is left.
+/// The hands and shares come back in their order.
+///
+/// All threads have ended when it answers. The errors are want of memory, and that a thread could not be started, which
+/// comes first. Hands and shares are then given up.
 pub fn fan_on<W: Work + Sync, L: Ledger + Send + Sync, R: Threads + Wait + Sync>(
     rt: &R,
     alloc: Global,
@@ -168,7 +267,7 @@ pub fn fan_on<W: Work + Sync, L: Ledger + Send + Sync, R: Threads + Wait + Sync>
     hands: Vec<Hand>,
     limit: u64,
     book: &Book<L>,
-    _stop: u64,
+    stop: u128,
     shares: Vec<Share<L>>,
 ) -> Result<(Outcome<W::Part>, Vec<Hand>, Vec<Share<L>>), PoolFault>
     requires deal { IsNewDeal (pieces_of hands.items) (vec_len hands) hands.items }
@@ -182,7 +281,7 @@ pub fn fan_on<W: Work + Sync, L: Ledger + Send + Sync, R: Threads + Wait + Sync>
     ensures settled { IfOk result (λ r. Settles r.0 r.1.items) }
     ensures alone { (vec_len hands ≡ 1) ⊎ (pieces_of hands.items ≡ 0) → IfErr result (λ e. e ≡ PoolFault.OutOfMemory) }
 {
-    let gathered = match gather(rt, alloc, work, book, hands, shares) {
+    let gathered = match gather(rt, alloc, work, book, stop, hands, shares) {
         Ok(gathered) => gathered,
         Err(fault) => return Err(fault),
     };
@@ -191,14 +290,22 @@ pub fn fan_on<W: Work + Sync, L: Ledger + Send + Sync, R: Threads + Wait + Sync>
         shares,
         parts,
     } = gathered;
-    settle(&mut hands);
-    let Ok(part) = combine_all(work, parts) else {
-        return Err(PoolFault::OutOfMemory);
-    };
-    if work.weight(&part) > limit {
+    keep_apart(&mut hands);
+    if weigh(work, &parts) > limit {
         return Ok((Outcome::Over, hands, shares));
     }
-    Ok((Outcome::Whole(part), hands, shares))
+    let gathered = Gathered {
+        hands,
+        shares,
+        parts,
+    };
+    let Ok(finished) = finish_all(rt, alloc, work, book, gathered) else {
+        return Err(PoolFault::OutOfMemory);
+    };
+    let Ok(concluded) = conclude(work, limit, finished) else {
+        return Err(PoolFault::OutOfMemory);
+    };
+    Ok(concluded)
 }
 
 /// `fan_out` with a book of the ledger L.
@@ -232,7 +339,7 @@ fn with_book<L: Ledger + Send + Sync, W: Work + Sync, R: Threads + Wait + Sync>(
         deal.into_hands(),
         limit,
         &book,
-        limit,
+        limit as u128,
         shares,
     ) {
         Ok((outcome, _, shares)) => (outcome, shares),
@@ -242,7 +349,11 @@ fn with_book<L: Ledger + Send + Sync, W: Work + Sync, R: Threads + Wait + Sync>(
     Ok(outcome)
 }
 
-/// All pieces, on as many threads as there are hands, the calling one among them.
+/// Does the pieces below a number, at most 1,048,576, on 1 to 64 threads, the calling one among them. With one hand, or
+/// no piece, no thread is started. It answers the combination of all parts, or `Over` where they weigh more than `limit`.
+///
+/// All threads have ended when it answers. The errors are want of memory, and that a thread could not be started, which
+/// comes first.
 pub fn fan_out<W: Work + Sync, R: Threads + Wait + Sync>(
     rt: &R,
     alloc: Global,

@@ -1,4 +1,4 @@
-use Rattle.std.proofs.Common.{◌≡◌, ◌∙◌, ℕ, suc, ◌-◌, ◌<◌, ◌≤◌, ◌+◌, List, length, rules, ap, sym, subst, refl, arith, [], ◌∷◌}
+use Rattle.std.proofs.Common.{◌≡◌, ◌∙◌, ℕ, suc, ◌-◌, ◌<◌, ◌+◌, List, length, rules, ap, sym, subst, refl, arith}
 use Rattle.crossbeam_deque.specs.Handles.{worker_view, view, Pass}
 use Rattle.std.specs.declared.alloc.Global.{Global}
 use Rattle.pool.specs.declared.view.View.{View}

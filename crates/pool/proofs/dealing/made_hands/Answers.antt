@@ -1,11 +1,10 @@
-use Rattle.std.proofs.Common.{◌≡◌, ◌∙◌, ◌<◌, ℕ, suc, ◌+◌, ⊎_elim, sym, ap, subst, arith, refl, [], ◌∷◌, ◌++◌, List, vec_len, length}
+use Rattle.std.proofs.Common.{◌≡◌, ◌∙◌, ◌<◌, suc, ◌+◌, ⊎_elim, sym, ap, subst, arith, refl, vec_len}
 use mathlib.Core.Option.{some, some-ne-none}
 use lib.ListN.{get_elem?}
-use Rattle.std.specs.Vec.Iter.{into_iter_items, into_iter_len}
-use Rattle.pool.specs.Seen.{Seen, Offer, Owned, owned_first}
-use Rattle.pool.specs.Holding.{Holding, IsHolding, new_holding}
+use Rattle.pool.specs.Seen.{owned_first}
+use Rattle.pool.specs.Holding.{new_holding}
 use Rattle.pool.specs.Settled.{Belongs}
-use Rattle.pool.specs.Assembly.{Gives, Gets, IsFresh, IsNewDeal}
+use Rattle.pool.specs.Assembly.{Gives, Gets, IsFresh}
 use Rattle.pool.proofs.Assemblies.{at_end, fresh_holding, fresh_belongs, fresh_is, new_deal}
 use Rattle.pool.proofs.dealing.made_hands.Goals as goal
 

@@ -1,9 +1,7 @@
-use Rattle.std.proofs.Common.{◌≡◌, ◌∙◌, ℕ, suc, ◌+◌, zero, ⊎_elim, sym, ap, subst, arith, refl, [], ◌∷◌, ◌++◌, List, vec_len, length, map}
+use Rattle.std.proofs.Common.{◌≡◌, ◌∙◌, suc, ◌+◌, ⊎_elim, sym, ap, subst, arith, vec_len}
 use mathlib.Core.Option.{some}
 use lib.ListN.{get_elem?}
-use Rattle.std.specs.Vec.Iter.{into_iter_items, into_iter_len}
 use Rattle.pool.specs.Dealing.{dealt}
-use Rattle.pool.specs.Seen.{Offer}
 use Rattle.pool.proofs.Assemblies.{at_end}
 use Rattle.pool.proofs.dealing.seal_all.Goals as goal
 

@@ -1,6 +1,4 @@
-use Rattle.std.proofs.Common.{◌≡◌, ◌∙◌, ◌%◌, ◌<◌, ◌+◌, ◌-◌, ◌≤◌, ◌++◌, ◌∷◌, [], vec_len, length, slice_index_or, set, sym, ap, subst, arith}
-use mathlib.Core.Option.{some}
-use lib.ListN.{get_elem?}
+use Rattle.std.proofs.Common.{◌≡◌, ◌∙◌, ◌%◌, ◌<◌, ◌+◌, ◌-◌, ◌++◌, ◌∷◌, [], vec_len, length, set, sym, ap, subst, arith}
 use Rattle.std.proofs.lemmas.Nat.{mod_below}
 use Rattle.crossbeam_deque.proofs.Lists.{at_index}
 use Rattle.pool.specs.Seen.{Seen, Offer, seated, offered}

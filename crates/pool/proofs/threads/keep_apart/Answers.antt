@@ -1,0 +1,19 @@
+use Rattle.std.proofs.Common.{◌∙◌, ℕ, sym, ap, subst, ◌≤◌, length, arith}
+use Rattle.std.proofs.lemmas.List.{with_items_is}
+use Rattle.pool.specs.Dealing.{times}
+use Rattle.pool.specs.Totals.{once_below}
+use Rattle.pool.specs.Settled.{AreAll, joined, pieces_of}
+use Rattle.pool.proofs.threads.keep_apart.Goals as goal
+
+pub apart-requires : goal.apart-requires
+apart-requires c = record { deal = subst AreAll (sym c.as_mut_slice.ensures.value) c.requires }
+
+pub returns-clause-same : goal.returns-clause-same
+returns-clause-same c =
+    let e = c.apart.ensures.same ∙ c.as_mut_slice.ensures.value in
+    let n = ap length e in
+    let ok = c.args.hands.now.ok in
+    with_items_is c.args.hands.now c.apart.new.hands (omega (arith, n, ok)) ∙ e
+
+pub returns-clause-apart : goal.returns-clause-apart
+returns-clause-apart c = subst (λ l. (x : ℕ) → times x (joined l) ≤ once_below x (pieces_of l)) c.as_mut_slice.ensures.value c.apart.ensures.apart
