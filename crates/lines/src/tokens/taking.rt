@@ -1,5 +1,5 @@
 //! Taking the columns' values out of the members of an object, token by token.
-ghost use Rattle.std.specs.Prelude.{◌≡◌, ◌≢◌, ◌<◌, Some, All, get_or, length, map, set, string_bytes, IfSome, MatchOption};
+ghost use Rattle.std.specs.Prelude.{◌≡◌, ◌≢◌, ◌<◌, ◌≤◌, ℕ, Some, All, get_or, length, map, set, string_bytes, IfSome, MatchOption};
 ghost use Rattle.json.specs.Json.{members, value};
 ghost use Rattle.serde_json.specs.Data.{Data, Members, no_members};
 ghost use Rattle.serde_json.specs.Read.{converted, of_json, of_members};
@@ -28,11 +28,14 @@ pub(crate) fn take_members(
         × (map (λ d. Some d) (data_of v.items) ≡ data_taken (fields_of columns.now) found)) }
 {
     let mut values = missing_values(alloc, columns)?;
+    // Members mostly come in the order of the columns.
+    let mut next = 0;
     'members: while let Some(name) = reader.next_key().ok()? {
-        match place_of(columns, name) {
+        match place_of(columns, name, next) {
             Some(place) => {
                 let value = take_value(alloc, columns[place].kind, reader)?;
                 put_at(&mut values, place, value);
+                next = place + 1;
             }
             None => pass(reader, MEMBER_DEPTH)?,
         }
@@ -60,13 +63,27 @@ fn missing_values(alloc: Global, columns: &[Column]) -> Option<Vec<Value>>
     Some(values)
 }
 
-/// The place of the column of a name.
-fn place_of(columns: &[Column], name: &str) -> Option<usize>
+/// The place of the column of a name, which is looked for from `first` on, and then before `first`.
+fn place_of(columns: &[Column], name: &str, first: usize) -> Option<usize>
+    requires { first ≤ length columns.now }
     ensures { MatchOption result (All (λ f. f.name ≢ name.now) (fields_of columns.now))
         (λ place. (place < length columns.now) × ((d : Field) → (get_or (fields_of columns.now) place d).name ≡ name.now)) }
 {
-    for (place, column) in columns.iter().enumerate() {
-        if column.name.as_str() == name {
+    match place_between(columns, name, first, columns.len()) {
+        Some(place) => Some(place),
+        None => place_between(columns, name, 0, first),
+    }
+}
+
+/// The place of the column of a name among the places from `low` up to, but not at, `high`.
+#[inline(always)]
+fn place_between(columns: &[Column], name: &str, low: usize, high: usize) -> Option<usize>
+    requires { high ≤ length columns.now }
+    ensures { MatchOption result ((k : ℕ) → low ≤ k → k < high → (d : Field) → (get_or (fields_of columns.now) k d).name ≢ name.now)
+        (λ place. (place < length columns.now) × ((d : Field) → (get_or (fields_of columns.now) place d).name ≡ name.now)) }
+{
+    for place in low..high {
+        if columns[place].name.as_str() == name {
             return Some(place);
         }
     }
