@@ -8,9 +8,12 @@ mod reading;
 mod splitting;
 #[cfg(test)]
 mod tests;
+mod tokens;
+mod tree;
 
 pub use cutting::cut;
 pub use fault::{LineFault, LineRefusal};
 pub use pieces::Piece;
-pub use reading::read_record;
+pub use reading::{RecordReader, read_record};
 pub use splitting::{Lines, lines_of};
+pub use tree::read_by_tree;

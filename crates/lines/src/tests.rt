@@ -1,70 +1,79 @@
-//! Worked examples, to the byte.
-ghost use Rattle.std.specs.Prelude.{◌≤◌};
+//! Worked examples, to the byte: each call over a table.
 
 use super::*;
 use std::alloc::Global;
 use std::process::Abort;
 use std::test::Fail;
-use values::{Schema, Value};
+use values::{Record, Schema, Value};
 
 /// Eight bytes with four lines, one of them empty and the last without a line feed.
 const FOUR_LINES: &[u8] = b"ab\ncd\n\ne";
 
-/// Checks that the lines of `bytes` are `expected`.
-fn check_lines(rt: &impl Abort, bytes: &[u8], expected: &[&[u8]]) {
-    let mut lines = lines_of(bytes);
-    for line in expected {
-        assert_eq!(rt; lines.next(), Some(*line));
-    }
-    assert_eq!(rt; lines.next(), None);
-    assert_eq!(rt; lines.next(), None);
+/// A value of a record, as a table has it.
+#[derive(Clone, Copy, Debug)]
+enum Expected {
+    Null,
+    Int(i64),
+    Text(&'static str),
+    Bool(bool),
 }
 
-/// Checks that the four lines are cut at `target` into pieces that stop at these places.
-fn check_stops(rt: &impl Abort, alloc: Global, target: usize, stops: &[usize]) -> Result<(), Fail>
-    requires { 1 ≤ target }
-{
-    let pieces = cut(alloc, FOUR_LINES, target)?;
-    assert_eq!(rt; pieces.len(), stops.len());
-    let mut start = 0;
-    for (piece, stop) in pieces.iter().zip(stops) {
-        assert_eq!(rt; *piece, Piece { start, stop: *stop });
-        start = *stop;
-    }
-    Ok(())
-}
-
-/// Checks that a line is read as a record of these values, which fits the schema.
-fn check_values(
-    rt: &impl Abort,
-    alloc: Global,
-    columns: &str,
-    line: &[u8],
-    expected: &[Value],
-) -> Result<(), Fail> {
-    let schema = Schema::parse(alloc, columns)?;
-    match read_record(alloc, &schema, line) {
-        Ok(record) => {
-            assert!(rt; schema.fits(&record));
-            assert_eq!(rt; record.values(), expected);
+impl Expected {
+    fn is(self, value: &Value) -> bool {
+        match (self, value) {
+            (Expected::Null, Value::Null) => true,
+            (Expected::Int(number), Value::Int(found)) => i128::from(number) == *found,
+            (Expected::Text(text), Value::Text(found)) => found.as_str() == text,
+            (Expected::Bool(truth), Value::Bool(found)) => truth == *found,
+            _ => false,
         }
-        Err(refusal) => panic!(rt; "{refusal:?}"),
     }
-    Ok(())
 }
 
-/// Checks that a line is refused for this fault.
-fn check_fault(
+/// Whether these are the values of a record.
+fn are_values(expected: &[Expected], record: &Record) -> bool {
+    let values = record.values();
+    if values.len() != expected.len() {
+        return false;
+    }
+    for (wanted, value) in expected.iter().zip(values) {
+        if !wanted.is(value) {
+            return false;
+        }
+    }
+    true
+}
+
+/// Checks what came of a line: the record of these values, or this fault.
+fn check_reading(
+    rt: &impl Abort,
+    read: Result<Record, LineRefusal>,
+    expected: Result<&[Expected], LineFault>,
+) {
+    match (read, expected) {
+        (Ok(record), Ok(values)) => assert!(rt; are_values(values, &record), "{expected:?}"),
+        (Err(refusal), Err(fault)) => assert_eq!(rt; refusal, LineRefusal::Fault(fault)),
+        (read, _) => panic!(rt; "{read:?}, and not {expected:?}"),
+    }
+}
+
+/// Checks what comes of a line by every way to read it; the tokens alone answer exactly where there is a
+/// record.
+fn check_line(
     rt: &impl Abort,
     alloc: Global,
+    reader: &mut RecordReader,
     columns: &str,
     line: &[u8],
-    fault: LineFault,
+    expected: Result<&[Expected], LineFault>,
 ) -> Result<(), Fail> {
     let schema = Schema::parse(alloc, columns)?;
-    match read_record(alloc, &schema, line) {
-        Ok(record) => panic!(rt; "{record:?}"),
-        Err(refusal) => assert_eq!(rt; refusal, LineRefusal::Fault(fault)),
+    check_reading(rt, reader.read(&schema, line), expected);
+    check_reading(rt, read_by_tree(alloc, &schema, line), expected);
+    check_reading(rt, read_record(alloc, &schema, line), expected);
+    match reader.read_by_tokens(&schema, line) {
+        Some(record) => check_reading(rt, Ok(record), expected),
+        None => assert!(rt; expected.is_err(), "{expected:?}"),
     }
     Ok(())
 }
@@ -77,94 +86,127 @@ fn padded(alloc: Global, len: usize) -> Result<Vec<u8>, Fail> {
 }
 
 #[test]
-fn lines_of_four(rt: HostRuntime) {
-    check_lines(&rt, FOUR_LINES, &[b"ab", b"cd", b"", b"e"]);
+fn lines_of_bytes(rt: HostRuntime) {
+    let rows: [(&[u8], &[&[u8]]); 6] = [
+        (FOUR_LINES, &[b"ab", b"cd", b"", b"e"]),
+        (b"", &[]),
+        (b"\n", &[b""]),
+        (b"a", &[b"a"]),
+        (b"a\n", &[b"a"]),
+        (b"a\r\nb", &[b"a\r", b"b"]),
+    ];
+    for (bytes, expected) in rows {
+        let mut lines = lines_of(bytes);
+        for line in expected {
+            assert_eq!(rt; lines.next(), Some(*line));
+        }
+        assert_eq!(rt; lines.next(), None);
+        assert_eq!(rt; lines.next(), None);
+    }
 }
 
 #[test]
-fn lines_at_the_end(rt: HostRuntime) {
-    check_lines(&rt, b"", &[]);
-    check_lines(&rt, b"\n", &[b""]);
-    check_lines(&rt, b"a", &[b"a"]);
-    check_lines(&rt, b"a\n", &[b"a"]);
-    check_lines(&rt, b"a\r\nb", &[b"a\r", b"b"]);
+fn cuts_of_bytes(rt: HostRuntime) -> Result<(), Fail> {
+    let rows: [(&[u8], usize, &[usize]); 8] = [
+        (b"", 1, &[]),
+        (FOUR_LINES, 1, &[3, 6, 7, 8]),
+        (FOUR_LINES, 2, &[3, 6, 8]),
+        (FOUR_LINES, 3, &[3, 6, 8]),
+        (FOUR_LINES, 4, &[6, 8]),
+        (FOUR_LINES, 7, &[7, 8]),
+        (FOUR_LINES, 8, &[8]),
+        (FOUR_LINES, 1000, &[8]),
+    ];
+    for (input, target, stops) in rows {
+        assert!(rt; target >= 1);
+        let pieces = cut(rt.alloc(), input, target)?;
+        assert_eq!(rt; pieces.len(), stops.len());
+        let mut start = 0;
+        for (piece, stop) in pieces.iter().zip(stops) {
+            assert_eq!(rt; *piece, Piece { start, stop: *stop });
+            start = *stop;
+        }
+    }
+    Ok(())
 }
 
+/// Among the records are a plain line, members in any order, repeated names, of which the last counts,
+/// escapes in names and texts, and nested values and floats that no column takes.
 #[test]
-fn cuts_of_four(rt: HostRuntime) -> Result<(), Fail> {
-    check_stops(&rt, rt.alloc(), 1, &[3, 6, 7, 8])?;
-    check_stops(&rt, rt.alloc(), 2, &[3, 6, 8])?;
-    check_stops(&rt, rt.alloc(), 3, &[3, 6, 8])?;
-    check_stops(&rt, rt.alloc(), 4, &[6, 8])?;
-    check_stops(&rt, rt.alloc(), 7, &[7, 8])?;
-    check_stops(&rt, rt.alloc(), 8, &[8])?;
-    check_stops(&rt, rt.alloc(), 1000, &[8])
-}
-
-#[test]
-fn cut_of_nothing(rt: HostRuntime) -> Result<(), Fail> {
-    assert_eq!(rt; cut(rt.alloc(), b"", 1)?.len(), 0);
+fn lines_as_records(rt: HostRuntime) -> Result<(), Fail> {
+    let columns = "d:text,q:int,v:bool";
+    let rows: [(&[u8], Result<&[Expected], LineFault>); 18] = [
+        (
+            b"{\"d\":\"a\",\"q\":7,\"v\":true}",
+            Ok(&[Expected::Text("a"), Expected::Int(7), Expected::Bool(true)]),
+        ),
+        (
+            b"{\"v\": true, \"other\": [1, {}], \"d\": \"a\\\"b\", \"q\": 7}\r",
+            Ok(&[
+                Expected::Text("a\"b"),
+                Expected::Int(7),
+                Expected::Bool(true),
+            ]),
+        ),
+        (
+            b" {\"v\": null, \"d\": \"\\u0061\\n\", \"x\": [1.5e3, {\"y\": -0.0}, []]} ",
+            Ok(&[Expected::Text("a\n"), Expected::Null, Expected::Null]),
+        ),
+        (
+            b"{\"q\":1,\"v\":true,\"q\":-9223372036854775808,\"v\":false}",
+            Ok(&[
+                Expected::Null,
+                Expected::Int(-9_223_372_036_854_775_808),
+                Expected::Bool(false),
+            ]),
+        ),
+        (
+            b"{\"\\u0064\":\"b\",\"z\":18446744073709551616,\"q\":9223372036854775807}",
+            Ok(&[
+                Expected::Text("b"),
+                Expected::Int(9_223_372_036_854_775_807),
+                Expected::Null,
+            ]),
+        ),
+        (
+            b"{\"q\":null}",
+            Ok(&[Expected::Null, Expected::Null, Expected::Null]),
+        ),
+        (b"{}", Ok(&[Expected::Null, Expected::Null, Expected::Null])),
+        (b"", Err(LineFault::NoJson)),
+        (b"{\"q\":1", Err(LineFault::NoJson)),
+        (b"{\"q\":1}}", Err(LineFault::NoJson)),
+        (b"{\"x\":1e400}", Err(LineFault::NoJson)),
+        (b"{\"d\":\"\xff\"}", Err(LineFault::NoJson)),
+        (b"{\"x\":\"\xff\"}", Err(LineFault::NoJson)),
+        (b"[1]", Err(LineFault::NoObject)),
+        (b"{\"q\":true}", Err(LineFault::BadValue(1))),
+        (b"{\"q\":9223372036854775808}", Err(LineFault::BadValue(1))),
+        (b"{\"q\":1.0,\"v\":1}", Err(LineFault::BadValue(1))),
+        (b"{\"v\":1,\"d\":2,\"q\":3}", Err(LineFault::BadValue(0))),
+    ];
+    let mut reader = RecordReader::new(rt.alloc());
+    for (line, expected) in rows {
+        check_line(&rt, rt.alloc(), &mut reader, columns, line, expected)?;
+    }
     Ok(())
 }
 
 #[test]
-fn records(rt: HostRuntime) -> Result<(), Fail> {
+fn long_lines(rt: HostRuntime) -> Result<(), Fail> {
     let alloc = rt.alloc();
-    let text = Value::Text("a\"b".to_string(alloc)?);
-    let all = [text, Value::Int(7), Value::Bool(true)];
-    let line = b"{\"v\": true, \"other\": [1, {}], \"d\": \"a\\\"b\", \"q\": 7}\r";
-    check_values(&rt, alloc, "d:text,q:int,v:bool", line, &all)?;
-    let nulls = [Value::Null, Value::Null, Value::Null];
-    check_values(&rt, alloc, "d:text,q:int,v:bool", b"{\"q\":null}", &nulls)?;
-    let least = [Value::Int(-9_223_372_036_854_775_808)];
-    check_values(&rt, alloc, "q:int", b"{\"q\":-9223372036854775808}", &least)?;
-    let greatest = [Value::Int(9_223_372_036_854_775_807)];
-    check_values(
-        &rt,
-        alloc,
-        "q:int",
-        b"{\"q\":9223372036854775807}",
-        &greatest,
-    )
-}
-
-#[test]
-fn faults(rt: HostRuntime) -> Result<(), Fail> {
-    let alloc = rt.alloc();
-    check_fault(&rt, alloc, "q:int", b"", LineFault::NoJson)?;
-    check_fault(&rt, alloc, "q:int", b"{\"q\":1", LineFault::NoJson)?;
-    check_fault(&rt, alloc, "q:int", b"[1]", LineFault::NoObject)?;
-    check_fault(&rt, alloc, "q:int", b"{\"q\":true}", LineFault::BadValue(0))?;
-    let too_great = b"{\"q\":9223372036854775808}";
-    check_fault(&rt, alloc, "q:int", too_great, LineFault::BadValue(0))?;
-    let not_utf8 = b"{\"d\":\"\xff\"}";
-    check_fault(&rt, alloc, "d:text", not_utf8, LineFault::NoJson)?;
-    check_fault(&rt, alloc, "q:int", not_utf8, LineFault::NoJson)?;
-    let two_bad = b"{\"v\":1,\"d\":2,\"q\":3}";
-    check_fault(
-        &rt,
-        alloc,
-        "q:int,d:text,v:bool",
-        two_bad,
-        LineFault::BadValue(1),
-    )
-}
-
-#[test]
-fn longest_line(rt: HostRuntime) -> Result<(), Fail> {
-    let alloc = rt.alloc();
-    let longest = padded(alloc, 1_048_576)?;
-    check_values(&rt, alloc, "q:int", longest.as_slice(), &[Value::Int(1)])?;
-    let too_long = padded(alloc, 1_048_577)?;
-    check_fault(&rt, alloc, "q:int", too_long.as_slice(), LineFault::TooLong)
-}
-
-#[test]
-fn nested_too_deep(rt: HostRuntime) -> Result<(), Fail> {
-    let alloc = rt.alloc();
-    let mut line = vec![in alloc; b'['; 200]?;
-    line.resize(400, b']')?;
-    check_fault(&rt, alloc, "q:int", line.as_slice(), LineFault::NoJson)
+    let mut reader = RecordReader::new(alloc);
+    let mut nested = vec![in alloc; b'['; 200]?;
+    nested.resize(400, b']')?;
+    let rows: [(Vec<u8>, Result<&[Expected], LineFault>); 3] = [
+        (padded(alloc, 1_048_576)?, Ok(&[Expected::Int(1)])),
+        (padded(alloc, 1_048_577)?, Err(LineFault::TooLong)),
+        (nested, Err(LineFault::NoJson)),
+    ];
+    for (line, expected) in &rows {
+        check_line(&rt, alloc, &mut reader, "q:int", line.as_slice(), *expected)?;
+    }
+    Ok(())
 }
 
 /// For the loop that refuses each allocation in turn: all pieces, or want of memory.
@@ -176,39 +218,38 @@ fn refusal_of_cut(rt: HostRuntime) {
     }
 }
 
-/// The same of a good line: its record, or want of memory.
+/// The same of a good line and of refused ones: the record or the fault, or want of memory.
 #[test]
-fn refusal_of_a_record(rt: HostRuntime) {
+fn refusal_of_records(rt: HostRuntime) {
     let Ok(schema) = Schema::parse(rt.alloc(), "d:text,q:int") else {
         return;
     };
-    let line = b"{\"d\":\"a text that is long enough\",\"q\":7,\"more\":[1,2,{\"a\":null}]}";
-    match read_record(rt.alloc(), &schema, line) {
-        Ok(record) => assert_eq!(rt; record.values().get(1), Some(&Value::Int(7))),
-        Err(refusal) => assert_eq!(rt; refusal, LineRefusal::Memory),
-    }
-}
-
-/// The same of lines that are refused: their fault, or want of memory.
-#[test]
-fn refusal_of_bad_lines(rt: HostRuntime) {
-    let Ok(schema) = Schema::parse(rt.alloc(), "d:text,q:int") else {
-        return;
-    };
-    let refused: [(&[u8], LineFault); 3] = [
-        (b"{\"d\":\"a text that is long enough\"", LineFault::NoJson),
-        (b"[\"a text that is long enough\"]", LineFault::NoObject),
+    let rows: [(&[u8], Result<&[Expected], LineFault>); 4] = [
+        (
+            b"{\"d\":\"a text that is long enough\",\"q\":7,\"more\":[1,2,{\"a\":null}]}",
+            Ok(&[
+                Expected::Text("a text that is long enough"),
+                Expected::Int(7),
+            ]),
+        ),
+        (
+            b"{\"d\":\"a text that is long enough\"",
+            Err(LineFault::NoJson),
+        ),
+        (
+            b"[\"a text that is long enough\"]",
+            Err(LineFault::NoObject),
+        ),
         (
             b"{\"d\":\"a text that is long enough\",\"q\":\"b\"}",
-            LineFault::BadValue(1),
+            Err(LineFault::BadValue(1)),
         ),
     ];
-    for (line, fault) in refused {
-        match read_record(rt.alloc(), &schema, line) {
-            Ok(record) => panic!(rt; "{record:?}"),
-            Err(refusal) => assert!(rt;
-                refusal == LineRefusal::Fault(fault) || refusal == LineRefusal::Memory
-            ),
+    let mut reader = RecordReader::new(rt.alloc());
+    for (line, expected) in rows {
+        match reader.read(&schema, line) {
+            Err(LineRefusal::Memory) => {}
+            read => check_reading(&rt, read, expected),
         }
     }
 }

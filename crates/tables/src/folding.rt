@@ -6,7 +6,7 @@ ghost use Rattle.groups.specs.Rows.{Row};
 ghost use Rattle.tables.specs.Folding.{HasRead, ReadsMore};
 
 use crate::sets::Tables;
-use lines::{LineFault, LineRefusal, lines_of, read_record};
+use lines::{LineFault, LineRefusal, RecordReader, lines_of};
 use query::{Plan, holds};
 use std::alloc::{AllocError, Global};
 use values::{Record, Truth};
@@ -57,12 +57,17 @@ impl Folding {
     }
 
     /// Reads one more line. After an error what has been read is of no use.
-    pub(crate) fn read(&mut self, alloc: Global, plan: &Plan, line: &[u8]) -> Result<(), AllocError>
+    pub(crate) fn read(
+        &mut self,
+        reader: &mut RecordReader,
+        plan: &Plan,
+        line: &[u8],
+    ) -> Result<(), AllocError>
         requires { ReadsMore (fields_of_plan plan.now) (form_of_plan plan.now) self.old 1 }
         ensures { OnOk result ((before : List Row) (seen : List (List ℕ)) → HasRead (fields_of_plan plan.now) (form_of_plan plan.now) before self.old seen
             → HasRead (fields_of_plan plan.now) (form_of_plan plan.now) before self.new (seen ++ line.now ∷ [])) }
     {
-        match read_record(alloc, plan.schema(), line) {
+        match reader.read(plan.schema(), line) {
             Ok(taken) => self.take(plan, taken)?,
             Err(LineRefusal::Fault(fault)) => self.refused.push((self.lines + 1, fault))?,
             Err(LineRefusal::Memory) => return Err(AllocError),
@@ -100,8 +105,9 @@ pub(crate) fn read_lines(
         → HasRead (fields_of_plan plan.now) (form_of_plan plan.now) before done (seen ++ lines piece.now)) }
 {
     let mut folding = folding;
+    let mut reader = RecordReader::new(alloc);
     for line in lines_of(piece) {
-        folding.read(alloc, plan, line)?;
+        folding.read(&mut reader, plan, line)?;
     }
     Ok(folding)
 }

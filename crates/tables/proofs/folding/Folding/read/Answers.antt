@@ -25,14 +25,14 @@ returns c = λ before seen h.
     let fields = fields_of_plan c.args.plan.now in
     let q = form_of_plan c.args.plan.now in
     let line = c.args.line.now in
-    elim c.match-read_record.branch [
+    elim c.match-read.branch [
       | in-Ok+in_ok-take-in-Ok w ↦
           subst (λ (f : Folding). HasRead fields q before (record { tables = f.tables; lines = f.lines + 1; refused = f.refused }) (seen ++ line ∷ [])) (sym w.self-is)
           (read-ok fields q before c.args.self.now w.take.new.self seen line w.in-Ok.taken
           (ap (λ fs. taken fs line) (sym c.schema.ensures.schema) ∙ w.in-Ok.ensures.ok) h
           w.in_ok-take-in-Ok.ensures.tables w.in_ok-take-in-Ok.ensures.lines w.in_ok-take-in-Ok.ensures.refused)
       | in-Err-Fault+in_ok-push-in-Err-Fault w ↦
-          read-err fields q before c.args.self.now c.match-read_record.self seen line w.in-Err-Fault.fault
+          read-err fields q before c.args.self.now c.match-read.self seen line w.in-Err-Fault.fault
           (ap (λ fs. taken fs line) (sym c.schema.ensures.schema) ∙ subst (λ (r : LineRefusal). IsRefusal r (taken c.schema.result.now line)) w.in-Err-Fault.field-0-is w.in-Err-Fault.ensures.refused) h
           (ap (λ (f : Folding). f.tables) w.self-is) (ap (λ (f : Folding). f.lines) w.self-is)
           (ap (λ (f : Folding). f.refused.items) w.self-is ∙ w.in_ok-push-in-Err-Fault.ensures.items)

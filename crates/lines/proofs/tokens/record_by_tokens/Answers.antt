@@ -1,0 +1,40 @@
+use Rattle.std.proofs.Common.{rules, ◌≡◌, [], ◌∷◌, length, Some, Ok, sym, ap, ◌∙◌, arith}
+use Rattle.std.specs.Str.{IsUtf8}
+use Rattle.json.specs.Token.{Token}
+use Rattle.json.specs.Lex.{tokens}
+use Rattle.json.specs.Json.{members, value}
+use Rattle.json.specs.Reads.{token_of}
+use Rattle.serde_json.specs.Data.{object, no_members}
+use Rattle.serde_json.specs.Read.{converted, of_json, of_members, read}
+use Rattle.values.specs.Datum.{data_of}
+use Rattle.values.specs.Schema.{fields_of}
+use Rattle.lines.specs.Taken.{all_taken, data_taken, record_of}
+use Rattle.lines.proofs.Converting.{read-object, whole_read}
+use Rattle.lines.proofs.Fitting.{fits-taken}
+use Rattle.lines.proofs.Readings.{taken-utf8}
+use Rattle.lines.proofs.Taking.{all_taken-somes}
+use Rattle.lines.proofs.tokens.record_by_tokens.Goals as goal
+
+pub returns-in-None-clause-ok : goal.returns-in-None-clause-ok
+returns-in-None-clause-ok c =
+    let found = c.in_ok-values.ensures.taken in
+    let r = c.next.new.self in
+    let text : c.in_ok-text.text.now ≡ c.args.line.now = grind arith in
+    let whole : c.in_ok-reader.reader ≡ tokens c.in_ok-text.text.now = grind arith in
+    let first : c.in_ok-reader.reader ≡ Token.begin_object ∷ r = c.in_ok-next.ensures.value ∙ ap (λ k. token_of k ∷ r) c.in-BeginObject.is in
+    let all : tokens c.args.line.now ≡ Token.begin_object ∷ r = ap tokens (sym text) ∙ sym whole ∙ first in
+    let last : converted (λ ms. of_members ms no_members) (members (value 126) (length r) r) ≡ Some (found.0, []) = found.1 ∙ ap (λ ts. Some (found.0, ts)) c.in-None.ensures.value.0 in
+    let is : read c.args.line.now ≡ Some (object found.0) =
+    whole_read (value 127 (tokens c.args.line.now)) (object found.0) (ap (λ ts. converted of_json (value 127 ts)) all ∙ read-object 127 r [] found.0 (omega arith) last) in
+    let utf8 : IsUtf8 c.args.line.now = search rules in
+    taken-utf8 c.args.schema.now c.args.line.now c.requires utf8
+    ∙ ap (record_of c.args.schema.now) is
+    ∙ ap (λ fields. all_taken (data_taken fields found.0)) (sym c.columns.ensures.columns)
+    ∙ ap all_taken (sym found.2)
+    ∙ all_taken-somes (data_of c.in_ok-values.values.items)
+    ∙ ap (λ d. Ok d) (sym c.new-in-None.ensures.values)
+
+pub returns-in-None-clause-fits : goal.returns-in-None-clause-fits
+returns-in-None-clause-fits c =
+    let found = c.in_ok-values.ensures.taken in
+    rw (c.new-in-None.ensures.values, ← c.columns.ensures.columns) (fits-taken (fields_of c.columns.result.now) found.0 (data_of c.in_ok-values.values.items) found.2)

@@ -1,0 +1,36 @@
+//! Reading a line as a record by its tokens, without a tree of it.
+ghost use Rattle.std.specs.Prelude.{◌≡◌, ◌≤◌, Ok, IfSome, length};
+ghost use Rattle.values.specs.Fit.{Fits};
+ghost use Rattle.lines.specs.Taken.{max_line_len, taken};
+
+mod numerals;
+mod passing;
+mod taking;
+
+use json::{Reader, Scratch, Token};
+use std::alloc::Global;
+use taking::take_members;
+use values::{Record, Schema};
+
+/// Reads a line as a record by its tokens; `None` says nothing of the line.
+pub(crate) fn record_by_tokens(
+    alloc: Global,
+    schema: &Schema,
+    line: &[u8],
+    scratch: &mut Scratch,
+) -> Option<Record>
+    requires { length line.now ≤ max_line_len }
+    ensures ok { IfSome result (λ «record». taken schema.now line.now ≡ Ok «record») }
+    ensures fits { IfSome result (λ «record». Fits schema.now «record») }
+{
+    let text = simdutf8::compat::from_utf8(line).ok()?;
+    let mut reader = Reader::new(text, scratch).ok()?;
+    let Token::BeginObject = reader.next()? else {
+        return None;
+    };
+    let values = take_members(alloc, schema.columns(), &mut reader)?;
+    match reader.next() {
+        Some(_) => None,
+        None => Some(Record::new(values)),
+    }
+}

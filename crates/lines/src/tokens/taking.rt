@@ -1,0 +1,109 @@
+//! Taking the columns' values out of the members of an object, token by token.
+ghost use Rattle.std.specs.Prelude.{◌≡◌, ◌≢◌, ◌<◌, ◌≤◌, ℕ, Some, All, get_or, length, map, set, string_bytes, IfSome, MatchOption};
+ghost use Rattle.json.specs.Json.{members, value};
+ghost use Rattle.serde_json.specs.Data.{Data, Members, no_members};
+ghost use Rattle.serde_json.specs.Read.{converted, of_json, of_members};
+ghost use Rattle.values.specs.Datum.{datum_of, data_of};
+ghost use Rattle.values.specs.Schema.{Field, IsSchema, fields_of};
+ghost use Rattle.lines.specs.Taken.{data_taken, datum_taken};
+
+use crate::tokens::numerals::whole_number;
+use crate::tokens::passing::pass;
+use json::{Reader, Token};
+use std::alloc::Global;
+use values::{Column, Kind, Value};
+
+/// How deep the members of an object may nest.
+const MEMBER_DEPTH: usize = 126;
+
+/// Takes the columns' values out of an object's members, up to its closing brace.
+pub(crate) fn take_members(
+    alloc: Global,
+    columns: &[Column],
+    reader: &mut Reader<'_>,
+) -> Option<Vec<Value>>
+    requires { IsSchema (fields_of columns.now) }
+    ensures taken { IfSome result (λ v. (found : Members)
+        × (converted (λ ms. of_members ms no_members) (members (value 126) (length reader.old) reader.old) ≡ Some (found, reader.new))
+        × (map (λ d. Some d) (data_of v.items) ≡ data_taken (fields_of columns.now) found)) }
+{
+    let mut values = missing_values(alloc, columns)?;
+    // Members mostly come in the order of the columns.
+    let mut next = 0;
+    'members: while let Some(name) = reader.next_key().ok()? {
+        match place_of(columns, name, next) {
+            Some(place) => {
+                let value = take_value(alloc, columns[place].kind, reader)?;
+                put_at(&mut values, place, value);
+                next = place + 1;
+            }
+            None => pass(reader, MEMBER_DEPTH)?,
+        }
+    }
+    Some(values)
+}
+
+/// Puts a value at a place.
+fn put_at(values: &mut Vec<Value>, place: usize, value: Value)
+    requires { place < length values.old.items }
+    ensures { values.new.items ≡ set values.old.items place value }
+{
+    values[place] = value;
+}
+
+/// What the columns take where no member is: NULL for each.
+fn missing_values(alloc: Global, columns: &[Column]) -> Option<Vec<Value>>
+    requires { IsSchema (fields_of columns.now) }
+    ensures { IfSome result (λ v. map (λ d. Some d) (data_of v.items) ≡ data_taken (fields_of columns.now) no_members) }
+{
+    let mut values = Vec::with_capacity(alloc, columns.len()).ok()?;
+    for _ in columns {
+        values.push(Value::Null).ok()?;
+    }
+    Some(values)
+}
+
+/// The place of the column of a name, which is looked for from `first` on, and then before `first`.
+fn place_of(columns: &[Column], name: &str, first: usize) -> Option<usize>
+    requires { first ≤ length columns.now }
+    ensures { MatchOption result (All (λ f. f.name ≢ name.now) (fields_of columns.now))
+        (λ place. (place < length columns.now) × ((d : Field) → (get_or (fields_of columns.now) place d).name ≡ name.now)) }
+{
+    match place_between(columns, name, first, columns.len()) {
+        Some(place) => Some(place),
+        None => place_between(columns, name, 0, first),
+    }
+}
+
+/// The place of the column of a name among the places from `low` up to, but not at, `high`.
+#[inline(always)]
+fn place_between(columns: &[Column], name: &str, low: usize, high: usize) -> Option<usize>
+    requires { high ≤ length columns.now }
+    ensures { MatchOption result ((k : ℕ) → low ≤ k → k < high → (d : Field) → (get_or (fields_of columns.now) k d).name ≢ name.now)
+        (λ place. (place < length columns.now) × ((d : Field) → (get_or (fields_of columns.now) place d).name ≡ name.now)) }
+{
+    for place in low..high {
+        if columns[place].name.as_str() == name {
+            return Some(place);
+        }
+    }
+    None
+}
+
+/// Takes the value of a member as a column of this type takes it; `None` says nothing of the member.
+fn take_value(alloc: Global, kind: Kind, reader: &mut Reader<'_>) -> Option<Value>
+    ensures taken { IfSome result (λ v. (d : Data)
+        × (converted of_json (value 126 reader.old) ≡ Some (d, reader.new))
+        × (datum_taken kind d ≡ Some (datum_of v))) }
+    ensures shorter { IfSome result (λ v. length reader.new < length reader.old) }
+{
+    match (kind, reader.next()?) {
+        (_, Token::Null) => Some(Value::Null),
+        (Kind::Int, Token::Number(text)) => Some(Value::Int(i128::from(whole_number(text)?))),
+        (Kind::Text, Token::String(text)) => {
+            Some(Value::Text(String::from_str(alloc, text).ok()?))
+        }
+        (Kind::Bool, Token::Bool(truth)) => Some(Value::Bool(truth)),
+        _ => None,
+    }
+}

@@ -1,0 +1,76 @@
+//! Reads each line of a file as a record in both ways, by its tokens and by its JSON tree, and prints how
+//! many lines there are, how many are records, how many the tokens alone answered, and how many the two
+//! ways read differently. Its words are the columns and the file.
+#![tactic(auto)]
+
+use lines::{LineRefusal, RecordReader, lines_of, read_by_tree};
+use std::alloc::Global;
+use std::{env, fs, io};
+use values::{Record, Schema};
+
+/// Numbers of lines.
+#[derive(Clone, Copy)]
+struct Counts {
+    lines: u64,
+    records: u64,
+    by_tokens: u64,
+    different: u64,
+}
+
+/// One more where the condition holds.
+fn counted(count: u64, condition: bool) -> u64 {
+    count.saturating_add(u64::from(condition))
+}
+
+/// Whether two readings are the same record, or the same refusal.
+fn are_same(one: &Result<Record, LineRefusal>, other: &Result<Record, LineRefusal>) -> bool {
+    match (one, other) {
+        (Ok(one), Ok(other)) => one.values() == other.values(),
+        (Err(one), Err(other)) => one == other,
+        (Ok(_), Err(_)) | (Err(_), Ok(_)) => false,
+    }
+}
+
+/// What the two ways make of the lines of the bytes.
+fn counts_of(alloc: Global, schema: &Schema, bytes: &[u8]) -> Counts {
+    let mut reader = RecordReader::new(alloc);
+    let mut counts = Counts {
+        lines: 0,
+        records: 0,
+        by_tokens: 0,
+        different: 0,
+    };
+    for line in lines_of(bytes) {
+        let by_tree = read_by_tree(alloc, schema, line);
+        let read = reader.read(schema, line);
+        let by_tokens = reader.read_by_tokens(schema, line);
+        counts = Counts {
+            lines: counted(counts.lines, true),
+            records: counted(counts.records, by_tree.is_ok()),
+            by_tokens: counted(counts.by_tokens, by_tokens.is_some()),
+            different: counted(counts.different, !are_same(&read, &by_tree)),
+        };
+    }
+    counts
+}
+
+fn main(rt: HostRuntime) -> io::Result<()> {
+    let mut words = env::args(&rt)?.skip(1);
+    let (Some(columns), Some(path)) = (words.next(), words.next()) else {
+        return Ok(());
+    };
+    let Ok(schema) = Schema::parse(rt.alloc(), columns.as_str()) else {
+        return Ok(());
+    };
+    let bytes = fs::read(&rt, path.as_str())?;
+    let Counts {
+        lines,
+        records,
+        by_tokens,
+        different,
+    } = counts_of(rt.alloc(), &schema, bytes.as_slice());
+    println!(rt;
+        "{lines} lines, {records} records, {by_tokens} by their tokens alone, {different} different"
+    )?;
+    Ok(())
+}
