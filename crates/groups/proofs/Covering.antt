@@ -43,10 +43,13 @@ missed w set row rows (k ∷ ks) h =
 
 others : (k q : Key) (ks : List Key) → same_key k q ≡ true → AllByRecursion (λ y. same_key k y ≡ false) ks → AllByRecursion (λ y. same_key y q ≡ false) ks
 others k q [] e h = tt
-others k q (y ∷ ys) e h = (elim (same_key y q) as (λ b. same_key y q ≡ b → b ≡ false) [
+others k q (y ∷ ys) e h = (
+  elim (same_key y q) as (λ b. same_key y q ≡ b → b ≡ false) [
     | true ↦ λ f. let same : k ≡ y = (same_key-Decides k q).0 e ∙ sym ((same_key-Decides y q).0 f) in let g = (same_key-Decides k y).1 same in let n = h.0 in cc
     | false ↦ λ f. refl
-  ] refl, others k q ys e h.1)
+  ] refl,
+  others k q ys e h.1,
+)
 
 -- of different keys, among which is the record's, exactly one has it
 hit : (w : Row → ℕ) (set : List ℕ) (row : Row) (rows : List Row) (ks : List Key) → IsDistinct same_key ks → list_any (same_key (project set row)) ks ≡ true
