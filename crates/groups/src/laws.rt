@@ -5,7 +5,7 @@ ghost use Rattle.groups.specs.GroupRows.{SameBag, group_rows, weigh};
 ghost use Rattle.query_check.specs.declared.function.ColumnFunction.{ColumnFunction};
 ghost use Rattle.groups.specs.Rows.{Row};
 ghost use Rattle.groups.specs.Shuffle.{Shuffle};
-ghost use Rattle.groups.specs.Table.{Contents, IsTableOf};
+ghost use Rattle.groups.specs.Inside.Table.{Contents, IsTableOf};
 
 /// A law, with no work to do: a table of records is that of the same records in any other order.
 pub fn order_law()

@@ -2,9 +2,8 @@
 ghost use Rattle.std.specs.Prelude.{◌≡◌, ◌+◌, ◌<◌, ◌^◌, ◌++◌, ◌∷◌, [], nat_eq, IfOk, OnOk, length, List};
 ghost use Rattle.std.specs.List.{IsDistinct};
 ghost use Rattle.values.specs.Datum.{data_of, datum_of};
-ghost use Rattle.groups.specs.Rows.{Row};
-ghost use Rattle.groups.specs.Held.{IsNarrow, IsNarrowRow};
-ghost use Rattle.groups.specs.Table.{IsTableOf, TakesOne};
+ghost use Rattle.groups.specs.Rows.{Row, IsNarrow, IsNarrowRow};
+ghost use Rattle.groups.specs.Inside.Table.{IsTableOf, TakesOne};
 
 use crate::{Cell, Group, Table};
 use query_check::ColumnFunction;
