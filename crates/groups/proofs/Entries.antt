@@ -10,12 +10,12 @@ use Rattle.values.specs.declared.value.Value.{Value}
 use Rattle.query_check.specs.declared.function.ColumnFunction.{ColumnFunction}
 use Rattle.groups.specs.Rows.{Row}
 use Rattle.groups.specs.Groups.{Key, key_order, same_key}
-use Rattle.groups.specs.Held.{Held}
-use Rattle.groups.specs.Table.{Contents, IsAdded, IsPut, IsFitting, grown, join_options, entries_shown, shown}
+use Rattle.groups.specs.Inside.Group.{GroupState}
+use Rattle.groups.specs.Inside.Table.{Contents, IsAdded, IsPut, IsFitting, grown, join_options, entries_shown, shown}
 use Rattle.groups.proofs.Order.{key_total, same_key-Decides, value_eq, key_eq-ties}
 
 abbrev pub Entries : Type 0
-Entries = List (Vec Value Global × Held)
+Entries = List (Vec Value Global × GroupState)
 
 abbrev pub key_eq : Vec Value Global → Vec Value Global → Bool
 key_eq x y = pointwise value_eq x.items y.items
@@ -35,7 +35,7 @@ lookup-other q [] = refl
 lookup-other q (e ∷ es) = ap (cond (other_than q e.0) (Some e.1)) (lookup-other q es)
 
 -- after a change at one key
-find-updated : (es fs : Entries) (key : List Value) (w : Option Held) → lookup (λ k. pointwise value_eq key k.items) fs ≡ w
+find-updated : (es fs : Entries) (key : List Value) (w : Option GroupState) → lookup (λ k. pointwise value_eq key k.items) fs ≡ w
     → KeepsOthers (λ x y. pointwise value_eq x.items y.items) (λ k. pointwise value_eq key k.items) es fs
     → (q : Key) → find key_order q (entries_shown fs) ≡ cond (same_key q (data_of key)) w (find key_order q (entries_shown es))
 unfolding KeepsOthers
@@ -52,7 +52,7 @@ find-updated es fs key w at others q =
     ] refl
 
 -- the same of the contents
-pub get-updated : (es fs : Entries) (key : List Value) (w : Option Held) → lookup (λ k. pointwise value_eq key k.items) fs ≡ w
+pub get-updated : (es fs : Entries) (key : List Value) (w : Option GroupState) → lookup (λ k. pointwise value_eq key k.items) fs ≡ w
     → KeepsOthers (λ x y. pointwise value_eq x.items y.items) (λ k. pointwise value_eq key k.items) es fs
     → (q : Key) → get (shown fs) q ≡ cond (same_key q (data_of key)) w (get (shown es) q)
 get-updated es fs key w at others q = get-from_entries key_total (entries_shown fs) q ∙ find-updated es fs key w at others q
@@ -61,7 +61,7 @@ get-updated es fs key w at others q = get-from_entries key_total (entries_shown 
 pub get-shown : (key : List Value) (es : Entries) → get (shown es) (data_of key) ≡ lookup (λ k. pointwise value_eq key k.items) es
 get-shown key es = get-from_entries key_total (entries_shown es) (data_of key) ∙ sym (lookup-shown key es)
 
-pub added_is : (functions : List ColumnFunction) (old new : Contents) (key : Key) (row : Row) (w : Option Held)
+pub added_is : (functions : List ColumnFunction) (old new : Contents) (key : Key) (row : Row) (w : Option GroupState)
     → ((q : Key) → get new q ≡ cond (same_key q key) w (get old q))
     → w ≡ Some (grown functions (get old key) row) → (k : Key) → IsAdded functions old new key row k
 added_is functions old new key row w h e k =
@@ -70,7 +70,7 @@ added_is functions old new key row w h e k =
       | false ↦ λ i. refl
     ] refl
 
-pub put_is : (old new : Contents) (key : Key) (part : Held) (w : Option Held)
+pub put_is : (old new : Contents) (key : Key) (part : GroupState) (w : Option GroupState)
     → ((q : Key) → get new q ≡ cond (same_key q key) w (get old q))
     → w ≡ join_options (get old key) (Some part) → (k : Key) → IsPut old new key part k
 put_is old new key part w h e k =
@@ -81,12 +81,12 @@ put_is old new key part w h e k =
 
 -- ---- merging the entries of another table, one after another
 
-options-none : (a : Option Held) → join_options a None ≡ a
+options-none : (a : Option GroupState) → join_options a None ≡ a
 options-none None = refl
 options-none (Some a) = refl
 
 -- a key that the first entry has is in no other
-none_after : (k : Key) (e : Vec Value Global × Held) (es : Entries) → IsDistinct key_eq (keys_of (e ∷ es)) → same_key k (data_of e.0.items) ≡ true → find key_order k (entries_shown es) ≡ None
+none_after : (k : Key) (e : Vec Value Global × GroupState) (es : Entries) → IsDistinct key_eq (keys_of (e ∷ es)) → same_key k (data_of e.0.items) ≡ true → find key_order k (entries_shown es) ≡ None
 unfolding IsDistinct
 none_after k e [] d h = refl
 none_after k e (f ∷ es) d h =
@@ -96,7 +96,7 @@ none_after k e (f ∷ es) d h =
     ∙ none_after k e es (d.0.1, d.1.1) h
 
 -- taking the first entry of the rest
-pub merged_step : (old new : Contents) (k : Key) (e : Vec Value Global × Held) (es : Entries)
+pub merged_step : (old new : Contents) (k : Key) (e : Vec Value Global × GroupState) (es : Entries)
     → IsDistinct key_eq (keys_of (e ∷ es)) → IsPut old new (data_of e.0.items) e.1 k
     → join_options (get new k) (find key_order k (entries_shown es)) ≡ join_options (get old k) (find key_order k (entries_shown (e ∷ es)))
 merged_step old new k e es d a = ap (λ o. join_options o (find key_order k (entries_shown es))) a
@@ -107,15 +107,15 @@ merged_step old new k e es d a = ap (λ o. join_options o (find key_order k (ent
     ] refl
 
 -- what is left fits still, since its keys are others than the first entry's
-pub fits_step : (old new : Contents) (k : Key) (e : Vec Value Global × Held) (es : Entries)
+pub fits_step : (old new : Contents) (k : Key) (e : Vec Value Global × GroupState) (es : Entries)
     → IsDistinct key_eq (keys_of (e ∷ es)) → IsPut old new (data_of e.0.items) e.1 k
     → IfSome (find key_order k (entries_shown (e ∷ es))) (λ p. IsFitting p (get old k)) → IfSome (find key_order k (entries_shown es)) (λ p. IsFitting p (get new k))
 fits_step old new k e es d a h =
     elim (same_key k (data_of e.0.items)) as (λ b. same_key k (data_of e.0.items) ≡ b → get new k ≡ cond b (join_options (get old k) (Some e.1)) (get old k)
     → IfSome (cond b (Some e.1) (find key_order k (entries_shown es))) (λ p. IsFitting p (get old k)) → IfSome (find key_order k (entries_shown es)) (λ p. IsFitting p (get new k))) [
-      | true ↦ λ i a h. subst (λ (o : Option Held). IfSome o (λ p. IsFitting p (get new k))) (sym (none_after k e es d i)) tt
-      | false ↦ λ i a h. subst (λ (g : Option Held). IfSome (find key_order k (entries_shown es)) (λ p. IsFitting p g)) (sym a) h
+      | true ↦ λ i a h. subst (λ (o : Option GroupState). IfSome o (λ p. IsFitting p (get new k))) (sym (none_after k e es d i)) tt
+      | false ↦ λ i a h. subst (λ (g : Option GroupState). IfSome (find key_order k (entries_shown es)) (λ p. IsFitting p g)) (sym a) h
     ] refl a h
 
-pub find-first : (e : Vec Value Global × Held) (es : Entries) → find key_order (data_of e.0.items) (entries_shown (e ∷ es)) ≡ Some e.1
+pub find-first : (e : Vec Value Global × GroupState) (es : Entries) → find key_order (data_of e.0.items) (entries_shown (e ∷ es)) ≡ Some e.1
 find-first e es = ap (λ b. cond b (Some e.1) (find key_order (data_of e.0.items) (entries_shown es))) ((eq_by_cmp_equiv key_total).refl (data_of e.0.items))

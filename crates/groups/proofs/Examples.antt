@@ -1,6 +1,6 @@
 -- The definitions, computed on examples: the records of three lines with the columns d, r and q.
-use Rattle.std.proofs.Common.{◌≡◌, List, [], ◌∷◌, pos, negsuc, refl, codes}
-use Rattle.values.specs.Datum.{whole, text, null}
+use Rattle.std.proofs.Common.{◌≡◌, List, [], ◌∷◌, pos, negsuc, true, false, refl, codes}
+use Rattle.values.specs.Datum.{boolean, whole, text, null}
 use Rattle.query_check.specs.declared.function.ColumnFunction.TheVariants as function
 use Rattle.groups.specs.Rows.{Row}
 use Rattle.groups.specs.Functions.{agg, plain, ratio}
@@ -84,6 +84,45 @@ greatest_number = refl
 
 average_number : agg (function.Avg 0) numbers ≡ ratio (pos 8) 4
 average_number = refl
+
+-- ---- two columns, of texts and of truth values
+
+abbrev both : List Row
+both = (text (codes "b") ∷ boolean true ∷ []) ∷ (text (codes "Z") ∷ boolean false ∷ []) ∷ (null ∷ null ∷ []) ∷ (text (codes "ba") ∷ boolean true ∷ []) ∷ []
+
+least_text : agg (function.Min 0) both ≡ plain (text (codes "Z"))
+least_text = refl
+
+greatest_text : agg (function.Max 0) both ≡ plain (text (codes "ba"))
+greatest_text = refl
+
+different_texts : agg (function.CountDistinct 0) both ≡ plain (whole (pos 3))
+different_texts = refl
+
+least_truth_value : agg (function.Min 1) both ≡ plain (boolean false)
+least_truth_value = refl
+
+greatest_truth_value : agg (function.Max 1) both ≡ plain (boolean true)
+greatest_truth_value = refl
+
+different_truth_values : agg (function.CountDistinct 1) both ≡ plain (whole (pos 2))
+different_truth_values = refl
+
+-- the order of the columns of a set is that of its list, and NULL in one column is not NULL in the other
+turned_keys : keys (1 ∷ 0 ∷ []) ((text (codes "a") ∷ null ∷ []) ∷ (null ∷ text (codes "a") ∷ []) ∷ (null ∷ null ∷ []) ∷ [])
+    ≡ (null ∷ text (codes "a") ∷ []) ∷ (text (codes "a") ∷ null ∷ []) ∷ (null ∷ null ∷ []) ∷ []
+turned_keys = refl
+
+-- ---- over no value
+
+sum_of_none : agg (function.Sum 0) ((null ∷ []) ∷ []) ≡ plain null
+sum_of_none = refl
+
+count_different_of_none : agg (function.CountDistinct 0) ((null ∷ []) ∷ []) ≡ plain (whole (pos 0))
+count_different_of_none = refl
+
+greatest_of_none : agg (function.Max 0) ((null ∷ []) ∷ []) ≡ plain null
+greatest_of_none = refl
 
 least_of_none : agg (function.Min 0) ((null ∷ []) ∷ []) ≡ plain null
 least_of_none = refl

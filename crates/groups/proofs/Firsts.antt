@@ -12,7 +12,7 @@ use Rattle.values.specs.declared.value.Value.TheVariants as v
 use Rattle.values.specs.Order.{value_order}
 use Rattle.groups.specs.Rows.{is_present, present}
 use Rattle.groups.specs.Functions.{least, greatest}
-use Rattle.groups.specs.Seen.{falling, first_by}
+use Rattle.groups.specs.Inside.Values.{falling, first_by}
 use Rattle.groups.proofs.Order.{value_total, value_antisymmetric}
 
 flipped : (r : Ordering) → is_lt (ordering_reverse r) ≡ is_gt r

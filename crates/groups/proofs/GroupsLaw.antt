@@ -11,10 +11,10 @@ use Rattle.query_check.specs.declared.function.ColumnFunction.TheVariants as fun
 use Rattle.groups.specs.Rows.{Row, column_numbers, column_values}
 use Rattle.groups.specs.Functions.{plain, agg, total, sum_of, average_of}
 use Rattle.groups.specs.Groups.{Key, project, key_order, same_key, each_once, keys, members}
-use Rattle.groups.specs.Kept.{summary, kept, summed, averaged}
-use Rattle.groups.specs.Held.{Held, held}
-use Rattle.groups.specs.Table.{Contents, IsTableOf}
-use Rattle.groups.specs.GroupRows.{group_row, group_rows, group_row_kept, weigh, SameBag}
+use Rattle.groups.specs.Inside.Accumulator.{summary, kept, summed, averaged}
+use Rattle.groups.specs.Inside.Group.{GroupState, held, group_row_kept}
+use Rattle.groups.specs.Inside.Table.{Contents, IsTableOf}
+use Rattle.groups.specs.GroupRows.{group_row, group_rows, weigh, SameBag}
 use Rattle.groups.proofs.Order.{key_total, key_antisymmetric, same_key-Decides}
 use Rattle.groups.proofs.Meaning.{any-each_once}
 use Rattle.groups.proofs.Sets.{len-different}
@@ -47,15 +47,15 @@ group_row-kept fs key rows = λ i. record { key = key; lines = length rows; cell
 
 -- ---- the entries of a map as a bag
 
-no_length : (es : List (Key × Held)) → length es ≡ 0 → es ≡ []
+no_length : (es : List (Key × GroupState)) → length es ≡ 0 → es ≡ []
 no_length [] e = refl
 no_length (x ∷ es) e = absurd (omega arith)
 
-nothing : fin.entries (fin.empty {X = Held} {R = key_order}) ≡ []
-nothing = no_length _ (sym (fin.len-entries (fin.empty {X = Held} {R = key_order})) ∙ fin.len-empty key_order Held)
+nothing : fin.entries (fin.empty {X = GroupState} {R = key_order}) ≡ []
+nothing = no_length _ (sym (fin.len-entries (fin.empty {X = GroupState} {R = key_order})) ∙ fin.len-empty key_order GroupState)
 
 -- a bag with one more thing, put into its place
-put-bag : (f : Key × Held → ℕ) (k : Key) (a : Held) (es : List (Key × Held)) → fin.find key_order k es ≡ None → weigh f (fin.put key_order k a es) ≡ f (k, a) + weigh f es
+put-bag : (f : Key × GroupState → ℕ) (k : Key) (a : GroupState) (es : List (Key × GroupState)) → fin.find key_order k es ≡ None → weigh f (fin.put key_order k a es) ≡ f (k, a) + weigh f es
 put-bag f k a [] none = refl
 put-bag f k a (e ∷ es) none =
     elim (key_order k e.0) as (λ o. cond (is_eq o) (Some e.1) (fin.find key_order k es) ≡ None → weigh f (by_order o ((k, a) ∷ e ∷ es) ((e.0, a) ∷ es) (e ∷ fin.put key_order k a es)) ≡ f (k, a) + (f e + weigh f es)) [
@@ -64,12 +64,12 @@ put-bag f k a (e ∷ es) none =
       | Greater ↦ λ n. let h = put-bag f k a es n in omega (arith, h)
     ] none
 
-none-found : (k : Key) (es : List (Key × Held)) → AllByRecursion (λ y. same_key k y ≡ false) (map (λ e. e.0) es) → fin.find key_order k es ≡ None
+none-found : (k : Key) (es : List (Key × GroupState)) → AllByRecursion (λ y. same_key k y ≡ false) (map (λ e. e.0) es) → fin.find key_order k es ≡ None
 none-found k [] h = refl
 none-found k (e ∷ es) h = ap (λ b. cond b (Some e.1) (fin.find key_order k es)) h.0 ∙ none-found k es h.1
 
 -- the entries of the map that distinct entries make are those
-entries-bag : (es : List (Key × Held)) → IsDistinct same_key (map (λ e. e.0) es) → SameBag (fin.entries (fin.from_entries {R = key_order} es)) es
+entries-bag : (es : List (Key × GroupState)) → IsDistinct same_key (map (λ e. e.0) es) → SameBag (fin.entries (fin.from_entries {R = key_order} es)) es
 unfolding IsDistinct
 entries-bag [] d f = ap (weigh f) nothing
 entries-bag (e ∷ es) d f =
@@ -83,7 +83,7 @@ weigh-map f g (x ∷ xs) = ap (λ n. f (g x) + n) (weigh-map f g xs)
 
 -- ---- the table of its groups
 
-found : (g : Key → Held) (q : Key) (ks : List Key) → fin.find key_order q (map (λ k. (k, g k)) ks) ≡ cond (list_any (same_key q) ks) (Some (g q)) None
+found : (g : Key → GroupState) (q : Key) (ks : List Key) → fin.find key_order q (map (λ k. (k, g k)) ks) ≡ cond (list_any (same_key q) ks) (Some (g q)) None
 found g q [] = refl
 found g q (k ∷ ks) = ap (cond (same_key q k) (Some (g k))) (found g q ks)
     ∙ elim (same_key q k) as (λ b. same_key q k ≡ b → cond b (Some (g k)) (cond (list_any (same_key q) ks) (Some (g q)) None) ≡ cond (b || list_any (same_key q) ks) (Some (g q)) None) [
@@ -91,7 +91,7 @@ found g q (k ∷ ks) = ap (cond (same_key q k) (Some (g k))) (found g q ks)
       | false ↦ λ e. refl
     ] refl
 
-abbrev group : List ℕ → List ColumnFunction → List Row → Key → Key × Held
+abbrev group : List ℕ → List ColumnFunction → List Row → Key → Key × GroupState
 group set fs rows k = (k, held fs (members set k rows))
 
 table-is : (set : List ℕ) (fs : List ColumnFunction) (t : Contents) (rows : List Row) → IsTableOf set fs t rows → t ≡ fin.from_entries (map (group set fs rows) (keys set rows))
@@ -129,12 +129,12 @@ group_rows-kept set fs rows [] = refl
 group_rows-kept set fs rows (k ∷ ks) = λ i. group_row-kept fs k (members set k rows) i ∷ group_rows-kept set fs rows ks i
 
 -- the lines of distinct entries, whose map is a table of records, are those of the records' groups
-pub lines-bag : (set : List ℕ) (fs : List ColumnFunction) (rows : List Row) (es : List (Key × Held)) (t : Contents) → fin.from_entries es ≡ t → IsTableOf set fs t rows
+pub lines-bag : (set : List ℕ) (fs : List ColumnFunction) (rows : List Row) (es : List (Key × GroupState)) (t : Contents) → fin.from_entries es ≡ t → IsTableOf set fs t rows
     → IsDistinct same_key (map (λ e. e.0) es) → SameBag (map group_row_kept es) (group_rows set fs rows)
 lines-bag set fs rows es t v h d f =
     let ks = keys set rows in
     let gs = map (group set fs rows) ks in
-    let w : Key × Held → ℕ = λ e. f (group_row_kept e) in
+    let w : Key × GroupState → ℕ = λ e. f (group_row_kept e) in
     weigh-map f group_row_kept es
     ∙ sym (entries-bag es d w)
     ∙ ap (λ m. weigh w (fin.entries m)) (v ∙ table-is set fs t rows h)

@@ -6,9 +6,9 @@ use Rattle.values.specs.Datum.{Datum, boolean, whole, text, null}
 use Rattle.query_check.specs.declared.function.ColumnFunction.{ColumnFunction}
 use Rattle.query_check.specs.declared.function.ColumnFunction.TheVariants as function
 use Rattle.groups.specs.declared.accumulator.Accumulator.{Accumulator}
-use Rattle.groups.specs.Rows.{Row, value_at}
-use Rattle.groups.specs.Kept.{Kept, nothing, counted, summed, averaged, distinct, lowest, highest, kept, taken, argument, joined, kept_in, HasRoom, IsWithin, IsUnbounded}
-use Rattle.groups.specs.Held.{all_taken, all_joined, IsNarrow, IsNarrowRow, IsSound}
+use Rattle.groups.specs.Rows.{Row, value_at, IsNarrow, IsNarrowRow}
+use Rattle.groups.specs.Inside.Accumulator.{AccumulatorState, nothing, counted, summed, averaged, distinct, lowest, highest, kept, taken, argument, joined, kept_in, HasRoom, IsWithin, IsUnbounded}
+use Rattle.groups.specs.Inside.Group.{all_taken, all_joined, IsSound}
 use Rattle.groups.proofs.Firsts.{less-null, greater-null}
 use Rattle.groups.proofs.Sets.{union-empty}
 
@@ -19,7 +19,7 @@ sum_zero : (s : ℤ) → s +ℤ pos 0 ≡ s
 sum_zero s = omega (arith, ints)
 
 -- NULL changes nothing
-pub taken-null : (k : Kept) → taken k null ≡ k
+pub taken-null : (k : AccumulatorState) → taken k null ≡ k
 taken-null nothing = refl
 taken-null (counted n) = ap counted (plus_zero n)
 taken-null (summed s n) = λ i. summed (sum_zero s i) (plus_zero n i)
@@ -30,7 +30,7 @@ taken-null (highest k) = ap highest (greater-null k)
 
 -- ---- sizes
 
-within-room : (lines : ℕ) (k : Kept) → lines < 2 ^ 63 → IsWithin lines k → HasRoom k
+within-room : (lines : ℕ) (k : AccumulatorState) → lines < 2 ^ 63 → IsWithin lines k → HasRoom k
 within-room lines nothing h w = tt
 within-room lines (counted n) h w = omega (arith, h, w)
 within-room lines (summed s n) h w = (omega (arith, h, w), omega (arith, ints, h, w))
@@ -39,7 +39,7 @@ within-room lines (distinct s) h w = tt
 within-room lines (lowest k) h w = tt
 within-room lines (highest k) h w = tt
 
-pub unbounded-within : (lines : ℕ) (k : Kept) → IsUnbounded k → IsWithin lines k
+pub unbounded-within : (lines : ℕ) (k : AccumulatorState) → IsUnbounded k → IsWithin lines k
 unbounded-within lines nothing u = tt
 unbounded-within lines (counted n) u = absurd u
 unbounded-within lines (summed s n) u = absurd u
@@ -48,7 +48,7 @@ unbounded-within lines (distinct s) u = tt
 unbounded-within lines (lowest k) u = tt
 unbounded-within lines (highest k) u = tt
 
-pub taken-within : (lines : ℕ) (k : Kept) (d : Datum) → IsWithin lines k → IsNarrow d → IsWithin (lines + 1) (taken k d)
+pub taken-within : (lines : ℕ) (k : AccumulatorState) (d : Datum) → IsWithin lines k → IsNarrow d → IsWithin (lines + 1) (taken k d)
 taken-within lines nothing d w n = tt
 taken-within lines (counted m) (boolean b) w n = omega (arith, w)
 taken-within lines (counted m) (whole z) w n = omega (arith, w)
@@ -66,7 +66,7 @@ taken-within lines (distinct s) d w n = tt
 taken-within lines (lowest k) d w n = tt
 taken-within lines (highest k) d w n = tt
 
-more-within : (a b : ℕ) (k : Kept) → IsWithin a k → IsWithin (a + b) k
+more-within : (a b : ℕ) (k : AccumulatorState) → IsWithin a k → IsWithin (a + b) k
 more-within a b nothing w = tt
 more-within a b (counted n) w = omega (arith, w)
 more-within a b (summed s n) w = (omega (arith, w), (omega (arith, ints, w), omega (arith, ints, w)))
@@ -75,7 +75,7 @@ more-within a b (distinct s) w = tt
 more-within a b (lowest k) w = tt
 more-within a b (highest k) w = tt
 
-pub joined-within : (a b : ℕ) (k l : Kept) → IsWithin a k → IsWithin b l → IsWithin (a + b) (joined k l)
+pub joined-within : (a b : ℕ) (k l : AccumulatorState) → IsWithin a k → IsWithin b l → IsWithin (a + b) (joined k l)
 joined-within a b (counted m) (counted n) v w = omega (arith, v, w)
 joined-within a b (summed s m) (summed t n) v w = (omega (arith, v, w), (omega (arith, ints, v, w), omega (arith, ints, v, w)))
 joined-within a b (averaged s m) (averaged t n) v w = (omega (arith, v, w), (omega (arith, ints, v, w), omega (arith, ints, v, w)))
@@ -84,7 +84,7 @@ joined-within a b (lowest k) (lowest l) v w = tt
 joined-within a b (highest k) (highest l) v w = tt
 joined-within a b k l v w = more-within a b k v
 
-pub more-sound : (a b : ℕ) (ks : List Kept) → IsSound a ks → IsSound (a + b) ks
+pub more-sound : (a b : ℕ) (ks : List AccumulatorState) → IsSound a ks → IsSound (a + b) ks
 more-sound a b [] s = tt
 more-sound a b (k ∷ ks) s = (more-within a b k s.0, more-sound a b ks s.1)
 
@@ -102,12 +102,12 @@ argument-narrow (function.Min place) row n = value_at-narrow place row n
 argument-narrow (function.Max place) row n = value_at-narrow place row n
 argument-narrow (function.Avg place) row n = value_at-narrow place row n
 
-pub all_taken-sound : (lines : ℕ) (fs : List ColumnFunction) (ks : List Kept) (row : Row) → IsSound lines ks → IsNarrowRow row → IsSound (lines + 1) (all_taken fs ks row)
+pub all_taken-sound : (lines : ℕ) (fs : List ColumnFunction) (ks : List AccumulatorState) (row : Row) → IsSound lines ks → IsNarrowRow row → IsSound (lines + 1) (all_taken fs ks row)
 all_taken-sound lines [] ks row s n = more-sound lines 1 ks s
 all_taken-sound lines (f ∷ fs) [] row s n = tt
 all_taken-sound lines (f ∷ fs) (k ∷ ks) row s n = (taken-within lines k (argument f row) s.0 (argument-narrow f row n), all_taken-sound lines fs ks row s.1 n)
 
-pub all_joined-sound : (a b : ℕ) (ks ls : List Kept) → IsSound a ks → IsSound b ls → IsSound (a + b) (all_joined ks ls)
+pub all_joined-sound : (a b : ℕ) (ks ls : List AccumulatorState) → IsSound a ks → IsSound b ls → IsSound (a + b) (all_joined ks ls)
 all_joined-sound a b [] ls s t = tt
 all_joined-sound a b (k ∷ ks) [] s t = more-sound a b (k ∷ ks) s
 all_joined-sound a b (k ∷ ks) (l ∷ ls) s t = (joined-within a b k l s.0 t.0, all_joined-sound a b ks ls s.1 t.1)
@@ -127,7 +127,7 @@ none-sound (f ∷ fs) = (none-within f, none-sound fs)
 
 -- ---- one after another: the accumulators from a place on are still to take the record
 
-abbrev pub taken_from : ℕ → List ColumnFunction → List Kept → Row → List Kept
+abbrev pub taken_from : ℕ → List ColumnFunction → List AccumulatorState → Row → List AccumulatorState
 taken_from zero fs ks row = all_taken fs ks row
 taken_from (suc n) [] ks row = ks
 taken_from (suc n) (f ∷ fs) [] row = []
@@ -143,12 +143,12 @@ taken_from-step (suc n) [] parts row f a b h i e k = absurd (omega arith)
 taken_from-step (suc n) (g ∷ fs) [] row f a b h i e k = absurd (omega arith)
 taken_from-step (suc n) (g ∷ fs) (x ∷ parts) row f a b h i e k = ap (λ js. kept_in x ∷ js) (taken_from-step n fs parts row f a b (omega arith) (omega arith) e k)
 
-pub taken_from-end : (fs : List ColumnFunction) (ks : List Kept) (row : Row) → length ks ≡ length fs → taken_from (length fs) fs ks row ≡ ks
+pub taken_from-end : (fs : List ColumnFunction) (ks : List AccumulatorState) (row : Row) → length ks ≡ length fs → taken_from (length fs) fs ks row ≡ ks
 taken_from-end [] ks row e = refl
 taken_from-end (f ∷ fs) [] row e = refl
 taken_from-end (f ∷ fs) (k ∷ ks) row e = ap (λ js. k ∷ js) (taken_from-end fs ks row (omega (arith, e)))
 
-pub taken_from-all : (n : ℕ) (fs : List ColumnFunction) (parts : List Accumulator) (row : Row) (ks : List Kept) → n ≡ length fs → length parts ≡ length fs
+pub taken_from-all : (n : ℕ) (fs : List ColumnFunction) (parts : List Accumulator) (row : Row) (ks : List AccumulatorState) → n ≡ length fs → length parts ≡ length fs
     → taken_from n fs (map kept_in parts) row ≡ ks → map kept_in parts ≡ ks
 taken_from-all n fs parts row ks h e i = sym (taken_from-end fs (map kept_in parts) row (length-map parts kept_in ∙ e)) ∙ ap (λ m. taken_from m fs (map kept_in parts) row) (sym h) ∙ i
 
@@ -173,12 +173,12 @@ sound-set lines (suc n) (x ∷ parts) b s w = (s.0, sound-set lines n parts b s.
 
 -- ---- one after another: the accumulators from a place on are still to take the rest
 
-abbrev pub joined_from : ℕ → List Kept → List Kept → List Kept
+abbrev pub joined_from : ℕ → List AccumulatorState → List AccumulatorState → List AccumulatorState
 joined_from zero ks rest = all_joined ks rest
 joined_from (suc n) [] rest = []
 joined_from (suc n) (k ∷ ks) rest = k ∷ joined_from n ks rest
 
-pub joined_from-step : (n : ℕ) (parts : List Accumulator) (l : Kept) (rest : List Kept) (a b : Accumulator) → n < length parts
+pub joined_from-step : (n : ℕ) (parts : List Accumulator) (l : AccumulatorState) (rest : List AccumulatorState) (a b : Accumulator) → n < length parts
     → a ≡ get_or parts n a → kept_in b ≡ joined (kept_in a) l
     → joined_from (suc n) (map kept_in (set parts n b)) rest ≡ joined_from n (map kept_in parts) (l ∷ rest)
 joined_from-step zero [] l rest a b h e k = absurd (omega arith)
@@ -186,26 +186,26 @@ joined_from-step zero (x ∷ parts) l rest a b h e k = ap (λ z. z ∷ all_joine
 joined_from-step (suc n) [] l rest a b h e k = absurd (omega arith)
 joined_from-step (suc n) (x ∷ parts) l rest a b h e k = ap (λ js. kept_in x ∷ js) (joined_from-step n parts l rest a b (omega arith) e k)
 
-joined-nothing : (ks : List Kept) → all_joined ks [] ≡ ks
+joined-nothing : (ks : List AccumulatorState) → all_joined ks [] ≡ ks
 joined-nothing [] = refl
 joined-nothing (k ∷ ks) = refl
 
-pub joined_from-end : (n : ℕ) (ks : List Kept) → joined_from n ks [] ≡ ks
+pub joined_from-end : (n : ℕ) (ks : List AccumulatorState) → joined_from n ks [] ≡ ks
 joined_from-end zero ks = joined-nothing ks
 joined_from-end (suc n) [] = refl
 joined_from-end (suc n) (k ∷ ks) = ap (λ js. k ∷ js) (joined_from-end n ks)
 
-pub joined_from-all : (n : ℕ) (parts rest : List Accumulator) (ks : List Kept) → length rest ≡ 0 → joined_from n (map kept_in parts) (map kept_in rest) ≡ ks → map kept_in parts ≡ ks
+pub joined_from-all : (n : ℕ) (parts rest : List Accumulator) (ks : List AccumulatorState) → length rest ≡ 0 → joined_from n (map kept_in parts) (map kept_in rest) ≡ ks → map kept_in parts ≡ ks
 joined_from-all n parts [] ks h e = sym (joined_from-end n (map kept_in parts)) ∙ e
 joined_from-all n parts (x ∷ rest) ks h e = absurd (omega (arith, h))
 
-pub joined_from-within : (lines n : ℕ) (parts : List Accumulator) (l : Kept) (rest : List Kept) (a : Accumulator) → n < length parts
+pub joined_from-within : (lines n : ℕ) (parts : List Accumulator) (l : AccumulatorState) (rest : List AccumulatorState) (a : Accumulator) → n < length parts
     → a ≡ get_or parts n a → IsSound lines (joined_from n (map kept_in parts) (l ∷ rest)) → IsWithin lines (joined (kept_in a) l)
 joined_from-within lines zero [] l rest a h e s = absurd (omega arith)
 joined_from-within lines zero (x ∷ parts) l rest a h e s = subst (λ z. IsWithin lines (joined (kept_in z) l)) (sym e) s.0
 joined_from-within lines (suc n) [] l rest a h e s = absurd (omega arith)
 joined_from-within lines (suc n) (x ∷ parts) l rest a h e s = joined_from-within lines n parts l rest a (omega arith) e s.1
 
-pub joined_from-room : (lines n : ℕ) (parts : List Accumulator) (l : Kept) (rest : List Kept) (a : Accumulator) → n < length parts
+pub joined_from-room : (lines n : ℕ) (parts : List Accumulator) (l : AccumulatorState) (rest : List AccumulatorState) (a : Accumulator) → n < length parts
     → a ≡ get_or parts n a → lines < 2 ^ 63 → IsSound lines (joined_from n (map kept_in parts) (l ∷ rest)) → HasRoom (joined (kept_in a) l)
 joined_from-room lines n parts l rest a h e few s = within-room lines _ few (joined_from-within lines n parts l rest a h e s)

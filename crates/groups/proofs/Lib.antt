@@ -8,5 +8,6 @@ pub mod Moves
 pub mod Meaning
 pub mod Distinct
 pub mod GroupsLaw
+pub mod Covering
 pub mod Shuffles
 pub mod Literals

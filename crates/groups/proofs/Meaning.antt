@@ -13,15 +13,15 @@ use Rattle.query_check.specs.declared.function.ColumnFunction.TheVariants as fun
 use Rattle.groups.specs.Rows.{Row, value_at, is_present, number_of, column_values, column_numbers}
 use Rattle.groups.specs.Functions.{total, least, greatest}
 use Rattle.groups.specs.Groups.{Key, project, key_order, same_key, each_once, keys, members}
-use Rattle.groups.specs.Seen.{falling, first_by, set_of}
-use Rattle.groups.specs.Kept.{Kept, counted, summed, averaged, distinct, lowest, highest, kept, taken, argument, joined}
-use Rattle.groups.specs.Held.{Held, held, all_taken, all_joined, with_row, join}
-use Rattle.groups.specs.Table.{Contents, IsTableOf, IsAdded, IsPut, IsJoined, HasPlace, IsFitting, CanJoin, IsGroupWithin, AreGroupsWithin, grown, join_options}
+use Rattle.groups.specs.Inside.Values.{falling, first_by, set_of}
+use Rattle.groups.specs.Inside.Accumulator.{AccumulatorState, counted, summed, averaged, distinct, lowest, highest, kept, taken, argument, joined}
+use Rattle.groups.specs.Inside.Group.{GroupState, held, all_taken, all_joined, with_row, join}
+use Rattle.groups.specs.Inside.Table.{Contents, IsTableOf, IsAdded, IsPut, IsJoined, HasPlace, IsFitting, CanJoin, IsGroupWithin, AreGroupsWithin, grown, join_options}
 use Rattle.groups.proofs.Order.{key_total}
 use Rattle.groups.proofs.Firsts.{present-all, least-append, least-one, greatest-append, greatest-one}
 use Rattle.groups.proofs.Sets.{union-append}
 
-pub same_held : (g h : Held) → g.lines ≡ h.lines → g.parts ≡ h.parts → g ≡ h
+pub same_held : (g h : GroupState) → g.lines ≡ h.lines → g.parts ≡ h.parts → g ≡ h
 same_held g h p q i = record { lines = p i; parts = q i }
 
 -- ---- what is kept of two lists of records
@@ -152,7 +152,7 @@ no_members (p ∷ ps) k rows h = none-projected (p ∷ ps) k rows (sym (any-each
 
 -- ---- tables
 
-abbrev pub group_at : List ℕ → List ColumnFunction → Key → List Row → Option Held
+abbrev pub group_at : List ℕ → List ColumnFunction → Key → List Row → Option GroupState
 group_at set fs k rows = cond (has_key set k rows) (Some (held fs (members set k rows))) None
 
 both : (fs : List ColumnFunction) (a b : Bool) (x y : List Row) → (a ≡ false → x ≡ []) → (b ≡ false → y ≡ [])
@@ -221,7 +221,7 @@ place-at fs false x h = tt
 
 -- a table of few records takes one more
 pub table-place : (set : List ℕ) (fs : List ColumnFunction) (t : Contents) (l : List Row) → IsTableOf set fs t l → length l + 1 < 2 ^ 63 → (k : Key) → HasPlace fs (fin.get t k)
-table-place set fs t l a few k = subst (λ (o : Option Held). HasPlace fs o) (sym (a k)) (place-at fs (has_key set k l) (members set k l)
+table-place set fs t l a few k = subst (λ (o : Option GroupState). HasPlace fs o) (sym (a k)) (place-at fs (has_key set k l) (members set k l)
     (omega (arith, few, filter-le (λ r. same_key k (project set r)) l)))
 
 -- ---- tables within a number of records
@@ -232,15 +232,15 @@ within-at fs n false x h = tt
 
 -- the table of so many records is within them
 pub table-within : (set : List ℕ) (fs : List ColumnFunction) (t : Contents) (l : List Row) (n : ℕ) → IsTableOf set fs t l → length l ≤ n → AreGroupsWithin n fs t
-table-within set fs t l n a few k = subst (λ (o : Option Held). IfSome o (IsGroupWithin n fs)) (sym (a k))
+table-within set fs t l n a few k = subst (λ (o : Option GroupState). IfSome o (IsGroupWithin n fs)) (sym (a k))
     (within-at fs n (has_key set k l) (members set k l) (omega (arith, few, filter-le (λ r. same_key k (project set r)) l)))
 
-all_joined-length : (ks ls : List Kept) → length ks ≡ length ls → length (all_joined ks ls) ≡ length ks
+all_joined-length : (ks ls : List AccumulatorState) → length ks ≡ length ls → length (all_joined ks ls) ≡ length ks
 all_joined-length [] ls h = refl
 all_joined-length (k ∷ ks) [] h = refl
 all_joined-length (k ∷ ks) (l ∷ ls) h = ap suc (all_joined-length ks ls (omega (arith, h)))
 
-within-join : (fs : List ColumnFunction) (m n : ℕ) (a b : Option Held) → IfSome a (IsGroupWithin m fs) → IfSome b (IsGroupWithin n fs) → IfSome (join_options a b) (IsGroupWithin (m + n) fs)
+within-join : (fs : List ColumnFunction) (m n : ℕ) (a b : Option GroupState) → IfSome a (IsGroupWithin m fs) → IfSome b (IsGroupWithin n fs) → IfSome (join_options a b) (IsGroupWithin (m + n) fs)
 within-join fs m n None None p q = tt
 within-join fs m n None (Some b) p q = (omega (arith, q.0), q.1)
 within-join fs m n (Some a) None p q = (omega (arith, p.0), p.1)
@@ -248,9 +248,9 @@ within-join fs m n (Some a) (Some b) p q = (omega (arith, p.0, q.0), all_joined-
 
 -- two tables put together are within both numbers of records
 pub tables-within : (fs : List ColumnFunction) (m n : ℕ) (t u v : Contents) → AreGroupsWithin m fs t → AreGroupsWithin n fs u → ((k : Key) → IsJoined t u v k) → AreGroupsWithin (m + n) fs v
-tables-within fs m n t u v p q j k = subst (λ (o : Option Held). IfSome o (IsGroupWithin (m + n) fs)) (sym (j k)) (within-join fs m n (fin.get t k) (fin.get u k) (p k) (q k))
+tables-within fs m n t u v p q j k = subst (λ (o : Option GroupState). IfSome o (IsGroupWithin (m + n) fs)) (sym (j k)) (within-join fs m n (fin.get t k) (fin.get u k) (p k) (q k))
 
-fits-within : (fs : List ColumnFunction) (m n : ℕ) (a b : Option Held) → m + n < 2 ^ 63 → IfSome a (IsGroupWithin m fs) → IfSome b (IsGroupWithin n fs) → IfSome b (λ part. IsFitting part a)
+fits-within : (fs : List ColumnFunction) (m n : ℕ) (a b : Option GroupState) → m + n < 2 ^ 63 → IfSome a (IsGroupWithin m fs) → IfSome b (IsGroupWithin n fs) → IfSome b (λ part. IsFitting part a)
 fits-within fs m n None None few p q = tt
 fits-within fs m n None (Some b) few p q = tt
 fits-within fs m n (Some a) None few p q = tt

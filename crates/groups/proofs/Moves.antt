@@ -7,12 +7,12 @@ use Rattle.values.specs.declared.value.Value.{Value}
 use Rattle.values.specs.declared.value.Value.TheVariants as v
 use Rattle.query_check.specs.declared.function.ColumnFunction.{ColumnFunction}
 use Rattle.query_check.specs.declared.function.ColumnFunction.TheVariants as function
-use Rattle.groups.specs.Rows.{Row, value_at}
+use Rattle.groups.specs.Rows.{Row, value_at, IsNarrowRow}
 use Rattle.groups.specs.Groups.{Key, project, same_key}
-use Rattle.groups.specs.Kept.{Kept, argument, taken}
-use Rattle.groups.specs.Held.{Held, held, IsNarrowRow, all_taken, with_row}
-use Rattle.groups.specs.Moved.{AreArgumentsKept, left_of, takes}
-use Rattle.groups.specs.Table.{Contents, IsAdded}
+use Rattle.groups.specs.Inside.Accumulator.{AccumulatorState, argument, taken}
+use Rattle.groups.specs.Inside.Group.{GroupState, held, all_taken, with_row}
+use Rattle.groups.specs.Inside.Moving.{AreArgumentsKept, left_of, takes}
+use Rattle.groups.specs.Inside.Table.{Contents, IsAdded}
 
 differ : (m n : ℕ) → (m == n) ≡ false → m ≢ n
 differ m n h e = let t : (m == n) ≡ true = eq-eqb m n e in cc
@@ -80,12 +80,12 @@ project-set p (q ∷ qs) row h = λ i. value_at-set p q row (differ p q h.0) i �
 pub project-left : (fs : List ColumnFunction) (p : ℕ) (qs : List ℕ) (row : Row) → AllByRecursion (λ q. (p == q) ≡ false) qs → project qs (left_of fs p row) ≡ project qs row
 project-left fs p qs row h = elim (list_any (takes p) fs) as (λ b. project qs (cond b row (set row p null)) ≡ project qs row) [ true ↦ refl | false ↦ project-set p qs row h ]
 
-all_taken-kept : (fs : List ColumnFunction) (ks : List Kept) (old new : Row) → AreArgumentsKept fs old new → all_taken fs ks new ≡ all_taken fs ks old
+all_taken-kept : (fs : List ColumnFunction) (ks : List AccumulatorState) (old new : Row) → AreArgumentsKept fs old new → all_taken fs ks new ≡ all_taken fs ks old
 all_taken-kept [] ks old new h = refl
 all_taken-kept (f ∷ fs) [] old new h = refl
 all_taken-kept (f ∷ fs) (k ∷ ks) old new h = λ i. taken k (h.0 i) ∷ all_taken-kept fs ks old new h.1 i
 
-with_row-kept : (fs : List ColumnFunction) (g : Held) (old new : Row) → AreArgumentsKept fs old new → with_row fs g new ≡ with_row fs g old
+with_row-kept : (fs : List ColumnFunction) (g : GroupState) (old new : Row) → AreArgumentsKept fs old new → with_row fs g new ≡ with_row fs g old
 with_row-kept fs g old new h = λ i. record { lines = g.lines + 1; parts = all_taken-kept fs g.parts old new h i }
 
 -- NULL put into a record of the code

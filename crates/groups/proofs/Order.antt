@@ -13,7 +13,7 @@ use Rattle.values.specs.Order.{value_order}
 use Rattle.values.specs.declared.value.Value.{Value}
 use Rattle.values.specs.declared.value.Value.TheVariants as v
 use Rattle.values.specs.contracts.value.ValuePartialEq.TheImpl.{eq-value}
-use Rattle.groups.specs.Coding.{parts, joined_parts, joined_parts-parts}
+use Rattle.groups.specs.Inside.Coding.{parts, joined_parts, joined_parts-parts}
 use Rattle.groups.specs.Groups.{Key, key_order, same_key}
 
 abbrev order_of_parts : Datum → Datum → Ordering

@@ -7,13 +7,13 @@ use Rattle.std.specs.List.Sorted.{IsPermutation}
 use Rattle.std.proofs.lemmas.List.Folds.{list_any-append}
 use Rattle.std.proofs.lemmas.List.Sorted.{list_any-IsPermutation, IsPermutation-map}
 use Rattle.std.specs.FinSet as set
-use Rattle.values.specs.Datum.{Datum, whole, text, boolean, datum_of, data_of}
+use Rattle.values.specs.Datum.{Datum, whole, text, boolean, null, data_of, datum_of}
 use Rattle.values.specs.Order.{value_order}
 use Rattle.values.specs.declared.value.Value.{Value}
 use Rattle.values.specs.declared.value.Value.TheVariants as v
-use Rattle.groups.specs.Rows.{present}
+use Rattle.groups.specs.Rows.{is_present, present}
 use Rattle.groups.specs.Functions.{same_value, different}
-use Rattle.groups.specs.Seen.{Values, set_of, set_shown}
+use Rattle.groups.specs.Inside.Values.{Values, set_of, set_shown}
 use Rattle.groups.proofs.Order.{value_total, value_antisymmetric, value_eq, value_eq-ties}
 
 or-false : (b : Bool) → (b || false) ≡ b
@@ -107,11 +107,18 @@ union-one s d = same _ _ (λ q. set.contains-union value_total s (set_of (d ∷ 
     ∙ or-flip (set.contains s q) (same_value q d) ∙ sym (set.contains-insert value_total s d q))
 
 -- with one more value that is not NULL
-pub union-present : (s : Values) (w : Value) → w ≢ v.Null → set.union s (set_of (present (datum_of w ∷ []))) ≡ set.insert s (datum_of w)
-union-present s (v.Bool b) h = union-one s (boolean b)
-union-present s (v.Int n) h = union-one s (whole n)
-union-present s (v.Text t) h = union-one s (text (string_bytes t))
-union-present s v.Null h = absurd (h refl)
+pub union-present : (s : Values) (d : Datum) → is_present d ≡ true → set.union s (set_of (present (d ∷ []))) ≡ set.insert s d
+union-present s (boolean b) h = union-one s (boolean b)
+union-present s (whole n) h = union-one s (whole n)
+union-present s (text t) h = union-one s (text t)
+union-present s null h = cc
+
+-- where NULL is taken the set stays
+pub union-absent : (s : Values) (d : Datum) → is_present d ≡ false → set.union s (set_of (present (d ∷ []))) ≡ s
+union-absent s (boolean b) h = cc
+union-absent s (whole n) h = cc
+union-absent s (text t) h = cc
+union-absent s null h = union-empty s
 
 -- moving the first value of a list into a set
 pub moved : (s : Values) (d : Datum) (ds : List Datum) → set.union (set.insert s d) (set_of ds) ≡ set.union s (set_of (d ∷ ds))

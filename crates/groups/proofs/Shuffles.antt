@@ -6,11 +6,11 @@ use Rattle.query_check.specs.declared.function.ColumnFunction.TheVariants as fun
 use Rattle.groups.specs.Rows.{Row, column_values, column_numbers}
 use Rattle.groups.specs.Functions.{total, least, greatest}
 use Rattle.groups.specs.Groups.{Key, members}
-use Rattle.groups.specs.Seen.{set_of}
-use Rattle.groups.specs.Kept.{counted, summed, averaged, distinct, lowest, highest, kept, joined}
-use Rattle.groups.specs.Held.{held, all_joined, join}
+use Rattle.groups.specs.Inside.Values.{set_of}
+use Rattle.groups.specs.Inside.Accumulator.{counted, summed, averaged, distinct, lowest, highest, kept, joined}
+use Rattle.groups.specs.Inside.Group.{held, all_joined, join}
 use Rattle.groups.specs.Shuffle.{Shuffle, none, skip, swap, both}
-use Rattle.groups.specs.Table.{Contents, IsTableOf, join_options}
+use Rattle.groups.specs.Inside.Table.{Contents, IsTableOf, join_options}
 use Rattle.groups.proofs.Firsts.{less-flip, greater-flip}
 use Rattle.groups.proofs.Sets.{union-flip}
 use Rattle.groups.proofs.Meaning.{same_held, has_key, group_at, group_at-append}

@@ -1,5 +1,5 @@
 -- The value of a set function over a list of records (ISO/IEC 9075-2, <set function specification>).
-use Rattle.std.specs.Prelude.{ℕ, ℤ, pos, ◌+ℤ◌, Bool, not, List, [], ◌∷◌, length, Option, Some, None, unwrap_or, if◌then◌else◌}
+use Rattle.std.specs.Prelude.{ℕ, ℤ, pos, ◌+ℤ◌, Bool, not, List, [], ◌∷◌, length, unwrap_or, if◌then◌else◌}
 use Rattle.std.specs.List.{find, list_all, list_any}
 use Rattle.std.specs.Ordering.{eq_by_cmp, is_lt, is_gt}
 use Rattle.values.specs.Datum.{Datum, whole, null}

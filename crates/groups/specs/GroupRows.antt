@@ -6,10 +6,9 @@ use Rattle.groups.specs.declared.group.Group.{Group}
 use Rattle.groups.specs.Rows.{Row}
 use Rattle.groups.specs.Functions.{Summary, agg}
 use Rattle.groups.specs.Groups.{Key, keys, members}
-use Rattle.groups.specs.Kept.{summary}
-use Rattle.groups.specs.Held.{Held}
 use Rattle.groups.specs.Shown.{summary_of}
 
+-- what is shown of a group: its key, the number of its members, and the value of each set function over them
 pub record GroupRow : Type 0 where
   pub key : Key
   pub lines : ℕ
@@ -18,6 +17,10 @@ pub record GroupRow : Type 0 where
 -- the row of a group with this key and these members
 abbrev pub group_row : List ColumnFunction → Key → List Row → GroupRow
 group_row functions key rows = record { key = key; lines = length rows; cells = map (λ f. agg f rows) functions }
+
+-- the row of a group that a table gives
+abbrev pub group_row_in : Group → GroupRow
+group_row_in group = record { key = data_of group.key.items; lines = group.lines; cells = map summary_of group.cells.items }
 
 -- the rows of all groups of a list of records under a grouping set, one for each key
 abbrev pub group_rows : List ℕ → List ColumnFunction → List Row → List GroupRow
@@ -31,12 +34,3 @@ weigh weight (x ∷ xs) = weight x + weigh weight xs
 -- two lists have the same things, each as often: whatever the things weigh, the lists weigh the same
 abbrev pub SameBag : {X : Type 0} → List X → List X → Type 0
 SameBag {X} xs ys = (weight : X → ℕ) → weigh weight xs ≡ weigh weight ys
-
--- ---- in the code
-
-abbrev pub group_row_in : Group → GroupRow
-group_row_in group = record { key = data_of group.key.items; lines = group.lines; cells = map summary_of group.cells.items }
-
--- the row of what is kept of a group
-abbrev pub group_row_kept : Key × Held → GroupRow
-group_row_kept e = record { key = e.0; lines = e.1.lines; cells = map (summary e.1.lines) e.1.parts }

@@ -1,12 +1,7 @@
 pub mod Rows
 pub mod Functions
 pub mod Groups
-pub mod Seen
-pub mod Kept
 pub mod Shown
-pub mod Held
-pub mod Moved
-pub mod Coding
-pub mod Table
 pub mod GroupRows
 pub mod Shuffle
+pub mod Inside

@@ -1,5 +1,6 @@
 -- The records of a query and their columns.
-use Rattle.std.specs.Prelude.{ℕ, ℤ, Bool, true, false, List, map, filter, filter_map, slice_index_or, Option, Some, None}
+use Rattle.std.specs.Prelude.{ℕ, ◌^◌, ℤ, pos, ◌-ℤ◌, ◌≤ℤ◌, Bool, true, false, List, map, filter, filter_map, slice_index_or, Option, Some, None, IfSome}
+use Rattle.std.specs.List.{AllByRecursion}
 use Rattle.values.specs.Datum.{Datum, boolean, whole, text, null}
 
 -- the values of a record, one for each column
@@ -37,3 +38,11 @@ numbers values = filter_map number_of values
 -- the whole numbers in a column, over a list of records
 abbrev pub column_numbers : ℕ → List Row → List ℤ
 column_numbers place rows = numbers (map (value_at place) rows)
+
+-- where the value is a whole number, it is neither below -2^63 nor above 2^63, as none of 64 bits is
+abbrev pub IsNarrow : Datum → Type 0
+IsNarrow d = IfSome (number_of d) (λ n. ((pos 0 -ℤ pos (2 ^ 63)) ≤ℤ n) × (n ≤ℤ pos (2 ^ 63)))
+
+-- so are all values of a record
+abbrev pub IsNarrowRow : Row → Type 0
+IsNarrowRow row = AllByRecursion IsNarrow row

@@ -1,9 +1,10 @@
--- The values of set functions in the code.
+-- The values of set functions, apart from where they lie in memory.
 use Rattle.values.specs.Datum.{datum_of}
 use Rattle.groups.specs.declared.cell.Cell.{Cell}
 use Rattle.groups.specs.declared.cell.Cell.TheVariants as cell
 use Rattle.groups.specs.Functions.{Summary, plain, ratio}
 
+-- a cell: a value, or a sum and how many numbers were added
 abbrev pub summary_of : Cell → Summary
 summary_of (cell.Plain value) = plain (datum_of value)
 summary_of (cell.Ratio sum count) = ratio sum count

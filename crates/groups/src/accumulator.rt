@@ -1,6 +1,6 @@
 ghost use Rattle.std.specs.Prelude.{◌≡◌, MatchOption};
 ghost use Rattle.values.specs.Datum.{datum_of, data_of, null};
-ghost use Rattle.groups.specs.Kept.{argument, place_of};
+ghost use Rattle.groups.specs.Inside.Accumulator.{argument, place_of};
 ghost use Rattle.groups.specs.Rows.{is_present};
 
 use crate::cell::Cell;
@@ -32,7 +32,7 @@ pub(crate) enum Accumulator {
 
 impl Accumulator {
     ghost use Rattle.std.specs.Prelude.{[], ◌∷◌, ◌+◌, ◌^◌, ◌<◌, IfOk, OnOk, OnErr};
-    ghost use Rattle.groups.specs.Kept.{kept, kept_in, taken, joined, summary, HasRoom, IsUnbounded};
+    ghost use Rattle.groups.specs.Inside.Accumulator.{kept, kept_in, taken, joined, summary, HasRoom, IsUnbounded};
     ghost use Rattle.groups.specs.Shown.{summary_of};
 
     /// What is kept of no record.
@@ -115,7 +115,16 @@ impl Accumulator {
                 }
             }
             (Accumulator::Average(total), Accumulator::Average(more)) => total.absorb(more),
-            (_, _) => {}
+            (
+                Accumulator::Rows
+                | Accumulator::Count(_)
+                | Accumulator::Distinct(_)
+                | Accumulator::Sum(_)
+                | Accumulator::Min(_)
+                | Accumulator::Max(_)
+                | Accumulator::Average(_),
+                _,
+            ) => {}
         }
         Ok(())
     }
@@ -132,18 +141,18 @@ impl Accumulator {
             Accumulator::Min(value) => Cell::Plain(value),
             Accumulator::Max(value) => Cell::Plain(value),
             Accumulator::Average(total) if total.count > 0 => Cell::Ratio(total.sum, total.count),
-            _ => Cell::Plain(Value::Null),
+            Accumulator::Sum(_) | Accumulator::Average(_) => Cell::Plain(Value::Null),
         }
     }
 }
 
 /// Whether a value is not NULL.
-fn is_present(value: &Value) -> bool
+pub(crate) fn is_present(value: &Value) -> bool
     ensures { result ≡ is_present (datum_of value.now) }
 {
     match value {
         Value::Null => false,
-        _ => true,
+        Value::Bool(_) | Value::Int(_) | Value::Text(_) => true,
     }
 }
 

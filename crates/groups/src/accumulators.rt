@@ -1,5 +1,5 @@
 ghost use Rattle.std.specs.Prelude.{◌≡◌, IfOk, map};
-ghost use Rattle.groups.specs.Kept.{kept_in, summary};
+ghost use Rattle.groups.specs.Inside.Accumulator.{kept_in, summary};
 ghost use Rattle.groups.specs.Shown.{summary_of};
 
 use crate::accumulator::Accumulator;
@@ -18,12 +18,12 @@ pub(crate) struct Accumulators {
 
 impl Model for Accumulators {
     ghost use Rattle.std.specs.Prelude.{map};
-    ghost use Rattle.groups.specs.Kept.{kept_in};
-    ghost use Rattle.groups.specs.Held.{Held, coded_held, IsSound};
+    ghost use Rattle.groups.specs.Inside.Accumulator.{kept_in};
+    ghost use Rattle.groups.specs.Inside.Group.{GroupState, coded_group, IsSound};
 
-    ghost Value = { Held };
+    ghost Value = { GroupState };
 
-    ghost coded = { coded_held };
+    ghost coded = { coded_group };
 
     ghost view = { λ a. record { lines = a.lines; parts = map kept_in a.parts.items } };
 
@@ -33,8 +33,9 @@ impl Model for Accumulators {
 impl Accumulators {
     ghost use Rattle.std.specs.Prelude.{◌≡◌, ◌+◌, ◌<◌, ◌≤◌, ◌^◌, [], IfOk, OnOk, length, map};
     ghost use Rattle.values.specs.Datum.{data_of};
-    ghost use Rattle.groups.specs.Kept.{summary};
-    ghost use Rattle.groups.specs.Held.{held, with_row, join, IsNarrowRow};
+    ghost use Rattle.groups.specs.Inside.Accumulator.{summary};
+    ghost use Rattle.groups.specs.Inside.Group.{held, with_row, join};
+    ghost use Rattle.groups.specs.Rows.{IsNarrowRow};
     ghost use Rattle.groups.specs.Shown.{summary_of};
 
     /// What is kept of a group without members.

@@ -1,8 +1,9 @@
 ghost use Rattle.std.specs.Prelude.{◌≡◌, OnOk};
 ghost use Rattle.std.specs.FinSet as set;
 ghost use Rattle.values.specs.Datum.{datum_of};
-ghost use Rattle.groups.specs.Seen.{set_shown};
+ghost use Rattle.groups.specs.Inside.Values.{set_shown};
 
+use crate::accumulator::is_present;
 use crate::copy::copy_of;
 use std::alloc::{AllocError, Global};
 use std::collections::HashSet;
@@ -19,8 +20,8 @@ pub(crate) struct DistinctValues {
 
 impl Model for DistinctValues {
     ghost use Rattle.std.specs.FinSet as set;
-    ghost use Rattle.groups.specs.Coding.{coded_datum};
-    ghost use Rattle.groups.specs.Seen.{Values, set_shown};
+    ghost use Rattle.groups.specs.Inside.Coding.{coded_datum};
+    ghost use Rattle.groups.specs.Inside.Values.{Values, set_shown};
 
     ghost Value = { Values };
 
@@ -34,7 +35,7 @@ impl DistinctValues {
     ghost use Rattle.std.specs.FinSet as set;
     ghost use Rattle.values.specs.Datum.{datum_of};
     ghost use Rattle.groups.specs.Rows.{present};
-    ghost use Rattle.groups.specs.Seen.{set_of};
+    ghost use Rattle.groups.specs.Inside.Values.{set_of};
 
     /// No value.
     pub(crate) fn new(alloc: Global) -> Result<DistinctValues, AllocError>
@@ -48,10 +49,10 @@ impl DistinctValues {
     pub(crate) fn add(&mut self, value: &Value) -> Result<(), AllocError>
         ensures { OnOk result (self.new ≡ set.union self.old (set_of (present (datum_of value.now ∷ [])))) }
     {
-        match value {
-            Value::Null => Ok(()),
-            _ => insert_copy(&mut *self.values, value),
+        if !is_present(value) {
+            return Ok(());
         }
+        insert_copy(&mut *self.values, value)
     }
 
     /// Takes the values of another set, which move into this one.

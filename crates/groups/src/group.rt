@@ -1,8 +1,9 @@
 ghost use Rattle.std.specs.Prelude.{◌≡◌, IfOk, map};
 ghost use Rattle.std.specs.List.{IsDistinct};
 ghost use Rattle.groups.specs.Groups.{same_key};
-ghost use Rattle.groups.specs.Table.{entries_shown};
-ghost use Rattle.groups.specs.GroupRows.{group_row_in, group_row_kept};
+ghost use Rattle.groups.specs.Inside.Table.{entries_shown};
+ghost use Rattle.groups.specs.GroupRows.{group_row_in};
+ghost use Rattle.groups.specs.Inside.Group.{group_row_kept};
 
 use crate::accumulators::Accumulators;
 use crate::cell::Cell;

@@ -2,9 +2,8 @@ ghost use Rattle.std.specs.Prelude.{◌≡◌, nat_eq, IfOk, OnOk, set};
 ghost use Rattle.std.specs.List.{IsDistinct, list_any};
 ghost use Rattle.values.specs.Datum.{data_of, datum_of, null};
 ghost use Rattle.groups.specs.Groups.{project};
-ghost use Rattle.groups.specs.Held.{IsNarrowRow};
-ghost use Rattle.groups.specs.Moved.{AreArgumentsKept, left_of, takes};
-ghost use Rattle.groups.specs.Rows.{value_at};
+ghost use Rattle.groups.specs.Rows.{IsNarrowRow, value_at};
+ghost use Rattle.groups.specs.Inside.Moving.{AreArgumentsKept, left_of, takes};
 
 use crate::accumulator::place_of;
 use crate::copy::copy_of;

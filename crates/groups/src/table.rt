@@ -18,7 +18,7 @@ pub struct Table {
 }
 
 impl Model for Table {
-    ghost use Rattle.groups.specs.Table.{Contents, coded_contents, shown};
+    ghost use Rattle.groups.specs.Inside.Table.{Contents, coded_contents, shown};
 
     ghost Value = { Contents };
 
@@ -30,14 +30,14 @@ impl Model for Table {
 impl Table {
     ghost use Rattle.std.specs.Prelude.{◌≡◌, ℕ, nat_eq, [], ◌∷◌, ◌++◌, OnOk, IfOk, IfSome, List, map};
     ghost use Rattle.std.specs.List.{IsDistinct};
-    ghost use Rattle.groups.specs.Rows.{Row};
+    ghost use Rattle.groups.specs.Rows.{Row, IsNarrowRow};
     ghost use Rattle.query_check.specs.declared.function.ColumnFunction.{ColumnFunction};
     ghost use Rattle.std.specs.FinMap as fin;
     ghost use Rattle.values.specs.Datum.{data_of};
     ghost use Rattle.groups.specs.Groups.{Key};
-    ghost use Rattle.groups.specs.Held.{IsNarrowRow, held};
+    ghost use Rattle.groups.specs.Inside.Group.{held};
     ghost use Rattle.groups.specs.GroupRows.{SameBag, group_row_in, group_rows};
-    ghost use Rattle.groups.specs.Table.{CanJoin, HasPlace, IsAdded, IsPut, IsFitting, IsJoined, IsTableOf, TakesOne};
+    ghost use Rattle.groups.specs.Inside.Table.{CanJoin, HasPlace, IsAdded, IsPut, IsFitting, IsJoined, IsTableOf, TakesOne};
 
     /// The table of no records under a grouping set, for these set functions.
     pub fn new(

@@ -4,7 +4,7 @@ use Rattle.query_check.specs.declared.function.ColumnFunction.{ColumnFunction}
 use Rattle.groups.specs.declared.group.Group.{Group}
 use Rattle.groups.specs.Rows.{Row}
 use Rattle.groups.specs.GroupRows.{SameBag, group_row_in, group_rows}
-use Rattle.groups.specs.Table.{Contents, IsTableOf}
+use Rattle.groups.specs.Inside.Table.{Contents, IsTableOf}
 use Rattle.tables.specs.Sets.{AreTablesOf, AreGroupsOf}
 
 abbrev pub AreFinished : List (List ℕ) → List ColumnFunction → List (Vec Group Global) → List Contents → List Row → Type 0

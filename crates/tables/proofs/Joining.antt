@@ -3,7 +3,7 @@ use Rattle.std.proofs.Common.{◌≡◌, ◌<◌, ℕ, zero, suc, List, [], ◌�
 use Rattle.query_check.specs.declared.function.ColumnFunction.{ColumnFunction}
 use Rattle.groups.specs.Rows.{Row}
 use Rattle.groups.specs.Groups.{Key}
-use Rattle.groups.specs.Table.{Contents, CanJoin, IsJoined}
+use Rattle.groups.specs.Inside.Table.{Contents, CanJoin, IsJoined}
 use Rattle.groups.proofs.Meaning.{table-joined}
 use Rattle.tables.specs.Sets.{AreTablesOf, AllCanJoin, AllJoined}
 

@@ -6,7 +6,7 @@ use Rattle.values.specs.declared.schema.Kind.TheVariants as kind
 use Rattle.values.specs.Datum.{Datum, boolean, whole, text, null}
 use Rattle.values.specs.Fit.{Fits, Holds}
 use Rattle.values.specs.Schema.{Field}
-use Rattle.groups.specs.Held.{IsNarrow, IsNarrowRow}
+use Rattle.groups.specs.Rows.{IsNarrow, IsNarrowRow}
 
 one : (k : Kind) (d : Datum) → Holds k d → IsNarrow d
 one k null h = tt

@@ -6,7 +6,7 @@ use Rattle.std.specs.List.{IsDistinct}
 use Rattle.std.specs.Bool.{⊤}
 use Rattle.query_check.specs.declared.function.ColumnFunction.{ColumnFunction}
 use Rattle.groups.specs.Rows.{Row}
-use Rattle.groups.specs.Table.{Contents, IsTableOf}
+use Rattle.groups.specs.Inside.Table.{Contents, IsTableOf}
 use Rattle.tables.specs.Sets.{AreTablesOf, places_of}
 
 -- the tables before the place are those of the one list of records, and the others those of the other

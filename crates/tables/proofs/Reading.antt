@@ -16,7 +16,7 @@ use Rattle.query_check.specs.Functions.{functions_of}
 use Rattle.query_check.specs.Sets.{sets_of}
 use Rattle.query_truth.specs.Kept.{is_kept, kept}
 use Rattle.groups.specs.Rows.{Row}
-use Rattle.groups.specs.Table.{Contents}
+use Rattle.groups.specs.Inside.Table.{Contents}
 use Rattle.tables.specs.Sets.{AreTablesOf}
 use Rattle.tables.specs.declared.folding.Folding.{Folding}
 use Rattle.tables.specs.Folding.{HasRead, good_of, refused_of}

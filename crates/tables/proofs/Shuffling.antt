@@ -6,7 +6,7 @@ use Rattle.std.specs.List.Sorted.{IsPermutation}
 use Rattle.query_check.specs.declared.function.ColumnFunction.{ColumnFunction}
 use Rattle.groups.specs.Rows.{Row}
 use Rattle.groups.specs.Shuffle.{Shuffle, none, skip, swap, both}
-use Rattle.groups.specs.Table.{Contents}
+use Rattle.groups.specs.Inside.Table.{Contents}
 use Rattle.groups.proofs.Shuffles.{table-shuffled}
 use Rattle.tables.specs.Sets.{AreTablesOf}
 

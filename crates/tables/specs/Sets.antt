@@ -8,7 +8,7 @@ use Rattle.groups.specs.declared.group.Group.{Group}
 use Rattle.groups.specs.GroupRows.{SameBag, group_row_in, group_rows}
 use Rattle.groups.specs.Rows.{Row}
 use Rattle.groups.specs.Groups.{Key}
-use Rattle.groups.specs.Table.{Contents, IsTableOf, CanJoin, IsJoined, AreGroupsWithin}
+use Rattle.groups.specs.Inside.Table.{Contents, IsTableOf, CanJoin, IsJoined, AreGroupsWithin}
 
 -- the grouping sets of the code, each as the list of its columns' places
 abbrev pub places_of : List (Vec ℕ Global) → List (List ℕ)

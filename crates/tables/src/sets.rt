@@ -18,7 +18,7 @@ pub(crate) struct Tables {
 impl Model for Tables {
     ghost use Rattle.std.specs.Prelude.{List};
     ghost use Rattle.std.specs.Coded.{Coded, coded_list};
-    ghost use Rattle.groups.specs.Table.{Contents, coded_contents};
+    ghost use Rattle.groups.specs.Inside.Table.{Contents, coded_contents};
 
     ghost Value = { List Contents };
 
@@ -33,7 +33,7 @@ impl Tables {
     ghost use Rattle.values.specs.Datum.{data_of};
     ghost use Rattle.query_check.specs.declared.function.ColumnFunction.{ColumnFunction};
     ghost use Rattle.groups.specs.Rows.{Row};
-    ghost use Rattle.groups.specs.Held.{IsNarrowRow};
+    ghost use Rattle.groups.specs.Rows.{IsNarrowRow};
     ghost use Rattle.tables.specs.Sets.{AllCanJoin, AllJoined, AllTakeOne, AreGroupsOf, AreTablesOf, places_of};
 
     /// The tables of no records.

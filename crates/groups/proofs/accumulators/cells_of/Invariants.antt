@@ -1,5 +1,5 @@
 use Rattle.std.proofs.Common.{◌≡◌, ◌++◌, map}
-use Rattle.groups.specs.Kept.{kept_in, summary}
+use Rattle.groups.specs.Inside.Accumulator.{kept_in, summary}
 use Rattle.groups.specs.Shown.{summary_of}
 use Rattle.groups.proofs.accumulators.cells_of.Given as goal
 

@@ -1,6 +1,6 @@
 use Rattle.std.proofs.Common.{sym, ap, ◌∙◌}
 use Rattle.std.specs.FinSet as set
-use Rattle.groups.specs.Seen.{set_shown}
+use Rattle.groups.specs.Inside.Values.{set_shown}
 use Rattle.groups.proofs.Sets.{shown-there, shown-insert}
 use Rattle.groups.proofs.distinct_values.insert_copy.Goals as goal
 

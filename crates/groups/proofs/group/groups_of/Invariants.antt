@@ -1,6 +1,7 @@
 use Rattle.std.proofs.Common.{◌≡◌, ◌++◌, map}
-use Rattle.groups.specs.GroupRows.{group_row_in, group_row_kept}
-use Rattle.groups.specs.Table.{entries_shown}
+use Rattle.groups.specs.GroupRows.{group_row_in}
+use Rattle.groups.specs.Inside.Group.{group_row_kept}
+use Rattle.groups.specs.Inside.Table.{entries_shown}
 use Rattle.groups.proofs.group.groups_of.Given as goal
 
 -- the lines so far, and then those of the entries that are left

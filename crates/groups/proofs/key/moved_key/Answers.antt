@@ -2,10 +2,9 @@ use Rattle.std.proofs.Common.{◌≡◌, ℕ, ◌==◌, ◌+◌, false, nat_eq, 
 use Rattle.std.proofs.lemmas.List.{drop_more}
 use Rattle.std.specs.List.{AllByRecursion, IsDistinct}
 use Rattle.values.specs.Datum.{data_of}
-use Rattle.groups.specs.Rows.{value_at}
+use Rattle.groups.specs.Rows.{value_at, IsNarrowRow}
 use Rattle.groups.specs.Groups.{project}
-use Rattle.groups.specs.Held.{IsNarrowRow}
-use Rattle.groups.specs.Moved.{AreArgumentsKept, left_of}
+use Rattle.groups.specs.Inside.Moving.{AreArgumentsKept, left_of}
 use Rattle.groups.proofs.Moves.{arguments-step, key-pushed, narrow-left, project-left}
 use Rattle.groups.proofs.key.moved_key.Goals as goal
 

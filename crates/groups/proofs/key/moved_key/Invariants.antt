@@ -2,8 +2,8 @@ use Rattle.std.proofs.Common.{◌≡◌, ◌++◌, drop, nat_eq}
 use Rattle.std.specs.List.{IsDistinct}
 use Rattle.values.specs.Datum.{data_of}
 use Rattle.groups.specs.Groups.{project}
-use Rattle.groups.specs.Held.{IsNarrowRow}
-use Rattle.groups.specs.Moved.{AreArgumentsKept}
+use Rattle.groups.specs.Rows.{IsNarrowRow}
+use Rattle.groups.specs.Inside.Moving.{AreArgumentsKept}
 use Rattle.groups.proofs.key.moved_key.Given as goal
 
 -- the values so far, and then those that are still in the record

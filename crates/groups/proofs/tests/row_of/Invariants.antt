@@ -1,5 +1,5 @@
 use Rattle.values.specs.Datum.{data_of}
-use Rattle.groups.specs.Held.{IsNarrowRow}
+use Rattle.groups.specs.Rows.{IsNarrowRow}
 use Rattle.groups.proofs.tests.row_of.Given as goal
 
 abbrev pub invariant-loop-field : goal.invariant-loop-field

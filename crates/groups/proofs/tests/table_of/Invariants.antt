@@ -1,6 +1,6 @@
 use Rattle.std.proofs.Common.{◌≡◌, List, length}
 use Rattle.groups.specs.Rows.{Row}
-use Rattle.groups.specs.Table.{IsTableOf}
+use Rattle.groups.specs.Inside.Table.{IsTableOf}
 use Rattle.groups.proofs.tests.table_of.Given as goal
 
 -- the table of as many records as were taken

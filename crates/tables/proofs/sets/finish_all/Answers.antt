@@ -1,6 +1,6 @@
 use Rattle.std.proofs.Common.{List, ◌∷◌, Vec, Global, sym, subst, arith}
 use Rattle.groups.specs.declared.group.Group.{Group}
-use Rattle.groups.specs.Table.{Contents}
+use Rattle.groups.specs.Inside.Table.{Contents}
 use Rattle.tables.proofs.Finishing.{AreFinished, finished-step, finished-all}
 use Rattle.tables.proofs.sets.finish_all.Goals as goal
 

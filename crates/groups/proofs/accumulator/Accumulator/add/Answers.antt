@@ -1,5 +1,5 @@
 use Rattle.std.proofs.Common.{sym, ap, ◌∙◌}
-use Rattle.groups.specs.Kept.{kept_in, taken}
+use Rattle.groups.specs.Inside.Accumulator.{kept_in, taken}
 use Rattle.groups.proofs.Keeping.{taken-null}
 use Rattle.groups.proofs.accumulator.Accumulator.add.Goals as goal
 

@@ -1,7 +1,7 @@
 use Rattle.std.proofs.Common.{rules, ◌≡◌, ◌+◌, ◌<◌, suc, List, ◌∷◌, set, length, map, sym, ap, subst, ◌∙◌, arith, add-one, length-set}
 use Rattle.std.proofs.lemmas.List.{length-map}
-use Rattle.groups.specs.Kept.{Kept, kept_in, IsWithin}
-use Rattle.groups.specs.Held.{Held, all_joined, IsSound}
+use Rattle.groups.specs.Inside.Accumulator.{AccumulatorState, kept_in, IsWithin}
+use Rattle.groups.specs.Inside.Group.{GroupState, all_joined, IsSound}
 use Rattle.groups.proofs.Keeping.{all_joined-sound, more-sound, sound-set, unbounded-within, joined_from, joined_from-within, joined_from-step, joined_from-all, joined_from-room}
 use Rattle.groups.proofs.accumulators.Accumulators.absorb.Goals as goal
 
@@ -21,13 +21,13 @@ absorb-requires c =
     let rest = c.next.new.self.iter.rest.items in
     let items = c.loop-place.self-inside.parts.items in
     let e : length c.loop-place.place-iterator.iter.rest.items ≡ suc (length rest) = ap length s.0.0 in
-    let start : IsSound old.lines old.parts = subst (λ (h : Held). IsSound h.lines h.parts) c.self.view_is c.self.invariant in
-    let more : IsSound other.lines other.parts = subst (λ (h : Held). IsSound h.lines h.parts) c.other.view_is c.other.invariant in
+    let start : IsSound old.lines old.parts = subst (λ (h : GroupState). IsSound h.lines h.parts) c.self.view_is c.self.invariant in
+    let more : IsSound other.lines other.parts = subst (λ (h : GroupState). IsSound h.lines h.parts) c.other.view_is c.other.invariant in
     let at : joined_from c.in-Some.place (map kept_in items) (kept_in c.in-Some.part ∷ map kept_in rest) ≡ all_joined old.parts other.parts =
     ap (λ n. joined_from n (map kept_in items) (kept_in c.in-Some.part ∷ map kept_in rest)) s.1 ∙ ap (λ xs. joined_from c.loop-place.place-iterator.count (map kept_in items) (map kept_in xs)) (sym s.0.0) ∙ i.rest in
     joined_from-room (old.lines + other.lines) c.in-Some.place items (kept_in c.in-Some.part) (map kept_in rest) c.index_mut.result.now
     (omega (arith, e, i.one_each, s.1)) c.index_mut.ensures.value c.requires.room
-    (subst (λ (ks : List Kept). IsSound (old.lines + other.lines) ks) (sym at) (all_joined-sound old.lines other.lines old.parts other.parts start more))
+    (subst (λ (ks : List AccumulatorState). IsSound (old.lines + other.lines) ks) (sym at) (all_joined-sound old.lines other.lines old.parts other.parts start more))
 
 pub loop-place-preserved : goal.loop-place-preserved
 loop-place-preserved c =
@@ -42,12 +42,12 @@ loop-place-preserved c =
     let part = kept_in c.in-Some.part in
     let e : length c.loop-place.place-iterator.iter.rest.items ≡ suc (length rest) = ap length s.0.0 in
     let here : place < length items = omega (arith, e, i.one_each, s.1) in
-    let start : IsSound old.lines old.parts = subst (λ (h : Held). IsSound h.lines h.parts) c.self.view_is c.self.invariant in
-    let more : IsSound other.lines other.parts = subst (λ (h : Held). IsSound h.lines h.parts) c.other.view_is c.other.invariant in
+    let start : IsSound old.lines old.parts = subst (λ (h : GroupState). IsSound h.lines h.parts) c.self.view_is c.self.invariant in
+    let more : IsSound other.lines other.parts = subst (λ (h : GroupState). IsSound h.lines h.parts) c.other.view_is c.other.invariant in
     let at : joined_from place (map kept_in items) (part ∷ map kept_in rest) ≡ all_joined old.parts other.parts =
     ap (λ n. joined_from n (map kept_in items) (part ∷ map kept_in rest)) s.1 ∙ ap (λ xs. joined_from c.loop-place.place-iterator.count (map kept_in items) (map kept_in xs)) (sym s.0.0) ∙ i.rest in
     let all : IsSound lines (joined_from place (map kept_in items) (part ∷ map kept_in rest)) =
-    subst (λ (ks : List Kept). IsSound lines ks) (sym at) (all_joined-sound old.lines other.lines old.parts other.parts start more) in
+    subst (λ (ks : List AccumulatorState). IsSound lines ks) (sym at) (all_joined-sound old.lines other.lines old.parts other.parts start more) in
     record {
       rest = ap (λ n. joined_from n (map kept_in (set items place c.absorb.new.self)) (map kept_in rest)) (s.2 ∙ ap (λ n. n + 1) (sym s.1) ∙ add-one place)
           ∙ joined_from-step place items part (map kept_in rest) c.index_mut.result.now c.absorb.new.self here c.index_mut.ensures.value c.in_ok-absorb.ensures.joined
@@ -55,15 +55,15 @@ loop-place-preserved c =
       one_each = let l = length-set items place c.absorb.new.self in omega (arith, e, l, i.one_each, s.2);
       lines = i.lines;
       sound = sound-set lines place items c.absorb.new.self i.sound
-          (subst (λ (k : Kept). IsWithin lines k) (sym c.in_ok-absorb.ensures.joined)
+          (subst (λ (k : AccumulatorState). IsWithin lines k) (sym c.in_ok-absorb.ensures.joined)
           (joined_from-within lines place items part (map kept_in rest) c.index_mut.result.now here c.index_mut.ensures.value all));
     }
 
 pub loop-place-init : goal.loop-place-init
 loop-place-init c =
     let items = c.self.inside.parts.items in
-    let each : length c.other.inside.parts.items ≡ length items = sym (length-map c.other.inside.parts.items kept_in) ∙ ap (λ (h : Held). length h.parts) c.other.view_is
-    ∙ c.requires.one_each ∙ ap (λ (h : Held). length h.parts) (sym c.self.view_is) ∙ length-map items kept_in in
+    let each : length c.other.inside.parts.items ≡ length items = sym (length-map c.other.inside.parts.items kept_in) ∙ ap (λ (h : GroupState). length h.parts) c.other.view_is
+    ∙ c.requires.one_each ∙ ap (λ (h : GroupState). length h.parts) (sym c.self.view_is) ∙ length-map items kept_in in
     record {
       rest = search rules;
       one_each = search (rules, each);

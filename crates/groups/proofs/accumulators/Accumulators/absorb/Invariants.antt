@@ -1,6 +1,6 @@
 use Rattle.std.proofs.Common.{◌≡◌, ◌+◌, length, map}
-use Rattle.groups.specs.Kept.{kept_in}
-use Rattle.groups.specs.Held.{all_joined, IsSound}
+use Rattle.groups.specs.Inside.Accumulator.{kept_in}
+use Rattle.groups.specs.Inside.Group.{all_joined, IsSound}
 use Rattle.groups.proofs.Keeping.{joined_from}
 use Rattle.groups.proofs.accumulators.Accumulators.absorb.Given as goal
 

@@ -2,8 +2,8 @@ use Rattle.std.proofs.Common.{◌≡◌, ◌+◌, ◌<◌, ◌^◌, List, set, l
 use Rattle.std.proofs.lemmas.List.{length-map}
 use Rattle.values.specs.Datum.{data_of}
 use Rattle.query_check.specs.declared.function.ColumnFunction.TheVariants.{CountRows}
-use Rattle.groups.specs.Kept.{Kept, kept_in, IsWithin}
-use Rattle.groups.specs.Held.{Held, all_taken, IsSound}
+use Rattle.groups.specs.Inside.Accumulator.{AccumulatorState, kept_in, IsWithin}
+use Rattle.groups.specs.Inside.Group.{GroupState, all_taken, IsSound}
 use Rattle.groups.proofs.Keeping.{all_taken-sound, more-sound, sound-set, unbounded-within, taken_from, taken_from-step, taken_from-all, taken_from-within, taken_from-room}
 use Rattle.groups.proofs.accumulators.Accumulators.add.Goals as goal
 
@@ -11,10 +11,10 @@ pub loop-place-init : goal.loop-place-init
 loop-place-init c =
     let items = c.self.inside.parts.items in
     record {
-      rest = ap (λ (h : Held). all_taken c.args.functions.now h.parts (data_of c.args.row.now)) c.self.view_is;
-      one_each = sym (length-map items kept_in) ∙ ap (λ (h : Held). length h.parts) c.self.view_is ∙ c.requires.one_each;
-      lines = ap (λ (h : Held). h.lines + 1) c.self.view_is;
-      sound = subst (λ (h : Held). IsSound (h.lines + 1) (map kept_in items)) c.self.view_is (more-sound c.self.inside.lines 1 (map kept_in items) c.self.invariant);
+      rest = ap (λ (h : GroupState). all_taken c.args.functions.now h.parts (data_of c.args.row.now)) c.self.view_is;
+      one_each = sym (length-map items kept_in) ∙ ap (λ (h : GroupState). length h.parts) c.self.view_is ∙ c.requires.one_each;
+      lines = ap (λ (h : GroupState). h.lines + 1) c.self.view_is;
+      sound = subst (λ (h : GroupState). IsSound (h.lines + 1) (map kept_in items)) c.self.view_is (more-sound c.self.inside.lines 1 (map kept_in items) c.self.invariant);
     }
 
 pub add-requires : goal.add-requires
@@ -24,9 +24,9 @@ add-requires c =
     let old = c.args.self.now in
     let i = c.loop-place.invariant in
     let bound : old.lines + 1 < 2 ^ 63 = c.requires.room in
-    let start : IsSound old.lines old.parts = subst (λ (h : Held). IsSound h.lines h.parts) c.self.view_is c.self.invariant in
+    let start : IsSound old.lines old.parts = subst (λ (h : GroupState). IsSound h.lines h.parts) c.self.view_is c.self.invariant in
     let sound : IsSound (old.lines + 1) (taken_from c.loop-place.place fs (map kept_in c.loop-place.self-inside.parts.items) row) =
-    subst (λ (ks : List Kept). IsSound (old.lines + 1) ks) (sym i.rest) (all_taken-sound old.lines fs old.parts row start c.requires.narrow) in
+    subst (λ (ks : List AccumulatorState). IsSound (old.lines + 1) ks) (sym i.rest) (all_taken-sound old.lines fs old.parts row start c.requires.narrow) in
     taken_from-room (old.lines + 1) c.loop-place.place fs c.loop-place.self-inside.parts.items row CountRows c.index_mut.result.now
     c.loop-place-test.true (omega (arith, c.loop-place-test.true, i.one_each)) c.index_mut.ensures.value bound sound
 
@@ -38,9 +38,9 @@ loop-place-preserved c =
     let items = c.loop-place.self-inside.parts.items in
     let place = c.loop-place.place in
     let i = c.loop-place.invariant in
-    let start : IsSound old.lines old.parts = subst (λ (h : Held). IsSound h.lines h.parts) c.self.view_is c.self.invariant in
+    let start : IsSound old.lines old.parts = subst (λ (h : GroupState). IsSound h.lines h.parts) c.self.view_is c.self.invariant in
     let all : IsSound (old.lines + 1) (taken_from place fs (map kept_in items) row) =
-    subst (λ (ks : List Kept). IsSound (old.lines + 1) ks) (sym i.rest) (all_taken-sound old.lines fs old.parts row start c.requires.narrow) in
+    subst (λ (ks : List AccumulatorState). IsSound (old.lines + 1) ks) (sym i.rest) (all_taken-sound old.lines fs old.parts row start c.requires.narrow) in
     let here : place < length items = omega (arith, c.loop-place-test.true, i.one_each) in
     record {
       rest = ap (λ n. taken_from n fs (map kept_in (set items place c.add.new.self)) row) (add-one place)
@@ -50,7 +50,7 @@ loop-place-preserved c =
       one_each = length-set items place c.add.new.self ∙ i.one_each;
       lines = i.lines;
       sound = sound-set (old.lines + 1) place items c.add.new.self i.sound
-          (subst (λ (k : Kept). IsWithin (old.lines + 1) k) (sym c.in_ok-add.ensures.taken)
+          (subst (λ (k : AccumulatorState). IsWithin (old.lines + 1) k) (sym c.in_ok-add.ensures.taken)
           (taken_from-within (old.lines + 1) place fs items row CountRows c.index_mut.result.now c.loop-place-test.true here c.index_mut.ensures.value all));
     }
 

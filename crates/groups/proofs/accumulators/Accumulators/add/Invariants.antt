@@ -1,7 +1,7 @@
 use Rattle.std.proofs.Common.{◌≡◌, ◌+◌, length, map}
 use Rattle.values.specs.Datum.{data_of}
-use Rattle.groups.specs.Kept.{kept_in}
-use Rattle.groups.specs.Held.{all_taken, IsSound}
+use Rattle.groups.specs.Inside.Accumulator.{kept_in}
+use Rattle.groups.specs.Inside.Group.{all_taken, IsSound}
 use Rattle.groups.proofs.Keeping.{taken_from}
 use Rattle.groups.proofs.accumulators.Accumulators.add.Given as goal
 

@@ -1,5 +1,5 @@
 use Rattle.std.proofs.Common.{◌≡◌, [], map, take}
-use Rattle.groups.specs.Kept.{kept, kept_in}
+use Rattle.groups.specs.Inside.Accumulator.{kept, kept_in}
 use Rattle.groups.proofs.accumulators.Accumulators.new.Given as goal
 
 -- the accumulators so far

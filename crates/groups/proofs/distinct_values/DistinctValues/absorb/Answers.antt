@@ -3,7 +3,7 @@ use Rattle.std.proofs.lemmas.Map.Iter.{rest_more, rest_all}
 use Rattle.std.specs.FinSet as set
 use Rattle.values.specs.Datum.{datum_of, data_of}
 use Rattle.values.specs.declared.value.Value.{Value}
-use Rattle.groups.specs.Seen.{Values, set_shown}
+use Rattle.groups.specs.Inside.Values.{Values, set_shown}
 use Rattle.groups.proofs.Sets.{union-empty, shown-insert, moved}
 use Rattle.groups.proofs.distinct_values.DistinctValues.absorb.Goals as goal
 

@@ -1,6 +1,6 @@
 use Rattle.std.proofs.Common.{◌≡◌}
 use Rattle.std.specs.FinSet as set
-use Rattle.groups.specs.Seen.{set_shown}
+use Rattle.groups.specs.Inside.Values.{set_shown}
 use Rattle.groups.proofs.distinct_values.DistinctValues.absorb.Given as goal
 
 -- the values so far with those that are left are those of both

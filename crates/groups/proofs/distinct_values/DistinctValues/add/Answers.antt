@@ -1,19 +1,23 @@
-use Rattle.std.proofs.Common.{◌≡◌, sym, ap, ◌∙◌}
+use Rattle.std.proofs.Common.{◌≡◌, true, false, sym, ap, ◌∙◌}
 use Rattle.std.proofs.lemmas.Result.{on_ok_weaker}
 use Rattle.std.specs.FinSet as set
 use Rattle.values.specs.Datum.{datum_of}
-use Rattle.groups.specs.Seen.{Values, set_shown}
-use Rattle.groups.proofs.Sets.{union-empty, union-present}
+use Rattle.groups.specs.Rows.{is_present}
+use Rattle.groups.specs.Inside.Values.{Values, set_shown}
+use Rattle.groups.proofs.Sets.{union-absent, union-present}
 use Rattle.groups.proofs.distinct_values.DistinctValues.add.Goals as goal
 
-pub returns-in-Null : goal.returns-in-Null
-returns-in-Null c = rw c.in-Null.is (sym (union-empty c.args.self.now))
+pub returns-then-not-is_present : goal.returns-then-not-is_present
+returns-then-not-is_present c =
+    let absent : is_present (datum_of c.args.value.now) ≡ false = cc in
+    sym (union-absent c.args.self.now (datum_of c.args.value.now) absent)
 
-pub returns-in_default : goal.returns-in_default
-returns-in_default c =
+pub returns : goal.returns
+returns c =
     let value = c.args.value.now in
+    let there : is_present (datum_of value) ≡ true = cc in
     on_ok_weaker c.insert_copy.result
     (λ (h : set_shown c.insert_copy.new.values.keys ≡ set.insert (set_shown c.deref_mut.result.now.keys) (datum_of value)).
     h ∙ ap (λ held. set.insert (set_shown held.keys) (datum_of value)) c.deref_mut.ensures.value
-    ∙ ap (λ (s : Values). set.insert s (datum_of value)) c.self.view_is ∙ sym (union-present c.args.self.now value c.in_default.not-Null))
+    ∙ ap (λ (s : Values). set.insert s (datum_of value)) c.self.view_is ∙ sym (union-present c.args.self.now (datum_of value) there))
     c.insert_copy.ensures

@@ -1,6 +1,6 @@
 use Rattle.std.proofs.Common.{sym, ap, ◌∙◌}
 use Rattle.std.specs.FinSet as set
-use Rattle.groups.specs.Seen.{Values, set_shown}
+use Rattle.groups.specs.Inside.Values.{Values, set_shown}
 use Rattle.groups.proofs.Sets.{len-shown}
 use Rattle.groups.proofs.distinct_values.DistinctValues.count.Goals as goal
 

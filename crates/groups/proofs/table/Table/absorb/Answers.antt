@@ -3,7 +3,7 @@ use Rattle.std.proofs.lemmas.Result.{on_ok_weaker}
 use Rattle.query_check.specs.declared.function.ColumnFunction.{ColumnFunction}
 use Rattle.groups.specs.Rows.{Row}
 use Rattle.groups.specs.Groups.{Key}
-use Rattle.groups.specs.Table.{IsJoined, IsTableOf}
+use Rattle.groups.specs.Inside.Table.{IsJoined, IsTableOf}
 use Rattle.groups.proofs.Meaning.{table-joined}
 use Rattle.groups.proofs.table.Table.absorb.Goals as goal
 

@@ -3,7 +3,7 @@ use Rattle.std.proofs.lemmas.Result.{on_ok_weaker}
 use Rattle.values.specs.Datum.{data_of}
 use Rattle.groups.specs.Rows.{Row}
 use Rattle.groups.specs.Groups.{Key}
-use Rattle.groups.specs.Table.{IsAdded, IsTableOf}
+use Rattle.groups.specs.Inside.Table.{IsAdded, IsTableOf}
 use Rattle.groups.proofs.Meaning.{table-added, table-place}
 use Rattle.groups.proofs.table.Table.add.Goals as goal
 

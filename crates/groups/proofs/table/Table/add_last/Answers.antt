@@ -3,8 +3,8 @@ use Rattle.std.proofs.lemmas.Result.{on_ok_weaker}
 use Rattle.values.specs.Datum.{data_of}
 use Rattle.groups.specs.Rows.{Row}
 use Rattle.groups.specs.Groups.{Key, project}
-use Rattle.groups.specs.Moved.{AreArgumentsKept}
-use Rattle.groups.specs.Table.{IsAdded, IsTableOf}
+use Rattle.groups.specs.Inside.Moving.{AreArgumentsKept}
+use Rattle.groups.specs.Inside.Table.{IsAdded, IsTableOf}
 use Rattle.groups.proofs.Meaning.{table-added, table-place}
 use Rattle.groups.proofs.Moves.{added-kept}
 use Rattle.groups.proofs.table.Table.add_last.Goals as goal

@@ -4,8 +4,9 @@ use Rattle.query_check.specs.declared.function.ColumnFunction.{ColumnFunction}
 use Rattle.groups.specs.declared.group.Group.{Group}
 use Rattle.groups.specs.Rows.{Row}
 use Rattle.groups.specs.Groups.{same_key}
-use Rattle.groups.specs.GroupRows.{SameBag, group_row_in, group_row_kept, group_rows, weigh}
-use Rattle.groups.specs.Table.{Contents, IsTableOf, entries_shown, shown}
+use Rattle.groups.specs.GroupRows.{SameBag, group_row_in, group_rows, weigh}
+use Rattle.groups.specs.Inside.Group.{group_row_kept}
+use Rattle.groups.specs.Inside.Table.{Contents, IsTableOf, entries_shown, shown}
 use Rattle.groups.proofs.Entries.{Entries}
 use Rattle.groups.proofs.GroupsLaw.{lines-bag}
 use Rattle.groups.proofs.table.Table.finish.Goals as goal

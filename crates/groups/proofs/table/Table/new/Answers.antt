@@ -2,8 +2,8 @@ use Rattle.std.proofs.Common.{◌≡◌, ◌≢◌, ◌==◌, true, ℕ, List, [
 use Rattle.query_check.specs.declared.function.ColumnFunction.{ColumnFunction}
 use Rattle.std.specs.FinMap as fin
 use Rattle.groups.specs.Groups.{Key}
-use Rattle.groups.specs.Held.{held}
-use Rattle.groups.specs.Table.{Contents, IsPut, IsTableOf, shown}
+use Rattle.groups.specs.Inside.Group.{held}
+use Rattle.groups.specs.Inside.Table.{Contents, IsPut, IsTableOf, shown}
 use Rattle.groups.proofs.Meaning.{table-empty_set, table-no_group}
 use Rattle.groups.proofs.table.Table.new.Goals as goal
 

@@ -7,8 +7,8 @@ use Rattle.std.specs.Map.{keys_of}
 use Rattle.values.specs.Datum.{data_of}
 use Rattle.values.specs.declared.value.Value.{Value}
 use Rattle.groups.specs.Groups.{Key, key_order}
-use Rattle.groups.specs.Held.{Held}
-use Rattle.groups.specs.Table.{IsFitting, join_options, entries_shown}
+use Rattle.groups.specs.Inside.Group.{GroupState}
+use Rattle.groups.specs.Inside.Table.{IsFitting, join_options, entries_shown}
 use Rattle.groups.proofs.Order.{key_total}
 use Rattle.groups.proofs.Entries.{key_eq, merged_step, fits_step, find-first}
 use Rattle.groups.proofs.table.Table.put_all.Goals as goal
@@ -20,27 +20,27 @@ loop-key-init c =
     λ k. ap (λ es. find key_order k (entries_shown es)) g.0 ∙ sym (get-from_entries key_total (entries_shown c.other.inside.groups.entries) k) ∙ ap (λ m. get m k) c.other.view_is in
     record {
       joined = λ k. ap (join_options (get c.args.self.now k)) (at k);
-      fits = λ k. subst (λ (o : Option Held). IfSome o (λ p. IsFitting p (get c.args.self.now k))) (sym (at k)) (c.requires k);
+      fits = λ k. subst (λ (o : Option GroupState). IfSome o (λ p. IsFitting p (get c.args.self.now k))) (sym (at k)) (c.requires k);
       distinct = subst (λ es. IsDistinct key_eq (keys_of es)) (sym g.0) g.4;
     }
 
 -- the rest begins with this turn's entry
 more : (c : goal.After-put_to_group-arg-1) → c.loop-key.key-iterator ≡ (c.in-Some.key, c.in-Some.part) ∷ c.next.new.self
-more c = rest_more (λ (x : Vec Value Global × Held). x) c.loop-key.key-iterator c.next.new.self c.next.result (c.in-Some.key, c.in-Some.part) c.in-Some.is c.next.ensures.steps
+more c = rest_more (λ (x : Vec Value Global × GroupState). x) c.loop-key.key-iterator c.next.new.self c.next.result (c.in-Some.key, c.in-Some.part) c.in-Some.is c.next.ensures.steps
 
 pub put_to_group-requires : goal.put_to_group-requires
 put_to_group-requires c =
     let k = data_of c.in-Some.key.items in
-    let e : Vec Value Global × Held = (c.in-Some.key, c.in-Some.part) in
-    subst (λ (o : Option Held). IfSome o (λ p. IsFitting p (get c.loop-key.self k)))
+    let e : Vec Value Global × GroupState = (c.in-Some.key, c.in-Some.part) in
+    subst (λ (o : Option GroupState). IfSome o (λ p. IsFitting p (get c.loop-key.self k)))
     (ap (λ es. find key_order k (entries_shown es)) (more c) ∙ find-first e c.next.new.self)
     (c.loop-key.invariant.fits k)
 
 pub loop-key-preserved : goal.loop-key-preserved
 loop-key-preserved c =
     let rest = c.next.new.self in
-    let e : Vec Value Global × Held = (c.in-Some.key, c.in-Some.part) in
-    let is : c.loop-key.key-iterator ≡ e ∷ rest = rest_more (λ (x : Vec Value Global × Held). x) c.loop-key.key-iterator rest c.next.result e c.in-Some.is c.next.ensures.steps in
+    let e : Vec Value Global × GroupState = (c.in-Some.key, c.in-Some.part) in
+    let is : c.loop-key.key-iterator ≡ e ∷ rest = rest_more (λ (x : Vec Value Global × GroupState). x) c.loop-key.key-iterator rest c.next.result e c.in-Some.is c.next.ensures.steps in
     let d : IsDistinct key_eq (keys_of (e ∷ rest)) = subst (λ es. IsDistinct key_eq (keys_of es)) is c.loop-key.invariant.distinct in
     record {
       joined = λ k. merged_step c.loop-key.self c.put_to_group.new.self k e rest d (c.in_ok-put_to_group.ensures k)

@@ -3,7 +3,7 @@ use Rattle.std.specs.List.{IsDistinct}
 use Rattle.std.specs.Map.{keys_of}
 use Rattle.std.specs.FinMap.{get, find}
 use Rattle.groups.specs.Groups.{Key, key_order}
-use Rattle.groups.specs.Table.{IsFitting, join_options, entries_shown}
+use Rattle.groups.specs.Inside.Table.{IsFitting, join_options, entries_shown}
 use Rattle.groups.proofs.Entries.{key_eq}
 use Rattle.groups.proofs.table.Table.put_all.Given as goal
 

@@ -6,8 +6,8 @@ use Rattle.std.specs.Map.{lookup}
 use Rattle.std.specs.Cmp.Lexicographic.{pointwise}
 use Rattle.values.specs.Datum.{data_of}
 use Rattle.groups.specs.Groups.{same_key}
-use Rattle.groups.specs.Held.{join}
-use Rattle.groups.specs.Table.{join_options, shown}
+use Rattle.groups.specs.Inside.Group.{join}
+use Rattle.groups.specs.Inside.Table.{join_options, shown}
 use Rattle.groups.proofs.Order.{value_eq}
 use Rattle.groups.proofs.Entries.{get-updated, get-shown, put_is}
 use Rattle.groups.proofs.table.Table.put_to_group.Goals as goal

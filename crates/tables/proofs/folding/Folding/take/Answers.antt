@@ -1,6 +1,6 @@
 use Rattle.std.proofs.Common.{ℕ, nat_eq, List, All, sym, subst}
 use Rattle.std.specs.List.{IsDistinct}
-use Rattle.groups.specs.Held.{IsNarrowRow}
+use Rattle.groups.specs.Rows.{IsNarrowRow}
 use Rattle.query.specs.Planned.{fields_of_plan, form_of_plan}
 use Rattle.tables.proofs.DistinctSets.{sets-distinct}
 use Rattle.tables.proofs.Narrow.{narrow-from_fits}

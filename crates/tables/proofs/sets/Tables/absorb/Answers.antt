@@ -1,7 +1,7 @@
 use Rattle.std.proofs.Common.{◌≡◌, ◌<◌, ℕ, suc, List, ◌∷◌, get_or, length, set, sym, ap, subst, ◌∙◌, arith, add-one}
 use Rattle.query_check.specs.declared.function.ColumnFunction.{ColumnFunction}
 use Rattle.groups.specs.Rows.{Row}
-use Rattle.groups.specs.Table.{Contents}
+use Rattle.groups.specs.Inside.Table.{Contents}
 use Rattle.tables.specs.Sets.{AreTablesOf, AllJoined}
 use Rattle.tables.proofs.Joining.{AreJoined, joined-within, joined-can, joined-step, joined-all, joined-tables}
 use Rattle.tables.proofs.sets.Tables.absorb.Goals as goal

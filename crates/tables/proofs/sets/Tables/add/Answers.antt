@@ -3,7 +3,7 @@ use Rattle.std.proofs.lemmas.Result.{on_ok_weaker}
 use Rattle.std.specs.List.{IsDistinct}
 use Rattle.values.specs.Datum.{data_of}
 use Rattle.groups.specs.Rows.{Row}
-use Rattle.groups.specs.Table.{IsTableOf}
+use Rattle.groups.specs.Inside.Table.{IsTableOf}
 use Rattle.tables.specs.Sets.{AreTablesOf, places_of}
 use Rattle.tables.proofs.Partly.{ArePartly, partly-at, partly-step, partly-all, partly-length, distinct-at}
 use Rattle.tables.proofs.sets.Tables.add.Goals as goal

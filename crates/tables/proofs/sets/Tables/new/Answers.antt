@@ -1,6 +1,6 @@
 use Rattle.std.proofs.Common.{◌≡◌, ◌+◌, ℕ, List, [], ◌∷◌, ◌++◌, Vec, Global, take, sym, ap, subst, ◌∙◌}
 use Rattle.std.proofs.lemmas.List.{take_more}
-use Rattle.groups.specs.Table.{Contents, IsTableOf}
+use Rattle.groups.specs.Inside.Table.{Contents, IsTableOf}
 use Rattle.tables.specs.Sets.{AreTablesOf, places_of}
 use Rattle.tables.proofs.Partly.{tables-pushed}
 use Rattle.tables.proofs.sets.Tables.new.Goals as goal

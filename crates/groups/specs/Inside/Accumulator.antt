@@ -10,22 +10,23 @@ use Rattle.query_check.specs.declared.function.ColumnFunction.{ColumnFunction}
 use Rattle.query_check.specs.declared.function.ColumnFunction.TheVariants as function
 use Rattle.groups.specs.Rows.{Row, value_at, present, numbers, column_values, column_numbers}
 use Rattle.groups.specs.Functions.{Summary, plain, ratio, total, least, greatest}
-use Rattle.groups.specs.Coding.{coded_datum}
-use Rattle.groups.specs.Seen.{Values, set_of, falling, first_by}
+use Rattle.groups.specs.Inside.Coding.{coded_datum}
+use Rattle.groups.specs.Inside.Values.{Values, set_of, falling, first_by}
 use Rattle.groups.specs.declared.accumulator.Accumulator.{Accumulator}
 use Rattle.groups.specs.declared.accumulator.Accumulator.TheVariants as accumulator
 
-pub data Kept : Type 0 where
-  nothing : Kept
-  counted : ℕ → Kept
-  summed : ℤ → ℕ → Kept
-  averaged : ℤ → ℕ → Kept
-  distinct : Values → Kept
-  lowest : Datum → Kept
-  highest : Datum → Kept
+-- what is kept for a set function of each kind
+pub data AccumulatorState : Type 0 where
+  nothing : AccumulatorState
+  counted : ℕ → AccumulatorState
+  summed : ℤ → ℕ → AccumulatorState
+  averaged : ℤ → ℕ → AccumulatorState
+  distinct : Values → AccumulatorState
+  lowest : Datum → AccumulatorState
+  highest : Datum → AccumulatorState
 
 -- what is kept for a set function of a list of records
-abbrev pub kept : ColumnFunction → List Row → Kept
+abbrev pub kept : ColumnFunction → List Row → AccumulatorState
 kept function.CountRows rows = nothing
 kept (function.Count place) rows = counted (length (column_values place rows))
 kept (function.CountDistinct place) rows = distinct (set_of (column_values place rows))
@@ -49,7 +50,7 @@ abbrev pub argument : ColumnFunction → Row → Datum
 argument f row = option_map_or (λ place. value_at place row) (place_of f) null
 
 -- what is kept after one more value
-abbrev pub taken : Kept → Datum → Kept
+abbrev pub taken : AccumulatorState → Datum → AccumulatorState
 taken nothing d = nothing
 taken (counted n) d = counted (n + length (present (d ∷ [])))
 taken (summed s n) d = summed (s +ℤ total (numbers (d ∷ []))) (n + length (numbers (d ∷ [])))
@@ -59,7 +60,7 @@ taken (lowest k) d = lowest (first_by value_order k d)
 taken (highest k) d = highest (first_by falling k d)
 
 -- what is kept of two parts of a group for one function; of different functions the first stays as it is
-abbrev pub joined : Kept → Kept → Kept
+abbrev pub joined : AccumulatorState → AccumulatorState → AccumulatorState
 joined (counted m) (counted n) = counted (m + n)
 joined (summed s m) (summed t n) = summed (s +ℤ t) (m + n)
 joined (averaged s m) (averaged t n) = averaged (s +ℤ t) (m + n)
@@ -69,7 +70,7 @@ joined (highest k) (highest l) = highest (first_by falling k l)
 joined k l = k
 
 -- the value of the function over a group of so many records
-abbrev pub summary : ℕ → Kept → Summary
+abbrev pub summary : ℕ → AccumulatorState → Summary
 summary lines nothing = plain (whole (pos lines))
 summary lines (counted n) = plain (whole (pos n))
 summary lines (summed s zero) = plain null
@@ -83,7 +84,7 @@ summary lines (highest k) = plain k
 -- ---- sizes
 
 -- the accumulator has room for it
-abbrev pub HasRoom : Kept → Type 0
+abbrev pub HasRoom : AccumulatorState → Type 0
 HasRoom nothing = ⊤
 HasRoom (counted n) = n < 2 ^ 64
 HasRoom (summed s n) = (n < 2 ^ 64) × FitsSigned w128 s
@@ -97,7 +98,7 @@ abbrev pub IsSumOf : ℕ → ℤ → Type 0
 IsSumOf lines s = ((pos 0 -ℤ pos (lines * 2 ^ 63)) ≤ℤ s) × (s ≤ℤ pos (lines * 2 ^ 63))
 
 -- what is kept of at most so many records of numbers of 64 bits
-abbrev pub IsWithin : ℕ → Kept → Type 0
+abbrev pub IsWithin : ℕ → AccumulatorState → Type 0
 IsWithin lines nothing = ⊤
 IsWithin lines (counted n) = n ≤ lines
 IsWithin lines (summed s n) = (n ≤ lines) × IsSumOf lines s
@@ -107,7 +108,7 @@ IsWithin lines (lowest k) = ⊤
 IsWithin lines (highest k) = ⊤
 
 -- it is no count and no sum, so that nothing bounds it
-abbrev pub IsUnbounded : Kept → Type 0
+abbrev pub IsUnbounded : AccumulatorState → Type 0
 IsUnbounded nothing = ⊤
 IsUnbounded (counted n) = ⊥
 IsUnbounded (summed s n) = ⊥
@@ -116,9 +117,10 @@ IsUnbounded (distinct s) = ⊤
 IsUnbounded (lowest k) = ⊤
 IsUnbounded (highest k) = ⊤
 
--- ---- the code's accumulators
+-- ---- the accumulators of the code
 
-abbrev pub kept_in : Accumulator → Kept
+-- what an accumulator keeps
+abbrev pub kept_in : Accumulator → AccumulatorState
 kept_in accumulator.Rows = nothing
 kept_in (accumulator.Count n) = counted n
 kept_in (accumulator.Sum t) = summed t.sum t.count
@@ -130,7 +132,7 @@ kept_in (accumulator.Max value) = highest (datum_of value)
 abbrev Fields : Type 0
 Fields = ℕ × ((ℤ × ℕ) × (Values × Datum))
 
-abbrev fields : Kept → Fields
+abbrev fields : AccumulatorState → Fields
 fields nothing = (0, ((pos 0, 0), (set.empty, null)))
 fields (counted n) = (1, ((pos 0, n), (set.empty, null)))
 fields (summed s n) = (2, ((s, n), (set.empty, null)))
@@ -139,7 +141,7 @@ fields (distinct s) = (4, ((pos 0, 0), (s, null)))
 fields (lowest k) = (5, ((pos 0, 0), (set.empty, k)))
 fields (highest k) = (6, ((pos 0, 0), (set.empty, k)))
 
-abbrev of_fields : Fields → Kept
+abbrev of_fields : Fields → AccumulatorState
 of_fields (zero, ((s, n), (v, k))) = nothing
 of_fields (suc zero, ((s, n), (v, k))) = counted n
 of_fields (suc (suc zero), ((s, n), (v, k))) = summed s n
@@ -148,7 +150,7 @@ of_fields (suc (suc (suc (suc zero))), ((s, n), (v, k))) = distinct v
 of_fields (suc (suc (suc (suc (suc zero)))), ((s, n), (v, k))) = lowest k
 of_fields (suc (suc (suc (suc (suc (suc _))))), ((s, n), (v, k))) = highest k
 
-pub of_fields-fields : (k : Kept) → of_fields (fields k) ≡ k
+pub of_fields-fields : (k : AccumulatorState) → of_fields (fields k) ≡ k
 of_fields-fields nothing = refl
 of_fields-fields (counted n) = refl
 of_fields-fields (summed s n) = refl
@@ -157,5 +159,5 @@ of_fields-fields (distinct s) = refl
 of_fields-fields (lowest k) = refl
 of_fields-fields (highest k) = refl
 
-abbrev pub coded_kept : Coded Kept
-coded_kept = code_by Fields (coded× coded_ℕ (coded× (coded× coded_ℤ coded_ℕ) (coded× (set.code coded_datum) coded_datum))) fields of_fields of_fields-fields
+abbrev pub coded_accumulator : Coded AccumulatorState
+coded_accumulator = code_by Fields (coded× coded_ℕ (coded× (coded× coded_ℤ coded_ℕ) (coded× (set.code coded_datum) coded_datum))) fields of_fields of_fields-fields

@@ -8,23 +8,23 @@ use Rattle.std.specs.List.{list_any}
 use Rattle.values.specs.declared.value.Value.{Value}
 use Rattle.values.specs.Datum.{data_of}
 use Rattle.query_check.specs.declared.function.ColumnFunction.{ColumnFunction}
-use Rattle.groups.specs.Coding.{coded_key}
+use Rattle.groups.specs.Inside.Coding.{coded_key}
 use Rattle.groups.specs.Rows.{Row}
 use Rattle.groups.specs.Groups.{Key, key_order, same_key, keys, members}
-use Rattle.groups.specs.Held.{Held, coded_held, held, with_row, join}
+use Rattle.groups.specs.Inside.Group.{GroupState, coded_group, held, with_row, join}
 
 -- what is kept of each group, by its key
 abbrev pub Contents : Type 0
-Contents = fin.FinMap key_order Held
+Contents = fin.FinMap key_order GroupState
 
 abbrev pub coded_contents : Coded Contents
-coded_contents = fin.code coded_key coded_held
+coded_contents = fin.code coded_key coded_group
 
-abbrev pub entries_shown : List (Vec Value Global × Held) → List (Key × Held)
+abbrev pub entries_shown : List (Vec Value Global × GroupState) → List (Key × GroupState)
 entries_shown entries = map (λ e. (data_of e.0.items, e.1)) entries
 
 -- the contents of a hashed map of the code
-abbrev pub shown : List (Vec Value Global × Held) → Contents
+abbrev pub shown : List (Vec Value Global × GroupState) → Contents
 shown entries = fin.from_entries (entries_shown entries)
 
 -- a table is that of a list of records under a grouping set: at each of their keys it has what is kept of the members, and at no other key anything
@@ -40,20 +40,20 @@ pub record TakesOne (set : List ℕ) (functions : List ColumnFunction) (table : 
 -- ---- steps
 
 -- what is kept of a group after one more record; of a group that is new, after its first one
-abbrev pub grown : List ColumnFunction → Option Held → Row → Held
+abbrev pub grown : List ColumnFunction → Option GroupState → Row → GroupState
 grown functions old row = with_row functions (unwrap_or old (held functions [])) row
 
 -- at the key k the table has the record added, where it is the record's key, and else what it had
 abbrev pub IsAdded : List ColumnFunction → Contents → Contents → Key → Row → Key → Type 0
 IsAdded functions old new key row k = fin.get new k ≡ cond (same_key k key) (Some (grown functions (fin.get old k) row)) (fin.get old k)
 
-abbrev pub join_options : Option Held → Option Held → Option Held
+abbrev pub join_options : Option GroupState → Option GroupState → Option GroupState
 join_options None b = b
 join_options (Some a) None = Some a
 join_options (Some a) (Some b) = Some (join a b)
 
 -- at the key k the table has one more part of the group of a key
-abbrev pub IsPut : Contents → Contents → Key → Held → Key → Type 0
+abbrev pub IsPut : Contents → Contents → Key → GroupState → Key → Type 0
 IsPut old new key part k = fin.get new k ≡ cond (same_key k key) (join_options (fin.get old k) (Some part)) (fin.get old k)
 
 -- at the key k the table has what both have
@@ -61,11 +61,11 @@ abbrev pub IsJoined : Contents → Contents → Contents → Key → Type 0
 IsJoined old other new k = fin.get new k ≡ join_options (fin.get old k) (fin.get other k)
 
 -- a group takes one more record
-abbrev pub HasPlace : List ColumnFunction → Option Held → Type 0
+abbrev pub HasPlace : List ColumnFunction → Option GroupState → Type 0
 HasPlace functions group = IfSome group (λ g. (g.lines + 1 < 2 ^ 63) × (length g.parts ≡ length functions))
 
 -- a group takes a part
-abbrev pub IsFitting : Held → Option Held → Type 0
+abbrev pub IsFitting : GroupState → Option GroupState → Type 0
 IsFitting part group = IfSome group (λ g. (g.lines + part.lines < 2 ^ 63) × (length part.parts ≡ length g.parts))
 
 -- each group of the other table is a part that the group of its key takes, where there is one
@@ -73,7 +73,7 @@ abbrev pub CanJoin : Contents → Contents → Type 0
 CanJoin table other = (key : Key) → IfSome (fin.get other key) (λ part. IsFitting part (fin.get table key))
 
 -- what is kept of a group is of at most so many records, and has one accumulator for each function
-abbrev pub IsGroupWithin : ℕ → List ColumnFunction → Held → Type 0
+abbrev pub IsGroupWithin : ℕ → List ColumnFunction → GroupState → Type 0
 IsGroupWithin lines functions group = (group.lines ≤ lines) × (length group.parts ≡ length functions)
 
 -- so are all groups of the table

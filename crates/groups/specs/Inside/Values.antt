@@ -27,7 +27,6 @@ falling a b = value_order b a
 abbrev pub first_by : (Datum → Datum → Ordering) → Datum → Datum → Datum
 first_by order a b = if is_lt (order b a) then b else a
 
--- ---- in the code
-
+-- the set of the values that a hashed set of the code has
 abbrev pub set_shown : List Value → Values
 set_shown values = set_of (data_of values)

@@ -1,11 +1,11 @@
--- ---- in the code: a record whose values move into a key
+-- A record whose values move into a key.
 use Rattle.std.specs.Prelude.{◌≡◌, ◌==◌, ℕ, Bool, false, List, set, if◌then◌else◌}
 use Rattle.std.specs.List.{AllByRecursion, list_any}
 use Rattle.std.specs.Option.{option_map_or}
 use Rattle.values.specs.Datum.{null}
 use Rattle.query_check.specs.declared.function.ColumnFunction.{ColumnFunction}
 use Rattle.groups.specs.Rows.{Row}
-use Rattle.groups.specs.Kept.{place_of, argument}
+use Rattle.groups.specs.Inside.Accumulator.{place_of, argument}
 
 -- whether a set function takes the column at a place
 abbrev pub takes : ℕ → ColumnFunction → Bool
