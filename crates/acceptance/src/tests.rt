@@ -1,11 +1,5 @@
-mod clauses;
-mod explaining;
-mod grouping;
-mod having;
-mod ordering;
 mod partials;
 mod plans;
-mod predicates;
 mod queries;
 mod reference;
 mod running;

@@ -42,119 +42,62 @@ fn merge(rt: &impl Abort, plan: &Plan, left: Partial, right: Partial) -> Result<
     left.merge(right)
 }
 
-/// The result over some pieces, of the query of a plan.
-#[derive(Drop)]
-struct Merged<'p> {
-    plan: &'p Plan,
-    partial: Partial,
-    ghost of_plan: { IsPartialOf (fields_of_plan plan.now) (form_of_plan plan.now) partial } by { Prim.hlevel props },
-}
-
-impl<'p> Merged<'p> {
-    /// The result over no piece.
-    fn new(alloc: Global, plan: &'p Plan) -> Result<Merged<'p>, AllocError> {
-        let partial = Partial::empty(alloc, plan)?;
-        Ok(Merged { plan, partial })
-    }
-
-    /// With the result over one piece merged into it.
-    fn with(
-        self,
-        rt: &impl Abort,
-        alloc: Global,
-        index: u32,
-        bytes: &[u8],
-    ) -> Result<Merged<'p>, AllocError>
-        requires { length bytes.now < 2 ^ 63 }
-    {
-        let Merged { plan, partial } = self;
-        let piece = Partial::fold_piece(alloc, plan, index, bytes)?;
-        let partial = merge(rt, plan, partial, piece)?;
-        Ok(Merged { plan, partial })
-    }
-
-    /// Merged into the result over one piece.
-    fn within(
-        self,
-        rt: &impl Abort,
-        alloc: Global,
-        index: u32,
-        bytes: &[u8],
-    ) -> Result<Merged<'p>, AllocError>
-        requires { length bytes.now < 2 ^ 63 }
-    {
-        let Merged { plan, partial } = self;
-        let piece = Partial::fold_piece(alloc, plan, index, bytes)?;
-        let partial = merge(rt, plan, piece, partial)?;
-        Ok(Merged { plan, partial })
-    }
-
-    /// Compares the numbers of its lines, and what it gives.
-    fn assert_found(self, rt: &impl Abort, alloc: Global, wanted: &Findings) -> Result<(), Fail> {
-        let Merged { plan, partial } = self;
-        assert_eq!(rt; partial.lines(), wanted.lines);
-        assert_eq!(rt; partial.refused(), wanted.refused.len() as u64);
-        assert_groups(rt, alloc, &partial.finish(plan)?, wanted)
-    }
-}
-
 /// The bytes of a piece.
 fn bytes_of<'a>(input: &'a [u8], piece: &Piece) -> Result<&'a [u8], Fail> {
     Ok(input.get(piece.start..piece.stop).ok_or("no such piece")?)
 }
 
-/// The first piece is merged into the result over none, then the second into what comes of it, and so on.
-fn merged_from_the_left<'p>(
-    rt: &impl Abort,
-    alloc: Global,
-    plan: &'p Plan,
-    input: &[u8],
-    pieces: &[Piece],
-) -> Result<Merged<'p>, Fail> {
-    let mut merged = Merged::new(alloc, plan)?;
-    for (place, piece) in pieces.iter().enumerate() {
-        merged = merged.with(rt, alloc, u32::try_from(place)?, bytes_of(input, piece)?)?;
-    }
-    Ok(merged)
+/// Where a list of pieces is parted in two, which are merged apart.
+#[derive(Clone, Copy)]
+enum Parting {
+    BehindTheFirst,
+    InTheMiddle,
+    BeforeTheLast,
 }
 
-/// The result over no piece is merged into the last piece, what comes of it into the one before, and so on.
-fn merged_from_the_right<'p>(
-    rt: &impl Abort,
-    alloc: Global,
-    plan: &'p Plan,
-    input: &[u8],
-    pieces: &[Piece],
-) -> Result<Merged<'p>, Fail> {
-    let mut merged = Merged::new(alloc, plan)?;
-    for (place, piece) in pieces.iter().enumerate().rev() {
-        merged = merged.within(rt, alloc, u32::try_from(place)?, bytes_of(input, piece)?)?;
+impl Parting {
+    ghost use Rattle.std.specs.Prelude.{◌≤◌, ◌<◌};
+
+    /// How many of so many pieces stand before the parting.
+    fn place(self, count: usize) -> usize
+        requires { 2 ≤ count }
+        ensures some { 1 ≤ result }
+        ensures not_all { result < count }
+    {
+        match self {
+            Parting::BehindTheFirst => 1,
+            Parting::InTheMiddle => count / 2,
+            Parting::BeforeTheLast => count - 1,
+        }
     }
-    Ok(merged)
 }
 
-/// What comes of the first half of the pieces is merged with what comes of the second, and each half is treated so.
-fn merged_as_a_tree(
+/// Pieces are parted in two, what comes of the one part is merged with what comes of the other, and each part is
+/// treated so; a single piece is merged into the result over none.
+fn merged(
     rt: &impl Abort,
     alloc: Global,
     plan: &Plan,
     input: &[u8],
     pieces: &[Piece],
     first: usize,
+    parting: Parting,
 ) -> Result<Partial, Fail>
     ensures { IfOk result (λ partial. IsPartialOf (fields_of_plan plan.now) (form_of_plan plan.now) partial) }
 {
+    let none = Partial::empty(alloc, plan)?;
     match pieces {
-        [] => Ok(Partial::empty(alloc, plan)?),
+        [] => Ok(none),
         [piece] => {
             let bytes = bytes_of(input, piece)?;
-            Ok(Partial::fold_piece(alloc, plan, u32::try_from(first)?, bytes)?)
+            let one = Partial::fold_piece(alloc, plan, u32::try_from(first)?, bytes)?;
+            Ok(merge(rt, plan, none, one)?)
         }
         _ => {
-            let (left, right) = pieces.split_at(pieces.len() / 2);
+            let (left, right) = pieces.split_at(parting.place(pieces.len()));
             let second = first.checked_add(left.len()).ok_or("too many pieces")?;
-            let left = merged_as_a_tree(rt, alloc, plan, input, left, first)?;
-            let right = merged_as_a_tree(rt, alloc, plan, input, right, second)?;
+            let left = merged(rt, alloc, plan, input, left, first, parting)?;
+            let right = merged(rt, alloc, plan, input, right, second, parting)?;
             Ok(merge(rt, plan, left, right)?)
         }
     }
@@ -195,36 +138,30 @@ fn assert_groups(
     Ok(())
 }
 
-/// Cuts an input, merges the results over its pieces, and compares what comes of it.
+/// Cuts an input into small pieces, greater ones and a single one, merges the results over its pieces in several
+/// orders, and compares the numbers of lines and what comes of it.
 fn assert_found(
-    rt: &impl Abort,
-    alloc: Global,
-    plan: &Plan,
-    input: &[u8],
-    target: usize,
-    wanted: &Findings,
-) -> Result<(), Fail>
-    requires { 1 ≤ target }
-{
-    let pieces = cut(alloc, input, target)?;
-    let pieces = pieces.as_slice();
-    merged_from_the_left(rt, alloc, plan, input, pieces)?.assert_found(rt, alloc, wanted)?;
-    merged_from_the_right(rt, alloc, plan, input, pieces)?.assert_found(rt, alloc, wanted)?;
-    let partial = merged_as_a_tree(rt, alloc, plan, input, pieces, 0)?;
-    Merged { plan, partial }.assert_found(rt, alloc, wanted)
-}
-
-/// The same with small pieces, greater ones, and the whole input as one piece.
-fn assert_found_at_all_sizes(
     rt: &impl Abort,
     alloc: Global,
     plan: &Plan,
     input: &[u8],
     wanted: &Findings,
 ) -> Result<(), Fail> {
-    assert_found(rt, alloc, plan, input, 1, wanted)?;
-    assert_found(rt, alloc, plan, input, 7, wanted)?;
-    assert_found(rt, alloc, plan, input, 1_000_000, wanted)
+    let partings = [
+        Parting::BehindTheFirst,
+        Parting::InTheMiddle,
+        Parting::BeforeTheLast,
+    ];
+    for target in [1, 7, 1_000_000] {
+        let pieces = cut(alloc, input, target)?;
+        for parting in partings {
+            let partial = merged(rt, alloc, plan, input, pieces.as_slice(), 0, parting)?;
+            assert_eq!(rt; partial.lines(), wanted.lines);
+            assert_eq!(rt; partial.refused(), wanted.refused.len() as u64);
+            assert_groups(rt, alloc, &partial.finish(plan)?, wanted)?;
+        }
+    }
+    Ok(())
 }
 
 /// A value of a text, and NULL of none.
@@ -243,114 +180,114 @@ fn number_cell(number: Option<i128>) -> Cell {
     }
 }
 
-/// A row of the first set: texts and whole numbers, and `None` for NULL.
-fn row(
-    alloc: Global,
-    texts: &[Option<&str>],
+/// A group of the first set: the texts of its key, its number of lines, and its whole numbers; `None` for NULL.
+type GroupByHand<'a> = (&'a [Option<&'a str>], u64, &'a [Option<i128>]);
+
+/// What a query finds in an input, written by hand.
+struct ByHand<'a> {
+    text: &'a str,
+    input: &'a [u8],
     lines: u64,
-    numbers: &[Option<i128>],
-) -> Result<Row, Fail> {
+    groups: &'a [GroupByHand<'a>],
+    refused: &'a [(u64, LineFault)],
+}
+
+/// Three lines with the greatest number of 64 bits.
+const GREATEST: &[u8] =
+    b"{\"q\":9223372036854775807}\n{\"q\":9223372036854775807}\n{\"q\":9223372036854775807}\n";
+
+const ALL_BY_HAND: &[ByHand<'static>] = &[
+    ByHand {
+        text: BY_D,
+        input: THREE,
+        lines: 3,
+        groups: &[
+            (&[Some("x")], 2, &[Some(2), Some(7)]),
+            (&[Some("y")], 1, &[Some(1), None]),
+        ],
+        refused: &[],
+    },
+    ByHand {
+        text: BY_R,
+        input: THREE,
+        lines: 3,
+        groups: &[(&[Some("n")], 2, &[]), (&[None], 1, &[])],
+        refused: &[],
+    },
+    ByHand {
+        text: UNGROUPED,
+        input: b"",
+        lines: 0,
+        groups: &[(&[], 0, &[Some(0), None])],
+        refused: &[],
+    },
+    ByHand {
+        text: BY_D,
+        input: b"",
+        lines: 0,
+        groups: &[],
+        refused: &[],
+    },
+    ByHand {
+        text: UNGROUPED,
+        input: GREATEST,
+        lines: 3,
+        groups: &[(&[], 3, &[Some(3), Some(27_670_116_110_564_327_421)])],
+        refused: &[],
+    },
+    ByHand {
+        text: UNGROUPED,
+        input: FOUR_BAD,
+        lines: 4,
+        groups: &[(&[], 0, &[Some(0), None])],
+        refused: &[
+            (1, LineFault::NoJson),
+            (2, LineFault::NoObject),
+            (3, LineFault::BadValue(2)),
+            (4, LineFault::BadValue(2)),
+        ],
+    },
+];
+
+/// The row of a group of the first set.
+fn row(alloc: Global, (texts, lines, numbers): &GroupByHand<'_>) -> Result<Row, Fail> {
     let mut key = Vec::new(alloc);
-    for text in texts {
+    for text in *texts {
         key.push(text_value(alloc, *text)?)?;
     }
     let mut cells = Vec::new(alloc);
-    for number in numbers {
+    for number in *numbers {
         cells.push(number_cell(*number))?;
     }
     Ok(Row {
         set: 0,
         key,
-        lines,
+        lines: *lines,
         cells,
     })
 }
 
-#[test]
-fn groups_of_three_lines_by_d(rt: HostRuntime) -> Result<(), Fail> {
-    let alloc = rt.alloc();
-    let plan = planned(alloc, BY_D)?;
-    let x = row(alloc, &[Some("x")], 2, &[Some(2), Some(7)])?;
-    let y = row(alloc, &[Some("y")], 1, &[Some(1), None])?;
-    let wanted = Findings {
-        lines: 3,
-        rows: vec![in alloc; x, y]?,
-        refused: Vec::new(alloc),
-    };
-    assert_found_at_all_sizes(&rt, alloc, &plan, THREE, &wanted)
+/// What was written by hand, as the reference gives it.
+fn by_hand(alloc: Global, found: &ByHand<'_>) -> Result<Findings, Fail> {
+    let mut rows = Vec::new(alloc);
+    for group in found.groups {
+        rows.push(row(alloc, group)?)?;
+    }
+    Ok(Findings {
+        lines: found.lines,
+        rows,
+        refused: found.refused.to_vec(alloc)?,
+    })
 }
 
 #[test]
-fn groups_of_three_lines_by_r(rt: HostRuntime) -> Result<(), Fail> {
-    let alloc = rt.alloc();
-    let plan = planned(alloc, BY_R)?;
-    let n = row(alloc, &[Some("n")], 2, &[])?;
-    let null = row(alloc, &[None], 1, &[])?;
-    let wanted = Findings {
-        lines: 3,
-        rows: vec![in alloc; n, null]?,
-        refused: Vec::new(alloc),
-    };
-    assert_found_at_all_sizes(&rt, alloc, &plan, THREE, &wanted)
-}
-
-#[test]
-fn one_group_of_no_line_without_grouping(rt: HostRuntime) -> Result<(), Fail> {
-    let alloc = rt.alloc();
-    let plan = planned(alloc, UNGROUPED)?;
-    let none = row(alloc, &[], 0, &[Some(0), None])?;
-    let wanted = Findings {
-        lines: 0,
-        rows: vec![in alloc; none]?,
-        refused: Vec::new(alloc),
-    };
-    assert_found_at_all_sizes(&rt, alloc, &plan, b"", &wanted)
-}
-
-#[test]
-fn no_group_of_no_line_by_d(rt: HostRuntime) -> Result<(), Fail> {
-    let alloc = rt.alloc();
-    let plan = planned(alloc, BY_D)?;
-    let wanted = Findings {
-        lines: 0,
-        rows: Vec::new(alloc),
-        refused: Vec::new(alloc),
-    };
-    assert_found_at_all_sizes(&rt, alloc, &plan, b"", &wanted)
-}
-
-/// Three times 2^63-1.
-#[test]
-fn sum_above_64_bits(rt: HostRuntime) -> Result<(), Fail> {
-    let alloc = rt.alloc();
-    let plan = planned(alloc, UNGROUPED)?;
-    let sum = 27_670_116_110_564_327_421;
-    let wanted = Findings {
-        lines: 3,
-        rows: vec![in alloc; row(alloc, &[], 3, &[Some(3), Some(sum)])?]?,
-        refused: Vec::new(alloc),
-    };
-    let input =
-        b"{\"q\":9223372036854775807}\n{\"q\":9223372036854775807}\n{\"q\":9223372036854775807}\n";
-    assert_found_at_all_sizes(&rt, alloc, &plan, input, &wanted)
-}
-
-#[test]
-fn refused_lines_by_number(rt: HostRuntime) -> Result<(), Fail> {
-    let alloc = rt.alloc();
-    let plan = planned(alloc, UNGROUPED)?;
-    let refused = [
-        (1, LineFault::NoJson),
-        (2, LineFault::NoObject),
-        (3, LineFault::BadValue(2)),
-        (4, LineFault::BadValue(2)),
-    ];
-    let wanted = Findings {
-        lines: 4,
-        rows: vec![in alloc; row(alloc, &[], 0, &[Some(0), None])?]?,
-        refused: refused.to_vec(alloc)?,
-    };
-    assert_found_at_all_sizes(&rt, alloc, &plan, FOUR_BAD, &wanted)
+fn found_by_hand(rt: HostRuntime) -> Result<(), Fail> {
+    for found in ALL_BY_HAND {
+        let plan = planned(rt.alloc(), found.text)?;
+        let wanted = by_hand(rt.alloc(), found)?;
+        assert_found(&rt, rt.alloc(), &plan, found.input, &wanted)?;
+    }
+    Ok(())
 }
 
 /// The result of a query over no pieces.
@@ -481,7 +418,7 @@ fn assert_like_reference(rt: &impl Abort, alloc: Global, text: &str) -> Result<(
     for seed in 0..INPUTS {
         let input = made_up_input(alloc, seed)?;
         let wanted = findings_of(alloc, &plan, input.as_bytes())?;
-        assert_found_at_all_sizes(rt, alloc, &plan, input.as_bytes(), &wanted)?;
+        assert_found(rt, alloc, &plan, input.as_bytes(), &wanted)?;
     }
     Ok(())
 }
@@ -518,23 +455,11 @@ fn made_up_inputs_are_of_all_kinds(rt: HostRuntime) -> Result<(), Fail> {
 }
 
 #[test]
-fn like_reference_by_d(rt: HostRuntime) -> Result<(), Fail> {
-    assert_like_reference(&rt, rt.alloc(), BY_D)
-}
-
-#[test]
-fn like_reference_without_grouping(rt: HostRuntime) -> Result<(), Fail> {
-    assert_like_reference(&rt, rt.alloc(), UNGROUPED)
-}
-
-#[test]
-fn like_reference_by_d_and_r(rt: HostRuntime) -> Result<(), Fail> {
-    assert_like_reference(&rt, rt.alloc(), BY_D_AND_R)
-}
-
-#[test]
-fn like_reference_by_r(rt: HostRuntime) -> Result<(), Fail> {
-    assert_like_reference(&rt, rt.alloc(), BY_R)
+fn like_reference(rt: HostRuntime) -> Result<(), Fail> {
+    for text in [BY_D, UNGROUPED, BY_D_AND_R, BY_R] {
+        assert_like_reference(&rt, rt.alloc(), text)?;
+    }
+    Ok(())
 }
 
 /// Three good lines and a refused one.

@@ -1,4 +1,4 @@
-// Runs: what is written of an input, over every kind of reader and writer.
+// Runs over readers and writers that are slow or fail, and with memory refused.
 use super::streams::{Sink, Source};
 use command_line::Options;
 use engine::{Done, RunFault, run_alone};
@@ -23,13 +23,13 @@ pub const BY_D_REPORT: &[u8] = b"d,n,s\nx,2,7\ny,1,\\N\n";
 /// Four lines that are refused where `q` is a whole number, and the list of them.
 pub const FOUR_BAD: &[u8] = b"\n[1]\n{\"q\":true}\n{\"q\":9223372036854775808}\n";
 
-pub const FOUR_REFUSED: &[u8] =
+const FOUR_REFUSED: &[u8] =
     b"line 1: not JSON\nline 2: not an object\nline 3: bad value in column q\nline 4: bad value in column q\n";
 
 /// A query that counts all records, and its report over none.
 pub const COUNT: &str = "SELECT COUNT(*) AS n FROM lines";
 
-pub const COUNT_NONE: &[u8] = b"n\n0\n";
+const COUNT_NONE: &[u8] = b"n\n0\n";
 
 /// The plan of a query under columns, where there is one.
 fn plan_if_any(alloc: Global, columns: &str, query: &str) -> Option<Plan> {
@@ -46,34 +46,68 @@ fn plan_of(alloc: Global, columns: &str, query: &str) -> Result<Plan, Fail> {
     }
 }
 
-/// The options of a size of pieces and a limit of refused lines.
-fn options_of(piece: usize, max_refused: Option<u64>) -> Result<Options, Fail> {
-    match Options::new(4, piece, max_refused) {
+/// The options of a size of pieces, without a limit of refused lines.
+fn options_of(piece: usize) -> Result<Options, Fail> {
+    match Options::new(4, piece, None) {
         Some(options) => Ok(options),
         None => Err(Fail::from("no options")),
     }
 }
 
-/// An input under columns and a query, and what is written of it.
+/// An input under a query, and what is written of it.
 #[derive(Clone, Copy)]
-pub struct Case<'a> {
-    pub columns: &'a str,
-    pub query: &'a str,
-    pub input: &'a [u8],
-    pub report: &'a [u8],
-    pub refused: &'a [u8],
-    pub done: Done,
+struct Case<'a> {
+    query: &'a str,
+    input: &'a [u8],
+    report: &'a [u8],
+    refused: &'a [u8],
+    done: Done,
 }
 
+/// Good lines in groups.
+const GROUPED: Case<'static> = Case {
+    query: BY_D,
+    input: THREE,
+    report: BY_D_REPORT,
+    refused: b"",
+    done: Done {
+        lines: 3,
+        refused: 0,
+    },
+};
+
+/// Lines of which each is refused.
+const REFUSED: Case<'static> = Case {
+    query: COUNT,
+    input: FOUR_BAD,
+    report: COUNT_NONE,
+    refused: FOUR_REFUSED,
+    done: Done {
+        lines: 4,
+        refused: 4,
+    },
+};
+
+/// The rows of several grouping sets.
+const ROLLED_UP: Case<'static> = Case {
+    query: "SELECT d, r, GROUPING(d, r) AS g, COUNT(DISTINCT q) AS k FROM lines GROUP BY ROLLUP (d, r)",
+    input: THREE,
+    report: b"d,r,g,k\nx,n,0,1\nx,\\N,0,1\ny,n,0,0\nx,\\N,1,2\ny,\\N,1,0\n\\N,\\N,3,2\n",
+    refused: b"",
+    done: Done {
+        lines: 3,
+        refused: 0,
+    },
+};
+
 /// Runs a case in pieces of several sizes, over readers that give so many bytes a call.
-pub fn assert_run(rt: &impl Abort, alloc: Global, case: &Case<'_>) -> Result<(), Fail> {
-    let plan = plan_of(alloc, case.columns, case.query)?;
-    for (piece, at_once) in [(1, 7), (20, 1), (67_108_864, 1_000_000)] {
-        let options = options_of(piece, None)?;
+fn assert_run(rt: &impl Abort, alloc: Global, case: &Case<'_>) -> Result<(), Fail> {
+    let plan = plan_of(alloc, COLUMNS, case.query)?;
+    for (piece, at_once) in [(1, 7), (20, 1), (7, 2), (67_108_864, 1_000_000)] {
         let reader = Source::whole(case.input, at_once);
         let mut out = Vec::new(alloc);
         let mut err = Vec::new(alloc);
-        match run_alone(alloc, &plan, options, reader, &mut out, &mut err) {
+        match run_alone(alloc, &plan, options_of(piece)?, reader, &mut out, &mut err) {
             Ok(done) => assert_eq!(rt; done, case.done, "pieces of {piece}"),
             Err(fault) => panic!(rt; "{fault}"),
         }
@@ -83,109 +117,23 @@ pub fn assert_run(rt: &impl Abort, alloc: Global, case: &Case<'_>) -> Result<(),
     Ok(())
 }
 
-/// A case of which no line is refused.
-pub fn good<'a>(query: &'a str, input: &'a [u8], lines: u64, report: &'a [u8]) -> Case<'a> {
-    Case {
-        columns: COLUMNS,
-        query,
-        input,
-        report,
-        refused: b"",
-        done: Done { lines, refused: 0 },
+#[test]
+fn slow_readers(rt: HostRuntime) -> Result<(), Fail> {
+    for case in [GROUPED, REFUSED, ROLLED_UP] {
+        assert_run(&rt, rt.alloc(), &case)?;
     }
-}
-
-#[test]
-fn groups(rt: HostRuntime) -> Result<(), Fail> {
-    assert_run(&rt, rt.alloc(), &good(BY_D, THREE, 3, BY_D_REPORT))
-}
-
-/// The last line may go without its line feed, and lines may end in a carriage return.
-#[test]
-fn ends_of_lines(rt: HostRuntime) -> Result<(), Fail> {
-    let unended = &THREE[..THREE.len() - 1];
-    assert_run(&rt, rt.alloc(), &good(BY_D, unended, 3, BY_D_REPORT))?;
-    let returns =
-        b"{\"d\":\"x\",\"r\":\"n\",\"q\":5}\r\n{\"d\":\"x\",\"r\":null,\"q\":2}\r\n{\"d\":\"y\",\"r\":\"n\"}\r\n";
-    assert_run(&rt, rt.alloc(), &good(BY_D, returns, 3, BY_D_REPORT))
-}
-
-#[test]
-fn no_line(rt: HostRuntime) -> Result<(), Fail> {
-    let query = "SELECT COUNT(*) AS n, SUM(q) AS s FROM lines";
-    assert_run(&rt, rt.alloc(), &good(query, b"", 0, b"n,s\n0,\\N\n"))?;
-    assert_run(&rt, rt.alloc(), &good(BY_D, b"", 0, b"d,n,s\n"))
-}
-
-#[test]
-fn sum_of_more_than_64_bits(rt: HostRuntime) -> Result<(), Fail> {
-    let query = "SELECT SUM(q) AS s FROM lines";
-    let input =
-        b"{\"q\":9223372036854775807}\n{\"q\":9223372036854775807}\n{\"q\":9223372036854775807}\n";
-    let report = b"s\n27670116110564327421\n";
-    assert_run(&rt, rt.alloc(), &good(query, input, 3, report))
-}
-
-#[test]
-fn fields_that_are_quoted_or_marked(rt: HostRuntime) -> Result<(), Fail> {
-    let query = "SELECT r, COUNT(*) AS n FROM lines GROUP BY r";
-    let input =
-        b"{\"r\":\"\\\\N\"}\n{\"r\":\"a,b\"}\n{\"r\":\"say \\\"hi\\\"\"}\n{\"r\":\"\"}\n{}\n";
-    let report = b"r,n\n,1\n\\\\N,1\n\"a,b\",1\n\"say \"\"hi\"\"\",1\n\\N,1\n";
-    assert_run(&rt, rt.alloc(), &good(query, input, 5, report))?;
-    let query = "SELECT r FROM lines GROUP BY r";
-    let report = b"r\n\"\"\n";
-    assert_run(&rt, rt.alloc(), &good(query, b"{\"r\":\"\"}\n", 1, report))
-}
-
-#[test]
-fn refused_lines(rt: HostRuntime) -> Result<(), Fail> {
-    let case = Case {
-        columns: "q:int",
-        query: COUNT,
-        input: FOUR_BAD,
-        report: COUNT_NONE,
-        refused: FOUR_REFUSED,
-        done: Done {
-            lines: 4,
-            refused: 4,
-        },
-    };
-    assert_run(&rt, rt.alloc(), &case)
-}
-
-/// More lines are refused than may be: nothing is written.
-#[test]
-fn too_many_refused(rt: HostRuntime) -> Result<(), Fail> {
-    let plan = plan_of(rt.alloc(), "q:int", COUNT)?;
-    for limit in 0..4 {
-        let mut out = Vec::new(rt.alloc());
-        let mut err = Vec::new(rt.alloc());
-        let options = options_of(1, Some(limit))?;
-        match run_alone(rt.alloc(), &plan, options, FOUR_BAD, &mut out, &mut err) {
-            Ok(_) => panic!(rt; "done under a limit of {limit}"),
-            Err(fault) => assert_eq!(rt; fault, RunFault::TooManyRefused(limit)),
-        }
-        assert!(rt; out.is_empty() && err.is_empty());
-    }
-    let mut out = Vec::new(rt.alloc());
-    let mut err = Vec::new(rt.alloc());
-    let options = options_of(1, Some(4))?;
-    assert!(rt; run_alone(rt.alloc(), &plan, options, FOUR_BAD, &mut out, &mut err).is_ok());
-    assert_eq!(rt; out.as_slice(), COUNT_NONE);
-    assert_eq!(rt; err.as_slice(), FOUR_REFUSED);
     Ok(())
 }
 
-#[test]
-fn reader_that_fails(rt: HostRuntime) -> Result<(), Fail> {
-    let plan = plan_of(rt.alloc(), "q:int", COUNT)?;
-    let options = options_of(1, None)?;
-    for front in 0..FOUR_BAD.len() {
-        let mut out = Vec::new(rt.alloc());
-        let mut err = Vec::new(rt.alloc());
-        let reader = Source::failing(&FOUR_BAD[..front]);
-        match run_alone(rt.alloc(), &plan, options, reader, &mut out, &mut err) {
+/// Asserts of each beginning of an input that nothing is written where reading fails behind it.
+fn assert_not_read(rt: &impl Abort, alloc: Global, case: &Case<'_>) -> Result<(), Fail> {
+    let plan = plan_of(alloc, COLUMNS, case.query)?;
+    let options = options_of(1)?;
+    for front in 0..case.input.len() + 1 {
+        let mut out = Vec::new(alloc);
+        let mut err = Vec::new(alloc);
+        let reader = Source::failing(&case.input[..front]);
+        match run_alone(alloc, &plan, options, reader, &mut out, &mut err) {
             Ok(_) => panic!(rt; "done after {front} bytes"),
             Err(fault) => assert_eq!(rt; fault, RunFault::Reading),
         }
@@ -195,9 +143,17 @@ fn reader_that_fails(rt: HostRuntime) -> Result<(), Fail> {
 }
 
 #[test]
+fn reader_that_fails(rt: HostRuntime) -> Result<(), Fail> {
+    for case in [GROUPED, REFUSED] {
+        assert_not_read(&rt, rt.alloc(), &case)?;
+    }
+    Ok(())
+}
+
+#[test]
 fn report_that_is_not_written(rt: HostRuntime) -> Result<(), Fail> {
     let plan = plan_of(rt.alloc(), COLUMNS, BY_D)?;
-    let options = options_of(1, None)?;
+    let options = options_of(1)?;
     for room in 0..BY_D_REPORT.len() + 1 {
         let mut out = Sink {
             room,
@@ -217,8 +173,8 @@ fn report_that_is_not_written(rt: HostRuntime) -> Result<(), Fail> {
 
 #[test]
 fn list_that_is_not_written(rt: HostRuntime) -> Result<(), Fail> {
-    let plan = plan_of(rt.alloc(), "q:int", COUNT)?;
-    let options = options_of(1, None)?;
+    let plan = plan_of(rt.alloc(), COLUMNS, COUNT)?;
+    let options = options_of(1)?;
     for room in 0..FOUR_REFUSED.len() + 1 {
         let mut out = Vec::new(rt.alloc());
         let mut err = Sink {
@@ -253,25 +209,32 @@ fn prints_faults(rt: HostRuntime) -> Result<(), Fail> {
 }
 
 /// Where memory is refused the answer is the memory fault and nothing is written, else the report.
-#[test]
-fn refusal_of_run_alone(rt: HostRuntime) {
-    let Some(plan) = plan_if_any(rt.alloc(), COLUMNS, BY_D) else {
+fn assert_run_or_refused(rt: &impl Abort, alloc: Global, case: &Case<'_>) {
+    let (Some(plan), Some(options)) = (
+        plan_if_any(alloc, COLUMNS, case.query),
+        Options::new(4, 1, None),
+    ) else {
         return;
     };
-    let Some(options) = Options::new(4, 1, None) else {
-        return;
-    };
-    let (mut room, mut list) = ([0u8; 32], [0u8; 32]);
+    let (mut room, mut list) = ([0u8; 128], [0u8; 128]);
     let (mut out, mut err) = (room.as_mut_slice(), list.as_mut_slice());
-    match run_alone(rt.alloc(), &plan, options, THREE, &mut out, &mut err) {
+    match run_alone(alloc, &plan, options, case.input, &mut out, &mut err) {
         Ok(done) => {
-            assert_eq!(rt; (done.lines, done.refused), (3, 0));
-            assert!(rt; room.starts_with(b"d,n,s\nx,2,7\ny,1,\\N\n\0"));
+            assert_eq!(rt; done, case.done);
+            assert!(rt; room.starts_with(case.report) && list.starts_with(case.refused));
+            assert_eq!(rt; room[case.report.len().min(127)], 0);
+            assert_eq!(rt; list[case.refused.len().min(127)], 0);
         }
         Err(fault) => {
             assert_eq!(rt; fault, RunFault::OutOfMemory);
-            assert_eq!(rt; room[0], 0);
+            assert_eq!(rt; (room[0], list[0]), (0, 0));
         }
     }
-    assert_eq!(rt; list[0], 0);
+}
+
+#[test]
+fn refusal_of_run_alone(rt: HostRuntime) {
+    for case in [GROUPED, REFUSED, ROLLED_UP] {
+        assert_run_or_refused(&rt, rt.alloc(), &case);
+    }
 }
