@@ -5,7 +5,5 @@ mod clauses;
 mod groups;
 mod leaves;
 mod predicates;
-#[cfg(test)]
-mod tests;
 
 pub use clauses::{header, print_tree, set_text};

@@ -1,0 +1,21 @@
+-- The definitions, computed on an example that no query in words shows.
+use Rattle.std.proofs.Common.{◌≡◌, ◌∷◌, ◌++◌, [], refl, codes, Some, None, false}
+use Rattle.std.specs.Prelude.{pos}
+use Rattle.std.specs.Fmt.{digits}
+use Rattle.query_tokens.specs.Words.{reserved}
+use Rattle.query_tree.specs.declared.expression.Aggregate.TheVariants as aggregate
+use Rattle.query_tree.specs.declared.predicate.Literal.TheVariants as constant
+use Rattle.query_tree.specs.Syntax.{over_filtered, between, expression, name, literal}
+use Rattle.query_print.specs.Canonical.{canonical_text, function_text}
+
+-- the sum over the records that a filter keeps
+filtered : function_text (over_filtered (aggregate.Sum (codes "q")) (between (expression (name (codes "q"))) false (literal (constant.Integer (pos 1))) (expression (name (codes "from")))))
+    ≡ codes "SUM(q) FILTER (WHERE q BETWEEN 1 AND " ++ 34 ∷ codes "from" ++ 34 ∷ codes ")"
+unfolding reserved digits
+filtered = refl
+
+-- a query of one item, whose alias has quotes in it
+quoted_alias : canonical_text record { items = record { expression = name (codes "d"); alias = Some (codes "say " ++ 34 ∷ codes "s" ++ 34 ∷ []) } ∷ []; filter = None; groups = []; having = None; keys = [] }
+    ≡ codes "SELECT d AS " ++ 34 ∷ codes "say " ++ 34 ∷ 34 ∷ codes "s" ++ 34 ∷ 34 ∷ 34 ∷ codes " FROM lines"
+unfolding reserved
+quoted_alias = refl
