@@ -23,7 +23,7 @@ struct Numbers;
 
 impl Work for Numbers {
     ghost use Rattle.std.specs.Prelude.{◌≡◌, ℕ, ◌+◌, refl};
-    ghost use Rattle.pool.specs.Plain.{added_lawful};
+    ghost use Rattle.std.proofs.Math.Nat.{add_assoc, add_comm, zero-add, le_refl};
 
     type Part = u64;
 
@@ -43,7 +43,19 @@ impl Work for Numbers {
 
     ghost load_of = { λ w m. m };
 
-    ghost lawful = { λ w. added_lawful (λ i. i) };
+    ghost lawful = { λ w. record {
+      unit_fits = tt;
+      piece_fits = λ i. tt;
+      combined_fits = λ a b _ _. tt;
+      associative = λ a b c _ _ _. add_assoc a b c;
+      commutative = λ a b _ _. add_comm a b;
+      unit_combined = λ a _. zero-add a;
+      unit_weight = refl;
+      weight_adds = λ a b _ _. refl;
+      unit_load = refl;
+      load_adds = λ a b _ _. refl;
+      weight_at_most_load = λ a _. le_refl a;
+    } };
 
     fn unit(&self) -> Result<u64, AllocError> {
         Ok(0)
@@ -71,7 +83,7 @@ struct Ones;
 
 impl Work for Ones {
     ghost use Rattle.std.specs.Prelude.{◌≡◌, ℕ, ◌+◌, refl};
-    ghost use Rattle.pool.specs.Plain.{added_lawful};
+    ghost use Rattle.std.proofs.Math.Nat.{add_assoc, add_comm, zero-add, le_refl};
 
     type Part = u64;
 
@@ -91,7 +103,19 @@ impl Work for Ones {
 
     ghost load_of = { λ w m. m };
 
-    ghost lawful = { λ w. added_lawful (λ i. 1) };
+    ghost lawful = { λ w. record {
+      unit_fits = tt;
+      piece_fits = λ i. tt;
+      combined_fits = λ a b _ _. tt;
+      associative = λ a b c _ _ _. add_assoc a b c;
+      commutative = λ a b _ _. add_comm a b;
+      unit_combined = λ a _. zero-add a;
+      unit_weight = refl;
+      weight_adds = λ a b _ _. refl;
+      unit_load = refl;
+      load_adds = λ a b _ _. refl;
+      weight_at_most_load = λ a _. le_refl a;
+    } };
 
     fn unit(&self) -> Result<u64, AllocError> {
         Ok(0)
@@ -127,7 +151,8 @@ struct Meeting {
 
 impl Work for Meeting {
     ghost use Rattle.std.specs.Prelude.{◌≡◌, ℕ, ◌+◌, refl};
-    ghost use Rattle.pool.specs.Plain.{weightless_lawful};
+    ghost use Rattle.std.proofs.Common.{sym, ◌∙◌};
+    ghost use Rattle.std.proofs.Math.Nat.{le_refl};
 
     type Part = u64;
 
@@ -147,7 +172,19 @@ impl Work for Meeting {
 
     ghost load_of = { λ w m. 0 };
 
-    ghost lawful = { λ w. weightless_lawful };
+    ghost lawful = { λ w. record {
+      unit_fits = refl;
+      piece_fits = λ i. refl;
+      combined_fits = λ a b f _. f;
+      associative = λ a b c _ _ _. refl;
+      commutative = λ a b e f. e ∙ sym f;
+      unit_combined = λ a e. sym e;
+      unit_weight = refl;
+      weight_adds = λ a b _ _. refl;
+      unit_load = refl;
+      load_adds = λ a b _ _. refl;
+      weight_at_most_load = λ a _. le_refl 0;
+    } };
 
     fn unit(&self) -> Result<u64, AllocError> {
         Ok(0)
