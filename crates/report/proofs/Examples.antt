@@ -31,6 +31,16 @@ an-average : cell_field (ratio (negsuc 6) 2) ≡ codes "-7/2"
 unfolding digits
 an-average = refl
 
+a-number : cell_field (plain (whole (negsuc 19))) ≡ codes "-20"
+unfolding digits
+a-number = refl
+
+a-truth-value : cell_field (plain (boolean true)) ≡ codes "true"
+a-truth-value = refl
+
+no-value : cell_field (plain null) ≡ codes "\\N"
+no-value = refl
+
 -- ---- a report
 
 -- the columns d and r
@@ -86,21 +96,10 @@ by-an-alias = refl
 null-under-desc : under_key (record { expression = name (codes "r"); descending = true; nulls_first = false }) null (text (codes "n")) ≡ Greater
 null-under-desc = refl
 
-abbrev two : Datum → Datum → List Summary
-two a b = plain a ∷ plain b ∷ []
-
 -- a row of one empty field, and a header that is not marked
 a-lone-field : report_bytes (record { expression = name (codes "r"); alias = Some (codes "\\") } ∷ []) ((plain (text []) ∷ []) ∷ []) ≡ codes "\\\n\"\"\n"
 unfolding fields_text is_blank
 a-lone-field = refl
-
--- r and n: an empty text, the text \\N, a comma, quotes, NULL, a truth value, an average and a number below 0
-fields-of-all-kinds : report_bytes (record { expression = name (codes "r"); alias = None } ∷ record { expression = function (over_all aggregate.CountRows); alias = Some (codes "n") } ∷ [])
-    (two (text []) (whole (pos 1)) ∷ two (text (codes "\\N")) (whole (pos 1)) ∷ two (text (codes "a,b")) (whole (pos 1)) ∷ two (text (codes "say \"hi\"")) (whole (pos 1))
-    ∷ two null (boolean true) ∷ (ratio (negsuc 6) 2 ∷ plain (whole (negsuc 19)) ∷ []) ∷ [])
-    ≡ codes "r,n\n,1\n\\\\N,1\n\"a,b\",1\n\"say \"\"hi\"\"\",1\n\\N,true\n-7/2,-20\n"
-unfolding digits fields_text is_blank
-fields-of-all-kinds = refl
 
 -- ---- HAVING
 
