@@ -3,7 +3,7 @@ use Rattle.std.proofs.Common.{◌≡◌, ℕ, pos, negsuc, true, false, List, []
 use Rattle.std.specs.declared.cmp.Ordering.TheVariants.{Greater}
 use Rattle.std.specs.Fmt.{digits}
 use Rattle.csv.specs.Writing.{fields_text, is_blank}
-use Rattle.values.specs.Datum.{Datum, whole, text, null}
+use Rattle.values.specs.Datum.{Datum, boolean, whole, text, null}
 use Rattle.values.specs.Schema.{Field}
 use Rattle.values.specs.declared.schema.Kind.TheVariants as kind
 use Rattle.lines.specs.declared.fault.LineFault.TheVariants.{NoJson, BadValue}
@@ -30,6 +30,16 @@ a-backslash-is-marked = refl
 an-average : cell_field (ratio (negsuc 6) 2) ≡ codes "-7/2"
 unfolding digits
 an-average = refl
+
+a-number : cell_field (plain (whole (negsuc 19))) ≡ codes "-20"
+unfolding digits
+a-number = refl
+
+a-truth-value : cell_field (plain (boolean true)) ≡ codes "true"
+a-truth-value = refl
+
+no-value : cell_field (plain null) ≡ codes "\\N"
+no-value = refl
 
 -- ---- a report
 

@@ -14,7 +14,7 @@ use Rattle.query_tree.specs.Syntax.{key_form}
 use Rattle.query_tree.specs.declared.tree.Key.{Key}
 use Rattle.groups.specs.Groups.{key_order}
 use Rattle.report.specs.Order.{under_key}
-use Rattle.report.specs.Ranked.{under_values}
+use Rattle.report.specs.Inside.Ranked.{under_values}
 
 abbrev value_cmp : Value → Value → Ordering
 value_cmp = cmp-value.it

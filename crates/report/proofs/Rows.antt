@@ -24,7 +24,7 @@ use Rattle.groups.proofs.Order.{key_antisymmetric}
 use Rattle.tables.specs.Found.{Found, row_of}
 use Rattle.report.specs.Having.{rows_kept}
 use Rattle.report.specs.Order.{grouping_values, key_value, under_key, under_keys, before, NoneBefore, Ascends, in_order, arranged}
-use Rattle.report.specs.Ranked.{Ranked, by_key, by_rank, key_values, ranked, under_values}
+use Rattle.report.specs.Inside.Ranked.{Ranked, by_key, by_rank, key_values, ranked, under_values}
 use Rattle.tables.specs.Fitting.{AreFitting, set_of}
 use Rattle.report.specs.Laws.{IsTheOrder, IsBlind}
 use Rattle.report.proofs.Filtering.{kept-bag, kept-fit}

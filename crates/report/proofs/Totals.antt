@@ -14,7 +14,7 @@ use Rattle.query_truth.specs.Truth.{is_null}
 use Rattle.groups.proofs.Order.{value_total, key_total}
 use Rattle.tables.specs.Found.{Found}
 use Rattle.report.specs.Order.{before, directed_order, grouping_values, key_value, null_order, under_key, under_keys}
-use Rattle.report.specs.Ranked.{Ranked, by_key, by_rank, under_values}
+use Rattle.report.specs.Inside.Ranked.{Ranked, by_key, by_rank, under_values}
 
 -- ---- values under a key
 

@@ -1,8 +1,7 @@
 pub mod Shown
 pub mod Having
 pub mod Order
-pub mod Ranked
 pub mod Text
 pub mod Report
 pub mod Laws
-pub mod Between
+pub mod Inside

@@ -64,7 +64,6 @@ expression_shown fields t set key cells (function f) = function_shown fields t c
 abbrev pub row_shown : List Field → TreeForm → Found → List Summary
 row_shown fields t row = map (λ item. expression_shown fields t (set_of fields t row) row.1.key row.1.cells item.expression) t.items
 
--- ---- in the code
-
+-- the cells of a row, apart from where they lie in memory
 abbrev pub cells_of : Row → List Summary
 cells_of row = map summary_of row.cells.items

@@ -3,16 +3,16 @@ ghost use Rattle.std.specs.Prelude.{◌≡◌, ◌≤◌, IfOk, map, length, sli
 ghost use Rattle.values.specs.Datum.{data_of, datum_of, null};
 ghost use Rattle.values.specs.Schema.{fields_of};
 ghost use Rattle.query_tree.specs.Syntax.{expression_form};
-ghost use Rattle.query_check.specs.Columns.{place_of};
 ghost use Rattle.query_check.specs.Functions.{column_function};
 ghost use Rattle.query.specs.Planned.{fields_of_plan, form_of_plan};
 ghost use Rattle.groups.specs.Functions.{plain};
 ghost use Rattle.groups.specs.Shown.{summary_of};
-ghost use Rattle.report.specs.Shown.{value_in};
-ghost use Rattle.report.specs.Shown.{expression_shown, function_place, function_shown, grouping_number, grouping_shown, is_rolled_up, name_shown};
+ghost use Rattle.report.specs.Having.{cell_value};
+ghost use Rattle.report.specs.Shown.{value_in, expression_shown, function_place, function_shown, grouping_number, grouping_shown, is_rolled_up, name_shown};
 
 use groups::{Cell, Group};
 use query::{Aggregate, ColumnFunction, Expression, Plan, Text};
+use query_check::place_of;
 use std::alloc::AllocError;
 use values::{Column, Value};
 
@@ -41,16 +41,23 @@ pub(crate) fn expression_cell(
     }
 }
 
-// ---- columns
-
-/// The place of the column of a name, from 0.
-fn place_of(columns: &[Column], name: &str) -> Option<usize>
-    ensures { result ≡ place_of (fields_of columns.now) name.now }
+/// The value that a group of a grouping set shows for an expression. An average is no single value, and none may stand
+/// where the value is asked for.
+pub(crate) fn expression_value(
+    plan: &Plan,
+    set: &[usize],
+    group: &Group,
+    expression: &Expression,
+) -> Result<Value, AllocError>
+    ensures { IfOk result (λ value. datum_of value ≡ cell_value (expression_shown (fields_of_plan plan.now) (form_of_plan plan.now) set.now (data_of group.now.key.items) (map summary_of group.now.cells.items) (expression_form expression.now))) }
 {
-    columns
-        .iter()
-        .position(|column| name == column.name.as_str())
+    match expression_cell(plan, set, group, expression)? {
+        Cell::Plain(value) => Ok(value),
+        Cell::Ratio(..) => Ok(Value::Null),
+    }
 }
+
+// ---- columns
 
 /// A copy of the value that a key of a grouping set has for the column at a place, and NULL where the column is not
 /// in the set.

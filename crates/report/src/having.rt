@@ -11,8 +11,8 @@ ghost use Rattle.tables.specs.Found.{row_of};
 ghost use Rattle.tables.specs.Fitting.{AreFitting};
 ghost use Rattle.report.specs.Having.{row_value, rows_kept};
 
-use crate::cells::{expression_cell, name_value};
-use groups::{Cell, Group};
+use crate::cells::{expression_value, name_value};
+use groups::Group;
 use query::{Expression, Literal, Operand, Plan, Predicate, Text};
 use query_truth::{
     between_truth, literal_value, literal_values, marked, member_truth, null_truth, value_truth,
@@ -202,14 +202,13 @@ fn operand_value(
     ensures { IfOk result (λ value. datum_of value ≡ operand_value (row_value (fields_of_plan plan.now) (form_of_plan plan.now) (row_of found.now)) (operand_form operand.now)) }
 {
     match operand {
-        Operand::Expression(expression) => expression_value(plan, found, expression),
+        Operand::Expression(expression) => shown_value(plan, found, expression),
         Operand::Literal(literal) => literal_value(alloc, literal),
     }
 }
 
-/// The value that the row of a group shows for an expression. An average is no single value, and none may stand where
-/// the value is asked for.
-fn expression_value(
+/// The value that the row of a group shows for an expression.
+fn shown_value(
     plan: &Plan,
     found: &(usize, Group),
     expression: &Expression,
@@ -219,10 +218,7 @@ fn expression_value(
 {
     let (index, group) = found;
     let set = &plan.sets()[*index];
-    match expression_cell(plan, set, group, expression)? {
-        Cell::Plain(value) => Ok(value),
-        Cell::Ratio(..) => Ok(Value::Null),
-    }
+    expression_value(plan, set, group, expression)
 }
 
 /// The value that the row of a group shows for the column of a name.

@@ -9,11 +9,11 @@ ghost use Rattle.groups.specs.Shown.{summary_of};
 ghost use Rattle.tables.specs.Found.{row_of};
 ghost use Rattle.report.specs.Having.{cell_value};
 ghost use Rattle.report.specs.Order.{null_order, under_key};
-ghost use Rattle.report.specs.Ranked.{key_values, under_values};
+ghost use Rattle.report.specs.Inside.Ranked.{key_values, under_values};
 ghost use Rattle.report.specs.Shown.{expression_shown};
 
-use crate::cells::expression_cell;
-use groups::{Cell, Group};
+use crate::cells::expression_value;
+use groups::Group;
 use query::{Key, Plan};
 use query_check::key_expression;
 use std::alloc::{AllocError, Global};
@@ -47,10 +47,7 @@ fn key_value(plan: &Plan, set: &[usize], group: &Group, key: &Key) -> Result<Val
 {
     let items = plan.query().tree().items.as_slice();
     let expression = key_expression(items, &key.expression);
-    match expression_cell(plan, set, group, expression)? {
-        Cell::Plain(value) => Ok(value),
-        Cell::Ratio(..) => Ok(Value::Null),
-    }
+    expression_value(plan, set, group, expression)
 }
 
 // ---- values under keys

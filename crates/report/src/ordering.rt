@@ -7,7 +7,7 @@ ghost use Rattle.query.specs.Planned.{fields_of_plan, form_of_plan};
 ghost use Rattle.tables.specs.Found.{row_of};
 ghost use Rattle.tables.specs.Fitting.{AreFitting};
 ghost use Rattle.report.specs.Order.{before, in_order};
-ghost use Rattle.report.specs.Ranked.{by_key, by_rank, ranked, ranked_in};
+ghost use Rattle.report.specs.Inside.Ranked.{by_key, by_rank, ranked, ranked_in};
 
 use crate::keys::{key_values, under_values};
 use groups::Group;

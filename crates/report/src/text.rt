@@ -5,7 +5,7 @@ ghost use Rattle.csv.specs.Records.{fields_of};
 ghost use Rattle.csv.specs.Writing.{row_text, default_writer, text_written};
 ghost use Rattle.query_print.specs.Canonical.{header_text};
 ghost use Rattle.query.specs.Planned.{form_of_plan};
-ghost use Rattle.report.specs.Between.{IsBetweenRows};
+ghost use Rattle.report.specs.Inside.Between.{IsBetweenRows};
 ghost use Rattle.report.specs.Shown.{cells_of};
 ghost use Rattle.report.specs.Text.{report_bytes};
 

@@ -6,6 +6,7 @@ pub mod Reading
 pub mod Narrow
 pub mod Merging
 pub mod Finding
+pub mod Members
 pub mod Fitting
 pub mod Cutting
 pub mod Shuffling

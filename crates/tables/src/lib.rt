@@ -13,5 +13,5 @@ mod shape;
 
 pub use grouped::Groups;
 pub use groups::{Cell, Group};
-pub use laws::order_law;
+pub use laws::{members_law, order_law};
 pub use partial::Partial;

@@ -36,7 +36,6 @@ by_key x y = ordering_then (nat_cmp x.0 y.0) (key_order x.1.key y.1.key)
 abbrev pub by_rank : List KeyForm → Ranked → Ranked → Ordering
 by_rank keys x y = ordering_then (under_values 0 keys x.0 y.0) (by_key x.1 y.1)
 
--- ---- in the code
-
+-- a row of the code beside the values
 abbrev pub ranked_in : RankedRow → Ranked
 ranked_in row = (data_of row.values.items, row_of row.found.now)

@@ -3,7 +3,7 @@ use Rattle.std.specs.declared.cmp.Ordering.{Ordering}
 use Rattle.std.specs.Ordering.{ordering_then}
 use Rattle.values.specs.Datum.{data_of, datum_of}
 use Rattle.query_tree.specs.Syntax.{key_form}
-use Rattle.report.specs.Ranked.{under_values}
+use Rattle.report.specs.Inside.Ranked.{under_values}
 use Rattle.report.proofs.KeyOrder.{under_values-next, value-or-null}
 use Rattle.report.proofs.keys.under_values.Goals as goal
 

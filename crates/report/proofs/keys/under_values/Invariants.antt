@@ -1,7 +1,7 @@
 use Rattle.std.proofs.Common.{◌≡◌, drop, map}
 use Rattle.values.specs.Datum.{data_of, datum_of, null}
 use Rattle.query_tree.specs.Syntax.{key_form}
-use Rattle.report.specs.Ranked.{under_values}
+use Rattle.report.specs.Inside.Ranked.{under_values}
 use Rattle.report.proofs.keys.under_values.Given as goal
 
 -- the values stand to each other as they do from the place of the key on, and NULL is at hand

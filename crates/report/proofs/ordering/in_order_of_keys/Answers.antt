@@ -6,7 +6,7 @@ use Rattle.query_tree.specs.Syntax.{KeyForm, TreeForm, key_form}
 use Rattle.query.specs.Planned.{fields_of_plan, form_of_plan}
 use Rattle.groups.specs.declared.group.Group.{Group}
 use Rattle.report.specs.Order.{before, in_order}
-use Rattle.report.specs.Ranked.{by_rank, ranked_in}
+use Rattle.report.specs.Inside.Ranked.{by_rank, ranked_in}
 use Rattle.report.specs.declared.ordering.RankedRow.{RankedRow}
 use Rattle.report.proofs.Rows.{row_at, sorted-ranks}
 use Rattle.report.proofs.Totals.{by_rank-total}

@@ -1,7 +1,7 @@
 use Rattle.std.proofs.Common.{◌≡◌, ◌++◌, map}
 use Rattle.query.specs.Planned.{fields_of_plan, form_of_plan}
 use Rattle.report.specs.Order.{before, in_order}
-use Rattle.report.specs.Ranked.{ranked_in}
+use Rattle.report.specs.Inside.Ranked.{ranked_in}
 use Rattle.report.proofs.Rows.{row_at}
 use Rattle.report.proofs.ordering.in_order_of_keys.Given as goal
 

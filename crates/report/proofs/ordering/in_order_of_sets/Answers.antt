@@ -2,7 +2,7 @@ use Rattle.std.proofs.Common.{rules}
 use Rattle.std.specs.Ordering.{is_lt}
 use Rattle.std.proofs.lemmas.Fn.{always_returns_same}
 use Rattle.std.proofs.lemmas.List.Sorted.{ranks_by}
-use Rattle.report.specs.Ranked.{by_key}
+use Rattle.report.specs.Inside.Ranked.{by_key}
 use Rattle.report.proofs.Rows.{row_at, sorted-rows}
 use Rattle.report.proofs.Totals.{by_key-total}
 use Rattle.report.proofs.ordering.in_order_of_sets.Goals as goal

@@ -1,0 +1,3 @@
+-- What private calls compute and keep. No promise rests on it.
+pub mod Ranked
+pub mod Between

@@ -1,0 +1,132 @@
+-- The rows of a grouping set, among those of all sets.
+use Rattle.std.proofs.Common.{◌≡◌, ◌==◌, ◌+◌, ◌<◌, ℕ, zero, suc, Bool, true, false, cond, List, [], ◌∷◌, ◌++◌, map, filter, length, slice_index_or, refl, sym, ap, ◌∙◌, arith}
+use Rattle.std.proofs.lemmas.Bool.{ne_eqb}
+use Rattle.std.proofs.lemmas.Bool.Decides.{nat_tests}
+use Rattle.std.proofs.lemmas.List.{map-append}
+use Rattle.std.specs.List.{enumerate_from, flat_map}
+use Rattle.values.specs.Schema.{Field}
+use Rattle.query_tree.specs.Syntax.{TreeForm}
+use Rattle.query_check.specs.declared.function.ColumnFunction.{ColumnFunction}
+use Rattle.query_check.specs.Functions.{functions_of}
+use Rattle.query_check.specs.Sets.{sets_of}
+use Rattle.query_truth.specs.Kept.{kept}
+use Rattle.groups.specs.Rows.{Row}
+use Rattle.groups.specs.Groups.{Key, keys, members}
+use Rattle.groups.specs.GroupRows.{SameBag, weigh, group_row, group_rows}
+use Rattle.tables.specs.Found.{Found}
+use Rattle.tables.specs.Members.{HasEachRecordOnce, members_of_row, rows_of_set}
+use Rattle.tables.specs.Results.{found, query_found}
+use Rattle.tables.proofs.Finding.{set_groups, weigh-append, weigh-map}
+
+weigh-filter : {A : Type 0} (f : A → ℕ) (test : A → Bool) (xs : List A) → weigh f (filter test xs) ≡ weigh (λ x. cond (test x) (f x) 0) xs
+weigh-filter f test [] = refl
+weigh-filter f test (x ∷ xs) = elim (test x) as (λ b. weigh f (cond b (x ∷ filter test xs) (filter test xs)) ≡ cond b (f x) 0 + weigh (λ y. cond (test y) (f y) 0) xs) [
+  | true ↦ ap (λ n. f x + n) (weigh-filter f test xs)
+  | false ↦ let h = weigh-filter f test xs in omega (arith, h)
+]
+
+weigh-flat_map : {A B : Type 0} (f : B → ℕ) (g : A → List B) (xs : List A) → weigh f (flat_map g xs) ≡ weigh (λ x. weigh f (g x)) xs
+weigh-flat_map f g [] = refl
+weigh-flat_map f g (x ∷ xs) = weigh-append f (g x) (flat_map g xs) ∙ ap (λ n. weigh f (g x) + n) (weigh-flat_map f g xs)
+
+both : (b : Bool) (m n : ℕ) → cond b m 0 + cond b n 0 ≡ cond b (m + n) 0
+both true m n = refl
+both false m n = refl
+
+neither : (b : Bool) → ◌≡◌ {A = ℕ} 0 (cond b 0 0)
+neither true = refl
+neither false = refl
+
+-- the weight of a row of the grouping set with this index; the rows of other sets weigh nothing
+abbrev of_set : ℕ → (Found → ℕ) → Found → ℕ
+of_set index f row = cond (row.0 == index) (f row) 0
+
+-- the rows of a set, by some of its keys
+abbrev rows_of : List ColumnFunction → List Row → ℕ → List ℕ → List Key → List Found
+rows_of fs rows n set ks = map (found fs) (map (λ key. record { index = n; key = key; members = members set key rows }) ks)
+
+one-set : (index : ℕ) (f : Found → ℕ) (fs : List ColumnFunction) (rows : List Row) (n : ℕ) (set : List ℕ) (ks : List Key)
+    → weigh (of_set index f) (rows_of fs rows n set ks) ≡ cond (n == index) (weigh (λ key. f (n, group_row fs key (members set key rows))) ks) 0
+one-set index f fs rows n set [] = neither (n == index)
+one-set index f fs rows n set (k ∷ ks) =
+    ap (λ m. cond (n == index) (f (n, group_row fs k (members set k rows))) 0 + m) (one-set index f fs rows n set ks)
+    ∙ both (n == index) (f (n, group_row fs k (members set k rows))) (weigh (λ key. f (n, group_row fs key (members set key rows))) ks)
+
+-- the weight of the rows of all sets, of which the first has the index n
+abbrev weight_from : ℕ → (Found → ℕ) → List ColumnFunction → List Row → ℕ → List (List ℕ) → ℕ
+weight_from index f fs rows n sets = weigh (of_set index f) (map (found fs) (flat_map (set_groups rows) (enumerate_from n sets)))
+
+first-set : (index : ℕ) (f : Found → ℕ) (fs : List ColumnFunction) (rows : List Row) (n : ℕ) (set : List ℕ) (sets : List (List ℕ))
+    → weight_from index f fs rows n (set ∷ sets)
+    ≡ cond (n == index) (weigh (λ key. f (n, group_row fs key (members set key rows))) (keys set rows)) 0 + weight_from index f fs rows (n + 1) sets
+first-set index f fs rows n set sets =
+    let front = rows_of fs rows n set (keys set rows) in
+    let rest = map (found fs) (flat_map (set_groups rows) (enumerate_from (n + 1) sets)) in
+    ap (weigh (of_set index f)) (map-append (found fs) (set_groups rows (n, set)) (flat_map (set_groups rows) (enumerate_from (n + 1) sets)))
+    ∙ weigh-append (of_set index f) front rest
+    ∙ ap (λ m. m + weigh (of_set index f) rest) (one-set index f fs rows n set (keys set rows))
+
+other-set : (index : ℕ) (f : Found → ℕ) (fs : List ColumnFunction) (rows : List Row) (n : ℕ) (set : List ℕ) (sets : List (List ℕ)) → (n == index) ≡ false
+    → weight_from index f fs rows n (set ∷ sets) ≡ 0 + weight_from index f fs rows (n + 1) sets
+other-set index f fs rows n set sets other =
+    first-set index f fs rows n set sets
+    ∙ ap (λ b. cond b (weigh (λ key. f (n, group_row fs key (members set key rows))) (keys set rows)) 0 + weight_from index f fs rows (n + 1) sets) other
+
+this-set : (index : ℕ) (f : Found → ℕ) (fs : List ColumnFunction) (rows : List Row) (n : ℕ) (set : List ℕ) (sets : List (List ℕ)) → (n == index) ≡ true
+    → weight_from index f fs rows n (set ∷ sets) ≡ weigh (λ key. f (n, group_row fs key (members set key rows))) (keys set rows) + weight_from index f fs rows (n + 1) sets
+this-set index f fs rows n set sets this =
+    first-set index f fs rows n set sets
+    ∙ ap (λ b. cond b (weigh (λ key. f (n, group_row fs key (members set key rows))) (keys set rows)) 0 + weight_from index f fs rows (n + 1) sets) this
+
+-- behind its set there are no rows of it
+behind : (index : ℕ) (f : Found → ℕ) (fs : List ColumnFunction) (rows : List Row) (n : ℕ) (sets : List (List ℕ)) → index < n → weight_from index f fs rows n sets ≡ 0
+behind index f fs rows n [] h = refl
+behind index f fs rows n (set ∷ sets) h =
+    let first = other-set index f fs rows n set sets (ne_eqb n index (λ e. omega (arith, e, h))) in
+    let rest = behind index f fs rows (n + 1) sets (omega (arith, h)) in
+    omega (arith, first, rest)
+
+-- the set at a place
+abbrev set_at : List (List ℕ) → ℕ → List ℕ
+set_at sets place = slice_index_or sets place []
+
+weight-at : (index : ℕ) (f : Found → ℕ) (fs : List ColumnFunction) (rows : List Row) (n : ℕ) (sets : List (List ℕ)) (place : ℕ) → place < length sets → index ≡ n + place
+    → weight_from index f fs rows n sets ≡ weigh (λ key. f (index, group_row fs key (members (set_at sets place) key rows))) (keys (set_at sets place) rows)
+weight-at index f fs rows n [] place few e = absurd (omega (arith, few))
+weight-at index f fs rows n (set ∷ sets) zero few e =
+    let same : n ≡ index = omega (arith, e) in
+    let this : (n == index) ≡ true = grind (arith, nat_tests) in
+    let first = this-set index f fs rows n set sets this in
+    let none = behind index f fs rows (n + 1) sets (omega (arith, e)) in
+    let moved = ap (λ m. weigh (λ key. f (m, group_row fs key (members set key rows))) (keys set rows)) same in
+    omega (arith, first, none, moved)
+weight-at index f fs rows n (set ∷ sets) (suc place) few e =
+    let first = other-set index f fs rows n set sets (ne_eqb n index (λ same. omega (arith, same, e))) in
+    let rest = weight-at index f fs rows (n + 1) sets place (omega (arith, few)) (omega (arith, e)) in
+    omega (arith, first, rest)
+
+-- Each record is a member of one group of a set, and the numbers of members of its groups add up to that of the records.
+pub record AreParted : Type 0 where
+  pub members : (set : List ℕ) (rows : List Row) → SameBag (flat_map (λ key. members set key rows) (keys set rows)) rows
+  pub lines : (set : List ℕ) (fs : List ColumnFunction) (rows : List Row) → weigh (λ group. group.lines) (group_rows set fs rows) ≡ length rows
+
+pub each-record-once : AreParted → (fields : List Field) (q : TreeForm) (rows : List Row) (given : List Found) → SameBag given (query_found fields q rows)
+    → HasEachRecordOnce fields q given rows
+each-record-once parted fields q rows given same =
+    let all = kept fields q rows in
+    let fs = functions_of fields q in
+    let sets = sets_of fields q in
+    let of_rows : (f : Found → ℕ) (index : ℕ) → index < length sets
+    → weigh f (rows_of_set index given) ≡ weigh (λ key. f (index, group_row fs key (members (set_at sets index) key all))) (keys (set_at sets index) all)
+    = λ f index few. weigh-filter f (λ row. row.0 == index) given ∙ same (of_set index f) ∙ weight-at index f fs all 0 sets index few (omega arith) in
+    record {
+      lines = λ index few.
+          of_rows (λ row. row.1.lines) index few
+          ∙ sym (weigh-map (λ group. group.lines) (λ key. group_row fs key (members (set_at sets index) key all)) (keys (set_at sets index) all))
+          ∙ parted.lines (set_at sets index) fs all;
+      members = λ index few weight.
+          weigh-flat_map weight (members_of_row fields q rows) (rows_of_set index given)
+          ∙ of_rows (λ row. weigh weight (members_of_row fields q rows row)) index few
+          ∙ sym (weigh-flat_map weight (λ key. members (set_at sets index) key all) (keys (set_at sets index) all))
+          ∙ parted.members (set_at sets index) all weight;
+    }

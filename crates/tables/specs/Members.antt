@@ -1,0 +1,26 @@
+-- The members that the rows of groups stand for, over all rows of a grouping set.
+use Rattle.std.specs.Prelude.{◌≡◌, ◌==◌, ◌<◌, ℕ, List, filter, length}
+use Rattle.std.specs.List.{flat_map}
+use Rattle.values.specs.Schema.{Field}
+use Rattle.query_tree.specs.Syntax.{TreeForm}
+use Rattle.query_check.specs.Sets.{sets_of}
+use Rattle.query_truth.specs.Kept.{kept}
+use Rattle.groups.specs.Rows.{Row}
+use Rattle.groups.specs.Groups.{members}
+use Rattle.groups.specs.GroupRows.{SameBag, weigh}
+use Rattle.tables.specs.Fitting.{set_of}
+use Rattle.tables.specs.Found.{Found}
+
+-- the rows of the grouping set with this index
+abbrev pub rows_of_set : ℕ → List Found → List Found
+rows_of_set index found = filter (λ row. row.0 == index) found
+
+-- the members that a row stands for: of a list of records those that WHERE keeps and that have the row's key under its grouping set
+abbrev pub members_of_row : List Field → TreeForm → List Row → Found → List Row
+members_of_row fields q rows row = members (set_of fields q row) row.1.key (kept fields q rows)
+
+-- Of each grouping set the numbers of members that its rows show add up to the number of the records that WHERE keeps,
+-- and the members that its rows stand for, joined, are these records, each as often.
+pub record HasEachRecordOnce (fields : List Field) (q : TreeForm) (found : List Found) (rows : List Row) : Type 0 where
+  pub lines : (index : ℕ) → index < length (sets_of fields q) → weigh (λ row. row.1.lines) (rows_of_set index found) ≡ length (kept fields q rows)
+  pub members : (index : ℕ) → index < length (sets_of fields q) → SameBag (flat_map (members_of_row fields q rows) (rows_of_set index found)) (kept fields q rows)
