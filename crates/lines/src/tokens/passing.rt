@@ -22,6 +22,7 @@ pub(crate) fn pass(reader: &mut Reader<'_>, depth: usize) -> Option<()>
     }
 }
 
+/// Passes the items of an array, up to its closing bracket.
 #[cycle(pass)]
 fn pass_items(reader: &mut Reader<'_>, depth: usize) -> Option<()>
     ensures passed { IfSome result (λ _. (ds : Items) × (converted of_items (items (value depth) (length reader.old) reader.old) ≡ Some (ds, reader.new))) }
@@ -33,6 +34,7 @@ fn pass_items(reader: &mut Reader<'_>, depth: usize) -> Option<()>
     Some(())
 }
 
+/// Passes the members of an object, up to its closing brace.
 #[cycle(pass)]
 fn pass_members(reader: &mut Reader<'_>, depth: usize) -> Option<()>
     ensures passed { IfSome result (λ _. (found : Members) × (converted (λ ms. of_members ms no_members) (members (value depth) (length reader.old) reader.old) ≡ Some (found, reader.new))) }

@@ -56,47 +56,53 @@ pass-returns-in-BeginObject-clause-passed t c =
     if_some c.pass_members.result (λ done e. subst (λ ts. Passed c.args.depth ts c.pass_members.new.reader) (sym first) (object e.0, read-object c.args.depth c.next.new.self c.pass_members.new.reader e.0 c.if-depth-gt0-2.true e.1)) c.pass_members.ensures.passed
 
 pub pass_items-items-init : goal.pass_items-items-init
-pass_items-items-init t c =
-    let all = converted of_items (items (value c.args.depth) (length c.args.reader.now) c.args.reader.now) in
-    (length c.args.reader.now, (λ ds. ds), omega arith, unmoved all, omega arith)
+pass_items-items-init t c = record {
+  turns = length c.args.reader.now;
+  before = λ ds. ds;
+  enough = omega arith;
+  read = unmoved (converted of_items (items (value c.args.depth) (length c.args.reader.now) c.args.reader.now));
+  not_longer = omega arith;
+}
 
 pub pass_items-items-preserved : goal.pass_items-items-preserved
 pass_items-items-preserved t c =
     let p = value c.args.depth in
     let l = c.items in
-    let n = l.invariant.0 in
-    let before = l.invariant.1 in
+    let so_far = l.invariant in
     let going : (after_end_array l.reader ≡ None) × (c.take_end_array.new.self ≡ l.reader) = grind arith in
     let done = c.in_ok-pass.ensures in
     let r = c.pass.new.reader in
     let d = done.passed.0 in
     let less : length r < length l.reader = rw (← going.1) done.shorter in
-    let turn = item_read p n l.reader r d (omega (arith, l.invariant.2)) going.0 (rw (← going.1) done.passed.1) in (
-      n - 1,
-      (λ ds. before (item d ds)),
-      omega (arith, l.invariant.2),
-      l.invariant.3 ∙ ap (parse_map before) turn ∙ moved before d _,
-      omega (arith, l.invariant.4),
-    )
+    let turn = item_read p so_far.turns l.reader r d (omega (arith, so_far.enough)) going.0 (rw (← going.1) done.passed.1) in
+    record {
+      turns = so_far.turns - 1;
+      before = λ ds. so_far.before (item d ds);
+      enough = omega (arith, so_far.enough);
+      read = so_far.read ∙ ap (parse_map so_far.before) turn ∙ moved so_far.before d _;
+      not_longer = omega (arith, so_far.not_longer);
+    }
 
 pub pass_items-returns-clause-passed : goal.pass_items-returns-clause-passed
 pass_items-returns-clause-passed t c =
-    let p = value c.args.depth in
-    let l = c.items in
-    let n = l.invariant.0 in
+    let so_far = c.items.invariant in
     let r = c.take_end_array.new.self in
-    (l.invariant.1 no_items, l.invariant.3 ∙ ap (parse_map l.invariant.1) (items_over p n l.reader r l.invariant.2 (grind arith)))
+    (so_far.before no_items, so_far.read ∙ ap (parse_map so_far.before) (items_over (value c.args.depth) so_far.turns c.items.reader r so_far.enough (grind arith)))
 
 pub pass_members-members-init : goal.pass_members-members-init
-pass_members-members-init t c =
-    (length c.args.reader.now, no_members, omega arith, refl, omega arith)
+pass_members-members-init t c = record {
+  turns = length c.args.reader.now;
+  found = no_members;
+  enough = omega arith;
+  read = refl;
+  not_longer = omega arith;
+}
 
 pub pass_members-members-preserved : goal.pass_members-members-preserved
 pass_members-members-preserved t c =
     let p = value c.args.depth in
     let l = c.members in
-    let n = l.invariant.0 in
-    let old = l.invariant.1 in
+    let so_far = l.invariant in
     let k = c.in-Some.field-0.now in
     let s = c.next_key.new.self in
     let named : read_key l.reader ≡ Some (Some k, s) = grind arith in
@@ -104,17 +110,16 @@ pass_members-members-preserved t c =
     let d = done.passed.0 in
     let r = c.pass.new.reader in
     let less = read_key-shorter l.reader (Some k) s named in
-    let lesser = done.shorter in (
-      n - 1,
-      put k d old,
-      omega (arith, l.invariant.2),
-      l.invariant.3 ∙ member_read p old n k l.reader s r d (omega (arith, l.invariant.2)) named done.passed.1,
-      omega (arith, l.invariant.4),
-    )
+    let lesser = done.shorter in
+    record {
+      turns = so_far.turns - 1;
+      found = put k d so_far.found;
+      enough = omega (arith, so_far.enough);
+      read = so_far.read ∙ member_read p so_far.found so_far.turns k l.reader s r d (omega (arith, so_far.enough)) named done.passed.1;
+      not_longer = omega (arith, so_far.not_longer);
+    }
 
 pub pass_members-returns-clause-passed : goal.pass_members-returns-clause-passed
 pass_members-returns-clause-passed t c =
-    let p = value c.args.depth in
-    let l = c.members in
-    let n = l.invariant.0 in
-    (l.invariant.1, l.invariant.3 ∙ members_over p l.invariant.1 n l.reader c.next_key.new.self l.invariant.2 (grind arith))
+    let so_far = c.members.invariant in
+    (so_far.found, so_far.read ∙ members_over (value c.args.depth) so_far.found so_far.turns c.members.reader c.next_key.new.self so_far.enough (grind arith))

@@ -33,7 +33,7 @@ pub members-preserved-in-Some-place_of : goal.members-preserved-in-Some-place_of
 members-preserved-in-Some-place_of c =
     let p = value 126 in
     let l = c.members in
-    let before = l.invariant in
+    let so_far = l.invariant in
     let k = c.in-Some.name.now in
     let s = c.next_key.new.self in
     let named : read_key l.reader ≡ Some (Some k, s) = grind arith in
@@ -44,11 +44,11 @@ members-preserved-in-Some-place_of c =
     let lesser = done.shorter in
     let found = c.in-Some-place_of.ensures in
     record {
-      turns = before.turns - 1;
-      found = put k d before.found;
-      enough = omega (arith, before.enough);
-      read = before.read ∙ member_read p before.found before.turns k l.reader s r d (omega (arith, before.enough)) named done.taken.1;
-      taken = rw (c.put_at.ensures) (taken-place c.args.columns.now l.values.items before.found k d before.taken c.in-Some-place_of.place c.index-columns-place.result c.in_ok-value-in-Some-place_of.value c.requires.names_differ found.0 c.index-columns-place.is found.1 (ap (λ column. datum_taken column.kind d) c.index-columns-place.is ∙ done.taken.2));
+      turns = so_far.turns - 1;
+      found = put k d so_far.found;
+      enough = omega (arith, so_far.enough);
+      read = so_far.read ∙ member_read p so_far.found so_far.turns k l.reader s r d (omega (arith, so_far.enough)) named done.taken.1;
+      taken = rw (c.put_at.ensures) (taken-place c.args.columns.now l.values.items so_far.found k d so_far.taken c.in-Some-place_of.place c.index-columns-place.result c.in_ok-value-in-Some-place_of.value c.requires.names_differ found.0 c.index-columns-place.is found.1 (ap (λ column. datum_taken column.kind d) c.index-columns-place.is ∙ done.taken.2));
       next_within = omega (arith, found.0);
     }
 
@@ -56,7 +56,7 @@ pub members-preserved : goal.members-preserved
 members-preserved c =
     let p = value 126 in
     let l = c.members in
-    let before = l.invariant in
+    let so_far = l.invariant in
     let k = c.in-Some.name.now in
     let s = c.next_key.new.self in
     let named : read_key l.reader ≡ Some (Some k, s) = grind arith in
@@ -66,16 +66,16 @@ members-preserved c =
     let less = read_key-shorter l.reader (Some k) s named in
     let lesser = done.shorter in
     record {
-      turns = before.turns - 1;
-      found = put k d before.found;
-      enough = omega (arith, before.enough);
-      read = before.read ∙ member_read p before.found before.turns k l.reader s r d (omega (arith, before.enough)) named done.passed.1;
-      taken = taken-other c.args.columns.now l.values.items before.found k d before.taken c.in-None.ensures;
-      next_within = before.next_within;
+      turns = so_far.turns - 1;
+      found = put k d so_far.found;
+      enough = omega (arith, so_far.enough);
+      read = so_far.read ∙ member_read p so_far.found so_far.turns k l.reader s r d (omega (arith, so_far.enough)) named done.passed.1;
+      taken = taken-other c.args.columns.now l.values.items so_far.found k d so_far.taken c.in-None.ensures;
+      next_within = so_far.next_within;
     }
 
 pub returns : goal.returns
 returns c =
     let l = c.members in
-    let before = l.invariant in
-    record { taken = (before.found, before.read ∙ members_over (value 126) before.found before.turns l.reader c.next_key.new.self before.enough (grind arith), before.taken) }
+    let so_far = l.invariant in
+    record { taken = (so_far.found, so_far.read ∙ members_over (value 126) so_far.found so_far.turns l.reader c.next_key.new.self so_far.enough (grind arith), so_far.taken) }
