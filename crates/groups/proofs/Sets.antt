@@ -1,5 +1,5 @@
 -- Sets of values.
-use Rattle.std.proofs.Common.{◌≡◌, ◌≢◌, ◌+◌, string_bytes, Bool, true, false, cond, not, ◌||◌, List, [], ◌∷◌, ◌++◌, length, refl, sym, ap, ◌∙◌, arith}
+use Rattle.std.proofs.Common.{◌≡◌, ◌+◌, Bool, true, false, cond, not, ◌||◌, List, [], ◌∷◌, ◌++◌, length, refl, sym, ap, ◌∙◌, arith}
 use Rattle.std.specs.Bool.{MatchBool}
 use Rattle.std.specs.List.{AllByRecursion, IsDistinct, list_any}
 use Rattle.std.specs.Cmp.{eq_by_cmp_equiv}
@@ -10,7 +10,6 @@ use Rattle.std.specs.FinSet as set
 use Rattle.values.specs.Datum.{Datum, whole, text, boolean, null, data_of, datum_of}
 use Rattle.values.specs.Order.{value_order}
 use Rattle.values.specs.declared.value.Value.{Value}
-use Rattle.values.specs.declared.value.Value.TheVariants as v
 use Rattle.groups.specs.Rows.{is_present, present}
 use Rattle.groups.specs.Functions.{same_value, different}
 use Rattle.groups.specs.Inside.Values.{Values, set_of, set_shown}
