@@ -13,6 +13,7 @@ use std::alloc::{AllocError, Global};
 ///
 /// A piece past the last one has no bytes. The weight of a result is the number of its refused lines, and its load
 /// the number of its lines.
+#[derive(Drop)]
 pub struct Job<'a> {
     alloc: Global,
     plan: &'a Plan,
