@@ -30,6 +30,11 @@ words-piece : one_of (codes "piece") (matches_of command words) ≡ Some (codes 
 unfolding clap_on_literals
 words-piece = refl
 
+-- the number of workers that stands where none is given
+words-workers : one_of (codes "workers") (matches_of command words) ≡ Some (codes "4")
+unfolding clap_on_literals
+words-workers = refl
+
 words-max_refused : one_of (codes "max-refused") (matches_of command words) ≡ None
 unfolding clap_on_literals
 words-max_refused = refl

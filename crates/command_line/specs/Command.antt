@@ -31,13 +31,14 @@ flag name = record (new_rule name) { long = Some name; action = Some SetTrue }
 abbrev pub required_word : Text → Rule
 required_word name = record (new_rule name) { value_names = 1; action = Some Set; required = true }
 
--- `jlreport --columns <SPEC> --query <TEXT> [--piece <BYTES>] [--max-refused <N>] [--explain] <FILE>`, with pieces of
--- 1,048,576 bytes where they are not given
+-- `jlreport --columns <SPEC> --query <TEXT> [--workers <N>] [--piece <BYTES>] [--max-refused <N>] [--explain] <FILE>`,
+-- with 4 workers and pieces of 1,048,576 bytes where they are not given
 abbrev pub command : App
 command =
-    with_rule (with_rule (with_rule (with_rule (with_rule (with_rule (new_app (codes "jlreport"))
+    with_rule (with_rule (with_rule (with_rule (with_rule (with_rule (with_rule (new_app (codes "jlreport"))
     (required_option (codes "columns")))
     (required_option (codes "query")))
+    (number_option (codes "workers") (codes "4" ∷ [])))
     (number_option (codes "piece") (codes "1048576" ∷ [])))
     (number_option (codes "max-refused") []))
     (flag (codes "explain")))

@@ -5,7 +5,7 @@ ghost use Rattle.clap.specs.Words.{app_of, fault_of, found_of, kind_of, new_app,
 ghost use Rattle.command_line.specs.Command.{IsNumberOf, IsSet, command, value_of};
 ghost use Rattle.command_line.specs.Numbers.{IsNumberIn};
 ghost use Rattle.command_line.specs.Ranges.{AreInRange};
-ghost use Rattle.command_line.specs.Refusal.{IsRefusalOf, workers};
+ghost use Rattle.command_line.specs.Refusal.{IsRefusalOf};
 
 use crate::arguments::{
     defaulted_option, flag, is_set, number_of, number_option, required_option, required_word,
@@ -17,9 +17,6 @@ use clap::error::ErrorKind;
 use clap::{ArgMatches, Command, Error};
 use std::alloc::Global;
 
-/// How many workers a run has.
-const WORKERS: usize = 4;
-
 /// What stands at the top of the help.
 const ABOUT: &str = "Answers one SQL aggregate query over a file of JSON lines";
 
@@ -28,6 +25,9 @@ const COLUMNS_HELP: &str = "The columns that the query can name, as NAME:TYPE,NA
 
 /// What help says of the query.
 const QUERY_HELP: &str = "The query to answer";
+
+/// What help says of the number of workers.
+const WORKERS_HELP: &str = "How many threads work on the file, 1 to 64";
 
 /// What help says of the size of a piece.
 const PIECE_HELP: &str = "How many bytes are worked on at once, 1 to 67108864";
@@ -45,44 +45,47 @@ const FILE_HELP: &str = "The file to read, with one JSON object on each line";
 
 /// What stands at the end of the help.
 const DETAILS: &str = "Columns:
-  A column is NAME:TYPE. It takes the member NAME of the object on a line. A line fits where each
-  column's member is of the column's type, is null or is missing. Other members are ignored.
-  A NAME has ASCII letters, digits and _, and does not begin with a digit. There are 1 to 32
-  columns, with different names, joined by commas without spaces.
+  A column is NAME:TYPE, with TYPE int (whole numbers of 64 bits), text (strings) or bool. It takes
+  the member NAME of the object on a line. A line fits where each column's member is of its type, is
+  null or is missing; other members are ignored. A NAME has ASCII letters, digits and _, no digit
+  first. There are 1 to 32 columns with different names, joined by commas without spaces.
 
-  TYPE  Members of this type
-  int   whole numbers from -9223372036854775808 to 9223372036854775807
-  text  strings
-  bool  true and false
+Query (docs/LANGUAGE.md says all of it):
+  SELECT ITEM, .. FROM lines [WHERE PRED] [GROUP BY GROUP, ..] [HAVING PRED] [ORDER BY KEY, ..]
 
-Query:
-  SELECT ITEM, .. FROM lines [WHERE PREDICATE] [GROUP BY NAME, ..]
+  ITEM   EXPR [AS NAME]
+  EXPR   NAME, COUNT(*), COUNT(NAME), COUNT(DISTINCT NAME), SUM(NAME), MIN(NAME), MAX(NAME),
+         AVG(NAME), GROUPING(NAME, ..)
+  GROUP  NAME, (NAME, ..), (), ROLLUP (NAME, ..), CUBE (NAME, ..), GROUPING SETS (GROUP, ..)
+  KEY    EXPR or a NAME after AS, [ASC | DESC], [NULLS FIRST | NULLS LAST]
+  PRED   EXPRs, whole numbers, 'texts', TRUE and FALSE, compared by =, <>, <, <=, >, >=, BETWEEN,
+         IN and IS NULL; a NAME of type bool; IS TRUE, IS FALSE and IS UNKNOWN; NOT, AND, OR and
+         brackets. WHERE keeps the lines, and HAVING the rows, of which it is true.
 
-  An ITEM is a NAME of GROUP BY, COUNT(*), COUNT(NAME), COUNT(DISTINCT NAME), SUM(NAME), MIN(NAME),
-  MAX(NAME), AVG(NAME) or GROUPING(NAME, ..), with AS NAME behind it where its header is to be
-  another one. A PREDICATE compares NAMEs, whole numbers, 'texts', TRUE and FALSE by =, <>, <, <=,
-  >, >=, BETWEEN, IN, IS NULL and IS TRUE, with NOT, AND, OR and brackets; the lines of which it is
-  true are kept. In double quotes a NAME may be any text.
+  Keywords are read in any case. In double quotes a NAME may be any text.
 
 Output:
-  The report goes to standard output, as CSV: a row of headers, then a row for each group in the
-  order of the columns of GROUP BY, NULL last. NULL is \\N; a text that begins with \\ has one more in front.
-  The refused lines go to standard error, each as its number and why: it is over 1048576 bytes,
-  not JSON, not an object, or has a member that does not fit its column.
-  With --explain there is no report: standard output has the query on a line, and then a line for
-  each grouping set, as its number from 0 and its columns.
+  The report goes to standard output, as CSV: a row of headers, then the rows by the keys of ORDER
+  BY, then by their grouping set, then by the columns of GROUP BY, NULL last. NULL is \\N; a text
+  that begins with \\ has one more in front. The refused lines go to standard error, each as its
+  number and why: it is over 1048576 bytes, not JSON, not an object, or has a member that does not
+  fit its column. With --explain there is no report: standard output has the query on a line, and
+  then a line for each grouping set, as its number from 0 and its columns.
 
 Exit status:
   0  there is a report, and no line is refused; or an explanation or help was asked for
   1  there is a report, and some lines are refused
   2  the words, the columns or the query are refused
   3  the file cannot be opened or read, or the output cannot be written
-  4  memory ran out
+  4  memory ran out, or a thread could not be started
   5  more lines are refused than may be, and there is no report
 
-Example:
-  jlreport --columns shop:text,cents:int \\
-    --query 'SELECT shop, SUM(cents) AS total FROM lines GROUP BY shop' events.jsonl";
+Examples:
+  jlreport --columns shop:text,cents:int --query \\
+    'SELECT shop, SUM(cents) FROM lines GROUP BY ROLLUP (shop)' examples/events.jsonl
+  jlreport --columns shop:text,member:bool --query \\
+    'SELECT shop, COUNT(*) AS n FROM lines WHERE member GROUP BY shop HAVING COUNT(*) > 5
+     ORDER BY n DESC' examples/events.jsonl";
 
 /// The command without its arguments, with the texts that help shows around them.
 fn described_command<'a>(alloc: Global) -> Command<'a>
@@ -102,6 +105,8 @@ fn program_command<'a>(alloc: Global) -> Result<Command<'a>, Error>
     let command = described_command(alloc).arg(columns)?;
     let query = required_option(alloc, "query", "TEXT", QUERY_HELP);
     let command = command.arg(query)?;
+    let workers = defaulted_option(alloc, "workers", "N", "4", WORKERS_HELP);
+    let command = command.arg(workers)?;
     let piece = defaulted_option(alloc, "piece", "BYTES", "1048576", PIECE_HELP);
     let command = command.arg(piece)?;
     let max_refused = number_option(alloc, "max-refused", "N", MAX_REFUSED_HELP);
@@ -119,15 +124,22 @@ fn options_of(matches: &ArgMatches<'_>) -> Option<Options>
         IsNumberIn (one_text (found_of matches.now) (codes "piece")) (Some options.piece)) }
     ensures max_refused { IfSome result (λ options.
         IsNumberIn (one_text (found_of matches.now) (codes "max-refused")) options.max_refused) }
-    ensures workers { IfSome result (λ options. options.workers ≡ workers) }
-    ensures out_of_range { IsNone result → (n : ℕ)
-        → IsNumberIn (one_text (found_of matches.now) (codes "piece")) (Some n)
-        → AreInRange workers n → ⊥ }
+    ensures workers { IfSome result (λ options.
+        IsNumberIn (one_text (found_of matches.now) (codes "workers")) (Some options.workers)) }
+    ensures out_of_range { IsNone result → (workers piece : ℕ)
+        → IsNumberIn (one_text (found_of matches.now) (codes "workers")) (Some workers)
+        → IsNumberIn (one_text (found_of matches.now) (codes "piece")) (Some piece)
+        → AreInRange workers piece → ⊥ }
 {
-    match number_of(matches, "piece") {
-        Some(piece) => Options::new(WORKERS, piece as usize, number_of(matches, "max-refused")),
-        None => None,
-    }
+    let (Some(workers), Some(piece)) = (number_of(matches, "workers"), number_of(matches, "piece"))
+    else {
+        return None;
+    };
+    Options::new(
+        workers as usize,
+        piece as usize,
+        number_of(matches, "max-refused"),
+    )
 }
 
 /// What the words ask for, of which the first is the program's name.
@@ -148,7 +160,8 @@ pub fn settings<'a>(alloc: Global, words: &'a [&'a str]) -> Result<Settings<'a>,
         IsNumberOf (codes "piece") (texts words.now) (Some s.options.piece)) }
     ensures max_refused { IfOk result (λ s.
         IsNumberOf (codes "max-refused") (texts words.now) s.options.max_refused) }
-    ensures workers { IfOk result (λ s. s.options.workers ≡ workers) }
+    ensures workers { IfOk result (λ s.
+        IsNumberOf (codes "workers") (texts words.now) (Some s.options.workers)) }
     ensures explain { IfOk result (λ s. (s.explain ≡ true) ↔ IsSet (codes "explain") (texts words.now)) }
     ensures taken { IfOk result (λ _. fault_of command (texts words.now) ≡ []) }
     ensures refused { IfErr result (IsRefusalOf (texts words.now)) }

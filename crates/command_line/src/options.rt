@@ -38,7 +38,9 @@ impl Options {
 
     /// How many workers there are, 1 to 64.
     pub fn workers(&self) -> usize
-        ensures { result ≡ self.now.workers }
+        ensures value { result ≡ self.now.workers }
+        ensures some_worker { 1 ≤ result }
+        ensures few_workers { result ≤ 64 }
     {
         self.workers
     }

@@ -8,17 +8,10 @@ use Rattle.groups.specs.Rows.{Row}
 use Rattle.groups.specs.Groups as meaning
 use Rattle.groups.specs.Groups.{Key, keys, members}
 use Rattle.groups.specs.GroupRows.{SameBag, weigh, group_row, group_rows, group_row_in}
+use Rattle.tables.proofs.Bags.{weigh-append, weigh-map}
 use Rattle.tables.specs.Found.{Found, rows_from}
 use Rattle.tables.specs.Results.{all_found, found}
 use Rattle.tables.specs.Sets.{AreGroupsOf}
-
-pub weigh-append : {A : Type 0} (f : A → ℕ) (xs ys : List A) → weigh f (xs ++ ys) ≡ weigh f xs + weigh f ys
-weigh-append f [] ys = omega arith
-weigh-append f (x ∷ xs) ys = let h = weigh-append f xs ys in omega (arith, h)
-
-pub weigh-map : {A B : Type 0} (f : B → ℕ) (g : A → B) (xs : List A) → weigh f (map g xs) ≡ weigh (λ x. f (g x)) xs
-weigh-map f g [] = refl
-weigh-map f g (x ∷ xs) = ap (λ n. f (g x) + n) (weigh-map f g xs)
 
 -- the groups of one grouping set, whose index in the list of sets is this one
 abbrev pub set_groups : List Row → ℕ × List ℕ → List meaning.Group

@@ -19,7 +19,7 @@ use Rattle.groups.proofs.Order.{same_key-Decides}
 use Rattle.tables.specs.Found.{Found}
 use Rattle.tables.specs.Fitting.{AreFitting}
 use Rattle.tables.specs.Results.{all_found, found}
-use Rattle.tables.proofs.Bags.{all-append, all-same}
+use Rattle.tables.proofs.Bags.{all-append, all-same, weigh-map}
 use Rattle.tables.proofs.Finding.{set_groups}
 use Rattle.tables.proofs.Types.{AllFit, IsTyped, all-once, found-typed}
 
@@ -204,10 +204,6 @@ places-distinct rows n (s ∷ sets) fs = subst (λ ps. IsDistinct same_group ps)
 
 -- ---- rows that are the same bag as those of the groups fit
 
-weigh-places : {A B : Type 0} (f : B → ℕ) (g : A → B) (xs : List A) → weigh f (map g xs) ≡ weigh (λ x. f (g x)) xs
-weigh-places f g [] = refl
-weigh-places f g (x ∷ xs) = ap (λ n. f (g x) + n) (weigh-places f g xs)
-
 -- each thing of the list is as the test says
 indexes : (sets : List (List ℕ)) (fs : List ColumnFunction) (xs : List Found) → AllByRecursion (λ r. fits sets fs r ≡ true) xs → AllByRecursion (IsFitting sets fs) xs
 indexes sets fs [] h = tt
@@ -235,6 +231,6 @@ found-fit fields t rows xs same fit =
       cells = λ k d l. (each k d l).cells;
       cell_types = λ k d l. (typed k d l).1;
       distinct = places-apart xs (distinct-same same_group same_group-Decides (map place xs) (map place (all_found sets fs rows))
-          (λ f. weigh-places f place xs ∙ same (λ r. f (place r)) ∙ sym (weigh-places f place (all_found sets fs rows)))
+          (λ f. weigh-map f place xs ∙ same (λ r. f (place r)) ∙ sym (weigh-map f place (all_found sets fs rows)))
           (places-distinct rows 0 sets fs));
     }

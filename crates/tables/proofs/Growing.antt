@@ -2,9 +2,7 @@
 use Rattle.std.proofs.Common.{◌≡◌, ◌+◌, ◌<◌, ◌≤◌, ◌^◌, ℕ, List, [], ◌∷◌, ◌++◌, length, map, refl, sym, ap, subst, ◌∙◌, arith, append-nil, length-append}
 use Rattle.std.proofs.lemmas.List.{map-append}
 use Rattle.std.proofs.lemmas.List.Elements.{All-append}
-use Rattle.std.proofs.lemmas.List.Sorted.{IsPermutation-refl}
 use Rattle.std.specs.List.{All}
-use Rattle.std.specs.List.Sorted.{IsPermutation}
 use Rattle.values.specs.Schema.{Field}
 use Rattle.lines.specs.declared.fault.LineFault.{LineFault}
 use Rattle.lines.specs.Input.{good, refused}
@@ -13,6 +11,7 @@ use Rattle.query_tree.specs.Syntax.{TreeForm}
 use Rattle.query_check.specs.Functions.{functions_of}
 use Rattle.query_check.specs.Sets.{sets_of}
 use Rattle.query_truth.specs.Kept.{kept}
+use Rattle.groups.specs.GroupRows.{SameBag}
 use Rattle.groups.specs.Rows.{Row}
 use Rattle.groups.specs.Inside.Table.{Contents}
 use Rattle.tables.specs.declared.folding.Folding.{Folding}
@@ -72,13 +71,13 @@ noted index n rs = record { index = index; lines = n; refused = rs }
 
 -- the note of the piece behind those of the others
 pub notes-more : (fields : List Field) (pieces : List IndexedPiece) (ns : List Noted) (index : ℕ) (bytes : List ℕ) (n : ℕ) (rs : List (ℕ × LineFault))
-    → n ≡ length (lines bytes) → rs ≡ refused fields bytes → IsPermutation (map (note_of fields) pieces) ns
-    → IsPermutation (map (note_of fields) (pieces ++ piece_at index bytes ∷ [])) (ns ++ noted index n rs ∷ [])
+    → n ≡ length (lines bytes) → rs ≡ refused fields bytes → SameBag (map (note_of fields) pieces) ns
+    → SameBag (map (note_of fields) (pieces ++ piece_at index bytes ∷ [])) (ns ++ noted index n rs ∷ [])
 notes-more fields pieces ns index bytes n rs e f p =
     notes-append fields pieces (piece_at index bytes ∷ []) ns (noted index n rs ∷ []) p
-    (subst (λ (note : Noted). IsPermutation (map (note_of fields) (piece_at index bytes ∷ [])) (note ∷ []))
+    (subst (λ (note : Noted). SameBag (map (note_of fields) (piece_at index bytes ∷ [])) (note ∷ []))
     (ap (λ m. noted index m (refused fields bytes)) (sym e) ∙ ap (noted index n) (sym f))
-    (IsPermutation-refl (note_of fields (piece_at index bytes) ∷ [])))
+    (λ f. refl))
 
 -- one note more
 pub one-noted_more : (old new : List Note) (note : Note) (n : ℕ) → new ≡ old ++ note ∷ [] → lines_noted (map note_in old) ≡ n → All IsWellNumbered (map note_in old)

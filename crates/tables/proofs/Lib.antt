@@ -1,6 +1,7 @@
 pub mod Partly
 pub mod Joining
 pub mod Finishing
+pub mod Telling
 pub mod Orders
 pub mod Reading
 pub mod Narrow
@@ -18,3 +19,4 @@ pub mod Taken
 pub mod Types
 pub mod TypeTests
 pub mod Growing
+pub mod Means

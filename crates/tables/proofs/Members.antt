@@ -16,7 +16,8 @@ use Rattle.groups.specs.GroupRows.{SameBag, weigh, group_row, group_rows}
 use Rattle.tables.specs.Found.{Found}
 use Rattle.tables.specs.Members.{HasEachRecordOnce, members_of_row, rows_of_set}
 use Rattle.tables.specs.Results.{found, query_found}
-use Rattle.tables.proofs.Finding.{set_groups, weigh-append, weigh-map}
+use Rattle.tables.proofs.Finding.{set_groups}
+use Rattle.tables.proofs.Bags.{weigh-append, weigh-flat_map, weigh-map}
 
 weigh-filter : {A : Type 0} (f : A → ℕ) (test : A → Bool) (xs : List A) → weigh f (filter test xs) ≡ weigh (λ x. cond (test x) (f x) 0) xs
 weigh-filter f test [] = refl
@@ -24,10 +25,6 @@ weigh-filter f test (x ∷ xs) = elim (test x) as (λ b. weigh f (cond b (x ∷ 
   | true ↦ ap (λ n. f x + n) (weigh-filter f test xs)
   | false ↦ let h = weigh-filter f test xs in omega (arith, h)
 ]
-
-weigh-flat_map : {A B : Type 0} (f : B → ℕ) (g : A → List B) (xs : List A) → weigh f (flat_map g xs) ≡ weigh (λ x. weigh f (g x)) xs
-weigh-flat_map f g [] = refl
-weigh-flat_map f g (x ∷ xs) = weigh-append f (g x) (flat_map g xs) ∙ ap (λ n. weigh f (g x) + n) (weigh-flat_map f g xs)
 
 both : (b : Bool) (m n : ℕ) → cond b m 0 + cond b n 0 ≡ cond b (m + n) 0
 both true m n = refl

@@ -2,15 +2,14 @@
 use Rattle.std.proofs.Common.{◌≡◌, ◌+◌, ◌<◌, ◌≤◌, ◌^◌, ℕ, suc, List, [], ◌∷◌, ◌++◌, length, map, Vec, Global, refl, sym, ap, subst, ◌∙◌, arith, length-append}
 use Rattle.std.proofs.lemmas.Grind.{flat_map-append}
 use Rattle.std.proofs.lemmas.List.{map-append}
-use Rattle.std.proofs.lemmas.List.Sorted.{IsPermutation-append}
 use Rattle.std.proofs.lemmas.List.Sums.{sum_by-append, sum_by-cons}
 use Rattle.std.proofs.lemmas.List.Elements.{All-cons}
 use Rattle.std.specs.List.{All}
-use Rattle.std.specs.List.Sorted.{IsPermutation}
 use Rattle.values.specs.Schema.{Field}
 use Rattle.lines.specs.Input.{good, refused}
 use Rattle.lines.specs.Lines.{lines}
 use Rattle.query_check.specs.declared.function.ColumnFunction.{ColumnFunction}
+use Rattle.groups.specs.GroupRows.{SameBag}
 use Rattle.groups.specs.Inside.Table.{Contents}
 use Rattle.groups.proofs.Meaning.{table-within, tables-within, within-can_join}
 use Rattle.groups.specs.Rows.{Row}
@@ -19,6 +18,7 @@ use Rattle.tables.specs.Notes.{IsWellNumbered, Noted, lines_noted, note_in, note
 use Rattle.tables.specs.declared.note.Note.{Note}
 use Rattle.tables.specs.Pieces.{IndexedPiece, all_lines, records_of, refused_within}
 use Rattle.tables.specs.Sets.{AreTablesOf, AllCanJoin, AllJoined, AreAllWithin}
+use Rattle.tables.proofs.Bags.{bag-append}
 
 -- ---- tables within numbers of records
 
@@ -58,9 +58,9 @@ lines-append pieces more = ap length (flat_map-append (λ piece. lines piece.byt
 pub refused-append : (fields : List Field) (pieces more : List IndexedPiece) → length (refused_within fields (pieces ++ more)) ≡ length (refused_within fields pieces) + length (refused_within fields more)
 refused-append fields pieces more = ap length (flat_map-append (λ piece. refused fields piece.bytes) pieces more) ∙ length-append (refused_within fields pieces) (refused_within fields more)
 
-pub notes-append : (fields : List Field) (pieces more : List IndexedPiece) (ns ms : List Noted) → IsPermutation (map (note_of fields) pieces) ns → IsPermutation (map (note_of fields) more) ms
-    → IsPermutation (map (note_of fields) (pieces ++ more)) (ns ++ ms)
-notes-append fields pieces more ns ms a b = subst (λ xs. IsPermutation xs (ns ++ ms)) (sym (map-append (note_of fields) pieces more)) (IsPermutation-append _ _ _ _ a b)
+pub notes-append : (fields : List Field) (pieces more : List IndexedPiece) (ns ms : List Noted) → SameBag (map (note_of fields) pieces) ns → SameBag (map (note_of fields) more) ms
+    → SameBag (map (note_of fields) (pieces ++ more)) (ns ++ ms)
+notes-append fields pieces more ns ms a b = subst (λ xs. SameBag xs (ns ++ ms)) (sym (map-append (note_of fields) pieces more)) (bag-append (map (note_of fields) pieces) ns (map (note_of fields) more) ms a b)
 
 -- ---- shapes
 

@@ -1,18 +1,25 @@
--- The numbers of refused lines, where the pieces stand in their order.
-use Rattle.std.proofs.Common.{◌≡◌, ◌+◌, ◌<◌, nat_lt, ℕ, true, false, cond, List, [], ◌∷◌, ◌++◌, length, map, filter, refl, sym, ap, subst, ◌∙◌, arith, append-nil, append_assoc, length-append}
+-- The numbers of refused lines.
+use Rattle.std.proofs.Common.{◌≡◌, ◌+◌, ◌<◌, nat_eq, nat_lt, ℕ, true, false, cond, List, [], ◌∷◌, ◌++◌, length, map, filter, filter_map, Result, Ok, Err, refl, sym, ap, subst, ◌∙◌, arith, append-nil, append_assoc, length-append}
 use Rattle.std.proofs.lemmas.Bool.Decides.{nat_tests}
 use Rattle.std.proofs.lemmas.Grind.{flat_map-append}
 use Rattle.std.proofs.lemmas.List.Elements.{filter-append}
 use Rattle.std.proofs.lemmas.Map.Keys.{sorted_from_strictly_increasing}
-use Rattle.std.specs.List.{AllByRecursion, flat_map}
+use Rattle.std.specs.List.{AllByRecursion, IsDistinct, enumerate_from, flat_map}
 use Rattle.std.specs.List.Sorted.{IsStrictlyIncreasing}
+use Rattle.values.specs.Datum.{Datum}
 use Rattle.values.specs.Schema.{Field}
 use Rattle.lines.specs.declared.fault.LineFault.{LineFault}
 use Rattle.lines.specs.Input.{refused}
 use Rattle.lines.specs.Lines.{lines}
-use Rattle.tables.specs.Notes.{NotesAreInOrder, note_of, numbered_from}
-use Rattle.tables.specs.Pieces.{AreInOrder, IndexedPiece, all_lines, pieces_before, refused_numbered}
-use Rattle.tables.proofs.Orders.{Rises, rises-from_sorted}
+use Rattle.lines.specs.Taken.{taken}
+use Rattle.groups.specs.GroupRows.{SameBag, weigh}
+use Rattle.tables.specs.Notes.{AreLinesOf, Noted, note_of, numbered_from}
+use Rattle.tables.specs.Pieces.{AreInOrder, AreNumbered, HaveOwnIndexes, IndexedPiece, all_lines, pieces_before, refused_numbered}
+use Rattle.tables.proofs.Bags.{bag-map, weigh-flat_map, weigh-same}
+use Rattle.tables.proofs.Cutting.{numbered-lines, refused_from}
+use Rattle.tables.proofs.Orders.{Rises, rises-from_sorted, rises-same, strict-from_rises}
+use Rattle.tables.proofs.Reading.{numbered_fault}
+use Rattle.tables.proofs.Telling.{note-Decides, same_note}
 
 abbrev index_of : IndexedPiece → ℕ
 index_of piece = piece.index
@@ -70,12 +77,143 @@ numbered-behind fields front (p ∷ more) whole e b up =
     (numbered-behind fields (front ++ p ∷ []) more whole (e ∙ sym (append_assoc front (p ∷ []) more)) (below-tail front p more b up.0) up.1)
 
 -- numbered one piece after the other, each refused line has its number by the pieces with a smaller index
+numbered-rising : (fields : List Field) (pieces : List IndexedPiece) → Rises index_of pieces → numbered_from 0 (map (note_of fields) pieces) ≡ refused_numbered fields pieces
+numbered-rising fields pieces rise = numbered-behind fields [] pieces pieces refl tt rise
+
+-- ---- notes
+
+note_above : (fields : List Field) (p : IndexedPiece) (more : List IndexedPiece) → AllByRecursion (λ (q : IndexedPiece). p.index < q.index) more
+    → AllByRecursion (λ (note : Noted). p.index < note.index) (map (note_of fields) more)
+note_above fields p [] h = tt
+note_above fields p (q ∷ more) h = (h.0, note_above fields p more h.1)
+
+notes-rise : (fields : List Field) (pieces : List IndexedPiece) → Rises index_of pieces → Rises (λ (note : Noted). note.index) (map (note_of fields) pieces)
+notes-rise fields [] h = tt
+notes-rise fields (p ∷ more) h = (note_above fields p more h.0, notes-rise fields more h.1)
+
+-- the lines of notes are those of rising pieces with these notes
+lines-rising : (fields : List Field) (pieces : List IndexedPiece) (notes : List Noted) (lines : List (ℕ × LineFault)) → Rises index_of pieces
+    → SameBag (map (note_of fields) pieces) notes → AreLinesOf notes lines → lines ≡ numbered_from 0 (map (note_of fields) pieces)
+lines-rising fields pieces notes lines rise same are =
+    are.numbered
+    ∙ ap (numbered_from 0) (sym (rises-same (λ (note : Noted). note.index) same_note note-Decides (map (note_of fields) pieces) are.ordered (notes-rise fields pieces rise) (λ f. same f ∙ are.same f) are.ascending))
+
+pub lines-in_order : (fields : List Field) (pieces : List IndexedPiece) (notes : List Noted) (lines : List (ℕ × LineFault)) → AreInOrder pieces
+    → SameBag (map (note_of fields) pieces) notes → AreLinesOf notes lines → lines ≡ numbered_from 0 (map (note_of fields) pieces)
+lines-in_order fields pieces notes lines o = lines-rising fields pieces notes lines (rises-from_sorted index_of pieces (sorted_from_strictly_increasing (map index_of pieces) o))
+
 pub numbered-in_order : (fields : List Field) (pieces : List IndexedPiece) → AreInOrder pieces → numbered_from 0 (map (note_of fields) pieces) ≡ refused_numbered fields pieces
-numbered-in_order fields pieces o = numbered-behind fields [] pieces pieces refl tt (rises-from_sorted index_of pieces (sorted_from_strictly_increasing (map index_of pieces) o))
+numbered-in_order fields pieces o = numbered-rising fields pieces (rises-from_sorted index_of pieces (sorted_from_strictly_increasing (map index_of pieces) o))
 
-note-indexes : (fields : List Field) (pieces : List IndexedPiece) → map (λ note. note.index) (map (note_of fields) pieces) ≡ map index_of pieces
-note-indexes fields [] = refl
-note-indexes fields (p ∷ more) = ap (λ is. p.index ∷ is) (note-indexes fields more)
+-- ---- pieces of which no index stands twice, put in order
 
-pub notes-in_order : (fields : List Field) (pieces : List IndexedPiece) → AreInOrder pieces → NotesAreInOrder (map (note_of fields) pieces)
-notes-in_order fields pieces o = subst IsStrictlyIncreasing (sym (note-indexes fields pieces)) o
+abbrev insert : IndexedPiece → List IndexedPiece → List IndexedPiece
+insert p [] = p ∷ []
+insert p (q ∷ qs) = cond (nat_lt p.index q.index) (p ∷ q ∷ qs) (q ∷ insert p qs)
+
+abbrev sorted : List IndexedPiece → List IndexedPiece
+sorted [] = []
+sorted (p ∷ ps) = insert p (sorted ps)
+
+weigh-insert : (f : IndexedPiece → ℕ) (p : IndexedPiece) (qs : List IndexedPiece) → weigh f (insert p qs) ≡ f p + weigh f qs
+weigh-insert f p [] = refl
+weigh-insert f p (q ∷ qs) = elim (nat_lt p.index q.index) as (λ b. weigh f (cond b (p ∷ q ∷ qs) (q ∷ insert p qs)) ≡ f p + (f q + weigh f qs)) [
+  | true ↦ refl
+  | false ↦ let h = weigh-insert f p qs in omega (arith, h)
+]
+
+bag-sorted : (ps : List IndexedPiece) → SameBag (sorted ps) ps
+bag-sorted [] f = refl
+bag-sorted (p ∷ ps) f = weigh-insert f p (sorted ps) ∙ ap (λ n. f p + n) (bag-sorted ps f)
+
+all-insert : (P : IndexedPiece → Type 0) (p : IndexedPiece) (qs : List IndexedPiece) → P p → AllByRecursion P qs → AllByRecursion P (insert p qs)
+all-insert P p [] h all = (h, tt)
+all-insert P p (q ∷ qs) h all = elim (nat_lt p.index q.index) as (λ b. AllByRecursion P (cond b (p ∷ q ∷ qs) (q ∷ insert p qs))) [
+  | true ↦ (h, all)
+  | false ↦ (all.0, all-insert P p qs h all.1)
+]
+
+above-too : (m n : ℕ) (qs : List IndexedPiece) → m < n → AllByRecursion (λ (q : IndexedPiece). n < q.index) qs → AllByRecursion (λ (q : IndexedPiece). m < q.index) qs
+above-too m n [] l h = tt
+above-too m n (q ∷ qs) l h = (omega (arith, l, h.0), above-too m n qs l h.1)
+
+below-from : (m n : ℕ) → nat_lt m n ≡ true → m < n
+below-from m n e = grind (arith, nat_tests, e)
+
+above-from : (m n : ℕ) → nat_lt m n ≡ false → nat_eq m n ≡ false → n < m
+above-from m n e f = grind (arith, nat_tests, e, f)
+
+insert-rises : (p : IndexedPiece) (qs : List IndexedPiece) → AllByRecursion (λ (q : IndexedPiece). nat_eq p.index q.index ≡ false) qs → Rises index_of qs → Rises index_of (insert p qs)
+insert-rises p [] apart rise = (tt, tt)
+insert-rises p (q ∷ qs) apart rise = elim (nat_lt p.index q.index) as (λ b. nat_lt p.index q.index ≡ b → Rises index_of (cond b (p ∷ q ∷ qs) (q ∷ insert p qs))) [
+  | true ↦ λ e. let l = below-from p.index q.index e in ((l, above-too p.index q.index qs l rise.0), rise)
+  | false ↦ λ e. (all-insert (λ (r : IndexedPiece). q.index < r.index) p qs (above-from p.index q.index e apart.0) rise.0, insert-rises p qs apart.1 rise.1)
+] refl
+
+apart-pieces : (p : IndexedPiece) (ps : List IndexedPiece) → AllByRecursion (λ n. nat_eq p.index n ≡ false) (map index_of ps) → AllByRecursion (λ (q : IndexedPiece). nat_eq p.index q.index ≡ false) ps
+apart-pieces p [] h = tt
+apart-pieces p (q ∷ ps) h = (h.0, apart-pieces p ps h.1)
+
+apart-sorted : (P : IndexedPiece → Type 0) (ps : List IndexedPiece) → AllByRecursion P ps → AllByRecursion P (sorted ps)
+apart-sorted P [] h = tt
+apart-sorted P (p ∷ ps) h = all-insert P p (sorted ps) h.0 (apart-sorted P ps h.1)
+
+sorted-rises : (ps : List IndexedPiece) → HaveOwnIndexes ps → Rises index_of (sorted ps)
+unfolding IsDistinct
+sorted-rises [] d = tt
+sorted-rises (p ∷ ps) d =
+    insert-rises p (sorted ps) (apart-sorted (λ (q : IndexedPiece). nat_eq p.index q.index ≡ false) ps (apart-pieces p ps d.0)) (sorted-rises ps d.1)
+
+-- ---- the refused lines by number do not depend on the order of the pieces
+
+abbrev lines_below : ℕ → IndexedPiece → ℕ
+lines_below index p = cond (nat_lt p.index index) (length (lines p.bytes)) 0
+
+zero-more : (n : ℕ) → n ≡ 0 + n
+zero-more n = omega arith
+
+length-before : (index : ℕ) (ps : List IndexedPiece) → length (all_lines (pieces_before index ps)) ≡ weigh (lines_below index) ps
+length-before index [] = refl
+length-before index (p ∷ ps) =
+    elim (nat_lt p.index index) as (λ b. length (all_lines (cond b (p ∷ pieces_before index ps) (pieces_before index ps))) ≡ cond b (length (lines p.bytes)) 0 + weigh (lines_below index) ps) [
+      | true ↦ length-append (lines p.bytes) (all_lines (pieces_before index ps)) ∙ ap (λ n. length (lines p.bytes) + n) (length-before index ps)
+      | false ↦ length-before index ps ∙ zero-more (weigh (lines_below index) ps)
+    ]
+
+abbrev shifted_of : List Field → List IndexedPiece → IndexedPiece → List (ℕ × LineFault)
+shifted_of fields pieces piece = map (shift (length (all_lines (pieces_before piece.index pieces)))) (refused fields piece.bytes)
+
+numbered-same : (fields : List Field) (ps qs : List IndexedPiece) → SameBag ps qs → SameBag (refused_numbered fields ps) (refused_numbered fields qs)
+numbered-same fields ps qs same = λ f.
+    let before : (index : ℕ) → length (all_lines (pieces_before index ps)) ≡ length (all_lines (pieces_before index qs)) =
+    λ index. length-before index ps ∙ same (lines_below index) ∙ sym (length-before index qs) in
+    weigh-flat_map f (shifted_of fields ps) ps
+    ∙ weigh-same (λ p. weigh f (shifted_of fields ps p)) (λ p. weigh f (shifted_of fields qs p)) ps (λ p. ap (λ n. weigh f (map (shift n) (refused fields p.bytes))) (before p.index))
+    ∙ same (λ p. weigh f (shifted_of fields qs p))
+    ∙ sym (weigh-flat_map f (shifted_of fields qs) qs)
+
+-- ---- their numbers ascend
+
+faults-above : (m n : ℕ) (rs : List (Result (List Datum) LineFault)) → m < n → AllByRecursion (λ (line : ℕ × LineFault). m < line.0) (filter_map numbered_fault (enumerate_from n rs))
+faults-above m n [] l = tt
+faults-above m n (Ok row ∷ rs) l = faults-above m (n + 1) rs (omega (arith, l))
+faults-above m n (Err fault ∷ rs) l = (l, faults-above m (n + 1) rs (omega (arith, l)))
+
+faults-rise : (n : ℕ) (rs : List (Result (List Datum) LineFault)) → Rises (λ (line : ℕ × LineFault). line.0) (filter_map numbered_fault (enumerate_from n rs))
+faults-rise n [] = tt
+faults-rise n (Ok row ∷ rs) = faults-rise (n + 1) rs
+faults-rise n (Err fault ∷ rs) = (faults-above n (n + 1) rs (omega arith), faults-rise (n + 1) rs)
+
+-- the lines of notes, where no index stands twice among the pieces
+pub lines-numbered : (fields : List Field) (pieces : List IndexedPiece) (notes : List Noted) (lines : List (ℕ × LineFault)) → HaveOwnIndexes pieces
+    → SameBag (map (note_of fields) pieces) notes → AreLinesOf notes lines → AreNumbered fields pieces lines
+lines-numbered fields pieces notes lines own same are =
+    let rise = sorted-rises pieces own in
+    let bag = bag-sorted pieces in
+    let is = lines-rising fields (sorted pieces) notes lines rise (λ f. bag-map (note_of fields) (sorted pieces) pieces bag f ∙ same f) are in
+    let all = numbered-lines fields 0 (sorted pieces) in
+    record {
+      same = λ f. ap (weigh f) (is ∙ numbered-rising fields (sorted pieces) rise) ∙ numbered-same fields (sorted pieces) pieces bag f;
+      ascending = subst (λ (ls : List (ℕ × LineFault)). IsStrictlyIncreasing (map (λ line. line.0) ls)) (sym (is ∙ all))
+          (strict-from_rises (λ (line : ℕ × LineFault). line.0) (refused_from fields (0 + 1) (all_lines (sorted pieces))) (faults-rise (0 + 1) (map (taken fields) (all_lines (sorted pieces)))));
+    }

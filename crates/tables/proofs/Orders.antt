@@ -1,27 +1,41 @@
 -- A list whose keys rise is the only one of its things in that order.
-use Rattle.std.proofs.Common.{◌≡◌, false, get_or, ◌<◌, ℕ, zero, suc, List, [], ◌∷◌, map, eqb, ◌⊎◌, inl, inr, refl, sym, ap, subst, ◌∙◌, arith}
+use Rattle.std.proofs.Common.{◌≡◌, Bool, true, false, cond, get_or, ◌+◌, ◌<◌, ℕ, zero, suc, List, [], ◌∷◌, map, eqb, ◌⊎◌, inl, inr, refl, sym, ap, subst, ◌∙◌, arith}
+use Rattle.std.specs.Bool.{Decides}
 use Rattle.std.specs.Ordering.{nat_cmp}
 use Rattle.std.specs.declared.cmp.Ordering.TheVariants.{Less}
-use Rattle.std.specs.List.{AllByRecursion, Contains, IsDistinct}
-use Rattle.std.specs.List.Sorted.{IsPermutation, IsNonDecreasingBy, IsStrictlyIncreasing, IsStrictlySortedBy}
-use Rattle.std.proofs.lemmas.List.Sorted.{Contains-permutation, IsPermutation-map, IsPermutation-sym}
+use Rattle.std.specs.List.{AllByRecursion, IsDistinct, slice_index}
+use Rattle.std.specs.List.Sorted.{IsNonDecreasingBy, IsStrictlyIncreasing, IsStrictlySortedBy}
 use Rattle.std.proofs.lemmas.List.{get_or-map, get_or_default, length-map}
-use Rattle.std.proofs.lemmas.Bool.Decides.{nat_tests}
-use Rattle.std.proofs.lemmas.Map.Keys.{IsStrictlyIncreasing-from_distinct, IsDistinct-IsPermutation, sorted_from_strictly_increasing, below_from_sorted}
+use Rattle.std.proofs.lemmas.Bool.Decides.{Decides-eqb, nat_tests}
+use Rattle.std.proofs.lemmas.Map.Keys.{IsStrictlyIncreasing-from_distinct, sorted_from_strictly_increasing, below_from_sorted}
+use Rattle.groups.specs.GroupRows.{SameBag, weigh}
+use Rattle.tables.proofs.Bags.{bag-map}
+use Rattle.tables.proofs.Fitting.{distinct-same}
 
 abbrev In : {X : Type 0} → X → List X → Type 0
 In x [] = ⊥
 In x (y ∷ ys) = (x ≡ y) ⊎ In x ys
 
-in-from_contains : {X : Type 0} (xs : List X) (x : X) → Contains xs x → In x xs
-in-from_contains [] x (k, h, e) = absurd (omega (arith, h))
-in-from_contains (y ∷ ys) x (zero, h, e) = inl (sym e)
-in-from_contains (y ∷ ys) x (suc k, h, e) = inr (in-from_contains ys x (k, omega (arith, h), e))
+module _ {X : Type 0} (same : X → X → Bool) (decides : (x y : X) → Decides (same x y) (x ≡ y)) where
+  -- how often a thing counts where it is looked for
+  abbrev one : X → X → ℕ
+  one x y = cond (same x y) 1 0
 
-contains-from_in : {X : Type 0} (xs : List X) (x : X) → In x xs → Contains xs x
-contains-from_in [] x h = absurd h
-contains-from_in (y ∷ ys) x (inl e) = (0, omega arith, sym e)
-contains-from_in (y ∷ ys) x (inr h) = let c = contains-from_in ys x h in (suc c.0, omega (arith, c.1), c.2)
+  counted : (x : X) (xs : List X) → In x xs → 0 < weigh (one x) xs
+  counted x [] h = absurd h
+  counted x (y ∷ ys) (inl e) = let a : one x y ≡ 1 = ap (λ b. cond b 1 0) ((decides x y).1 e) in omega (arith, a)
+  counted x (y ∷ ys) (inr h) = let a = counted x ys h in omega (arith, a)
+
+  stands : (x : X) (ys : List X) → 0 < weigh (one x) ys → In x ys
+  stands x [] h = absurd (omega (arith, h))
+  stands x (y ∷ ys) h = elim (same x y) as (λ b. same x y ≡ b → 0 < cond b 1 0 + weigh (one x) ys → In x (y ∷ ys)) [
+    | true ↦ λ e _. inl ((decides x y).0 e)
+    | false ↦ λ _ k. inr (stands x ys (omega (arith, k)))
+  ] refl h
+
+  -- of two lists that are the same bag each has what the other has
+  in-same : (xs ys : List X) → SameBag xs ys → (x : X) → In x xs → In x ys
+  in-same xs ys bag x h = stands x ys (let a = counted x xs h in let b = bag (one x) in omega (arith, a, b))
 
 pub non_decreasing-map : {X Y : Type 0} (g : X → Y) (n : Y → ℕ) (xs : List X) → IsNonDecreasingBy (λ x. n (g x)) xs → IsNonDecreasingBy n (map g xs)
 non_decreasing-map g n [] h i j d le lt = absurd (omega (arith, lt))
@@ -34,18 +48,6 @@ non_decreasing-map g n (x ∷ xs) h i j d le lt =
 less : (a b : ℕ) → nat_cmp a b ≡ Less → a < b
 unfolding IsStrictlySortedBy
 less a b h = below_from_sorted (a ∷ b ∷ []) 0 1 0 ((h, tt), (tt, tt)) (omega arith) (omega arith)
-
-flips : (a b : ℕ) → eqb a b ≡ eqb b a
-flips a b = grind (arith, nat_tests)
-
-apart-above : (a : ℕ) (bs : List ℕ) → AllByRecursion (λ b. nat_cmp a b ≡ Less) bs → AllByRecursion (λ b. eqb a b ≡ false) bs
-apart-above a [] h = tt
-apart-above a (b ∷ bs) h = (let l = less a b h.0 in grind (arith, nat_tests, l), apart-above a bs h.1)
-
-distinct-from_sorted : (ks : List ℕ) → IsStrictlySortedBy nat_cmp ks → IsDistinct eqb ks
-unfolding IsStrictlySortedBy IsDistinct
-distinct-from_sorted [] h = tt
-distinct-from_sorted (k ∷ ks) h = (apart-above k ks h.0, distinct-from_sorted ks h.1)
 
 module _ {X : Type 0} (n : X → ℕ) where
   abbrev pub Rises : List X → Type 0
@@ -86,12 +88,30 @@ module _ {X : Type 0} (n : X → ℕ) where
   rises-from_sorted [] h = tt
   rises-from_sorted (x ∷ xs) h = (rises-above x xs h.0, rises-from_sorted xs h.1)
 
+  -- a list whose keys rise strictly
+  pub strict-from_rises : (xs : List X) → Rises xs → IsStrictlyIncreasing (map n xs)
+  strict-from_rises [] h k lt = absurd (omega (arith, lt))
+  strict-from_rises (x ∷ []) h k lt = absurd (omega (arith, lt))
+  strict-from_rises (x ∷ y ∷ ys) h zero lt = h.0.0
+  strict-from_rises (x ∷ y ∷ ys) h (suc k) lt =
+      let rest : slice_index (map n (y ∷ ys)) k < slice_index (map n (y ∷ ys)) (k + 1) = strict-from_rises (y ∷ ys) h.1 k (omega (arith, lt)) in
+      let later : suc k + 1 ≡ suc (k + 1) = omega arith in
+      subst (λ m. slice_index (map n (x ∷ y ∷ ys)) (suc k) < slice_index (map n (x ∷ y ∷ ys)) m) (sym later) rest
+
+  apart-rest : (x : X) (xs : List X) → AllByRecursion (λ y. n x < n y) xs → AllByRecursion (λ b. eqb (n x) b ≡ false) (map n xs)
+  apart-rest x [] h = tt
+  apart-rest x (y ∷ ys) h = (let l = h.0 in grind (arith, nat_tests, l), apart-rest x ys h.1)
+
+  distinct-from_rises : (xs : List X) → Rises xs → IsDistinct eqb (map n xs)
+  unfolding IsDistinct
+  distinct-from_rises [] h = tt
+  distinct-from_rises (x ∷ xs) h = (apart-rest x xs h.0, distinct-from_rises xs h.1)
+
   -- a list whose keys rise is what its things are in the order of their keys
-  pub sorted-same : (xs ys : List X) → IsStrictlyIncreasing (map n xs) → IsPermutation xs ys → IsNonDecreasingBy n ys → xs ≡ ys
-  sorted-same xs ys rise p up =
-      let sorted = sorted_from_strictly_increasing (map n xs) rise in
-      let apart : IsDistinct eqb (map n ys) = IsDistinct-IsPermutation eqb flips (map n xs) (map n ys) (IsPermutation-map n xs ys p) (distinct-from_sorted (map n xs) sorted) in
+  pub rises-same : (same : X → X → Bool) → ((x y : X) → Decides (same x y) (x ≡ y)) → (xs ys : List X) → Rises xs → SameBag xs ys → IsNonDecreasingBy n ys → xs ≡ ys
+  rises-same same decides xs ys rise bag up =
+      let keys : SameBag (map n ys) (map n xs) = λ f. sym (bag-map n xs ys bag f) in
+      let apart : IsDistinct eqb (map n ys) = distinct-same eqb Decides-eqb (map n ys) (map n xs) keys (distinct-from_rises xs rise) in
       let too = sorted_from_strictly_increasing (map n ys) (IsStrictlyIncreasing-from_distinct (map n ys) (non_decreasing-map n (λ m. m) ys up) apart) in
-      same-order xs ys (rises-from_sorted xs sorted) (rises-from_sorted ys too)
-      (λ x h. in-from_contains ys x (Contains-permutation xs ys x p (contains-from_in xs x h)))
-      (λ x h. in-from_contains xs x (Contains-permutation ys xs x (IsPermutation-sym xs ys p) (contains-from_in ys x h)))
+      same-order xs ys rise (rises-from_sorted ys too)
+      (in-same same decides xs ys bag) (in-same same decides ys xs (λ f. sym (bag f)))

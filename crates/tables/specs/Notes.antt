@@ -1,13 +1,14 @@
 -- What is noted of a piece beside its groups.
-use Rattle.std.specs.Prelude.{ℕ, ◌+◌, ◌≤◌, List, [], ◌∷◌, ◌++◌, length, map, All}
+use Rattle.std.specs.Prelude.{◌≡◌, ℕ, ◌+◌, ◌≤◌, List, [], ◌∷◌, ◌++◌, length, map, All}
 use Rattle.std.specs.List.{sum_by}
-use Rattle.std.specs.List.Sorted.{IsStrictlyIncreasing}
+use Rattle.std.specs.List.Sorted.{IsNonDecreasingBy}
 use Rattle.std.specs.Global.{Vec}
 use Rattle.values.specs.Schema.{Field}
 use Rattle.lines.specs.declared.fault.LineFault.{LineFault}
 use Rattle.lines.specs.Lines.{lines}
 use Rattle.lines.specs.Input.{refused}
 use Rattle.tables.specs.declared.note.Note.{Note}
+use Rattle.groups.specs.GroupRows.{SameBag}
 use Rattle.tables.specs.Pieces.{IndexedPiece}
 
 -- the piece's index, the number of its lines, and its refused lines by their numbers within it
@@ -36,11 +37,14 @@ lines_noted notes = sum_by (λ note. note.lines) notes
 abbrev pub IsWellNumbered : Noted → Type 0
 IsWellNumbered note = All (λ line. line.0 ≤ note.lines) note.refused
 
--- the notes stand by the indexes of their pieces, none twice
-abbrev pub NotesAreInOrder : List Noted → Type 0
-NotesAreInOrder notes = IsStrictlyIncreasing (map (λ note. note.index) notes)
-
 -- the refused lines of the notes, in their order, each by its number within its piece and the lines that are counted before
 abbrev pub numbered_from : ℕ → List Noted → List (ℕ × LineFault)
 numbered_from before [] = []
 numbered_from before (note ∷ notes) = map (λ line. (before + line.0, line.1)) note.refused ++ numbered_from (before + note.lines) notes
+
+-- the lines are the refused lines of the notes, numbered in an order of these in which their indexes do not fall
+pub record AreLinesOf (notes : List Noted) (lines : List (ℕ × LineFault)) : Type 0 where
+  pub ordered : List Noted
+  pub same : SameBag notes ordered
+  pub ascending : IsNonDecreasingBy (λ note. note.index) ordered
+  pub numbered : lines ≡ numbered_from 0 ordered

@@ -1,6 +1,5 @@
 -- What a partial result stands for.
 use Rattle.std.specs.Prelude.{◌≡◌, ℕ, List, length, map}
-use Rattle.std.specs.List.Sorted.{IsPermutation}
 use Rattle.values.specs.Schema.{Field}
 use Rattle.lines.specs.Input.{good, refused}
 use Rattle.query_tree.specs.Syntax.{TreeForm}
@@ -33,7 +32,7 @@ pub record StandsFor (fields : List Field) (q : TreeForm) (partial : Partial) (p
   pub tables : AreTablesOf (sets_of fields q) (functions_of fields q) partial.tables (kept fields q (records_of fields pieces))
   pub lines : lines_counted partial ≡ length (all_lines pieces)
   pub refused : refused_counted partial ≡ length (refused_within fields pieces)
-  pub notes : IsPermutation (map (note_of fields) pieces) (notes_in partial.notes)
+  pub notes : SameBag (map (note_of fields) pieces) (notes_in partial.notes)
 
 -- a partial result of a query stands for some pieces
 abbrev pub IsPartialOf : List Field → TreeForm → Partial → Type 0

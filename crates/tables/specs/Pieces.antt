@@ -1,12 +1,13 @@
 -- Pieces of an input in any order, the records of their lines, and their refused lines by number.
-use Rattle.std.specs.Prelude.{◌≡◌, ℕ, ◌+◌, nat_lt, List, length, map, filter}
-use Rattle.std.specs.List.{flat_map}
+use Rattle.std.specs.Prelude.{◌≡◌, ℕ, ◌+◌, nat_eq, nat_lt, List, length, map, filter}
+use Rattle.std.specs.List.{IsDistinct, flat_map}
 use Rattle.std.specs.List.Sorted.{IsStrictlyIncreasing}
 use Rattle.values.specs.Schema.{Field}
 use Rattle.lines.specs.declared.fault.LineFault.{LineFault}
 use Rattle.lines.specs.Lines.{lines}
 use Rattle.lines.specs.Input.{good, refused}
 use Rattle.lines.specs.Pieces.{AllButLast, EndsInFeed}
+use Rattle.groups.specs.GroupRows.{SameBag}
 use Rattle.groups.specs.Rows.{Row}
 
 -- a piece of an input: its index among the pieces, and its bytes
@@ -42,6 +43,15 @@ refused_numbered fields pieces =
 -- the pieces stand by their indexes, and none of these twice
 abbrev pub AreInOrder : List IndexedPiece → Type 0
 AreInOrder pieces = IsStrictlyIncreasing (map (λ piece. piece.index) pieces)
+
+-- no index stands twice
+abbrev pub HaveOwnIndexes : List IndexedPiece → Type 0
+HaveOwnIndexes pieces = IsDistinct nat_eq (map (λ piece. piece.index) pieces)
+
+-- the lines are the refused lines of the pieces by number, each as often as it is refused, and their numbers ascend, none twice
+pub record AreNumbered (fields : List Field) (pieces : List IndexedPiece) (lines : List (ℕ × LineFault)) : Type 0 where
+  pub same : SameBag lines (refused_numbered fields pieces)
+  pub ascending : IsStrictlyIncreasing (map (λ line. line.0) lines)
 
 -- the pieces stand in their order, are joined the input, and each but the last ends in a line feed
 pub record IsCutInto (input : List ℕ) (pieces : List IndexedPiece) : Type 0 where

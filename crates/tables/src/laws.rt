@@ -1,14 +1,17 @@
-ghost use Rattle.std.specs.Prelude.{List};
+ghost use Rattle.std.specs.Prelude.{◌≡◌, ◌↔◌, ℕ, [], List, length};
 ghost use Rattle.values.specs.Schema.{Field};
+ghost use Rattle.lines.specs.declared.pieces.Piece.{Piece};
 ghost use Rattle.query_tree.specs.Syntax.{TreeForm};
 ghost use Rattle.groups.specs.Rows.{Row};
+ghost use Rattle.pool.specs.Totals.{sum_below, total};
 ghost use Rattle.groups.specs.Shuffle.{Shuffle};
 ghost use Rattle.tables.specs.declared.grouped.Groups.{Groups};
 ghost use Rattle.tables.specs.declared.partial.Partial.{Partial};
 ghost use Rattle.tables.specs.Contents.{found_in};
 ghost use Rattle.tables.specs.Members.{HasEachRecordOnce};
 ghost use Rattle.tables.specs.Partials.{GivesGroups, StandsFor};
-ghost use Rattle.tables.specs.Pieces.{IndexedPiece};
+ghost use Rattle.tables.specs.Means.{both, indexed, mean, mean_at, meaning};
+ghost use Rattle.tables.specs.Pieces.{IndexedPiece, all_lines, refused_within};
 
 /// A law, with no work to do: a result stands for the same pieces in any other order.
 pub fn order_law()
@@ -24,3 +27,21 @@ pub fn members_law()
 {
     groups::members_law();
 }
+
+/// A law, with no work to do: a result stands for pieces exactly where it means what they come to.
+pub fn meaning_law()
+    ensures { (fields : List Field) (q : TreeForm) (partial : Partial) (pieces : List IndexedPiece)
+        → StandsFor fields q partial pieces ↔ (meaning partial ≡ mean fields q pieces) }
+{}
+
+/// A law, with no work to do: what means the total of a job's pieces stands for all of them, and the weights and
+/// the loads of these are the numbers of their refused lines and of their lines.
+pub fn job_law()
+    ensures whole { (fields : List Field) (q : TreeForm) (input : List ℕ) (pieces : List Piece) (partial : Partial)
+        → meaning partial ≡ total (mean fields q []) both (mean_at fields q input pieces) (length pieces)
+        → StandsFor fields q partial (indexed input pieces) }
+    ensures refused { (fields : List Field) (q : TreeForm) (input : List ℕ) (pieces : List Piece)
+        → sum_below (λ i. (mean_at fields q input pieces i).refused) (length pieces) ≡ length (refused_within fields (indexed input pieces)) }
+    ensures lines { (fields : List Field) (q : TreeForm) (input : List ℕ) (pieces : List Piece)
+        → sum_below (λ i. (mean_at fields q input pieces i).lines) (length pieces) ≡ length (all_lines (indexed input pieces)) }
+{}

@@ -3,6 +3,7 @@
 
 mod folding;
 mod grouped;
+mod job;
 mod laws;
 mod note;
 mod numbering;
@@ -13,5 +14,6 @@ mod shape;
 
 pub use grouped::Groups;
 pub use groups::{Cell, Group};
-pub use laws::{members_law, order_law};
+pub use job::Job;
+pub use laws::{job_law, meaning_law, members_law, order_law};
 pub use partial::Partial;

@@ -1,7 +1,7 @@
 // The refused lines of all pieces by their numbers in the input.
-ghost use Rattle.std.specs.Prelude.{◌≡◌, ◌+◌, ◌<◌, ◌++◌, ◌^◌, IfOk, OnOk, List, All, map, ℕ};
+ghost use Rattle.std.specs.Prelude.{◌≡◌, ◌+◌, ◌<◌, ◌++◌, ◌^◌, IfOk, OnOk, All, map};
 ghost use Rattle.std.specs.List.Sorted.{IsPermutation, IsNonDecreasingBy};
-ghost use Rattle.tables.specs.Notes.{IsWellNumbered, Noted, NotesAreInOrder, lines_noted, note_in, notes_in, numbered_from};
+ghost use Rattle.tables.specs.Notes.{AreLinesOf, IsWellNumbered, lines_noted, notes_in, numbered_from};
 
 use crate::note::Note;
 use lines::LineFault;
@@ -12,8 +12,7 @@ use std::alloc::{AllocError, Global};
 pub(crate) fn number(alloc: Global, notes: Vec<Note>) -> Result<Vec<(u64, LineFault)>, AllocError>
     requires few { lines_noted (notes_in notes) < 2 ^ 63 }
     requires numbered { All IsWellNumbered (notes_in notes) }
-    ensures { IfOk result (λ lines. (ordered : List Noted) → IsPermutation (notes_in notes) ordered → NotesAreInOrder ordered
-        → lines.items ≡ numbered_from 0 ordered) }
+    ensures { IfOk result (λ lines. AreLinesOf (notes_in notes) lines.items) }
 {
     let notes = sorted(notes);
     number_in_order(alloc, notes)

@@ -34,7 +34,6 @@ pub struct Partial {
 
 impl Partial {
     ghost use Rattle.std.specs.Prelude.{[], ◌∷◌, ◌++◌, ◌+◌, ◌↔◌, ℕ, List, IfOk, IsTrue};
-    ghost use Rattle.std.specs.List.Sorted.{IsPermutation};
     ghost use Rattle.values.specs.Schema.{Field};
     ghost use Rattle.lines.specs.Lines.{lines};
     ghost use Rattle.query_tree.specs.Syntax.{TreeForm};
@@ -43,7 +42,7 @@ impl Partial {
     ghost use Rattle.query_check.specs.Functions.{functions_of};
     ghost use Rattle.tables.specs.Contents.{found_in, refused_in};
     ghost use Rattle.tables.specs.Partials.{GivesGroups, HaveOneShape, IsPartialOf, IsResultOf, StandsFor, lines_counted, refused_counted};
-    ghost use Rattle.tables.specs.Pieces.{AreInOrder, IndexedPiece, IsCutInto, all_lines, records_of, refused_numbered, refused_within};
+    ghost use Rattle.tables.specs.Pieces.{AreInOrder, AreNumbered, HaveOwnIndexes, IndexedPiece, IsCutInto, all_lines, records_of, refused_numbered, refused_within};
     ghost use Rattle.tables.specs.Fitting.{AreFitting};
 
     /// The result over no pieces.
@@ -219,7 +218,10 @@ impl Partial {
             → GivesGroups (fields_of_plan plan.now) (form_of_plan plan.now) groups (records_of (fields_of_plan plan.now) pieces)) }
         ensures fit { IfOk result (λ groups. (pieces : List IndexedPiece) → StandsFor (fields_of_plan plan.now) (form_of_plan plan.now) self pieces
             → AreFitting (fields_of_plan plan.now) (form_of_plan plan.now) (found_in groups)) }
-        // The refused lines, where the pieces stand in their order.
+        // The refused lines, where no two pieces have one index.
+        ensures numbered { IfOk result (λ groups. (pieces : List IndexedPiece) → StandsFor (fields_of_plan plan.now) (form_of_plan plan.now) self pieces
+            → HaveOwnIndexes pieces → AreNumbered (fields_of_plan plan.now) pieces (refused_in groups)) }
+        // Where the pieces stand in their order, these are their refused lines one after the other.
         ensures refused { IfOk result (λ groups. (pieces : List IndexedPiece) → StandsFor (fields_of_plan plan.now) (form_of_plan plan.now) self pieces
             → AreInOrder pieces → refused_in groups ≡ refused_numbered (fields_of_plan plan.now) pieces) }
         // Where the pieces are those of an input that was cut between its lines, it is the result of the input.

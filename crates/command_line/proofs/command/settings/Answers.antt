@@ -15,7 +15,7 @@ pub text_of-requires-2 : goal.text_of-requires-2
 text_of-requires-2 c = first_value-required _ c.in_ok-matches.matches (codes "query") 1 c.in_ok-command.ensures.ok c.in_ok-matches.ensures.parsed refl
 
 pub text_of-requires-3 : goal.text_of-requires-3
-text_of-requires-3 c = first_value-required _ c.in_ok-matches.matches (codes "file") 5 c.in_ok-command.ensures.ok c.in_ok-matches.ensures.parsed refl
+text_of-requires-3 c = first_value-required _ c.in_ok-matches.matches (codes "file") 6 c.in_ok-command.ensures.ok c.in_ok-matches.ensures.parsed refl
 
 pub returns-clause-columns : goal.returns-clause-columns
 returns-clause-columns c =
@@ -32,6 +32,10 @@ returns-clause-file c =
 pub returns-clause-piece : goal.returns-clause-piece
 returns-clause-piece c =
     IsNumberOf-read _ (texts c.args.words.now) _ (codes "piece") _ c.in_ok-command.ensures.ok c.in_ok-matches.ensures.matches c.in-Some.ensures.piece
+
+pub returns-clause-workers : goal.returns-clause-workers
+returns-clause-workers c =
+    IsNumberOf-read _ (texts c.args.words.now) _ (codes "workers") _ c.in_ok-command.ensures.ok c.in_ok-matches.ensures.matches c.in-Some.ensures.workers
 
 pub returns-clause-max_refused : goal.returns-clause-max_refused
 returns-clause-max_refused c =
@@ -53,7 +57,8 @@ returns-in_err-matches-clause-refused c =
 pub returns-in_default-clause-refused : goal.returns-in_default-clause-refused
 returns-in_default-clause-refused c = (
   fault_of-taken _ (texts c.args.words.now) c.in_ok-command.ensures.ok c.in_ok-matches.ensures.kinds,
-  λ n is inside. c.in_default.ensures.out_of_range refl n
-      (IsNumberIn-published _ (texts c.args.words.now) _ (codes "piece") (Some n) c.in_ok-command.ensures.ok c.in_ok-matches.ensures.matches is)
+  λ workers piece workers_is piece_is inside. c.in_default.ensures.out_of_range refl workers piece
+      (IsNumberIn-published _ (texts c.args.words.now) _ (codes "workers") (Some workers) c.in_ok-command.ensures.ok c.in_ok-matches.ensures.matches workers_is)
+      (IsNumberIn-published _ (texts c.args.words.now) _ (codes "piece") (Some piece) c.in_ok-command.ensures.ok c.in_ok-matches.ensures.matches piece_is)
       inside,
 )

@@ -1,5 +1,4 @@
-use Rattle.std.proofs.Common.{◌∙◌}
-use Rattle.std.proofs.lemmas.List.Sorted.{IsPermutation-map, IsPermutation-sym, IsPermutation-trans}
+use Rattle.std.proofs.Common.{◌∙◌, sym}
 use Rattle.lines.specs.Input.{good, refused}
 use Rattle.lines.specs.Lines.{lines}
 use Rattle.query_check.specs.Functions.{functions_of}
@@ -7,6 +6,7 @@ use Rattle.query_check.specs.Sets.{sets_of}
 use Rattle.query_truth.specs.Kept.{is_kept, kept}
 use Rattle.tables.specs.Notes.{note_of}
 use Rattle.tables.specs.Pieces.{all_lines, records_of, refused_within}
+use Rattle.tables.proofs.Bags.{bag-map, bag-permutation}
 use Rattle.tables.proofs.Shuffling.{length-shuffled, permutation-shuffled, shuffle-filter, shuffle-flat_map, tables-shuffled}
 use Rattle.tables.proofs.laws.order_law.Goals as goal
 
@@ -18,5 +18,5 @@ returns c = λ fields q partial pieces others s p. record {
       (shuffle-filter (is_kept fields q) (records_of fields pieces) (records_of fields others) (shuffle-flat_map (λ piece. good fields piece.bytes) pieces others s)) p.tables;
   lines = p.lines ∙ length-shuffled (all_lines pieces) (all_lines others) (shuffle-flat_map (λ piece. lines piece.bytes) pieces others s);
   refused = p.refused ∙ length-shuffled (refused_within fields pieces) (refused_within fields others) (shuffle-flat_map (λ piece. refused fields piece.bytes) pieces others s);
-  notes = IsPermutation-trans _ _ _ (IsPermutation-map (note_of fields) others pieces (IsPermutation-sym pieces others (permutation-shuffled pieces others s))) p.notes;
+  notes = λ f. sym (bag-map (note_of fields) pieces others (bag-permutation pieces others (permutation-shuffled pieces others s)) f) ∙ p.notes f;
 }

@@ -1,10 +1,11 @@
-use Rattle.std.proofs.Common.{◌∙◌, List, map, ap, sym, arith}
-use Rattle.std.proofs.lemmas.List.Sorted.{All-permutation, IsPermutation-map, IsPermutation-sym, IsPermutation-trans, sum_by-IsPermutation}
+use Rattle.std.proofs.Common.{List, map, arith}
+use Rattle.std.proofs.lemmas.List.Sorted.{All-permutation, IsPermutation-map, sum_by-IsPermutation}
 use Rattle.std.proofs.lemmas.Result.{IfOk-weaker}
 use Rattle.std.specs.List.Sorted.{IsPermutation}
 use Rattle.tables.specs.declared.note.Note.{Note}
-use Rattle.tables.specs.Notes.{IsWellNumbered, Noted, note_in, notes_in, numbered_from}
-use Rattle.tables.proofs.Orders.{non_decreasing-map, sorted-same}
+use Rattle.tables.specs.Notes.{IsWellNumbered, Noted, note_in, notes_in}
+use Rattle.tables.proofs.Bags.{bag-permutation}
+use Rattle.tables.proofs.Orders.{non_decreasing-map}
 use Rattle.tables.proofs.numbering.number.Goals as goal
 
 shown : (notes sorted : List Note) → IsPermutation notes sorted → IsPermutation (map note_in notes) (map note_in sorted)
@@ -17,7 +18,9 @@ pub number_in_order-requires-clause-numbered : goal.number_in_order-requires-cla
 number_in_order-requires-clause-numbered c = All-permutation IsWellNumbered _ _ (shown c.args.notes.items c.sorted-notes.result.items c.sorted-notes.ensures.permutation) c.requires.numbered
 
 pub returns : goal.returns
-returns c = IfOk-weaker c.number_in_order.result _ _ (λ lines is ordered p o.
-    is ∙ ap (numbered_from 0) (sym (sorted-same (λ (n : Noted). n.index) ordered (notes_in c.sorted-notes.result) o
-    (IsPermutation-trans _ _ _ (IsPermutation-sym _ _ p) (shown c.args.notes.items c.sorted-notes.result.items c.sorted-notes.ensures.permutation))
-    (non_decreasing-map note_in (λ (n : Noted). n.index) c.sorted-notes.result.items c.sorted-notes.ensures.ascending)))) c.number_in_order.ensures
+returns c = IfOk-weaker c.number_in_order.result _ _ (λ lines is. record {
+  ordered = notes_in c.sorted-notes.result;
+  same = bag-permutation (notes_in c.args.notes) (notes_in c.sorted-notes.result) (shown c.args.notes.items c.sorted-notes.result.items c.sorted-notes.ensures.permutation);
+  ascending = non_decreasing-map note_in (λ (n : Noted). n.index) c.sorted-notes.result.items c.sorted-notes.ensures.ascending;
+  numbered = is;
+}) c.number_in_order.ensures

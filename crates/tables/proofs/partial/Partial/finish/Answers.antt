@@ -1,6 +1,5 @@
 use Rattle.std.proofs.Common.{◌∙◌, List, map, sym, subst}
 use Rattle.std.proofs.Math.Logic.{∥∥₁_map}
-use Rattle.std.proofs.lemmas.List.Sorted.{IsPermutation-sym}
 use Rattle.groups.specs.GroupRows.{SameBag}
 use Rattle.groups.specs.Rows.{Row}
 use Rattle.query.specs.Planned.{fields_of_plan, form_of_plan}
@@ -9,12 +8,12 @@ use Rattle.query_check.specs.Sets.{sets_of}
 use Rattle.query_truth.specs.Kept.{kept}
 use Rattle.tables.specs.Contents.{found_in}
 use Rattle.tables.specs.Found.{Found, row_of}
-use Rattle.tables.specs.Notes.{note_of}
-use Rattle.tables.specs.Pieces.{records_of}
+use Rattle.tables.specs.Notes.{notes_in}
+use Rattle.tables.specs.Pieces.{AreNumbered, records_of}
 use Rattle.tables.specs.Results.{all_found, query_found}
 use Rattle.tables.proofs.Cutting.{cut-records, cut-refused}
 use Rattle.tables.proofs.Fitting.{found-fit}
-use Rattle.tables.proofs.Numbered.{notes-in_order, numbered-in_order}
+use Rattle.tables.proofs.Numbered.{lines-in_order, lines-numbered, numbered-in_order}
 use Rattle.tables.proofs.Taken.{kept-fits}
 use Rattle.tables.proofs.partial.Partial.finish.Goals as goal
 
@@ -40,11 +39,17 @@ returns-clause-fit c = λ pieces p.
     (subst (λ (fs : List Found). SameBag fs found) (sym c.new.ensures.rows) (c.in_ok-rows.ensures (sets_of fields q) (functions_of fields q) rows p.tables))
     (kept-fits fields q pieces)
 
+pub returns-clause-numbered : goal.returns-clause-numbered
+returns-clause-numbered c = λ pieces p own.
+    let fields = fields_of_plan c.args.plan.now in
+    subst (AreNumbered fields pieces) (sym c.new.ensures.refused)
+    (lines-numbered fields pieces (notes_in c.args.self.notes) c.in_ok-refused.refused.items own p.notes c.in_ok-refused.ensures)
+
 pub returns-clause-refused : goal.returns-clause-refused
 returns-clause-refused c = λ pieces p o.
     let fields = fields_of_plan c.args.plan.now in
     c.new.ensures.refused
-    ∙ c.in_ok-refused.ensures (map (note_of fields) pieces) (IsPermutation-sym _ _ p.notes) (notes-in_order fields pieces o)
+    ∙ lines-in_order fields pieces (notes_in c.args.self.notes) c.in_ok-refused.refused.items o p.notes c.in_ok-refused.ensures
     ∙ numbered-in_order fields pieces o
 
 pub returns-clause-whole : goal.returns-clause-whole
@@ -56,6 +61,6 @@ returns-clause-whole c = λ input pieces p w.
           (subst (λ (fs : List Found). SameBag fs (query_found fields q (records_of fields pieces))) (sym c.new.ensures.rows)
           (c.in_ok-rows.ensures (sets_of fields q) (functions_of fields q) (kept fields q (records_of fields pieces)) p.tables));
       refused = c.new.ensures.refused
-          ∙ c.in_ok-refused.ensures (map (note_of fields) pieces) (IsPermutation-sym _ _ p.notes) (notes-in_order fields pieces w.in_order)
+          ∙ lines-in_order fields pieces (notes_in c.args.self.notes) c.in_ok-refused.refused.items w.in_order p.notes c.in_ok-refused.ensures
           ∙ cut-refused fields input pieces w;
     }

@@ -1,13 +1,12 @@
-use Rattle.std.proofs.Common.{◌≡◌, ◌≤◌, ◌∷◌, [], All, List, length, map, sym, ap, subst, ◌∙◌, arith}
+use Rattle.std.proofs.Common.{◌≡◌, ◌≤◌, ◌∷◌, [], All, List, length, map, refl, sym, ap, subst, ◌∙◌, arith}
 use Rattle.lines.specs.Lines.{lines}
 use Rattle.query.specs.Planned.{fields_of_plan, form_of_plan}
 use Rattle.query_check.specs.Functions.{functions_of}
 use Rattle.query_check.specs.Sets.{sets_of}
 use Rattle.query_truth.specs.Kept.{kept}
 use Rattle.tables.specs.Folding.{good_of, refused_of}
+use Rattle.groups.specs.GroupRows.{SameBag}
 use Rattle.groups.specs.Rows.{Row}
-use Rattle.std.proofs.lemmas.List.Sorted.{IsPermutation-refl}
-use Rattle.std.specs.List.Sorted.{IsPermutation}
 use Rattle.tables.specs.Notes.{IsWellNumbered, Noted, note_in, note_of}
 use Rattle.tables.specs.Pieces.{IndexedPiece}
 use Rattle.tables.specs.Sets.{AreTablesOf}
@@ -60,8 +59,8 @@ returns c =
         tables = subst (λ (rows : List Row). AreTablesOf (sets_of fields q) (functions_of fields q) folding.tables (kept fields q rows)) (sym (records-more fields [] c.args.index bytes)) read.tables;
         lines = (let y = read.lines in let z = lines-more [] c.args.index bytes in omega (arith, y, z));
         refused = (let n = c.len-count.ensures in let y = ap length read.refused in let z = refused-more fields [] c.args.index bytes in omega (arith, n, y, z));
-        notes = subst (λ (ns : List Noted). IsPermutation (map (note_of fields) (record { index = c.args.index; bytes = bytes } ∷ [])) ns)
+        notes = subst (λ (ns : List Noted). SameBag (map (note_of fields) (record { index = c.args.index; bytes = bytes } ∷ [])) ns)
             (sym (ap (map note_in) c.in_ok-notes.ensures))
-            (notes-more fields [] [] c.args.index bytes folding.lines folding.refused.items read.lines read.refused (IsPermutation-refl []));
+            (notes-more fields [] [] c.args.index bytes folding.lines folding.refused.items read.lines read.refused (λ f. refl));
       };
     }

@@ -2,7 +2,7 @@ use Rattle.std.proofs.Common.{◌≡◌, ◌++◌, List, All, length, map, sym, 
 use Rattle.std.proofs.Math.Logic.{∥∥₁_map₂}
 use Rattle.std.proofs.lemmas.List.{map-append}
 use Rattle.std.proofs.lemmas.List.Elements.{All-append}
-use Rattle.std.specs.List.Sorted.{IsPermutation}
+use Rattle.groups.specs.GroupRows.{SameBag}
 use Rattle.groups.specs.Rows.{Row}
 use Rattle.query_check.specs.Functions.{functions_of}
 use Rattle.query_check.specs.Sets.{sets_of}
@@ -48,7 +48,7 @@ returns-clause-stands c = λ fields q pieces more p m.
           (c.in_ok-absorb.ensures.joined (sets_of fields q) (functions_of fields q) (kept fields q (records_of fields pieces)) (kept fields q (records_of fields more)) p.tables m.tables);
       lines = (let x = p.lines in let y = m.lines in let z = lines-append pieces more in omega (arith, x, y, z));
       refused = (let x = p.refused in let y = m.refused in let z = refused-append fields pieces more in omega (arith, x, y, z));
-      notes = subst (λ (ns : List Noted). IsPermutation (map (note_of fields) (pieces ++ more)) ns) (sym joined) (notes-append fields pieces more (notes_in a.notes) (notes_in b.notes) p.notes m.notes);
+      notes = subst (λ (ns : List Noted). SameBag (map (note_of fields) (pieces ++ more)) ns) (sym joined) (notes-append fields pieces more (notes_in a.notes) (notes_in b.notes) p.notes m.notes);
     }
 
 pub returns-clause-of_plan : goal.returns-clause-of_plan

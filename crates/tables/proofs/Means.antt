@@ -1,0 +1,115 @@
+-- A partial result stands for pieces where it means what they come to; and all pieces of an input.
+use Rattle.std.proofs.Common.{◌≡◌, ◌+◌, ◌<◌, ◌≤◌, ℕ, zero, suc, List, [], ◌∷◌, ◌++◌, length, map, take, Option, None, refl, sym, ap, ◌∙◌, arith}
+use Rattle.std.proofs.lemmas.List.{get_or-map, length-map, take_all}
+use Rattle.std.proofs.lemmas.List.FromFn.{get_or-enumerate_from, length-enumerate_from}
+use Rattle.std.proofs.Math.Seq.{take-suc}
+use Rattle.std.specs.FinMap as fin
+use Rattle.std.specs.List.{enumerate_from, slice_index_or}
+use Rattle.values.specs.Schema.{Field}
+use Rattle.lines.specs.declared.pieces.Piece.{Piece}
+use Rattle.query_tree.specs.Syntax.{TreeForm}
+use Rattle.query_check.specs.declared.function.ColumnFunction.{ColumnFunction}
+use Rattle.query_check.specs.Functions.{functions_of}
+use Rattle.query_check.specs.Sets.{sets_of}
+use Rattle.query_truth.specs.Kept.{kept}
+use Rattle.groups.specs.Groups.{Key}
+use Rattle.groups.specs.Inside.Group.{GroupState}
+use Rattle.groups.specs.Rows.{Row}
+use Rattle.groups.specs.Inside.Table.{Contents}
+use Rattle.pool.specs.Totals as pool
+use Rattle.pool.proofs.Sums.{total_load, total_weight}
+use Rattle.tables.specs.declared.partial.Partial.{Partial}
+use Rattle.tables.specs.Laws.{mean-append, means_lawful}
+use Rattle.tables.specs.Means.{Mean, both, group_of, indexed, mean, mean_at, meaning, no_bytes, piece_at, with_index}
+use Rattle.tables.specs.Partials.{StandsFor}
+use Rattle.tables.specs.Pieces.{IndexedPiece, all_lines, records_of, refused_within}
+use Rattle.tables.specs.Sets.{AreTablesOf}
+
+-- ---- standing for pieces is meaning what they come to
+
+abbrev read_all : List Contents → List (Key → Option GroupState)
+read_all tables = map (λ (table : Contents) key. fin.get table key) tables
+
+tables-mean : (sets : List (List ℕ)) (fs : List ColumnFunction) (ts : List Contents) (rows : List Row) → AreTablesOf sets fs ts rows → read_all ts ≡ map (group_of fs rows) sets
+tables-mean [] fs [] rows a = refl
+tables-mean [] fs (t ∷ ts) rows a = absurd a
+tables-mean (set ∷ sets) fs [] rows a = absurd a
+tables-mean (set ∷ sets) fs (t ∷ ts) rows a = λ i. (λ key. a.0 key i) ∷ tables-mean sets fs ts rows a.1 i
+
+abbrev first_at : List (Key → Option GroupState) → Key → Option GroupState
+first_at [] key = None
+first_at (t ∷ ts) key = t key
+
+abbrev others : List (Key → Option GroupState) → List (Key → Option GroupState)
+others [] = []
+others (t ∷ ts) = ts
+
+mean-tables : (sets : List (List ℕ)) (fs : List ColumnFunction) (ts : List Contents) (rows : List Row) → read_all ts ≡ map (group_of fs rows) sets → AreTablesOf sets fs ts rows
+mean-tables [] fs [] rows e = tt
+mean-tables [] fs (t ∷ ts) rows e = absurd (let n : suc (length (read_all ts)) ≡ 0 = ap length e in omega (arith, n))
+mean-tables (set ∷ sets) fs [] rows e = absurd (let n : 0 ≡ suc (length (map (group_of fs rows) sets)) = ap length e in omega (arith, n))
+mean-tables (set ∷ sets) fs (t ∷ ts) rows e = (λ key. ap (λ us. first_at us key) e, mean-tables sets fs ts rows (ap others e))
+
+pub mean-from_stands : (fields : List Field) (q : TreeForm) (partial : Partial) (pieces : List IndexedPiece) → StandsFor fields q partial pieces → meaning partial ≡ mean fields q pieces
+mean-from_stands fields q partial pieces p =
+    let tables = tables-mean (sets_of fields q) (functions_of fields q) partial.tables (kept fields q (records_of fields pieces)) p.tables in
+    λ i. record {
+      sets = p.sets i;
+      functions = p.functions i;
+      tables = tables i;
+      lines = p.lines i;
+      refused = p.refused i;
+      notes = λ weight. sym (p.notes weight) i;
+    }
+
+pub stands-from_mean : (fields : List Field) (q : TreeForm) (partial : Partial) (pieces : List IndexedPiece) → meaning partial ≡ mean fields q pieces → StandsFor fields q partial pieces
+stands-from_mean fields q partial pieces e = record {
+  sets = ap (λ (m : Mean). m.sets) e;
+  functions = ap (λ (m : Mean). m.functions) e;
+  tables = mean-tables (sets_of fields q) (functions_of fields q) partial.tables (kept fields q (records_of fields pieces)) (ap (λ (m : Mean). m.tables) e);
+  lines = ap (λ (m : Mean). m.lines) e;
+  refused = ap (λ (m : Mean). m.refused) e;
+  notes = λ weight. sym (ap (λ (m : Mean). m.notes weight) e);
+}
+
+-- ---- all pieces of an input
+
+-- there are as many with their indexes
+pub length-indexed : (input : List ℕ) (pieces : List Piece) → length (indexed input pieces) ≡ length pieces
+length-indexed input pieces = length-map (enumerate_from 0 pieces) (with_index input) ∙ length-enumerate_from 0 pieces
+
+-- the pieces up to one, and that one
+one-more : (input : List ℕ) (pieces : List Piece) (k : ℕ) → k < length pieces
+    → take (suc k) (indexed input pieces) ≡ take k (indexed input pieces) ++ piece_at input pieces k ∷ []
+one-more input pieces k lt =
+    take-suc (indexed input pieces) k (with_index input (0, no_bytes)) (omega (arith, lt, length-indexed input pieces))
+    ∙ ap (λ piece. take k (indexed input pieces) ++ piece ∷ [])
+    (get_or-map (with_index input) (enumerate_from 0 pieces) k (0, no_bytes) (with_index input (0, no_bytes)) (omega (arith, lt, length-enumerate_from 0 pieces))
+    ∙ ap (with_index input) (get_or-enumerate_from 0 pieces k (0, no_bytes) lt)
+    ∙ ap (λ n. with_index input (n, slice_index_or pieces k no_bytes)) (let e : 0 + k ≡ k = omega arith in e))
+
+total-first : (fields : List Field) (q : TreeForm) (input : List ℕ) (pieces : List Piece) (k : ℕ) → k ≤ length pieces
+    → pool.total (mean fields q []) both (mean_at fields q input pieces) k ≡ mean fields q (take k (indexed input pieces))
+total-first fields q input pieces zero le = refl
+total-first fields q input pieces (suc k) le =
+    ap (λ m. both m (mean_at fields q input pieces k)) (total-first fields q input pieces k (omega (arith, le)))
+    ∙ sym (mean-append fields q (take k (indexed input pieces)) (piece_at input pieces k ∷ []))
+    ∙ ap (mean fields q) (sym (one-more input pieces k (omega (arith, le))))
+
+-- the total of all pieces is what they come to
+pub total-all : (fields : List Field) (q : TreeForm) (input : List ℕ) (pieces : List Piece)
+    → pool.total (mean fields q []) both (mean_at fields q input pieces) (length pieces) ≡ mean fields q (indexed input pieces)
+total-all fields q input pieces =
+    total-first fields q input pieces (length pieces) (omega arith)
+    ∙ ap (mean fields q) (take_all (length pieces) (indexed input pieces) (omega (arith, length-indexed input pieces)))
+
+-- so are the numbers of refused lines and of lines, added up
+pub refused-all : (fields : List Field) (q : TreeForm) (input : List ℕ) (pieces : List Piece)
+    → pool.sum_below (λ i. (mean_at fields q input pieces i).refused) (length pieces) ≡ length (refused_within fields (indexed input pieces))
+refused-all fields q input pieces =
+    sym (total_weight (means_lawful fields q input pieces) (length pieces)) ∙ ap (λ (m : Mean). m.refused) (total-all fields q input pieces)
+
+pub lines-all : (fields : List Field) (q : TreeForm) (input : List ℕ) (pieces : List Piece)
+    → pool.sum_below (λ i. (mean_at fields q input pieces i).lines) (length pieces) ≡ length (all_lines (indexed input pieces))
+lines-all fields q input pieces =
+    sym (total_load (means_lawful fields q input pieces) (length pieces)) ∙ ap (λ (m : Mean). m.lines) (total-all fields q input pieces)

@@ -1,0 +1,107 @@
+-- What a partial result means, whatever the order of its pieces, and what pieces come to.
+use Rattle.std.specs.Prelude.{◌≡◌, ℕ, ◌+◌, ◌<◌, List, [], ◌∷◌, length, map, slice_index_or, Option, Some, None, if◌then◌else◌}
+use Rattle.std.specs.FinMap as fin
+use Rattle.std.specs.List.{enumerate_from, list_any}
+use Rattle.values.specs.Schema.{Field}
+use Rattle.lines.specs.declared.pieces.Piece.{Piece}
+use Rattle.lines.specs.Pieces.{bytes_of}
+use Rattle.query_tree.specs.Syntax.{TreeForm}
+use Rattle.query_check.specs.declared.function.ColumnFunction.{ColumnFunction}
+use Rattle.query_check.specs.Functions.{functions_of}
+use Rattle.query_check.specs.Resolution.{contents}
+use Rattle.query_check.specs.Sets.{sets_of}
+use Rattle.query_truth.specs.Kept.{kept}
+use Rattle.groups.specs.GroupRows.{weigh}
+use Rattle.groups.specs.Groups.{Key, keys, members, same_key}
+use Rattle.groups.specs.Inside.Group.{GroupState, held}
+use Rattle.groups.specs.Rows.{Row}
+use Rattle.groups.specs.Inside.Table.{Contents, join_options}
+use Rattle.tables.specs.declared.partial.Partial.{Partial}
+use Rattle.tables.specs.Notes.{Noted, note_of, notes_in}
+use Rattle.tables.specs.Partials.{lines_counted, refused_counted}
+use Rattle.tables.specs.Pieces.{IndexedPiece, all_lines, records_of, refused_within}
+
+-- the grouping sets and the set functions; for each set what is kept of each key's group; how many lines and refused lines there are; and of the notes of
+-- the pieces what they weigh together, whatever each weighs
+pub record Mean : Type 0 where
+  pub sets : List (List ℕ)
+  pub functions : List ColumnFunction
+  pub tables : List (Key → Option GroupState)
+  pub lines : ℕ
+  pub refused : ℕ
+  pub notes : (Noted → ℕ) → ℕ
+
+-- ---- of pieces
+
+-- what is kept of the group of a key under a grouping set: of a key that is one of the records', what is kept of its members
+abbrev pub group_of : List ColumnFunction → List Row → List ℕ → Key → Option GroupState
+group_of functions rows set key = if list_any (same_key key) (keys set rows) then Some (held functions (members set key rows)) else None
+
+-- what pieces come to under a schema and a query
+abbrev pub mean : List Field → TreeForm → List IndexedPiece → Mean
+mean fields q pieces = record {
+  sets = sets_of fields q;
+  functions = functions_of fields q;
+  tables = map (group_of (functions_of fields q) (kept fields q (records_of fields pieces))) (sets_of fields q);
+  lines = length (all_lines pieces);
+  refused = length (refused_within fields pieces);
+  notes = λ weight. weigh weight (map (note_of fields) pieces);
+}
+
+-- some pieces come to this
+abbrev pub IsMean : List Field → TreeForm → Mean → Type 0
+IsMean fields q m = (pieces : List IndexedPiece) × (m ≡ mean fields q pieces)
+
+-- ---- of two
+
+-- for each grouping set what is kept of each key's group in either
+abbrev pub tables_of_both : List (Key → Option GroupState) → List (Key → Option GroupState) → List (Key → Option GroupState)
+tables_of_both [] us = []
+tables_of_both (t ∷ ts) [] = []
+tables_of_both (t ∷ ts) (u ∷ us) = (λ key. join_options (t key) (u key)) ∷ tables_of_both ts us
+
+-- what two come to together
+abbrev pub both : Mean → Mean → Mean
+both a b = record {
+  sets = a.sets;
+  functions = a.functions;
+  tables = tables_of_both a.tables b.tables;
+  lines = a.lines + b.lines;
+  refused = a.refused + b.refused;
+  notes = λ weight. a.notes weight + b.notes weight;
+}
+
+-- ---- pieces of an input
+
+-- a piece of the input beside its index
+abbrev pub with_index : List ℕ → ℕ × Piece → IndexedPiece
+with_index input piece = record { index = piece.0; bytes = bytes_of input piece.1 }
+
+-- the pieces of the input with their indexes, from 0
+abbrev pub indexed : List ℕ → List Piece → List IndexedPiece
+indexed input pieces = map (with_index input) (enumerate_from 0 pieces)
+
+-- the piece that starts and stops at the first byte, and so is empty
+abbrev pub no_bytes : Piece
+no_bytes = record { start = 0; stop = 0 }
+
+-- the piece of the input with this index; past the last piece an empty one
+abbrev pub piece_at : List ℕ → List Piece → ℕ → IndexedPiece
+piece_at input pieces index = with_index input (index, slice_index_or pieces index no_bytes)
+
+-- what the piece with this index comes to
+abbrev pub mean_at : List Field → TreeForm → List ℕ → List Piece → ℕ → Mean
+mean_at fields q input pieces index = mean fields q (piece_at input pieces index ∷ [])
+
+-- ---- in the code
+
+-- what a partial result means
+abbrev pub meaning : Partial → Mean
+meaning partial = record {
+  sets = contents partial.shape.sets.items;
+  functions = partial.shape.functions.items;
+  tables = map (λ (table : Contents) key. fin.get table key) partial.tables;
+  lines = lines_counted partial;
+  refused = refused_counted partial;
+  notes = λ weight. weigh weight (notes_in partial.notes);
+}

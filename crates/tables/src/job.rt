@@ -1,0 +1,106 @@
+// The pieces of an input as a work for a pool.
+ghost use Rattle.std.specs.Prelude.{◌≡◌, ◌≤◌, ◌<◌, ◌^◌, All, length};
+ghost use Rattle.std.proofs.Props.{props};
+ghost use Rattle.tables.specs.Means.{piece_at};
+
+use crate::partial::Partial;
+use lines::Piece;
+use pool::Work;
+use query::Plan;
+use std::alloc::{AllocError, Global};
+
+/// The pieces of an input under a plan, each by its index: what a pool makes one result of.
+///
+/// A piece past the last one has no bytes. The weight of a result is the number of its refused lines, and its load
+/// the number of its lines.
+#[derive(Drop)]
+pub struct Job<'a> {
+    alloc: Global,
+    plan: &'a Plan,
+    input: &'a [u8],
+    pieces: &'a [Piece],
+    ghost short: { length input.now < 2 ^ 63 },
+    ghost ordered: { All (λ piece. piece.start ≤ piece.stop) pieces.now } by { Prim.hlevel props },
+    ghost within: { All (λ piece. piece.stop ≤ length input.now) pieces.now } by { Prim.hlevel props },
+}
+
+impl<'a> Job<'a> {
+    /// The job of a plan over the pieces of an input.
+    pub fn new(alloc: Global, plan: &'a Plan, input: &'a [u8], pieces: &'a [Piece]) -> Job<'a>
+        requires short { length input.now < 2 ^ 63 }
+        requires ordered { All (λ piece. piece.start ≤ piece.stop) pieces.now }
+        requires within { All (λ piece. piece.stop ≤ length input.now) pieces.now }
+        ensures plan { result.plan.now ≡ plan.now }
+        ensures input { result.input.now ≡ input.now }
+        ensures pieces { result.pieces.now ≡ pieces.now }
+    {
+        Job {
+            alloc,
+            plan,
+            input,
+            pieces,
+        }
+    }
+
+    /// The bytes of the piece with this index, and none past the last piece.
+    fn bytes(&self, index: u32) -> &[u8]
+        ensures bytes { result.now ≡ (piece_at self.now.input.now self.now.pieces.now index).bytes }
+        ensures short { length result.now < 2 ^ 63 }
+    {
+        match self.pieces.get(index as usize) {
+            Some(piece) => &self.input[piece.start..piece.stop],
+            None => &self.input[..0],
+        }
+    }
+}
+
+impl<'a> Work for Job<'a> {
+    ghost use Rattle.std.specs.Prelude.{[]};
+    ghost use Rattle.query.specs.Planned.{fields_of_plan, form_of_plan};
+    ghost use Rattle.tables.specs.Means.{IsMean, Mean, both, mean, mean_at, meaning};
+    ghost use Rattle.tables.specs.Laws.{means_lawful};
+
+    type Part = Partial;
+
+    ghost Meaning = { Mean };
+
+    ghost meaning = { λ part. meaning part };
+
+    ghost fits = { λ job m. IsMean (fields_of_plan job.plan.now) (form_of_plan job.plan.now) m };
+
+    ghost unit_meaning = { λ job. mean (fields_of_plan job.plan.now) (form_of_plan job.plan.now) [] };
+
+    ghost piece_meaning = { λ job i. mean_at (fields_of_plan job.plan.now) (form_of_plan job.plan.now) job.input.now job.pieces.now i };
+
+    ghost combined = { λ job a b. both a b };
+
+    ghost weight_of = { λ job m. m.refused };
+
+    ghost load_of = { λ job m. m.lines };
+
+    ghost lawful = { λ job. means_lawful (fields_of_plan job.plan.now) (form_of_plan job.plan.now) job.input.now job.pieces.now };
+
+    fn unit(&self) -> Result<Partial, AllocError> {
+        Partial::empty(self.alloc, self.plan)
+    }
+
+    fn piece(&self, i: u32) -> Result<Partial, AllocError> {
+        Partial::fold_piece(self.alloc, self.plan, i, self.bytes(i))
+    }
+
+    fn combine(&self, a: Partial, b: Partial) -> Result<Partial, AllocError> {
+        a.merge(b)
+    }
+
+    fn add(&self, part: Partial, i: u32) -> Result<Partial, AllocError> {
+        part.fold_onto(self.plan, i, self.bytes(i))
+    }
+
+    fn weight(&self, p: &Partial) -> u64 {
+        p.refused()
+    }
+
+    fn load(&self, p: &Partial) -> u64 {
+        p.lines()
+    }
+}
