@@ -45,7 +45,8 @@ fn writes_the_report_and_the_list(rt: HostRuntime) -> Result<(), Fail> {
         "r:text,q:int",
         "SELECT r, AVG(q) AS a FROM lines GROUP BY r HAVING COUNT(*) > 0 ORDER BY r DESC",
     )?;
-    let groups = Partial::fold_piece(alloc, &plan, 0, LINES)?.finish(&plan)?;
+    let partial = Partial::fold_piece(alloc, &plan, 0, LINES)?;
+    let groups = partial.finish(&plan)?;
     let rows = arrange(alloc, &groups, &plan)?;
     let report = report_text(alloc, &rows, &plan)?;
     let wanted = "r,a\n\\N,\\N\n\"say \"\"hi\"\"\",-7/2\n\\\\N,\\N\n";

@@ -1,5 +1,4 @@
-use Rattle.std.proofs.Common.{[]}
 use Rattle.report.proofs.tests.writes_the_report_and_the_list.Goals as goal
 
 pub arrange-requires : goal.arrange-requires
-arrange-requires c = λ given. given.in_ok-groups.ensures.fit [] given.in_ok-partial.ensures.stands
+arrange-requires c = λ given. given.in_ok-groups.ensures.fit _ given.in_ok-partial.ensures.stands
