@@ -8,3 +8,5 @@ pub mod RollupCube
 pub mod Headers
 pub mod TypedLemmas
 pub mod WholeLemmas
+pub mod StandingLemmas
+pub mod StandingWhole
