@@ -1,3 +1,4 @@
+pub mod Examples
 pub mod Rows
 pub mod Places
 pub mod Distinct
