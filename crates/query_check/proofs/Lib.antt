@@ -1,3 +1,4 @@
+pub mod Examples
 pub mod Rows
 pub mod Places
 pub mod Distinct
@@ -8,3 +9,5 @@ pub mod RollupCube
 pub mod Headers
 pub mod TypedLemmas
 pub mod WholeLemmas
+pub mod StandingLemmas
+pub mod StandingWhole

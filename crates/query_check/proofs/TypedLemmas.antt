@@ -78,7 +78,7 @@ none_from_grouped grouped n None h = absurd h
 none_from_grouped grouped n (Some place) h = passes (list_any (λ g. g == place) grouped) _ (any_at grouped place h.0 h.1 h.2)
 
 -- A name without a fault is typed.
-name_from_none : (fields : List Field) (grouped : List ℕ) (c : Clause) (n : List ℕ) → name_fault fields grouped c n ≡ None → IsTypedName fields grouped c n
+pub name_from_none : (fields : List Field) (grouped : List ℕ) (c : Clause) (n : List ℕ) → name_fault fields grouped c n ≡ None → IsTypedName fields grouped c n
 name_from_none fields grouped clause.Where n h = holds (is_some (place_of fields n)) _ h
 name_from_none fields grouped clause.Select n h = grouped_from_none grouped n (place_of fields n) h
 name_from_none fields grouped clause.Having n h = grouped_from_none grouped n (place_of fields n) h
@@ -133,7 +133,7 @@ none_from_ordered fields x (inl h) = none_from_argument fields is_ordered x kind
 none_from_ordered fields x (inr h) = none_from_argument fields is_ordered x kind.Text h refl
 
 -- A set function without a fault takes its column.
-aggregate_from_none : (fields : List Field) (a : Aggregate) → aggregate_fault fields a ≡ None → IsTypedAggregate fields a
+pub aggregate_from_none : (fields : List Field) (a : Aggregate) → aggregate_fault fields a ≡ None → IsTypedAggregate fields a
 aggregate_from_none fields aggregate.CountRows h = tt
 aggregate_from_none fields (aggregate.Count x) h = holds (is_some (place_of fields x)) _ h
 aggregate_from_none fields (aggregate.CountDistinct x) h = holds (is_some (place_of fields x)) _ h
@@ -172,7 +172,7 @@ stands_from_test clause.OrderBy (aggregate.Max x) h = tt
 stands_from_test clause.OrderBy (aggregate.Avg x) h = absurd cc
 
 -- A set function that may stand passes the test.
-test_from_stands : (c : Clause) (a : Aggregate) → MayStand c a → may_stand c a ≡ true
+pub test_from_stands : (c : Clause) (a : Aggregate) → MayStand c a → may_stand c a ≡ true
 test_from_stands clause.Where a h = absurd h
 test_from_stands clause.Select a h = refl
 test_from_stands clause.Having aggregate.CountRows h = refl
@@ -236,7 +236,7 @@ none_from_expression fields grouped c (function f) h = none_from_function fields
 -- ---- predicates
 
 -- An operand without a fault is typed.
-operand_from_none : (fields : List Field) (grouped : List ℕ) (c : Clause) (x : OperandForm) → operand_fault fields grouped c x ≡ None → IsTypedOperand fields grouped c x
+pub operand_from_none : (fields : List Field) (grouped : List ℕ) (c : Clause) (x : OperandForm) → operand_fault fields grouped c x ≡ None → IsTypedOperand fields grouped c x
 operand_from_none fields grouped c (expression e) h = expression_from_none fields grouped c e h
 operand_from_none fields grouped c (literal a) h = tt
 
@@ -258,7 +258,7 @@ same_from_test kind.Bool kind.Text h = absurd cc
 same_from_test kind.Bool kind.Bool h = refl
 
 -- A type is the same as itself.
-same_itself : (k : Kind) → same_kind k k ≡ true
+pub same_itself : (k : Kind) → same_kind k k ≡ true
 same_itself kind.Int = refl
 same_itself kind.Text = refl
 same_itself kind.Bool = refl

@@ -48,7 +48,7 @@ not_found h (g ∷ gs) other =
     ] refl
 
 -- What is not true is false.
-not_true : (b : Bool) → not b ≡ true → b ≡ false
+pub not_true : (b : Bool) → not b ≡ true → b ≡ false
 not_true true h = absurd cc
 not_true false h = refl
 
@@ -121,7 +121,7 @@ mutual
       ∙ sym (first_fault_append (column_fault fields) (group_names g) (groups_names gs))
 
 -- The faults of GROUP BY are those of its names.
-all_names : (fields : List Field) (gs : List GroupForm) → first_fault (group_fault fields) gs ≡ first_fault (column_fault fields) (flat_map group_names gs)
+pub all_names : (fields : List Field) (gs : List GroupForm) → first_fault (group_fault fields) gs ≡ first_fault (column_fault fields) (flat_map group_names gs)
 all_names fields [] = refl
 all_names fields (g ∷ gs) =
     ap (λ o. option_or o (first_fault (group_fault fields) gs)) (group_of_names fields g)

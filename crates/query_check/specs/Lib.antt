@@ -4,4 +4,5 @@ pub mod Laws
 pub mod Functions
 pub mod Typing
 pub mod Faults
+pub mod Standing
 pub mod Resolution

@@ -12,6 +12,7 @@ ghost use Rattle.query_check.specs.Functions.{aggregates, column_function, expre
 ghost use Rattle.query_check.specs.Sets.{expanded};
 ghost use Rattle.query_check.specs.Typing.{IsTyped, key_expression};
 ghost use Rattle.query_check.specs.Faults.{Answers, clause_fault, clauses_fault, expression_fault, first_fault, headers_fault, limit_fault, query_fault, records_fault, rows_fault, select_fault};
+ghost use Rattle.query_check.specs.Standing.{Stands};
 ghost use Rattle.query_fault.specs.declared.QueryFault.TheVariants.{OutOfMemory, RepeatedHeader};
 ghost use Rattle.query_check.specs.Resolution.{resolution_of};
 
@@ -433,6 +434,8 @@ pub fn check_tree(alloc: Global, tree: &Tree, schema: &Schema) -> Result<Resolve
     ensures resolved { IfOk result (λ r. r ≡ resolution_of schema.now (tree_form tree.now)) }
     ensures untyped { IfErr result (λ f. f ≢ OutOfMemory → IsTyped schema.now (tree_form tree.now) → ⊥) }
     ensures fault { Answers result (query_fault schema.now (tree_form tree.now)) }
+    // A fault stands in the query.
+    ensures stands { IfErr result (λ f. f ≢ OutOfMemory → Stands schema.now (tree_form tree.now) f) }
 {
     resolve(alloc, tree, schema)
 }

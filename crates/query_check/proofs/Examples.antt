@@ -1,0 +1,96 @@
+-- The faults that stand in a query, computed on examples.
+use Rattle.std.proofs.Common.{◌≡◌, zero, suc, true, false, ℕ, List, [], ◌∷◌, Some, None, Contains, pos, refl, ap, inl, inr, arith, codes}
+use Rattle.std.specs.Str.{bytes_eq}
+use Rattle.values.specs.declared.comparison.Op.TheVariants.{Eq}
+use Rattle.values.specs.declared.schema.Kind.TheVariants as kind
+use Rattle.values.specs.Schema.{Field}
+use Rattle.query_tree.specs.declared.expression.Aggregate.TheVariants as aggregate
+use Rattle.query_tree.specs.declared.predicate.Literal.TheVariants as constant
+use Rattle.query_tree.specs.Syntax.{ExpressionForm, ItemForm, PredicateForm, TreeForm, name, function, over_all, expression, literal, compare, set}
+use Rattle.query_fault.specs.declared.QueryFault.TheVariants as faults
+use Rattle.query_check.specs.declared.scope.Clause.TheVariants as clause
+use Rattle.query_check.specs.Standing.{Stands}
+
+-- a text, a whole number and a truth value
+abbrev fields : List Field
+fields = record { name = codes "c"; kind = kind.Text } ∷ record { name = codes "q"; kind = kind.Int } ∷ record { name = codes "b"; kind = kind.Bool } ∷ []
+
+abbrev c : ExpressionForm
+c = name (codes "c")
+
+abbrev q : ExpressionForm
+q = name (codes "q")
+
+abbrev average : ExpressionForm
+average = function (over_all (aggregate.Avg (codes "q")))
+
+abbrev item : ExpressionForm → ItemForm
+item e = record { expression = e; alias = None }
+
+-- SELECT .. FROM lines GROUP BY c
+abbrev selected : List ItemForm → TreeForm
+selected items = record { items = items; filter = None; groups = set (codes "c" ∷ []) ∷ []; having = None; keys = [] }
+
+-- x = 1, where x is a name
+abbrev is_one : List ℕ → PredicateForm
+is_one x = compare (expression (name x)) Eq (literal (constant.Integer (pos 1)))
+
+-- SELECT c FROM lines WHERE x = 1
+abbrev where_one : List ℕ → TreeForm
+where_one x = record { items = item c ∷ []; filter = Some (is_one x); groups = []; having = None; keys = [] }
+
+-- SELECT c, AVG(q) AS m FROM lines GROUP BY c ORDER BY m
+abbrev by_average : TreeForm
+by_average = record {
+  items = item c ∷ record { expression = average; alias = Some (codes "m") } ∷ [];
+  filter = None;
+  groups = set (codes "c" ∷ []) ∷ [];
+  having = None;
+  keys = record { expression = name (codes "m"); descending = false; nulls_first = false } ∷ [];
+}
+
+-- WHERE d = 1 names no column: d
+unknown_stands : Stands fields (where_one (codes "d")) (faults.UnknownColumn (codes "d"))
+unknown_stands = (inr (clause.Where, name (codes "d"), (is_one (codes "d"), (0, omega arith, refl), (0, omega arith, refl)), (0, omega arith, refl)), λ is. let clash : ⊥ = cc in clash)
+
+-- it never names a column of the schema
+column_is_known : Stands fields (where_one (codes "d")) (faults.UnknownColumn (codes "q")) → ⊥
+column_is_known h = h.1 refl
+
+-- WHERE c = 1 compares a text and a whole number
+types_disagree : Stands fields (where_one (codes "c")) faults.TypesDisagree
+types_disagree = inl (
+  clause.Where,
+  is_one (codes "c"),
+  (0, omega arith, refl),
+  (expression c, literal (constant.Integer (pos 1)), (0, omega arith, refl), (1, omega arith, refl), (kind.Text, kind.Int, refl, refl, λ e. let clash : ⊥ = cc in clash)),
+)
+
+-- MIN(b) is taken of a truth value
+least_truth : Stands fields (selected (item (function (over_all (aggregate.Min (codes "b")))) ∷ [])) faults.TypesDisagree
+least_truth = inr (clause.Select, aggregate.Min (codes "b"), (0, omega arith, refl), refl)
+
+-- q is none of the names in GROUP BY c
+none_of_group : Contains (codes "c" ∷ []) (codes "q") → ⊥
+none_of_group (zero, below, e) = let wrong : true ≡ false = ap (bytes_eq (codes "c")) e in let clash : ⊥ = cc in clash
+none_of_group (suc k, below, e) = absurd (omega arith)
+
+-- SELECT c, q .. GROUP BY c: q is not grouped
+not_grouped : Stands fields (selected (item c ∷ item q ∷ [])) (faults.NotGrouped (codes "q"))
+not_grouped = (clause.Select, q, (1, omega arith, refl), λ e. (let clash : ⊥ = cc in clash), (0, omega arith, refl), refl, none_of_group)
+
+-- a column that GROUP BY names is grouped
+grouped : Stands fields (selected (item c ∷ item q ∷ [])) (faults.NotGrouped (codes "c")) → ⊥
+grouped h = h.6 (0, omega arith, refl)
+
+-- SELECT COUNT(*), COUNT(*): the header COUNT(*) stands twice
+repeated : Stands fields (selected (item (function (over_all aggregate.CountRows)) ∷ item (function (over_all aggregate.CountRows)) ∷ [])) (faults.RepeatedHeader (codes "COUNT(*)"))
+repeated = (codes "COUNT(*)" ∷ [], [], refl, (0, omega arith, refl))
+
+-- ORDER BY m, which is AVG(q)
+average_ordered : Stands fields by_average faults.FunctionNotAllowed
+average_ordered = (clause.OrderBy, average, (0, omega arith, refl), λ may. may)
+
+-- no fault of a text stands in a query that was read
+of_a_text : Stands fields by_average (faults.NoToken 0) → ⊥
+of_a_text h = h

@@ -1,0 +1,133 @@
+-- Which faults stand in a query under a schema, wherever in it they stand (ISO/IEC 9075-2, <query specification>).
+use Rattle.std.specs.Prelude.{◌≡◌, ◌≢◌, ◌<◌, ⊤, ◌⊎◌, ℕ, Option, Some, List, [], ◌∷◌, ◌++◌, map, length, Contains}
+use Rattle.std.specs.Option.{option_map_or}
+use Rattle.values.specs.declared.schema.Kind.{Kind}
+use Rattle.values.specs.declared.schema.Kind.TheVariants as kind
+use Rattle.values.specs.Schema.{Field}
+use Rattle.query_tree.specs.declared.expression.Aggregate.{Aggregate}
+use Rattle.query_tree.specs.declared.expression.Aggregate.TheVariants as aggregate
+use Rattle.query_tree.specs.Syntax.{ExpressionForm, OperandForm, PredicateForm, PredicateForms, TreeForm, name, grouping, function, over_all, over_filtered, expression, literal, or_of, and_of, not_of, truth_test, compare, between, member, null_test, column, no_parts, part}
+use Rattle.query_print.specs.Canonical.{header_text}
+use Rattle.query_fault.specs.declared.QueryFault.{QueryFault}
+use Rattle.query_fault.specs.declared.QueryFault.TheVariants as faults
+use Rattle.query_check.specs.declared.scope.Clause.{Clause}
+use Rattle.query_check.specs.declared.scope.Clause.TheVariants as clause
+use Rattle.query_check.specs.Columns.{column_kind}
+use Rattle.query_check.specs.Sets.{expanded, grouping_names}
+use Rattle.query_check.specs.Functions.{aggregate_of, functions_of}
+use Rattle.query_check.specs.Typing.{IsColumn, MayStand, key_expression, operand_kind}
+
+-- ---- what stands in a query
+
+abbrev mutual
+  -- The atoms of a predicate: comparisons, BETWEEN, IN and null tests, and names that stand alone.
+  pub atoms : PredicateForm → List PredicateForm
+  atoms (or_of ps) = parts_atoms ps
+  atoms (and_of ps) = parts_atoms ps
+  atoms (not_of p) = atoms p
+  atoms (truth_test p n t) = atoms p
+  atoms p = p ∷ []
+
+  -- Those of the parts of an OR or an AND.
+  pub parts_atoms : PredicateForms → List PredicateForm
+  parts_atoms no_parts = []
+  parts_atoms (part p ps) = atoms p ++ parts_atoms ps
+
+-- The operands of an atom, the literals of IN among them.
+abbrev pub operands : PredicateForm → List OperandForm
+operands (compare x o y) = x ∷ y ∷ []
+operands (between x n y z) = x ∷ y ∷ z ∷ []
+operands (member x n ls) = x ∷ map literal ls
+operands (null_test x n) = x ∷ []
+operands (column n) = expression (name n) ∷ []
+operands p = []
+
+-- The atoms in a clause; only WHERE and HAVING have some.
+abbrev pub atoms_in : TreeForm → Clause → List PredicateForm
+atoms_in t clause.Where = option_map_or atoms t.filter []
+atoms_in t clause.Select = []
+atoms_in t clause.Having = option_map_or atoms t.having []
+atoms_in t clause.OrderBy = []
+
+-- An expression stands in a clause: in SELECT it is an item's, in ORDER BY a key's, where an alias stands for its item,
+-- and in WHERE and HAVING it is an operand of an atom.
+abbrev pub StandsIn : TreeForm → Clause → ExpressionForm → Type 0
+StandsIn t clause.Select e = Contains (map (λ i. i.expression) t.items) e
+StandsIn t clause.OrderBy e = Contains (map (λ k. key_expression t.items k.expression) t.keys) e
+StandsIn t c e = (p : PredicateForm) × Contains (atoms_in t c) p × Contains (operands p) (expression e)
+
+-- The names in an expression outside of a set function: a name itself, or the arguments of GROUPING.
+abbrev pub outer_names : ExpressionForm → List (List ℕ)
+outer_names (name n) = n ∷ []
+outer_names (grouping ns) = ns
+outer_names (function f) = []
+
+-- The name of the column that a set function is taken of.
+abbrev pub argument_names : Aggregate → List (List ℕ)
+argument_names aggregate.CountRows = []
+argument_names (aggregate.Count x) = x ∷ []
+argument_names (aggregate.CountDistinct x) = x ∷ []
+argument_names (aggregate.Sum x) = x ∷ []
+argument_names (aggregate.Min x) = x ∷ []
+argument_names (aggregate.Max x) = x ∷ []
+argument_names (aggregate.Avg x) = x ∷ []
+
+-- All names in an expression.
+abbrev pub names : ExpressionForm → List (List ℕ)
+names (function f) = argument_names (aggregate_of f)
+names e = outer_names e
+
+-- ---- what is wrong with it
+
+-- There are two types, and they differ.
+abbrev pub AreOfTwoKinds : Option Kind → Option Kind → Type 0
+AreOfTwoKinds k l = (one : Kind) × (other : Kind) × (k ≡ Some one) × (l ≡ Some other) × (one ≢ other)
+
+-- The types of an atom disagree: a name that stands alone is of another type than truth values, or two operands are of
+-- two types.
+abbrev pub Disagrees : List Field → PredicateForm → Type 0
+Disagrees fields (column n) = AreOfTwoKinds (column_kind fields n) (Some kind.Bool)
+Disagrees fields p = (x : OperandForm) × (y : OperandForm) × Contains (operands p) x × Contains (operands p) y × AreOfTwoKinds (operand_kind fields x) (operand_kind fields y)
+
+-- A set function is taken of a column of another type than it takes: SUM and AVG not of whole numbers, MIN and MAX of
+-- truth values.
+abbrev pub IsOfOtherKind : List Field → Aggregate → Type 0
+IsOfOtherKind fields (aggregate.Sum x) = AreOfTwoKinds (column_kind fields x) (Some kind.Int)
+IsOfOtherKind fields (aggregate.Avg x) = AreOfTwoKinds (column_kind fields x) (Some kind.Int)
+IsOfOtherKind fields (aggregate.Min x) = column_kind fields x ≡ Some kind.Bool
+IsOfOtherKind fields (aggregate.Max x) = column_kind fields x ≡ Some kind.Bool
+IsOfOtherKind fields a = ⊥
+
+-- A function stands where it may not: GROUPING in WHERE, a set function in WHERE, AVG outside of SELECT. With FILTER,
+-- which is not part of the language yet, it may stand nowhere.
+abbrev pub IsMisplaced : Clause → ExpressionForm → Type 0
+IsMisplaced c (name n) = ⊥
+IsMisplaced c (grouping ns) = c ≡ clause.Where
+IsMisplaced c (function (over_all a)) = MayStand c a → ⊥
+IsMisplaced c (function (over_filtered a p)) = ⊤
+
+-- A header stands twice: once, and once more before.
+abbrev pub StandsTwice : List ℕ → List (List ℕ) → Type 0
+StandsTwice h headers = (before : List (List ℕ)) × (behind : List (List ℕ)) × (headers ≡ before ++ h ∷ behind) × Contains before h
+
+-- ---- the faults
+
+-- A fault stands in a query under a schema:
+-- an unknown column, where GROUP BY or an expression of a clause has the name, and no column of the schema;
+-- a column that is not grouped, where its name stands in SELECT, HAVING or ORDER BY outside of a set function, and not
+-- in GROUP BY;
+-- types that disagree, where those of an atom do, or where a set function is taken of a column of another type;
+-- a function that is not allowed, where one stands where it may not;
+-- too much, where there are more than 64 grouping sets or more than 64 different set functions;
+-- a repeated header, where two items have it.
+-- A query that was read has no fault of its text. Want of memory says nothing.
+abbrev pub Stands : List Field → TreeForm → QueryFault → Type 0
+Stands fields t (faults.UnknownColumn n) = (Contains (grouping_names t) n ⊎ ((c : Clause) × (e : ExpressionForm) × StandsIn t c e × Contains (names e) n)) × (IsColumn fields n → ⊥)
+Stands fields t (faults.NotGrouped n) = (c : Clause) × (e : ExpressionForm) × StandsIn t c e × (c ≢ clause.Where) × Contains (outer_names e) n × IsColumn fields n × (Contains (grouping_names t) n → ⊥)
+Stands fields t faults.TypesDisagree = ((c : Clause) × (p : PredicateForm) × Contains (atoms_in t c) p × Disagrees fields p) ⊎ ((c : Clause) × (a : Aggregate) × StandsIn t c (function (over_all a)) × IsOfOtherKind fields a)
+Stands fields t faults.FunctionNotAllowed = (c : Clause) × (e : ExpressionForm) × StandsIn t c e × IsMisplaced c e
+Stands fields t faults.OverLimit = (64 < length (expanded t.groups)) ⊎ (64 < length (functions_of fields t))
+Stands fields t (faults.RepeatedHeader h) = StandsTwice h (map header_text t.items)
+Stands fields t (faults.NoToken byte) = ⊥
+Stands fields t (faults.Unexpected byte) = ⊥
+Stands fields t faults.OutOfMemory = ⊤
