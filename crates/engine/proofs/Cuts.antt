@@ -12,7 +12,7 @@ use Rattle.lines.specs.declared.pieces.Piece.{Piece}
 use Rattle.lines.specs.Lines.{line_feed, lines}
 use Rattle.lines.specs.Pieces.{AllButLast, AreConsecutive, EndsInFeed, IsStop, after_feed, at_end, bytes_of}
 use Rattle.tables.specs.Pieces.{IndexedPiece, IsCutInto, all_lines, joined_bytes}
-use Rattle.engine.specs.Pieces.{indexed, with_index}
+use Rattle.tables.specs.Means.{indexed, with_index}
 
 -- ---- how many there are
 

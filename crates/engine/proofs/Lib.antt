@@ -2,7 +2,7 @@ mod Fronts
 pub mod Cuts
 pub mod Explained
 pub mod Tallies
-pub mod Folds
 pub mod Named
 pub mod Shown
 pub mod Outcomes
+pub mod Pooled

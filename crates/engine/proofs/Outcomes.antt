@@ -1,13 +1,14 @@
 -- What a run leaves, from what it is known to have read and made.
-use Rattle.std.proofs.Common.{◌≡◌, ◌∙◌, ℕ, List, Option, Some, None, Result, Ok, Err, subst}
+use Rattle.std.proofs.Common.{◌≡◌, ◌≢◌, ◌∙◌, ◌⊎◌, inl, inr, ℕ, List, length, Option, Some, None, Result, Ok, Err, subst, sym}
 use Rattle.std.specs.Prelude.{IfErr, IfOk, IfSome, OnOk}
 use Rattle.values.specs.Schema.{Field}
 use Rattle.query_tree.specs.Syntax.{TreeForm}
 use Rattle.engine.specs.declared.fault.RunFault.{RunFault}
-use Rattle.engine.specs.declared.fault.RunFault.TheVariants.{Reading, OutOfMemory, TooManyRefused, WritingReport, WritingRefused}
-use Rattle.engine.specs.Run.{Leaves, refusals, report}
+use Rattle.engine.specs.declared.fault.RunFault.TheVariants.{Reading, OutOfMemory, ThreadNotStarted, TooManyRefused, WritingReport, WritingRefused}
+use Rattle.lines.specs.Input.{refused}
+use Rattle.engine.specs.Run.{IsUnwritten, Leaves, Refuses, refusals, report}
 use Rattle.engine.specs.Written.{AppendsBeginning, LeavesWritten}
-use Rattle.std.specs.Io.KnownBytes.{Appends}
+use Rattle.std.specs.Io.KnownBytes.{Appends, Keeps}
 
 -- what holds of the bytes that were read holds of what the reader gives, where that is known
 pub of-known : (P : List ℕ → Type 0) (bytes : List ℕ) (known : Option (List ℕ)) → IfSome known (λ b. bytes ≡ b) → P bytes → IfSome known P
@@ -37,6 +38,7 @@ pub leaves-known : (limit : Option ℕ) (fields : List Field) (q : TreeForm) (by
     → Leaves fault limit fields q (Some bytes) out_old out_new err_old err_new → Leaves fault limit fields q known out_old out_new err_old err_new
 leaves-known limit fields q bytes None oo on eo en Reading same h = h
 leaves-known limit fields q bytes None oo on eo en OutOfMemory same h = h
+leaves-known limit fields q bytes None oo on eo en ThreadNotStarted same h = h
 leaves-known limit fields q bytes None oo on eo en (TooManyRefused most) same h = (h.0, tt, h.2, h.3)
 leaves-known limit fields q bytes None oo on eo en WritingReport same h = (tt, h.1)
 leaves-known limit fields q bytes None oo on eo en WritingRefused same h = tt
@@ -49,6 +51,7 @@ pub leaves-written : (limit : Option ℕ) (fields : List Field) (q : TreeForm) (
     → LeavesWritten fault text list out_old out_new err_old err_new → Leaves fault limit fields q (Some bytes) out_old out_new err_old err_new
 leaves-written limit fields q bytes text list oo on eo en Reading is_text is_list h = absurd h
 leaves-written limit fields q bytes text list oo on eo en OutOfMemory is_text is_list h = absurd h
+leaves-written limit fields q bytes text list oo on eo en ThreadNotStarted is_text is_list h = absurd h
 leaves-written limit fields q bytes text list oo on eo en (TooManyRefused most) is_text is_list h = absurd h
 leaves-written limit fields q bytes text list oo on eo en WritingReport is_text is_list h = (subst (λ (t : List ℕ). AppendsBeginning oo on t) is_text h.0, h.1)
 leaves-written limit fields q bytes text list oo on eo en WritingRefused is_text is_list h =
@@ -62,3 +65,21 @@ pub if-err-known : {T : Type 0} (r : Result T RunFault) (limit : Option ℕ) (fi
     → IfErr r (λ fault. Leaves fault limit fields q known out_old out_new err_old err_new)
 if-err-known (Ok v) limit fields q bytes known oo on eo en same h = tt
 if-err-known (Err fault) limit fields q bytes known oo on eo en same h = leaves-known limit fields q bytes known oo on eo en fault same h
+
+-- a fault of writing is none of a thread
+pub written-started : (text list : List ℕ) (out_old out_new err_old err_new : Option (List ℕ)) (fault : RunFault)
+    → LeavesWritten fault text list out_old out_new err_old err_new → fault ≢ ThreadNotStarted
+written-started text list oo on eo en fault h e = subst (λ (f : RunFault). LeavesWritten f text list oo on eo en) e h
+
+-- a fault before anything was written leaves both outputs as they were
+pub leaves-unwritten : (limit : Option ℕ) (fields : List Field) (q : TreeForm) (bytes : List ℕ) (out err : Option (List ℕ)) (fault : RunFault)
+    → IsUnwritten fault ⊎ Refuses fault limit (length (refused fields bytes)) → Keeps out out → Keeps err err
+    → Leaves fault limit fields q (Some bytes) out out err err
+leaves-unwritten limit fields q bytes out err fault (inl (inl e)) a b = subst (λ (f : RunFault). Leaves f limit fields q (Some bytes) out out err err) (sym e) (a, b)
+leaves-unwritten limit fields q bytes out err fault (inl (inr e)) a b = subst (λ (f : RunFault). Leaves f limit fields q (Some bytes) out out err err) (sym e) (a, b)
+leaves-unwritten limit fields q bytes out err Reading (inr h) a b = absurd h
+leaves-unwritten limit fields q bytes out err OutOfMemory (inr h) a b = absurd h
+leaves-unwritten limit fields q bytes out err ThreadNotStarted (inr h) a b = absurd h
+leaves-unwritten limit fields q bytes out err (TooManyRefused most) (inr h) a b = (h.0, h.1, a, b)
+leaves-unwritten limit fields q bytes out err WritingReport (inr h) a b = absurd h
+leaves-unwritten limit fields q bytes out err WritingRefused (inr h) a b = absurd h

@@ -36,24 +36,15 @@ either-le : (b : Bool) (x : ℕ) (parts : List (List ℕ)) (n : ℕ) → 0 < len
 either-le true x parts n some h = behind-le parts n some h
 either-le false x parts n some h = onto-le x parts n some h
 
-length-lines : (bytes : List ℕ) → length (lines bytes) ≤ length bytes
+pub length-lines : (bytes : List ℕ) → length (lines bytes) ≤ length bytes
 length-lines [] = omega arith
 length-lines (x ∷ bytes) = either-le (x == line_feed) x (slice_split (λ b. b == line_feed) bytes) (length bytes)
     (let some = length-slice_split (λ b. b == line_feed) bytes in omega (arith, some)) (length-lines bytes)
 
--- the first of the pieces have no more lines than the input has bytes
-pub few-lines : (input : List ℕ) (pieces : List IndexedPiece) (k : ℕ) → all_lines pieces ≡ lines input
-    → length (all_lines (take k pieces)) ≤ length input
-few-lines input pieces k same =
-    let parts : all_lines (take k pieces) ++ all_lines (drop k pieces) ≡ lines input =
-    sym (flat_map-append (λ piece. lines piece.bytes) (take k pieces) (drop k pieces)) ∙ ap all_lines (take-append-drop k pieces) ∙ same in
-    let long : length (all_lines (take k pieces) ++ all_lines (drop k pieces)) ≡ length (lines input) = ap length parts in
-    omega (arith, long, length-append (all_lines (take k pieces)) (all_lines (drop k pieces)), length-lines input)
-
 -- ---- there are as many refused lines as faults
 
 -- the faults of lines, without their numbers
-abbrev faults_of : List Field → List (List ℕ) → List LineFault
+abbrev pub faults_of : List Field → List (List ℕ) → List LineFault
 faults_of fields ls = filter_map result_err (map (taken fields) ls)
 
 numbered : (n : ℕ) (rs : List (Result (List Datum) LineFault)) → length {A = ℕ × LineFault} (filter_map (λ p. option_map (λ fault. (p.0, fault)) (result_err p.1)) (enumerate_from n rs)) ≡ length (filter_map result_err rs)
@@ -67,7 +58,7 @@ length-refused fields input = numbered 1 (answers fields input)
 faults-append : (fields : List Field) (xs ys : List (List ℕ)) → faults_of fields (xs ++ ys) ≡ faults_of fields xs ++ faults_of fields ys
 faults-append fields xs ys = ap (filter_map result_err) (map-append (taken fields) xs ys) ∙ filter_map-append result_err (map (taken fields) xs) (map (taken fields) ys)
 
-length-within : (fields : List Field) (pieces : List IndexedPiece) → length (refused_within fields pieces) ≡ length (faults_of fields (all_lines pieces))
+pub length-within : (fields : List Field) (pieces : List IndexedPiece) → length (refused_within fields pieces) ≡ length (faults_of fields (all_lines pieces))
 length-within fields [] = refl
 length-within fields (piece ∷ pieces) =
     let both = ap length (faults-append fields (lines piece.bytes) (all_lines pieces)) in

@@ -1,14 +1,16 @@
 -- What a run writes, and what it leaves where it fails.
-use Rattle.std.specs.Prelude.{◌≡◌, ◌<◌, ◌≤◌, ◌↔◌, ⊤, ℕ, List, Option, Some, None, Result, IfErr, IfSome, IsOk, length}
+use Rattle.std.specs.Prelude.{◌≡◌, ◌<◌, ◌≤◌, ◌↔◌, ◌⊎◌, ⊤, ℕ, List, Option, Some, None, Result, IfErr, IfSome, IsOk, length}
 use Rattle.std.specs.Io.KnownBytes.{Appends, Keeps}
 use Rattle.values.specs.Schema.{Field}
 use Rattle.lines.specs.Input.{good, refused}
 use Rattle.query_tree.specs.Syntax.{TreeForm}
 use Rattle.tables.specs.Results.{query_found}
+use Rattle.pool.specs.declared.laws.PoolFault.{PoolFault}
+use Rattle.pool.specs.declared.laws.PoolFault.TheVariants as pool
 use Rattle.report.specs.Report.{refusals_of, report_of}
 use Rattle.engine.specs.Written.{AppendsBeginning}
 use Rattle.engine.specs.declared.fault.RunFault.{RunFault}
-use Rattle.engine.specs.declared.fault.RunFault.TheVariants.{Reading, OutOfMemory, TooManyRefused, WritingReport, WritingRefused}
+use Rattle.engine.specs.declared.fault.RunFault.TheVariants.{Reading, OutOfMemory, ThreadNotStarted, TooManyRefused, WritingReport, WritingRefused}
 
 -- the report of a query on an input: what the query finds in the good records of all lines
 abbrev pub report : List Field → TreeForm → List ℕ → List ℕ
@@ -23,7 +25,7 @@ abbrev pub IsWithin : Option ℕ → ℕ → Type 0
 IsWithin None count = ⊤
 IsWithin (Some limit) count = count ≤ limit
 
--- a fault by which something was refused to the run: a read, memory or a write
+-- a fault by which something was refused to the run: a read, memory, a thread or a write
 abbrev pub Hinders : RunFault → Type 0
 Hinders (TooManyRefused most) = ⊥
 Hinders fault = ⊤
@@ -38,6 +40,7 @@ abbrev pub Leaves :
     RunFault → Option ℕ → List Field → TreeForm → Option (List ℕ) → (out_old out_new err_old err_new : Option (List ℕ)) → Type 0
 Leaves Reading limit fields q input out_old out_new err_old err_new = Keeps out_old out_new × Keeps err_old err_new
 Leaves OutOfMemory limit fields q input out_old out_new err_old err_new = Keeps out_old out_new × Keeps err_old err_new
+Leaves ThreadNotStarted limit fields q input out_old out_new err_old err_new = Keeps out_old out_new × Keeps err_old err_new
 Leaves (TooManyRefused most) limit fields q input out_old out_new err_old err_new =
     (limit ≡ Some most) × IfSome input (λ bytes. most < length (refused fields bytes))
     × Keeps out_old out_new × Keeps err_old err_new
@@ -47,6 +50,15 @@ Leaves WritingRefused limit fields q input out_old out_new err_old err_new =
     IfSome input (λ bytes. Appends out_old out_new (report fields q bytes) × AppendsBeginning err_old err_new (refusals fields bytes))
 
 -- ---- in the code
+
+-- the fault of a run that a pool's fault is
+abbrev pub fault_of_pool : PoolFault → RunFault
+fault_of_pool pool.OutOfMemory = OutOfMemory
+fault_of_pool pool.ThreadNotStarted = ThreadNotStarted
+
+-- memory or a thread was refused, before anything was written
+abbrev pub IsUnwritten : RunFault → Type 0
+IsUnwritten fault = (fault ≡ OutOfMemory) ⊎ (fault ≡ ThreadNotStarted)
 
 -- the fault says that more lines are refused than the limit
 abbrev pub Refuses : RunFault → Option ℕ → ℕ → Type 0

@@ -2,7 +2,7 @@
 ghost use Rattle.std.specs.Prelude.{◌≡◌, ◌≤◌, ◌<◌, ◌^◌, All, IfOk, length};
 ghost use Rattle.lines.specs.Lines.{lines};
 ghost use Rattle.tables.specs.Pieces.{IsCutInto, all_lines};
-ghost use Rattle.engine.specs.Pieces.{indexed};
+ghost use Rattle.tables.specs.Means.{indexed};
 
 use lines::{Piece, cut};
 use std::alloc::{AllocError, Global};

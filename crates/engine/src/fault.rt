@@ -1,7 +1,9 @@
 // How a run fails.
 ghost use Rattle.std.specs.Prelude.{◌≡◌};
 ghost use Rattle.engine.specs.declared.fault.RunFault.TheVariants.{OutOfMemory};
+ghost use Rattle.engine.specs.Run.{fault_of_pool};
 
+use pool::PoolFault;
 use std::alloc::AllocError;
 use thiserror::Error;
 
@@ -14,6 +16,9 @@ pub enum RunFault {
     /// Memory ran out. Nothing was written.
     #[error("out of memory")]
     OutOfMemory,
+    /// A thread could not be started. Nothing was written.
+    #[error("a thread could not be started")]
+    ThreadNotStarted,
     /// More lines are refused than may be, which is this number. Nothing was written.
     #[error("more than {0} refused lines")]
     TooManyRefused(u64),
@@ -32,5 +37,16 @@ impl From<AllocError> for RunFault {
 
     fn from(_error: AllocError) -> RunFault {
         RunFault::OutOfMemory
+    }
+}
+
+impl From<PoolFault> for RunFault {
+    ghost from_gives = { λ given fault. fault ≡ fault_of_pool given };
+
+    fn from(fault: PoolFault) -> RunFault {
+        match fault {
+            PoolFault::OutOfMemory => RunFault::OutOfMemory,
+            PoolFault::ThreadNotStarted => RunFault::ThreadNotStarted,
+        }
     }
 }

@@ -4,12 +4,12 @@
 mod cutting;
 mod explaining;
 mod fault;
-mod folding;
 mod reading;
-mod run;
+mod running;
 mod serving;
+mod working;
 mod writing;
 
 pub use fault::RunFault;
-pub use run::{Done, run_alone};
+pub use running::{Done, run_alone};
 pub use serving::serve;

@@ -9,7 +9,7 @@ ghost use Rattle.engine.specs.Explanation.{Explains, IsAnswerable, explanation};
 
 use crate::explaining::explanation;
 use crate::fault::RunFault;
-use crate::run::run_alone;
+use crate::running::run_alone;
 use crate::writing::put;
 use clap::error::ErrorKind;
 use command_line::{Settings, WordsFault};
@@ -51,12 +51,11 @@ impl Ending {
         ensures { 2 ≤ result }
     {
         match self {
-            Ending::Schema(SchemaFault::OutOfMemory)
-            | Ending::Query(QueryFault::OutOfMemory)
-            | Ending::Run(RunFault::OutOfMemory) => 4,
-            Ending::NotUtf8 | Ending::Range | Ending::Schema(_) | Ending::Query(_) => 2,
-            Ending::Run(RunFault::TooManyRefused(_)) => 5,
-            Ending::NotOpened | Ending::Run(_) => 3,
+            Ending::NotUtf8 | Ending::Range => 2,
+            Ending::Schema(fault) => schema_status(fault),
+            Ending::Query(fault) => query_status(fault),
+            Ending::NotOpened => 3,
+            Ending::Run(fault) => run_status(fault),
         }
     }
 
@@ -66,11 +65,54 @@ impl Ending {
     }
 }
 
+/// The status where a schema is refused.
+fn schema_status(fault: &SchemaFault) -> u8
+    ensures { 2 ≤ result }
+{
+    match fault {
+        SchemaFault::Empty
+        | SchemaFault::BadName(_)
+        | SchemaFault::UnknownType(_)
+        | SchemaFault::RepeatedName(_)
+        | SchemaFault::TooManyColumns => 2,
+        SchemaFault::OutOfMemory => 4,
+    }
+}
+
+/// The status where a query is refused.
+fn query_status(fault: &QueryFault) -> u8
+    ensures { 2 ≤ result }
+{
+    match fault {
+        QueryFault::NoToken(_)
+        | QueryFault::Unexpected(_)
+        | QueryFault::UnknownColumn(_)
+        | QueryFault::TypesDisagree
+        | QueryFault::NotGrouped(_)
+        | QueryFault::OverLimit
+        | QueryFault::FunctionNotAllowed
+        | QueryFault::RepeatedHeader(_) => 2,
+        QueryFault::OutOfMemory => 4,
+    }
+}
+
+/// The status where a run fails.
+fn run_status(fault: &RunFault) -> u8
+    ensures { 2 ≤ result }
+{
+    match fault {
+        RunFault::Reading | RunFault::WritingReport | RunFault::WritingRefused => 3,
+        RunFault::OutOfMemory | RunFault::ThreadNotStarted => 4,
+        RunFault::TooManyRefused(_) => 5,
+    }
+}
+
 /// Does what the words ask for, and answers the status that the program ends with: 0 where no line
 /// is refused or where help or an explanation is asked for, 1 where some are, 2 where the words, the
 /// schema or the query are refused, 3 where the file cannot be opened or read or a text cannot be
-/// written, 4 where memory runs out, 5 where more lines are refused than may be. The report, the
-/// explanation and help go to `out`; the refused lines and what went wrong go to `err`.
+/// written, 4 where memory runs out or a thread cannot be started, 5 where more lines are refused than
+/// may be. The report, the explanation and help go to `out`; the refused lines and what went wrong go
+/// to `err`.
 ///
 /// `opener` is called once at most, only once the words, the schema and the query are good, and not
 /// where an explanation is asked for.

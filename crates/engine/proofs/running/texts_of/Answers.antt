@@ -8,7 +8,7 @@ use Rattle.report.specs.Report.{NamesColumn}
 use Rattle.report.specs.Shown.{row_shown}
 use Rattle.report.specs.Text.{report_bytes}
 use Rattle.engine.proofs.Named.{refused-named}
-use Rattle.engine.proofs.run.texts_of.Goals as goal
+use Rattle.engine.proofs.running.texts_of.Goals as goal
 
 pub refused_text-requires : goal.refused_text-requires
 refused_text-requires c =

@@ -1,5 +1,5 @@
 // A run: from a reader to the report and the list of refused lines.
-ghost use Rattle.std.specs.Prelude.{◌≡◌, ◌<◌, ◌^◌, ◌⊎◌, ℕ, List, IfErr, IfOk, IfSome, OnOk, Some, length};
+ghost use Rattle.std.specs.Prelude.{◌≡◌, ◌≢◌, ◌⊎◌, ℕ, List, IfErr, IfOk, IfSome, OnOk, Some, length};
 ghost use Rattle.std.specs.Io.KnownBytes.{Appends};
 ghost use Rattle.values.specs.Schema.{Field};
 ghost use Rattle.lines.specs.Input.{refused};
@@ -10,11 +10,11 @@ ghost use Rattle.tables.specs.Fitting.{AreFitting};
 ghost use Rattle.tables.specs.Contents.{found_in};
 ghost use Rattle.report.specs.Report.{report_of};
 ghost use Rattle.engine.specs.Pieces.{IsWhole};
-ghost use Rattle.engine.specs.Run.{IsDecided, IsWithin, Leaves, Refuses, refusals, report};
+ghost use Rattle.engine.specs.Run.{IsDecided, IsUnwritten, IsWithin, Leaves, Refuses, refusals, report};
 
 use crate::fault::RunFault;
-use crate::folding::whole_of;
 use crate::reading::read_all;
+use crate::working::whole_alone;
 use crate::writing::put_both;
 use command_line::Options;
 use query::Plan;
@@ -51,7 +51,7 @@ struct Texts {
 /// out, `TooManyRefused` where more lines are refused than the options allow: then nothing was
 /// written. `WritingReport` where a write or the flush of the report fails: then a beginning of it
 /// was written, and nothing of the list. `WritingRefused` where a write or the flush of the list
-/// fails: then the report was written, and a beginning of the list.
+/// fails: then the report was written, and a beginning of the list. Never `ThreadNotStarted`.
 pub fn run_alone<R: Read + Drop, O: Write, E: Write>(
     alloc: Global,
     plan: &Plan,
@@ -76,79 +76,61 @@ pub fn run_alone<R: Read + Drop, O: Write, E: Write>(
     ensures fault { IfErr result (λ fault. Leaves fault options.max_refused
         (fields_of_plan plan.now) (form_of_plan plan.now) (R.remaining reader)
         (O.contents out.old) (O.contents out.new) (E.contents err.old) (E.contents err.new)) }
+    ensures started { IfErr result (λ fault. fault ≢ RunFault.ThreadNotStarted) }
 {
     let input = read_all(alloc, reader)?;
-    run_on(alloc, plan, options, input.as_slice(), out, err)
+    let bytes = input.as_slice();
+    let whole = whole_alone(alloc, plan, options, bytes);
+    write_whole(alloc, plan, options.max_refused(), bytes, whole, out, err)
 }
 
-/// Answers the query of a plan over an input that has been read.
-fn run_on<O: Write, E: Write>(
+/// Writes the report and the list of refused lines by the result over an input, where there is one.
+fn write_whole<O: Write, E: Write>(
     alloc: Global,
     plan: &Plan,
-    options: Options,
+    limit: Option<u64>,
     input: &[u8],
+    whole: Result<Partial, RunFault>,
     out: &mut O,
     err: &mut E,
 ) -> Result<Done, RunFault>
-    requires { length input.now < 2 ^ 63 }
+    requires whole { IfOk whole (IsWhole (fields_of_plan plan.now) (form_of_plan plan.now) input.now) }
+    requires limit { IfOk whole (λ _. IsWithin limit (length (refused (fields_of_plan plan.now) input.now))) }
+    requires fault { IfErr whole (λ fault. IsUnwritten fault
+        ⊎ Refuses fault limit (length (refused (fields_of_plan plan.now) input.now))) }
     ensures report { OnOk result (Appends (O.contents out.old) (O.contents out.new)
         (report (fields_of_plan plan.now) (form_of_plan plan.now) input.now)) }
     ensures refusals { OnOk result (Appends (E.contents err.old) (E.contents err.new)
         (refusals (fields_of_plan plan.now) input.now)) }
     ensures lines { IfOk result (λ done. done.lines ≡ length (lines input.now)) }
     ensures refused { IfOk result (λ done. done.refused ≡ length (refused (fields_of_plan plan.now) input.now)) }
-    ensures limit { IfOk result (λ done. IsWithin options.max_refused done.refused) }
-    ensures decided { IsDecided result options.max_refused (length (refused (fields_of_plan plan.now) input.now)) }
-    ensures fault { IfErr result (λ fault. Leaves fault options.max_refused
+    ensures limit { IfOk result (λ done. IsWithin limit done.refused) }
+    ensures decided { IsDecided result limit (length (refused (fields_of_plan plan.now) input.now)) }
+    ensures fault { IfErr result (λ fault. Leaves fault limit
         (fields_of_plan plan.now) (form_of_plan plan.now) (Some input.now)
         (O.contents out.old) (O.contents out.new) (E.contents err.old) (E.contents err.new)) }
+    ensures started { IfErr whole (λ fault. fault ≢ RunFault.ThreadNotStarted)
+        → IfErr result (λ fault. fault ≢ RunFault.ThreadNotStarted) }
 {
-    let (done, texts) = answer(alloc, plan, options, input)?;
+    let partial = whole?;
+    let done = done_of(&partial);
+    let texts = texts_of(alloc, plan, partial)?;
     match put_both(out, texts.report.as_slice(), err, texts.refused.as_slice()) {
         Ok(()) => Ok(done),
         Err(fault) => Err(fault),
     }
 }
 
-/// The counts of an input, and what is written of it.
-fn answer(
-    alloc: Global,
-    plan: &Plan,
-    options: Options,
-    input: &[u8],
-) -> Result<(Done, Texts), RunFault>
-    requires { length input.now < 2 ^ 63 }
-    ensures report { IfOk result (λ answer. answer.1.report.items
-        ≡ report (fields_of_plan plan.now) (form_of_plan plan.now) input.now) }
-    ensures refusals { IfOk result (λ answer. answer.1.refused.items
-        ≡ refusals (fields_of_plan plan.now) input.now) }
-    ensures lines { IfOk result (λ answer. answer.0.lines ≡ length (lines input.now)) }
-    ensures refused { IfOk result (λ answer.
-        answer.0.refused ≡ length (refused (fields_of_plan plan.now) input.now)) }
-    ensures limit { IfOk result (λ answer. IsWithin options.max_refused answer.0.refused) }
-    ensures fault { IfErr result (λ fault. (fault ≡ RunFault.OutOfMemory) ⊎ Refuses fault options.max_refused
-        (length (refused (fields_of_plan plan.now) input.now))) }
+/// The counts of a result over an input.
+fn done_of(partial: &Partial) -> Done
+    ensures lines { (fields : List Field) (q : TreeForm) (input : List ℕ)
+        → IsWhole fields q input partial.now → result.lines ≡ length (lines input) }
+    ensures refused { (fields : List Field) (q : TreeForm) (input : List ℕ)
+        → IsWhole fields q input partial.now → result.refused ≡ length (refused fields input) }
 {
-    let partial = whole_of(alloc, plan, options.piece(), input)?;
-    let done = done_of(&partial, options.max_refused())?;
-    let texts = texts_of(alloc, plan, partial)?;
-    Ok((done, texts))
-}
-
-/// The counts of a result over an input, where not more lines are refused than may be.
-fn done_of(partial: &Partial, limit: Option<u64>) -> Result<Done, RunFault>
-    ensures lines { IfOk result (λ done. (fields : List Field) (q : TreeForm) (input : List ℕ)
-        → IsWhole fields q input partial.now → done.lines ≡ length (lines input)) }
-    ensures refused { IfOk result (λ done. (fields : List Field) (q : TreeForm) (input : List ℕ)
-        → IsWhole fields q input partial.now → done.refused ≡ length (refused fields input)) }
-    ensures limit { IfOk result (λ done. IsWithin limit done.refused) }
-    ensures fault { IfErr result (λ fault. (fields : List Field) (q : TreeForm) (input : List ℕ)
-        → IsWhole fields q input partial.now → Refuses fault limit (length (refused fields input))) }
-{
-    let (lines, refused) = (partial.lines(), partial.refused());
-    match limit {
-        Some(most) if refused > most => Err(RunFault::TooManyRefused(most)),
-        _ => Ok(Done { lines, refused }),
+    Done {
+        lines: partial.lines(),
+        refused: partial.refused(),
     }
 }
 

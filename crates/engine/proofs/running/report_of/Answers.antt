@@ -4,7 +4,7 @@ use Rattle.tables.specs.Contents.{found_in}
 use Rattle.report.specs.Order.{arranged}
 use Rattle.report.specs.Shown.{cells_of}
 use Rattle.engine.proofs.Shown.{cell-each}
-use Rattle.engine.proofs.run.report_of.Goals as goal
+use Rattle.engine.proofs.running.report_of.Goals as goal
 
 pub report_text-requires : goal.report_text-requires
 report_text-requires c =

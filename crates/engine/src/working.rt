@@ -1,0 +1,58 @@
+// The result of a query over the pieces of an input.
+ghost use Rattle.std.specs.Prelude.{◌≡◌, ◌≢◌, ◌<◌, ◌^◌, ◌⊎◌, ℕ, List, IfErr, IfOk, length};
+ghost use Rattle.values.specs.Schema.{Field};
+ghost use Rattle.lines.specs.Input.{refused};
+ghost use Rattle.query_tree.specs.Syntax.{TreeForm};
+ghost use Rattle.query.specs.Planned.{fields_of_plan, form_of_plan};
+ghost use Rattle.engine.specs.Pieces.{IsOutcome, IsWhole};
+ghost use Rattle.engine.specs.Run.{IsUnwritten, IsWithin, Refuses};
+
+use crate::cutting::pieces_of;
+use crate::fault::RunFault;
+use command_line::Options;
+use pool::{Outcome, alone};
+use query::Plan;
+use std::alloc::Global;
+use tables::{Job, Partial, job_law};
+
+/// The result of a query over an input, worked on in pieces on the calling thread.
+pub(crate) fn whole_alone(
+    alloc: Global,
+    plan: &Plan,
+    options: Options,
+    input: &[u8],
+) -> Result<Partial, RunFault>
+    requires { length input.now < 2 ^ 63 }
+    ensures whole { IfOk result (IsWhole (fields_of_plan plan.now) (form_of_plan plan.now) input.now) }
+    ensures limit { IfOk result (λ _. IsWithin options.max_refused (length (refused (fields_of_plan plan.now) input.now))) }
+    ensures fault { IfErr result (λ fault. IsUnwritten fault
+        ⊎ Refuses fault options.max_refused (length (refused (fields_of_plan plan.now) input.now))) }
+    ensures started { IfErr result (λ fault. fault ≢ RunFault.ThreadNotStarted) }
+{
+    let pieces = pieces_of(alloc, input, options.piece())?;
+    job_law();
+    let job = Job::new(alloc, plan, input, pieces.as_slice());
+    let limit = options.max_refused();
+    match alone(&job, pieces.len() as u32, limit.unwrap_or(u64::MAX)) {
+        Ok(outcome) => decided(limit, outcome),
+        Err(fault) => Err(RunFault::from(fault)),
+    }
+}
+
+/// The result that a pool answers; Over is the fault that too many lines are refused.
+fn decided(limit: Option<u64>, outcome: Outcome<Partial>) -> Result<Partial, RunFault>
+    requires { (fields : List Field) × (q : TreeForm) × (input : List ℕ) × (length input < 2 ^ 63)
+        × IsOutcome fields q input limit outcome }
+    ensures whole { IfOk result (λ partial. (fields : List Field) (q : TreeForm) (input : List ℕ)
+        → IsOutcome fields q input limit outcome → IsWhole fields q input partial) }
+    ensures limit { IfOk result (λ _. (fields : List Field) (q : TreeForm) (input : List ℕ)
+        → IsOutcome fields q input limit outcome → IsWithin limit (length (refused fields input))) }
+    ensures fault { IfErr result (λ fault. (fields : List Field) (q : TreeForm) (input : List ℕ)
+        → IsOutcome fields q input limit outcome → Refuses fault limit (length (refused fields input))) }
+{
+    match (outcome, limit) {
+        (Outcome::Whole(partial), _) => Ok(partial),
+        (Outcome::Over, Some(most)) => Err(RunFault::TooManyRefused(most)),
+        (Outcome::Over, None) => unreachable!(),
+    }
+}
