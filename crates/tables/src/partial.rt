@@ -5,6 +5,7 @@ ghost use Rattle.tables.specs.Sets.{AreAllWithin};
 
 use crate::folding::{Folding, read_lines};
 use crate::grouped::Groups;
+use crate::laws::members_law;
 use crate::note::Note;
 use crate::numbering::number;
 use crate::rows::rows_of;
@@ -44,6 +45,7 @@ impl Partial {
     ghost use Rattle.tables.specs.Partials.{GivesGroups, HaveOneShape, IsPartialOf, IsResultOf, StandsFor, lines_counted, refused_counted};
     ghost use Rattle.tables.specs.Pieces.{AreInOrder, AreNumbered, HaveOwnIndexes, IndexedPiece, IsCutInto, all_lines, records_of, refused_numbered, refused_within};
     ghost use Rattle.tables.specs.Fitting.{AreFitting};
+    ghost use Rattle.tables.specs.Members.{HasEachRecordOnce};
 
     /// The result over no pieces.
     ///
@@ -218,6 +220,9 @@ impl Partial {
             → GivesGroups (fields_of_plan plan.now) (form_of_plan plan.now) groups (records_of (fields_of_plan plan.now) pieces)) }
         ensures fit { IfOk result (λ groups. (pieces : List IndexedPiece) → StandsFor (fields_of_plan plan.now) (form_of_plan plan.now) self pieces
             → AreFitting (fields_of_plan plan.now) (form_of_plan plan.now) (found_in groups)) }
+        // Each record that WHERE keeps is a member of one row of each grouping set.
+        ensures members { IfOk result (λ groups. (pieces : List IndexedPiece) → StandsFor (fields_of_plan plan.now) (form_of_plan plan.now) self pieces
+            → HasEachRecordOnce (fields_of_plan plan.now) (form_of_plan plan.now) (found_in groups) (records_of (fields_of_plan plan.now) pieces)) }
         // The refused lines, where no two pieces have one index.
         ensures numbered { IfOk result (λ groups. (pieces : List IndexedPiece) → StandsFor (fields_of_plan plan.now) (form_of_plan plan.now) self pieces
             → HaveOwnIndexes pieces → AreNumbered (fields_of_plan plan.now) pieces (refused_in groups)) }
@@ -236,6 +241,7 @@ impl Partial {
         } = self;
         let rows = rows_of(alloc, tables)?;
         let refused = number(alloc, notes)?;
+        members_law();
         Ok(Groups::new(rows, refused))
     }
 }

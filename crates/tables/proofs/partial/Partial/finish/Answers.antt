@@ -39,6 +39,15 @@ returns-clause-fit c = λ pieces p.
     (subst (λ (fs : List Found). SameBag fs found) (sym c.new.ensures.rows) (c.in_ok-rows.ensures (sets_of fields q) (functions_of fields q) rows p.tables))
     (kept-fits fields q pieces)
 
+pub returns-clause-members : goal.returns-clause-members
+returns-clause-members c = λ pieces p.
+    let fields = fields_of_plan c.args.plan.now in
+    let q = form_of_plan c.args.plan.now in
+    let rows = records_of fields pieces in
+    c.members_law.ensures fields q c.new.result rows
+    (subst (λ (fs : List Found). SameBag fs (query_found fields q rows)) (sym c.new.ensures.rows)
+    (c.in_ok-rows.ensures (sets_of fields q) (functions_of fields q) (kept fields q rows) p.tables))
+
 pub returns-clause-numbered : goal.returns-clause-numbered
 returns-clause-numbered c = λ pieces p own.
     let fields = fields_of_plan c.args.plan.now in
