@@ -2,6 +2,7 @@
 ghost use Rattle.std.specs.Prelude.{◌≡◌, ◌≢◌, IfErr, IfOk, OnOk, Some};
 ghost use Rattle.query_check.specs.Faults.{query_fault};
 ghost use Rattle.query_check.specs.Resolution.{resolution_of};
+ghost use Rattle.query_check.specs.Standing.{Stands};
 ghost use Rattle.query_check.specs.Typing.{IsTyped};
 ghost use Rattle.query_fault.specs.declared.QueryFault.TheVariants.{OutOfMemory};
 ghost use Rattle.query_tree.specs.Syntax.{tree_form};
@@ -34,6 +35,8 @@ pub fn check(alloc: Global, query: Query, schema: Schema) -> Result<Plan, QueryF
     ensures untyped { IfErr result (λ fault. fault ≢ OutOfMemory → IsTyped schema (form_of query) → ⊥) }
     // A fault is the first.
     ensures fault { IfErr result (λ fault. fault ≢ OutOfMemory → query_fault schema (form_of query) ≡ Some fault) }
+    // A fault stands in the query.
+    ensures stands { IfErr result (λ fault. fault ≢ OutOfMemory → Stands schema (form_of query) fault) }
 {
     match resolve(alloc, query.tree(), &schema) {
         Ok((resolved, condition)) => Ok(Plan::new(query, schema, resolved, condition)),
@@ -56,6 +59,7 @@ fn resolve(
     ensures condition { IfOk result (λ r. IsConditionOf schema.now (tree_form tree.now).filter r.1) }
     ensures untyped { IfErr result (λ fault. fault ≢ OutOfMemory → IsTyped schema.now (tree_form tree.now) → ⊥) }
     ensures fault { IfErr result (λ fault. fault ≢ OutOfMemory → query_fault schema.now (tree_form tree.now) ≡ Some fault) }
+    ensures stands { IfErr result (λ fault. fault ≢ OutOfMemory → Stands schema.now (tree_form tree.now) fault) }
 {
     let resolved = check_tree(alloc, tree, schema)?;
     let condition = bind_filter(alloc, schema.columns(), &tree.filter)?;
