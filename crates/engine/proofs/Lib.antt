@@ -6,3 +6,4 @@ pub mod Named
 pub mod Shown
 pub mod Outcomes
 pub mod Pooled
+mod Sharing

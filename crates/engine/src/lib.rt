@@ -11,5 +11,5 @@ mod working;
 mod writing;
 
 pub use fault::RunFault;
-pub use running::{Done, run_alone};
+pub use running::{Done, run, run_alone};
 pub use serving::serve;

@@ -14,13 +14,16 @@ ghost use Rattle.engine.specs.Run.{IsDecided, IsUnwritten, IsWithin, Leaves, Ref
 
 use crate::fault::RunFault;
 use crate::reading::read_all;
-use crate::working::whole_alone;
+use crate::working::{whole_alone, whole_among};
 use crate::writing::put_both;
 use command_line::Options;
 use query::Plan;
 use report::{arrange, arranged_law, refused_text, report_text};
 use std::alloc::{AllocError, Global};
 use std::io::{Read, Write};
+use std::marker::Sync;
+use std::sync::Wait;
+use std::thread::Threads;
 use tables::{Groups, Partial};
 
 /// The counts of an input.
@@ -41,17 +44,59 @@ struct Texts {
     refused: Vec<u8>,
 }
 
-/// Answers the query of a plan over what a reader gives, on the calling thread: writes the report to
-/// `out` and flushes it, and then the list of refused lines to `err` and flushes it. The number of
-/// workers is not looked at.
+/// Answers the query of a plan over what a reader gives, by as many threads as there are workers, the
+/// calling one among them: writes the report to `out` and flushes it, and then the list of refused
+/// lines to `err` and flushes it. What is written does not depend on the number of workers, on the
+/// size of a piece or on which thread works on which piece.
 ///
 /// # Errors
 ///
 /// `Reading` where a read fails or the input has 2^63 bytes or more, `OutOfMemory` where memory runs
-/// out, `TooManyRefused` where more lines are refused than the options allow: then nothing was
-/// written. `WritingReport` where a write or the flush of the report fails: then a beginning of it
-/// was written, and nothing of the list. `WritingRefused` where a write or the flush of the list
-/// fails: then the report was written, and a beginning of the list. Never `ThreadNotStarted`.
+/// out, `ThreadNotStarted` where a thread cannot be started, which one worker never answers,
+/// `TooManyRefused` where more lines are refused than the options allow: then nothing was written.
+/// `WritingReport` where a write or the flush of the report fails: then a beginning of it was
+/// written, and nothing of the list. `WritingRefused` where a write or the flush of the list fails:
+/// then the report was written, and a beginning of the list.
+pub fn run<R: Read + Drop, O: Write, E: Write, H: Threads + Wait + Sync>(
+    rt: &H,
+    alloc: Global,
+    plan: &Plan,
+    options: Options,
+    reader: R,
+    out: &mut O,
+    err: &mut E,
+) -> Result<Done, RunFault>
+    ensures report { OnOk result (IfSome (R.remaining reader) (λ input.
+        Appends (O.contents out.old) (O.contents out.new)
+        (report (fields_of_plan plan.now) (form_of_plan plan.now) input))) }
+    ensures refusals { OnOk result (IfSome (R.remaining reader) (λ input.
+        Appends (E.contents err.old) (E.contents err.new) (refusals (fields_of_plan plan.now) input))) }
+    ensures lines { IfOk result (λ done. IfSome (R.remaining reader) (λ input.
+        done.lines ≡ length (lines input))) }
+    ensures refused { IfOk result (λ done. IfSome (R.remaining reader) (λ input.
+        done.refused ≡ length (refused (fields_of_plan plan.now) input))) }
+    ensures limit { IfOk result (λ done. IsWithin options.max_refused done.refused) }
+    // Where nothing is refused to it, the limit alone decides.
+    ensures decided { IfSome (R.remaining reader) (λ input.
+        IsDecided result options.max_refused (length (refused (fields_of_plan plan.now) input))) }
+    ensures fault { IfErr result (λ fault. Leaves fault options.max_refused
+        (fields_of_plan plan.now) (form_of_plan plan.now) (R.remaining reader)
+        (O.contents out.old) (O.contents out.new) (E.contents err.old) (E.contents err.new)) }
+    // One worker starts no thread.
+    ensures started { options.workers ≡ 1 → IfErr result (λ fault. fault ≢ RunFault.ThreadNotStarted) }
+{
+    let input = read_all(alloc, reader)?;
+    let bytes = input.as_slice();
+    let whole = whole_among(rt, alloc, plan, options, bytes);
+    write_whole(alloc, plan, options.max_refused(), bytes, whole, out, err)
+}
+
+/// Does what `run` does on the calling thread, without a thread of its own. The number of workers is
+/// not looked at.
+///
+/// # Errors
+///
+/// Those of `run`, but never `ThreadNotStarted`.
 pub fn run_alone<R: Read + Drop, O: Write, E: Write>(
     alloc: Global,
     plan: &Plan,

@@ -9,13 +9,16 @@ ghost use Rattle.engine.specs.Explanation.{Explains, IsAnswerable, explanation};
 
 use crate::explaining::explanation;
 use crate::fault::RunFault;
-use crate::running::run_alone;
+use crate::running::run;
 use crate::writing::put;
 use clap::error::ErrorKind;
 use command_line::{Settings, WordsFault};
 use query::{Plan, QueryFault, check, parse};
 use std::alloc::{AllocError, Global};
 use std::io::{Read, Write};
+use std::marker::Sync;
+use std::sync::Wait;
+use std::thread::Threads;
 use thiserror::Error;
 use values::{Schema, SchemaFault};
 
@@ -116,7 +119,14 @@ fn run_status(fault: &RunFault) -> u8
 ///
 /// `opener` is called once at most, only once the words, the schema and the query are good, and not
 /// where an explanation is asked for.
-pub fn serve<R: Read + Drop, O: Write, E: Write, F: FnMut(&str) -> Option<R>>(
+pub fn serve<
+    R: Read + Drop,
+    O: Write,
+    E: Write,
+    F: FnMut(&str) -> Option<R>,
+    H: Threads + Wait + Sync,
+>(
+    rt: &H,
     alloc: Global,
     asked: Result<Settings<'_>, WordsFault>,
     opener: &mut F,
@@ -131,7 +141,7 @@ pub fn serve<R: Read + Drop, O: Write, E: Write, F: FnMut(&str) -> Option<R>>(
         → Explains settings.columns.now settings.query.now (O.contents out.old) (O.contents out.new)) }
 {
     match asked {
-        Ok(settings) => match carried_out(alloc, settings, opener, out, err) {
+        Ok(settings) => match carried_out(rt, alloc, settings, opener, out, err) {
             Ok(status) => status,
             Err(ending) => ended(alloc, &ending, err),
         },
@@ -153,7 +163,14 @@ fn plan_of(alloc: Global, settings: Settings<'_>) -> Result<Plan, Ending>
 }
 
 /// Explains the query that is asked for, or answers it over the file that is asked for.
-fn carried_out<R: Read + Drop, O: Write, E: Write, F: FnMut(&str) -> Option<R>>(
+fn carried_out<
+    R: Read + Drop,
+    O: Write,
+    E: Write,
+    F: FnMut(&str) -> Option<R>,
+    H: Threads + Wait + Sync,
+>(
+    rt: &H,
     alloc: Global,
     settings: Settings<'_>,
     opener: &mut F,
@@ -172,7 +189,7 @@ fn carried_out<R: Read + Drop, O: Write, E: Write, F: FnMut(&str) -> Option<R>>(
     let Some(reader) = opener(settings.file) else {
         return Err(Ending::NotOpened);
     };
-    let done = run_alone(alloc, &plan, settings.options, reader, out, err).map_err(Ending::Run)?;
+    let done = run(rt, alloc, &plan, settings.options, reader, out, err).map_err(Ending::Run)?;
     Ok(if done.refused == 0 { 0 } else { 1 })
 }
 

@@ -10,9 +10,12 @@ ghost use Rattle.engine.specs.Run.{IsUnwritten, IsWithin, Refuses};
 use crate::cutting::pieces_of;
 use crate::fault::RunFault;
 use command_line::Options;
-use pool::{Outcome, alone};
+use pool::{Outcome, alone, fan_out};
 use query::Plan;
 use std::alloc::Global;
+use std::marker::Sync;
+use std::sync::Wait;
+use std::thread::Threads;
 use tables::{Job, Partial, job_law};
 
 /// The result of a query over an input, worked on in pieces on the calling thread.
@@ -34,6 +37,39 @@ pub(crate) fn whole_alone(
     let job = Job::new(alloc, plan, input, pieces.as_slice());
     let limit = options.max_refused();
     match alone(&job, pieces.len() as u32, limit.unwrap_or(u64::MAX)) {
+        Ok(outcome) => decided(limit, outcome),
+        Err(fault) => Err(RunFault::from(fault)),
+    }
+}
+
+/// The result of a query over an input, worked on in pieces by as many threads as there are workers, the calling one
+/// among them.
+pub(crate) fn whole_among<H: Threads + Wait + Sync>(
+    rt: &H,
+    alloc: Global,
+    plan: &Plan,
+    options: Options,
+    input: &[u8],
+) -> Result<Partial, RunFault>
+    requires { length input.now < 2 ^ 63 }
+    ensures whole { IfOk result (IsWhole (fields_of_plan plan.now) (form_of_plan plan.now) input.now) }
+    ensures limit { IfOk result (λ _. IsWithin options.max_refused (length (refused (fields_of_plan plan.now) input.now))) }
+    ensures fault { IfErr result (λ fault. IsUnwritten fault
+        ⊎ Refuses fault options.max_refused (length (refused (fields_of_plan plan.now) input.now))) }
+    ensures started { options.workers ≡ 1 → IfErr result (λ fault. fault ≢ RunFault.ThreadNotStarted) }
+{
+    let pieces = pieces_of(alloc, input, options.piece())?;
+    job_law();
+    let job = Job::new(alloc, plan, input, pieces.as_slice());
+    let limit = options.max_refused();
+    match fan_out(
+        rt,
+        alloc,
+        &job,
+        pieces.len() as u32,
+        options.workers(),
+        limit.unwrap_or(u64::MAX),
+    ) {
         Ok(outcome) => decided(limit, outcome),
         Err(fault) => Err(RunFault::from(fault)),
     }

@@ -5,7 +5,10 @@ use command_line::{Settings, WordsFault, settings};
 use engine::serve;
 use std::alloc::{AllocError, Global};
 use std::fs::File;
+use std::marker::Sync;
 use std::process::ExitCode;
+use std::sync::Wait;
+use std::thread::Threads;
 use std::{env, io};
 
 /// Want of memory, in place of settings.
@@ -27,24 +30,28 @@ fn texts_of(alloc: Global, words: &[String]) -> Result<Vec<&str>, AllocError> {
     words.iter().map(|word| word.as_str()).collect(alloc)
 }
 
-/// Does what is asked for, with the standard streams and the real files.
-fn serve_here(rt: &HostRuntime, asked: Result<Settings<'_>, WordsFault>) -> u8 {
+/// Does what is asked for, with the standard streams, the real files and threads.
+fn serve_here(
+    rt: &HostRuntime,
+    threads: &(impl Threads + Wait + Sync),
+    asked: Result<Settings<'_>, WordsFault>,
+) -> u8 {
     let (mut out, mut err) = (rt.stdout(), rt.stderr());
     let mut opener = |path: &str| File::open(rt, path).ok();
-    serve(rt.alloc(), asked, &mut opener, &mut out, &mut err)
+    serve(threads, rt.alloc(), asked, &mut opener, &mut out, &mut err)
 }
 
 /// Does what words ask for.
-fn serve_words(rt: &HostRuntime, words: &[String]) -> u8 {
+fn serve_words(rt: &HostRuntime, threads: &(impl Threads + Wait + Sync), words: &[String]) -> u8 {
     match texts_of(rt.alloc(), words) {
-        Ok(texts) => serve_here(rt, settings(rt.alloc(), texts.as_slice())),
-        Err(error) => serve_here(rt, Err(out_of_memory(error))),
+        Ok(texts) => serve_here(rt, threads, settings(rt.alloc(), texts.as_slice())),
+        Err(error) => serve_here(rt, threads, Err(out_of_memory(error))),
     }
 }
 
 fn main(rt: HostRuntime) -> ExitCode {
     ExitCode::from(match words_of(&rt) {
-        Ok(words) => serve_words(&rt, words.as_slice()),
-        Err(fault) => serve_here(&rt, Err(fault)),
+        Ok(words) => serve_words(&rt, &rt, words.as_slice()),
+        Err(fault) => serve_here(&rt, &rt, Err(fault)),
     })
 }

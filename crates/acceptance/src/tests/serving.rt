@@ -4,7 +4,10 @@ use super::streams::Sink;
 use command_line::settings;
 use engine::serve;
 use std::alloc::Global;
+use std::marker::Sync;
 use std::process::Abort;
+use std::sync::Wait;
+use std::thread::Threads;
 
 const SUM: &str = "SELECT SUM(q) FROM lines";
 
@@ -24,7 +27,7 @@ const AN_EXPLANATION: &[&str] = &[
 
 /// Asserts that the program ends with 3, and has then written so many bytes of a text.
 fn assert_not_written(
-    rt: &impl Abort,
+    rt: &(impl Abort + Threads + Wait + Sync),
     alloc: Global,
     words: &[&str],
     (room, flushes): (usize, bool),
@@ -39,7 +42,7 @@ fn assert_not_written(
     let mut err = Vec::new(alloc);
     let mut opener = |_path: &str| Some(THREE);
     let asked = settings(alloc, words);
-    assert_eq!(rt; serve(alloc, asked, &mut opener, &mut out, &mut err), 3);
+    assert_eq!(rt; serve(rt, alloc, asked, &mut opener, &mut out, &mut err), 3);
     assert_eq!(rt; out.taken.as_slice(), written);
     assert_eq!(rt;
         err.as_slice(),
@@ -64,7 +67,7 @@ fn outputs_that_are_not_written(rt: HostRuntime) {
 
 /// Asserts that the program writes this and ends so, or, where memory is refused, says so and ends with 4.
 fn assert_served(
-    rt: &impl Abort,
+    rt: &(impl Abort + Threads + Wait + Sync),
     alloc: Global,
     words: &[&str],
     (status, report, told): (u8, &[u8], &[u8]),
@@ -73,7 +76,7 @@ fn assert_served(
     let (mut out, mut err) = (room.as_mut_slice(), note.as_mut_slice());
     let mut opener = |_path: &str| Some(THREE);
     let asked = settings(alloc, words);
-    let met = serve(alloc, asked, &mut opener, &mut out, &mut err);
+    let met = serve(rt, alloc, asked, &mut opener, &mut out, &mut err);
     if met == status {
         assert!(rt; room.starts_with(report));
         assert!(rt; note.starts_with(told));
