@@ -27,7 +27,7 @@ const COLUMNS_HELP: &str = "The columns that the query can name, as NAME:TYPE,NA
 const QUERY_HELP: &str = "The query to answer";
 
 /// What help says of the number of workers.
-const WORKERS_HELP: &str = "How many workers there are, 1 to 64; so far one does all of the work";
+const WORKERS_HELP: &str = "How many threads share the work, 1 to 64";
 
 /// What help says of the size of a piece.
 const PIECE_HELP: &str = "How many bytes are worked on at once, 1 to 67108864";
