@@ -4,12 +4,12 @@ ghost use Rattle.std.specs.Prelude.{◌≡◌, ◌++◌, codes, IfOk, map, OnOk,
 ghost use Rattle.std.specs.Option.{option_map};
 ghost use Rattle.values.specs.Schema.{fields_of};
 ghost use Rattle.query_print.specs.Canonical.{alias_text, canonical_text, comma_list, direction_text, group_texts, header_text, item_text, key_text, list_clause, name_at, names_text, nulls_text, predicate_clause, set_text};
-ghost use Rattle.query_tree.specs.Syntax.{group_form, group_forms, item_form, key_form, predicate_form, tree_form};
+ghost use Rattle.query_tree.specs.Syntax.{element_form, element_forms, item_form, key_form, predicate_form, tree_form};
 
 use crate::groups::push_groups;
 use crate::predicates::{push_expression, push_predicate};
 use query_tokens::push_name;
-use query_tree::{Group, Item, Key, Predicate, Tree};
+use query_tree::{GroupingElement, Item, Key, Predicate, Tree};
 use std::alloc::{AllocError, Global};
 use values::{Column, Schema};
 
@@ -21,9 +21,9 @@ pub fn print_tree(alloc: Global, tree: &Tree) -> Result<String, AllocError>
     out.push_str("SELECT ")?;
     push_items(&mut out, &tree.items)?;
     out.push_str(" FROM lines")?;
-    push_predicate_clause(&mut out, " WHERE ", &tree.filter)?;
+    push_predicate_clause(&mut out, " WHERE ", &tree.where_condition)?;
     push_group_by(&mut out, &tree.groups)?;
-    push_predicate_clause(&mut out, " HAVING ", &tree.having)?;
+    push_predicate_clause(&mut out, " HAVING ", &tree.having_condition)?;
     push_order_by(&mut out, &tree.keys)?;
     Ok(out)
 }
@@ -163,8 +163,8 @@ fn push_predicate_clause(
 }
 
 /// Writes GROUP BY at the end, where it has an element.
-fn push_group_by(out: &mut String, groups: &[Group]) -> Result<(), AllocError>
-    ensures { OnOk result (string_bytes out.new ≡ string_bytes out.old ++ list_clause (codes " GROUP BY ") (group_texts (group_forms (map group_form groups.now)))) }
+fn push_group_by(out: &mut String, groups: &[GroupingElement]) -> Result<(), AllocError>
+    ensures { OnOk result (string_bytes out.new ≡ string_bytes out.old ++ list_clause (codes " GROUP BY ") (group_texts (element_forms (map element_form groups.now)))) }
 {
     if groups.is_empty() {
         return Ok(());

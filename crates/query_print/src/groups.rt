@@ -2,11 +2,11 @@
 
 ghost use Rattle.std.specs.Prelude.{◌≡◌, ◌++◌, map, OnOk, string_bytes};
 ghost use Rattle.query_print.specs.Canonical.{comma_list, group_text, group_texts, in_brackets, unit_text};
-ghost use Rattle.query_tree.specs.Syntax.{group_form, group_forms, units_form};
+ghost use Rattle.query_tree.specs.Syntax.{element_form, element_forms, units_form};
 
 use crate::leaves::push_names;
 use query_tokens::push_name;
-use query_tree::{Group, Text};
+use query_tree::{GroupingElement, Text};
 use std::alloc::AllocError;
 
 /// Writes a set or a unit at the end: one name is that name, all else stands in brackets.
@@ -38,22 +38,22 @@ fn push_units(out: &mut String, units: &[Vec<Text>]) -> Result<(), AllocError>
 
 /// Writes an element of GROUP BY at the end.
 #[cycle(push_group)]
-pub(crate) fn push_group(out: &mut String, group: &Group) -> Result<(), AllocError>
-    ensures { OnOk result (string_bytes out.new ≡ string_bytes out.old ++ group_text (group_form group.now)) }
+pub(crate) fn push_group(out: &mut String, group: &GroupingElement) -> Result<(), AllocError>
+    ensures { OnOk result (string_bytes out.new ≡ string_bytes out.old ++ group_text (element_form group.now)) }
 {
     match group {
-        Group::Set(names) => push_unit(out, names),
-        Group::Rollup(units) => {
+        GroupingElement::Set(names) => push_unit(out, names),
+        GroupingElement::Rollup(units) => {
             out.push_str("ROLLUP (")?;
             push_units(out, units)?;
             out.push_str(")")
         }
-        Group::Cube(units) => {
+        GroupingElement::Cube(units) => {
             out.push_str("CUBE (")?;
             push_units(out, units)?;
             out.push_str(")")
         }
-        Group::Sets(groups) => {
+        GroupingElement::Sets(groups) => {
             out.push_str("GROUPING SETS ")?;
             push_bracketed(out, groups)
         }
@@ -62,8 +62,8 @@ pub(crate) fn push_group(out: &mut String, group: &Group) -> Result<(), AllocErr
 
 /// Writes elements of GROUPING SETS at the end, in brackets.
 #[cycle(push_group)]
-fn push_bracketed(out: &mut String, groups: &[Group]) -> Result<(), AllocError>
-    ensures { OnOk result (string_bytes out.new ≡ string_bytes out.old ++ in_brackets (comma_list (group_texts (group_forms (map group_form groups.now))))) }
+fn push_bracketed(out: &mut String, groups: &[GroupingElement]) -> Result<(), AllocError>
+    ensures { OnOk result (string_bytes out.new ≡ string_bytes out.old ++ in_brackets (comma_list (group_texts (element_forms (map element_form groups.now))))) }
 {
     out.push_str("(")?;
     push_groups(out, groups)?;
@@ -72,8 +72,8 @@ fn push_bracketed(out: &mut String, groups: &[Group]) -> Result<(), AllocError>
 
 /// Writes elements of GROUP BY at the end, with commas.
 #[cycle(push_group)]
-pub(crate) fn push_groups(out: &mut String, groups: &[Group]) -> Result<(), AllocError>
-    ensures { OnOk result (string_bytes out.new ≡ string_bytes out.old ++ comma_list (group_texts (group_forms (map group_form groups.now)))) }
+pub(crate) fn push_groups(out: &mut String, groups: &[GroupingElement]) -> Result<(), AllocError>
+    ensures { OnOk result (string_bytes out.new ≡ string_bytes out.old ++ comma_list (group_texts (element_forms (map element_form groups.now)))) }
 {
     let [first, others @ ..] = groups else {
         return Ok(());

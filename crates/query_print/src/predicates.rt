@@ -50,7 +50,7 @@ pub(crate) fn push_expression(out: &mut String, expression: &Expression) -> Resu
     }
 }
 
-/// Writes the filter of a set function at the end.
+/// Writes the FILTER of a set function at the end.
 #[cycle(push_expression)]
 fn push_filter(out: &mut String, predicate: &Predicate) -> Result<(), AllocError>
     ensures { OnOk result (string_bytes out.new ≡ string_bytes out.old ++ (codes " FILTER (WHERE " ++ predicate_text (predicate_form predicate.now) ++ codes ")")) }
