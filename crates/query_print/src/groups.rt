@@ -1,39 +1,33 @@
 //! The elements of GROUP BY.
 
 ghost use Rattle.std.specs.Prelude.{◌≡◌, ◌++◌, map, OnOk, string_bytes};
-ghost use Rattle.query_print.specs.Canonical.{comma_list, group_text, group_texts, in_brackets, unit_text};
-ghost use Rattle.query_tree.specs.Syntax.{element_form, element_forms, units_form};
+ghost use Rattle.query_print.specs.Canonical.{comma_list, group_text, group_texts, in_brackets};
+ghost use Rattle.query_tree.specs.Syntax.{element_form, element_forms};
 
-use crate::leaves::push_names;
+use crate::lists::{Written, write_list};
 use query_tokens::push_name;
 use query_tree::{GroupingElement, Text};
 use std::alloc::AllocError;
 
-/// Writes a set or a unit at the end: one name is that name, all else stands in brackets.
-fn push_unit(out: &mut String, names: &[Text]) -> Result<(), AllocError>
-    ensures { OnOk result (string_bytes out.new ≡ string_bytes out.old ++ unit_text names.now) }
-{
-    if let [name] = names {
-        return push_name(out, name.as_str());
-    }
-    out.push_str("(")?;
-    push_names(out, names)?;
-    out.push_str(")")
-}
+/// A set or a unit: one name is that name, all else stands in brackets.
+impl Written for Vec<Text> {
+    ghost use Rattle.std.specs.Prelude.{ℕ, List};
+    ghost use Rattle.query_print.specs.Canonical.{unit_text};
 
-/// Writes units at the end, with commas.
-fn push_units(out: &mut String, units: &[Vec<Text>]) -> Result<(), AllocError>
-    ensures { OnOk result (string_bytes out.new ≡ string_bytes out.old ++ comma_list (map unit_text (units_form units.now))) }
-{
-    let [first, others @ ..] = units else {
-        return Ok(());
-    };
-    push_unit(out, first)?;
-    for unit in others {
-        out.push_str(", ")?;
-        push_unit(out, unit)?;
+    ghost Form = { List (List ℕ) };
+
+    ghost form = { λ unit. unit.items };
+
+    ghost text = { unit_text };
+
+    fn write(&self, out: &mut String) -> Result<(), AllocError> {
+        if let [name] = self.as_slice() {
+            return push_name(out, name.as_str());
+        }
+        out.push_str("(")?;
+        write_list(out, self)?;
+        out.push_str(")")
     }
-    Ok(())
 }
 
 /// Writes an element of GROUP BY at the end.
@@ -42,15 +36,15 @@ pub(crate) fn push_group(out: &mut String, group: &GroupingElement) -> Result<()
     ensures { OnOk result (string_bytes out.new ≡ string_bytes out.old ++ group_text (element_form group.now)) }
 {
     match group {
-        GroupingElement::Set(names) => push_unit(out, names),
+        GroupingElement::Set(names) => names.write(out),
         GroupingElement::Rollup(units) => {
             out.push_str("ROLLUP (")?;
-            push_units(out, units)?;
+            write_list(out, units)?;
             out.push_str(")")
         }
         GroupingElement::Cube(units) => {
             out.push_str("CUBE (")?;
-            push_units(out, units)?;
+            write_list(out, units)?;
             out.push_str(")")
         }
         GroupingElement::Sets(groups) => {
