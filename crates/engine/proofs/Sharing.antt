@@ -2,10 +2,10 @@
 use denote.Param.Send.{IsSync, sendable}
 use denote.Ref.{NamedLft}
 use Rattle.std.proofs.Crossing as std
-use Rattle.query_tree.proofs.group.Group.TheLaws.TheKnot as group
+use Rattle.query_tree.proofs.group.GroupingElement.TheLaws.TheKnot as group
 use Rattle.query_tree.proofs.expression.Expression.TheLaws.TheKnot as expression
 use Rattle.query_truth.proofs.condition.Condition.TheLaws.TheKnot as condition
-use Rattle.query_tree.specs.contracts.group.Group as Group
+use Rattle.query_tree.specs.contracts.group.GroupingElement as GroupingElement
 use Rattle.query_tree.specs.contracts.expression.Expression as Expression
 use Rattle.query_tree.specs.contracts.expression.Predicate as Predicate
 use Rattle.query_tree.specs.contracts.tree.Tree as Tree
@@ -13,7 +13,7 @@ use Rattle.query_truth.specs.contracts.condition.Condition as Condition
 use Rattle.query.specs.contracts.plan.Plan as Plan
 use Rattle.tables.specs.contracts.job.Job as Job
 
-group_sync : IsSync (Group.the_field).row
+group_sync : IsSync (GroupingElement.the_field).row
 group_sync = search (std.crosses, group.crosses, sendable) depth 60 fits 20000
 
 expression_sync : IsSync (Expression.the_field).row

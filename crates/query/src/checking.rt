@@ -15,7 +15,7 @@ use crate::query::Query;
 use query_check::{Resolved, check_tree};
 use query_fault::QueryFault;
 use query_tree::Tree;
-use query_truth::{Condition, bind_filter};
+use query_truth::{Condition, bind_where};
 use std::alloc::Global;
 use values::Schema;
 
@@ -56,12 +56,12 @@ fn resolve(
 ) -> Result<(Resolved, Option<Condition>), QueryFault>
     ensures typed { OnOk result (IsTyped schema.now (tree_form tree.now)) }
     ensures resolved { IfOk result (λ r. r.0 ≡ resolution_of schema.now (tree_form tree.now)) }
-    ensures condition { IfOk result (λ r. IsConditionOf schema.now (tree_form tree.now).filter r.1) }
+    ensures condition { IfOk result (λ r. IsConditionOf schema.now (tree_form tree.now).where_condition r.1) }
     ensures untyped { IfErr result (λ fault. fault ≢ OutOfMemory → IsTyped schema.now (tree_form tree.now) → ⊥) }
     ensures fault { IfErr result (λ fault. fault ≢ OutOfMemory → query_fault schema.now (tree_form tree.now) ≡ Some fault) }
     ensures stands { IfErr result (λ fault. fault ≢ OutOfMemory → Stands schema.now (tree_form tree.now) fault) }
 {
     let resolved = check_tree(alloc, tree, schema)?;
-    let condition = bind_filter(alloc, schema.columns(), &tree.filter)?;
+    let condition = bind_where(alloc, schema.columns(), &tree.where_condition)?;
     Ok((resolved, condition))
 }

@@ -12,7 +12,7 @@ use values::{Record, Truth};
 /// record where WHERE is not written. It takes no memory.
 pub fn holds(plan: &Plan, row: &Record) -> Truth
     requires { Fits (fields_of_plan plan.now) row.now }
-    ensures { result ≡ where_truth (fields_of_plan plan.now) (form_of_plan plan.now).filter row.now }
+    ensures { result ≡ where_truth (fields_of_plan plan.now) (form_of_plan plan.now).where_condition row.now }
 {
-    plan.filter_truth(row.values())
+    plan.where_truth(row.values())
 }

@@ -24,5 +24,6 @@ pub use query::Query;
 pub use query_check::ColumnFunction;
 pub use query_fault::QueryFault;
 pub use query_tree::{
-    Aggregate, Expression, Group, Item, Key, Literal, Operand, Predicate, SetFunction, Text, Tree,
+    Aggregate, Expression, GroupingElement, Item, Key, Literal, Operand, Predicate, SetFunction,
+    Text, Tree,
 };

@@ -7,7 +7,7 @@ ghost use Rattle.query.specs.Form.{form_of};
 
 use crate::query::Query;
 use query_check::{ColumnFunction, Resolved};
-use query_truth::{Condition, filter_truth};
+use query_truth::{Condition, bound_truth};
 use values::{Schema, Truth, Value};
 
 /// A query that is typed under the schema that it holds, with what its names stand for there. Only
@@ -20,7 +20,7 @@ pub struct Plan {
     condition: Option<Condition>,
     ghost typed: { ∥ IsTyped schema (form_of query) ∥₁ },
     ghost resolution: { ∥ resolved ≡ resolution_of schema (form_of query) ∥₁ },
-    ghost filter: { ∥ IsConditionOf schema (form_of query).filter condition ∥₁ },
+    ghost condition_is: { ∥ IsConditionOf schema (form_of query).where_condition condition ∥₁ },
 }
 
 impl Plan {
@@ -42,7 +42,7 @@ impl Plan {
     ) -> Plan
         requires typed { IsTyped schema (form_of query) }
         requires resolution { resolved ≡ resolution_of schema (form_of query) }
-        requires filter { IsConditionOf schema (form_of query).filter condition }
+        requires condition { IsConditionOf schema (form_of query).where_condition condition }
         ensures query { form_of_plan result ≡ form_of query }
         ensures schema { fields_of_plan result ≡ schema }
     {
@@ -94,10 +94,10 @@ impl Plan {
     }
 
     /// The truth value of WHERE for the values of a record that fits the schema.
-    pub(crate) fn filter_truth(&self, values: &[Value]) -> Truth
+    pub(crate) fn where_truth(&self, values: &[Value]) -> Truth
         requires { Fits (fields_of_plan self.now) (data_of values.now) }
-        ensures { result ≡ where_truth (fields_of_plan self.now) (form_of_plan self.now).filter (data_of values.now) }
+        ensures { result ≡ where_truth (fields_of_plan self.now) (form_of_plan self.now).where_condition (data_of values.now) }
     {
-        filter_truth(&self.condition, values)
+        bound_truth(&self.condition, values)
     }
 }

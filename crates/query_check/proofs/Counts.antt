@@ -5,8 +5,8 @@ use Rattle.std.proofs.lemmas.Bool.{cases_lt}
 use Rattle.std.proofs.lemmas.Bool.Decides.{nat_tests}
 use Rattle.std.proofs.lemmas.List.{length-map}
 use Rattle.std.proofs.Math.Nat.{mul_assoc, mul_comm, mul-le-mul_left, pow-suc}
-use Rattle.query_tree.specs.declared.group.Group.TheVariants as variant
-use Rattle.query_tree.specs.Syntax.{GroupForm, group_form, units_form}
+use Rattle.query_tree.specs.declared.group.GroupingElement.TheVariants as variant
+use Rattle.query_tree.specs.Syntax.{ElementForm, element_form, units_form}
 use Rattle.query_fault.specs.declared.QueryFault.TheVariants.{OverLimit}
 use Rattle.query_check.specs.Faults.{fault_unless, limit_fault}
 use Rattle.query_check.specs.Sets.{crossed, cube_sets, group_sets, rollup_sets}
@@ -28,12 +28,12 @@ length_crossed [] ys = omega arith
 length_crossed (x ∷ xs) ys = omega (arith, length_crossed xs ys, length-append (map (λ s. x ++ s) ys) (crossed xs ys), length-map ys (λ s. x ++ s))
 
 -- How many sets a ROLLUP of the program stands for.
-pub rollup_count : (v : Vec (Vec (List ℕ))) → length (group_sets (group_form (variant.Rollup v))) ≡ length v.items + 1
-rollup_count v = ap (λ (g : GroupForm). length (group_sets g)) (rollup_form v) ∙ omega (arith, length_rollup (units_form v.items), length-map v.items (λ u. u.items))
+pub rollup_count : (v : Vec (Vec (List ℕ))) → length (group_sets (element_form (variant.Rollup v))) ≡ length v.items + 1
+rollup_count v = ap (λ (g : ElementForm). length (group_sets g)) (rollup_form v) ∙ omega (arith, length_rollup (units_form v.items), length-map v.items (λ u. u.items))
 
 -- How many sets a CUBE of the program stands for.
-pub cube_count : (v : Vec (Vec (List ℕ))) → length (group_sets (group_form (variant.Cube v))) ≡ 2 ^ length v.items
-cube_count v = ap (λ (g : GroupForm). length (group_sets g)) (cube_form v) ∙ (length_cube (units_form v.items) ∙ ap (λ (n : ℕ). 2 ^ n) (length-map v.items (λ u. u.items)))
+pub cube_count : (v : Vec (Vec (List ℕ))) → length (group_sets (element_form (variant.Cube v))) ≡ 2 ^ length v.items
+cube_count v = ap (λ (g : ElementForm). length (group_sets g)) (cube_form v) ∙ (length_cube (units_form v.items) ∙ ap (λ (n : ℕ). 2 ^ n) (length-map v.items (λ u. u.items)))
 
 -- A number above the greatest is capped to it.
 at_most : (x m : ℕ) → m ≤ x → min x m ≡ m

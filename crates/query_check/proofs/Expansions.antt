@@ -4,10 +4,10 @@ use Rattle.std.specs.Global.{Vec}
 use Rattle.std.proofs.lemmas.List.{map-append}
 use Rattle.std.proofs.lemmas.List.Elements.{filter_map-append}
 use Rattle.values.specs.Schema.{Field}
-use Rattle.query_tree.specs.declared.group.Group.TheVariants as variant
-use Rattle.query_tree.specs.declared.group.Group.TheOpen as layer
-use Rattle.query_tree.specs.declared.group.Group.TheFolds.{fold-roll-Group}
-use Rattle.query_tree.specs.Syntax.{GroupForm, group_form, group_step, rollup, cube, units_form}
+use Rattle.query_tree.specs.declared.group.GroupingElement.TheVariants as variant
+use Rattle.query_tree.specs.declared.group.GroupingElement.TheOpen as layer
+use Rattle.query_tree.specs.declared.group.GroupingElement.TheFolds.{fold-roll-GroupingElement}
+use Rattle.query_tree.specs.Syntax.{ElementForm, element_form, element_step, rollup, cube, units_form}
 use Rattle.query_check.specs.Columns.{place_of, places_of}
 use Rattle.query_check.specs.Sets.{crossed, cube_sets, rollup_sets}
 
@@ -42,9 +42,9 @@ crossed_places fields (first ∷ firsts) seconds =
     ∙ ap (λ (ts : List (List ℕ)). map (λ s. places_of fields first ++ s) (map (places_of fields) seconds) ++ ts) (crossed_places fields firsts seconds)
 
 -- The form of a ROLLUP.
-pub rollup_form : (v : Vec (Vec (List ℕ))) → group_form (variant.Rollup v) ≡ rollup (units_form v.items)
-rollup_form v = ap group_form (sym (variant.rolls-Rollup v)) ∙ fold-roll-Group GroupForm group_step (layer.Rollup v)
+pub rollup_form : (v : Vec (Vec (List ℕ))) → element_form (variant.Rollup v) ≡ rollup (units_form v.items)
+rollup_form v = ap element_form (sym (variant.rolls-Rollup v)) ∙ fold-roll-GroupingElement ElementForm element_step (layer.Rollup v)
 
 -- The form of a CUBE.
-pub cube_form : (v : Vec (Vec (List ℕ))) → group_form (variant.Cube v) ≡ cube (units_form v.items)
-cube_form v = ap group_form (sym (variant.rolls-Cube v)) ∙ fold-roll-Group GroupForm group_step (layer.Cube v)
+pub cube_form : (v : Vec (Vec (List ℕ))) → element_form (variant.Cube v) ≡ cube (units_form v.items)
+cube_form v = ap element_form (sym (variant.rolls-Cube v)) ∙ fold-roll-GroupingElement ElementForm element_step (layer.Cube v)

@@ -239,12 +239,12 @@ over n f h =
 -- ---- the query
 
 -- A fault of WHERE or GROUP BY.
-records_stand : (fields : List Field) (t : TreeForm) (f : QueryFault) → records_fault fields (grouping_places fields t) t.filter t.groups ≡ Some f → Stands fields t f
+records_stand : (fields : List Field) (t : TreeForm) (f : QueryFault) → records_fault fields (grouping_places fields t) t.where_condition t.groups ≡ Some f → Stands fields t f
 unfolding records_fault
 records_stand fields t f h =
     let grouped = grouping_places fields t in
-    either (clause_fault fields grouped clause.Where t.filter) _ f (Stands fields t f)
-    (λ k. clause_stands fields t clause.Where t.filter f (λ a at. at) k)
+    either (clause_fault fields grouped clause.Where t.where_condition) _ f (Stands fields t f)
+    (λ k. clause_stands fields t clause.Where t.where_condition f (λ a at. at) k)
     (λ _ later. either (first_fault (group_fault fields) t.groups) _ f (Stands fields t f)
     (λ k. let found = first_at (column_fault fields) (grouping_names t) f (sym (all_names fields t.groups) ∙ k) in column_stands fields t found.0 f (inl found.1) found.2)
     (λ _ last. let k = over (length (expanded t.groups)) f last in subst (Stands fields t) k.1 (inl k.0))
@@ -264,14 +264,14 @@ select_stands fields t f h =
     h
 
 -- A fault of SELECT, HAVING or ORDER BY.
-rows_stand : (fields : List Field) (t : TreeForm) (f : QueryFault) → rows_fault fields (grouping_places fields t) t.items t.having t.keys ≡ Some f → Stands fields t f
+rows_stand : (fields : List Field) (t : TreeForm) (f : QueryFault) → rows_fault fields (grouping_places fields t) t.items t.having_condition t.keys ≡ Some f → Stands fields t f
 unfolding rows_fault
 rows_stand fields t f h =
     let grouped = grouping_places fields t in
     either (select_fault fields grouped t.items) _ f (Stands fields t f)
     (λ k. select_stands fields t f k)
-    (λ _ later. either (clause_fault fields grouped clause.Having t.having) _ f (Stands fields t f)
-    (λ k. clause_stands fields t clause.Having t.having f (λ a at. at) k)
+    (λ _ later. either (clause_fault fields grouped clause.Having t.having_condition) _ f (Stands fields t f)
+    (λ k. clause_stands fields t clause.Having t.having_condition f (λ a at. at) k)
     (λ _ last.
     let found = first_at (λ (k : KeyForm). expression_fault fields grouped clause.OrderBy (key_expression t.items k.expression)) t.keys f last in
     expression_stands fields t clause.OrderBy (key_expression t.items found.0.expression) f (mapped (λ (k : KeyForm). key_expression t.items k.expression) t.keys found.0 found.1) found.2)
@@ -283,9 +283,9 @@ pub first_stands : (fields : List Field) (t : TreeForm) (f : QueryFault) → que
 unfolding clauses_fault
 first_stands fields t f h =
     let grouped = grouping_places fields t in
-    either (records_fault fields grouped t.filter t.groups) _ f (Stands fields t f)
+    either (records_fault fields grouped t.where_condition t.groups) _ f (Stands fields t f)
     (λ k. records_stand fields t f k)
-    (λ _ later. either (rows_fault fields grouped t.items t.having t.keys) _ f (Stands fields t f)
+    (λ _ later. either (rows_fault fields grouped t.items t.having_condition t.keys) _ f (Stands fields t f)
     (λ k. rows_stand fields t f k)
     (λ _ last. let k = over (length (functions_of fields t)) f last in subst (Stands fields t) k.1 (inr k.0))
     later)

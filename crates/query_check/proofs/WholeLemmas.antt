@@ -12,7 +12,7 @@ use Rattle.std.proofs.lemmas.Slice.Eq.{bytes_eq-Decides}
 use Rattle.std.proofs.Math.ListN.{get_or-append}
 use Rattle.std.proofs.Math.Seq.{get_or-append_seam, take-append_seam}
 use Rattle.values.specs.Schema.{Field}
-use Rattle.query_tree.specs.Syntax.{GroupForm, GroupForms, ItemForm, KeyForm, TreeForm, set, rollup, cube, sets, no_groups, group}
+use Rattle.query_tree.specs.Syntax.{ElementForm, ElementForms, ItemForm, KeyForm, TreeForm, set, rollup, cube, sets, no_groups, group}
 use Rattle.query_print.specs.Canonical.{header_text}
 use Rattle.query_fault.specs.declared.QueryFault.{QueryFault}
 use Rattle.query_fault.specs.declared.QueryFault.TheVariants.{OutOfMemory, OverLimit, RepeatedHeader}
@@ -106,14 +106,14 @@ rows_of_names fields (unit ∷ units) = ap (option_or (names_fault fields unit))
 
 mutual
   -- The fault of an element of GROUP BY is that of its names.
-  group_of_names : (fields : List Field) (g : GroupForm) → group_fault fields g ≡ first_fault (column_fault fields) (group_names g)
+  group_of_names : (fields : List Field) (g : ElementForm) → group_fault fields g ≡ first_fault (column_fault fields) (group_names g)
   group_of_names fields (set names) = refl
   group_of_names fields (rollup units) = rows_of_names fields units
   group_of_names fields (cube units) = rows_of_names fields units
   group_of_names fields (sets gs) = groups_of_names fields gs
 
   -- The fault of elements of GROUPING SETS is that of their names.
-  groups_of_names : (fields : List Field) (gs : GroupForms) → groups_fault fields gs ≡ first_fault (column_fault fields) (groups_names gs)
+  groups_of_names : (fields : List Field) (gs : ElementForms) → groups_fault fields gs ≡ first_fault (column_fault fields) (groups_names gs)
   groups_of_names fields no_groups = refl
   groups_of_names fields (group g gs) =
       ap (λ o. option_or o (groups_fault fields gs)) (group_of_names fields g)
@@ -121,7 +121,7 @@ mutual
       ∙ sym (first_fault_append (column_fault fields) (group_names g) (groups_names gs))
 
 -- The faults of GROUP BY are those of its names.
-pub all_names : (fields : List Field) (gs : List GroupForm) → first_fault (group_fault fields) gs ≡ first_fault (column_fault fields) (flat_map group_names gs)
+pub all_names : (fields : List Field) (gs : List ElementForm) → first_fault (group_fault fields) gs ≡ first_fault (column_fault fields) (flat_map group_names gs)
 all_names fields [] = refl
 all_names fields (g ∷ gs) =
     ap (λ o. option_or o (first_fault (group_fault fields) gs)) (group_of_names fields g)
@@ -135,20 +135,20 @@ pub typed_from_none : (fields : List Field) (t : TreeForm) → query_fault field
 unfolding clauses_fault records_fault select_fault rows_fault
 typed_from_none fields t h =
     let grouped = grouping_places fields t in
-    let whole = none_of_both (records_fault fields grouped t.filter t.groups) _ h in
-    let late = none_of_both (rows_fault fields grouped t.items t.having t.keys) _ whole.1 in
-    let i = none_of_both (clause_fault fields grouped clause.Where t.filter) _ whole.0 in
+    let whole = none_of_both (records_fault fields grouped t.where_condition t.groups) _ h in
+    let late = none_of_both (rows_fault fields grouped t.items t.having_condition t.keys) _ whole.1 in
+    let i = none_of_both (clause_fault fields grouped clause.Where t.where_condition) _ whole.0 in
     let j = none_of_both (first_fault (group_fault fields) t.groups) _ i.1 in
     let k = none_of_both (select_fault fields grouped t.items) _ late.0 in
     let l = none_of_both (first_fault (λ i. expression_fault fields grouped clause.Select i.expression) t.items) _ k.0 in
-    let m = none_of_both (clause_fault fields grouped clause.Having t.having) _ k.1 in
+    let m = none_of_both (clause_fault fields grouped clause.Having t.having_condition) _ k.1 in
     record {
-      filter = clause_from_none fields grouped clause.Where t.filter i.0;
+      where_condition = clause_from_none fields grouped clause.Where t.where_condition i.0;
       groups = all_from_none (column_fault fields) (IsColumn fields) (λ n k. holds (is_some (place_of fields n)) _ k) (grouping_names t) (sym (all_names fields t.groups) ∙ j.0);
       few_sets = within (length (expanded t.groups)) j.1;
       items = all_from_none (λ (i : ItemForm). expression_fault fields grouped clause.Select i.expression) (λ i. IsTypedExpression fields grouped clause.Select i.expression) (λ i k. expression_from_none fields grouped clause.Select i.expression k) t.items l.0;
       headers_differ = different_from_none [] (map header_text t.items) (λ i j d l m. absurd (omega (arith, m))) l.1;
-      having = clause_from_none fields grouped clause.Having t.having m.0;
+      having_condition = clause_from_none fields grouped clause.Having t.having_condition m.0;
       keys = all_from_none (λ (k : KeyForm). expression_fault fields grouped clause.OrderBy (key_expression t.items k.expression)) (λ k. IsTypedExpression fields grouped clause.OrderBy (key_expression t.items k.expression)) (λ k e. expression_from_none fields grouped clause.OrderBy (key_expression t.items k.expression) e) t.keys m.1;
       few_functions = within (length (functions_of fields t)) late.1;
     }
@@ -159,14 +159,14 @@ unfolding clauses_fault records_fault select_fault rows_fault
 none_from_typed fields t h =
     let grouped = grouping_places fields t in
     both_none _ _
-    (both_none _ _ (none_from_clause fields grouped clause.Where t.filter h.filter)
+    (both_none _ _ (none_from_clause fields grouped clause.Where t.where_condition h.where_condition)
     (both_none _ _ (all_names fields t.groups ∙ none_from_all (column_fault fields) (IsColumn fields) (λ n k. passes (is_some (place_of fields n)) _ k) (grouping_names t) h.groups)
     (none_within (length (expanded t.groups)) h.few_sets)))
     (both_none _ _
     (both_none _ _
     (both_none _ _ (none_from_all (λ (i : ItemForm). expression_fault fields grouped clause.Select i.expression) (λ i. IsTypedExpression fields grouped clause.Select i.expression) (λ i k. none_from_expression fields grouped clause.Select i.expression k) t.items h.items)
     (none_from_different [] (map header_text t.items) h.headers_differ))
-    (both_none _ _ (none_from_clause fields grouped clause.Having t.having h.having)
+    (both_none _ _ (none_from_clause fields grouped clause.Having t.having_condition h.having_condition)
     (none_from_all (λ (k : KeyForm). expression_fault fields grouped clause.OrderBy (key_expression t.items k.expression)) (λ k. IsTypedExpression fields grouped clause.OrderBy (key_expression t.items k.expression)) (λ k e. none_from_expression fields grouped clause.OrderBy (key_expression t.items k.expression) e) t.keys h.keys)))
     (none_within (length (functions_of fields t)) h.few_functions))
 

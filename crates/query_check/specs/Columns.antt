@@ -5,7 +5,7 @@ use Rattle.std.specs.Option.{option_map, option_and_then}
 use Rattle.std.specs.Str.{bytes_eq}
 use Rattle.values.specs.declared.schema.Kind.{Kind}
 use Rattle.values.specs.Schema.{Field, names_of}
-use Rattle.query_tree.specs.Syntax.{GroupForm, GroupForms, set, rollup, cube, sets, no_groups, group}
+use Rattle.query_tree.specs.Syntax.{ElementForm, ElementForms, set, rollup, cube, sets, no_groups, group}
 
 -- The place of the column of a name, from 0. Names are compared exactly.
 abbrev pub place_of : List Field → List ℕ → Option ℕ
@@ -30,13 +30,13 @@ distinct same (x ∷ xs) = x ∷ filter (λ y. not (same x y)) (distinct same xs
 
 abbrev mutual
   -- The names in an element of GROUP BY, from left to right.
-  pub group_names : GroupForm → List (List ℕ)
+  pub group_names : ElementForm → List (List ℕ)
   group_names (set names) = names
   group_names (rollup units) = flat_map (λ unit. unit) units
   group_names (cube units) = flat_map (λ unit. unit) units
   group_names (sets gs) = groups_names gs
 
   -- Those in the elements of GROUPING SETS.
-  pub groups_names : GroupForms → List (List ℕ)
+  pub groups_names : ElementForms → List (List ℕ)
   groups_names no_groups = []
   groups_names (group g gs) = group_names g ++ groups_names gs

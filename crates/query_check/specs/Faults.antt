@@ -9,7 +9,7 @@ use Rattle.values.specs.Schema.{Field}
 use Rattle.query_tree.specs.declared.expression.Aggregate.{Aggregate}
 use Rattle.query_tree.specs.declared.expression.Aggregate.TheVariants as aggregate
 use Rattle.query_tree.specs.declared.predicate.Literal.{Literal}
-use Rattle.query_tree.specs.Syntax.{ExpressionForm, FunctionForm, OperandForm, PredicateForm, PredicateForms, GroupForm, GroupForms, ItemForm, KeyForm, TreeForm, name, grouping, function, over_all, over_filtered, expression, literal, or_of, and_of, not_of, truth_test, compare, between, member, null_test, column, no_parts, part, set, rollup, cube, sets, no_groups, group}
+use Rattle.query_tree.specs.Syntax.{ExpressionForm, FunctionForm, OperandForm, PredicateForm, PredicateForms, ElementForm, ElementForms, ItemForm, KeyForm, TreeForm, name, grouping, function, over_all, over_filtered, expression, literal, or_of, and_of, not_of, truth_test, compare, between, member, null_test, column, no_parts, part, set, rollup, cube, sets, no_groups, group}
 use Rattle.query_print.specs.Canonical.{header_text}
 use Rattle.query_fault.specs.declared.QueryFault.{QueryFault}
 use Rattle.query_fault.specs.declared.QueryFault.TheVariants.{UnknownColumn, TypesDisagree, NotGrouped, OverLimit, FunctionNotAllowed, RepeatedHeader, OutOfMemory}
@@ -210,21 +210,21 @@ names_fault fields names = first_fault (column_fault fields) names
 
 abbrev mutual
   -- The names in an element of GROUP BY, from left to right.
-  pub group_fault : List Field → GroupForm → Option QueryFault
+  pub group_fault : List Field → ElementForm → Option QueryFault
   group_fault fields (set names) = names_fault fields names
   group_fault fields (rollup units) = first_fault (names_fault fields) units
   group_fault fields (cube units) = first_fault (names_fault fields) units
   group_fault fields (sets gs) = groups_fault fields gs
 
   -- Those of the elements of GROUPING SETS.
-  pub groups_fault : List Field → GroupForms → Option QueryFault
+  pub groups_fault : List Field → ElementForms → Option QueryFault
   groups_fault fields no_groups = None
   groups_fault fields (group g gs) = option_or (group_fault fields g) (groups_fault fields gs)
 
 -- WHERE, then the names in GROUP BY, then the number of its expanded sets.
-unfoldable pub records_fault : List Field → List ℕ → Option PredicateForm → List GroupForm → Option QueryFault
-records_fault fields grouped filter groups =
-    option_or (clause_fault fields grouped clause.Where filter)
+unfoldable pub records_fault : List Field → List ℕ → Option PredicateForm → List ElementForm → Option QueryFault
+records_fault fields grouped where_condition groups =
+    option_or (clause_fault fields grouped clause.Where where_condition)
     (option_or (first_fault (group_fault fields) groups)
     (limit_fault (length (expanded groups))))
 
@@ -236,16 +236,16 @@ select_fault fields grouped items =
 
 -- SELECT, then HAVING, then ORDER BY.
 unfoldable pub rows_fault : List Field → List ℕ → List ItemForm → Option PredicateForm → List KeyForm → Option QueryFault
-rows_fault fields grouped items having keys =
+rows_fault fields grouped items having_condition keys =
     option_or (select_fault fields grouped items)
-    (option_or (clause_fault fields grouped clause.Having having)
+    (option_or (clause_fault fields grouped clause.Having having_condition)
     (first_fault (λ k. expression_fault fields grouped clause.OrderBy (key_expression items k.expression)) keys))
 
 -- WHERE and GROUP BY, then SELECT, HAVING and ORDER BY, then the number of different set functions.
 unfoldable pub clauses_fault : List Field → List ℕ → TreeForm → Option QueryFault
 clauses_fault fields grouped t =
-    option_or (records_fault fields grouped t.filter t.groups)
-    (option_or (rows_fault fields grouped t.items t.having t.keys)
+    option_or (records_fault fields grouped t.where_condition t.groups)
+    (option_or (rows_fault fields grouped t.items t.having_condition t.keys)
     (limit_fault (length (functions_of fields t))))
 
 -- The first fault of a query under a schema.

@@ -10,7 +10,7 @@ use Rattle.query_check.specs.declared.function.ColumnFunction.{ColumnFunction}
 use Rattle.query_check.specs.declared.function.ColumnFunction.TheVariants as at
 use Rattle.query_check.specs.Columns.{distinct, place_of}
 
--- The set function without its filter.
+-- The set function without its FILTER.
 abbrev pub aggregate_of : FunctionForm → Aggregate
 aggregate_of (over_all a) = a
 aggregate_of (over_filtered a p) = a
@@ -48,7 +48,7 @@ abbrev mutual
 abbrev pub aggregates : TreeForm → List Aggregate
 aggregates t =
     flat_map (λ i. expression_aggregates i.expression) t.items
-    ++ option_map_or predicate_aggregates t.having []
+    ++ option_map_or predicate_aggregates t.having_condition []
     ++ flat_map (λ k. expression_aggregates k.expression) t.keys
 
 -- A set function with the place of its column.

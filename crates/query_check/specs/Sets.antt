@@ -2,7 +2,7 @@
 use Rattle.std.specs.Prelude.{ℕ, ◌==◌, List, [], ◌∷◌, ◌++◌, map, filter}
 use Rattle.std.specs.List.{flat_map, list_any}
 use Rattle.values.specs.Schema.{Field}
-use Rattle.query_tree.specs.Syntax.{GroupForm, GroupForms, TreeForm, set, rollup, cube, sets, no_groups, group}
+use Rattle.query_tree.specs.Syntax.{ElementForm, ElementForms, TreeForm, set, rollup, cube, sets, no_groups, group}
 use Rattle.query_check.specs.Columns.{distinct, group_names, places_of}
 
 -- ROLLUP stands for the sets of its first n units, of its first n-1, and so on to the empty set.
@@ -21,20 +21,20 @@ crossed firsts seconds = flat_map (λ first. map (λ second. first ++ second) se
 
 abbrev mutual
   -- The sets that an element of GROUP BY stands for, each as its names are written.
-  pub group_sets : GroupForm → List (List (List ℕ))
+  pub group_sets : ElementForm → List (List (List ℕ))
   group_sets (set names) = names ∷ []
   group_sets (rollup units) = rollup_sets units
   group_sets (cube units) = cube_sets units
   group_sets (sets gs) = groups_sets gs
 
   -- Those of the elements of GROUPING SETS, one after the other.
-  pub groups_sets : GroupForms → List (List (List ℕ))
+  pub groups_sets : ElementForms → List (List (List ℕ))
   groups_sets no_groups = []
   groups_sets (group g gs) = group_sets g ++ groups_sets gs
 
 -- The sets that a GROUP BY list stands for: the cross product of its elements, the leftmost varying slowest.
 -- Without GROUP BY that is the one empty set.
-abbrev pub expanded : List GroupForm → List (List (List ℕ))
+abbrev pub expanded : List ElementForm → List (List (List ℕ))
 expanded [] = [] ∷ []
 expanded (g ∷ gs) = crossed (group_sets g) (expanded gs)
 

@@ -44,9 +44,9 @@ operands p = []
 
 -- The atoms in a clause; only WHERE and HAVING have some.
 abbrev pub atoms_in : TreeForm → Clause → List PredicateForm
-atoms_in t clause.Where = option_map_or atoms t.filter []
+atoms_in t clause.Where = option_map_or atoms t.where_condition []
 atoms_in t clause.Select = []
-atoms_in t clause.Having = option_map_or atoms t.having []
+atoms_in t clause.Having = option_map_or atoms t.having_condition []
 atoms_in t clause.OrderBy = []
 
 -- An expression stands in a clause: in SELECT it is an item's, in ORDER BY a key's, where an alias stands for its item,

@@ -164,11 +164,11 @@ IsTypedClause fields grouped c (Some p) = IsTypedPredicate fields grouped c p
 -- only these may stand, types agree, and functions stand where they may. It has at most 64 expanded grouping
 -- sets and at most 64 different set functions, and the headers of its items differ.
 pub record IsTyped (fields : List Field) (t : TreeForm) : Type 0 where
-  pub filter : IsTypedClause fields (grouping_places fields t) clause.Where t.filter
+  pub where_condition : IsTypedClause fields (grouping_places fields t) clause.Where t.where_condition
   pub groups : All (IsColumn fields) (grouping_names t)
   pub few_sets : length (expanded t.groups) ≤ 64
   pub items : All (λ i. IsTypedExpression fields (grouping_places fields t) clause.Select i.expression) t.items
   pub headers_differ : AllPairs (λ h g. h ≢ g) (map header_text t.items)
-  pub having : IsTypedClause fields (grouping_places fields t) clause.Having t.having
+  pub having_condition : IsTypedClause fields (grouping_places fields t) clause.Having t.having_condition
   pub keys : All (λ k. IsTypedExpression fields (grouping_places fields t) clause.OrderBy (key_expression t.items k.expression)) t.keys
   pub few_functions : length (functions_of fields t) ≤ 64

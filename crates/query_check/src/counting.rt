@@ -1,26 +1,26 @@
 //! How many sets GROUP BY stands for.
 
 ghost use Rattle.std.specs.Prelude.{◌≡◌, length, map, min};
-ghost use Rattle.query_tree.specs.Syntax.{group_form, group_forms};
+ghost use Rattle.query_tree.specs.Syntax.{element_form, element_forms};
 ghost use Rattle.query_check.specs.Sets.{expanded, group_sets};
 
-use query_tree::Group;
+use query_tree::GroupingElement;
 
 /// How many sets an element of GROUP BY stands for, or the greatest number of 64 bits where they are more.
-fn count_group(group: &Group) -> u64
-    ensures { result ≡ min (length (group_sets (group_form group.now))) u64.MAX }
+fn count_group(group: &GroupingElement) -> u64
+    ensures { result ≡ min (length (group_sets (element_form group.now))) u64.MAX }
 {
     match group {
-        Group::Set(_) => 1,
-        Group::Rollup(units) => (units.len() as u64).saturating_add(1),
-        Group::Cube(units) => {
+        GroupingElement::Set(_) => 1,
+        GroupingElement::Rollup(units) => (units.len() as u64).saturating_add(1),
+        GroupingElement::Cube(units) => {
             let mut count: u64 = 1;
             for _unit in units {
                 count = count.saturating_mul(2);
             }
             count
         }
-        Group::Sets(groups) => {
+        GroupingElement::Sets(groups) => {
             let mut count: u64 = 0;
             for group in groups {
                 count = count.saturating_add(count_group(group));
@@ -31,8 +31,8 @@ fn count_group(group: &Group) -> u64
 }
 
 /// How many sets GROUP BY stands for, or the greatest number of 64 bits where they are more.
-pub fn set_count(groups: &[Group]) -> u64
-    ensures { result ≡ min (length (expanded (map group_form groups.now))) u64.MAX }
+pub fn set_count(groups: &[GroupingElement]) -> u64
+    ensures { result ≡ min (length (expanded (map element_form groups.now))) u64.MAX }
 {
     let mut count: u64 = 1;
     for group in groups {

@@ -2,7 +2,7 @@
 
 ghost use Rattle.std.specs.Prelude.{◌≡◌, ◌++◌, map, IfOk, OnOk};
 ghost use Rattle.values.specs.Schema.{fields_of};
-ghost use Rattle.query_tree.specs.Syntax.{group_form, group_forms, units_form};
+ghost use Rattle.query_tree.specs.Syntax.{element_form, element_forms, units_form};
 ghost use Rattle.query_check.specs.Columns.{places_of};
 ghost use Rattle.query_check.specs.Sets.{crossed, cube_sets, expanded, group_sets, ordered_set, rollup_sets};
 ghost use Rattle.query_check.specs.Resolution.{contents};
@@ -10,7 +10,7 @@ ghost use Rattle.query_check.specs.Resolution.{contents};
 use crate::joining::{cube, one_set, ordered_sets, rollup};
 use crate::names::push_places;
 use crate::product::Product;
-use query_tree::{Group, Text};
+use query_tree::{GroupingElement, Text};
 use std::alloc::{AllocError, Global};
 use values::Column;
 
@@ -42,15 +42,15 @@ fn unit_places(
 fn group_sets(
     alloc: Global,
     columns: &[Column],
-    group: &Group,
+    group: &GroupingElement,
 ) -> Result<Vec<Vec<usize>>, AllocError>
-    ensures { IfOk result (λ v. contents v.items ≡ map (places_of (fields_of columns.now)) (group_sets (group_form group.now))) }
+    ensures { IfOk result (λ v. contents v.items ≡ map (places_of (fields_of columns.now)) (group_sets (element_form group.now))) }
 {
     match group {
-        Group::Set(names) => one_set(alloc, places(alloc, columns, names)?),
-        Group::Rollup(units) => rollup(alloc, &unit_places(alloc, columns, units)?),
-        Group::Cube(units) => cube(alloc, &unit_places(alloc, columns, units)?),
-        Group::Sets(groups) => {
+        GroupingElement::Set(names) => one_set(alloc, places(alloc, columns, names)?),
+        GroupingElement::Rollup(units) => rollup(alloc, &unit_places(alloc, columns, units)?),
+        GroupingElement::Cube(units) => cube(alloc, &unit_places(alloc, columns, units)?),
+        GroupingElement::Sets(groups) => {
             let mut sets = Vec::new(alloc);
             for group in groups {
                 let mut more = group_sets(alloc, columns, group)?;
@@ -67,9 +67,9 @@ pub(crate) fn expand(
     alloc: Global,
     columns: &[Column],
     grouping: &[usize],
-    groups: &[Group],
+    groups: &[GroupingElement],
 ) -> Result<Vec<Vec<usize>>, AllocError>
-    ensures { IfOk result (λ v. contents v.items ≡ map (λ names. ordered_set grouping.now (places_of (fields_of columns.now) names)) (expanded (map group_form groups.now))) }
+    ensures { IfOk result (λ v. contents v.items ≡ map (λ names. ordered_set grouping.now (places_of (fields_of columns.now) names)) (expanded (map element_form groups.now))) }
 {
     let mut product = Product::new(alloc)?;
     for group in groups {

@@ -3,14 +3,14 @@
 ghost use Rattle.std.specs.Prelude.{◌≡◌, ◌++◌, ◌==◌, map, IfOk, OnOk};
 ghost use Rattle.std.specs.List.{flat_map};
 ghost use Rattle.values.specs.Schema.{fields_of};
-ghost use Rattle.query_tree.specs.Syntax.{group_form, group_forms, units_form};
+ghost use Rattle.query_tree.specs.Syntax.{element_form, element_forms, units_form};
 ghost use Rattle.query_check.specs.Columns.{distinct, group_names, places_of};
 ghost use Rattle.query_check.specs.Faults.{Answers, first_fault, group_fault, names_fault};
 
 use crate::columns::place_of;
 use crate::typing::check_column;
 use query_fault::QueryFault;
-use query_tree::{Group, Text};
+use query_tree::{GroupingElement, Text};
 use std::alloc::{AllocError, Global};
 use values::Column;
 
@@ -48,15 +48,15 @@ fn push_unit_places(
 fn push_group_places(
     places: &mut Vec<usize>,
     columns: &[Column],
-    group: &Group,
+    group: &GroupingElement,
 ) -> Result<(), AllocError>
-    ensures { OnOk result (places.new.items ≡ places.old.items ++ places_of (fields_of columns.now) (group_names (group_form group.now))) }
+    ensures { OnOk result (places.new.items ≡ places.old.items ++ places_of (fields_of columns.now) (group_names (element_form group.now))) }
 {
     match group {
-        Group::Set(names) => push_places(places, columns, names),
-        Group::Rollup(units) => push_unit_places(places, columns, units),
-        Group::Cube(units) => push_unit_places(places, columns, units),
-        Group::Sets(groups) => {
+        GroupingElement::Set(names) => push_places(places, columns, names),
+        GroupingElement::Rollup(units) => push_unit_places(places, columns, units),
+        GroupingElement::Cube(units) => push_unit_places(places, columns, units),
+        GroupingElement::Sets(groups) => {
             for group in groups {
                 push_group_places(places, columns, group)?;
             }
@@ -82,9 +82,9 @@ fn distinct_places(alloc: Global, places: &[usize]) -> Result<Vec<usize>, AllocE
 pub(crate) fn grouping_places(
     alloc: Global,
     columns: &[Column],
-    groups: &[Group],
+    groups: &[GroupingElement],
 ) -> Result<Vec<usize>, AllocError>
-    ensures { IfOk result (λ v. v.items ≡ distinct (λ a b. a == b) (places_of (fields_of columns.now) (flat_map group_names (map group_form groups.now)))) }
+    ensures { IfOk result (λ v. v.items ≡ distinct (λ a b. a == b) (places_of (fields_of columns.now) (flat_map group_names (map element_form groups.now)))) }
 {
     let mut places = Vec::new(alloc);
     for group in groups {
@@ -114,14 +114,14 @@ fn check_units(columns: &[Column], units: &[Vec<Text>]) -> Result<(), QueryFault
 }
 
 /// Whether columns have the names in an element of GROUP BY.
-fn check_group(columns: &[Column], group: &Group) -> Result<(), QueryFault>
-    ensures fault { Answers result (group_fault (fields_of columns.now) (group_form group.now)) }
+fn check_group(columns: &[Column], group: &GroupingElement) -> Result<(), QueryFault>
+    ensures fault { Answers result (group_fault (fields_of columns.now) (element_form group.now)) }
 {
     match group {
-        Group::Set(names) => check_columns(columns, names),
-        Group::Rollup(units) => check_units(columns, units),
-        Group::Cube(units) => check_units(columns, units),
-        Group::Sets(groups) => {
+        GroupingElement::Set(names) => check_columns(columns, names),
+        GroupingElement::Rollup(units) => check_units(columns, units),
+        GroupingElement::Cube(units) => check_units(columns, units),
+        GroupingElement::Sets(groups) => {
             for group in groups {
                 check_group(columns, group)?;
             }
@@ -131,8 +131,8 @@ fn check_group(columns: &[Column], group: &Group) -> Result<(), QueryFault>
 }
 
 /// Whether columns have the names in GROUP BY.
-pub(crate) fn check_groups(columns: &[Column], groups: &[Group]) -> Result<(), QueryFault>
-    ensures fault { Answers result (first_fault (group_fault (fields_of columns.now)) (map group_form groups.now)) }
+pub(crate) fn check_groups(columns: &[Column], groups: &[GroupingElement]) -> Result<(), QueryFault>
+    ensures fault { Answers result (first_fault (group_fault (fields_of columns.now)) (map element_form groups.now)) }
 {
     for group in groups {
         check_group(columns, group)?;

@@ -5,7 +5,7 @@ ghost use Rattle.std.specs.List.{filter_map, flat_map, list_any};
 ghost use Rattle.std.specs.Str.{bytes_eq};
 ghost use Rattle.std.specs.Option.{option_map, option_map_or};
 ghost use Rattle.values.specs.Schema.{fields_of};
-ghost use Rattle.query_tree.specs.Syntax.{expression_form, group_form, item_form, key_form, operand_form, predicate_form, predicate_forms, tree_form};
+ghost use Rattle.query_tree.specs.Syntax.{expression_form, element_form, item_form, key_form, operand_form, predicate_form, predicate_forms, tree_form};
 ghost use Rattle.query_print.specs.Canonical.{header_text};
 ghost use Rattle.query_check.specs.Columns.{distinct};
 ghost use Rattle.query_check.specs.Functions.{aggregates, column_function, expression_aggregates, functions_of, operand_aggregates, parts_aggregates, predicate_aggregates, same_function};
@@ -24,7 +24,7 @@ use crate::scope::{Clause, Scope};
 use crate::typing::{check_expression, check_predicate};
 use query_fault::QueryFault;
 use query_print::header;
-use query_tree::{Expression, Group, Item, Key, Operand, Predicate, Text, Tree};
+use query_tree::{Expression, GroupingElement, Item, Key, Operand, Predicate, Text, Tree};
 use std::alloc::{AllocError, Global};
 use std::marker::Model;
 use values::{Column, Schema};
@@ -269,7 +269,7 @@ fn all_functions(
 {
     let mut functions = Vec::new(alloc);
     push_item_functions(&mut functions, columns, &tree.items)?;
-    if let Some(predicate) = &tree.having {
+    if let Some(predicate) = &tree.having_condition {
         push_predicate_functions(&mut functions, columns, predicate)?;
     }
     push_key_functions(&mut functions, columns, &tree.keys)?;
@@ -339,8 +339,8 @@ fn functions_of(
 }
 
 /// Whether GROUP BY stands for few enough sets.
-fn check_set_count(groups: &[Group]) -> Result<(), QueryFault>
-    ensures fault { Answers result (limit_fault (length (expanded (map group_form groups.now)))) }
+fn check_set_count(groups: &[GroupingElement]) -> Result<(), QueryFault>
+    ensures fault { Answers result (limit_fault (length (expanded (map element_form groups.now)))) }
 {
     check_limit(set_count(groups))
 }
@@ -349,9 +349,9 @@ fn check_set_count(groups: &[Group]) -> Result<(), QueryFault>
 #[tactic(auto, unfolding(crate::specs::Faults::records_fault))]
 fn check_records(scope: &Scope, tree: &Tree) -> Result<(), QueryFault>
     requires { scope.now.clause ≡ Clause.Where }
-    ensures fault { Answers result (records_fault (fields_of scope.now.columns.now) scope.now.grouping.now (option_map predicate_form tree.now.filter) (map group_form tree.now.groups.items)) }
+    ensures fault { Answers result (records_fault (fields_of scope.now.columns.now) scope.now.grouping.now (option_map predicate_form tree.now.where_condition) (map element_form tree.now.groups.items)) }
 {
-    check_clause(scope, &tree.filter)?;
+    check_clause(scope, &tree.where_condition)?;
     check_groups(scope.columns, &tree.groups)?;
     check_set_count(&tree.groups)
 }
@@ -374,7 +374,7 @@ fn check_rows(
     grouping: &[usize],
     tree: &Tree,
 ) -> Result<(), QueryFault>
-    ensures fault { Answers result (rows_fault (fields_of columns.now) grouping.now (map item_form tree.now.items.items) (option_map predicate_form tree.now.having) (map key_form tree.now.keys.items)) }
+    ensures fault { Answers result (rows_fault (fields_of columns.now) grouping.now (map item_form tree.now.items.items) (option_map predicate_form tree.now.having_condition) (map key_form tree.now.keys.items)) }
 {
     let mut scope = Scope {
         columns,
@@ -383,7 +383,7 @@ fn check_rows(
     };
     check_select(alloc, &scope, &tree.items)?;
     scope.clause = Clause::Having;
-    check_clause(&scope, &tree.having)?;
+    check_clause(&scope, &tree.having_condition)?;
     scope.clause = Clause::OrderBy;
     check_keys(&scope, &tree.items, &tree.keys)
 }

@@ -1,5 +1,5 @@
 use crate::{ColumnFunction, check_tree, set_count};
-use query_tree::{Aggregate, Expression, Group, Item, SetFunction, Text, Tree};
+use query_tree::{Aggregate, Expression, GroupingElement, Item, SetFunction, Text, Tree};
 use std::alloc::Global;
 use std::test::Fail;
 use values::Schema;
@@ -23,11 +23,11 @@ fn units(alloc: Global, texts: &[&str]) -> Result<Vec<Vec<Text>>, Fail> {
 /// `SELECT COUNT(*) FROM lines GROUP BY GROUPING SETS (ROLLUP (d, r), CUBE (r), (d, d))`
 fn counting(alloc: Global) -> Result<Tree, Fail> {
     let mut sets = Vec::new(alloc);
-    sets.push(Group::Rollup(units(alloc, &["d", "r"])?))?;
-    sets.push(Group::Cube(units(alloc, &["r"])?))?;
-    sets.push(Group::Set(names(alloc, &["d", "d"])?))?;
+    sets.push(GroupingElement::Rollup(units(alloc, &["d", "r"])?))?;
+    sets.push(GroupingElement::Cube(units(alloc, &["r"])?))?;
+    sets.push(GroupingElement::Set(names(alloc, &["d", "d"])?))?;
     let mut groups = Vec::new(alloc);
-    groups.push(Group::Sets(sets))?;
+    groups.push(GroupingElement::Sets(sets))?;
     let mut items = Vec::new(alloc);
     items.push(Item {
         expression: Expression::Function(SetFunction {
@@ -38,9 +38,9 @@ fn counting(alloc: Global) -> Result<Tree, Fail> {
     })?;
     Ok(Tree {
         items,
-        filter: None,
+        where_condition: None,
         groups,
-        having: None,
+        having_condition: None,
         keys: Vec::new(alloc),
     })
 }

@@ -7,7 +7,7 @@ use Rattle.query_tokens.specs.declared.token.Word.TheVariants as w
 use Rattle.query_tokens.specs.declared.token.Sign.TheVariants as s
 use Rattle.query_tokens.proofs.Inversions.{some_is}
 use Rattle.query_tree.specs.declared.tree.Tree.{Tree}
-use Rattle.query_tree.specs.Syntax.{PredicateForm, GroupForm, ItemForm, KeyForm, TreeForm, tree_form}
+use Rattle.query_tree.specs.Syntax.{PredicateForm, ElementForm, ItemForm, KeyForm, TreeForm, tree_form}
 use Rattle.query_leaves.specs.declared.fault.GrammarFault.{GrammarFault}
 use Rattle.query_leaves.specs.declared.fault.GrammarFault.TheVariants as faults
 use Rattle.query_leaves.specs.Fronts.{is_word, is_sign, after}
@@ -42,7 +42,7 @@ record EndsWhere (r : List Token) : Type 0 where
 where_c : {ts r : List Token} {p : Option PredicateForm} → IsWhere ts p r → EndsWhere r → clause_at w.Where ts ≡ Some (p, r)
 unfolding clause_at
 where_c IsWhere.none q = rw q.no_where refl
-where_c (IsWhere.filter {ts} {r} {p} i) q = rw (predicate_c 65 ts r p i q.predicate) refl
+where_c (IsWhere.condition {ts} {r} {p} i) q = rw (predicate_c 65 ts r p i q.predicate) refl
 
 -- What may stand behind GROUP BY, written or not.
 record EndsGroups (r : List Token) : Type 0 where
@@ -50,14 +50,14 @@ record EndsGroups (r : List Token) : Type 0 where
   no_group : after (is_word w.Group) r ≡ None
   no_comma : after (is_sign s.Comma) r ≡ None
 
-groups_c : {ts r : List Token} {gs : List GroupForm} → IsGroupBy ts gs r → EndsGroups r → groups_at ts ≡ Some (gs, r)
+groups_c : {ts r : List Token} {gs : List ElementForm} → IsGroupBy ts gs r → EndsGroups r → groups_at ts ≡ Some (gs, r)
 unfolding groups_at
 groups_c IsGroupBy.none q = rw q.no_group refl
 groups_c (IsGroupBy.groups {ts} {mid} {r} {g} {gs} p b) q =
     rw (group_c 16 ts mid g p, unlimited_c (tokens.Sign s.Comma) (is_sign s.Comma) (IsGroup 16) (group_at 16) (λ _. Unit {0}) refl (λ _. tt) (λ us v x j _. group_c 16 us v x j) (group_short 16) b tt q.no_comma) refl
 
 -- WHERE ends where GROUP BY begins, written or not.
-groups_begin : {ts r : List Token} {gs : List GroupForm} → IsGroupBy ts gs r → EndsGroups r → EndsWhere ts
+groups_begin : {ts r : List Token} {gs : List ElementForm} → IsGroupBy ts gs r → EndsGroups r → EndsWhere ts
 groups_begin IsGroupBy.none q = q.ends_where
 groups_begin (IsGroupBy.groups {ts} p b) q = record { predicate = group_ends (tokens.Word w.By ∷ ts); no_where = refl }
 
@@ -69,12 +69,12 @@ record EndsHaving (r : List Token) : Type 0 where
 having_c : {ts r : List Token} {p : Option PredicateForm} → IsHaving ts p r → EndsHaving r → clause_at w.Having ts ≡ Some (p, r)
 unfolding clause_at
 having_c IsHaving.none q = rw q.no_having refl
-having_c (IsHaving.filter {ts} {r} {p} i) q = rw (predicate_c 65 ts r p i q.ends_groups.ends_where.predicate) refl
+having_c (IsHaving.condition {ts} {r} {p} i) q = rw (predicate_c 65 ts r p i q.ends_groups.ends_where.predicate) refl
 
 -- GROUP BY ends where HAVING begins, written or not.
 having_begins : {ts r : List Token} {p : Option PredicateForm} → IsHaving ts p r → EndsHaving r → EndsGroups ts
 having_begins IsHaving.none q = q.ends_groups
-having_begins (IsHaving.filter {ts} i) q = record { ends_where = record { predicate = having_ends ts; no_where = refl }; no_group = refl; no_comma = refl }
+having_begins (IsHaving.condition {ts} i) q = record { ends_where = record { predicate = having_ends ts; no_where = refl }; no_group = refl; no_comma = refl }
 
 -- What may stand behind a query.
 record EndsQuery (r : List Token) : Type 0 where

@@ -4,7 +4,7 @@ use Rattle.query_tokens.specs.declared.token.Token.{Token}
 use Rattle.query_tokens.specs.declared.token.Token.TheVariants as tokens
 use Rattle.query_tokens.specs.declared.token.Word.TheVariants as w
 use Rattle.query_tokens.specs.declared.token.Sign.TheVariants as s
-use Rattle.query_tree.specs.Syntax.{GroupForm, sets, group_forms}
+use Rattle.query_tree.specs.Syntax.{ElementForm, sets, element_forms}
 use Rattle.query_leaves.specs.Fronts.{is_word, is_sign, after}
 use Rattle.query_leaves.specs.Steps.{Reader, name_at}
 use Rattle.query_leaves.specs.Leaves.{Derivation, IsRepeated, IsName}
@@ -73,18 +73,18 @@ set_begins (IsSet.unit (IsUnit.columns b)) = record { no_rollup = refl; no_cube 
 -- ---- groups
 
 -- What reads the bracketed elements behind GROUPING.
-abbrev ReadsSets : Derivation GroupForm → Reader GroupForm → Type 0
-ReadsSets IsInner nested = (ts mid r : List Token) (g : GroupForm) (gs : List GroupForm) → IsInner ts g mid → IsRepeated (tokens.Sign s.Comma) IsInner mid gs (tokens.Sign s.Close ∷ r)
-    → nested (tokens.Word w.Sets ∷ tokens.Sign s.Open ∷ ts) ≡ Some (sets (group_forms (g ∷ gs)), r)
+abbrev ReadsSets : Derivation ElementForm → Reader ElementForm → Type 0
+ReadsSets IsInner nested = (ts mid r : List Token) (g : ElementForm) (gs : List ElementForm) → IsInner ts g mid → IsRepeated (tokens.Sign s.Comma) IsInner mid gs (tokens.Sign s.Close ∷ r)
+    → nested (tokens.Word w.Sets ∷ tokens.Sign s.Open ∷ ts) ≡ Some (sets (element_forms (g ∷ gs)), r)
 
-element_c : (IsInner : Derivation GroupForm) (nested : Reader GroupForm) → ReadsSets IsInner nested → {ts r : List Token} {g : GroupForm} → IsElement IsInner ts g r → element_at nested ts ≡ Some (g, r)
+element_c : (IsInner : Derivation ElementForm) (nested : Reader ElementForm) → ReadsSets IsInner nested → {ts r : List Token} {g : ElementForm} → IsElement IsInner ts g r → element_at nested ts ≡ Some (g, r)
 unfolding element_at
 element_c IsInner nested reads (IsElement.set p) = rw ((set_begins p).no_rollup, (set_begins p).no_cube, (set_begins p).no_grouping, set_c p) refl
 element_c IsInner nested reads (IsElement.rollup p b) = rw (units_c p b) refl
 element_c IsInner nested reads (IsElement.cube p b) = rw (units_c p b) refl
 element_c IsInner nested reads (IsElement.sets {ts} {mid} {r} {g} {gs} p b) = rw (reads ts mid r g gs p b) refl
 
-element_short : (IsInner : Derivation GroupForm) → Shrinks IsInner → Shrinks (IsElement IsInner)
+element_short : (IsInner : Derivation ElementForm) → Shrinks IsInner → Shrinks (IsElement IsInner)
 element_short IsInner short _ _ _ (IsElement.set {ts} {r} {ns} p) = set_short ts r ns p
 element_short IsInner short _ _ _ (IsElement.rollup {ts} {mid} {r} {u} {us} p b) = omega (arith, unit_short ts mid u p, repeated_short (tokens.Sign s.Comma) IsUnit unit_short b)
 element_short IsInner short _ _ _ (IsElement.cube {ts} {mid} {r} {u} {us} p b) = omega (arith, unit_short ts mid u p, repeated_short (tokens.Sign s.Comma) IsUnit unit_short b)
@@ -95,11 +95,11 @@ unfolding IsGroup
 group_short zero ts r g p = element_short (λ ts g r. ⊥) (λ ts r g p. absurd p) ts r g p
 group_short (suc n) ts r g p = element_short (IsGroup n) (group_short n) ts r g p
 
-sets_c : (n : ℕ) → ((ts r : List Token) (g : GroupForm) → IsGroup n ts g r → group_at n ts ≡ Some (g, r)) → ReadsSets (IsGroup n) (sets_at (suc n))
+sets_c : (n : ℕ) → ((ts r : List Token) (g : ElementForm) → IsGroup n ts g r → group_at n ts ≡ Some (g, r)) → ReadsSets (IsGroup n) (sets_at (suc n))
 unfolding sets_at
 sets_c n complete ts mid r g gs p b = rw (enclosed_c (IsGroup n) (group_at n) complete (group_short n) p b) refl
 
-pub group_c : (n : ℕ) (ts r : List Token) (g : GroupForm) → IsGroup n ts g r → group_at n ts ≡ Some (g, r)
+pub group_c : (n : ℕ) (ts r : List Token) (g : ElementForm) → IsGroup n ts g r → group_at n ts ≡ Some (g, r)
 unfolding IsGroup
 group_c zero ts r g p = element_c (λ ts g r. ⊥) (sets_at zero) (λ ts mid r g gs q b. absurd q) p
 group_c (suc n) ts r g p = element_c (IsGroup n) (sets_at (suc n)) (sets_c n (group_c n)) p

@@ -11,7 +11,7 @@ use Rattle.query_tokens.specs.declared.token.Sign.TheVariants as s
 use Rattle.query_tokens.specs.Options.{◌>>=◌, choose}
 use Rattle.query_tokens.proofs.Inversions.{bind_some, choose_some, some_is, test_some}
 use Rattle.query_tree.specs.declared.tree.Tree.{Tree}
-use Rattle.query_tree.specs.Syntax.{ExpressionForm, PredicateForm, GroupForm, ItemForm, KeyForm, TreeForm, tree_form}
+use Rattle.query_tree.specs.Syntax.{ExpressionForm, PredicateForm, ElementForm, ItemForm, KeyForm, TreeForm, tree_form}
 use Rattle.query_leaves.specs.declared.fault.GrammarFault.{GrammarFault}
 use Rattle.query_leaves.specs.Fronts.{is_word, is_sign, after}
 use Rattle.query_leaves.specs.Steps.{Gives, with_front, more, name_at}
@@ -84,10 +84,10 @@ clause_s word P absent written ts x e =
     ]
 
 where_s : IsSound IsWhere (clause_at w.Where)
-where_s = clause_s w.Where IsWhere (λ r. IsWhere.none) (λ ts r p d. IsWhere.filter d)
+where_s = clause_s w.Where IsWhere (λ r. IsWhere.none) (λ ts r p d. IsWhere.condition d)
 
 having_s : IsSound IsHaving (clause_at w.Having)
-having_s = clause_s w.Having IsHaving (λ r. IsHaving.none) (λ ts r p d. IsHaving.filter d)
+having_s = clause_s w.Having IsHaving (λ r. IsHaving.none) (λ ts r p d. IsHaving.condition d)
 
 groups_s : IsSound IsGroupBy groups_at
 unfolding groups_at
@@ -99,12 +99,12 @@ groups_s ts x e =
           let l = listed_s (IsGroup 16) (group_at 16) (group_s 16) (length b.0.1) a.0 b.0 x b.1 b.2 in
           let whole = after_word_is w.Group ts h.0 h.1 ∙ ap (λ (us : List Token). tokens.Word w.Group ∷ us) (after_word_is w.By h.0 a.0 a.1) in
           let made : IsGroupBy (tokens.Word w.Group ∷ tokens.Word w.By ∷ a.0) (l.first ∷ l.others) x.1 = IsGroupBy.groups l.head l.tail in
-          subst (λ (gs : List GroupForm). IsGroupBy ts gs x.1) (sym l.all_is) (begins_as IsGroupBy whole made))
+          subst (λ (gs : List ElementForm). IsGroupBy ts gs x.1) (sym l.all_is) (begins_as IsGroupBy whole made))
     ]
 
 -- A query of these clauses.
-tree_of : List ItemForm → Option PredicateForm → List GroupForm → Option PredicateForm → List KeyForm → TreeForm
-tree_of is p gs h ks = record { items = is; filter = p; groups = gs; having = h; keys = ks }
+tree_of : List ItemForm → Option PredicateForm → List ElementForm → Option PredicateForm → List KeyForm → TreeForm
+tree_of is p gs h ks = record { items = is; where_condition = p; groups = gs; having_condition = h; keys = ks }
 
 query_s : IsSound IsQuery query_at
 unfolding query_at tree_of

@@ -6,7 +6,7 @@ use Rattle.query_tokens.specs.declared.token.Word.TheVariants as w
 use Rattle.query_tokens.specs.declared.token.Sign.TheVariants as s
 use Rattle.query_tokens.specs.Options.{◌>>=◌, choose}
 use Rattle.query_tokens.proofs.Inversions.{bind_some, choose_some, some_is}
-use Rattle.query_tree.specs.Syntax.{GroupForm, set, rollup, cube, sets, group_forms}
+use Rattle.query_tree.specs.Syntax.{ElementForm, set, rollup, cube, sets, element_forms}
 use Rattle.query_leaves.specs.Fronts.{is_word, is_sign, after}
 use Rattle.query_leaves.specs.Steps.{Reader, with_front, more, name_at}
 use Rattle.query_leaves.specs.Leaves.{Derivation, IsRepeated, IsName}
@@ -66,12 +66,12 @@ set_s ts x e =
 
 -- ---- groups
 
-module _ (IsInner : Derivation GroupForm) (nested : Reader GroupForm) (inside_s : (ts : List Token) (x : GroupForm × List Token) → nested ts ≡ Some x → IsElement IsInner (tokens.Word w.Grouping ∷ ts) x.0 x.1) where
+module _ (IsInner : Derivation ElementForm) (nested : Reader ElementForm) (inside_s : (ts : List Token) (x : ElementForm × List Token) → nested ts ≡ Some x → IsElement IsInner (tokens.Word w.Grouping ∷ ts) x.0 x.1) where
   -- What a word in front makes of the bracketed units behind it.
-  units_s : (make : List (List (List ℕ)) → GroupForm) (front : List Token → List Token)
+  units_s : (make : List (List (List ℕ)) → ElementForm) (front : List Token → List Token)
       → ((ts mid r : List Token) (u : List (List ℕ)) (us : List (List (List ℕ))) → IsUnit ts u mid → IsRepeated (tokens.Sign s.Comma) IsUnit mid us (tokens.Sign s.Close ∷ r)
       → IsElement IsInner (front (tokens.Sign s.Open ∷ ts)) (make (u ∷ us)) r)
-      → (ts : List Token) (x : GroupForm × List Token) → (units_at ts >>= λ us. Some (make us.0, us.1)) ≡ Some x → IsElement IsInner (front ts) x.0 x.1
+      → (ts : List Token) (x : ElementForm × List Token) → (units_at ts >>= λ us. Some (make us.0, us.1)) ≡ Some x → IsElement IsInner (front ts) x.0 x.1
   unfolding units_at
   units_s make front derives ts x e =
       let a = bind_some (enclosed_at unit_at ts) (λ us. Some (make us.0, us.1)) x e in
@@ -81,7 +81,7 @@ module _ (IsInner : Derivation GroupForm) (nested : Reader GroupForm) (inside_s 
       let named = subst (λ (us : List (List (List ℕ))). IsElement IsInner (front (tokens.Sign s.Open ∷ b.behind)) (make us) a.0.1) (sym l.all_is) made in
       read_as (IsElement IsInner) a.2 (begins_as (IsElement IsInner) (ap front b.begins) named)
 
-  plain_s : (ts : List Token) (x : GroupForm × List Token) → (set_at ts >>= λ ns. Some (set ns.0, ns.1)) ≡ Some x → IsElement IsInner ts x.0 x.1
+  plain_s : (ts : List Token) (x : ElementForm × List Token) → (set_at ts >>= λ ns. Some (set ns.0, ns.1)) ≡ Some x → IsElement IsInner ts x.0 x.1
   plain_s ts x e =
       let a = bind_some (set_at ts) (λ ns. Some (set ns.0, ns.1)) x e in
       read_as (IsElement IsInner) a.2 (IsElement.set (set_s ts a.0 a.1))
@@ -112,19 +112,19 @@ module _ (IsInner : Derivation GroupForm) (nested : Reader GroupForm) (inside_s 
             ]
       ]
 
-nested_s : (n : ℕ) → IsSound (IsGroup n) (group_at n) → (ts : List Token) (x : GroupForm × List Token) → sets_at (suc n) ts ≡ Some x → IsElement (IsGroup n) (tokens.Word w.Grouping ∷ ts) x.0 x.1
+nested_s : (n : ℕ) → IsSound (IsGroup n) (group_at n) → (ts : List Token) (x : ElementForm × List Token) → sets_at (suc n) ts ≡ Some x → IsElement (IsGroup n) (tokens.Word w.Grouping ∷ ts) x.0 x.1
 unfolding sets_at
 nested_s n sound ts x e =
-    let a = only_some (after (is_word w.Sets) ts) (λ a. enclosed_at (group_at n) a >>= λ gs. Some (sets (group_forms gs.0), gs.1)) x e in
-    let g = bind_some (enclosed_at (group_at n) a.0) (λ gs. Some (sets (group_forms gs.0), gs.1)) x a.2 in
+    let a = only_some (after (is_word w.Sets) ts) (λ a. enclosed_at (group_at n) a >>= λ gs. Some (sets (element_forms gs.0), gs.1)) x e in
+    let g = bind_some (enclosed_at (group_at n) a.0) (λ gs. Some (sets (element_forms gs.0), gs.1)) x a.2 in
     let b = (enclosed_s (IsGroup n) (group_at n) sound a.0 g.0 g.1).1 in
     let l = b.listed in
-    let made : IsElement (IsGroup n) (tokens.Word w.Grouping ∷ tokens.Word w.Sets ∷ tokens.Sign s.Open ∷ b.behind) (sets (group_forms (l.first ∷ l.others))) g.0.1 = IsElement.sets l.head l.tail in
-    let named = subst (λ (gs : List GroupForm). IsElement (IsGroup n) (tokens.Word w.Grouping ∷ tokens.Word w.Sets ∷ tokens.Sign s.Open ∷ b.behind) (sets (group_forms gs)) g.0.1) (sym l.all_is) made in
+    let made : IsElement (IsGroup n) (tokens.Word w.Grouping ∷ tokens.Word w.Sets ∷ tokens.Sign s.Open ∷ b.behind) (sets (element_forms (l.first ∷ l.others))) g.0.1 = IsElement.sets l.head l.tail in
+    let named = subst (λ (gs : List ElementForm). IsElement (IsGroup n) (tokens.Word w.Grouping ∷ tokens.Word w.Sets ∷ tokens.Sign s.Open ∷ b.behind) (sets (element_forms gs)) g.0.1) (sym l.all_is) made in
     let whole = after_word_is w.Sets ts a.0 a.1 ∙ ap (λ (us : List Token). tokens.Word w.Sets ∷ us) b.begins in
     read_as (IsElement (IsGroup n)) g.2 (begins_as (IsElement (IsGroup n)) (ap (λ (us : List Token). tokens.Word w.Grouping ∷ us) whole) named)
 
-no_sets : (ts : List Token) (x : GroupForm × List Token) → sets_at zero ts ≡ Some x → IsElement (λ ts g r. ⊥) (tokens.Word w.Grouping ∷ ts) x.0 x.1
+no_sets : (ts : List Token) (x : ElementForm × List Token) → sets_at zero ts ≡ Some x → IsElement (λ ts g r. ⊥) (tokens.Word w.Grouping ∷ ts) x.0 x.1
 unfolding sets_at
 no_sets ts x e = absurd cc
 

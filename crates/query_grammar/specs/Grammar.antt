@@ -8,7 +8,7 @@ use Rattle.query_tokens.specs.declared.token.Token.{Token}
 use Rattle.query_tokens.specs.declared.token.Token.TheVariants as tokens
 use Rattle.query_tokens.specs.declared.token.Word.TheVariants as w
 use Rattle.query_tokens.specs.declared.token.Sign.TheVariants as s
-use Rattle.query_tree.specs.Syntax.{ExpressionForm, PredicateForm, GroupForm, ItemForm, KeyForm, TreeForm, group_forms}
+use Rattle.query_tree.specs.Syntax.{ExpressionForm, PredicateForm, ElementForm, ItemForm, KeyForm, TreeForm, element_forms}
 use Rattle.query_leaves.specs.Leaves.{Derivation, IsRepeated, IsName}
 use Rattle.query_predicates.specs.Predicates.{IsExpression, IsPredicate}
 
@@ -22,7 +22,7 @@ pub data IsItem : List Token → ItemForm → List Token → Type 0 where
 -- [ WHERE pred ], with at most 64 levels of brackets
 pub data IsWhere : List Token → Option PredicateForm → List Token → Type 0 where
   none : {r : List Token} → IsWhere r None r
-  filter : {ts r : List Token} {p : PredicateForm} → IsPredicate 65 ts p r → IsWhere (tokens.Word w.Where ∷ ts) (Some p) r
+  condition : {ts r : List Token} {p : PredicateForm} → IsPredicate 65 ts p r → IsWhere (tokens.Word w.Where ∷ ts) (Some p) r
 
 -- unit = name | "(" name { "," name } ")"
 pub data IsUnit : List Token → List (List ℕ) → List Token → Type 0 where
@@ -39,29 +39,29 @@ pub data IsSet : List Token → List (List ℕ) → List Token → Type 0 where
 --       | CUBE "(" unit { "," unit } ")"
 --       | GROUPING SETS "(" group { "," group } ")"
 -- where IsInner is what may stand in the brackets of GROUPING SETS
-pub data IsElement (IsInner : Derivation GroupForm) : List Token → GroupForm → List Token → Type 0 where
-  set : {ts r : List Token} {ns : List (List ℕ)} → IsSet ts ns r → IsElement IsInner ts (GroupForm.set ns) r
+pub data IsElement (IsInner : Derivation ElementForm) : List Token → ElementForm → List Token → Type 0 where
+  set : {ts r : List Token} {ns : List (List ℕ)} → IsSet ts ns r → IsElement IsInner ts (ElementForm.set ns) r
   rollup : {ts mid r : List Token} {u : List (List ℕ)} {us : List (List (List ℕ))} → IsUnit ts u mid → IsRepeated (tokens.Sign s.Comma) IsUnit mid us (tokens.Sign s.Close ∷ r)
-      → IsElement IsInner (tokens.Word w.Rollup ∷ tokens.Sign s.Open ∷ ts) (GroupForm.rollup (u ∷ us)) r
+      → IsElement IsInner (tokens.Word w.Rollup ∷ tokens.Sign s.Open ∷ ts) (ElementForm.rollup (u ∷ us)) r
   cube : {ts mid r : List Token} {u : List (List ℕ)} {us : List (List (List ℕ))} → IsUnit ts u mid → IsRepeated (tokens.Sign s.Comma) IsUnit mid us (tokens.Sign s.Close ∷ r)
-      → IsElement IsInner (tokens.Word w.Cube ∷ tokens.Sign s.Open ∷ ts) (GroupForm.cube (u ∷ us)) r
-  sets : {ts mid r : List Token} {g : GroupForm} {gs : List GroupForm} → IsInner ts g mid → IsRepeated (tokens.Sign s.Comma) IsInner mid gs (tokens.Sign s.Close ∷ r)
-      → IsElement IsInner (tokens.Word w.Grouping ∷ tokens.Word w.Sets ∷ tokens.Sign s.Open ∷ ts) (GroupForm.sets (group_forms (g ∷ gs))) r
+      → IsElement IsInner (tokens.Word w.Cube ∷ tokens.Sign s.Open ∷ ts) (ElementForm.cube (u ∷ us)) r
+  sets : {ts mid r : List Token} {g : ElementForm} {gs : List ElementForm} → IsInner ts g mid → IsRepeated (tokens.Sign s.Comma) IsInner mid gs (tokens.Sign s.Close ∷ r)
+      → IsElement IsInner (tokens.Word w.Grouping ∷ tokens.Word w.Sets ∷ tokens.Sign s.Open ∷ ts) (ElementForm.sets (element_forms (g ∷ gs))) r
 
 -- group, with at most n levels of GROUPING SETS in one another
-unfoldable pub IsGroup : ℕ → List Token → GroupForm → List Token → Type 0
+unfoldable pub IsGroup : ℕ → List Token → ElementForm → List Token → Type 0
 IsGroup zero ts g r = IsElement (λ ts g r. ⊥) ts g r
 IsGroup (suc n) ts g r = IsElement (IsGroup n) ts g r
 
 -- [ GROUP BY group { "," group } ], with at most 16 levels of GROUPING SETS in one another
-pub data IsGroupBy : List Token → List GroupForm → List Token → Type 0 where
+pub data IsGroupBy : List Token → List ElementForm → List Token → Type 0 where
   none : {r : List Token} → IsGroupBy r [] r
-  groups : {ts mid r : List Token} {g : GroupForm} {gs : List GroupForm} → IsGroup 16 ts g mid → IsRepeated (tokens.Sign s.Comma) (IsGroup 16) mid gs r → IsGroupBy (tokens.Word w.Group ∷ tokens.Word w.By ∷ ts) (g ∷ gs) r
+  groups : {ts mid r : List Token} {g : ElementForm} {gs : List ElementForm} → IsGroup 16 ts g mid → IsRepeated (tokens.Sign s.Comma) (IsGroup 16) mid gs r → IsGroupBy (tokens.Word w.Group ∷ tokens.Word w.By ∷ ts) (g ∷ gs) r
 
 -- [ HAVING pred ], with at most 64 levels of brackets
 pub data IsHaving : List Token → Option PredicateForm → List Token → Type 0 where
   none : {r : List Token} → IsHaving r None r
-  filter : {ts r : List Token} {p : PredicateForm} → IsPredicate 65 ts p r → IsHaving (tokens.Word w.Having ∷ ts) (Some p) r
+  condition : {ts r : List Token} {p : PredicateForm} → IsPredicate 65 ts p r → IsHaving (tokens.Word w.Having ∷ ts) (Some p) r
 
 -- [ ASC | DESC ], and whether it is DESC
 pub data IsDirection : List Token → Bool → List Token → Type 0 where
@@ -89,10 +89,10 @@ pub data IsOrderBy : List Token → List KeyForm → List Token → Type 0 where
 --         [ HAVING pred ] [ ORDER BY key { "," key } ]
 -- with at most 64 items; `lines` is the name `lines`, compared exactly
 pub data IsQuery : List Token → TreeForm → List Token → Type 0 where
-  query : {ts mid after_from after_where after_groups after_having r : List Token} {i : ItemForm} {is : List ItemForm} {p h : Option PredicateForm} {gs : List GroupForm} {ks : List KeyForm}
+  query : {ts mid after_from after_where after_groups after_having r : List Token} {i : ItemForm} {is : List ItemForm} {p h : Option PredicateForm} {gs : List ElementForm} {ks : List KeyForm}
       → IsItem ts i mid → IsRepeated (tokens.Sign s.Comma) IsItem mid is (tokens.Word w.From ∷ tokens.Name (codes "lines") ∷ after_from) → length is < 64
       → IsWhere after_from p after_where → IsGroupBy after_where gs after_groups → IsHaving after_groups h after_having → IsOrderBy after_having ks r
-      → IsQuery (tokens.Word w.Select ∷ ts) record { items = i ∷ is; filter = p; groups = gs; having = h; keys = ks } r
+      → IsQuery (tokens.Word w.Select ∷ ts) record { items = i ∷ is; where_condition = p; groups = gs; having_condition = h; keys = ks } r
 
 -- All of the tokens derive the query, within the limits.
 abbrev pub Derives : List Token → TreeForm → Type 0

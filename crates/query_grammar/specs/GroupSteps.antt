@@ -5,7 +5,7 @@ use Rattle.query_tokens.specs.declared.token.Token.{Token}
 use Rattle.query_tokens.specs.declared.token.Word.TheVariants as w
 use Rattle.query_tokens.specs.declared.token.Sign.TheVariants as s
 use Rattle.query_tokens.specs.Options.{◌>>=◌, choose}
-use Rattle.query_tree.specs.Syntax.{GroupForm, set, rollup, cube, sets, group_forms}
+use Rattle.query_tree.specs.Syntax.{ElementForm, set, rollup, cube, sets, element_forms}
 use Rattle.query_leaves.specs.Fronts.{is_word, is_sign, after}
 use Rattle.query_leaves.specs.Steps.{Reader, with_front, more, name_at}
 
@@ -34,7 +34,7 @@ unfoldable pub set_at : Reader (List (List ℕ))
 set_at ts = choose (nothing_at ts) (unit_at ts) (λ rest. Some ([], rest))
 
 -- An element of GROUP BY, where nested reads what stands behind GROUPING.
-unfoldable pub element_at : Reader GroupForm → Reader GroupForm
+unfoldable pub element_at : Reader ElementForm → Reader ElementForm
 element_at nested ts = choose (after (is_word w.Rollup) ts)
     (choose (after (is_word w.Cube) ts)
     (choose (after (is_word w.Grouping) ts)
@@ -44,10 +44,10 @@ element_at nested ts = choose (after (is_word w.Rollup) ts)
     (λ a. units_at a >>= λ us. Some (rollup us.0, us.1))
 
 -- What stands behind GROUPING: SETS and its bracketed elements, with at most n levels of GROUPING SETS in all.
-unfoldable pub sets_at : ℕ → Reader GroupForm
+unfoldable pub sets_at : ℕ → Reader ElementForm
 sets_at zero ts = None
-sets_at (suc n) ts = choose (after (is_word w.Sets) ts) None (λ a. enclosed_at (element_at (sets_at n)) a >>= λ gs. Some (sets (group_forms gs.0), gs.1))
+sets_at (suc n) ts = choose (after (is_word w.Sets) ts) None (λ a. enclosed_at (element_at (sets_at n)) a >>= λ gs. Some (sets (element_forms gs.0), gs.1))
 
 -- An element of GROUP BY, with at most n levels of GROUPING SETS in one another.
-abbrev pub group_at : ℕ → Reader GroupForm
+abbrev pub group_at : ℕ → Reader ElementForm
 group_at n = element_at (sets_at n)

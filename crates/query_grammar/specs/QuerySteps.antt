@@ -6,7 +6,7 @@ use Rattle.query_tokens.specs.declared.token.Token.{Token}
 use Rattle.query_tokens.specs.declared.token.Word.{Word}
 use Rattle.query_tokens.specs.declared.token.Word.TheVariants as w
 use Rattle.query_tokens.specs.Options.{◌>>=◌, choose}
-use Rattle.query_tree.specs.Syntax.{PredicateForm, GroupForm, ItemForm, TreeForm}
+use Rattle.query_tree.specs.Syntax.{PredicateForm, ElementForm, ItemForm, TreeForm}
 use Rattle.query_leaves.specs.Fronts.{is_word, after}
 use Rattle.query_leaves.specs.Steps.{Reader, listed_at, name_at}
 use Rattle.query_predicates.specs.ExpressionSteps.{expression_at}
@@ -35,13 +35,13 @@ unfoldable pub clause_at : Word → Reader (Option PredicateForm)
 clause_at word ts = choose (after (is_word word) ts) (Some (None, ts)) (λ a. predicate_at 65 a >>= λ p. Some (Some p.0, p.1))
 
 -- The elements of GROUP BY, or none.
-unfoldable pub groups_at : Reader (List GroupForm)
+unfoldable pub groups_at : Reader (List ElementForm)
 groups_at ts = choose (after (is_word w.Group) ts) (Some ([], ts)) (λ a. choose (after (is_word w.By) a) None (λ b. all_at (group_at 16) b))
 
 -- A query.
 unfoldable pub query_at : Reader TreeForm
 query_at ts = choose (after (is_word w.Select) ts) None (λ a. items_at a >>= λ is. from_at is.1 >>= λ b. clause_at w.Where b >>= λ p. groups_at p.1 >>= λ gs.
-    clause_at w.Having gs.1 >>= λ h. keys_at h.1 >>= λ ks. Some (record { items = is.0; filter = p.0; groups = gs.0; having = h.0; keys = ks.0 }, ks.1))
+    clause_at w.Having gs.1 >>= λ h. keys_at h.1 >>= λ ks. Some (record { items = is.0; where_condition = p.0; groups = gs.0; having_condition = h.0; keys = ks.0 }, ks.1))
 
 -- What was read, where nothing is left.
 abbrev pub at_end : List Token → TreeForm → Option TreeForm

@@ -2,7 +2,7 @@
 
 ghost use Rattle.std.specs.Prelude.{◌≡◌, ◌<◌, ◌≤◌, ◌∷◌, [], length, map, IfOk};
 ghost use Rattle.query_tokens.specs.declared.token.Sign.TheVariants.{Comma};
-ghost use Rattle.query_tree.specs.Syntax.{group_form};
+ghost use Rattle.query_tree.specs.Syntax.{element_form};
 ghost use Rattle.query_leaves.specs.Fronts.{is_sign};
 ghost use Rattle.query_leaves.specs.Steps.{Gives, with_front, more};
 ghost use Rattle.query_grammar.specs.GroupSteps.{sets_at, group_at};
@@ -11,7 +11,7 @@ ghost use Rattle.query_grammar.specs.QuerySteps.{groups_at};
 use crate::units::{set, units};
 use query_leaves::{GrammarFault, after_sign, after_word, expect_sign, expect_word, keep};
 use query_tokens::{Sign, Token, Word};
-use query_tree::Group;
+use query_tree::GroupingElement;
 use std::alloc::Global;
 
 /// The most levels of GROUPING SETS in one another.
@@ -20,23 +20,27 @@ const MOST_LEVELS: u32 = 16;
 /// An element of GROUP BY, with at most so many levels of GROUPING SETS in one another.
 #[cycle(group)]
 #[tactic(auto, unfolding(crate::specs::GroupSteps::element_at))]
-fn group(alloc: Global, tokens: &[Token], levels: u32) -> Result<(Group, &[Token]), GrammarFault>
-    ensures exact { Gives (λ x. (group_form x.0, x.1.now)) result (group_at levels tokens.now) }
+fn group(
+    alloc: Global,
+    tokens: &[Token],
+    levels: u32,
+) -> Result<(GroupingElement, &[Token]), GrammarFault>
+    ensures exact { Gives (λ x. (element_form x.0, x.1.now)) result (group_at levels tokens.now) }
     ensures shorter { IfOk result (λ x. length x.1.now < length tokens.now) }
 {
     if let Some(rest) = after_word(tokens, Word::Rollup) {
         let (units, rest) = units(alloc, rest)?;
-        return Ok((Group::Rollup(units), rest));
+        return Ok((GroupingElement::Rollup(units), rest));
     }
     if let Some(rest) = after_word(tokens, Word::Cube) {
         let (units, rest) = units(alloc, rest)?;
-        return Ok((Group::Cube(units), rest));
+        return Ok((GroupingElement::Cube(units), rest));
     }
     if let Some(rest) = after_word(tokens, Word::Grouping) {
         return grouping_sets(alloc, rest, levels);
     }
     let (names, rest) = set(alloc, tokens)?;
-    Ok((Group::Set(names), rest))
+    Ok((GroupingElement::Set(names), rest))
 }
 
 /// What stands behind GROUPING: SETS and its bracketed elements, with at most so many levels of
@@ -47,8 +51,8 @@ fn grouping_sets(
     alloc: Global,
     tokens: &[Token],
     levels: u32,
-) -> Result<(Group, &[Token]), GrammarFault>
-    ensures exact { Gives (λ x. (group_form x.0, x.1.now)) result (sets_at levels tokens.now) }
+) -> Result<(GroupingElement, &[Token]), GrammarFault>
+    ensures exact { Gives (λ x. (element_form x.0, x.1.now)) result (sets_at levels tokens.now) }
     ensures shorter { IfOk result (λ x. length x.1.now < length tokens.now) }
 {
     if levels == 0 {
@@ -59,18 +63,18 @@ fn grouping_sets(
     let (first, rest) = group(alloc, rest, levels - 1)?;
     let (all, rest) = more_groups(alloc, first, rest, levels - 1)?;
     let (all, rest) = keep(all, expect_sign(rest, Sign::Close))?;
-    Ok((Group::Sets(all), rest))
+    Ok((GroupingElement::Sets(all), rest))
 }
 
 /// The first element and those behind it, each behind its comma.
 #[cycle(group)]
 fn more_groups(
     alloc: Global,
-    first: Group,
+    first: GroupingElement,
     tokens: &[Token],
     levels: u32,
-) -> Result<(Vec<Group>, &[Token]), GrammarFault>
-    ensures exact { Gives (λ x. (map group_form x.0.items, x.1.now)) result (with_front (group_form first ∷ []) (more (is_sign Comma) (group_at levels) (length tokens.now) tokens.now)) }
+) -> Result<(Vec<GroupingElement>, &[Token]), GrammarFault>
+    ensures exact { Gives (λ x. (map element_form x.0.items, x.1.now)) result (with_front (element_form first ∷ []) (more (is_sign Comma) (group_at levels) (length tokens.now) tokens.now)) }
     ensures shorter { IfOk result (λ x. length x.1.now ≤ length tokens.now) }
 {
     let mut all = Vec::new(alloc);
@@ -86,8 +90,11 @@ fn more_groups(
 
 /// The elements of GROUP BY, none where it is not written.
 #[tactic(auto, unfolding(crate::specs::QuerySteps::groups_at))]
-pub fn groups(alloc: Global, tokens: &[Token]) -> Result<(Vec<Group>, &[Token]), GrammarFault>
-    ensures exact { Gives (λ x. (map group_form x.0.items, x.1.now)) result (groups_at tokens.now) }
+pub fn groups(
+    alloc: Global,
+    tokens: &[Token],
+) -> Result<(Vec<GroupingElement>, &[Token]), GrammarFault>
+    ensures exact { Gives (λ x. (map element_form x.0.items, x.1.now)) result (groups_at tokens.now) }
     ensures shorter { IfOk result (λ x. length x.1.now ≤ length tokens.now) }
 {
     let Some(rest) = after_word(tokens, Word::Group) else {

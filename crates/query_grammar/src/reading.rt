@@ -56,18 +56,24 @@ fn query(alloc: Global, tokens: &[Token]) -> Result<(Tree, &[Token]), GrammarFau
     let rest = expect_word(tokens, Word::Select)?;
     let (items, rest) = items(alloc, rest)?;
     let (items, rest) = keep(items, from_lines(rest))?;
-    let (items, (filter, rest)) = keep(items, clause(alloc, rest, Word::Where))?;
-    let ((items, filter), (groups, rest)) = keep((items, filter), groups(alloc, rest))?;
+    let (items, (where_condition, rest)) = keep(items, clause(alloc, rest, Word::Where))?;
+    let ((items, where_condition), (groups, rest)) = keep(
+        (items, where_condition),
+        groups(alloc, rest),
+    )?;
     let found = clause(alloc, rest, Word::Having);
-    let ((items, filter, groups), (having, rest)) = keep((items, filter, groups), found)?;
+    let ((items, where_condition, groups), (having_condition, rest)) = keep(
+        (items, where_condition, groups),
+        found,
+    )?;
     let found = keys(alloc, rest);
-    let (read, (keys, rest)) = keep((items, filter, groups, having), found)?;
-    let (items, filter, groups, having) = read;
+    let (read, (keys, rest)) = keep((items, where_condition, groups, having_condition), found)?;
+    let (items, where_condition, groups, having_condition) = read;
     let tree = Tree {
         items,
-        filter,
+        where_condition,
         groups,
-        having,
+        having_condition,
         keys,
     };
     Ok((tree, rest))

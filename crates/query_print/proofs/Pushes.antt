@@ -5,11 +5,11 @@ use Rattle.std.specs.Global.{Global}
 use Rattle.std.proofs.lemmas.Option.{slice_get-map}
 use Rattle.values.specs.declared.schema.Column.{Column}
 use Rattle.values.specs.Schema.{fields_of}
-use Rattle.query_tree.specs.declared.group.Group.{Group}
-use Rattle.query_tree.specs.declared.group.Group.TheVariants as variant
-use Rattle.query_tree.specs.declared.group.Group.TheOpen as layer
-use Rattle.query_tree.specs.declared.group.Group.TheFolds.{fold-roll-Group}
-use Rattle.query_tree.specs.Syntax.{GroupForm, group_form, group_forms, group_step, sets}
+use Rattle.query_tree.specs.declared.group.GroupingElement.{GroupingElement}
+use Rattle.query_tree.specs.declared.group.GroupingElement.TheVariants as variant
+use Rattle.query_tree.specs.declared.group.GroupingElement.TheOpen as layer
+use Rattle.query_tree.specs.declared.group.GroupingElement.TheFolds.{fold-roll-GroupingElement}
+use Rattle.query_tree.specs.Syntax.{ElementForm, element_form, element_forms, element_step, sets}
 use Rattle.query_print.specs.Canonical.{comma_list, group_texts, list_clause, name_at}
 
 -- A last push that went well ends the text.
@@ -28,11 +28,11 @@ above_zero zero h = absurd cc
 above_zero (suc n) h = omega arith
 
 -- The form of GROUPING SETS.
-pub sets_form : (v : Vec Group Global) → group_form (variant.Sets v) ≡ sets (group_forms (map group_form v.items))
-sets_form v = ap group_form (sym (variant.rolls-Sets v)) ∙ fold-roll-Group GroupForm group_step (layer.Sets v)
+pub sets_form : (v : Vec GroupingElement Global) → element_form (variant.Sets v) ≡ sets (element_forms (map element_form v.items))
+sets_form v = ap element_form (sym (variant.rolls-Sets v)) ∙ fold-roll-GroupingElement ElementForm element_step (layer.Sets v)
 
 -- A clause of groups, one at least, is its keywords and its list.
-pub group_clause : (keywords : List ℕ) (groups : List Group) → 0 < length groups → list_clause keywords (group_texts (group_forms (map group_form groups))) ≡ keywords ++ comma_list (group_texts (group_forms (map group_form groups)))
+pub group_clause : (keywords : List ℕ) (groups : List GroupingElement) → 0 < length groups → list_clause keywords (group_texts (element_forms (map element_form groups))) ≡ keywords ++ comma_list (group_texts (element_forms (map element_form groups)))
 group_clause keywords [] some = absurd (omega arith)
 group_clause keywords (g ∷ gs) some = refl
 

@@ -12,7 +12,7 @@ use Rattle.values.specs.declared.truth.Truth.{Truth}
 use Rattle.values.specs.declared.truth.Truth.TheVariants as truth
 use Rattle.query_tree.specs.declared.predicate.Literal.{Literal}
 use Rattle.query_tree.specs.declared.predicate.Literal.TheVariants as constant
-use Rattle.query_tree.specs.Syntax.{ExpressionForm, FunctionForm, OperandForm, PredicateForm, PredicateForms, GroupForm, GroupForms, ItemForm, KeyForm, TreeForm, name, grouping, function, over_all, over_filtered, expression, literal, or_of, and_of, not_of, truth_test, compare, between, member, null_test, column, no_parts, part, set, rollup, cube, sets, no_groups, group, group_forms}
+use Rattle.query_tree.specs.Syntax.{ExpressionForm, FunctionForm, OperandForm, PredicateForm, PredicateForms, ElementForm, ElementForms, ItemForm, KeyForm, TreeForm, name, grouping, function, over_all, over_filtered, expression, literal, or_of, and_of, not_of, truth_test, compare, between, member, null_test, column, no_parts, part, set, rollup, cube, sets, no_groups, group, element_forms}
 
 -- ---- lists and brackets
 
@@ -135,14 +135,14 @@ unit_text (x ∷ y ∷ others) = in_brackets (names_text (x ∷ y ∷ others))
 
 abbrev mutual
   -- An element of GROUP BY.
-  pub group_text : GroupForm → List ℕ
+  pub group_text : ElementForm → List ℕ
   group_text (set ns) = unit_text ns
   group_text (rollup us) = codes "ROLLUP " ++ in_brackets (comma_list (map unit_text us))
   group_text (cube us) = codes "CUBE " ++ in_brackets (comma_list (map unit_text us))
   group_text (sets gs) = codes "GROUPING SETS " ++ in_brackets (comma_list (group_texts gs))
 
   -- The elements of GROUPING SETS, in order.
-  pub group_texts : GroupForms → List (List ℕ)
+  pub group_texts : ElementForms → List (List ℕ)
   group_texts no_groups = []
   group_texts (group g gs) = group_text g ∷ group_texts gs
 
@@ -187,9 +187,9 @@ list_clause keywords (first ∷ others) = keywords ++ comma_list (first ∷ othe
 abbrev pub canonical_text : TreeForm → List ℕ
 canonical_text t =
     codes "SELECT " ++ comma_list (map item_text t.items) ++ codes " FROM lines"
-    ++ predicate_clause (codes " WHERE ") t.filter
-    ++ list_clause (codes " GROUP BY ") (group_texts (group_forms t.groups))
-    ++ predicate_clause (codes " HAVING ") t.having
+    ++ predicate_clause (codes " WHERE ") t.where_condition
+    ++ list_clause (codes " GROUP BY ") (group_texts (element_forms t.groups))
+    ++ predicate_clause (codes " HAVING ") t.having_condition
     ++ list_clause (codes " ORDER BY ") (map key_text t.keys)
 
 -- ---- headers and sets

@@ -4,12 +4,13 @@ ghost use Rattle.std.specs.Prelude.{◌≡◌, ◌++◌, codes, IfOk, map, OnOk,
 ghost use Rattle.std.specs.Option.{option_map};
 ghost use Rattle.values.specs.Schema.{fields_of};
 ghost use Rattle.query_print.specs.Canonical.{alias_text, canonical_text, comma_list, direction_text, group_texts, header_text, item_text, key_text, list_clause, name_at, names_text, nulls_text, predicate_clause, set_text};
-ghost use Rattle.query_tree.specs.Syntax.{group_form, group_forms, item_form, key_form, predicate_form, tree_form};
+ghost use Rattle.query_tree.specs.Syntax.{element_form, element_forms, item_form, key_form, predicate_form, tree_form};
 
 use crate::groups::push_groups;
+use crate::lists::{Written, write_list};
 use crate::predicates::{push_expression, push_predicate};
 use query_tokens::push_name;
-use query_tree::{Group, Item, Key, Predicate, Tree};
+use query_tree::{GroupingElement, Item, Key, Predicate, Tree};
 use std::alloc::{AllocError, Global};
 use values::{Column, Schema};
 
@@ -19,11 +20,11 @@ pub fn print_tree(alloc: Global, tree: &Tree) -> Result<String, AllocError>
 {
     let mut out = String::new(alloc);
     out.push_str("SELECT ")?;
-    push_items(&mut out, &tree.items)?;
+    write_list(&mut out, &tree.items)?;
     out.push_str(" FROM lines")?;
-    push_predicate_clause(&mut out, " WHERE ", &tree.filter)?;
+    push_predicate_clause(&mut out, " WHERE ", &tree.where_condition)?;
     push_group_by(&mut out, &tree.groups)?;
-    push_predicate_clause(&mut out, " HAVING ", &tree.having)?;
+    push_predicate_clause(&mut out, " HAVING ", &tree.having_condition)?;
     push_order_by(&mut out, &tree.keys)?;
     Ok(out)
 }
@@ -76,31 +77,25 @@ fn push_columns(out: &mut String, columns: &[Column], places: &[usize]) -> Resul
     Ok(())
 }
 
-/// Writes an item at the end.
-fn push_item(out: &mut String, item: &Item) -> Result<(), AllocError>
-    ensures { OnOk result (string_bytes out.new ≡ string_bytes out.old ++ item_text (item_form item.now)) }
-{
-    push_expression(out, &item.expression)?;
-    if let Some(alias) = &item.alias {
-        out.push_str(" AS ")?;
-        push_name(out, alias.as_str())?;
-    }
-    Ok(())
-}
+/// An item: its expression, and its alias.
+impl Written for Item {
+    ghost use Rattle.query_tree.specs.Syntax.{ItemForm, item_form};
+    ghost use Rattle.query_print.specs.Canonical.{item_text};
 
-/// Writes items at the end, with commas.
-fn push_items(out: &mut String, items: &[Item]) -> Result<(), AllocError>
-    ensures { OnOk result (string_bytes out.new ≡ string_bytes out.old ++ comma_list (map item_text (map item_form items.now))) }
-{
-    let [first, others @ ..] = items else {
-        return Ok(());
-    };
-    push_item(out, first)?;
-    for item in others {
-        out.push_str(", ")?;
-        push_item(out, item)?;
+    ghost Form = { ItemForm };
+
+    ghost form = { item_form };
+
+    ghost text = { item_text };
+
+    fn write(&self, out: &mut String) -> Result<(), AllocError> {
+        push_expression(out, &self.expression)?;
+        if let Some(alias) = &self.alias {
+            out.push_str(" AS ")?;
+            push_name(out, alias.as_str())?;
+        }
+        Ok(())
     }
-    Ok(())
 }
 
 /// DESC, where it is written.
@@ -121,28 +116,22 @@ fn nulls_text(descending: bool, nulls_first: bool) -> &'static str
     }
 }
 
-/// Writes a key at the end. NULLS FIRST and NULLS LAST are written only where they are not the default.
-fn push_key(out: &mut String, key: &Key) -> Result<(), AllocError>
-    ensures { OnOk result (string_bytes out.new ≡ string_bytes out.old ++ key_text (key_form key.now)) }
-{
-    push_expression(out, &key.expression)?;
-    out.push_str(direction_text(key.descending))?;
-    out.push_str(nulls_text(key.descending, key.nulls_first))
-}
+/// A key. NULLS FIRST and NULLS LAST are written only where they are not the default.
+impl Written for Key {
+    ghost use Rattle.query_tree.specs.Syntax.{KeyForm, key_form};
+    ghost use Rattle.query_print.specs.Canonical.{key_text};
 
-/// Writes keys at the end, with commas.
-fn push_keys(out: &mut String, keys: &[Key]) -> Result<(), AllocError>
-    ensures { OnOk result (string_bytes out.new ≡ string_bytes out.old ++ comma_list (map key_text (map key_form keys.now))) }
-{
-    let [first, others @ ..] = keys else {
-        return Ok(());
-    };
-    push_key(out, first)?;
-    for key in others {
-        out.push_str(", ")?;
-        push_key(out, key)?;
+    ghost Form = { KeyForm };
+
+    ghost form = { key_form };
+
+    ghost text = { key_text };
+
+    fn write(&self, out: &mut String) -> Result<(), AllocError> {
+        push_expression(out, &self.expression)?;
+        out.push_str(direction_text(self.descending))?;
+        out.push_str(nulls_text(self.descending, self.nulls_first))
     }
-    Ok(())
 }
 
 /// Writes a clause of one predicate at the end, where there is one.
@@ -163,8 +152,8 @@ fn push_predicate_clause(
 }
 
 /// Writes GROUP BY at the end, where it has an element.
-fn push_group_by(out: &mut String, groups: &[Group]) -> Result<(), AllocError>
-    ensures { OnOk result (string_bytes out.new ≡ string_bytes out.old ++ list_clause (codes " GROUP BY ") (group_texts (group_forms (map group_form groups.now)))) }
+fn push_group_by(out: &mut String, groups: &[GroupingElement]) -> Result<(), AllocError>
+    ensures { OnOk result (string_bytes out.new ≡ string_bytes out.old ++ list_clause (codes " GROUP BY ") (group_texts (element_forms (map element_form groups.now)))) }
 {
     if groups.is_empty() {
         return Ok(());
@@ -181,5 +170,5 @@ fn push_order_by(out: &mut String, keys: &[Key]) -> Result<(), AllocError>
         return Ok(());
     }
     out.push_str(" ORDER BY ")?;
-    push_keys(out, keys)
+    write_list(out, keys)
 }

@@ -1,59 +1,53 @@
 //! The elements of GROUP BY.
 
 ghost use Rattle.std.specs.Prelude.{◌≡◌, ◌++◌, map, OnOk, string_bytes};
-ghost use Rattle.query_print.specs.Canonical.{comma_list, group_text, group_texts, in_brackets, unit_text};
-ghost use Rattle.query_tree.specs.Syntax.{group_form, group_forms, units_form};
+ghost use Rattle.query_print.specs.Canonical.{comma_list, group_text, group_texts, in_brackets};
+ghost use Rattle.query_tree.specs.Syntax.{element_form, element_forms};
 
-use crate::leaves::push_names;
+use crate::lists::{Written, write_list};
 use query_tokens::push_name;
-use query_tree::{Group, Text};
+use query_tree::{GroupingElement, Text};
 use std::alloc::AllocError;
 
-/// Writes a set or a unit at the end: one name is that name, all else stands in brackets.
-fn push_unit(out: &mut String, names: &[Text]) -> Result<(), AllocError>
-    ensures { OnOk result (string_bytes out.new ≡ string_bytes out.old ++ unit_text names.now) }
-{
-    if let [name] = names {
-        return push_name(out, name.as_str());
-    }
-    out.push_str("(")?;
-    push_names(out, names)?;
-    out.push_str(")")
-}
+/// A set or a unit: one name is that name, all else stands in brackets.
+impl Written for Vec<Text> {
+    ghost use Rattle.std.specs.Prelude.{ℕ, List};
+    ghost use Rattle.query_print.specs.Canonical.{unit_text};
 
-/// Writes units at the end, with commas.
-fn push_units(out: &mut String, units: &[Vec<Text>]) -> Result<(), AllocError>
-    ensures { OnOk result (string_bytes out.new ≡ string_bytes out.old ++ comma_list (map unit_text (units_form units.now))) }
-{
-    let [first, others @ ..] = units else {
-        return Ok(());
-    };
-    push_unit(out, first)?;
-    for unit in others {
-        out.push_str(", ")?;
-        push_unit(out, unit)?;
+    ghost Form = { List (List ℕ) };
+
+    ghost form = { λ unit. unit.items };
+
+    ghost text = { unit_text };
+
+    fn write(&self, out: &mut String) -> Result<(), AllocError> {
+        if let [name] = self.as_slice() {
+            return push_name(out, name.as_str());
+        }
+        out.push_str("(")?;
+        write_list(out, self)?;
+        out.push_str(")")
     }
-    Ok(())
 }
 
 /// Writes an element of GROUP BY at the end.
 #[cycle(push_group)]
-pub(crate) fn push_group(out: &mut String, group: &Group) -> Result<(), AllocError>
-    ensures { OnOk result (string_bytes out.new ≡ string_bytes out.old ++ group_text (group_form group.now)) }
+pub(crate) fn push_group(out: &mut String, group: &GroupingElement) -> Result<(), AllocError>
+    ensures { OnOk result (string_bytes out.new ≡ string_bytes out.old ++ group_text (element_form group.now)) }
 {
     match group {
-        Group::Set(names) => push_unit(out, names),
-        Group::Rollup(units) => {
+        GroupingElement::Set(names) => names.write(out),
+        GroupingElement::Rollup(units) => {
             out.push_str("ROLLUP (")?;
-            push_units(out, units)?;
+            write_list(out, units)?;
             out.push_str(")")
         }
-        Group::Cube(units) => {
+        GroupingElement::Cube(units) => {
             out.push_str("CUBE (")?;
-            push_units(out, units)?;
+            write_list(out, units)?;
             out.push_str(")")
         }
-        Group::Sets(groups) => {
+        GroupingElement::Sets(groups) => {
             out.push_str("GROUPING SETS ")?;
             push_bracketed(out, groups)
         }
@@ -62,8 +56,8 @@ pub(crate) fn push_group(out: &mut String, group: &Group) -> Result<(), AllocErr
 
 /// Writes elements of GROUPING SETS at the end, in brackets.
 #[cycle(push_group)]
-fn push_bracketed(out: &mut String, groups: &[Group]) -> Result<(), AllocError>
-    ensures { OnOk result (string_bytes out.new ≡ string_bytes out.old ++ in_brackets (comma_list (group_texts (group_forms (map group_form groups.now))))) }
+fn push_bracketed(out: &mut String, groups: &[GroupingElement]) -> Result<(), AllocError>
+    ensures { OnOk result (string_bytes out.new ≡ string_bytes out.old ++ in_brackets (comma_list (group_texts (element_forms (map element_form groups.now))))) }
 {
     out.push_str("(")?;
     push_groups(out, groups)?;
@@ -72,8 +66,8 @@ fn push_bracketed(out: &mut String, groups: &[Group]) -> Result<(), AllocError>
 
 /// Writes elements of GROUP BY at the end, with commas.
 #[cycle(push_group)]
-pub(crate) fn push_groups(out: &mut String, groups: &[Group]) -> Result<(), AllocError>
-    ensures { OnOk result (string_bytes out.new ≡ string_bytes out.old ++ comma_list (group_texts (group_forms (map group_form groups.now)))) }
+pub(crate) fn push_groups(out: &mut String, groups: &[GroupingElement]) -> Result<(), AllocError>
+    ensures { OnOk result (string_bytes out.new ≡ string_bytes out.old ++ comma_list (group_texts (element_forms (map element_form groups.now)))) }
 {
     let [first, others @ ..] = groups else {
         return Ok(());

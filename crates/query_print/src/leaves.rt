@@ -1,28 +1,29 @@
 //! The leaves of expressions and predicates.
 
-ghost use Rattle.std.specs.Prelude.{◌≡◌, ◌++◌, codes, map, OnOk, string_bytes};
-ghost use Rattle.query_print.specs.Canonical.{aggregate_text, joined, literal_text, names_text, op_text, comma_list, not_text, truth_text};
+ghost use Rattle.std.specs.Prelude.{◌≡◌, ◌++◌, codes, OnOk, string_bytes};
+ghost use Rattle.query_print.specs.Canonical.{aggregate_text, op_text, not_text, truth_text};
 ghost use Rattle.query_tokens.specs.Words.{name_text};
 
+use crate::lists::Written;
 use itoa::Buffer;
 use query_tokens::{push_name, push_quoted};
 use query_tree::{Aggregate, Literal, Text};
 use std::alloc::AllocError;
 use values::{Op, Truth};
 
-/// Writes names at the end, with commas.
-pub(crate) fn push_names(out: &mut String, names: &[Text]) -> Result<(), AllocError>
-    ensures { OnOk result (string_bytes out.new ≡ string_bytes out.old ++ names_text names.now) }
-{
-    let [first, others @ ..] = names else {
-        return Ok(());
-    };
-    push_name(out, first.as_str())?;
-    for name in others {
-        out.push_str(", ")?;
-        push_name(out, name.as_str())?;
+impl Written for Text {
+    ghost use Rattle.std.specs.Prelude.{ℕ, List};
+    ghost use Rattle.query_tokens.specs.Words.{name_text};
+
+    ghost Form = { List ℕ };
+
+    ghost form = { λ n. n };
+
+    ghost text = { name_text };
+
+    fn write(&self, out: &mut String) -> Result<(), AllocError> {
+        push_name(out, self.as_str())
     }
-    Ok(())
 }
 
 /// Writes a function of one column at the end.
@@ -49,34 +50,28 @@ pub(crate) fn push_aggregate(out: &mut String, aggregate: &Aggregate) -> Result<
     }
 }
 
-/// Writes a literal at the end.
-pub(crate) fn push_literal(out: &mut String, literal: &Literal) -> Result<(), AllocError>
-    ensures { OnOk result (string_bytes out.new ≡ string_bytes out.old ++ literal_text literal.now) }
-{
-    match literal {
-        Literal::Integer(number) => {
-            let mut digits = Buffer::new();
-            out.push_str(digits.format(*number))
-        }
-        Literal::Text(text) => push_quoted(out, text.as_str(), '\''),
-        Literal::Truth(true) => out.push_str("TRUE"),
-        Literal::Truth(false) => out.push_str("FALSE"),
-    }
-}
+/// A whole number is written in decimal, a text between apostrophes, a truth value as its keyword.
+impl Written for Literal {
+    ghost use Rattle.query_tree.specs.declared.predicate.Literal.{Literal};
+    ghost use Rattle.query_print.specs.Canonical.{literal_text};
 
-/// Writes literals at the end, with commas.
-pub(crate) fn push_literals(out: &mut String, literals: &[Literal]) -> Result<(), AllocError>
-    ensures { OnOk result (string_bytes out.new ≡ string_bytes out.old ++ comma_list (map literal_text literals.now)) }
-{
-    let [first, others @ ..] = literals else {
-        return Ok(());
-    };
-    push_literal(out, first)?;
-    for literal in others {
-        out.push_str(", ")?;
-        push_literal(out, literal)?;
+    ghost Form = { Literal };
+
+    ghost form = { λ a. a };
+
+    ghost text = { literal_text };
+
+    fn write(&self, out: &mut String) -> Result<(), AllocError> {
+        match self {
+            Literal::Integer(number) => {
+                let mut digits = Buffer::new();
+                out.push_str(digits.format(*number))
+            }
+            Literal::Text(text) => push_quoted(out, text.as_str(), '\''),
+            Literal::Truth(true) => out.push_str("TRUE"),
+            Literal::Truth(false) => out.push_str("FALSE"),
+        }
     }
-    Ok(())
 }
 
 /// The sign of an operator.
@@ -105,8 +100,22 @@ pub(crate) fn truth_text(truth: Truth) -> &'static str
 }
 
 /// NOT, where it is written.
-pub(crate) fn not_text(not: bool) -> &'static str
+fn not_text(not: bool) -> &'static str
     ensures { result.now ≡ not_text not }
 {
     if not { "NOT " } else { "" }
+}
+
+/// Writes NOT at the end, where it is written, between two texts.
+pub(crate) fn push_marked(
+    out: &mut String,
+    before: &str,
+    not: bool,
+    behind: &str,
+) -> Result<(), AllocError>
+    ensures { OnOk result (string_bytes out.new ≡ string_bytes out.old ++ (before.now ++ not_text not ++ behind.now)) }
+{
+    out.push_str(before)?;
+    out.push_str(not_text(not))?;
+    out.push_str(behind)
 }

@@ -4,6 +4,7 @@
 mod clauses;
 mod groups;
 mod leaves;
+mod lists;
 mod predicates;
 
 pub use clauses::{header, print_tree, set_text};

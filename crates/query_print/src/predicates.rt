@@ -4,9 +4,8 @@ ghost use Rattle.std.specs.Prelude.{◌≡◌, ◌++◌, codes, map, OnOk, strin
 ghost use Rattle.query_print.specs.Canonical.{bracketed_below, expression_text, joined, operand_text, part_texts, predicate_text, tightness};
 ghost use Rattle.query_tree.specs.Syntax.{expression_form, operand_form, predicate_form, predicate_forms};
 
-use crate::leaves::{
-    not_text, op_text, push_aggregate, push_literal, push_literals, push_names, truth_text,
-};
+use crate::leaves::{op_text, push_aggregate, push_marked, truth_text};
+use crate::lists::{Written, write_list};
 use query_tokens::push_name;
 use query_tree::{Expression, Operand, Predicate, SetFunction};
 use std::alloc::AllocError;
@@ -37,7 +36,7 @@ pub(crate) fn push_expression(out: &mut String, expression: &Expression) -> Resu
         Expression::Name(name) => push_name(out, name.as_str()),
         Expression::Grouping(names) => {
             out.push_str("GROUPING(")?;
-            push_names(out, names)?;
+            write_list(out, names)?;
             out.push_str(")")
         }
         Expression::Function(SetFunction { aggregate, filter }) => {
@@ -50,7 +49,7 @@ pub(crate) fn push_expression(out: &mut String, expression: &Expression) -> Resu
     }
 }
 
-/// Writes the filter of a set function at the end.
+/// Writes the FILTER of a set function at the end.
 #[cycle(push_expression)]
 fn push_filter(out: &mut String, predicate: &Predicate) -> Result<(), AllocError>
     ensures { OnOk result (string_bytes out.new ≡ string_bytes out.old ++ (codes " FILTER (WHERE " ++ predicate_text (predicate_form predicate.now) ++ codes ")")) }
@@ -67,7 +66,7 @@ fn push_operand(out: &mut String, operand: &Operand) -> Result<(), AllocError>
 {
     match operand {
         Operand::Expression(expression) => push_expression(out, expression),
-        Operand::Literal(literal) => push_literal(out, literal),
+        Operand::Literal(literal) => literal.write(out),
     }
 }
 
@@ -85,9 +84,7 @@ pub(crate) fn push_predicate(out: &mut String, predicate: &Predicate) -> Result<
         }
         Predicate::Is { part, not, truth } => {
             push_part(out, 4, part)?;
-            out.push_str(" IS ")?;
-            out.push_str(not_text(*not))?;
-            out.push_str(truth_text(*truth))
+            push_marked(out, " IS ", *not, truth_text(*truth))
         }
         Predicate::Compare { left, op, right } => {
             push_operand(out, left)?;
@@ -103,9 +100,7 @@ pub(crate) fn push_predicate(out: &mut String, predicate: &Predicate) -> Result<
             high,
         } => {
             push_operand(out, operand)?;
-            out.push_str(" ")?;
-            out.push_str(not_text(*not))?;
-            out.push_str("BETWEEN ")?;
+            push_marked(out, " ", *not, "BETWEEN ")?;
             push_operand(out, low)?;
             out.push_str(" AND ")?;
             push_operand(out, high)
@@ -116,17 +111,13 @@ pub(crate) fn push_predicate(out: &mut String, predicate: &Predicate) -> Result<
             literals,
         } => {
             push_operand(out, operand)?;
-            out.push_str(" ")?;
-            out.push_str(not_text(*not))?;
-            out.push_str("IN (")?;
-            push_literals(out, literals)?;
+            push_marked(out, " ", *not, "IN (")?;
+            write_list(out, literals)?;
             out.push_str(")")
         }
         Predicate::IsNull { operand, not } => {
             push_operand(out, operand)?;
-            out.push_str(" IS ")?;
-            out.push_str(not_text(*not))?;
-            out.push_str("NULL")
+            push_marked(out, " IS ", *not, "NULL")
         }
         Predicate::Column(name) => push_name(out, name.as_str()),
     }

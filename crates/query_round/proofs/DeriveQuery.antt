@@ -1,7 +1,7 @@
 -- The tokens of a good query derive it.
 use Rattle.std.proofs.Common.{ℕ, Bool, true, false, List, [], ◌∷◌, Option, Some, None}
 use Rattle.query_tokens.specs.declared.token.Token.{Token}
-use Rattle.query_tree.specs.Syntax.{ExpressionForm, PredicateForm, GroupForm, ItemForm, KeyForm, TreeForm}
+use Rattle.query_tree.specs.Syntax.{ExpressionForm, PredicateForm, ElementForm, ItemForm, KeyForm, TreeForm}
 use Rattle.query_grammar.specs.Grammar.{IsItem, IsWhere, IsGroup, IsGroupBy, IsHaving, IsDirection, IsNullOrdering, IsKey, IsOrderBy, IsQuery}
 use Rattle.query_round.proofs.Good.{Each, Within, GoodExpression, Good, GoodItem, GoodElement, GoodKey, GoodTree}
 use Rattle.query_round.proofs.Onto.{expression_onto, alias_onto, item_onto, group_onto, where_onto, group_by_onto, having_onto, direction_onto, nulls_onto, key_onto, order_by_onto, query_onto}
@@ -18,15 +18,15 @@ item_d i r g = aliased_d i.expression i.alias r g.0
 
 where_d : (p : Option PredicateForm) (r : List Token) → Within (λ p. Good p 64) p → IsWhere (where_onto p r) p r
 where_d None r g = IsWhere.none
-where_d (Some p) r g = IsWhere.filter (predicate_d p 64 r g)
+where_d (Some p) r g = IsWhere.condition (predicate_d p 64 r g)
 
-group_by_d : (gs : List GroupForm) (r : List Token) → Each GoodElement gs → IsGroupBy (group_by_onto gs r) gs r
+group_by_d : (gs : List ElementForm) (r : List Token) → Each GoodElement gs → IsGroupBy (group_by_onto gs r) gs r
 group_by_d [] r g = IsGroupBy.none
 group_by_d (x ∷ gs) r g = IsGroupBy.groups (group_d x 16 _ g.0) (commas_derive (IsGroup 16) group_onto GoodElement (λ y. group_d y 16) gs r g.1)
 
 having_d : (p : Option PredicateForm) (r : List Token) → Within (λ p. Good p 64) p → IsHaving (having_onto p r) p r
 having_d None r g = IsHaving.none
-having_d (Some p) r g = IsHaving.filter (predicate_d p 64 r g)
+having_d (Some p) r g = IsHaving.condition (predicate_d p 64 r g)
 
 direction_d : (d : Bool) (r : List Token) → IsDirection (direction_onto d r) d r
 direction_d true r = IsDirection.descending
@@ -45,10 +45,10 @@ order_by_d : (ks : List KeyForm) (r : List Token) → Each GoodKey ks → IsOrde
 order_by_d [] r g = IsOrderBy.none
 order_by_d (k ∷ ks) r g = IsOrderBy.keys (key_d k _ g.0) (commas_derive IsKey key_onto GoodKey key_d ks r g.1)
 
-abbrev tree : List ItemForm → Option PredicateForm → List GroupForm → Option PredicateForm → List KeyForm → TreeForm
-tree is p gs h ks = record { items = is; filter = p; groups = gs; having = h; keys = ks }
+abbrev tree : List ItemForm → Option PredicateForm → List ElementForm → Option PredicateForm → List KeyForm → TreeForm
+tree is p gs h ks = record { items = is; where_condition = p; groups = gs; having_condition = h; keys = ks }
 
-parts_d : (is : List ItemForm) (p : Option PredicateForm) (gs : List GroupForm) (h : Option PredicateForm) (ks : List KeyForm) (r : List Token)
+parts_d : (is : List ItemForm) (p : Option PredicateForm) (gs : List ElementForm) (h : Option PredicateForm) (ks : List KeyForm) (r : List Token)
     → GoodTree (tree is p gs h ks) → IsQuery (query_onto (tree is p gs h ks) r) (tree is p gs h ks) r
 parts_d [] p gs h ks r g = absurd g.0
 parts_d (i ∷ is) p gs h ks r g =
@@ -58,4 +58,4 @@ parts_d (i ∷ is) p gs h ks r g =
 
 -- The tokens of a good query derive it.
 pub query_d : (q : TreeForm) (r : List Token) → GoodTree q → IsQuery (query_onto q r) q r
-query_d q r g = parts_d q.items q.filter q.groups q.having q.keys r g
+query_d q r g = parts_d q.items q.where_condition q.groups q.having_condition q.keys r g

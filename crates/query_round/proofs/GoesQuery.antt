@@ -3,7 +3,7 @@ use Rattle.std.proofs.Common.{Bool, true, false, List, [], ◌∷◌, ◌++◌, 
 use Rattle.std.specs.Prelude.{codes}
 use Rattle.query_tokens.specs.declared.token.Token.TheVariants as tokens
 use Rattle.query_tokens.specs.declared.token.Word.TheVariants as w
-use Rattle.query_tree.specs.Syntax.{PredicateForm, GroupForm, KeyForm, TreeForm, group_forms}
+use Rattle.query_tree.specs.Syntax.{PredicateForm, ElementForm, KeyForm, TreeForm, element_forms}
 use Rattle.query_print.specs.Canonical.{comma_list, item_text, group_texts, nulls_text, direction_text, key_text, predicate_clause, list_clause, canonical_text}
 use Rattle.query_round.proofs.Good.{Each, Within, Good, GoodItem, GoodElement, GoodKey, GoodTree}
 use Rattle.query_round.proofs.Onto.{commas_onto, item_onto, group_onto, from_onto, where_onto, group_by_onto, having_onto, direction_onto, nulls_onto, key_onto, order_by_onto, query_onto}
@@ -35,11 +35,11 @@ where_begins (Some p) = begins_of (space_breaks _)
 group_by_free : Free (codes " GROUP BY ") (λ ks. tokens.Word w.Group ∷ tokens.Word w.By ∷ ks)
 group_by_free = free_free (spaced_free (word_free w.Group)) (word_free w.By)
 
-group_by_goes : (gs : List GroupForm) → Each GoodElement gs → Goes (list_clause (codes " GROUP BY ") (group_texts (group_forms gs))) (group_by_onto gs)
+group_by_goes : (gs : List ElementForm) → Each GoodElement gs → Goes (list_clause (codes " GROUP BY ") (group_texts (element_forms gs))) (group_by_onto gs)
 group_by_goes [] g = nothing_goes
-group_by_goes (x ∷ gs) g = free_goes group_by_free (commas_go (group_texts (group_forms (x ∷ gs))) (map group_onto (x ∷ gs)) (groups_go (x ∷ gs) g))
+group_by_goes (x ∷ gs) g = free_goes group_by_free (commas_go (group_texts (element_forms (x ∷ gs))) (map group_onto (x ∷ gs)) (groups_go (x ∷ gs) g))
 
-group_by_begins : (gs : List GroupForm) → Begins (list_clause (codes " GROUP BY ") (group_texts (group_forms gs)))
+group_by_begins : (gs : List ElementForm) → Begins (list_clause (codes " GROUP BY ") (group_texts (element_forms gs)))
 group_by_begins [] = nothing_begins
 group_by_begins (x ∷ gs) = begins_of (space_breaks _)
 
@@ -106,5 +106,5 @@ items_go q g =
 pub query_goes : (q : TreeForm) → GoodTree q → Goes (canonical_text q) (query_onto q)
 query_goes q g =
     let head = goes_goes (items_go q g) (begins_of (space_breaks _)) from_goes in
-    let body = goes_goes (goes_goes head (where_begins q.filter) (where_goes q.filter g.1)) (group_by_begins q.groups) (group_by_goes q.groups g.2) in
-    goes_goes (goes_goes body (having_begins q.having) (having_goes q.having g.3)) (order_by_begins q.keys) (order_by_goes q.keys g.4)
+    let body = goes_goes (goes_goes head (where_begins q.where_condition) (where_goes q.where_condition g.1)) (group_by_begins q.groups) (group_by_goes q.groups g.2) in
+    goes_goes (goes_goes body (having_begins q.having_condition) (having_goes q.having_condition g.3)) (order_by_begins q.keys) (order_by_goes q.keys g.4)

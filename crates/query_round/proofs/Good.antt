@@ -6,7 +6,7 @@ use Rattle.query_tree.specs.declared.predicate.Literal.{Literal}
 use Rattle.query_tree.specs.declared.predicate.Literal.TheVariants as literals
 use Rattle.query_tree.specs.declared.expression.Aggregate.{Aggregate}
 use Rattle.query_tree.specs.declared.expression.Aggregate.TheVariants as aggregates
-use Rattle.query_tree.specs.Syntax.{ExpressionForm, FunctionForm, OperandForm, PredicateForm, PredicateForms, GroupForm, GroupForms, ItemForm, KeyForm, TreeForm, name, grouping, function, over_all, over_filtered, or_of, and_of, not_of, truth_test, compare, between, member, null_test, column, no_parts, part, set, rollup, cube, sets, no_groups, group}
+use Rattle.query_tree.specs.Syntax.{ExpressionForm, FunctionForm, OperandForm, PredicateForm, PredicateForms, ElementForm, ElementForms, ItemForm, KeyForm, TreeForm, name, grouping, function, over_all, over_filtered, or_of, and_of, not_of, truth_test, compare, between, member, null_test, column, no_parts, part, set, rollup, cube, sets, no_groups, group}
 use Rattle.query_print.specs.Canonical.{tightness}
 
 -- ---- lists
@@ -117,31 +117,31 @@ abbrev pub GoodSet : List (List ℕ) → Type 0
 GoodSet = Each GoodName
 
 -- GROUPING SETS have one element at least.
-abbrev pub IsFilled : GroupForms → Type 0
+abbrev pub IsFilled : ElementForms → Type 0
 IsFilled no_groups = ⊥
 IsFilled (group x gs) = Unit {0}
 
 -- The group has at most n levels of GROUPING SETS.
 abbrev mutual
-  pub GoodGroup : GroupForm → ℕ → Type 0
+  pub GoodGroup : ElementForm → ℕ → Type 0
   GoodGroup (set ns) n = GoodSet ns
   GoodGroup (rollup us) n = Inhabited GoodUnit us
   GoodGroup (cube us) n = Inhabited GoodUnit us
   GoodGroup (sets gs) n = IsFilled gs × Deeper (GoodGroups gs) n
 
-  pub GoodGroups : GroupForms → ℕ → Type 0
+  pub GoodGroups : ElementForms → ℕ → Type 0
   GoodGroups no_groups n = Unit {0}
   GoodGroups (group x gs) n = GoodGroup x n × GoodGroups gs n
 
 -- An element of GROUP BY.
-abbrev pub GoodElement : GroupForm → Type 0
+abbrev pub GoodElement : ElementForm → Type 0
 GoodElement x = GoodGroup x 16
 
 abbrev pub GoodKey : KeyForm → Type 0
 GoodKey k = GoodExpression k.expression
 
 abbrev pub GoodTree : TreeForm → Type 0
-GoodTree q = Filled 64 GoodItem q.items × Within (λ p. Good p 64) q.filter × Each GoodElement q.groups × Within (λ p. Good p 64) q.having × Each GoodKey q.keys
+GoodTree q = Filled 64 GoodItem q.items × Within (λ p. Good p 64) q.where_condition × Each GoodElement q.groups × Within (λ p. Good p 64) q.having_condition × Each GoodKey q.keys
 
 -- ---- more levels of brackets do no harm
 

@@ -4,7 +4,7 @@ use Rattle.query_tokens.specs.declared.token.Token.{Token}
 use Rattle.query_tokens.specs.declared.token.Token.TheVariants as tokens
 use Rattle.query_tokens.specs.declared.token.Word.TheVariants as w
 use Rattle.query_tokens.specs.declared.token.Sign.TheVariants as s
-use Rattle.query_tree.specs.Syntax.{PredicateForm, GroupForm, ItemForm, KeyForm, TreeForm}
+use Rattle.query_tree.specs.Syntax.{PredicateForm, ElementForm, ItemForm, KeyForm, TreeForm}
 use Rattle.query_grammar.specs.Grammar.{IsItem, IsWhere, IsGroup, IsGroupBy, IsHaving, IsDirection, IsNullOrdering, IsKey, IsOrderBy, IsQuery}
 use Rattle.query_round.proofs.Good.{Each, Within, Good, GoodItem, GoodElement, GoodKey, GoodTree}
 use Rattle.query_round.proofs.GoodPredicates.{Leaves, repeated_leaves, expression_leaves, predicate_leaves}
@@ -17,18 +17,18 @@ item_leaves ts r _ (IsItem.named {e} {n} d) h = let g = expression_leaves ts (to
 
 where_leaves : Leaves (Option PredicateForm) IsWhere (Within (λ p. Good p 64))
 where_leaves _ _ _ IsWhere.none h = (tt, h)
-where_leaves _ r _ (IsWhere.filter {ts} {p} d) h = predicate_leaves 65 ts r p d h.1
+where_leaves _ r _ (IsWhere.condition {ts} {p} d) h = predicate_leaves 65 ts r p d h.1
 
-group_by_leaves : Leaves (List GroupForm) IsGroupBy (Each GoodElement)
+group_by_leaves : Leaves (List ElementForm) IsGroupBy (Each GoodElement)
 group_by_leaves _ _ _ IsGroupBy.none h = (tt, h)
 group_by_leaves _ _ _ (IsGroupBy.groups {ts} {mid} {g = x} d tail) h =
     let first = group_leaves 16 ts mid x d h.1.1 in
-    let others = repeated_leaves GroupForm (tokens.Sign s.Comma) (IsGroup 16) GoodElement (group_leaves 16) tail first.1 in
+    let others = repeated_leaves ElementForm (tokens.Sign s.Comma) (IsGroup 16) GoodElement (group_leaves 16) tail first.1 in
     ((first.0, others.0), others.1)
 
 having_leaves : Leaves (Option PredicateForm) IsHaving (Within (λ p. Good p 64))
 having_leaves _ _ _ IsHaving.none h = (tt, h)
-having_leaves _ r _ (IsHaving.filter {ts} {p} d) h = predicate_leaves 65 ts r p d h.1
+having_leaves _ r _ (IsHaving.condition {ts} {p} d) h = predicate_leaves 65 ts r p d h.1
 
 direction_leaves : {ts r : List Token} {d : Bool} → IsDirection ts d r → AllSane ts → AllSane r
 direction_leaves IsDirection.none h = h
@@ -57,8 +57,8 @@ pub query_leaves : Leaves TreeForm IsQuery GoodTree
 query_leaves _ r _ (IsQuery.query {ts} {mid} {after_from} {after_where} {after_groups} {after_having} {i} {is} {p} {h = had} {gs} {ks} d tail few d_where d_groups d_having d_keys) h =
     let first = item_leaves ts mid i d h.1 in
     let others = repeated_leaves ItemForm (tokens.Sign s.Comma) IsItem GoodItem item_leaves tail first.1 in
-    let filter = where_leaves after_from after_where p d_where others.1.1.1 in
-    let groups = group_by_leaves after_where after_groups gs d_groups filter.1 in
-    let having = having_leaves after_groups after_having had d_having groups.1 in
-    let keys = order_by_leaves after_having r ks d_keys having.1 in
-    (((first.0, others.0, few), filter.0, groups.0, having.0, keys.0), keys.1)
+    let where_condition = where_leaves after_from after_where p d_where others.1.1.1 in
+    let groups = group_by_leaves after_where after_groups gs d_groups where_condition.1 in
+    let having_condition = having_leaves after_groups after_having had d_having groups.1 in
+    let keys = order_by_leaves after_having r ks d_keys having_condition.1 in
+    (((first.0, others.0, few), where_condition.0, groups.0, having_condition.0, keys.0), keys.1)

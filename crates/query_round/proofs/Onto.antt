@@ -15,7 +15,7 @@ use Rattle.query_tree.specs.declared.predicate.Literal.{Literal}
 use Rattle.query_tree.specs.declared.predicate.Literal.TheVariants as literals
 use Rattle.query_tree.specs.declared.expression.Aggregate.{Aggregate}
 use Rattle.query_tree.specs.declared.expression.Aggregate.TheVariants as aggregates
-use Rattle.query_tree.specs.Syntax.{ExpressionForm, FunctionForm, OperandForm, PredicateForm, PredicateForms, GroupForm, GroupForms, ItemForm, KeyForm, TreeForm, name, grouping, function, over_all, over_filtered, or_of, and_of, not_of, truth_test, compare, between, member, null_test, column, no_parts, part, set, rollup, cube, sets, no_groups, group}
+use Rattle.query_tree.specs.Syntax.{ExpressionForm, FunctionForm, OperandForm, PredicateForm, PredicateForms, ElementForm, ElementForms, ItemForm, KeyForm, TreeForm, name, grouping, function, over_all, over_filtered, or_of, and_of, not_of, truth_test, compare, between, member, null_test, column, no_parts, part, set, rollup, cube, sets, no_groups, group}
 use Rattle.query_print.specs.Canonical.{tightness}
 
 -- Tokens in front of others.
@@ -136,13 +136,13 @@ abbrev pub units_onto : List (List (List ℕ)) → Onto
 units_onto us = brackets_onto (commas_onto (map unit_onto us))
 
 abbrev mutual
-  pub group_onto : GroupForm → Onto
+  pub group_onto : ElementForm → Onto
   group_onto (set ns) = unit_onto ns
   group_onto (rollup us) = λ r. tokens.Word w.Rollup ∷ units_onto us r
   group_onto (cube us) = λ r. tokens.Word w.Cube ∷ units_onto us r
   group_onto (sets gs) = λ r. tokens.Word w.Grouping ∷ tokens.Word w.Sets ∷ brackets_onto (commas_onto (group_ontos gs)) r
 
-  pub group_ontos : GroupForms → List Onto
+  pub group_ontos : ElementForms → List Onto
   group_ontos no_groups = []
   group_ontos (group x gs) = group_onto x ∷ group_ontos gs
 
@@ -153,7 +153,7 @@ abbrev pub where_onto : Option PredicateForm → Onto
 where_onto None r = r
 where_onto (Some p) r = tokens.Word w.Where ∷ predicate_onto p r
 
-abbrev pub group_by_onto : List GroupForm → Onto
+abbrev pub group_by_onto : List ElementForm → Onto
 group_by_onto [] r = r
 group_by_onto (g ∷ gs) r = tokens.Word w.Group ∷ tokens.Word w.By ∷ commas_onto (map group_onto (g ∷ gs)) r
 
@@ -182,4 +182,4 @@ order_by_onto (k ∷ ks) r = tokens.Word w.Order ∷ tokens.Word w.By ∷ commas
 abbrev pub query_onto : TreeForm → Onto
 query_onto q r =
     tokens.Word w.Select ∷ commas_onto (map item_onto q.items)
-    (from_onto (where_onto q.filter (group_by_onto q.groups (having_onto q.having (order_by_onto q.keys r)))))
+    (from_onto (where_onto q.where_condition (group_by_onto q.groups (having_onto q.having_condition (order_by_onto q.keys r)))))

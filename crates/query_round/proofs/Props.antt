@@ -4,7 +4,7 @@ use Rattle.std.proofs.Math.IntN.{pos, negsuc}
 use Rattle.std.proofs.Math.Bridge.{le_prop}
 use Rattle.query_tree.specs.declared.predicate.Literal.TheVariants as literals
 use Rattle.query_tree.specs.declared.expression.Aggregate.TheVariants as aggregates
-use Rattle.query_tree.specs.Syntax.{OperandForm, PredicateForm, PredicateForms, GroupForm, GroupForms, name, grouping, function, over_all, over_filtered, or_of, and_of, not_of, truth_test, compare, between, member, null_test, column, no_parts, part, set, rollup, cube, sets, no_groups, group}
+use Rattle.query_tree.specs.Syntax.{OperandForm, PredicateForm, PredicateForms, ElementForm, ElementForms, name, grouping, function, over_all, over_filtered, or_of, and_of, not_of, truth_test, compare, between, member, null_test, column, no_parts, part, set, rollup, cube, sets, no_groups, group}
 use Rattle.query_print.specs.Canonical.{tightness}
 use Rattle.query_round.proofs.Good.{Each, Inhabited, Filled, Within, GoodName, GoodAggregate, GoodFunction, GoodExpression, InRange, GoodLiteral, GoodOperand, IsMany, Deeper, Fits, Good, PartsFit, GoodItem, GoodUnit, IsFilled, GoodGroup, GoodGroups, GoodElement, GoodKey, GoodTree}
 
@@ -135,13 +135,13 @@ is_filled_one no_groups = none_one
 is_filled_one (group x gs) = unit_one
 
 mutual
-  group_one : (x : GroupForm) (n : ℕ) → IsProp (GoodGroup x n)
+  group_one : (x : ElementForm) (n : ℕ) → IsProp (GoodGroup x n)
   group_one (set ns) n = each_one GoodName name_one ns
   group_one (rollup us) n = unit_list_one us
   group_one (cube us) n = unit_list_one us
   group_one (sets gs) n = both_one (is_filled_one gs) (deeper_one (GoodGroups gs) (groups_one gs) n)
 
-  groups_one : (gs : GroupForms) (n : ℕ) → IsProp (GoodGroups gs n)
+  groups_one : (gs : ElementForms) (n : ℕ) → IsProp (GoodGroups gs n)
   groups_one no_groups n = unit_one
   groups_one (group x gs) n = both_one (group_one x n) (groups_one gs n)
 
@@ -149,8 +149,8 @@ mutual
 pub tree_one : AllOne GoodTree
 tree_one q =
     let items = filled_one 64 GoodItem item_one q.items in
-    let filter = within_one (λ p. Good p 64) (λ p. good_one p 64) q.filter in
+    let where_condition = within_one (λ p. Good p 64) (λ p. good_one p 64) q.where_condition in
     let groups = each_one GoodElement (λ x. group_one x 16) q.groups in
-    let having = within_one (λ p. Good p 64) (λ p. good_one p 64) q.having in
+    let having_condition = within_one (λ p. Good p 64) (λ p. good_one p 64) q.having_condition in
     let keys = each_one GoodKey (λ k. expression_one k.expression) q.keys in
-    hlevel (items, filter, groups, having, keys)
+    hlevel (items, where_condition, groups, having_condition, keys)

@@ -13,10 +13,10 @@ use Rattle.query_tree.specs.declared.expression.Predicate.{Predicate}
 use Rattle.query_tree.specs.declared.expression.Expression.TheOpen.{Expression-F, SetFunction-F, Operand-F, Predicate-F}
 use Rattle.query_tree.specs.declared.expression.Expression.TheOpen as layer
 use Rattle.query_tree.specs.declared.expression.Expression.TheFolds.{fold-Expression, fold-Operand, fold-Predicate}
-use Rattle.query_tree.specs.declared.group.Group.{Group}
-use Rattle.query_tree.specs.declared.group.Group.TheOpen.{Group-F}
-use Rattle.query_tree.specs.declared.group.Group.TheOpen as group_layer
-use Rattle.query_tree.specs.declared.group.Group.TheFolds.{fold-Group}
+use Rattle.query_tree.specs.declared.group.GroupingElement.{GroupingElement}
+use Rattle.query_tree.specs.declared.group.GroupingElement.TheOpen.{GroupingElement-F}
+use Rattle.query_tree.specs.declared.group.GroupingElement.TheOpen as group_layer
+use Rattle.query_tree.specs.declared.group.GroupingElement.TheFolds.{fold-GroupingElement}
 use Rattle.query_tree.specs.declared.tree.Item.{Item}
 use Rattle.query_tree.specs.declared.tree.Key.{Key}
 use Rattle.query_tree.specs.declared.tree.Tree.{Tree}
@@ -57,16 +57,16 @@ mutual
 
 mutual
   -- An element of GROUP BY: a set, a ROLLUP or a CUBE of units, or GROUPING SETS of elements.
-  pub data GroupForm : Type 0 where
-    set : List (List ℕ) → GroupForm
-    rollup : List (List (List ℕ)) → GroupForm
-    cube : List (List (List ℕ)) → GroupForm
-    sets : GroupForms → GroupForm
+  pub data ElementForm : Type 0 where
+    set : List (List ℕ) → ElementForm
+    rollup : List (List (List ℕ)) → ElementForm
+    cube : List (List (List ℕ)) → ElementForm
+    sets : ElementForms → ElementForm
 
   -- The elements of GROUPING SETS, in order.
-  pub data GroupForms : Type 0 where
-    no_groups : GroupForms
-    group : GroupForm → GroupForms → GroupForms
+  pub data ElementForms : Type 0 where
+    no_groups : ElementForms
+    group : ElementForm → ElementForms → ElementForms
 
 -- An item of SELECT: an expression, and the alias where there is one.
 pub record ItemForm : Type 0 where
@@ -82,9 +82,9 @@ pub record KeyForm : Type 0 where
 -- A query: the clauses that are not written are None or an empty list.
 pub record TreeForm : Type 0 where
   pub items : List ItemForm
-  pub filter : Option PredicateForm
-  pub groups : List GroupForm
-  pub having : Option PredicateForm
+  pub where_condition : Option PredicateForm
+  pub groups : List ElementForm
+  pub having_condition : Option PredicateForm
   pub keys : List KeyForm
 
 -- The parts of a list, as the parts of an OR or an AND.
@@ -93,9 +93,9 @@ predicate_forms [] = no_parts
 predicate_forms (p ∷ ps) = part p (predicate_forms ps)
 
 -- The groups of a list, as the elements of GROUPING SETS.
-abbrev pub group_forms : List GroupForm → GroupForms
-group_forms [] = no_groups
-group_forms (g ∷ gs) = group g (group_forms gs)
+abbrev pub element_forms : List ElementForm → ElementForms
+element_forms [] = no_groups
+element_forms (g ∷ gs) = group g (element_forms gs)
 
 -- The units of a ROLLUP or a CUBE.
 abbrev pub units_form : List (Vec (List ℕ) Global) → List (List (List ℕ))
@@ -143,15 +143,15 @@ abbrev pub predicate_form : Predicate → PredicateForm
 predicate_form = fold-Predicate ExpressionForm OperandForm PredicateForm FunctionForm expression_step operand_step predicate_step function_step
 
 -- A group whose inner groups are seen by their forms already.
-abbrev pub group_step : Group-F GroupForm → GroupForm
-group_step (group_layer.Set ns) = set ns.items
-group_step (group_layer.Rollup us) = rollup (units_form us.items)
-group_step (group_layer.Cube us) = cube (units_form us.items)
-group_step (group_layer.Sets gs) = sets (group_forms gs.items)
+abbrev pub element_step : GroupingElement-F ElementForm → ElementForm
+element_step (group_layer.Set ns) = set ns.items
+element_step (group_layer.Rollup us) = rollup (units_form us.items)
+element_step (group_layer.Cube us) = cube (units_form us.items)
+element_step (group_layer.Sets gs) = sets (element_forms gs.items)
 
 -- The form of a group.
-abbrev pub group_form : Group → GroupForm
-group_form = fold-Group GroupForm group_step
+abbrev pub element_form : GroupingElement → ElementForm
+element_form = fold-GroupingElement ElementForm element_step
 
 -- The form of an item.
 abbrev pub item_form : Item → ItemForm
@@ -165,8 +165,8 @@ key_form k = record { expression = expression_form k.expression; descending = k.
 abbrev pub tree_form : Tree → TreeForm
 tree_form t = record {
   items = map item_form t.items.items;
-  filter = option_map predicate_form t.filter;
-  groups = map group_form t.groups.items;
-  having = option_map predicate_form t.having;
+  where_condition = option_map predicate_form t.where_condition;
+  groups = map element_form t.groups.items;
+  having_condition = option_map predicate_form t.having_condition;
   keys = map key_form t.keys.items;
 }

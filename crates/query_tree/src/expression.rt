@@ -4,7 +4,7 @@ use crate::predicate::Literal;
 use crate::text::Text;
 use values::{Op, Truth};
 
-/// A set function apart from its filter, ISO/IEC 9075-2 `<set function specification>`.
+/// A set function apart from its FILTER, ISO/IEC 9075-2 `<set function specification>`.
 #[derive(Debug, Drop)]
 pub enum Aggregate {
     /// `COUNT(*)`

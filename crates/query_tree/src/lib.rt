@@ -8,7 +8,7 @@ mod text;
 mod tree;
 
 pub use expression::{Aggregate, Expression, Operand, Predicate, SetFunction};
-pub use group::Group;
+pub use group::GroupingElement;
 pub use predicate::Literal;
 pub use text::Text;
 pub use tree::{Item, Key, Tree};

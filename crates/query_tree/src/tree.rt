@@ -1,7 +1,7 @@
 //! A whole query.
 
 use crate::expression::{Expression, Predicate};
-use crate::group::Group;
+use crate::group::GroupingElement;
 use crate::text::Text;
 
 /// An item of SELECT, ISO/IEC 9075-2 `<derived column>`.
@@ -30,11 +30,11 @@ pub struct Tree {
     /// The items of SELECT, one or more.
     pub items: Vec<Item>,
     /// The predicate of WHERE, where there is one.
-    pub filter: Option<Predicate>,
+    pub where_condition: Option<Predicate>,
     /// The elements of GROUP BY, none where it is not written.
-    pub groups: Vec<Group>,
+    pub groups: Vec<GroupingElement>,
     /// The predicate of HAVING, where there is one.
-    pub having: Option<Predicate>,
+    pub having_condition: Option<Predicate>,
     /// The keys of ORDER BY, none where it is not written.
     pub keys: Vec<Key>,
 }

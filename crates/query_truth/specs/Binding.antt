@@ -51,16 +51,16 @@ AreSafeWhereTyped fields ps cs =
     (grouped : List ℕ) → AreTypedParts fields grouped clause.Where ps → ForEachRecord fields (λ values. list_all (λ safe. safe values) (map is_safe cs) ≡ true)
 
 -- what the condition of a WHERE is worth, and whether it can be evaluated; without WHERE there is none, and it is True
-abbrev pub filter_truth : Option Condition → List Datum → Truth
-filter_truth None values = True
-filter_truth (Some c) values = condition_truth c values
+abbrev pub bound_truth : Option Condition → List Datum → Truth
+bound_truth None values = True
+bound_truth (Some c) values = condition_truth c values
 
-abbrev pub filter_safe : Option Condition → List Datum → Bool
-filter_safe None values = true
-filter_safe (Some c) values = is_safe c values
+abbrev pub bound_safe : Option Condition → List Datum → Bool
+bound_safe None values = true
+bound_safe (Some c) values = is_safe c values
 
 -- A condition is that of a WHERE, which may not be written: it is worth what WHERE is worth, and where that is typed it
 -- can be evaluated for each record.
 pub record IsConditionOf (fields : List Field) (p : Option PredicateForm) (c : Option Condition) : Type 0 where
-  pub worth : (values : List Datum) → filter_truth c values ≡ where_truth fields p values
-  pub safe : (grouped : List ℕ) → IsTypedClause fields grouped clause.Where p → ForEachRecord fields (λ values. filter_safe c values ≡ true)
+  pub worth : (values : List Datum) → bound_truth c values ≡ where_truth fields p values
+  pub safe : (grouped : List ℕ) → IsTypedClause fields grouped clause.Where p → ForEachRecord fields (λ values. bound_safe c values ≡ true)

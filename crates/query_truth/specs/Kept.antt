@@ -26,7 +26,7 @@ where_truth fields (Some p) values = truth (record_value fields values) p
 
 -- whether a record is kept: where the predicate is True, not where it is False or Unknown
 abbrev pub is_kept : List Field → TreeForm → List Datum → Bool
-is_kept fields q values = same_truth (where_truth fields q.filter values) True
+is_kept fields q values = same_truth (where_truth fields q.where_condition values) True
 
 -- the records that are kept
 abbrev pub kept : List Field → TreeForm → List (List Datum) → List (List Datum)

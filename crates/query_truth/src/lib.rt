@@ -3,10 +3,10 @@
 
 mod binding;
 mod condition;
-mod filter;
+mod where_clause;
 
 pub use binding::{literal_value, literal_values};
 pub use condition::{
     Condition, Source, between_truth, marked, member_truth, null_truth, value_truth,
 };
-pub use filter::{bind_filter, filter_truth};
+pub use where_clause::{bind_where, bound_truth};

@@ -53,9 +53,9 @@ query = record {
   items = record { expression = name (codes "d"); alias = Some (codes "day") }
       ∷ record { expression = grouping (codes "d" ∷ codes "r" ∷ []); alias = Some (codes "g") }
       ∷ record { expression = function (over_all aggregate.CountRows); alias = Some (codes "n") } ∷ [];
-  filter = None;
+  where_condition = None;
   groups = rollup ((codes "d" ∷ []) ∷ (codes "r" ∷ []) ∷ []) ∷ [];
-  having = None;
+  having_condition = None;
   keys = [];
 }
 
@@ -80,7 +80,7 @@ report-of-a-rollup = refl
 -- ---- a report with keys
 
 abbrev ordered_by : List KeyForm → TreeForm
-ordered_by keys = record { items = query.items; filter = None; groups = query.groups; having = None; keys = keys }
+ordered_by keys = record { items = query.items; where_condition = None; groups = query.groups; having_condition = None; keys = keys }
 
 -- ORDER BY n DESC, r NULLS FIRST: of the rows of one record, those that show NULL for r are first; of these the one of the first set is
 by-a-count : arranged fields (ordered_by (record { expression = name (codes "n"); descending = true; nulls_first = true } ∷ record { expression = name (codes "r"); descending = false; nulls_first = true } ∷ [])) found
@@ -105,7 +105,7 @@ a-lone-field = refl
 
 -- the same query with HAVING
 abbrev kept_by : PredicateForm → TreeForm
-kept_by p = record { items = query.items; filter = query.filter; groups = query.groups; having = Some p; keys = query.keys }
+kept_by p = record { items = query.items; where_condition = query.where_condition; groups = query.groups; having_condition = Some p; keys = query.keys }
 
 -- GROUPING(d) = 1 OR COUNT(*) > 1
 abbrev rolled_up_or_many : PredicateForm

@@ -35,8 +35,8 @@ is-typed fields t typed =
     let one : IsProp (is_some (query_fault fields t) ≡ false) = Coded-set coded_bool _ _ in
     typed_from_none fields t (is-none (query_fault fields t) (∥∥₁_elim typed one (λ h. ap is_some (none_from_typed fields t h))))
 
-pub having-typed : (fields : List Field) (t : TreeForm) (p : PredicateForm) → ∥ IsTyped fields t ∥₁ → t.having ≡ Some p → IsTypedPredicate fields (grouping_places fields t) clause.Having p
-having-typed fields t p typed e = subst (IsTypedClause fields (grouping_places fields t) clause.Having) e (is-typed fields t typed).having
+pub having-typed : (fields : List Field) (t : TreeForm) (p : PredicateForm) → ∥ IsTyped fields t ∥₁ → t.having_condition ≡ Some p → IsTypedPredicate fields (grouping_places fields t) clause.Having p
+having-typed fields t p typed e = subst (IsTypedClause fields (grouping_places fields t) clause.Having) e (is-typed fields t typed).having_condition
 
 -- ---- one row
 
@@ -70,7 +70,7 @@ filter-all p [] h = refl
 filter-all p (x ∷ xs) h = rw (h x) (ap (λ (ys : List Found). x ∷ ys) (filter-all p xs h))
 
 -- all rows are kept
-pub all-kept : (fields : List Field) (t : TreeForm) (found : List Found) → t.having ≡ None → rows_kept fields t found ≡ found
+pub all-kept : (fields : List Field) (t : TreeForm) (found : List Found) → t.having_condition ≡ None → rows_kept fields t found ≡ found
 all-kept fields t found e = filter-all (is_row_kept fields t) found (λ x. rw e refl)
 
 -- ---- the rows that are kept, in their order

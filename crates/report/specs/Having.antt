@@ -23,7 +23,7 @@ row_value fields t row e = cell_value (expression_shown fields t (set_of fields 
 
 -- the truth value of HAVING for a row; it is True where HAVING is not written
 abbrev pub having_truth : List Field → TreeForm → Found → Truth
-having_truth fields t row = option_map_or (truth (row_value fields t row)) t.having True
+having_truth fields t row = option_map_or (truth (row_value fields t row)) t.having_condition True
 
 -- whether a row is kept: where the predicate is True, not where it is False or Unknown
 abbrev pub is_row_kept : List Field → TreeForm → Found → Bool

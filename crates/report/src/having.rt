@@ -29,7 +29,7 @@ pub(crate) fn kept_rows<'a>(
     requires { AreFitting (fields_of_plan plan.now) (form_of_plan plan.now) (map row_of rows.now) }
     ensures { IfOk result (λ kept. map (λ r. row_of r.now) kept.items ≡ rows_kept (fields_of_plan plan.now) (form_of_plan plan.now) (map row_of rows.now)) }
 {
-    let Some(having) = &plan.query().tree().having else {
+    let Some(having) = &plan.query().tree().having_condition else {
         return rows.iter().collect(alloc);
     };
     let mut kept = Vec::new(alloc);

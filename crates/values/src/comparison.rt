@@ -1,3 +1,5 @@
+//! Comparisons of two values.
+
 ghost use Rattle.std.specs.Prelude.{◌≡◌};
 ghost use Rattle.values.specs.Datum.{datum_of};
 ghost use Rattle.values.specs.Comparison.{comparison, AreComparable};

@@ -1,3 +1,5 @@
+//! Why a text is no schema.
+
 use thiserror::Error;
 
 /// Why a text is no schema. A part is what stands between commas; parts are numbered from 1.

@@ -1,3 +1,5 @@
+//! The values of one line.
+
 ghost use Rattle.std.specs.Prelude.{◌≡◌};
 ghost use Rattle.values.specs.Datum.{data_of};
 

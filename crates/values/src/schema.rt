@@ -1,3 +1,5 @@
+//! The columns that lines are read under.
+
 ghost use Rattle.std.specs.Prelude.{◌≡◌, ◌≢◌, ◌↔◌, IsTrue, IfErr, IfOk};
 ghost use Rattle.values.specs.Datum.{data_of};
 ghost use Rattle.values.specs.Schema.{fields_of};

@@ -1,3 +1,5 @@
+//! What no clause says: that columns are read and values copied where memory is ample.
+
 use crate::{Column, Kind, Schema, SchemaFault, Value};
 use std::process::Abort;
 use std::test::Fail;

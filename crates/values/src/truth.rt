@@ -1,3 +1,5 @@
+//! Truth values.
+
 ghost use Rattle.std.specs.Prelude.{◌≡◌, ◌↔◌, IsTrue, if◌then◌else◌};
 
 /// A truth value of three-valued logic (ISO/IEC 9075-2, `<search condition>`).

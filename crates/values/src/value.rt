@@ -1,3 +1,5 @@
+//! Values, and their order.
+
 ghost use Rattle.std.specs.Prelude.{◌≡◌, ◌↔◌, IsTrue};
 
 use std::cmp::Ordering;

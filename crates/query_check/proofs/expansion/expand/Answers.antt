@@ -2,8 +2,8 @@ use Rattle.std.proofs.Common.{◌∙◌, ◌+◌, ◌∷◌, ℕ, List, drop, ma
 use Rattle.std.specs.Global.{Vec}
 use Rattle.std.proofs.lemmas.List.{at_drop_all, at_drop_more}
 use Rattle.values.specs.Schema.{fields_of}
-use Rattle.query_tree.specs.declared.group.Group.{Group}
-use Rattle.query_tree.specs.Syntax.{group_form}
+use Rattle.query_tree.specs.declared.group.GroupingElement.{GroupingElement}
+use Rattle.query_tree.specs.Syntax.{element_form}
 use Rattle.query_check.specs.Columns.{places_of}
 use Rattle.query_check.specs.Sets.{crossed, expanded, group_sets, ordered_set}
 use Rattle.query_check.specs.Resolution.{contents}
@@ -15,7 +15,7 @@ use Rattle.query_check.proofs.expansion.expand.Goals as goal
 pub loop-group-init : goal.loop-group-init
 loop-group-init c =
     let in_order = map (ordered_set c.args.grouping.now) in
-    let all = map (places_of (fields_of c.args.columns.now)) (expanded (map group_form c.args.groups.now)) in
+    let all = map (places_of (fields_of c.args.columns.now)) (expanded (map element_form c.args.groups.now)) in
     ap (λ (ss : List (List ℕ)). in_order (crossed ss all)) c.in_ok-product.ensures ∙ ap in_order (crossed_start all)
 
 pub loop-group-preserved : goal.loop-group-preserved
@@ -26,9 +26,9 @@ loop-group-preserved c =
     let groups = c.args.groups.now in
     let i = c.loop-group.group-index in
     let old = c.loop-group.product in
-    let of_group = group_sets (group_form c.group-item.result) in
-    let of_others = expanded (map group_form (drop (i + 1) groups)) in
-    let whole = λ (gs : List Group). in_order (crossed old (map (places_of fields) (expanded (map group_form gs)))) in
+    let of_group = group_sets (element_form c.group-item.result) in
+    let of_others = expanded (map element_form (drop (i + 1) groups)) in
+    let whole = λ (gs : List GroupingElement). in_order (crossed old (map (places_of fields) (expanded (map element_form gs)))) in
     crossed_turn grouping old c.cross.new.self (contents c.deref-in-loop-group.result.now) (map (places_of fields) of_group) (map (places_of fields) of_others)
     (c.in_ok-cross.ensures grouping)
     (ap contents c.deref-in-loop-group.ensures.value
@@ -36,7 +36,7 @@ loop-group-preserved c =
     ∙ ap (λ (vs : List (Vec ℕ)). in_order (contents vs)) c.deref.ensures.value
     ∙ ap in_order c.in_ok-sets.ensures)
     ∙ ap (λ (ss : List (List ℕ)). in_order (crossed old ss)) (sym (crossed_places fields of_group of_others))
-    ∙ sym (at_drop_more whole groups i c.group-item.result c.loop-group-test.true ∙ ap (λ (g : Group). whole (g ∷ drop (i + 1) groups)) (sym c.group-item.is))
+    ∙ sym (at_drop_more whole groups i c.group-item.result c.loop-group-test.true ∙ ap (λ (g : GroupingElement). whole (g ∷ drop (i + 1) groups)) (sym c.group-item.is))
     ∙ c.loop-group.invariant
 
 pub returns : goal.returns
@@ -45,9 +45,9 @@ returns c =
     let places = places_of (fields_of c.args.columns.now) in
     let groups = c.args.groups.now in
     let product = c.loop-group.product in
-    let whole = λ (gs : List Group). in_order (crossed product (map places (expanded (map group_form gs)))) in
-    ok_same c.ordered.result (λ v. contents v.items) (in_order product) (map (λ names. ordered_set c.args.grouping.now (places names)) (expanded (map group_form groups))) c.ordered.ensures
+    let whole = λ (gs : List GroupingElement). in_order (crossed product (map places (expanded (map element_form gs)))) in
+    ok_same c.ordered.result (λ v. contents v.items) (in_order product) (map (λ names. ordered_set c.args.grouping.now (places names)) (expanded (map element_form groups))) c.ordered.ensures
     (ap in_order (sym (crossed_end product))
     ∙ sym (at_drop_all whole groups c.loop-group.group-index c.loop-group-test.false)
     ∙ c.loop-group.invariant
-    ∙ map_twice (ordered_set c.args.grouping.now) places (expanded (map group_form groups)))
+    ∙ map_twice (ordered_set c.args.grouping.now) places (expanded (map element_form groups)))

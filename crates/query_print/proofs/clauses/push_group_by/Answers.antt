@@ -1,6 +1,6 @@
 use Rattle.std.proofs.Common.{◌∙◌, ◌++◌, length, map, append_assoc, string_bytes, sym}
 use Rattle.std.specs.Prelude.{codes}
-use Rattle.query_tree.specs.Syntax.{group_form, group_forms}
+use Rattle.query_tree.specs.Syntax.{element_form, element_forms}
 use Rattle.query_print.specs.Canonical.{comma_list, group_texts}
 use Rattle.query_print.proofs.Pushes.{above_zero, group_clause, written}
 use Rattle.query_print.proofs.clauses.push_group_by.Goals as goal
@@ -8,6 +8,6 @@ use Rattle.query_print.proofs.clauses.push_group_by.Goals as goal
 pub returns : goal.returns
 returns c =
     let some = above_zero (length c.args.groups.now) (sym c.is_empty.ensures ∙ c.if-is_empty.false) in
-    let list = comma_list (group_texts (group_forms (map group_form c.args.groups.now))) in
+    let list = comma_list (group_texts (element_forms (map element_form c.args.groups.now))) in
     written c.push_groups.result (string_bytes c.push_groups.new.out) (string_bytes c.push_str.new.self ++ list) _ c.push_groups.ensures
     (rw (c.in_ok-push_str.ensures.bytes, group_clause (codes " GROUP BY ") c.args.groups.now some) (append_assoc (string_bytes c.args.out.now) (codes " GROUP BY ") list))

@@ -16,9 +16,9 @@ pub returns-in_default : goal.returns-in_default
 returns-in_default c =
     let fields = fields_of_plan c.args.plan.now in
     let t = form_of_plan c.args.plan.now in
-    let none : c.tree.result.now.having ≡ None = search rules in
-    let unwritten : t.having ≡ None =
-    ap (λ (f : TreeForm). f.having) (sym (c.tree.ensures.form ∙ c.query.ensures.query)) ∙ ap (option_map predicate_form) none in
+    let none : c.tree.result.now.having_condition ≡ None = search rules in
+    let unwritten : t.having_condition ≡ None =
+    ap (λ (f : TreeForm). f.having_condition) (sym (c.tree.ensures.form ∙ c.query.ensures.query)) ∙ ap (option_map predicate_form) none in
     let now = λ (r : Bor (ℕ × Group)). r.now in
     let gathered : IfOk c.collect.result (λ v. map now v.items ≡ c.args.rows.now) = map_from_collect {s = c.iter.result} c.collect.result c.collect.ensures.ran (YieldsList-from_slice c.args.rows.now (search rules)) in
     IfOk-weaker c.collect.result
@@ -34,6 +34,6 @@ row_truth-requires-clause-fits c =
 pub row_truth-requires-clause-typed : goal.row_truth-requires-clause-typed
 row_truth-requires-clause-typed c =
     let t = form_of_plan c.args.plan.now in
-    let written : t.having ≡ Some (predicate_form c.in-Some.having) =
-    ap (λ (f : TreeForm). f.having) (sym (c.tree.ensures.form ∙ c.query.ensures.query)) ∙ ap (option_map predicate_form) c.in-Some.is in
+    let written : t.having_condition ≡ Some (predicate_form c.in-Some.having) =
+    ap (λ (f : TreeForm). f.having_condition) (sym (c.tree.ensures.form ∙ c.query.ensures.query)) ∙ ap (option_map predicate_form) c.in-Some.is in
     having-typed (fields_of_plan c.args.plan.now) t (predicate_form c.in-Some.having) c.query.ensures.typed written

@@ -5,7 +5,7 @@ ghost use Rattle.std.specs.Option.{option_map};
 ghost use Rattle.values.specs.Datum.{data_of};
 ghost use Rattle.values.specs.Schema.{fields_of};
 ghost use Rattle.query_tree.specs.Syntax.{predicate_form};
-ghost use Rattle.query_truth.specs.Binding.{IsConditionOf, filter_safe, filter_truth};
+ghost use Rattle.query_truth.specs.Binding.{IsConditionOf, bound_safe, bound_truth};
 
 use crate::binding::bind;
 use crate::condition::Condition;
@@ -18,14 +18,14 @@ use values::{Column, Truth, Value};
 /// # Errors
 ///
 /// `AllocError` where there is no memory for it.
-pub fn bind_filter(
+pub fn bind_where(
     alloc: Global,
     columns: &[Column],
-    filter: &Option<Predicate>,
+    where_condition: &Option<Predicate>,
 ) -> Result<Option<Condition>, AllocError>
-    ensures { IfOk result (IsConditionOf (fields_of columns.now) (option_map predicate_form filter.now)) }
+    ensures { IfOk result (IsConditionOf (fields_of columns.now) (option_map predicate_form where_condition.now)) }
 {
-    match filter {
+    match where_condition {
         Some(predicate) => Ok(Some(bind(alloc, columns, predicate)?)),
         None => Ok(None),
     }
@@ -33,9 +33,9 @@ pub fn bind_filter(
 
 /// What the condition of WHERE is worth for a record of these values; without it, True. It takes no
 /// memory.
-pub fn filter_truth(condition: &Option<Condition>, values: &[Value]) -> Truth
-    requires { filter_safe condition.now (data_of values.now) ≡ true }
-    ensures { result ≡ filter_truth condition.now (data_of values.now) }
+pub fn bound_truth(condition: &Option<Condition>, values: &[Value]) -> Truth
+    requires { bound_safe condition.now (data_of values.now) ≡ true }
+    ensures { result ≡ bound_truth condition.now (data_of values.now) }
 {
     match condition {
         Some(condition) => condition.truth(values),
