@@ -1,17 +1,15 @@
 -- Each record is a member of exactly one key.
-use Rattle.std.proofs.Common.{◌≡◌, ◌+◌, ℕ, Bool, true, false, ◌||◌, cond, List, [], ◌∷◌, ◌++◌, map, length, refl, sym, ap, ◌∙◌, arith}
+use Rattle.std.proofs.Common.{◌≡◌, ◌+◌, ℕ, Bool, true, false, ◌||◌, cond, List, [], ◌∷◌, map, length, refl, sym, ap, ◌∙◌, arith}
 use Rattle.std.specs.List.{list_any, flat_map, IsDistinct, AllByRecursion}
 use Rattle.groups.specs.Rows.{Row}
 use Rattle.groups.specs.Groups.{Key, project, same_key, keys, members}
 use Rattle.query_check.specs.declared.function.ColumnFunction.{ColumnFunction}
-use Rattle.groups.specs.GroupRows.{weigh, SameBag, group_row, group_rows}
+use Rattle.groups.specs.GroupSummaries.{group_summary, group_summaries}
+use Rattle.groups.specs.Bags.{SameBag, weigh}
+use Rattle.groups.proofs.Bags.{weigh-append, ones}
 use Rattle.groups.proofs.Order.{same_key-Decides}
-use Rattle.groups.proofs.Meaning.{any-each_once}
+use Rattle.groups.proofs.Meaning.{any-key}
 use Rattle.groups.proofs.GroupsLaw.{keys-distinct}
-
-weigh-append : {X : Type 0} (w : X → ℕ) (xs ys : List X) → weigh w (xs ++ ys) ≡ weigh w xs + weigh w ys
-weigh-append w [] ys = omega arith
-weigh-append w (x ∷ xs) ys = let h = weigh-append w xs ys in omega (arith, h)
 
 abbrev spread : List ℕ → List Row → List Key → List Row
 spread set rows ks = flat_map (λ k. members set k rows) ks
@@ -100,14 +98,10 @@ only_empty q (row ∷ rows) h = elim (same_key q []) as (λ b. same_key q [] ≡
 -- the members of all keys are the records, each as often
 pub members-bag : (set : List ℕ) (rows : List Row) → SameBag (flat_map (λ key. members set key rows) (keys set rows)) rows
 members-bag [] rows w = covered w [] ([] ∷ []) (keys-distinct [] rows) rows (λ q h. only_empty q rows h)
-members-bag (p ∷ ps) rows w = covered w (p ∷ ps) (keys (p ∷ ps) rows) (keys-distinct (p ∷ ps) rows) rows (λ q h. any-each_once q (map (project (p ∷ ps)) rows) ∙ h)
-
-ones : (rows : List Row) → weigh (λ _. 1) rows ≡ length rows
-ones [] = refl
-ones (row ∷ rows) = let h = ones rows in omega (arith, h)
+members-bag (p ∷ ps) rows w = covered w (p ∷ ps) (keys (p ∷ ps) rows) (keys-distinct (p ∷ ps) rows) rows (λ q h. any-key q (map (project (p ∷ ps)) rows) ∙ h)
 
 lines-spread : (set : List ℕ) (fs : List ColumnFunction) (rows : List Row) (ks : List Key)
-    → weigh (λ r. r.lines) (map (λ k. group_row fs k (members set k rows)) ks) ≡ weigh (λ _. 1) (spread set rows ks)
+    → weigh (λ r. r.lines) (map (λ k. group_summary fs k (members set k rows)) ks) ≡ weigh (λ _. 1) (spread set rows ks)
 lines-spread set fs rows [] = refl
 lines-spread set fs rows (k ∷ ks) =
     let h = lines-spread set fs rows ks in
@@ -116,5 +110,5 @@ lines-spread set fs rows (k ∷ ks) =
     omega (arith, h, x, y)
 
 -- the numbers of members of all groups add up to the number of records
-pub lines-add_up : (set : List ℕ) (fs : List ColumnFunction) (rows : List Row) → weigh (λ r. r.lines) (group_rows set fs rows) ≡ length rows
+pub lines-add_up : (set : List ℕ) (fs : List ColumnFunction) (rows : List Row) → weigh (λ r. r.lines) (group_summaries set fs rows) ≡ length rows
 lines-add_up set fs rows = lines-spread set fs rows (keys set rows) ∙ members-bag set rows (λ _. 1) ∙ ones rows

@@ -11,7 +11,7 @@ use Rattle.query_check.specs.declared.function.ColumnFunction.{ColumnFunction}
 use Rattle.groups.specs.Rows.{Row}
 use Rattle.groups.specs.Groups.{Key, key_order, same_key}
 use Rattle.groups.specs.Inside.Group.{GroupState}
-use Rattle.groups.specs.Inside.Table.{Contents, IsAdded, IsPut, IsFitting, grown, join_options, entries_shown, shown}
+use Rattle.groups.specs.Inside.Table.{Contents, IsAdded, IsPut, IsFitting, grown, join_options, entries_by_key, contents_of}
 use Rattle.groups.proofs.Order.{key_total, same_key-Decides, value_eq, key_eq-ties}
 
 abbrev pub Entries : Type 0
@@ -21,7 +21,7 @@ abbrev pub key_eq : Vec Value Global → Vec Value Global → Bool
 key_eq x y = pointwise value_eq x.items y.items
 
 -- what a search by a key finds
-pub lookup-shown : (key : List Value) (es : Entries) → lookup (λ k. pointwise value_eq key k.items) es ≡ find key_order (data_of key) (entries_shown es)
+pub lookup-shown : (key : List Value) (es : Entries) → lookup (λ k. pointwise value_eq key k.items) es ≡ find key_order (data_of key) (entries_by_key es)
 lookup-shown key [] = refl
 lookup-shown key (e ∷ es) =
     ap (λ b. cond b (Some e.1) (lookup (λ k. pointwise value_eq key k.items) es)) (key_eq-ties key e.0.items)
@@ -30,20 +30,20 @@ lookup-shown key (e ∷ es) =
 abbrev other_than : Key → Vec Value Global → Bool
 other_than q k = same_key q (data_of k.items)
 
-lookup-other : (q : Key) (es : Entries) → lookup (other_than q) es ≡ find key_order q (entries_shown es)
+lookup-other : (q : Key) (es : Entries) → lookup (other_than q) es ≡ find key_order q (entries_by_key es)
 lookup-other q [] = refl
 lookup-other q (e ∷ es) = ap (cond (other_than q e.0) (Some e.1)) (lookup-other q es)
 
 -- after a change at one key
 find-updated : (es fs : Entries) (key : List Value) (w : Option GroupState) → lookup (λ k. pointwise value_eq key k.items) fs ≡ w
     → KeepsOthers (λ x y. pointwise value_eq x.items y.items) (λ k. pointwise value_eq key k.items) es fs
-    → (q : Key) → find key_order q (entries_shown fs) ≡ cond (same_key q (data_of key)) w (find key_order q (entries_shown es))
+    → (q : Key) → find key_order q (entries_by_key fs) ≡ cond (same_key q (data_of key)) w (find key_order q (entries_by_key es))
 unfolding KeepsOthers
 find-updated es fs key w at others q =
     let laws = eq_by_cmp_equiv key_total in
     let k = data_of key in
-    elim (same_key q k) as (λ b. same_key q k ≡ b → find key_order q (entries_shown fs) ≡ cond b w (find key_order q (entries_shown es))) [
-      | true ↦ λ e. ap (λ p. find key_order p (entries_shown fs)) ((same_key-Decides q k).0 e) ∙ sym (lookup-shown key fs) ∙ at
+    elim (same_key q k) as (λ b. same_key q k ≡ b → find key_order q (entries_by_key fs) ≡ cond b w (find key_order q (entries_by_key es))) [
+      | true ↦ λ e. ap (λ p. find key_order p (entries_by_key fs)) ((same_key-Decides q k).0 e) ∙ sym (lookup-shown key fs) ∙ at
       | false ↦ λ e. sym (lookup-other q fs)
           ∙ others (other_than q)
           (λ x y h. laws.congr q (data_of x.items) (data_of y.items) h ∙ sym (key_eq-ties x.items y.items))
@@ -54,12 +54,12 @@ find-updated es fs key w at others q =
 -- the same of the contents
 pub get-updated : (es fs : Entries) (key : List Value) (w : Option GroupState) → lookup (λ k. pointwise value_eq key k.items) fs ≡ w
     → KeepsOthers (λ x y. pointwise value_eq x.items y.items) (λ k. pointwise value_eq key k.items) es fs
-    → (q : Key) → get (shown fs) q ≡ cond (same_key q (data_of key)) w (get (shown es) q)
-get-updated es fs key w at others q = get-from_entries key_total (entries_shown fs) q ∙ find-updated es fs key w at others q
-    ∙ ap (cond (same_key q (data_of key)) w) (sym (get-from_entries key_total (entries_shown es) q))
+    → (q : Key) → get (contents_of fs) q ≡ cond (same_key q (data_of key)) w (get (contents_of es) q)
+get-updated es fs key w at others q = get-from_entries key_total (entries_by_key fs) q ∙ find-updated es fs key w at others q
+    ∙ ap (cond (same_key q (data_of key)) w) (sym (get-from_entries key_total (entries_by_key es) q))
 
-pub get-shown : (key : List Value) (es : Entries) → get (shown es) (data_of key) ≡ lookup (λ k. pointwise value_eq key k.items) es
-get-shown key es = get-from_entries key_total (entries_shown es) (data_of key) ∙ sym (lookup-shown key es)
+pub get-shown : (key : List Value) (es : Entries) → get (contents_of es) (data_of key) ≡ lookup (λ k. pointwise value_eq key k.items) es
+get-shown key es = get-from_entries key_total (entries_by_key es) (data_of key) ∙ sym (lookup-shown key es)
 
 pub added_is : (functions : List ColumnFunction) (old new : Contents) (key : Key) (row : Row) (w : Option GroupState)
     → ((q : Key) → get new q ≡ cond (same_key q key) w (get old q))
@@ -86,22 +86,22 @@ options-none None = refl
 options-none (Some a) = refl
 
 -- a key that the first entry has is in no other
-none_after : (k : Key) (e : Vec Value Global × GroupState) (es : Entries) → IsDistinct key_eq (keys_of (e ∷ es)) → same_key k (data_of e.0.items) ≡ true → find key_order k (entries_shown es) ≡ None
+none_after : (k : Key) (e : Vec Value Global × GroupState) (es : Entries) → IsDistinct key_eq (keys_of (e ∷ es)) → same_key k (data_of e.0.items) ≡ true → find key_order k (entries_by_key es) ≡ None
 unfolding IsDistinct
 none_after k e [] d h = refl
 none_after k e (f ∷ es) d h =
     let laws = eq_by_cmp_equiv key_total in
-    ap (λ b. cond b (Some f.1) (find key_order k (entries_shown es)))
+    ap (λ b. cond b (Some f.1) (find key_order k (entries_by_key es)))
     (laws.congr k (data_of e.0.items) (data_of f.0.items) h ∙ sym (key_eq-ties e.0.items f.0.items) ∙ d.0.0)
     ∙ none_after k e es (d.0.1, d.1.1) h
 
 -- taking the first entry of the rest
 pub merged_step : (old new : Contents) (k : Key) (e : Vec Value Global × GroupState) (es : Entries)
     → IsDistinct key_eq (keys_of (e ∷ es)) → IsPut old new (data_of e.0.items) e.1 k
-    → join_options (get new k) (find key_order k (entries_shown es)) ≡ join_options (get old k) (find key_order k (entries_shown (e ∷ es)))
-merged_step old new k e es d a = ap (λ o. join_options o (find key_order k (entries_shown es))) a
+    → join_options (get new k) (find key_order k (entries_by_key es)) ≡ join_options (get old k) (find key_order k (entries_by_key (e ∷ es)))
+merged_step old new k e es d a = ap (λ o. join_options o (find key_order k (entries_by_key es))) a
     ∙ elim (same_key k (data_of e.0.items)) as (λ b. same_key k (data_of e.0.items) ≡ b →
-    join_options (cond b (join_options (get old k) (Some e.1)) (get old k)) (find key_order k (entries_shown es)) ≡ join_options (get old k) (cond b (Some e.1) (find key_order k (entries_shown es)))) [
+    join_options (cond b (join_options (get old k) (Some e.1)) (get old k)) (find key_order k (entries_by_key es)) ≡ join_options (get old k) (cond b (Some e.1) (find key_order k (entries_by_key es)))) [
       | true ↦ λ i. ap (join_options (join_options (get old k) (Some e.1))) (none_after k e es d i) ∙ options-none (join_options (get old k) (Some e.1))
       | false ↦ λ i. refl
     ] refl
@@ -109,13 +109,13 @@ merged_step old new k e es d a = ap (λ o. join_options o (find key_order k (ent
 -- what is left fits still, since its keys are others than the first entry's
 pub fits_step : (old new : Contents) (k : Key) (e : Vec Value Global × GroupState) (es : Entries)
     → IsDistinct key_eq (keys_of (e ∷ es)) → IsPut old new (data_of e.0.items) e.1 k
-    → IfSome (find key_order k (entries_shown (e ∷ es))) (λ p. IsFitting p (get old k)) → IfSome (find key_order k (entries_shown es)) (λ p. IsFitting p (get new k))
+    → IfSome (find key_order k (entries_by_key (e ∷ es))) (λ p. IsFitting p (get old k)) → IfSome (find key_order k (entries_by_key es)) (λ p. IsFitting p (get new k))
 fits_step old new k e es d a h =
     elim (same_key k (data_of e.0.items)) as (λ b. same_key k (data_of e.0.items) ≡ b → get new k ≡ cond b (join_options (get old k) (Some e.1)) (get old k)
-    → IfSome (cond b (Some e.1) (find key_order k (entries_shown es))) (λ p. IsFitting p (get old k)) → IfSome (find key_order k (entries_shown es)) (λ p. IsFitting p (get new k))) [
+    → IfSome (cond b (Some e.1) (find key_order k (entries_by_key es))) (λ p. IsFitting p (get old k)) → IfSome (find key_order k (entries_by_key es)) (λ p. IsFitting p (get new k))) [
       | true ↦ λ i a h. subst (λ (o : Option GroupState). IfSome o (λ p. IsFitting p (get new k))) (sym (none_after k e es d i)) tt
-      | false ↦ λ i a h. subst (λ (g : Option GroupState). IfSome (find key_order k (entries_shown es)) (λ p. IsFitting p g)) (sym a) h
+      | false ↦ λ i a h. subst (λ (g : Option GroupState). IfSome (find key_order k (entries_by_key es)) (λ p. IsFitting p g)) (sym a) h
     ] refl a h
 
-pub find-first : (e : Vec Value Global × GroupState) (es : Entries) → find key_order (data_of e.0.items) (entries_shown (e ∷ es)) ≡ Some e.1
-find-first e es = ap (λ b. cond b (Some e.1) (find key_order (data_of e.0.items) (entries_shown es))) ((eq_by_cmp_equiv key_total).refl (data_of e.0.items))
+pub find-first : (e : Vec Value Global × GroupState) (es : Entries) → find key_order (data_of e.0.items) (entries_by_key (e ∷ es)) ≡ Some e.1
+find-first e es = ap (λ b. cond b (Some e.1) (find key_order (data_of e.0.items) (entries_by_key es))) ((eq_by_cmp_equiv key_total).refl (data_of e.0.items))

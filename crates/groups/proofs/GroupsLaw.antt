@@ -10,14 +10,16 @@ use Rattle.query_check.specs.declared.function.ColumnFunction.{ColumnFunction}
 use Rattle.query_check.specs.declared.function.ColumnFunction.TheVariants as function
 use Rattle.groups.specs.Rows.{Row, column_numbers, column_values}
 use Rattle.groups.specs.Functions.{plain, agg, total, sum_of, average_of}
-use Rattle.groups.specs.Groups.{Key, project, key_order, same_key, each_once, keys, members}
-use Rattle.groups.specs.Inside.Accumulator.{summary, kept, summed, averaged}
-use Rattle.groups.specs.Inside.Group.{GroupState, held, group_row_kept}
+use Rattle.groups.specs.Groups.{Key, project, key_order, same_key, keys, members}
+use Rattle.groups.specs.Inside.Accumulator.{summary, accumulator_state, summed, averaged}
+use Rattle.groups.specs.Inside.Group.{GroupState, group_state, state_summary}
 use Rattle.groups.specs.Inside.Table.{Contents, IsTableOf}
-use Rattle.groups.specs.GroupRows.{group_row, group_rows, weigh, SameBag}
+use Rattle.groups.specs.GroupSummaries.{group_summary, group_summaries}
+use Rattle.groups.specs.Bags.{SameBag, weigh}
+use Rattle.groups.proofs.Bags.{weigh-map}
 use Rattle.groups.proofs.Order.{key_total, key_antisymmetric, same_key-Decides}
-use Rattle.groups.proofs.Meaning.{any-each_once}
-use Rattle.groups.proofs.Sets.{len-different}
+use Rattle.groups.proofs.Repeats.{distinct-is}
+use Rattle.groups.proofs.Sets.{len-distinct}
 
 -- ---- what is kept says the value of the function
 
@@ -29,21 +31,21 @@ average-said : (lines : ℕ) (ns : List ℤ) → summary lines (averaged (total 
 average-said lines [] = refl
 average-said lines (n ∷ ns) = refl
 
-summary-kept : (f : ColumnFunction) (rows : List Row) → summary (length rows) (kept f rows) ≡ agg f rows
-summary-kept function.CountRows rows = refl
-summary-kept (function.Count place) rows = refl
-summary-kept (function.CountDistinct place) rows = ap (λ n. plain (whole (pos n))) (len-different (column_values place rows))
-summary-kept (function.Sum place) rows = sum-said (length rows) (column_numbers place rows)
-summary-kept (function.Min place) rows = refl
-summary-kept (function.Max place) rows = refl
-summary-kept (function.Avg place) rows = average-said (length rows) (column_numbers place rows)
+summary-accumulator_state : (f : ColumnFunction) (rows : List Row) → summary (length rows) (accumulator_state f rows) ≡ agg f rows
+summary-accumulator_state function.CountRows rows = refl
+summary-accumulator_state (function.Count place) rows = refl
+summary-accumulator_state (function.CountDistinct place) rows = ap (λ n. plain (whole (pos n))) (len-distinct (column_values place rows))
+summary-accumulator_state (function.Sum place) rows = sum-said (length rows) (column_numbers place rows)
+summary-accumulator_state (function.Min place) rows = refl
+summary-accumulator_state (function.Max place) rows = refl
+summary-accumulator_state (function.Avg place) rows = average-said (length rows) (column_numbers place rows)
 
-cells-kept : (fs : List ColumnFunction) (rows : List Row) → map (summary (length rows)) (map (λ f. kept f rows) fs) ≡ map (λ f. agg f rows) fs
-cells-kept [] rows = refl
-cells-kept (f ∷ fs) rows = λ i. summary-kept f rows i ∷ cells-kept fs rows i
+cells-accumulator_state : (fs : List ColumnFunction) (rows : List Row) → map (summary (length rows)) (map (λ f. accumulator_state f rows) fs) ≡ map (λ f. agg f rows) fs
+cells-accumulator_state [] rows = refl
+cells-accumulator_state (f ∷ fs) rows = λ i. summary-accumulator_state f rows i ∷ cells-accumulator_state fs rows i
 
-group_row-kept : (fs : List ColumnFunction) (key : Key) (rows : List Row) → group_row_kept (key, held fs rows) ≡ group_row fs key rows
-group_row-kept fs key rows = λ i. record { key = key; lines = length rows; cells = cells-kept fs rows i }
+group_summary-accumulator_state : (fs : List ColumnFunction) (key : Key) (rows : List Row) → state_summary (key, group_state fs rows) ≡ group_summary fs key rows
+group_summary-accumulator_state fs key rows = λ i. record { key = key; lines = length rows; cells = cells-accumulator_state fs rows i }
 
 -- ---- the entries of a map as a bag
 
@@ -77,10 +79,6 @@ entries-bag (e ∷ es) d f =
     ∙ put-bag f e.0 e.1 (fin.entries (fin.from_entries {R = key_order} es)) (sym (fin.get-entries (fin.from_entries es) e.0) ∙ fin.get-from_entries key_total es e.0 ∙ none-found e.0 es d.0)
     ∙ ap (λ n. f e + n) (entries-bag es d.1 f)
 
-weigh-map : {A B : Type 0} (f : B → ℕ) (g : A → B) (xs : List A) → weigh f (map g xs) ≡ weigh (λ x. f (g x)) xs
-weigh-map f g [] = refl
-weigh-map f g (x ∷ xs) = ap (λ n. f (g x) + n) (weigh-map f g xs)
-
 -- ---- the table of its groups
 
 found : (g : Key → GroupState) (q : Key) (ks : List Key) → fin.find key_order q (map (λ k. (k, g k)) ks) ≡ cond (list_any (same_key q) ks) (Some (g q)) None
@@ -92,52 +90,36 @@ found g q (k ∷ ks) = ap (cond (same_key q k) (Some (g k))) (found g q ks)
     ] refl
 
 abbrev group : List ℕ → List ColumnFunction → List Row → Key → Key × GroupState
-group set fs rows k = (k, held fs (members set k rows))
+group set fs rows k = (k, group_state fs (members set k rows))
 
 table-is : (set : List ℕ) (fs : List ColumnFunction) (t : Contents) (rows : List Row) → IsTableOf set fs t rows → t ≡ fin.from_entries (map (group set fs rows) (keys set rows))
 table-is set fs t rows h = fin.same_map key_total key_antisymmetric _ _ (λ q.
-    h q ∙ sym (found (λ k. held fs (members set k rows)) q (keys set rows))
+    h q ∙ sym (found (λ k. group_state fs (members set k rows)) q (keys set rows))
     ∙ sym (fin.get-from_entries key_total (map (group set fs rows) (keys set rows)) q))
-
-all-other : (p : Key) (ks : List Key) → list_any (same_key p) ks ≡ false → AllByRecursion (λ y. same_key p y ≡ false) ks
-all-other p [] h = tt
-all-other p (k ∷ ks) h = elim (same_key p k) as (λ b. same_key p k ≡ b → (b || list_any (same_key p) ks) ≡ false → (same_key p k ≡ false) × AllByRecursion (λ y. same_key p y ≡ false) ks) [
-  | true ↦ λ e i. cc
-  | false ↦ λ e i. (e, all-other p ks i)
-] refl h
-
-each_once-distinct : (ks : List Key) → IsDistinct same_key (each_once ks)
-unfolding IsDistinct
-each_once-distinct [] = tt
-each_once-distinct (k ∷ ks) =
-    elim (list_any (same_key k) ks) as (λ b. list_any (same_key k) ks ≡ b → IsDistinct same_key (cond b (each_once ks) (k ∷ each_once ks))) [
-      | true ↦ λ e. each_once-distinct ks
-      | false ↦ λ e. (all-other k (each_once ks) (any-each_once k ks ∙ e), each_once-distinct ks)
-    ] refl
 
 pub keys-distinct : (set : List ℕ) (rows : List Row) → IsDistinct same_key (keys set rows)
 unfolding IsDistinct
 keys-distinct [] rows = (tt, tt)
-keys-distinct (p ∷ ps) rows = each_once-distinct (map (project (p ∷ ps)) rows)
+keys-distinct (p ∷ ps) rows = distinct-is same_key (map (project (p ∷ ps)) rows)
 
 firsts : (set : List ℕ) (fs : List ColumnFunction) (rows : List Row) (ks : List Key) → ks ≡ map (λ e. e.0) (map (group set fs rows) ks)
 firsts set fs rows [] = refl
 firsts set fs rows (k ∷ ks) = ap (λ xs. k ∷ xs) (firsts set fs rows ks)
 
-group_rows-kept : (set : List ℕ) (fs : List ColumnFunction) (rows : List Row) (ks : List Key) → map group_row_kept (map (group set fs rows) ks) ≡ map (λ k. group_row fs k (members set k rows)) ks
-group_rows-kept set fs rows [] = refl
-group_rows-kept set fs rows (k ∷ ks) = λ i. group_row-kept fs k (members set k rows) i ∷ group_rows-kept set fs rows ks i
+group_summaries-accumulator_state : (set : List ℕ) (fs : List ColumnFunction) (rows : List Row) (ks : List Key) → map state_summary (map (group set fs rows) ks) ≡ map (λ k. group_summary fs k (members set k rows)) ks
+group_summaries-accumulator_state set fs rows [] = refl
+group_summaries-accumulator_state set fs rows (k ∷ ks) = λ i. group_summary-accumulator_state fs k (members set k rows) i ∷ group_summaries-accumulator_state set fs rows ks i
 
 -- the lines of distinct entries, whose map is a table of records, are those of the records' groups
 pub lines-bag : (set : List ℕ) (fs : List ColumnFunction) (rows : List Row) (es : List (Key × GroupState)) (t : Contents) → fin.from_entries es ≡ t → IsTableOf set fs t rows
-    → IsDistinct same_key (map (λ e. e.0) es) → SameBag (map group_row_kept es) (group_rows set fs rows)
+    → IsDistinct same_key (map (λ e. e.0) es) → SameBag (map state_summary es) (group_summaries set fs rows)
 lines-bag set fs rows es t v h d f =
     let ks = keys set rows in
     let gs = map (group set fs rows) ks in
-    let w : Key × GroupState → ℕ = λ e. f (group_row_kept e) in
-    weigh-map f group_row_kept es
+    let w : Key × GroupState → ℕ = λ e. f (state_summary e) in
+    weigh-map f state_summary es
     ∙ sym (entries-bag es d w)
     ∙ ap (λ m. weigh w (fin.entries m)) (v ∙ table-is set fs t rows h)
     ∙ entries-bag gs (subst (λ (xs : List Key). IsDistinct same_key xs) (firsts set fs rows ks) (keys-distinct set rows)) w
-    ∙ sym (weigh-map f group_row_kept gs)
-    ∙ ap (weigh f) (group_rows-kept set fs rows ks)
+    ∙ sym (weigh-map f state_summary gs)
+    ∙ ap (weigh f) (group_summaries-accumulator_state set fs rows ks)

@@ -7,8 +7,8 @@ use Rattle.query_check.specs.declared.function.ColumnFunction.{ColumnFunction}
 use Rattle.query_check.specs.declared.function.ColumnFunction.TheVariants as function
 use Rattle.groups.specs.declared.accumulator.Accumulator.{Accumulator}
 use Rattle.groups.specs.Rows.{Row, value_at, IsNarrow, IsNarrowRow}
-use Rattle.groups.specs.Inside.Accumulator.{AccumulatorState, nothing, counted, summed, averaged, distinct, lowest, highest, kept, taken, argument, joined, kept_in, HasRoom, IsWithin, IsUnbounded}
-use Rattle.groups.specs.Inside.Group.{all_taken, all_joined, IsSound}
+use Rattle.groups.specs.Inside.Accumulator.{AccumulatorState, nothing, counted, summed, averaged, collected, lowest, highest, accumulator_state, with_value, argument, joined, state_in, HasRoom, IsWithin, IsUnbounded}
+use Rattle.groups.specs.Inside.Group.{all_with_row, all_joined, IsSound}
 use Rattle.groups.proofs.Firsts.{less-null, greater-null}
 use Rattle.groups.proofs.Sets.{union-empty}
 
@@ -19,14 +19,14 @@ sum_zero : (s : ℤ) → s +ℤ pos 0 ≡ s
 sum_zero s = omega (arith, ints)
 
 -- NULL changes nothing
-pub taken-null : (k : AccumulatorState) → taken k null ≡ k
-taken-null nothing = refl
-taken-null (counted n) = ap counted (plus_zero n)
-taken-null (summed s n) = λ i. summed (sum_zero s i) (plus_zero n i)
-taken-null (averaged s n) = λ i. averaged (sum_zero s i) (plus_zero n i)
-taken-null (distinct s) = ap distinct (union-empty s)
-taken-null (lowest k) = ap lowest (less-null k)
-taken-null (highest k) = ap highest (greater-null k)
+pub with_value-null : (k : AccumulatorState) → with_value k null ≡ k
+with_value-null nothing = refl
+with_value-null (counted n) = ap counted (plus_zero n)
+with_value-null (summed s n) = λ i. summed (sum_zero s i) (plus_zero n i)
+with_value-null (averaged s n) = λ i. averaged (sum_zero s i) (plus_zero n i)
+with_value-null (collected s) = ap collected (union-empty s)
+with_value-null (lowest k) = ap lowest (less-null k)
+with_value-null (highest k) = ap highest (greater-null k)
 
 -- ---- sizes
 
@@ -35,7 +35,7 @@ within-room lines nothing h w = tt
 within-room lines (counted n) h w = omega (arith, h, w)
 within-room lines (summed s n) h w = (omega (arith, h, w), omega (arith, ints, h, w))
 within-room lines (averaged s n) h w = (omega (arith, h, w), omega (arith, ints, h, w))
-within-room lines (distinct s) h w = tt
+within-room lines (collected s) h w = tt
 within-room lines (lowest k) h w = tt
 within-room lines (highest k) h w = tt
 
@@ -44,34 +44,34 @@ unbounded-within lines nothing u = tt
 unbounded-within lines (counted n) u = absurd u
 unbounded-within lines (summed s n) u = absurd u
 unbounded-within lines (averaged s n) u = absurd u
-unbounded-within lines (distinct s) u = tt
+unbounded-within lines (collected s) u = tt
 unbounded-within lines (lowest k) u = tt
 unbounded-within lines (highest k) u = tt
 
-pub taken-within : (lines : ℕ) (k : AccumulatorState) (d : Datum) → IsWithin lines k → IsNarrow d → IsWithin (lines + 1) (taken k d)
-taken-within lines nothing d w n = tt
-taken-within lines (counted m) (boolean b) w n = omega (arith, w)
-taken-within lines (counted m) (whole z) w n = omega (arith, w)
-taken-within lines (counted m) (text s) w n = omega (arith, w)
-taken-within lines (counted m) null w n = omega (arith, w)
-taken-within lines (summed s m) (boolean b) w n = (omega (arith, w), (omega (arith, ints, w), omega (arith, ints, w)))
-taken-within lines (summed s m) (whole z) w n = (omega (arith, w), (omega (arith, ints, w, n), omega (arith, ints, w, n)))
-taken-within lines (summed s m) (text t) w n = (omega (arith, w), (omega (arith, ints, w), omega (arith, ints, w)))
-taken-within lines (summed s m) null w n = (omega (arith, w), (omega (arith, ints, w), omega (arith, ints, w)))
-taken-within lines (averaged s m) (boolean b) w n = (omega (arith, w), (omega (arith, ints, w), omega (arith, ints, w)))
-taken-within lines (averaged s m) (whole z) w n = (omega (arith, w), (omega (arith, ints, w, n), omega (arith, ints, w, n)))
-taken-within lines (averaged s m) (text t) w n = (omega (arith, w), (omega (arith, ints, w), omega (arith, ints, w)))
-taken-within lines (averaged s m) null w n = (omega (arith, w), (omega (arith, ints, w), omega (arith, ints, w)))
-taken-within lines (distinct s) d w n = tt
-taken-within lines (lowest k) d w n = tt
-taken-within lines (highest k) d w n = tt
+pub with_value-within : (lines : ℕ) (k : AccumulatorState) (d : Datum) → IsWithin lines k → IsNarrow d → IsWithin (lines + 1) (with_value k d)
+with_value-within lines nothing d w n = tt
+with_value-within lines (counted m) (boolean b) w n = omega (arith, w)
+with_value-within lines (counted m) (whole z) w n = omega (arith, w)
+with_value-within lines (counted m) (text s) w n = omega (arith, w)
+with_value-within lines (counted m) null w n = omega (arith, w)
+with_value-within lines (summed s m) (boolean b) w n = (omega (arith, w), (omega (arith, ints, w), omega (arith, ints, w)))
+with_value-within lines (summed s m) (whole z) w n = (omega (arith, w), (omega (arith, ints, w, n), omega (arith, ints, w, n)))
+with_value-within lines (summed s m) (text t) w n = (omega (arith, w), (omega (arith, ints, w), omega (arith, ints, w)))
+with_value-within lines (summed s m) null w n = (omega (arith, w), (omega (arith, ints, w), omega (arith, ints, w)))
+with_value-within lines (averaged s m) (boolean b) w n = (omega (arith, w), (omega (arith, ints, w), omega (arith, ints, w)))
+with_value-within lines (averaged s m) (whole z) w n = (omega (arith, w), (omega (arith, ints, w, n), omega (arith, ints, w, n)))
+with_value-within lines (averaged s m) (text t) w n = (omega (arith, w), (omega (arith, ints, w), omega (arith, ints, w)))
+with_value-within lines (averaged s m) null w n = (omega (arith, w), (omega (arith, ints, w), omega (arith, ints, w)))
+with_value-within lines (collected s) d w n = tt
+with_value-within lines (lowest k) d w n = tt
+with_value-within lines (highest k) d w n = tt
 
 more-within : (a b : ℕ) (k : AccumulatorState) → IsWithin a k → IsWithin (a + b) k
 more-within a b nothing w = tt
 more-within a b (counted n) w = omega (arith, w)
 more-within a b (summed s n) w = (omega (arith, w), (omega (arith, ints, w), omega (arith, ints, w)))
 more-within a b (averaged s n) w = (omega (arith, w), (omega (arith, ints, w), omega (arith, ints, w)))
-more-within a b (distinct s) w = tt
+more-within a b (collected s) w = tt
 more-within a b (lowest k) w = tt
 more-within a b (highest k) w = tt
 
@@ -79,7 +79,7 @@ pub joined-within : (a b : ℕ) (k l : AccumulatorState) → IsWithin a k → Is
 joined-within a b (counted m) (counted n) v w = omega (arith, v, w)
 joined-within a b (summed s m) (summed t n) v w = (omega (arith, v, w), (omega (arith, ints, v, w), omega (arith, ints, v, w)))
 joined-within a b (averaged s m) (averaged t n) v w = (omega (arith, v, w), (omega (arith, ints, v, w), omega (arith, ints, v, w)))
-joined-within a b (distinct s) (distinct t) v w = tt
+joined-within a b (collected s) (collected t) v w = tt
 joined-within a b (lowest k) (lowest l) v w = tt
 joined-within a b (highest k) (highest l) v w = tt
 joined-within a b k l v w = more-within a b k v
@@ -102,17 +102,17 @@ argument-narrow (function.Min place) row n = value_at-narrow place row n
 argument-narrow (function.Max place) row n = value_at-narrow place row n
 argument-narrow (function.Avg place) row n = value_at-narrow place row n
 
-pub all_taken-sound : (lines : ℕ) (fs : List ColumnFunction) (ks : List AccumulatorState) (row : Row) → IsSound lines ks → IsNarrowRow row → IsSound (lines + 1) (all_taken fs ks row)
-all_taken-sound lines [] ks row s n = more-sound lines 1 ks s
-all_taken-sound lines (f ∷ fs) [] row s n = tt
-all_taken-sound lines (f ∷ fs) (k ∷ ks) row s n = (taken-within lines k (argument f row) s.0 (argument-narrow f row n), all_taken-sound lines fs ks row s.1 n)
+pub all_with_row-sound : (lines : ℕ) (fs : List ColumnFunction) (ks : List AccumulatorState) (row : Row) → IsSound lines ks → IsNarrowRow row → IsSound (lines + 1) (all_with_row fs ks row)
+all_with_row-sound lines [] ks row s n = more-sound lines 1 ks s
+all_with_row-sound lines (f ∷ fs) [] row s n = tt
+all_with_row-sound lines (f ∷ fs) (k ∷ ks) row s n = (with_value-within lines k (argument f row) s.0 (argument-narrow f row n), all_with_row-sound lines fs ks row s.1 n)
 
 pub all_joined-sound : (a b : ℕ) (ks ls : List AccumulatorState) → IsSound a ks → IsSound b ls → IsSound (a + b) (all_joined ks ls)
 all_joined-sound a b [] ls s t = tt
 all_joined-sound a b (k ∷ ks) [] s t = more-sound a b (k ∷ ks) s
 all_joined-sound a b (k ∷ ks) (l ∷ ls) s t = (joined-within a b k l s.0 t.0, all_joined-sound a b ks ls s.1 t.1)
 
-none-within : (f : ColumnFunction) → IsWithin 0 (kept f [])
+none-within : (f : ColumnFunction) → IsWithin 0 (accumulator_state f [])
 none-within function.CountRows = tt
 none-within (function.Count place) = omega arith
 none-within (function.CountDistinct place) = tt
@@ -121,27 +121,27 @@ none-within (function.Min place) = tt
 none-within (function.Max place) = tt
 none-within (function.Avg place) = (omega arith, (omega (arith, ints), omega (arith, ints)))
 
-pub none-sound : (fs : List ColumnFunction) → IsSound 0 (map (λ f. kept f []) fs)
+pub none-sound : (fs : List ColumnFunction) → IsSound 0 (map (λ f. accumulator_state f []) fs)
 none-sound [] = tt
 none-sound (f ∷ fs) = (none-within f, none-sound fs)
 
 -- ---- one after another: the accumulators from a place on are still to take the record
 
 abbrev pub taken_from : ℕ → List ColumnFunction → List AccumulatorState → Row → List AccumulatorState
-taken_from zero fs ks row = all_taken fs ks row
+taken_from zero fs ks row = all_with_row fs ks row
 taken_from (suc n) [] ks row = ks
 taken_from (suc n) (f ∷ fs) [] row = []
 taken_from (suc n) (f ∷ fs) (k ∷ ks) row = k ∷ taken_from n fs ks row
 
 pub taken_from-step : (n : ℕ) (fs : List ColumnFunction) (parts : List Accumulator) (row : Row) (f : ColumnFunction) (a b : Accumulator) → n < length fs → n < length parts
-    → a ≡ get_or parts n a → kept_in b ≡ taken (kept_in a) (argument (get_or fs n f) row)
-    → taken_from (suc n) fs (map kept_in (set parts n b)) row ≡ taken_from n fs (map kept_in parts) row
+    → a ≡ get_or parts n a → state_in b ≡ with_value (state_in a) (argument (get_or fs n f) row)
+    → taken_from (suc n) fs (map state_in (set parts n b)) row ≡ taken_from n fs (map state_in parts) row
 taken_from-step zero [] parts row f a b h i e k = absurd (omega arith)
 taken_from-step zero (g ∷ fs) [] row f a b h i e k = absurd (omega arith)
-taken_from-step zero (g ∷ fs) (x ∷ parts) row f a b h i e k = ap (λ z. z ∷ all_taken fs (map kept_in parts) row) (k ∙ ap (λ z. taken (kept_in z) (argument g row)) e)
+taken_from-step zero (g ∷ fs) (x ∷ parts) row f a b h i e k = ap (λ z. z ∷ all_with_row fs (map state_in parts) row) (k ∙ ap (λ z. with_value (state_in z) (argument g row)) e)
 taken_from-step (suc n) [] parts row f a b h i e k = absurd (omega arith)
 taken_from-step (suc n) (g ∷ fs) [] row f a b h i e k = absurd (omega arith)
-taken_from-step (suc n) (g ∷ fs) (x ∷ parts) row f a b h i e k = ap (λ js. kept_in x ∷ js) (taken_from-step n fs parts row f a b (omega arith) (omega arith) e k)
+taken_from-step (suc n) (g ∷ fs) (x ∷ parts) row f a b h i e k = ap (λ js. state_in x ∷ js) (taken_from-step n fs parts row f a b (omega arith) (omega arith) e k)
 
 pub taken_from-end : (fs : List ColumnFunction) (ks : List AccumulatorState) (row : Row) → length ks ≡ length fs → taken_from (length fs) fs ks row ≡ ks
 taken_from-end [] ks row e = refl
@@ -149,24 +149,24 @@ taken_from-end (f ∷ fs) [] row e = refl
 taken_from-end (f ∷ fs) (k ∷ ks) row e = ap (λ js. k ∷ js) (taken_from-end fs ks row (omega (arith, e)))
 
 pub taken_from-all : (n : ℕ) (fs : List ColumnFunction) (parts : List Accumulator) (row : Row) (ks : List AccumulatorState) → n ≡ length fs → length parts ≡ length fs
-    → taken_from n fs (map kept_in parts) row ≡ ks → map kept_in parts ≡ ks
-taken_from-all n fs parts row ks h e i = sym (taken_from-end fs (map kept_in parts) row (length-map parts kept_in ∙ e)) ∙ ap (λ m. taken_from m fs (map kept_in parts) row) (sym h) ∙ i
+    → taken_from n fs (map state_in parts) row ≡ ks → map state_in parts ≡ ks
+taken_from-all n fs parts row ks h e i = sym (taken_from-end fs (map state_in parts) row (length-map parts state_in ∙ e)) ∙ ap (λ m. taken_from m fs (map state_in parts) row) (sym h) ∙ i
 
 pub taken_from-within : (lines n : ℕ) (fs : List ColumnFunction) (parts : List Accumulator) (row : Row) (f : ColumnFunction) (a : Accumulator) → n < length fs → n < length parts
-    → a ≡ get_or parts n a → IsSound lines (taken_from n fs (map kept_in parts) row) → IsWithin lines (taken (kept_in a) (argument (get_or fs n f) row))
+    → a ≡ get_or parts n a → IsSound lines (taken_from n fs (map state_in parts) row) → IsWithin lines (with_value (state_in a) (argument (get_or fs n f) row))
 taken_from-within lines zero [] parts row f a h i e s = absurd (omega arith)
 taken_from-within lines zero (g ∷ fs) [] row f a h i e s = absurd (omega arith)
-taken_from-within lines zero (g ∷ fs) (x ∷ parts) row f a h i e s = subst (λ z. IsWithin lines (taken (kept_in z) (argument g row))) (sym e) s.0
+taken_from-within lines zero (g ∷ fs) (x ∷ parts) row f a h i e s = subst (λ z. IsWithin lines (with_value (state_in z) (argument g row))) (sym e) s.0
 taken_from-within lines (suc n) [] parts row f a h i e s = absurd (omega arith)
 taken_from-within lines (suc n) (g ∷ fs) [] row f a h i e s = absurd (omega arith)
 taken_from-within lines (suc n) (g ∷ fs) (x ∷ parts) row f a h i e s = taken_from-within lines n fs parts row f a (omega arith) (omega arith) e s.1
 
 pub taken_from-room : (lines n : ℕ) (fs : List ColumnFunction) (parts : List Accumulator) (row : Row) (f : ColumnFunction) (a : Accumulator) → n < length fs → n < length parts
-    → a ≡ get_or parts n a → lines < 2 ^ 63 → IsSound lines (taken_from n fs (map kept_in parts) row) → HasRoom (taken (kept_in a) (argument (get_or fs n f) row))
+    → a ≡ get_or parts n a → lines < 2 ^ 63 → IsSound lines (taken_from n fs (map state_in parts) row) → HasRoom (with_value (state_in a) (argument (get_or fs n f) row))
 taken_from-room lines n fs parts row f a h i e few s = within-room lines _ few (taken_from-within lines n fs parts row f a h i e s)
 
 -- one accumulator is replaced by one that is within
-pub sound-set : (lines n : ℕ) (parts : List Accumulator) (b : Accumulator) → IsSound lines (map kept_in parts) → IsWithin lines (kept_in b) → IsSound lines (map kept_in (set parts n b))
+pub sound-set : (lines n : ℕ) (parts : List Accumulator) (b : Accumulator) → IsSound lines (map state_in parts) → IsWithin lines (state_in b) → IsSound lines (map state_in (set parts n b))
 sound-set lines n [] b s w = tt
 sound-set lines zero (x ∷ parts) b s w = (w, s.1)
 sound-set lines (suc n) (x ∷ parts) b s w = (s.0, sound-set lines n parts b s.1 w)
@@ -179,12 +179,12 @@ joined_from (suc n) [] rest = []
 joined_from (suc n) (k ∷ ks) rest = k ∷ joined_from n ks rest
 
 pub joined_from-step : (n : ℕ) (parts : List Accumulator) (l : AccumulatorState) (rest : List AccumulatorState) (a b : Accumulator) → n < length parts
-    → a ≡ get_or parts n a → kept_in b ≡ joined (kept_in a) l
-    → joined_from (suc n) (map kept_in (set parts n b)) rest ≡ joined_from n (map kept_in parts) (l ∷ rest)
+    → a ≡ get_or parts n a → state_in b ≡ joined (state_in a) l
+    → joined_from (suc n) (map state_in (set parts n b)) rest ≡ joined_from n (map state_in parts) (l ∷ rest)
 joined_from-step zero [] l rest a b h e k = absurd (omega arith)
-joined_from-step zero (x ∷ parts) l rest a b h e k = ap (λ z. z ∷ all_joined (map kept_in parts) rest) (k ∙ ap (λ z. joined (kept_in z) l) e)
+joined_from-step zero (x ∷ parts) l rest a b h e k = ap (λ z. z ∷ all_joined (map state_in parts) rest) (k ∙ ap (λ z. joined (state_in z) l) e)
 joined_from-step (suc n) [] l rest a b h e k = absurd (omega arith)
-joined_from-step (suc n) (x ∷ parts) l rest a b h e k = ap (λ js. kept_in x ∷ js) (joined_from-step n parts l rest a b (omega arith) e k)
+joined_from-step (suc n) (x ∷ parts) l rest a b h e k = ap (λ js. state_in x ∷ js) (joined_from-step n parts l rest a b (omega arith) e k)
 
 joined-nothing : (ks : List AccumulatorState) → all_joined ks [] ≡ ks
 joined-nothing [] = refl
@@ -195,17 +195,17 @@ joined_from-end zero ks = joined-nothing ks
 joined_from-end (suc n) [] = refl
 joined_from-end (suc n) (k ∷ ks) = ap (λ js. k ∷ js) (joined_from-end n ks)
 
-pub joined_from-all : (n : ℕ) (parts rest : List Accumulator) (ks : List AccumulatorState) → length rest ≡ 0 → joined_from n (map kept_in parts) (map kept_in rest) ≡ ks → map kept_in parts ≡ ks
-joined_from-all n parts [] ks h e = sym (joined_from-end n (map kept_in parts)) ∙ e
+pub joined_from-all : (n : ℕ) (parts rest : List Accumulator) (ks : List AccumulatorState) → length rest ≡ 0 → joined_from n (map state_in parts) (map state_in rest) ≡ ks → map state_in parts ≡ ks
+joined_from-all n parts [] ks h e = sym (joined_from-end n (map state_in parts)) ∙ e
 joined_from-all n parts (x ∷ rest) ks h e = absurd (omega (arith, h))
 
 pub joined_from-within : (lines n : ℕ) (parts : List Accumulator) (l : AccumulatorState) (rest : List AccumulatorState) (a : Accumulator) → n < length parts
-    → a ≡ get_or parts n a → IsSound lines (joined_from n (map kept_in parts) (l ∷ rest)) → IsWithin lines (joined (kept_in a) l)
+    → a ≡ get_or parts n a → IsSound lines (joined_from n (map state_in parts) (l ∷ rest)) → IsWithin lines (joined (state_in a) l)
 joined_from-within lines zero [] l rest a h e s = absurd (omega arith)
-joined_from-within lines zero (x ∷ parts) l rest a h e s = subst (λ z. IsWithin lines (joined (kept_in z) l)) (sym e) s.0
+joined_from-within lines zero (x ∷ parts) l rest a h e s = subst (λ z. IsWithin lines (joined (state_in z) l)) (sym e) s.0
 joined_from-within lines (suc n) [] l rest a h e s = absurd (omega arith)
 joined_from-within lines (suc n) (x ∷ parts) l rest a h e s = joined_from-within lines n parts l rest a (omega arith) e s.1
 
 pub joined_from-room : (lines n : ℕ) (parts : List Accumulator) (l : AccumulatorState) (rest : List AccumulatorState) (a : Accumulator) → n < length parts
-    → a ≡ get_or parts n a → lines < 2 ^ 63 → IsSound lines (joined_from n (map kept_in parts) (l ∷ rest)) → HasRoom (joined (kept_in a) l)
+    → a ≡ get_or parts n a → lines < 2 ^ 63 → IsSound lines (joined_from n (map state_in parts) (l ∷ rest)) → HasRoom (joined (state_in a) l)
 joined_from-room lines n parts l rest a h e few s = within-room lines _ few (joined_from-within lines n parts l rest a h e s)

@@ -1,6 +1,8 @@
 mod Examples
 pub mod Keeping
 pub mod Order
+pub mod Repeats
+pub mod Bags
 pub mod Firsts
 pub mod Sets
 pub mod Entries
@@ -9,5 +11,5 @@ pub mod Meaning
 pub mod Distinct
 pub mod GroupsLaw
 pub mod Covering
-pub mod Shuffles
+pub mod AnyOrder
 pub mod Literals

@@ -9,8 +9,8 @@ use Rattle.query_check.specs.declared.function.ColumnFunction.{ColumnFunction}
 use Rattle.query_check.specs.declared.function.ColumnFunction.TheVariants as function
 use Rattle.groups.specs.Rows.{Row, value_at, IsNarrowRow}
 use Rattle.groups.specs.Groups.{Key, project, same_key}
-use Rattle.groups.specs.Inside.Accumulator.{AccumulatorState, argument, taken}
-use Rattle.groups.specs.Inside.Group.{GroupState, held, all_taken, with_row}
+use Rattle.groups.specs.Inside.Accumulator.{AccumulatorState, argument, with_value}
+use Rattle.groups.specs.Inside.Group.{GroupState, group_state, all_with_row, with_row}
 use Rattle.groups.specs.Inside.Moving.{AreArgumentsKept, left_of, takes}
 use Rattle.groups.specs.Inside.Table.{Contents, IsAdded}
 
@@ -80,13 +80,13 @@ project-set p (q ∷ qs) row h = λ i. value_at-set p q row (differ p q h.0) i �
 pub project-left : (fs : List ColumnFunction) (p : ℕ) (qs : List ℕ) (row : Row) → AllByRecursion (λ q. (p == q) ≡ false) qs → project qs (left_of fs p row) ≡ project qs row
 project-left fs p qs row h = elim (list_any (takes p) fs) as (λ b. project qs (cond b row (set row p null)) ≡ project qs row) [ true ↦ refl | false ↦ project-set p qs row h ]
 
-all_taken-kept : (fs : List ColumnFunction) (ks : List AccumulatorState) (old new : Row) → AreArgumentsKept fs old new → all_taken fs ks new ≡ all_taken fs ks old
-all_taken-kept [] ks old new h = refl
-all_taken-kept (f ∷ fs) [] old new h = refl
-all_taken-kept (f ∷ fs) (k ∷ ks) old new h = λ i. taken k (h.0 i) ∷ all_taken-kept fs ks old new h.1 i
+all_with_row-arguments : (fs : List ColumnFunction) (ks : List AccumulatorState) (old new : Row) → AreArgumentsKept fs old new → all_with_row fs ks new ≡ all_with_row fs ks old
+all_with_row-arguments [] ks old new h = refl
+all_with_row-arguments (f ∷ fs) [] old new h = refl
+all_with_row-arguments (f ∷ fs) (k ∷ ks) old new h = λ i. with_value k (h.0 i) ∷ all_with_row-arguments fs ks old new h.1 i
 
-with_row-kept : (fs : List ColumnFunction) (g : GroupState) (old new : Row) → AreArgumentsKept fs old new → with_row fs g new ≡ with_row fs g old
-with_row-kept fs g old new h = λ i. record { lines = g.lines + 1; parts = all_taken-kept fs g.parts old new h i }
+with_row-arguments : (fs : List ColumnFunction) (g : GroupState) (old new : Row) → AreArgumentsKept fs old new → with_row fs g new ≡ with_row fs g old
+with_row-arguments fs g old new h = λ i. record { lines = g.lines + 1; parts = all_with_row-arguments fs g.parts old new h i }
 
 -- NULL put into a record of the code
 pub data-set : (xs : List Value) (p : ℕ) → data_of (set xs p v.Null) ≡ set (data_of xs) p null
@@ -100,5 +100,5 @@ key-pushed [] x d ds h = ap (λ e. e ∷ ds) h
 key-pushed (y ∷ key) x d ds h = ap (λ es. datum_of y ∷ es) (key-pushed key x d ds h)
 
 -- a table that has what is left of a record added has the record added
-pub added-kept : (fs : List ColumnFunction) (t u : Contents) (key : Key) (old new : Row) (k : Key) → AreArgumentsKept fs old new → IsAdded fs t u key new k → IsAdded fs t u key old k
-added-kept fs t u key old new k h a = a ∙ ap (λ g. cond (same_key k key) (Some g) (get t k)) (with_row-kept fs (unwrap_or (get t k) (held fs [])) old new h)
+pub added-arguments : (fs : List ColumnFunction) (t u : Contents) (key : Key) (old new : Row) (k : Key) → AreArgumentsKept fs old new → IsAdded fs t u key new k → IsAdded fs t u key old k
+added-arguments fs t u key old new k h a = a ∙ ap (λ g. cond (same_key k key) (Some g) (get t k)) (with_row-arguments fs (unwrap_or (get t k) (group_state fs [])) old new h)

@@ -2,18 +2,20 @@
 use Rattle.std.proofs.Common.{◌≡◌, ◌+◌, Bool, true, false, cond, not, ◌||◌, List, [], ◌∷◌, ◌++◌, length, refl, sym, ap, ◌∙◌, arith}
 use Rattle.std.specs.Bool.{MatchBool}
 use Rattle.std.specs.List.{AllByRecursion, IsDistinct, list_any}
-use Rattle.std.specs.Cmp.{eq_by_cmp_equiv}
 use Rattle.std.specs.List.Sorted.{IsPermutation}
+use Rattle.std.proofs.lemmas.List.{length-map}
 use Rattle.std.proofs.lemmas.List.Folds.{list_any-append}
 use Rattle.std.proofs.lemmas.List.Sorted.{list_any-IsPermutation, IsPermutation-map}
 use Rattle.std.specs.FinSet as set
 use Rattle.values.specs.Datum.{Datum, whole, text, boolean, null, data_of, datum_of}
 use Rattle.values.specs.Order.{value_order}
 use Rattle.values.specs.declared.value.Value.{Value}
+use Rattle.query_check.specs.Columns.{distinct}
 use Rattle.groups.specs.Rows.{is_present, present}
-use Rattle.groups.specs.Functions.{same_value, different}
-use Rattle.groups.specs.Inside.Values.{Values, set_of, set_shown}
+use Rattle.groups.specs.Functions.{same_value}
+use Rattle.groups.specs.Inside.Values.{Values, set_of, values_in}
 use Rattle.groups.proofs.Order.{value_total, value_antisymmetric, value_eq, value_eq-ties}
+use Rattle.groups.proofs.Repeats.{alike, any-distinct, distinct-is}
 
 or-false : (b : Bool) → (b || false) ≡ b
 or-false true = refl
@@ -47,17 +49,24 @@ pub union-append : (xs ys : List Datum) → set_of (xs ++ ys) ≡ set.union (set
 union-append xs ys = same _ _ (λ q. in_list (xs ++ ys) q ∙ list_any-append (same_value q) xs ys
     ∙ (λ i. sym (in_list xs q) i || sym (in_list ys q) i) ∙ sym (set.contains-union value_total (set_of xs) (set_of ys) q))
 
--- the number of different values of a list
-pub len-different : (xs : List Datum) → set.len (set_of xs) ≡ length (different xs)
-len-different [] = set.len-empty value_order
-len-different (x ∷ xs) =
-    set.len-insert value_total (set_of xs) x
-    ∙ ap (λ b. cond b (set.len (set_of xs)) (set.len (set_of xs) + 1)) (in_list xs x)
-    ∙ ap (λ n. cond (list_any (same_value x) xs) n (n + 1)) (len-different xs)
-    ∙ elim (list_any (same_value x) xs) as (λ b. cond b (length (different xs)) (length (different xs) + 1) ≡ length (cond b (different xs) (x ∷ different xs))) [
-      | true ↦ refl
-      | false ↦ omega arith
-    ]
+distinct_alike : (xs : List Datum) → set_of (distinct same_value xs) ≡ set_of xs
+distinct_alike xs = same _ _ (λ q. in_list (distinct same_value xs) q ∙ any-distinct value_total q xs ∙ sym (in_list xs q))
+
+none-of : (d : Datum) (ds : List Datum) → AllByRecursion (λ y. same_value d y ≡ false) ds → list_any (same_value d) ds ≡ false
+none-of d [] h = refl
+none-of d (x ∷ ds) h = λ i. h.0 i || none-of d ds h.1 i
+
+len-all : (ds : List Datum) → IsDistinct same_value ds → set.len (set_of ds) ≡ length ds
+unfolding IsDistinct
+len-all [] d = set.len-empty value_order
+len-all (x ∷ ds) d =
+    set.len-insert value_total (set_of ds) x
+    ∙ ap (λ b. cond b (set.len (set_of ds)) (set.len (set_of ds) + 1)) (in_list ds x ∙ none-of x ds d.0)
+    ∙ (let h = len-all ds d.1 in omega (arith, h))
+
+-- the number of the values of a list without repeats
+pub len-distinct : (xs : List Datum) → set.len (set_of xs) ≡ length (distinct same_value xs)
+len-distinct xs = ap set.len (sym (distinct_alike xs)) ∙ len-all (distinct same_value xs) (distinct-is same_value xs)
 
 -- ---- sets in the code
 
@@ -69,15 +78,11 @@ negated : (b : Bool) → false ≡ not b → b ≡ true
 negated true e = refl
 negated false e = cc
 
-alike : (q k : Datum) → same_value q k ≡ true → (ds : List Datum) → list_any (same_value q) ds ≡ list_any (same_value k) ds
-alike q k e [] = refl
-alike q k e (d ∷ ds) = λ i. (eq_by_cmp_equiv value_total).congr q k d e i || alike q k e ds i
-
 -- what stands in the list already adds nothing
 there_already : (q k : Datum) (ds : List Datum) → list_any (same_value k) ds ≡ true → list_any (same_value q) ds ≡ (same_value q k || list_any (same_value q) ds)
 there_already q k ds there =
     elim (same_value q k) as (λ b. same_value q k ≡ b → list_any (same_value q) ds ≡ (b || list_any (same_value q) ds)) [
-      | true ↦ λ e. alike q k e ds ∙ there
+      | true ↦ λ e. alike value_total q k e ds ∙ there
       | false ↦ λ e. refl
     ] refl
 
@@ -86,19 +91,19 @@ insert-there ds d there = same _ _ (λ q. in_list ds q ∙ there_already q d ds 
     ∙ ap (λ b. same_value q d || b) (sym (in_list ds q)) ∙ sym (set.contains-insert value_total (set_of ds) d q))
 
 -- a set of the code that has a value already
-pub shown-there : (keys : List Value) (k : Value) → list_any (value_eq k) keys ≡ true → set_shown keys ≡ set.insert (set_shown keys) (datum_of k)
+pub shown-there : (keys : List Value) (k : Value) → list_any (value_eq k) keys ≡ true → values_in keys ≡ set.insert (values_in keys) (datum_of k)
 shown-there keys k h = insert-there (data_of keys) (datum_of k) (sym (found-data k keys) ∙ h)
 
 -- a set of the code after one more value
 pub shown-insert : (old new : List Value) (k : Value) (added : Bool) → added ≡ not (list_any (value_eq k) old)
     → MatchBool added (IsPermutation (k ∷ old) new) (new ≡ old)
-    → set_shown new ≡ set.insert (set_shown old) (datum_of k)
+    → values_in new ≡ set.insert (values_in old) (datum_of k)
 shown-insert old new k true e h = same _ _ (λ q.
     in_list (data_of new) q
     ∙ sym (list_any-IsPermutation (same_value q) (data_of (k ∷ old)) (data_of new) (IsPermutation-map datum_of (k ∷ old) new h))
     ∙ ap (λ b. same_value q (datum_of k) || b) (sym (in_list (data_of old) q))
-    ∙ sym (set.contains-insert value_total (set_shown old) (datum_of k) q))
-shown-insert old new k false e h = ap set_shown h ∙ shown-there old k (negated (list_any (value_eq k) old) e)
+    ∙ sym (set.contains-insert value_total (values_in old) (datum_of k) q))
+shown-insert old new k false e h = ap values_in h ∙ shown-there old k (negated (list_any (value_eq k) old) e)
 
 pub union-one : (s : Values) (d : Datum) → set.union s (set_of (d ∷ [])) ≡ set.insert s d
 union-one s d = same _ _ (λ q. set.contains-union value_total s (set_of (d ∷ [])) q
@@ -131,15 +136,15 @@ moved s d ds = same _ _ (λ q.
     ∙ ap (λ x. a || x) (sym (set.contains-insert value_total (set_of ds) d q))
     ∙ sym (set.contains-union value_total s (set_of (d ∷ ds)) q))
 
-none-of : (w : Value) (vs : List Value) → AllByRecursion (λ y. value_eq w y ≡ false) vs → list_any (value_eq w) vs ≡ false
-none-of w [] h = refl
-none-of w (x ∷ vs) h = λ i. h.0 i || none-of w vs h.1 i
+others-data : (w : Value) (vs : List Value) → AllByRecursion (λ y. value_eq w y ≡ false) vs → AllByRecursion (λ y. same_value (datum_of w) y ≡ false) (data_of vs)
+others-data w [] h = tt
+others-data w (x ∷ vs) h = (sym (value_eq-ties w x) ∙ h.0, others-data w vs h.1)
+
+data-distinct : (vs : List Value) → IsDistinct value_eq vs → IsDistinct same_value (data_of vs)
+unfolding IsDistinct
+data-distinct [] d = tt
+data-distinct (w ∷ vs) d = (others-data w vs d.0, data-distinct vs d.1)
 
 -- how many values a set of the code has
-pub len-shown : (vs : List Value) → IsDistinct value_eq vs → set.len (set_shown vs) ≡ length vs
-unfolding IsDistinct
-len-shown [] d = set.len-empty value_order
-len-shown (w ∷ vs) d =
-    set.len-insert value_total (set_shown vs) (datum_of w)
-    ∙ ap (λ b. cond b (set.len (set_shown vs)) (set.len (set_shown vs) + 1)) (in_list (data_of vs) (datum_of w) ∙ sym (found-data w vs) ∙ none-of w vs d.0)
-    ∙ (let h = len-shown vs d.1 in omega (arith, h))
+pub len-shown : (vs : List Value) → IsDistinct value_eq vs → set.len (values_in vs) ≡ length vs
+len-shown vs d = len-all (data_of vs) (data-distinct vs d) ∙ length-map vs datum_of

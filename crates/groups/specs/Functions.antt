@@ -1,9 +1,10 @@
 -- The value of a set function over a list of records (ISO/IEC 9075-2, <set function specification>).
-use Rattle.std.specs.Prelude.{ℕ, ℤ, pos, ◌+ℤ◌, Bool, not, List, [], ◌∷◌, length, unwrap_or, if◌then◌else◌}
-use Rattle.std.specs.List.{find, list_all, list_any}
+use Rattle.std.specs.Prelude.{ℕ, ℤ, pos, ◌+ℤ◌, Bool, not, List, [], ◌∷◌, length, unwrap_or}
+use Rattle.std.specs.List.{find, list_all}
 use Rattle.std.specs.Ordering.{eq_by_cmp, is_lt, is_gt}
 use Rattle.values.specs.Datum.{Datum, whole, null}
 use Rattle.values.specs.Order.{value_order}
+use Rattle.query_check.specs.Columns.{distinct}
 use Rattle.query_check.specs.declared.function.ColumnFunction.{ColumnFunction}
 use Rattle.query_check.specs.declared.function.ColumnFunction.TheVariants as function
 use Rattle.groups.specs.Rows.{Row, column_values, column_numbers}
@@ -16,11 +17,6 @@ pub data Summary : Type 0 where
 -- two values are not distinct where neither is before the other in the order of all values; so NULL is not distinct from NULL
 abbrev pub same_value : Datum → Datum → Bool
 same_value x y = eq_by_cmp value_order x y
-
--- the different values of a list: of those that are the same one is left
-abbrev pub different : List Datum → List Datum
-different [] = []
-different (x ∷ xs) = if list_any (same_value x) xs then different xs else x ∷ different xs
 
 -- whole numbers added up, without bound
 abbrev pub total : List ℤ → ℤ
@@ -49,7 +45,7 @@ greatest xs = unwrap_or (find (λ x. list_all (λ y. not (is_gt (value_order y x
 abbrev pub agg : ColumnFunction → List Row → Summary
 agg function.CountRows rows = plain (whole (pos (length rows)))
 agg (function.Count place) rows = plain (whole (pos (length (column_values place rows))))
-agg (function.CountDistinct place) rows = plain (whole (pos (length (different (column_values place rows)))))
+agg (function.CountDistinct place) rows = plain (whole (pos (length (distinct same_value (column_values place rows)))))
 agg (function.Sum place) rows = plain (sum_of (column_numbers place rows))
 agg (function.Min place) rows = plain (least (column_values place rows))
 agg (function.Max place) rows = plain (greatest (column_values place rows))

@@ -1,11 +1,12 @@
 -- The groups of a list of records (ISO/IEC 9075-2, <group by clause>).
-use Rattle.std.specs.Prelude.{ℕ, Bool, List, [], ◌∷◌, map, filter, if◌then◌else◌}
+use Rattle.std.specs.Prelude.{ℕ, Bool, List, [], ◌∷◌, map, filter}
 use Rattle.std.specs.declared.cmp.Ordering.{Ordering}
-use Rattle.std.specs.List.{enumerate_from, flat_map, list_any}
+use Rattle.std.specs.List.{enumerate_from, flat_map}
 use Rattle.std.specs.Ordering.{eq_by_cmp}
 use Rattle.std.specs.Cmp.Lexicographic.{slice_cmp}
 use Rattle.values.specs.Datum.{Datum}
 use Rattle.values.specs.Order.{value_order}
+use Rattle.query_check.specs.Columns.{distinct}
 use Rattle.groups.specs.Rows.{Row, value_at}
 
 -- the values in the columns of a grouping set
@@ -24,26 +25,21 @@ key_order = slice_cmp value_order
 abbrev pub same_key : Key → Key → Bool
 same_key k l = eq_by_cmp key_order k l
 
--- a list of keys without repeats
-abbrev pub each_once : List Key → List Key
-each_once [] = []
-each_once (k ∷ ks) = if list_any (same_key k) ks then each_once ks else k ∷ each_once ks
-
--- the keys of a list of records under a grouping set, each once; the empty set has the one empty key, also over no records
+-- the keys of a list of records under a grouping set, of those that are the same one; the empty set has the one empty key, also over no records
 abbrev pub keys : List ℕ → List Row → List Key
 keys [] rows = [] ∷ []
-keys (place ∷ places) rows = each_once (map (project (place ∷ places)) rows)
+keys (place ∷ places) rows = distinct same_key (map (project (place ∷ places)) rows)
 
 -- the members of a key: the records that have it
 abbrev pub members : List ℕ → Key → List Row → List Row
 members set key rows = filter (λ row. same_key key (project set row)) rows
 
--- a group: the index of its grouping set in the list of sets, its key, and its members
-pub record Group : Type 0 where
+-- a group of one of the grouping sets: the index of its set in the list of sets, its key, and its members
+pub record SetGroup : Type 0 where
   pub index : ℕ
   pub key : Key
   pub members : List Row
 
 -- the groups of a list of records: of each set of the list, by its index from 0, and each of its keys, the members
-abbrev pub groups : List (List ℕ) → List Row → List Group
+abbrev pub groups : List (List ℕ) → List Row → List SetGroup
 groups sets rows = flat_map (λ s. map (λ key. record { index = s.0; key = key; members = members s.1 key rows }) (keys s.1 rows)) (enumerate_from 0 sets)

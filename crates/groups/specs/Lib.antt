@@ -1,7 +1,7 @@
 pub mod Rows
 pub mod Functions
 pub mod Groups
-pub mod Shown
-pub mod GroupRows
-pub mod Shuffle
+pub mod Cells
+pub mod Bags
+pub mod GroupSummaries
 pub mod Inside

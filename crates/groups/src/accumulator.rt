@@ -1,6 +1,7 @@
+//! What is kept of the members of a group for one set function.
 ghost use Rattle.std.specs.Prelude.{◌≡◌, MatchOption};
 ghost use Rattle.values.specs.Datum.{datum_of, data_of, null};
-ghost use Rattle.groups.specs.Inside.Accumulator.{argument, place_of};
+ghost use Rattle.groups.specs.Inside.Accumulator.{argument, argument_place};
 ghost use Rattle.groups.specs.Rows.{is_present};
 
 use crate::cell::Cell;
@@ -32,12 +33,12 @@ pub(crate) enum Accumulator {
 
 impl Accumulator {
     ghost use Rattle.std.specs.Prelude.{[], ◌∷◌, ◌+◌, ◌^◌, ◌<◌, IfOk, OnOk, OnErr};
-    ghost use Rattle.groups.specs.Inside.Accumulator.{kept, kept_in, taken, joined, summary, HasRoom, IsUnbounded};
-    ghost use Rattle.groups.specs.Shown.{summary_of};
+    ghost use Rattle.groups.specs.Inside.Accumulator.{accumulator_state, state_in, with_value, joined, summary, HasRoom, IsUnbounded};
+    ghost use Rattle.groups.specs.Cells.{summary_of};
 
     /// What is kept of no record.
     pub(crate) fn new(alloc: Global, function: ColumnFunction) -> Result<Accumulator, AllocError>
-        ensures { IfOk result (λ accumulator. kept_in accumulator ≡ kept function []) }
+        ensures { IfOk result (λ accumulator. state_in accumulator ≡ accumulator_state function []) }
     {
         match function {
             ColumnFunction::CountRows => Ok(Accumulator::Rows),
@@ -54,9 +55,9 @@ impl Accumulator {
 
     /// Takes one more record. After an error what is kept is of no use.
     pub(crate) fn add(&mut self, function: ColumnFunction, row: &[Value]) -> Result<(), AllocError>
-        requires { HasRoom (taken (kept_in self.old) (argument function (data_of row.now))) }
-        ensures taken { OnOk result (kept_in self.new ≡ taken (kept_in self.old) (argument function (data_of row.now))) }
-        ensures unbounded { OnErr result (IsUnbounded (kept_in self.new)) }
+        requires { HasRoom (with_value (state_in self.old) (argument function (data_of row.now))) }
+        ensures added { OnOk result (state_in self.new ≡ with_value (state_in self.old) (argument function (data_of row.now))) }
+        ensures unbounded { OnErr result (IsUnbounded (state_in self.new)) }
     {
         match argument(function, row) {
             Some(value) => self.add_value(value),
@@ -66,9 +67,9 @@ impl Accumulator {
 
     /// Takes one more value.
     fn add_value(&mut self, value: &Value) -> Result<(), AllocError>
-        requires { HasRoom (taken (kept_in self.old) (datum_of value.now)) }
-        ensures taken { OnOk result (kept_in self.new ≡ taken (kept_in self.old) (datum_of value.now)) }
-        ensures unbounded { OnErr result (IsUnbounded (kept_in self.new)) }
+        requires { HasRoom (with_value (state_in self.old) (datum_of value.now)) }
+        ensures added { OnOk result (state_in self.new ≡ with_value (state_in self.old) (datum_of value.now)) }
+        ensures unbounded { OnErr result (IsUnbounded (state_in self.new)) }
     {
         match self {
             Accumulator::Rows => {}
@@ -96,9 +97,9 @@ impl Accumulator {
 
     /// Takes what is kept of other records for the same function. After an error what is kept is of no use.
     pub(crate) fn absorb(&mut self, other: Accumulator) -> Result<(), AllocError>
-        requires { HasRoom (joined (kept_in self.old) (kept_in other)) }
-        ensures joined { OnOk result (kept_in self.new ≡ joined (kept_in self.old) (kept_in other)) }
-        ensures unbounded { OnErr result (IsUnbounded (kept_in self.new)) }
+        requires { HasRoom (joined (state_in self.old) (state_in other)) }
+        ensures joined { OnOk result (state_in self.new ≡ joined (state_in self.old) (state_in other)) }
+        ensures unbounded { OnErr result (IsUnbounded (state_in self.new)) }
     {
         match (self, other) {
             (Accumulator::Count(count), Accumulator::Count(more)) => *count += more,
@@ -131,7 +132,7 @@ impl Accumulator {
 
     /// The value of the function over a group of so many records.
     pub(crate) fn finish(self, lines: u64) -> Cell
-        ensures { summary_of result ≡ summary lines (kept_in self) }
+        ensures { summary_of result ≡ summary lines (state_in self) }
     {
         match self {
             Accumulator::Rows => Cell::Plain(Value::Int(i128::from(lines))),
@@ -157,8 +158,8 @@ pub(crate) fn is_present(value: &Value) -> bool
 }
 
 /// The place of the column that a set function takes; `COUNT(*)` takes none.
-pub(crate) fn place_of(function: ColumnFunction) -> Option<usize>
-    ensures { result ≡ place_of function }
+pub(crate) fn argument_place(function: ColumnFunction) -> Option<usize>
+    ensures { result ≡ argument_place function }
 {
     match function {
         ColumnFunction::CountRows => None,
@@ -175,6 +176,6 @@ pub(crate) fn place_of(function: ColumnFunction) -> Option<usize>
 fn argument(function: ColumnFunction, row: &[Value]) -> Option<&Value>
     ensures { MatchOption result (argument function (data_of row.now) ≡ null) (λ value. datum_of value.now ≡ argument function (data_of row.now)) }
 {
-    let place = place_of(function)?;
+    let place = argument_place(function)?;
     row.get(place)
 }

@@ -1,6 +1,7 @@
+//! What is kept of the members of a group for all set functions.
 ghost use Rattle.std.specs.Prelude.{◌≡◌, IfOk, map};
-ghost use Rattle.groups.specs.Inside.Accumulator.{kept_in, summary};
-ghost use Rattle.groups.specs.Shown.{summary_of};
+ghost use Rattle.groups.specs.Inside.Accumulator.{state_in, summary};
+ghost use Rattle.groups.specs.Cells.{summary_of};
 
 use crate::accumulator::Accumulator;
 use crate::cell::Cell;
@@ -18,32 +19,32 @@ pub(crate) struct Accumulators {
 
 impl Model for Accumulators {
     ghost use Rattle.std.specs.Prelude.{map};
-    ghost use Rattle.groups.specs.Inside.Accumulator.{kept_in};
+    ghost use Rattle.groups.specs.Inside.Accumulator.{state_in};
     ghost use Rattle.groups.specs.Inside.Group.{GroupState, coded_group, IsSound};
 
     ghost Value = { GroupState };
 
     ghost coded = { coded_group };
 
-    ghost view = { λ a. record { lines = a.lines; parts = map kept_in a.parts.items } };
+    ghost view = { λ a. record { lines = a.lines; parts = map state_in a.parts.items } };
 
-    ghost invariant = { λ a. IsSound a.lines (map kept_in a.parts.items) };
+    ghost invariant = { λ a. IsSound a.lines (map state_in a.parts.items) };
 }
 
 impl Accumulators {
     ghost use Rattle.std.specs.Prelude.{◌≡◌, ◌+◌, ◌<◌, ◌≤◌, ◌^◌, [], IfOk, OnOk, length, map};
     ghost use Rattle.values.specs.Datum.{data_of};
     ghost use Rattle.groups.specs.Inside.Accumulator.{summary};
-    ghost use Rattle.groups.specs.Inside.Group.{held, with_row, join};
+    ghost use Rattle.groups.specs.Inside.Group.{group_state, with_row, join};
     ghost use Rattle.groups.specs.Rows.{IsNarrowRow};
-    ghost use Rattle.groups.specs.Shown.{summary_of};
+    ghost use Rattle.groups.specs.Cells.{summary_of};
 
     /// What is kept of a group without members.
     pub(crate) fn new(
         alloc: Global,
         functions: &[ColumnFunction],
     ) -> Result<Accumulators, AllocError>
-        ensures { IfOk result (λ group. group ≡ held functions.now []) }
+        ensures { IfOk result (λ group. group ≡ group_state functions.now []) }
     {
         let mut parts = Vec::with_capacity(alloc, functions.len())?;
         for function in functions {
@@ -97,7 +98,7 @@ impl Accumulators {
 
 /// The values of set functions over a group of so many records.
 fn cells_of(alloc: Global, lines: u64, parts: Vec<Accumulator>) -> Result<Vec<Cell>, AllocError>
-    ensures { IfOk result (λ cells. map summary_of cells.items ≡ map (λ part. summary lines (kept_in part)) parts.items) }
+    ensures { IfOk result (λ cells. map summary_of cells.items ≡ map (λ part. summary lines (state_in part)) parts.items) }
 {
     let mut cells = Vec::with_capacity(alloc, parts.len())?;
     for part in parts {

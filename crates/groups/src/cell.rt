@@ -1,3 +1,5 @@
+//! The values of set functions.
+
 use values::Value;
 
 /// The value of a set function over a group.

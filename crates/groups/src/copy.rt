@@ -1,3 +1,4 @@
+//! Copies of values.
 ghost use Rattle.std.specs.Prelude.{◌≡◌, IfOk};
 ghost use Rattle.values.specs.Datum.{datum_of};
 

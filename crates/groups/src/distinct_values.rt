@@ -1,7 +1,8 @@
+//! The different values that `COUNT(DISTINCT x)` counts.
 ghost use Rattle.std.specs.Prelude.{◌≡◌, OnOk};
 ghost use Rattle.std.specs.FinSet as set;
 ghost use Rattle.values.specs.Datum.{datum_of};
-ghost use Rattle.groups.specs.Inside.Values.{set_shown};
+ghost use Rattle.groups.specs.Inside.Values.{values_in};
 
 use crate::accumulator::is_present;
 use crate::copy::copy_of;
@@ -21,13 +22,13 @@ pub(crate) struct DistinctValues {
 impl Model for DistinctValues {
     ghost use Rattle.std.specs.FinSet as set;
     ghost use Rattle.groups.specs.Inside.Coding.{coded_datum};
-    ghost use Rattle.groups.specs.Inside.Values.{Values, set_shown};
+    ghost use Rattle.groups.specs.Inside.Values.{Values, values_in};
 
     ghost Value = { Values };
 
     ghost coded = { set.code coded_datum };
 
-    ghost view = { λ d. set_shown d.values.value.keys };
+    ghost view = { λ d. values_in d.values.value.keys };
 }
 
 impl DistinctValues {
@@ -76,7 +77,7 @@ impl DistinctValues {
 
 /// Puts a copy of a value into a set that does not have it.
 fn insert_copy(values: &mut HashSet<Value>, value: &Value) -> Result<(), AllocError>
-    ensures { OnOk result (set_shown values.new.keys ≡ set.insert (set_shown values.old.keys) (datum_of value.now)) }
+    ensures { OnOk result (values_in values.new.keys ≡ set.insert (values_in values.old.keys) (datum_of value.now)) }
 {
     if values.contains(value) {
         return Ok(());

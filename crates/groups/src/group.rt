@@ -1,9 +1,10 @@
+//! The groups that a table gives.
 ghost use Rattle.std.specs.Prelude.{◌≡◌, IfOk, map};
 ghost use Rattle.std.specs.List.{IsDistinct};
 ghost use Rattle.groups.specs.Groups.{same_key};
-ghost use Rattle.groups.specs.Inside.Table.{entries_shown};
-ghost use Rattle.groups.specs.GroupRows.{group_row_in};
-ghost use Rattle.groups.specs.Inside.Group.{group_row_kept};
+ghost use Rattle.groups.specs.Inside.Table.{entries_by_key};
+ghost use Rattle.groups.specs.GroupSummaries.{group_summary_in};
+ghost use Rattle.groups.specs.Inside.Group.{state_summary};
 
 use crate::accumulators::Accumulators;
 use crate::cell::Cell;
@@ -27,8 +28,8 @@ pub(crate) fn groups_of(
     alloc: Global,
     entries: HashMap<Vec<Value>, Accumulators>,
 ) -> Result<Vec<Group>, AllocError>
-    ensures lines { IfOk result (λ groups. map group_row_in groups.items ≡ map group_row_kept (entries_shown entries.entries)) }
-    ensures distinct { IfOk result (λ _. IsDistinct same_key (map (λ e. e.0) (entries_shown entries.entries))) }
+    ensures lines { IfOk result (λ groups. map group_summary_in groups.items ≡ map state_summary (entries_by_key entries.entries)) }
+    ensures distinct { IfOk result (λ _. IsDistinct same_key (map (λ e. e.0) (entries_by_key entries.entries))) }
 {
     let mut groups = Vec::new(alloc);
     for (key, group) in entries {

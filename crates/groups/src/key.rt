@@ -1,3 +1,4 @@
+//! The key of a record: copied, or moved out of it.
 ghost use Rattle.std.specs.Prelude.{◌≡◌, nat_eq, IfOk, OnOk, set};
 ghost use Rattle.std.specs.List.{IsDistinct, list_any};
 ghost use Rattle.values.specs.Datum.{data_of, datum_of, null};
@@ -5,7 +6,7 @@ ghost use Rattle.groups.specs.Groups.{project};
 ghost use Rattle.groups.specs.Rows.{IsNarrowRow, value_at};
 ghost use Rattle.groups.specs.Inside.Moving.{AreArgumentsKept, left_of, takes};
 
-use crate::accumulator::place_of;
+use crate::accumulator::argument_place;
 use crate::copy::copy_of;
 use query_check::ColumnFunction;
 use std::alloc::{AllocError, Global};
@@ -70,7 +71,7 @@ fn is_argument(functions: &[ColumnFunction], place: usize) -> bool
 fn takes(function: ColumnFunction, place: usize) -> bool
     ensures { result ≡ takes place function }
 {
-    match place_of(function) {
+    match argument_place(function) {
         Some(taken) => taken == place,
         None => false,
     }

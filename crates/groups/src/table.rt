@@ -1,3 +1,4 @@
+//! A hashed table of groups.
 ghost use Rattle.std.specs.Prelude.{◌≡◌, IfOk};
 ghost use Rattle.values.specs.Datum.{data_of};
 
@@ -18,13 +19,13 @@ pub struct Table {
 }
 
 impl Model for Table {
-    ghost use Rattle.groups.specs.Inside.Table.{Contents, coded_contents, shown};
+    ghost use Rattle.groups.specs.Inside.Table.{Contents, coded_contents, contents_of};
 
     ghost Value = { Contents };
 
     ghost coded = { coded_contents };
 
-    ghost view = { λ t. shown t.groups.entries };
+    ghost view = { λ t. contents_of t.groups.entries };
 }
 
 impl Table {
@@ -35,8 +36,9 @@ impl Table {
     ghost use Rattle.std.specs.FinMap as fin;
     ghost use Rattle.values.specs.Datum.{data_of};
     ghost use Rattle.groups.specs.Groups.{Key};
-    ghost use Rattle.groups.specs.Inside.Group.{held};
-    ghost use Rattle.groups.specs.GroupRows.{SameBag, group_row_in, group_rows};
+    ghost use Rattle.groups.specs.Inside.Group.{group_state};
+    ghost use Rattle.groups.specs.GroupSummaries.{group_summary_in, group_summaries};
+    ghost use Rattle.groups.specs.Bags.{SameBag};
     ghost use Rattle.groups.specs.Inside.Table.{CanJoin, HasPlace, IsAdded, IsPut, IsFitting, IsJoined, IsTableOf, TakesOne};
 
     /// The table of no records under a grouping set, for these set functions.
@@ -58,7 +60,7 @@ impl Table {
 
     /// The table of no records under the empty set, whose one key is there from the start.
     fn with_empty_key(alloc: Global, functions: &[ColumnFunction]) -> Result<Table, AllocError>
-        ensures { IfOk result (λ table. (k : Key) → IsPut fin.empty table [] (held functions.now []) k) }
+        ensures { IfOk result (λ table. (k : Key) → IsPut fin.empty table [] (group_state functions.now []) k) }
     {
         let mut table = Table {
             alloc,
@@ -117,7 +119,7 @@ impl Table {
     /// One group for each key of the records, in no order that is said.
     pub fn finish(self) -> Result<Vec<Group>, AllocError>
         ensures groups { IfOk result (λ groups. (set : List ℕ) (functions : List ColumnFunction) (rows : List Row)
-            → IsTableOf set functions self rows → SameBag (map group_row_in groups.items) (group_rows set functions rows)) }
+            → IsTableOf set functions self rows → SameBag (map group_summary_in groups.items) (group_summaries set functions rows)) }
     {
         let Table { alloc, groups } = self;
         groups_of(alloc, groups)

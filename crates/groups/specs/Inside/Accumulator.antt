@@ -21,50 +21,50 @@ pub data AccumulatorState : Type 0 where
   counted : ℕ → AccumulatorState
   summed : ℤ → ℕ → AccumulatorState
   averaged : ℤ → ℕ → AccumulatorState
-  distinct : Values → AccumulatorState
+  collected : Values → AccumulatorState
   lowest : Datum → AccumulatorState
   highest : Datum → AccumulatorState
 
 -- what is kept for a set function of a list of records
-abbrev pub kept : ColumnFunction → List Row → AccumulatorState
-kept function.CountRows rows = nothing
-kept (function.Count place) rows = counted (length (column_values place rows))
-kept (function.CountDistinct place) rows = distinct (set_of (column_values place rows))
-kept (function.Sum place) rows = summed (total (column_numbers place rows)) (length (column_numbers place rows))
-kept (function.Min place) rows = lowest (least (column_values place rows))
-kept (function.Max place) rows = highest (greatest (column_values place rows))
-kept (function.Avg place) rows = averaged (total (column_numbers place rows)) (length (column_numbers place rows))
+abbrev pub accumulator_state : ColumnFunction → List Row → AccumulatorState
+accumulator_state function.CountRows rows = nothing
+accumulator_state (function.Count place) rows = counted (length (column_values place rows))
+accumulator_state (function.CountDistinct place) rows = collected (set_of (column_values place rows))
+accumulator_state (function.Sum place) rows = summed (total (column_numbers place rows)) (length (column_numbers place rows))
+accumulator_state (function.Min place) rows = lowest (least (column_values place rows))
+accumulator_state (function.Max place) rows = highest (greatest (column_values place rows))
+accumulator_state (function.Avg place) rows = averaged (total (column_numbers place rows)) (length (column_numbers place rows))
 
 -- the place of the column that a set function takes; COUNT(*) takes none
-abbrev pub place_of : ColumnFunction → Option ℕ
-place_of function.CountRows = None
-place_of (function.Count place) = Some place
-place_of (function.CountDistinct place) = Some place
-place_of (function.Sum place) = Some place
-place_of (function.Min place) = Some place
-place_of (function.Max place) = Some place
-place_of (function.Avg place) = Some place
+abbrev pub argument_place : ColumnFunction → Option ℕ
+argument_place function.CountRows = None
+argument_place (function.Count place) = Some place
+argument_place (function.CountDistinct place) = Some place
+argument_place (function.Sum place) = Some place
+argument_place (function.Min place) = Some place
+argument_place (function.Max place) = Some place
+argument_place (function.Avg place) = Some place
 
 -- the value of a record that a set function takes, and NULL where it takes none
 abbrev pub argument : ColumnFunction → Row → Datum
-argument f row = option_map_or (λ place. value_at place row) (place_of f) null
+argument f row = option_map_or (λ place. value_at place row) (argument_place f) null
 
 -- what is kept after one more value
-abbrev pub taken : AccumulatorState → Datum → AccumulatorState
-taken nothing d = nothing
-taken (counted n) d = counted (n + length (present (d ∷ [])))
-taken (summed s n) d = summed (s +ℤ total (numbers (d ∷ []))) (n + length (numbers (d ∷ [])))
-taken (averaged s n) d = averaged (s +ℤ total (numbers (d ∷ []))) (n + length (numbers (d ∷ [])))
-taken (distinct s) d = distinct (set.union s (set_of (present (d ∷ []))))
-taken (lowest k) d = lowest (first_by value_order k d)
-taken (highest k) d = highest (first_by falling k d)
+abbrev pub with_value : AccumulatorState → Datum → AccumulatorState
+with_value nothing d = nothing
+with_value (counted n) d = counted (n + length (present (d ∷ [])))
+with_value (summed s n) d = summed (s +ℤ total (numbers (d ∷ []))) (n + length (numbers (d ∷ [])))
+with_value (averaged s n) d = averaged (s +ℤ total (numbers (d ∷ []))) (n + length (numbers (d ∷ [])))
+with_value (collected s) d = collected (set.union s (set_of (present (d ∷ []))))
+with_value (lowest k) d = lowest (first_by value_order k d)
+with_value (highest k) d = highest (first_by falling k d)
 
 -- what is kept of two parts of a group for one function; of different functions the first stays as it is
 abbrev pub joined : AccumulatorState → AccumulatorState → AccumulatorState
 joined (counted m) (counted n) = counted (m + n)
 joined (summed s m) (summed t n) = summed (s +ℤ t) (m + n)
 joined (averaged s m) (averaged t n) = averaged (s +ℤ t) (m + n)
-joined (distinct s) (distinct t) = distinct (set.union s t)
+joined (collected s) (collected t) = collected (set.union s t)
 joined (lowest k) (lowest l) = lowest (first_by value_order k l)
 joined (highest k) (highest l) = highest (first_by falling k l)
 joined k l = k
@@ -77,7 +77,7 @@ summary lines (summed s zero) = plain null
 summary lines (summed s (suc n)) = plain (whole s)
 summary lines (averaged s zero) = plain null
 summary lines (averaged s (suc n)) = ratio s (suc n)
-summary lines (distinct s) = plain (whole (pos (set.len s)))
+summary lines (collected s) = plain (whole (pos (set.len s)))
 summary lines (lowest k) = plain k
 summary lines (highest k) = plain k
 
@@ -89,7 +89,7 @@ HasRoom nothing = ⊤
 HasRoom (counted n) = n < 2 ^ 64
 HasRoom (summed s n) = (n < 2 ^ 64) × FitsSigned w128 s
 HasRoom (averaged s n) = (n < 2 ^ 64) × FitsSigned w128 s
-HasRoom (distinct s) = ⊤
+HasRoom (collected s) = ⊤
 HasRoom (lowest k) = ⊤
 HasRoom (highest k) = ⊤
 
@@ -103,7 +103,7 @@ IsWithin lines nothing = ⊤
 IsWithin lines (counted n) = n ≤ lines
 IsWithin lines (summed s n) = (n ≤ lines) × IsSumOf lines s
 IsWithin lines (averaged s n) = (n ≤ lines) × IsSumOf lines s
-IsWithin lines (distinct s) = ⊤
+IsWithin lines (collected s) = ⊤
 IsWithin lines (lowest k) = ⊤
 IsWithin lines (highest k) = ⊤
 
@@ -113,21 +113,21 @@ IsUnbounded nothing = ⊤
 IsUnbounded (counted n) = ⊥
 IsUnbounded (summed s n) = ⊥
 IsUnbounded (averaged s n) = ⊥
-IsUnbounded (distinct s) = ⊤
+IsUnbounded (collected s) = ⊤
 IsUnbounded (lowest k) = ⊤
 IsUnbounded (highest k) = ⊤
 
 -- ---- the accumulators of the code
 
 -- what an accumulator keeps
-abbrev pub kept_in : Accumulator → AccumulatorState
-kept_in accumulator.Rows = nothing
-kept_in (accumulator.Count n) = counted n
-kept_in (accumulator.Sum t) = summed t.sum t.count
-kept_in (accumulator.Average t) = averaged t.sum t.count
-kept_in (accumulator.Distinct s) = distinct s
-kept_in (accumulator.Min value) = lowest (datum_of value)
-kept_in (accumulator.Max value) = highest (datum_of value)
+abbrev pub state_in : Accumulator → AccumulatorState
+state_in accumulator.Rows = nothing
+state_in (accumulator.Count n) = counted n
+state_in (accumulator.Sum t) = summed t.sum t.count
+state_in (accumulator.Average t) = averaged t.sum t.count
+state_in (accumulator.Distinct s) = collected s
+state_in (accumulator.Min value) = lowest (datum_of value)
+state_in (accumulator.Max value) = highest (datum_of value)
 
 abbrev Fields : Type 0
 Fields = ℕ × ((ℤ × ℕ) × (Values × Datum))
@@ -137,7 +137,7 @@ fields nothing = (0, ((pos 0, 0), (set.empty, null)))
 fields (counted n) = (1, ((pos 0, n), (set.empty, null)))
 fields (summed s n) = (2, ((s, n), (set.empty, null)))
 fields (averaged s n) = (3, ((s, n), (set.empty, null)))
-fields (distinct s) = (4, ((pos 0, 0), (s, null)))
+fields (collected s) = (4, ((pos 0, 0), (s, null)))
 fields (lowest k) = (5, ((pos 0, 0), (set.empty, k)))
 fields (highest k) = (6, ((pos 0, 0), (set.empty, k)))
 
@@ -146,7 +146,7 @@ of_fields (zero, ((s, n), (v, k))) = nothing
 of_fields (suc zero, ((s, n), (v, k))) = counted n
 of_fields (suc (suc zero), ((s, n), (v, k))) = summed s n
 of_fields (suc (suc (suc zero)), ((s, n), (v, k))) = averaged s n
-of_fields (suc (suc (suc (suc zero))), ((s, n), (v, k))) = distinct v
+of_fields (suc (suc (suc (suc zero))), ((s, n), (v, k))) = collected v
 of_fields (suc (suc (suc (suc (suc zero)))), ((s, n), (v, k))) = lowest k
 of_fields (suc (suc (suc (suc (suc (suc _))))), ((s, n), (v, k))) = highest k
 
@@ -155,7 +155,7 @@ of_fields-fields nothing = refl
 of_fields-fields (counted n) = refl
 of_fields-fields (summed s n) = refl
 of_fields-fields (averaged s n) = refl
-of_fields-fields (distinct s) = refl
+of_fields-fields (collected s) = refl
 of_fields-fields (lowest k) = refl
 of_fields-fields (highest k) = refl
 

@@ -5,8 +5,8 @@ use Rattle.std.specs.Coded.{Coded, code_by, coded×, coded_ℕ, coded_list}
 use Rattle.query_check.specs.declared.function.ColumnFunction.{ColumnFunction}
 use Rattle.groups.specs.Rows.{Row}
 use Rattle.groups.specs.Groups.{Key}
-use Rattle.groups.specs.GroupRows.{GroupRow}
-use Rattle.groups.specs.Inside.Accumulator.{AccumulatorState, kept, taken, argument, joined, summary, IsWithin, coded_accumulator}
+use Rattle.groups.specs.GroupSummaries.{GroupSummary}
+use Rattle.groups.specs.Inside.Accumulator.{AccumulatorState, accumulator_state, with_value, argument, joined, summary, IsWithin, coded_accumulator}
 
 pub record GroupState : Type 0 where
   pub lines : ℕ
@@ -16,14 +16,14 @@ abbrev pub coded_group : Coded GroupState
 coded_group = code_by (ℕ × List AccumulatorState) (coded× coded_ℕ (coded_list coded_accumulator)) (λ h. (h.lines, h.parts)) (λ p. record { lines = p.0; parts = p.1 }) (λ _. refl)
 
 -- what is kept of a group with these members
-abbrev pub held : List ColumnFunction → List Row → GroupState
-held functions rows = record { lines = length rows; parts = map (λ f. kept f rows) functions }
+abbrev pub group_state : List ColumnFunction → List Row → GroupState
+group_state functions rows = record { lines = length rows; parts = map (λ f. accumulator_state f rows) functions }
 
 -- each accumulator after one more record
-abbrev pub all_taken : List ColumnFunction → List AccumulatorState → Row → List AccumulatorState
-all_taken [] ks row = ks
-all_taken (f ∷ fs) [] row = []
-all_taken (f ∷ fs) (k ∷ ks) row = taken k (argument f row) ∷ all_taken fs ks row
+abbrev pub all_with_row : List ColumnFunction → List AccumulatorState → Row → List AccumulatorState
+all_with_row [] ks row = ks
+all_with_row (f ∷ fs) [] row = []
+all_with_row (f ∷ fs) (k ∷ ks) row = with_value k (argument f row) ∷ all_with_row fs ks row
 
 -- the accumulators of two parts of a group, put together one by one
 abbrev pub all_joined : List AccumulatorState → List AccumulatorState → List AccumulatorState
@@ -33,7 +33,7 @@ all_joined (k ∷ ks) (l ∷ ls) = joined k l ∷ all_joined ks ls
 
 -- what is kept after one more record
 abbrev pub with_row : List ColumnFunction → GroupState → Row → GroupState
-with_row functions h row = record { lines = h.lines + 1; parts = all_taken functions h.parts row }
+with_row functions h row = record { lines = h.lines + 1; parts = all_with_row functions h.parts row }
 
 -- what is kept of two parts of a group
 abbrev pub join : GroupState → GroupState → GroupState
@@ -44,5 +44,5 @@ abbrev pub IsSound : ℕ → List AccumulatorState → Type 0
 IsSound lines parts = AllByRecursion (IsWithin lines) parts
 
 -- the row of what is kept of a group
-abbrev pub group_row_kept : Key × GroupState → GroupRow
-group_row_kept e = record { key = e.0; lines = e.1.lines; cells = map (summary e.1.lines) e.1.parts }
+abbrev pub state_summary : Key × GroupState → GroupSummary
+state_summary e = record { key = e.0; lines = e.1.lines; cells = map (summary e.1.lines) e.1.parts }

@@ -5,11 +5,11 @@ use Rattle.std.specs.Option.{option_map_or}
 use Rattle.values.specs.Datum.{null}
 use Rattle.query_check.specs.declared.function.ColumnFunction.{ColumnFunction}
 use Rattle.groups.specs.Rows.{Row}
-use Rattle.groups.specs.Inside.Accumulator.{place_of, argument}
+use Rattle.groups.specs.Inside.Accumulator.{argument_place, argument}
 
 -- whether a set function takes the column at a place
 abbrev pub takes : ℕ → ColumnFunction → Bool
-takes place f = option_map_or (λ taken. taken == place) (place_of f) false
+takes place f = option_map_or (λ taken. taken == place) (argument_place f) false
 
 -- what is left of a record once its value at a place has moved, where no set function takes it
 abbrev pub left_of : List ColumnFunction → ℕ → Row → Row

@@ -11,7 +11,7 @@ use Rattle.query_check.specs.declared.function.ColumnFunction.{ColumnFunction}
 use Rattle.groups.specs.Inside.Coding.{coded_key}
 use Rattle.groups.specs.Rows.{Row}
 use Rattle.groups.specs.Groups.{Key, key_order, same_key, keys, members}
-use Rattle.groups.specs.Inside.Group.{GroupState, coded_group, held, with_row, join}
+use Rattle.groups.specs.Inside.Group.{GroupState, coded_group, group_state, with_row, join}
 
 -- what is kept of each group, by its key
 abbrev pub Contents : Type 0
@@ -20,16 +20,16 @@ Contents = fin.FinMap key_order GroupState
 abbrev pub coded_contents : Coded Contents
 coded_contents = fin.code coded_key coded_group
 
-abbrev pub entries_shown : List (Vec Value Global × GroupState) → List (Key × GroupState)
-entries_shown entries = map (λ e. (data_of e.0.items, e.1)) entries
+abbrev pub entries_by_key : List (Vec Value Global × GroupState) → List (Key × GroupState)
+entries_by_key entries = map (λ e. (data_of e.0.items, e.1)) entries
 
 -- the contents of a hashed map of the code
-abbrev pub shown : List (Vec Value Global × GroupState) → Contents
-shown entries = fin.from_entries (entries_shown entries)
+abbrev pub contents_of : List (Vec Value Global × GroupState) → Contents
+contents_of entries = fin.from_entries (entries_by_key entries)
 
 -- a table is that of a list of records under a grouping set: at each of their keys it has what is kept of the members, and at no other key anything
 abbrev pub IsTableOf : List ℕ → List ColumnFunction → Contents → List Row → Type 0
-IsTableOf set functions table rows = (key : Key) → fin.get table key ≡ (if list_any (same_key key) (keys set rows) then Some (held functions (members set key rows)) else None)
+IsTableOf set functions table rows = (key : Key) → fin.get table key ≡ (if list_any (same_key key) (keys set rows) then Some (group_state functions (members set key rows)) else None)
 
 -- the table of some list of records, fewer than 2^63 with one more
 pub record TakesOne (set : List ℕ) (functions : List ColumnFunction) (table : Contents) : Type 0 where
@@ -41,7 +41,7 @@ pub record TakesOne (set : List ℕ) (functions : List ColumnFunction) (table : 
 
 -- what is kept of a group after one more record; of a group that is new, after its first one
 abbrev pub grown : List ColumnFunction → Option GroupState → Row → GroupState
-grown functions old row = with_row functions (unwrap_or old (held functions [])) row
+grown functions old row = with_row functions (unwrap_or old (group_state functions [])) row
 
 -- at the key k the table has the record added, where it is the record's key, and else what it had
 abbrev pub IsAdded : List ColumnFunction → Contents → Contents → Key → Row → Key → Type 0

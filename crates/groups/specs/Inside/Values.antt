@@ -28,5 +28,5 @@ abbrev pub first_by : (Datum → Datum → Ordering) → Datum → Datum → Dat
 first_by order a b = if is_lt (order b a) then b else a
 
 -- the set of the values that a hashed set of the code has
-abbrev pub set_shown : List Value → Values
-set_shown values = set_of (data_of values)
+abbrev pub values_in : List Value → Values
+values_in values = set_of (data_of values)

@@ -1,6 +1,6 @@
 use Rattle.std.proofs.Common.{sym, ap, ◌∙◌}
 use Rattle.std.specs.FinSet as set
-use Rattle.groups.specs.Inside.Values.{set_shown}
+use Rattle.groups.specs.Inside.Values.{values_in}
 use Rattle.groups.proofs.Sets.{shown-there, shown-insert}
 use Rattle.groups.proofs.distinct_values.insert_copy.Goals as goal
 
@@ -10,4 +10,4 @@ returns-then-contains c = shown-there c.args.values.now.keys c.args.value.now (s
 pub returns : goal.returns
 returns c =
     shown-insert c.args.values.now.keys c.insert.new.self.keys c.in_ok-copy.copy c.in_ok-insert.field-0 c.in_ok-insert.ensures.added c.in_ok-insert.ensures.keys
-    ∙ ap (set.insert (set_shown c.args.values.now.keys)) c.in_ok-copy.ensures
+    ∙ ap (set.insert (values_in c.args.values.now.keys)) c.in_ok-copy.ensures

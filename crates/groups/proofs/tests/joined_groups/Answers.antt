@@ -1,4 +1,4 @@
-use Rattle.std.proofs.Common.{◌≡◌, length, arith}
+use Rattle.std.proofs.Common.{length, arith}
 use Rattle.groups.proofs.Meaning.{table-within, within-can_join}
 use Rattle.groups.proofs.tests.joined_groups.Goals as goal
 

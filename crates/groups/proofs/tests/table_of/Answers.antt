@@ -1,6 +1,5 @@
-use Rattle.std.proofs.Common.{◌≡◌, ◌+◌, ◌<◌, ◌^◌, [], ◌∷◌, ◌++◌, length, refl, arith, length-append}
+use Rattle.std.proofs.Common.{[], ◌∷◌, ◌++◌, refl, arith, length-append}
 use Rattle.values.specs.Datum.{data_of}
-use Rattle.groups.specs.Inside.Table.{TakesOne}
 use Rattle.groups.proofs.tests.table_of.Goals as goal
 
 pub loop-fields-init : goal.loop-fields-init

@@ -3,7 +3,7 @@ use Rattle.std.proofs.lemmas.Result.{on_ok_weaker}
 use Rattle.std.specs.FinSet as set
 use Rattle.values.specs.Datum.{datum_of}
 use Rattle.groups.specs.Rows.{is_present}
-use Rattle.groups.specs.Inside.Values.{Values, set_shown}
+use Rattle.groups.specs.Inside.Values.{Values, values_in}
 use Rattle.groups.proofs.Sets.{union-absent, union-present}
 use Rattle.groups.proofs.distinct_values.DistinctValues.add.Goals as goal
 
@@ -17,7 +17,7 @@ returns c =
     let value = c.args.value.now in
     let there : is_present (datum_of value) ≡ true = cc in
     on_ok_weaker c.insert_copy.result
-    (λ (h : set_shown c.insert_copy.new.values.keys ≡ set.insert (set_shown c.deref_mut.result.now.keys) (datum_of value)).
-    h ∙ ap (λ held. set.insert (set_shown held.keys) (datum_of value)) c.deref_mut.ensures.value
+    (λ (h : values_in c.insert_copy.new.values.keys ≡ set.insert (values_in c.deref_mut.result.now.keys) (datum_of value)).
+    h ∙ ap (λ box. set.insert (values_in box.keys) (datum_of value)) c.deref_mut.ensures.value
     ∙ ap (λ (s : Values). set.insert s (datum_of value)) c.self.view_is ∙ sym (union-present c.args.self.now (datum_of value) there))
     c.insert_copy.ensures

@@ -1,11 +1,11 @@
 use Rattle.std.proofs.Common.{sym, ap, ◌∙◌}
 use Rattle.std.specs.FinSet as set
-use Rattle.groups.specs.Inside.Values.{Values, set_shown}
+use Rattle.groups.specs.Inside.Values.{Values, values_in}
 use Rattle.groups.proofs.Sets.{len-shown}
 use Rattle.groups.proofs.distinct_values.DistinctValues.count.Goals as goal
 
 pub returns : goal.returns
 returns c =
     c.len.ensures.len ∙ sym (len-shown c.deref.result.now.keys c.len.ensures.unique)
-    ∙ ap (λ held. set.len (set_shown held.keys)) c.deref.ensures
+    ∙ ap (λ box. set.len (values_in box.keys)) c.deref.ensures
     ∙ ap (λ (s : Values). set.len s) c.self.view_is

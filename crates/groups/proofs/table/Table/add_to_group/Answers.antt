@@ -7,7 +7,7 @@ use Rattle.std.specs.Cmp.Lexicographic.{pointwise}
 use Rattle.values.specs.Datum.{data_of}
 use Rattle.groups.specs.Groups.{same_key}
 use Rattle.groups.specs.Inside.Group.{GroupState, with_row}
-use Rattle.groups.specs.Inside.Table.{grown, shown}
+use Rattle.groups.specs.Inside.Table.{grown, contents_of}
 use Rattle.groups.proofs.Order.{value_eq}
 use Rattle.groups.proofs.Entries.{get-updated, get-shown, added_is}
 use Rattle.groups.proofs.table.Table.add_to_group.Goals as goal
@@ -46,7 +46,7 @@ returns-in-Some c =
     let u = (c.get_mut.follows.holds c.add.new.self).3 there in
     on_ok_weaker c.add.result
     (λ (h : c.add.new.self ≡ with_row fs c.in-Some.group.now row).
-    added_is fs c.args.self.now (shown n.entries) key row (Some c.add.new.self)
+    added_is fs c.args.self.now (contents_of n.entries) key row (Some c.add.new.self)
     (λ q. get-updated es n.entries c.args.key.items (Some c.add.new.self) u.1 u.3 q ∙ ap (λ m. cond (same_key q key) (Some c.add.new.self) (fin.get m q)) c.self.view_is)
     (ap Some h ∙ ap (λ o. Some (grown fs o row)) (sym (found_then c))))
     c.add.ensures
@@ -61,6 +61,6 @@ returns c =
     let others = rw (c.get_mut.follows.holds-at-none) at u.3 in
     let absent : fin.get c.args.self.now key ≡ None =
     ap (λ m. fin.get m key) (sym c.self.view_is) ∙ get-shown c.args.key.items es ∙ sym c.get_mut.ensures.value ∙ ap option_copied_mut c.in_default.is in
-    added_is fs c.args.self.now (shown c.insert.new.self.entries) key row (Some c.add-2.new.self)
+    added_is fs c.args.self.now (contents_of c.insert.new.self.entries) key row (Some c.add-2.new.self)
     (λ q. get-updated es c.insert.new.self.entries c.args.key.items (Some c.add-2.new.self) u.1 others q ∙ ap (λ m. cond (same_key q key) (Some c.add-2.new.self) (fin.get m q)) c.self.view_is)
     (ap Some c.in_ok-add.ensures ∙ ap (λ (g : GroupState). Some (with_row fs g row)) c.in_ok-group.ensures ∙ ap (λ o. Some (grown fs o row)) (sym absent))

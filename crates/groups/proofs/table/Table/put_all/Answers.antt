@@ -8,7 +8,7 @@ use Rattle.values.specs.Datum.{data_of}
 use Rattle.values.specs.declared.value.Value.{Value}
 use Rattle.groups.specs.Groups.{Key, key_order}
 use Rattle.groups.specs.Inside.Group.{GroupState}
-use Rattle.groups.specs.Inside.Table.{IsFitting, join_options, entries_shown}
+use Rattle.groups.specs.Inside.Table.{IsFitting, join_options, entries_by_key}
 use Rattle.groups.proofs.Order.{key_total}
 use Rattle.groups.proofs.Entries.{key_eq, merged_step, fits_step, find-first}
 use Rattle.groups.proofs.table.Table.put_all.Goals as goal
@@ -16,8 +16,8 @@ use Rattle.groups.proofs.table.Table.put_all.Goals as goal
 pub loop-key-init : goal.loop-key-init
 loop-key-init c =
     let g = c.into_iter-key-iterator.ensures.into_iter_gives in
-    let at : (k : Key) → find key_order k (entries_shown c.into_iter-key-iterator.result) ≡ get c.args.other k =
-    λ k. ap (λ es. find key_order k (entries_shown es)) g.0 ∙ sym (get-from_entries key_total (entries_shown c.other.inside.groups.entries) k) ∙ ap (λ m. get m k) c.other.view_is in
+    let at : (k : Key) → find key_order k (entries_by_key c.into_iter-key-iterator.result) ≡ get c.args.other k =
+    λ k. ap (λ es. find key_order k (entries_by_key es)) g.0 ∙ sym (get-from_entries key_total (entries_by_key c.other.inside.groups.entries) k) ∙ ap (λ m. get m k) c.other.view_is in
     record {
       joined = λ k. ap (join_options (get c.args.self.now k)) (at k);
       fits = λ k. subst (λ (o : Option GroupState). IfSome o (λ p. IsFitting p (get c.args.self.now k))) (sym (at k)) (c.requires k);
@@ -33,7 +33,7 @@ put_to_group-requires c =
     let k = data_of c.in-Some.key.items in
     let e : Vec Value Global × GroupState = (c.in-Some.key, c.in-Some.part) in
     subst (λ (o : Option GroupState). IfSome o (λ p. IsFitting p (get c.loop-key.self k)))
-    (ap (λ es. find key_order k (entries_shown es)) (more c) ∙ find-first e c.next.new.self)
+    (ap (λ es. find key_order k (entries_by_key es)) (more c) ∙ find-first e c.next.new.self)
     (c.loop-key.invariant.fits k)
 
 pub loop-key-preserved : goal.loop-key-preserved
@@ -44,8 +44,8 @@ loop-key-preserved c =
     let d : IsDistinct key_eq (keys_of (e ∷ rest)) = subst (λ es. IsDistinct key_eq (keys_of es)) is c.loop-key.invariant.distinct in
     record {
       joined = λ k. merged_step c.loop-key.self c.put_to_group.new.self k e rest d (c.in_ok-put_to_group.ensures k)
-          ∙ ap (λ es. join_options (get c.loop-key.self k) (find key_order k (entries_shown es))) (sym is) ∙ c.loop-key.invariant.joined k;
+          ∙ ap (λ es. join_options (get c.loop-key.self k) (find key_order k (entries_by_key es))) (sym is) ∙ c.loop-key.invariant.joined k;
       fits = λ k. fits_step c.loop-key.self c.put_to_group.new.self k e rest d (c.in_ok-put_to_group.ensures k)
-          (subst (λ es. IfSome (find key_order k (entries_shown es)) (λ p. IsFitting p (get c.loop-key.self k))) is (c.loop-key.invariant.fits k));
+          (subst (λ es. IfSome (find key_order k (entries_by_key es)) (λ p. IsFitting p (get c.loop-key.self k))) is (c.loop-key.invariant.fits k));
       distinct = IsDistinct-tail key_eq e.0 (keys_of rest) d;
     }

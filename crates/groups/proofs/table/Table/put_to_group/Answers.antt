@@ -7,7 +7,7 @@ use Rattle.std.specs.Cmp.Lexicographic.{pointwise}
 use Rattle.values.specs.Datum.{data_of}
 use Rattle.groups.specs.Groups.{same_key}
 use Rattle.groups.specs.Inside.Group.{join}
-use Rattle.groups.specs.Inside.Table.{join_options, shown}
+use Rattle.groups.specs.Inside.Table.{join_options, contents_of}
 use Rattle.groups.proofs.Order.{value_eq}
 use Rattle.groups.proofs.Entries.{get-updated, get-shown, put_is}
 use Rattle.groups.proofs.table.Table.put_to_group.Goals as goal
@@ -44,7 +44,7 @@ returns-in-Some c =
     let u = (c.get_mut.follows.holds c.absorb.new.self).3 there in
     on_ok_weaker c.absorb.result
     (λ (h : c.absorb.new.self ≡ join c.in-Some.group.now c.args.part).
-    put_is c.args.self.now (shown n.entries) key c.args.part (Some c.absorb.new.self)
+    put_is c.args.self.now (contents_of n.entries) key c.args.part (Some c.absorb.new.self)
     (λ q. get-updated es n.entries c.args.key.items (Some c.absorb.new.self) u.1 u.3 q ∙ ap (λ m. cond (same_key q key) (Some c.absorb.new.self) (fin.get m q)) c.self.view_is)
     (ap Some h ∙ ap (λ o. join_options o (Some c.args.part)) (sym (found_then c))))
     c.absorb.ensures
@@ -57,6 +57,6 @@ returns c =
     let others = rw (c.get_mut.follows.holds-at-none) at u.3 in
     let absent : fin.get c.args.self.now key ≡ None =
     ap (λ m. fin.get m key) (sym c.self.view_is) ∙ get-shown c.args.key.items es ∙ sym c.get_mut.ensures.value ∙ ap option_copied_mut c.in_default.is in
-    put_is c.args.self.now (shown c.insert.new.self.entries) key c.args.part (Some c.args.part)
+    put_is c.args.self.now (contents_of c.insert.new.self.entries) key c.args.part (Some c.args.part)
     (λ q. get-updated es c.insert.new.self.entries c.args.key.items (Some c.args.part) u.1 others q ∙ ap (λ m. cond (same_key q key) (Some c.args.part) (fin.get m q)) c.self.view_is)
     (ap (λ o. join_options o (Some c.args.part)) (sym absent))
