@@ -1,6 +1,8 @@
-use crate::{Column, Kind, Schema, SchemaFault, Value};
+//! Columns are read from a text, and values are copied.
+
 use std::process::Abort;
 use std::test::Fail;
+use values::{Column, Kind, Schema, SchemaFault, Value};
 
 /// A schema text of five columns.
 const FIVE_COLUMNS: &str = "d:text,r:text,q:int,u:int,v:bool";
