@@ -6,8 +6,6 @@ mod fault;
 mod pieces;
 mod reading;
 mod splitting;
-#[cfg(test)]
-mod tests;
 mod tokens;
 mod tree;
 

@@ -21,5 +21,3 @@ pub use laws::{cube_law, rollup_law};
 pub use resolution::{Resolved, check_tree, key_expression};
 pub use scope::Clause;
 
-#[cfg(test)]
-mod tests;

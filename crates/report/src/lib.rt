@@ -21,5 +21,3 @@ pub use refused::refused_text;
 pub use row::Row;
 pub use text::report_text;
 
-#[cfg(test)]
-mod tests;

@@ -20,5 +20,3 @@ pub use schema::{Column, Kind, Schema};
 pub use truth::Truth;
 pub use value::Value;
 
-#[cfg(test)]
-mod tests;

@@ -1,10 +1,11 @@
+//! The texts of a report, and the laws of its rows.
 ghost use Rattle.std.specs.Prelude.{All, IsTrue};
 ghost use Rattle.report.specs.Report.{NamesColumn};
 ghost use Rattle.tables.specs.Contents.{refused_in};
 
-use crate::{arrange, arranged_law, order_law, refused_text, report_text};
 use lines::LineFault;
 use query::{Plan, check, parse};
+use report::{arrange, arranged_law, order_law, refused_text, report_text};
 use std::alloc::Global;
 use std::process::Abort;
 use std::test::Fail;

@@ -1,4 +1,6 @@
-use crate::{ColumnFunction, check_tree, set_count};
+//! A syntax tree is resolved.
+
+use query_check::{ColumnFunction, check_tree, set_count};
 use query_tree::{Aggregate, Expression, GroupingElement, Item, SetFunction, Text, Tree};
 use std::alloc::Global;
 use std::test::Fail;

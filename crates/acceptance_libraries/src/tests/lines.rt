@@ -1,6 +1,8 @@
-//! Worked examples, to the byte: each call over a table.
+//! Pieces, lines and records, to the byte: each call over a table.
 
-use super::*;
+use lines::{
+    LineFault, LineRefusal, Piece, RecordReader, cut, lines_of, read_by_tree, read_record,
+};
 use std::alloc::Global;
 use std::process::Abort;
 use std::test::Fail;

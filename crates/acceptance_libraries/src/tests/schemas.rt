@@ -1,8 +1,8 @@
 //! What no clause says: that columns are read and values copied where memory is ample.
 
-use crate::{Column, Kind, Schema, SchemaFault, Value};
 use std::process::Abort;
 use std::test::Fail;
+use values::{Column, Kind, Schema, SchemaFault, Value};
 
 /// A schema text of five columns.
 const FIVE_COLUMNS: &str = "d:text,r:text,q:int,u:int,v:bool";

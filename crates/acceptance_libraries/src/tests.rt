@@ -1,0 +1,4 @@
+mod lines;
+mod reports;
+mod resolution;
+mod schemas;
