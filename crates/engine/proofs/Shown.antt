@@ -8,7 +8,7 @@ use Rattle.query_tree.specs.Syntax.{TreeForm}
 use Rattle.tables.specs.Found.{Found}
 use Rattle.report.specs.declared.row.Row.{Row}
 use Rattle.report.specs.Shown.{cells_of, row_shown}
-use Rattle.groups.specs.Shown.{summary_of}
+use Rattle.groups.specs.Cells.{summary_of}
 
 pub cell-each : (fields : List Field) (q : TreeForm) (rows : List Row) (found : List Found)
     → map cells_of rows ≡ map (row_shown fields q) found → All (λ row. length row.cells.items ≡ length q.items) rows

@@ -81,7 +81,7 @@ within x (y ∷ rows) h =
       | false ↦ λ e i. let r = within x rows (λ z. i (omega (arith, z))) in record { before = y ∷ r.before; after = r.after; parts = ap (λ zs. y ∷ zs) r.parts }
     ] refl h
 
-group_at-bag : (set : List ℕ) (fs : List ColumnFunction) (k : Key) (l m : List Row) → SameBag l m → group_at set fs k l ≡ group_at set fs k m
+pub group_at-bag : (set : List ℕ) (fs : List ColumnFunction) (k : Key) (l m : List Row) → SameBag l m → group_at set fs k l ≡ group_at set fs k m
 group_at-bag set fs k [] [] s = refl
 group_at-bag set fs k [] (y ∷ m) s = let h = s (λ _. 1) in absurd (omega (arith, h))
 group_at-bag set fs k (x ∷ l) m s =

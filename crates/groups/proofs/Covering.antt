@@ -11,7 +11,8 @@ use Rattle.groups.proofs.Order.{same_key-Decides}
 use Rattle.groups.proofs.Meaning.{any-key}
 use Rattle.groups.proofs.GroupsLaw.{keys-distinct}
 
-abbrev spread : List ℕ → List Row → List Key → List Row
+-- the members of keys, joined
+abbrev pub spread : List ℕ → List Row → List Key → List Row
 spread set rows ks = flat_map (λ k. members set k rows) ks
 
 spread-none : (w : Row → ℕ) (set : List ℕ) (ks : List Key) → weigh w (spread set [] ks) ≡ 0
@@ -95,10 +96,19 @@ only_empty q (row ∷ rows) h = elim (same_key q []) as (λ b. same_key q [] ≡
   | false ↦ λ e i. ap (λ b. b || false) (sym e) ∙ only_empty q rows i
 ] refl h
 
--- the members of all keys are the records, each as often
+-- the key of a record is one of the keys
+pub own-key : (set : List ℕ) (q : Key) (rows : List Row) → list_any (same_key q) (map (project set) rows) ≡ true → list_any (same_key q) (keys set rows) ≡ true
+own-key [] q rows h = only_empty q rows h
+own-key (p ∷ ps) q rows h = any-key q (map (project (p ∷ ps)) rows) ∙ h
+
+-- the members of different keys, among which are those of all records, are the records, each as often
+pub spread-bag : (set : List ℕ) (ks : List Key) → IsDistinct same_key ks → (rows : List Row)
+    → ((q : Key) → list_any (same_key q) (map (project set) rows) ≡ true → list_any (same_key q) ks ≡ true) → SameBag (spread set rows ks) rows
+spread-bag set ks d rows h w = covered w set ks d rows h
+
+-- so are the members of all keys
 pub members-bag : (set : List ℕ) (rows : List Row) → SameBag (flat_map (λ key. members set key rows) (keys set rows)) rows
-members-bag [] rows w = covered w [] ([] ∷ []) (keys-distinct [] rows) rows (λ q h. only_empty q rows h)
-members-bag (p ∷ ps) rows w = covered w (p ∷ ps) (keys (p ∷ ps) rows) (keys-distinct (p ∷ ps) rows) rows (λ q h. any-key q (map (project (p ∷ ps)) rows) ∙ h)
+members-bag set rows = spread-bag set (keys set rows) (keys-distinct set rows) rows (λ q h. own-key set q rows h)
 
 lines-spread : (set : List ℕ) (fs : List ColumnFunction) (rows : List Row) (ks : List Key)
     → weigh (λ r. r.lines) (map (λ k. group_summary fs k (members set k rows)) ks) ≡ weigh (λ _. 1) (spread set rows ks)

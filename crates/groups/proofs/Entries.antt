@@ -11,7 +11,7 @@ use Rattle.query_check.specs.declared.function.ColumnFunction.{ColumnFunction}
 use Rattle.groups.specs.Rows.{Row}
 use Rattle.groups.specs.Groups.{Key, key_order, same_key}
 use Rattle.groups.specs.Inside.Group.{GroupState}
-use Rattle.groups.specs.Inside.Table.{Contents, IsAdded, IsPut, IsFitting, grown, join_options, entries_by_key, contents_of}
+use Rattle.groups.specs.Inside.Table.{Contents, IsAdded, IsPut, IsEnlarged, IsFitting, grown, enlarged, join_options, entries_by_key, contents_of}
 use Rattle.groups.proofs.Order.{key_total, same_key-Decides, value_eq, key_eq-ties}
 
 abbrev pub Entries : Type 0
@@ -76,6 +76,15 @@ pub put_is : (old new : Contents) (key : Key) (part : GroupState) (w : Option Gr
 put_is old new key part w h e k =
     h k ∙ elim (same_key k key) as (λ b. same_key k key ≡ b → cond b w (get old k) ≡ cond b (join_options (get old k) (Some part)) (get old k)) [
       | true ↦ λ i. e ∙ ap (λ l. join_options (get old l) (Some part)) (sym ((same_key-Decides k key).0 i))
+      | false ↦ λ i. refl
+    ] refl
+
+pub enlarged_is : (functions : List ColumnFunction) (old new : Contents) (key : Key) (part : GroupState) (w : Option GroupState)
+    → ((q : Key) → get new q ≡ cond (same_key q key) w (get old q))
+    → w ≡ Some (enlarged functions (get old key) part) → (k : Key) → IsEnlarged functions old new key part k
+enlarged_is functions old new key part w h e k =
+    h k ∙ elim (same_key k key) as (λ b. same_key k key ≡ b → cond b w (get old k) ≡ cond b (Some (enlarged functions (get old k) part)) (get old k)) [
+      | true ↦ λ i. e ∙ ap (λ l. Some (enlarged functions (get old l) part)) (sym ((same_key-Decides k key).0 i))
       | false ↦ λ i. refl
     ] refl
 

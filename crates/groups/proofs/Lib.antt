@@ -11,5 +11,7 @@ pub mod Meaning
 pub mod Distinct
 pub mod GroupsLaw
 pub mod Covering
+pub mod Rolled
 pub mod AnyOrder
+pub mod Rolling
 pub mod Literals

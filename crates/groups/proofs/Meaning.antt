@@ -75,13 +75,13 @@ parts-with_value : (fs : List ColumnFunction) (l : List Row) (row : Row) → all
 parts-with_value [] l row = refl
 parts-with_value (f ∷ fs) l row = λ i. accumulator_state-with_value f l row i ∷ parts-with_value fs l row i
 
-group_state-append : (fs : List ColumnFunction) (l m : List Row) → group_state fs (l ++ m) ≡ join (group_state fs l) (group_state fs m)
+pub group_state-append : (fs : List ColumnFunction) (l m : List Row) → group_state fs (l ++ m) ≡ join (group_state fs l) (group_state fs m)
 group_state-append fs l m = same_state (group_state fs (l ++ m)) (join (group_state fs l) (group_state fs m)) (length-append l m) (parts-append fs l m)
 
 group_state-with_value : (fs : List ColumnFunction) (l : List Row) (row : Row) → with_row fs (group_state fs l) row ≡ group_state fs (l ++ row ∷ [])
 group_state-with_value fs l row = same_state (with_row fs (group_state fs l) row) (group_state fs (l ++ row ∷ [])) (let h = length-append l (row ∷ []) in omega (arith, h)) (parts-with_value fs l row)
 
-append-nil : {A : Type 0} (xs : List A) → xs ++ [] ≡ xs
+pub append-nil : {A : Type 0} (xs : List A) → xs ++ [] ≡ xs
 append-nil [] = refl
 append-nil (x ∷ xs) = ap (λ ys. x ∷ ys) (append-nil xs)
 
@@ -159,7 +159,7 @@ group_at-append set fs k l m =
 pub table-joined : (set : List ℕ) (fs : List ColumnFunction) (t u v : Contents) (l m : List Row) → IsTableOf set fs t l → IsTableOf set fs u m → ((k : Key) → IsJoined t u v k) → IsTableOf set fs v (l ++ m)
 table-joined set fs t u v l m a b j k = j k ∙ ap (λ o. join_options o (fin.get u k)) (a k) ∙ ap (join_options (group_at set fs k l)) (b k) ∙ sym (group_at-append set fs k l m)
 
-group_state-at : (fs : List ColumnFunction) (b : Bool) (x : List Row) → (b ≡ false → x ≡ []) → unwrap_or (cond b (Some (group_state fs x)) None) (group_state fs []) ≡ group_state fs x
+pub group_state-at : (fs : List ColumnFunction) (b : Bool) (x : List Row) → (b ≡ false → x ≡ []) → unwrap_or (cond b (Some (group_state fs x)) None) (group_state fs []) ≡ group_state fs x
 group_state-at fs true x p = refl
 group_state-at fs false x p = ap (group_state fs) (sym (p refl))
 
@@ -194,7 +194,7 @@ table-no_group (place ∷ places) fs t n e k = ap (λ m. fin.get m k) e ∙ fin.
 
 -- ---- room
 
-filter-le : (p : Row → Bool) (l : List Row) → length (filter p l) ≤ length l
+pub filter-le : (p : Row → Bool) (l : List Row) → length (filter p l) ≤ length l
 filter-le p [] = omega arith
 filter-le p (r ∷ l) = elim (p r) as (λ b. length (cond b (r ∷ filter p l) (filter p l)) ≤ suc (length l)) [ true ↦ omega (arith, filter-le p l) | false ↦ omega (arith, filter-le p l) ]
 

@@ -4,4 +4,5 @@ pub mod Groups
 pub mod Cells
 pub mod Bags
 pub mod GroupSummaries
+pub mod Rolled
 pub mod Inside

@@ -32,7 +32,7 @@ pub(crate) enum Accumulator {
 }
 
 impl Accumulator {
-    ghost use Rattle.std.specs.Prelude.{[], ◌∷◌, ◌+◌, ◌^◌, ◌<◌, IfOk, OnOk, OnErr};
+    ghost use Rattle.std.specs.Prelude.{[], IfOk, OnOk, OnErr};
     ghost use Rattle.groups.specs.Inside.Accumulator.{accumulator_state, state_in, with_value, joined, summary, HasRoom, IsUnbounded};
     ghost use Rattle.groups.specs.Cells.{summary_of};
 
@@ -116,6 +116,43 @@ impl Accumulator {
                 }
             }
             (Accumulator::Average(total), Accumulator::Average(more)) => total.absorb(more),
+            (
+                Accumulator::Rows
+                | Accumulator::Count(_)
+                | Accumulator::Distinct(_)
+                | Accumulator::Sum(_)
+                | Accumulator::Min(_)
+                | Accumulator::Max(_)
+                | Accumulator::Average(_),
+                _,
+            ) => {}
+        }
+        Ok(())
+    }
+
+    /// Takes copies of what is kept of other records for the same function. After an error what is kept is of no use.
+    pub(crate) fn absorb_copies(&mut self, other: &Accumulator) -> Result<(), AllocError>
+        requires { HasRoom (joined (state_in self.old) (state_in other.now)) }
+        ensures joined { OnOk result (state_in self.new ≡ joined (state_in self.old) (state_in other.now)) }
+        ensures unbounded { OnErr result (IsUnbounded (state_in self.new)) }
+    {
+        match (self, other) {
+            (Accumulator::Count(count), Accumulator::Count(more)) => *count += *more,
+            (Accumulator::Distinct(values), Accumulator::Distinct(more)) => {
+                values.absorb_copies(more)?;
+            }
+            (Accumulator::Sum(total), Accumulator::Sum(more)) => total.absorb(*more),
+            (Accumulator::Min(least), Accumulator::Min(more)) => {
+                if is_less(more, least) {
+                    *least = more.clone()?;
+                }
+            }
+            (Accumulator::Max(greatest), Accumulator::Max(more)) => {
+                if is_greater(more, greatest) {
+                    *greatest = more.clone()?;
+                }
+            }
+            (Accumulator::Average(total), Accumulator::Average(more)) => total.absorb(*more),
             (
                 Accumulator::Rows
                 | Accumulator::Count(_)

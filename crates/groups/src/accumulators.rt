@@ -32,7 +32,7 @@ impl Model for Accumulators {
 }
 
 impl Accumulators {
-    ghost use Rattle.std.specs.Prelude.{◌≡◌, ◌+◌, ◌<◌, ◌≤◌, ◌^◌, [], IfOk, OnOk, length, map};
+    ghost use Rattle.std.specs.Prelude.{◌≡◌, ◌+◌, ◌<◌, ◌^◌, [], IfOk, OnOk, length, map};
     ghost use Rattle.values.specs.Datum.{data_of};
     ghost use Rattle.groups.specs.Inside.Accumulator.{summary};
     ghost use Rattle.groups.specs.Inside.Group.{group_state, with_row, join};
@@ -81,6 +81,19 @@ impl Accumulators {
         self.lines += lines;
         for (place, part) in parts.into_iter().enumerate() {
             self.parts[place].absorb(part)?;
+        }
+        Ok(())
+    }
+
+    /// Takes copies of what is kept of other members. After an error the group is of no use.
+    pub(crate) fn absorb_copies(&mut self, other: &Accumulators) -> Result<(), AllocError>
+        requires room { self.old.lines + other.now.lines < 2 ^ 63 }
+        requires one_each { length other.now.parts ≡ length self.old.parts }
+        ensures { OnOk result (self.new ≡ join self.old other.now) }
+    {
+        self.lines += other.lines;
+        for (place, part) in other.parts.iter().enumerate() {
+            self.parts[place].absorb_copies(part)?;
         }
         Ok(())
     }

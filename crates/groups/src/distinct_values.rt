@@ -67,6 +67,16 @@ impl DistinctValues {
         Ok(())
     }
 
+    /// Takes copies of the values of another set, of those that are new ones.
+    pub(crate) fn absorb_copies(&mut self, other: &DistinctValues) -> Result<(), AllocError>
+        ensures { OnOk result (self.new ≡ set.union self.old other.now) }
+    {
+        for value in other.values.iter() {
+            insert_copy(&mut *self.values, value)?;
+        }
+        Ok(())
+    }
+
     /// How many they are.
     pub(crate) fn count(self) -> u64
         ensures { result ≡ set.len self }

@@ -1,8 +1,9 @@
 //! The key of a record: copied, or moved out of it.
-ghost use Rattle.std.specs.Prelude.{◌≡◌, nat_eq, IfOk, OnOk, set};
+ghost use Rattle.std.specs.Prelude.{◌≡◌, nat_eq, map, IfOk, OnOk, set};
 ghost use Rattle.std.specs.List.{IsDistinct, list_any};
 ghost use Rattle.values.specs.Datum.{data_of, datum_of, null};
 ghost use Rattle.groups.specs.Groups.{project};
+ghost use Rattle.groups.specs.Rolled.{index_in};
 ghost use Rattle.groups.specs.Rows.{IsNarrowRow, value_at};
 ghost use Rattle.groups.specs.Inside.Moving.{AreArgumentsKept, left_of, takes};
 
@@ -96,4 +97,32 @@ fn value_at(row: &[Value], place: usize) -> Result<Value, AllocError>
         Some(value) => copy_of(value),
         None => Ok(Value::Null),
     }
+}
+
+/// Where each place of a set first stands in a finer set: by these places a key of the finer set is a record, of which
+/// `key_of` gives the key of the set.
+pub(crate) fn indices_in(
+    alloc: Global,
+    finer: &[usize],
+    set: &[usize],
+) -> Result<Vec<usize>, AllocError>
+    ensures { IfOk result (λ indices. indices.items ≡ map (index_in finer.now) set.now) }
+{
+    let mut indices = Vec::with_capacity(alloc, set.len())?;
+    for place in set {
+        indices.push(index_in(finer, *place))?;
+    }
+    Ok(indices)
+}
+
+/// Where a place first stands in a set, and the set's length where it does not.
+fn index_in(set: &[usize], place: usize) -> usize
+    ensures { result ≡ index_in set.now place }
+{
+    for (index, other) in set.iter().enumerate() {
+        if *other == place {
+            return index;
+        }
+    }
+    set.len()
 }

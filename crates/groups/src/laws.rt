@@ -1,12 +1,15 @@
 //! Laws of tables and of their groups, which have no work to do.
-ghost use Rattle.std.specs.Prelude.{◌≡◌, ℕ, List, length};
+ghost use Rattle.std.specs.Prelude.{◌≡◌, ℕ, List, Some, length};
+ghost use Rattle.std.specs.FinMap as fin;
 ghost use Rattle.std.specs.List.{flat_map};
-ghost use Rattle.groups.specs.Groups.{keys, members};
+ghost use Rattle.groups.specs.Groups.{Key, keys, members};
+ghost use Rattle.groups.specs.Rolled.{AreAmong, finer_keys, finer_members};
+ghost use Rattle.groups.specs.Inside.Group.{GroupState};
 ghost use Rattle.groups.specs.GroupSummaries.{group_summaries};
 ghost use Rattle.groups.specs.Bags.{SameBag, weigh};
 ghost use Rattle.query_check.specs.declared.function.ColumnFunction.{ColumnFunction};
 ghost use Rattle.groups.specs.Rows.{Row};
-ghost use Rattle.groups.specs.Inside.Table.{Contents, IsTableOf};
+ghost use Rattle.groups.specs.Inside.Table.{Contents, IsTableOf, joined_states};
 
 /// A table of records is that of the same records in any other order.
 pub fn order_law()
@@ -19,4 +22,14 @@ pub fn members_law()
     ensures members { (set : List ℕ) (rows : List Row) → SameBag (flat_map (λ key. members set key rows) (keys set rows)) rows }
     ensures lines { (set : List ℕ) (functions : List ColumnFunction) (rows : List Row)
         → weigh (λ group. group.lines) (group_summaries set functions rows) ≡ length rows }
+{}
+
+/// The members of a key are those of the keys of a finer set that have its values in the columns of the set, joined,
+/// each as often. So what a table keeps of a group is what a table of the finer set keeps of those keys, put together.
+pub fn roll_law()
+    ensures members { (finer set : List ℕ) (key : Key) (rows : List Row)
+        → AreAmong set finer → SameBag (finer_members finer set key rows) (members set key rows) }
+    ensures groups { (finer set : List ℕ) (functions : List ColumnFunction) (table rolled : Contents) (key : Key) (group : GroupState) (rows : List Row)
+        → AreAmong set finer → IsTableOf finer functions table rows → IsTableOf set functions rolled rows
+        → fin.get rolled key ≡ Some group → group ≡ joined_states functions table (finer_keys finer set key rows) }
 {}

@@ -19,7 +19,7 @@ mod total;
 
 pub use cell::Cell;
 pub use group::Group;
-pub use laws::{members_law, order_law};
+pub use laws::{members_law, order_law, roll_law};
 pub use table::Table;
 
 #[cfg(test)]

@@ -1,10 +1,7 @@
 //! A hashed table of groups.
-ghost use Rattle.std.specs.Prelude.{◌≡◌, IfOk};
-ghost use Rattle.values.specs.Datum.{data_of};
-
 use crate::accumulators::Accumulators;
 use crate::group::{Group, groups_of};
-use crate::key::{key_of, moved_key};
+use crate::key::{indices_in, key_of, moved_key};
 use query_check::ColumnFunction;
 use std::alloc::{AllocError, Global};
 use std::collections::HashMap;
@@ -29,7 +26,7 @@ impl Model for Table {
 }
 
 impl Table {
-    ghost use Rattle.std.specs.Prelude.{◌≡◌, ℕ, nat_eq, [], ◌∷◌, ◌++◌, OnOk, IfOk, IfSome, List, map};
+    ghost use Rattle.std.specs.Prelude.{ℕ, nat_eq, [], ◌∷◌, ◌++◌, OnOk, IfOk, List, map};
     ghost use Rattle.std.specs.List.{IsDistinct};
     ghost use Rattle.groups.specs.Rows.{Row, IsNarrowRow};
     ghost use Rattle.query_check.specs.declared.function.ColumnFunction.{ColumnFunction};
@@ -39,7 +36,8 @@ impl Table {
     ghost use Rattle.groups.specs.Inside.Group.{group_state};
     ghost use Rattle.groups.specs.GroupSummaries.{group_summary_in, group_summaries};
     ghost use Rattle.groups.specs.Bags.{SameBag};
-    ghost use Rattle.groups.specs.Inside.Table.{CanJoin, HasPlace, IsAdded, IsPut, IsFitting, IsJoined, IsTableOf, TakesOne};
+    ghost use Rattle.groups.specs.Inside.Table.{CanJoin, HasPlace, IsAdded, IsEnlarged, IsPut, IsFitting, IsFittingNew, IsJoined, IsOfFew, IsTableOf, TakesOne};
+    ghost use Rattle.groups.specs.Rolled.{AreAmong};
 
     /// The table of no records under a grouping set, for these set functions.
     pub fn new(
@@ -116,6 +114,28 @@ impl Table {
         self.put_all(other)
     }
 
+    /// The table of the same records under another set, made of the groups of this one, whose set has all columns of the
+    /// other one. So it may be made of a table that was rolled before.
+    pub fn roll(
+        &self,
+        finer: &[usize],
+        set: &[usize],
+        functions: &[ColumnFunction],
+    ) -> Result<Table, AllocError>
+        requires among { AreAmong set.now finer.now }
+        requires few { ∥ IsOfFew finer.now functions.now self.now ∥₁ }
+        ensures rolled { IfOk result (λ table. (rows : List Row) → IsTableOf finer.now functions.now self.now rows
+            → IsTableOf set.now functions.now table rows) }
+    {
+        let indices = indices_in(self.alloc, finer, set)?;
+        let mut rolled = Table::new(self.alloc, set, functions)?;
+        for (key, part) in &self.groups {
+            let rolled_key = key_of(self.alloc, indices.as_slice(), key.as_slice())?;
+            rolled.put_copies(functions, rolled_key, part)?;
+        }
+        Ok(rolled)
+    }
+
     /// One group for each key of the records, in no order that is said.
     pub fn finish(self) -> Result<Vec<Group>, AllocError>
         ensures groups { IfOk result (λ groups. (set : List ℕ) (functions : List ColumnFunction) (rows : List Row)
@@ -154,6 +174,25 @@ impl Table {
             return group.absorb(part);
         }
         self.groups.insert(key, part)?;
+        Ok(())
+    }
+
+    /// Puts copies of one more part to the group of a key.
+    fn put_copies(
+        &mut self,
+        functions: &[ColumnFunction],
+        key: Vec<Value>,
+        part: &Accumulators,
+    ) -> Result<(), AllocError>
+        requires { IsFittingNew functions.now part.now (fin.get self.old (data_of key.items)) }
+        ensures { OnOk result ((k : Key) → IsEnlarged functions.now self.old self.new (data_of key.items) part.now k) }
+    {
+        if let Some(group) = self.groups.get_mut(&key) {
+            return group.absorb_copies(part);
+        }
+        let mut group = Accumulators::new(self.alloc, functions)?;
+        group.absorb_copies(part)?;
+        self.groups.insert(key, group)?;
         Ok(())
     }
 

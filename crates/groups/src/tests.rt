@@ -1,5 +1,5 @@
-//! Records are grouped in two parts, by copies and by moved keys, and the parts are put together.
-ghost use Rattle.std.specs.Prelude.{◌≡◌, ◌+◌, ◌<◌, ◌^◌, ◌++◌, ◌∷◌, [], nat_eq, IfOk, OnOk, length, List};
+//! Records are grouped in two parts, by copies and by moved keys, and the parts are put together; groups are rolled up.
+ghost use Rattle.std.specs.Prelude.{◌<◌, ◌^◌, ◌++◌, ◌∷◌, [], nat_eq, IfOk, OnOk, length, List};
 ghost use Rattle.std.specs.List.{IsDistinct};
 ghost use Rattle.values.specs.Datum.{data_of, datum_of};
 ghost use Rattle.groups.specs.Rows.{Row, IsNarrow, IsNarrowRow};
@@ -115,19 +115,49 @@ fn are_two_groups(groups: &[Group]) -> bool {
         })
 }
 
+const FUNCTIONS: [ColumnFunction; 3] = [
+    ColumnFunction::CountRows,
+    ColumnFunction::CountDistinct(1),
+    ColumnFunction::Min(1),
+];
+
 /// The groups of three records, of which one is in another part.
 fn parted_groups(alloc: Global) -> Result<Vec<Group>, AllocError> {
-    let functions = [
-        ColumnFunction::CountRows,
-        ColumnFunction::CountDistinct(1),
-        ColumnFunction::Min(1),
-    ];
     let left: [&[Field]; 2] = [
         &[Field::Text("x"), Field::Number(5)],
         &[Field::Nothing, Field::Nothing],
     ];
     let right: [&[Field]; 1] = [&[Field::Text("x"), Field::Number(5)]];
-    joined_groups(alloc, &[0], &functions, &left, &right)
+    joined_groups(alloc, &[0], &FUNCTIONS, &left, &right)
+}
+
+/// The groups of three records by their first column, by way of those by their third and their first one.
+fn rolled_groups(alloc: Global) -> Result<Vec<Group>, AllocError> {
+    let records: [&[Field]; 3] = [
+        &[Field::Text("x"), Field::Number(5), Field::Text("a")],
+        &[Field::Nothing, Field::Nothing, Field::Nothing],
+        &[Field::Text("x"), Field::Number(5), Field::Text("b")],
+    ];
+    let finest = table_of(alloc, &[0, 2], &FUNCTIONS, &records, true)?;
+    let finer = finest.roll(&[0, 2], &[2, 0], &FUNCTIONS)?;
+    finer.roll(&[2, 0], &[0], &FUNCTIONS)?.finish()
+}
+
+/// The groups of no records under the empty set, by way of those by a column.
+fn rolled_of_none(alloc: Global) -> Result<Vec<Group>, AllocError> {
+    let none = table_of(alloc, &[0], &FUNCTIONS, &[], true)?;
+    none.roll(&[0], &[], &FUNCTIONS)?.finish()
+}
+
+/// Whether there is the one group of no records.
+fn is_empty_group(groups: &[Group]) -> bool {
+    let zeros = [number(0), number(0), Cell::Plain(Value::Null)];
+    match groups {
+        [group] => {
+            group.key.is_empty() && group.lines == 0 && group.cells.as_slice() == zeros.as_slice()
+        }
+        _ => false,
+    }
 }
 
 #[test]
@@ -137,10 +167,28 @@ fn groups_by_a_column(rt: HostRuntime) -> Result<(), Fail> {
     Ok(())
 }
 
+#[test]
+fn rolls_groups_up(rt: HostRuntime) -> Result<(), Fail> {
+    let groups = rolled_groups(rt.alloc())?;
+    assert!(rt; are_two_groups(groups.as_slice()), "{groups:?}");
+    let groups = rolled_of_none(rt.alloc())?;
+    assert!(rt; is_empty_group(groups.as_slice()), "{groups:?}");
+    Ok(())
+}
+
 /// For the loop that refuses each allocation in turn: the groups, or want of memory.
 #[test]
 fn refusal_of_groups(rt: HostRuntime) {
     match parted_groups(rt.alloc()) {
+        Ok(groups) => assert!(rt; are_two_groups(groups.as_slice()), "{groups:?}"),
+        Err(AllocError) => {}
+    }
+}
+
+/// For the loop that refuses each allocation in turn: the rolled groups, or want of memory.
+#[test]
+fn refusal_of_rolled_groups(rt: HostRuntime) {
+    match rolled_groups(rt.alloc()) {
         Ok(groups) => assert!(rt; are_two_groups(groups.as_slice()), "{groups:?}"),
         Err(AllocError) => {}
     }

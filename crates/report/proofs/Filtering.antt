@@ -9,7 +9,7 @@ use Rattle.query_tree.specs.Syntax.{TreeForm}
 use Rattle.query_check.specs.Columns.{kind_at}
 use Rattle.query_check.specs.Functions.{functions_of}
 use Rattle.query_check.specs.Sets.{sets_of}
-use Rattle.groups.specs.GroupRows.{SameBag, weigh}
+use Rattle.groups.specs.Bags.{SameBag, weigh}
 use Rattle.tables.specs.Fitting.{AreFitting, HasType, IsHeld, set_of}
 use Rattle.tables.specs.Found.{Found}
 use Rattle.report.specs.Having.{is_row_kept, rows_kept}

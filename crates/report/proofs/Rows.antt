@@ -19,7 +19,7 @@ use Rattle.query_check.specs.Columns.{places_of}
 use Rattle.query_check.specs.Sets.{expanded, grouping_names, grouping_places, ordered_set, sets_of}
 use Rattle.groups.specs.declared.group.Group.{Group}
 use Rattle.groups.specs.Groups.{key_order}
-use Rattle.groups.specs.GroupRows.{SameBag}
+use Rattle.groups.specs.Bags.{SameBag}
 use Rattle.groups.proofs.Order.{key_antisymmetric}
 use Rattle.tables.specs.Found.{Found, row_of}
 use Rattle.report.specs.Having.{rows_kept}

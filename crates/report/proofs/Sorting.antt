@@ -8,7 +8,7 @@ use Rattle.std.specs.Cmp.{IsTotalOrder, Equal-is, upto, eq_by_cmp_equiv}
 use Rattle.std.specs.List.{AllByRecursion}
 use Rattle.std.proofs.lemmas.List.Recursion.{is_sum_by}
 use Rattle.std.proofs.lemmas.List.Sorted.{sum_by-IsPermutation}
-use Rattle.groups.specs.GroupRows.{weigh, SameBag}
+use Rattle.groups.specs.Bags.{SameBag, weigh}
 use Rattle.report.specs.Order.{NoneBefore, Ascends, inserted, in_order}
 
 -- ---- weights

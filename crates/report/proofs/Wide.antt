@@ -6,7 +6,7 @@ use Rattle.std.proofs.lemmas.List.Elements.{All-from_recursion}
 use Rattle.values.specs.Schema.{Field}
 use Rattle.query_tree.specs.Syntax.{ItemForm, TreeForm}
 use Rattle.groups.specs.Functions.{Summary}
-use Rattle.groups.specs.Shown.{summary_of}
+use Rattle.groups.specs.Cells.{summary_of}
 use Rattle.tables.specs.Found.{Found}
 use Rattle.tables.specs.Fitting.{set_of}
 use Rattle.report.specs.Shown.{cells_of, expression_shown, row_shown}

@@ -2,7 +2,7 @@
 use Rattle.std.specs.Prelude.{◌≡◌, List}
 use Rattle.values.specs.Schema.{Field}
 use Rattle.query_tree.specs.Syntax.{TreeForm}
-use Rattle.groups.specs.GroupRows.{SameBag}
+use Rattle.groups.specs.Bags.{SameBag}
 use Rattle.tables.specs.Found.{Found}
 use Rattle.report.specs.Having.{rows_kept}
 use Rattle.report.specs.Order.{before, arranged, Ascends}

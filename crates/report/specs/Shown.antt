@@ -13,7 +13,7 @@ use Rattle.groups.specs.Groups.{Key}
 use Rattle.tables.specs.Found.{Found}
 use Rattle.tables.specs.Fitting.{set_of}
 use Rattle.report.specs.declared.row.Row.{Row}
-use Rattle.groups.specs.Shown.{summary_of}
+use Rattle.groups.specs.Cells.{summary_of}
 
 -- the value that a row of a grouping set shows for a column: the column's part of the key, and NULL where the column is not in the set
 abbrev pub value_in : List ℕ → Key → ℕ → Datum

@@ -6,7 +6,7 @@ ghost use Rattle.query_tree.specs.Syntax.{expression_form};
 ghost use Rattle.query_check.specs.Functions.{column_function};
 ghost use Rattle.query.specs.Planned.{fields_of_plan, form_of_plan};
 ghost use Rattle.groups.specs.Functions.{plain};
-ghost use Rattle.groups.specs.Shown.{summary_of};
+ghost use Rattle.groups.specs.Cells.{summary_of};
 ghost use Rattle.report.specs.Having.{cell_value};
 ghost use Rattle.report.specs.Shown.{value_in, expression_shown, function_place, function_shown, grouping_number, grouping_shown, is_rolled_up, name_shown};
 

@@ -2,7 +2,7 @@
 ghost use Rattle.std.specs.Prelude.{◌≡◌, ◌++◌, IfOk, codes, decimal, map};
 ghost use Rattle.std.specs.Fmt.{signed_decimal};
 ghost use Rattle.values.specs.Datum.{datum_of};
-ghost use Rattle.groups.specs.Shown.{summary_of};
+ghost use Rattle.groups.specs.Cells.{summary_of};
 ghost use Rattle.csv.specs.Records.{fields_of};
 ghost use Rattle.report.specs.Text.{cell_field, marked, value_field};
 

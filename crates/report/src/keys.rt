@@ -5,7 +5,7 @@ ghost use Rattle.query_tree.specs.Syntax.{key_form};
 ghost use Rattle.query_check.specs.Sets.{sets_of};
 ghost use Rattle.query_check.specs.Typing.{key_expression};
 ghost use Rattle.query.specs.Planned.{fields_of_plan, form_of_plan};
-ghost use Rattle.groups.specs.Shown.{summary_of};
+ghost use Rattle.groups.specs.Cells.{summary_of};
 ghost use Rattle.tables.specs.Found.{row_of};
 ghost use Rattle.report.specs.Having.{cell_value};
 ghost use Rattle.report.specs.Order.{null_order, under_key};

@@ -5,25 +5,25 @@ use Rattle.std.specs.List.{enumerate_from, flat_map}
 use Rattle.query_check.specs.declared.function.ColumnFunction.{ColumnFunction}
 use Rattle.groups.specs.declared.group.Group.{Group}
 use Rattle.groups.specs.Rows.{Row}
-use Rattle.groups.specs.Groups as meaning
-use Rattle.groups.specs.Groups.{Key, keys, members}
-use Rattle.groups.specs.GroupRows.{SameBag, weigh, group_row, group_rows, group_row_in}
+use Rattle.groups.specs.Groups.{SetGroup, keys, members}
+use Rattle.groups.specs.GroupSummaries.{group_summary, group_summaries, group_summary_in}
+use Rattle.groups.specs.Bags.{SameBag, weigh}
 use Rattle.tables.proofs.Bags.{weigh-append, weigh-map}
 use Rattle.tables.specs.Found.{Found, rows_from}
 use Rattle.tables.specs.Results.{all_found, found}
 use Rattle.tables.specs.Sets.{AreGroupsOf}
 
 -- the groups of one grouping set, whose index in the list of sets is this one
-abbrev pub set_groups : List Row → ℕ × List ℕ → List meaning.Group
+abbrev pub set_groups : List Row → ℕ × List ℕ → List SetGroup
 set_groups rows s = map (λ key. record { index = s.0; key = key; members = members s.1 key rows }) (keys s.1 rows)
 
-one-set : (f : Found → ℕ) (n : ℕ) (set : List ℕ) (fs : List ColumnFunction) (gs : List Group) (rows : List Row) → SameBag (map group_row_in gs) (group_rows set fs rows)
-    → weigh f (map (λ g. (n, group_row_in g)) gs) ≡ weigh f (map (found fs) (set_groups rows (n, set)))
+one-set : (f : Found → ℕ) (n : ℕ) (set : List ℕ) (fs : List ColumnFunction) (gs : List Group) (rows : List Row) → SameBag (map group_summary_in gs) (group_summaries set fs rows)
+    → weigh f (map (λ g. (n, group_summary_in g)) gs) ≡ weigh f (map (found fs) (set_groups rows (n, set)))
 one-set f n set fs gs rows same =
-    weigh-map f (λ g. (n, group_row_in g)) gs
-    ∙ sym (weigh-map (λ r. f (n, r)) group_row_in gs)
+    weigh-map f (λ g. (n, group_summary_in g)) gs
+    ∙ sym (weigh-map (λ r. f (n, r)) group_summary_in gs)
     ∙ same (λ r. f (n, r))
-    ∙ weigh-map (λ r. f (n, r)) (λ key. group_row fs key (members set key rows)) (keys set rows)
+    ∙ weigh-map (λ r. f (n, r)) (λ key. group_summary fs key (members set key rows)) (keys set rows)
     ∙ sym (weigh-map (λ g. f (found fs g)) (λ key. record { index = n; key = key; members = members set key rows }) (keys set rows))
     ∙ sym (weigh-map f (found fs) (set_groups rows (n, set)))
 
@@ -33,7 +33,7 @@ found-from f n [] fs [] rows h = refl
 found-from f n [] fs (g ∷ groups) rows h = absurd h
 found-from f n (s ∷ sets) fs [] rows h = absurd h
 found-from f n (s ∷ sets) fs (g ∷ groups) rows h =
-    let front = map (λ x. (n, group_row_in x)) g.items in
+    let front = map (λ x. (n, group_summary_in x)) g.items in
     let a = weigh-append f front (rows_from (n + 1) groups) in
     let b = one-set f n s fs g.items rows h.0 in
     let c = found-from f (n + 1) sets fs groups rows h.1 in

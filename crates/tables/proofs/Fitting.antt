@@ -13,15 +13,15 @@ use Rattle.query_check.specs.Functions.{functions_of}
 use Rattle.query_check.specs.Sets.{sets_of}
 use Rattle.groups.specs.Rows.{Row}
 use Rattle.groups.specs.Groups.{Key, keys, members, project, same_key}
-use Rattle.groups.specs.GroupRows.{SameBag, weigh}
+use Rattle.groups.specs.Bags.{SameBag, weigh}
 use Rattle.groups.proofs.GroupsLaw.{keys-distinct}
 use Rattle.groups.proofs.Order.{same_key-Decides}
 use Rattle.tables.specs.Found.{Found}
 use Rattle.tables.specs.Fitting.{AreFitting}
 use Rattle.tables.specs.Results.{all_found, found}
-use Rattle.tables.proofs.Bags.{all-append, all-same, weigh-map}
+use Rattle.tables.proofs.Bags.{all-append, all-distinct, all-same, weigh-map}
 use Rattle.tables.proofs.Finding.{set_groups}
-use Rattle.tables.proofs.Types.{AllFit, IsTyped, all-once, found-typed}
+use Rattle.tables.proofs.Types.{AllFit, IsTyped, found-typed}
 
 -- a row fits grouping sets and set functions: its index is that of a set, its key has a value for each column of the set, and it has a cell for each function
 record IsFitting (sets : List (List ℕ)) (functions : List ColumnFunction) (row : Found) : Type 0 where
@@ -136,7 +136,7 @@ projected-length set (row ∷ rows) = (length-map set _, projected-length set ro
 
 keys-length : (set : List ℕ) (rows : List Row) → AllByRecursion (λ k. length k ≡ length set) (keys set rows)
 keys-length [] rows = (refl, tt)
-keys-length (p ∷ ps) rows = all-once (λ k. length k ≡ length (p ∷ ps)) (map (project (p ∷ ps)) rows) (projected-length (p ∷ ps) rows)
+keys-length (p ∷ ps) rows = all-distinct (λ k. length k ≡ length (p ∷ ps)) same_key (map (project (p ∷ ps)) rows) (projected-length (p ∷ ps) rows)
 
 set-fits : (sets : List (List ℕ)) (fs : List ColumnFunction) (rows : List Row) (n : ℕ) (s : List ℕ) (ks : List Key) → n < length sets → slice_index_or sets n [] ≡ s → AllByRecursion (λ k. length k ≡ length s) ks
     → AllByRecursion (λ r. fits sets fs r ≡ true) (map (found fs) (map (λ key. record { index = n; key = key; members = members s key rows }) ks))

@@ -10,7 +10,7 @@ pub mod Finding
 pub mod Members
 pub mod Fitting
 pub mod Cutting
-pub mod Shuffling
+pub mod SameBags
 pub mod Numbered
 pub mod Shapes
 pub mod DistinctSets

@@ -12,7 +12,8 @@ use Rattle.query_check.specs.Sets.{sets_of}
 use Rattle.query_truth.specs.Kept.{kept}
 use Rattle.groups.specs.Rows.{Row}
 use Rattle.groups.specs.Groups.{Key, keys, members}
-use Rattle.groups.specs.GroupRows.{SameBag, weigh, group_row, group_rows}
+use Rattle.groups.specs.GroupSummaries.{group_summary, group_summaries}
+use Rattle.groups.specs.Bags.{SameBag, weigh}
 use Rattle.tables.specs.Found.{Found}
 use Rattle.tables.specs.Members.{HasEachRecordOnce, members_of_row, rows_of_set}
 use Rattle.tables.specs.Results.{found, query_found}
@@ -43,11 +44,11 @@ abbrev rows_of : List ColumnFunction → List Row → ℕ → List ℕ → List 
 rows_of fs rows n set ks = map (found fs) (map (λ key. record { index = n; key = key; members = members set key rows }) ks)
 
 one-set : (index : ℕ) (f : Found → ℕ) (fs : List ColumnFunction) (rows : List Row) (n : ℕ) (set : List ℕ) (ks : List Key)
-    → weigh (of_set index f) (rows_of fs rows n set ks) ≡ cond (n == index) (weigh (λ key. f (n, group_row fs key (members set key rows))) ks) 0
+    → weigh (of_set index f) (rows_of fs rows n set ks) ≡ cond (n == index) (weigh (λ key. f (n, group_summary fs key (members set key rows))) ks) 0
 one-set index f fs rows n set [] = neither (n == index)
 one-set index f fs rows n set (k ∷ ks) =
-    ap (λ m. cond (n == index) (f (n, group_row fs k (members set k rows))) 0 + m) (one-set index f fs rows n set ks)
-    ∙ both (n == index) (f (n, group_row fs k (members set k rows))) (weigh (λ key. f (n, group_row fs key (members set key rows))) ks)
+    ap (λ m. cond (n == index) (f (n, group_summary fs k (members set k rows))) 0 + m) (one-set index f fs rows n set ks)
+    ∙ both (n == index) (f (n, group_summary fs k (members set k rows))) (weigh (λ key. f (n, group_summary fs key (members set key rows))) ks)
 
 -- the weight of the rows of all sets, of which the first has the index n
 abbrev weight_from : ℕ → (Found → ℕ) → List ColumnFunction → List Row → ℕ → List (List ℕ) → ℕ
@@ -55,7 +56,7 @@ weight_from index f fs rows n sets = weigh (of_set index f) (map (found fs) (fla
 
 first-set : (index : ℕ) (f : Found → ℕ) (fs : List ColumnFunction) (rows : List Row) (n : ℕ) (set : List ℕ) (sets : List (List ℕ))
     → weight_from index f fs rows n (set ∷ sets)
-    ≡ cond (n == index) (weigh (λ key. f (n, group_row fs key (members set key rows))) (keys set rows)) 0 + weight_from index f fs rows (n + 1) sets
+    ≡ cond (n == index) (weigh (λ key. f (n, group_summary fs key (members set key rows))) (keys set rows)) 0 + weight_from index f fs rows (n + 1) sets
 first-set index f fs rows n set sets =
     let front = rows_of fs rows n set (keys set rows) in
     let rest = map (found fs) (flat_map (set_groups rows) (enumerate_from (n + 1) sets)) in
@@ -67,13 +68,13 @@ other-set : (index : ℕ) (f : Found → ℕ) (fs : List ColumnFunction) (rows :
     → weight_from index f fs rows n (set ∷ sets) ≡ 0 + weight_from index f fs rows (n + 1) sets
 other-set index f fs rows n set sets other =
     first-set index f fs rows n set sets
-    ∙ ap (λ b. cond b (weigh (λ key. f (n, group_row fs key (members set key rows))) (keys set rows)) 0 + weight_from index f fs rows (n + 1) sets) other
+    ∙ ap (λ b. cond b (weigh (λ key. f (n, group_summary fs key (members set key rows))) (keys set rows)) 0 + weight_from index f fs rows (n + 1) sets) other
 
 this-set : (index : ℕ) (f : Found → ℕ) (fs : List ColumnFunction) (rows : List Row) (n : ℕ) (set : List ℕ) (sets : List (List ℕ)) → (n == index) ≡ true
-    → weight_from index f fs rows n (set ∷ sets) ≡ weigh (λ key. f (n, group_row fs key (members set key rows))) (keys set rows) + weight_from index f fs rows (n + 1) sets
+    → weight_from index f fs rows n (set ∷ sets) ≡ weigh (λ key. f (n, group_summary fs key (members set key rows))) (keys set rows) + weight_from index f fs rows (n + 1) sets
 this-set index f fs rows n set sets this =
     first-set index f fs rows n set sets
-    ∙ ap (λ b. cond b (weigh (λ key. f (n, group_row fs key (members set key rows))) (keys set rows)) 0 + weight_from index f fs rows (n + 1) sets) this
+    ∙ ap (λ b. cond b (weigh (λ key. f (n, group_summary fs key (members set key rows))) (keys set rows)) 0 + weight_from index f fs rows (n + 1) sets) this
 
 -- behind its set there are no rows of it
 behind : (index : ℕ) (f : Found → ℕ) (fs : List ColumnFunction) (rows : List Row) (n : ℕ) (sets : List (List ℕ)) → index < n → weight_from index f fs rows n sets ≡ 0
@@ -88,14 +89,14 @@ abbrev set_at : List (List ℕ) → ℕ → List ℕ
 set_at sets place = slice_index_or sets place []
 
 weight-at : (index : ℕ) (f : Found → ℕ) (fs : List ColumnFunction) (rows : List Row) (n : ℕ) (sets : List (List ℕ)) (place : ℕ) → place < length sets → index ≡ n + place
-    → weight_from index f fs rows n sets ≡ weigh (λ key. f (index, group_row fs key (members (set_at sets place) key rows))) (keys (set_at sets place) rows)
+    → weight_from index f fs rows n sets ≡ weigh (λ key. f (index, group_summary fs key (members (set_at sets place) key rows))) (keys (set_at sets place) rows)
 weight-at index f fs rows n [] place few e = absurd (omega (arith, few))
 weight-at index f fs rows n (set ∷ sets) zero few e =
     let same : n ≡ index = omega (arith, e) in
     let this : (n == index) ≡ true = grind (arith, nat_tests) in
     let first = this-set index f fs rows n set sets this in
     let none = behind index f fs rows (n + 1) sets (omega (arith, e)) in
-    let moved = ap (λ m. weigh (λ key. f (m, group_row fs key (members set key rows))) (keys set rows)) same in
+    let moved = ap (λ m. weigh (λ key. f (m, group_summary fs key (members set key rows))) (keys set rows)) same in
     omega (arith, first, none, moved)
 weight-at index f fs rows n (set ∷ sets) (suc place) few e =
     let first = other-set index f fs rows n set sets (ne_eqb n index (λ same. omega (arith, same, e))) in
@@ -105,7 +106,7 @@ weight-at index f fs rows n (set ∷ sets) (suc place) few e =
 -- Each record is a member of one group of a set, and the numbers of members of its groups add up to that of the records.
 pub record AreParted : Type 0 where
   pub members : (set : List ℕ) (rows : List Row) → SameBag (flat_map (λ key. members set key rows) (keys set rows)) rows
-  pub lines : (set : List ℕ) (fs : List ColumnFunction) (rows : List Row) → weigh (λ group. group.lines) (group_rows set fs rows) ≡ length rows
+  pub lines : (set : List ℕ) (fs : List ColumnFunction) (rows : List Row) → weigh (λ group. group.lines) (group_summaries set fs rows) ≡ length rows
 
 pub each-record-once : AreParted → (fields : List Field) (q : TreeForm) (rows : List Row) (given : List Found) → SameBag given (query_found fields q rows)
     → HasEachRecordOnce fields q given rows
@@ -114,12 +115,12 @@ each-record-once parted fields q rows given same =
     let fs = functions_of fields q in
     let sets = sets_of fields q in
     let of_rows : (f : Found → ℕ) (index : ℕ) → index < length sets
-    → weigh f (rows_of_set index given) ≡ weigh (λ key. f (index, group_row fs key (members (set_at sets index) key all))) (keys (set_at sets index) all)
+    → weigh f (rows_of_set index given) ≡ weigh (λ key. f (index, group_summary fs key (members (set_at sets index) key all))) (keys (set_at sets index) all)
     = λ f index few. weigh-filter f (λ row. row.0 == index) given ∙ same (of_set index f) ∙ weight-at index f fs all 0 sets index few (omega arith) in
     record {
       lines = λ index few.
           of_rows (λ row. row.1.lines) index few
-          ∙ sym (weigh-map (λ group. group.lines) (λ key. group_row fs key (members (set_at sets index) key all)) (keys (set_at sets index) all))
+          ∙ sym (weigh-map (λ group. group.lines) (λ key. group_summary fs key (members (set_at sets index) key all)) (keys (set_at sets index) all))
           ∙ parted.lines (set_at sets index) fs all;
       members = λ index few weight.
           weigh-flat_map weight (members_of_row fields q rows) (rows_of_set index given)

@@ -9,7 +9,7 @@ use Rattle.values.specs.Schema.{Field}
 use Rattle.lines.specs.Input.{good, refused}
 use Rattle.lines.specs.Lines.{lines}
 use Rattle.query_check.specs.declared.function.ColumnFunction.{ColumnFunction}
-use Rattle.groups.specs.GroupRows.{SameBag}
+use Rattle.groups.specs.Bags.{SameBag}
 use Rattle.groups.specs.Inside.Table.{Contents}
 use Rattle.groups.proofs.Meaning.{table-within, tables-within, within-can_join}
 use Rattle.groups.specs.Rows.{Row}

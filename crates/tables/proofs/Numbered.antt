@@ -12,7 +12,7 @@ use Rattle.lines.specs.declared.fault.LineFault.{LineFault}
 use Rattle.lines.specs.Input.{refused}
 use Rattle.lines.specs.Lines.{lines}
 use Rattle.lines.specs.Taken.{taken}
-use Rattle.groups.specs.GroupRows.{SameBag, weigh}
+use Rattle.groups.specs.Bags.{SameBag, weigh}
 use Rattle.tables.specs.Notes.{AreLinesOf, Noted, note_of, numbered_from}
 use Rattle.tables.specs.Pieces.{AreInOrder, AreNumbered, HaveOwnIndexes, IndexedPiece, all_lines, pieces_before, refused_numbered}
 use Rattle.tables.proofs.Bags.{bag-map, weigh-flat_map, weigh-same}

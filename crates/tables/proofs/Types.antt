@@ -1,10 +1,10 @@
 -- What the groups of records that fit a schema show has the types of the columns and of the set functions.
-use Rattle.std.proofs.Common.{◌≡◌, ◌==◌, ◌∙◌, ◌+◌, ◌<◌, ℕ, zero, suc, ℤ, Bool, true, false, ◌&&◌, cond, List, [], ◌∷◌, length, map, Option, Some, None, refl, sym, ap, subst, arith}
+use Rattle.std.proofs.Common.{◌≡◌, ◌==◌, ◌∙◌, ◌+◌, ◌<◌, ℕ, zero, suc, ℤ, Bool, ◌&&◌, List, [], ◌∷◌, length, map, Option, Some, None, refl, sym, ap, subst, arith}
 use Rattle.std.proofs.lemmas.List.{length-map, map-append}
 use Rattle.std.proofs.lemmas.List.Quantifiers.{position-Some}
 use Rattle.std.specs.Bool.{Decides}
 use Rattle.std.specs.Prelude.{⊤}
-use Rattle.std.specs.List.{AllByRecursion, AllZip, enumerate_from, filter_map, flat_map, list_any, slice_index_or}
+use Rattle.std.specs.List.{AllByRecursion, AllZip, enumerate_from, filter_map, flat_map, slice_index_or}
 use Rattle.std.specs.Option.{option_map}
 use Rattle.std.specs.Str.{bytes_eq}
 use Rattle.values.specs.Datum.{Datum, null}
@@ -20,8 +20,8 @@ use Rattle.query_check.specs.Functions.{aggregates, column_function, functions_o
 use Rattle.query_check.specs.Sets.{expanded, grouping_names, grouping_places, ordered_set, sets_of}
 use Rattle.groups.specs.Rows.{Row, column_values, is_present, column_numbers, value_at}
 use Rattle.groups.specs.Functions.{plain, agg, average_of, sum_of}
-use Rattle.groups.specs.GroupRows.{SameBag}
-use Rattle.groups.specs.Groups.{Key, each_once, keys, members, project, same_key}
+use Rattle.groups.specs.Bags.{SameBag}
+use Rattle.groups.specs.Groups.{Key, keys, members, project, same_key}
 use Rattle.tables.specs.Fitting.{IsHeld, HasType}
 use Rattle.tables.specs.Found.{Found}
 use Rattle.tables.specs.Results.{all_found, found}
@@ -156,18 +156,11 @@ all-projected : (fields : List Field) (set : List ℕ) (rows : List Row) → All
 all-projected fields set [] h l = tt
 all-projected fields set (row ∷ rows) h l = (projected-held fields set row h.0 l, all-projected fields set rows h.1 l)
 
-pub all-once : (P : Key → Type 0) (ks : List Key) → AllByRecursion P ks → AllByRecursion P (each_once ks)
-all-once P [] h = tt
-all-once P (k ∷ ks) h = elim (list_any (same_key k) ks) as (λ b. AllByRecursion P (cond b (each_once ks) (k ∷ each_once ks))) [
-  | true ↦ all-once P ks h.1
-  | false ↦ (h.0, all-once P ks h.1)
-]
-
 keys-typed : (fields : List Field) (set : List ℕ) (rows : List Row) → AllFit fields rows → ArePlaces fields set
     → AllByRecursion (IsKeyOf fields set) (keys set rows)
 keys-typed fields [] rows h l = (tt, tt)
 keys-typed fields (place ∷ set) rows h l =
-    all-once (IsKeyOf fields (place ∷ set)) (map (project (place ∷ set)) rows) (all-projected fields (place ∷ set) rows h l)
+    all-distinct (IsKeyOf fields (place ∷ set)) same_key (map (project (place ∷ set)) rows) (all-projected fields (place ∷ set) rows h l)
 
 -- ---- rows
 

@@ -2,18 +2,18 @@
 use Rattle.std.specs.Prelude.{ℕ, ◌+◌, List, [], ◌∷◌, ◌++◌, map}
 use Rattle.std.specs.Global.{Vec}
 use Rattle.groups.specs.declared.group.Group.{Group}
-use Rattle.groups.specs.GroupRows.{GroupRow, group_row_in}
+use Rattle.groups.specs.GroupSummaries.{GroupSummary, group_summary_in}
 
 -- the index of a grouping set in the list of sets, beside what is shown of one of its groups
 abbrev pub Found : Type 0
-Found = ℕ × GroupRow
+Found = ℕ × GroupSummary
 
 abbrev pub row_of : ℕ × Group → Found
-row_of row = (row.0, group_row_in row.1)
+row_of row = (row.0, group_summary_in row.1)
 
 -- ---- in the code
 
 -- the rows of groups, those of each grouping set beside its index, where the first has the index n
 abbrev pub rows_from : ℕ → List (Vec Group) → List Found
 rows_from n [] = []
-rows_from n (groups ∷ more) = map (λ group. (n, group_row_in group)) groups.items ++ rows_from (n + 1) more
+rows_from n (groups ∷ more) = map (λ group. (n, group_summary_in group)) groups.items ++ rows_from (n + 1) more

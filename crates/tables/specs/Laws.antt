@@ -1,7 +1,6 @@
 -- What pieces come to keeps the laws of a work. What is proved here stands beside the definitions since a job cites it.
-use Rattle.std.proofs.Common.{◌≡◌, ◌+◌, ◌≤◌, ℕ, ℤ, ◌+ℤ◌, Bool, true, false, cond, List, [], ◌∷◌, ◌++◌, length, map, filter_map, option_map, Option, Some, None, Result, Ok, Err, refl, sym, ap, ◌∙◌, arith, append_assoc, length-append}
+use Rattle.std.proofs.Common.{◌≡◌, ◌+◌, ◌≤◌, ℕ, List, [], ◌∷◌, ◌++◌, length, map, filter_map, option_map, Result, Ok, Err, refl, sym, ap, ◌∙◌, arith, append_assoc, length-append}
 use Rattle.std.proofs.lemmas.Grind.{flat_map-append}
-use Rattle.std.proofs.lemmas.Int.{ints}
 use Rattle.std.proofs.lemmas.List.{map-append, length-map}
 use Rattle.std.proofs.lemmas.List.Elements.{filter-append}
 use Rattle.std.specs.List.{enumerate_from}
@@ -15,22 +14,15 @@ use Rattle.lines.specs.Lines.{lines}
 use Rattle.lines.specs.Taken.{taken}
 use Rattle.query_tree.specs.Syntax.{TreeForm}
 use Rattle.query_check.specs.declared.function.ColumnFunction.{ColumnFunction}
-use Rattle.query_check.specs.declared.function.ColumnFunction.TheVariants as function
 use Rattle.query_check.specs.Functions.{functions_of}
 use Rattle.query_check.specs.Sets.{sets_of}
 use Rattle.query_truth.specs.Kept.{is_kept, kept}
-use Rattle.groups.specs.GroupRows.{weigh}
+use Rattle.groups.specs.Bags.{weigh}
 use Rattle.groups.specs.Groups.{members}
-use Rattle.groups.specs.Rows.{Row, column_values, column_numbers}
-use Rattle.groups.specs.Functions.{total, least, greatest}
-use Rattle.groups.specs.Inside.Values.{set_of}
-use Rattle.groups.specs.Inside.Accumulator.{counted, summed, averaged, distinct, lowest, highest, joined}
-use Rattle.groups.specs.Inside.Accumulator as accumulated
-use Rattle.groups.specs.Inside.Group.{held, all_joined, join}
-use Rattle.groups.specs.Inside.Table.{join_options}
-use Rattle.groups.proofs.Firsts.{less-flip, greater-flip}
-use Rattle.groups.proofs.Sets.{union-flip}
-use Rattle.groups.proofs.Meaning.{same_held, has_key, group_at-append}
+use Rattle.groups.specs.Rows.{Row}
+use Rattle.groups.proofs.Bags.{weigh-append}
+use Rattle.groups.proofs.Meaning.{has_key, group_at-append}
+use Rattle.groups.proofs.AnyOrder.{options-flip}
 use Rattle.pool.specs.Lawful.{Lawful}
 use Rattle.tables.specs.Means.{IsMean, both, group_of, mean, mean_at, piece_at, tables_of_both}
 use Rattle.tables.specs.Notes.{note_of}
@@ -51,10 +43,6 @@ refused-append : (fields : List Field) (pieces more : List IndexedPiece)
     → length (refused_within fields (pieces ++ more)) ≡ length (refused_within fields pieces) + length (refused_within fields more)
 refused-append fields pieces more =
     ap length (flat_map-append (λ piece. refused fields piece.bytes) pieces more) ∙ length-append (refused_within fields pieces) (refused_within fields more)
-
-weigh-append : {X : Type 0} (f : X → ℕ) (xs ys : List X) → weigh f (xs ++ ys) ≡ weigh f xs + weigh f ys
-weigh-append f [] ys = omega arith
-weigh-append f (x ∷ xs) ys = let h = weigh-append f xs ys in omega (arith, h)
 
 few-faults : (n : ℕ) (rs : List (Result (List Datum) LineFault))
     → length {A = ℕ × LineFault} (filter_map (λ p. option_map (λ fault. (p.0, fault)) (result_err p.1)) (enumerate_from n rs)) ≤ length rs
@@ -90,32 +78,6 @@ mean-append fields q xs ys =
 
 plus-flip : (m n : ℕ) → m + n ≡ n + m
 plus-flip m n = omega arith
-
-sum-flip : (s t : ℤ) → s +ℤ t ≡ t +ℤ s
-sum-flip s t = omega (arith, ints)
-
-kept-flip : (f : ColumnFunction) (l m : List Row) → joined (accumulated.kept f l) (accumulated.kept f m) ≡ joined (accumulated.kept f m) (accumulated.kept f l)
-kept-flip function.CountRows l m = refl
-kept-flip (function.Count place) l m = ap counted (plus-flip (length (column_values place l)) (length (column_values place m)))
-kept-flip (function.CountDistinct place) l m = ap distinct (union-flip (set_of (column_values place l)) (set_of (column_values place m)))
-kept-flip (function.Sum place) l m = λ i. summed (sum-flip (total (column_numbers place l)) (total (column_numbers place m)) i) (plus-flip (length (column_numbers place l)) (length (column_numbers place m)) i)
-kept-flip (function.Min place) l m = ap lowest (less-flip (least (column_values place l)) (least (column_values place m)))
-kept-flip (function.Max place) l m = ap highest (greater-flip (greatest (column_values place l)) (greatest (column_values place m)))
-kept-flip (function.Avg place) l m = λ i. averaged (sum-flip (total (column_numbers place l)) (total (column_numbers place m)) i) (plus-flip (length (column_numbers place l)) (length (column_numbers place m)) i)
-
-parts-flip : (fs : List ColumnFunction) (l m : List Row) → all_joined (map (λ f. accumulated.kept f l) fs) (map (λ f. accumulated.kept f m) fs) ≡ all_joined (map (λ f. accumulated.kept f m) fs) (map (λ f. accumulated.kept f l) fs)
-parts-flip [] l m = refl
-parts-flip (f ∷ fs) l m = λ i. kept-flip f l m i ∷ parts-flip fs l m i
-
-held-flip : (fs : List ColumnFunction) (l m : List Row) → join (held fs l) (held fs m) ≡ join (held fs m) (held fs l)
-held-flip fs l m = same_held (join (held fs l) (held fs m)) (join (held fs m) (held fs l)) (plus-flip (length l) (length m)) (parts-flip fs l m)
-
-options-flip : (fs : List ColumnFunction) (a b : Bool) (x y : List Row)
-    → join_options (cond a (Some (held fs x)) None) (cond b (Some (held fs y)) None) ≡ join_options (cond b (Some (held fs y)) None) (cond a (Some (held fs x)) None)
-options-flip fs true true x y = ap Some (held-flip fs x y)
-options-flip fs true false x y = refl
-options-flip fs false true x y = refl
-options-flip fs false false x y = refl
 
 tables-flip : (sets : List (List ℕ)) (fs : List ColumnFunction) (l m : List Row)
     → tables_of_both (map (group_of fs l) sets) (map (group_of fs m) sets) ≡ tables_of_both (map (group_of fs m) sets) (map (group_of fs l) sets)

@@ -11,9 +11,9 @@ use Rattle.query_check.specs.Functions.{functions_of}
 use Rattle.query_check.specs.Resolution.{contents}
 use Rattle.query_check.specs.Sets.{sets_of}
 use Rattle.query_truth.specs.Kept.{kept}
-use Rattle.groups.specs.GroupRows.{weigh}
+use Rattle.groups.specs.Bags.{weigh}
 use Rattle.groups.specs.Groups.{Key, keys, members, same_key}
-use Rattle.groups.specs.Inside.Group.{GroupState, held}
+use Rattle.groups.specs.Inside.Group.{GroupState, group_state}
 use Rattle.groups.specs.Rows.{Row}
 use Rattle.groups.specs.Inside.Table.{Contents, join_options}
 use Rattle.tables.specs.declared.partial.Partial.{Partial}
@@ -35,7 +35,7 @@ pub record Mean : Type 0 where
 
 -- what is kept of the group of a key under a grouping set: of a key that is one of the records', what is kept of its members
 abbrev pub group_of : List ColumnFunction → List Row → List ℕ → Key → Option GroupState
-group_of functions rows set key = if list_any (same_key key) (keys set rows) then Some (held functions (members set key rows)) else None
+group_of functions rows set key = if list_any (same_key key) (keys set rows) then Some (group_state functions (members set key rows)) else None
 
 -- what pieces come to under a schema and a query
 abbrev pub mean : List Field → TreeForm → List IndexedPiece → Mean

@@ -7,7 +7,7 @@ use Rattle.query_check.specs.Sets.{sets_of}
 use Rattle.query_truth.specs.Kept.{kept}
 use Rattle.groups.specs.Rows.{Row}
 use Rattle.groups.specs.Groups.{members}
-use Rattle.groups.specs.GroupRows.{SameBag, weigh}
+use Rattle.groups.specs.Bags.{SameBag, weigh}
 use Rattle.tables.specs.Fitting.{set_of}
 use Rattle.tables.specs.Found.{Found}
 

@@ -8,7 +8,7 @@ use Rattle.lines.specs.declared.fault.LineFault.{LineFault}
 use Rattle.lines.specs.Lines.{lines}
 use Rattle.lines.specs.Input.{refused}
 use Rattle.tables.specs.declared.note.Note.{Note}
-use Rattle.groups.specs.GroupRows.{SameBag}
+use Rattle.groups.specs.Bags.{SameBag}
 use Rattle.tables.specs.Pieces.{IndexedPiece}
 
 -- the piece's index, the number of its lines, and its refused lines by their numbers within it

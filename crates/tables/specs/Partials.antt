@@ -8,7 +8,7 @@ use Rattle.query_check.specs.Sets.{sets_of}
 use Rattle.query_check.specs.Functions.{functions_of}
 use Rattle.query_truth.specs.Kept.{kept}
 use Rattle.groups.specs.Rows.{Row}
-use Rattle.groups.specs.GroupRows.{SameBag}
+use Rattle.groups.specs.Bags.{SameBag}
 use Rattle.tables.specs.declared.grouped.Groups.{Groups}
 use Rattle.tables.specs.declared.partial.Partial.{Partial}
 use Rattle.tables.specs.Contents.{found_in, refused_in}

@@ -7,7 +7,7 @@ use Rattle.lines.specs.declared.fault.LineFault.{LineFault}
 use Rattle.lines.specs.Lines.{lines}
 use Rattle.lines.specs.Input.{good, refused}
 use Rattle.lines.specs.Pieces.{AllButLast, EndsInFeed}
-use Rattle.groups.specs.GroupRows.{SameBag}
+use Rattle.groups.specs.Bags.{SameBag}
 use Rattle.groups.specs.Rows.{Row}
 
 -- a piece of an input: its index among the pieces, and its bytes

@@ -7,13 +7,13 @@ use Rattle.query_check.specs.Functions.{functions_of}
 use Rattle.query_check.specs.Sets.{sets_of}
 use Rattle.query_truth.specs.Kept.{kept}
 use Rattle.groups.specs.Rows.{Row}
-use Rattle.groups.specs.Groups.{Group, groups}
-use Rattle.groups.specs.GroupRows.{group_row}
+use Rattle.groups.specs.Groups.{SetGroup, groups}
+use Rattle.groups.specs.GroupSummaries.{group_summary}
 use Rattle.tables.specs.Found.{Found}
 
 -- what is shown of a group
-abbrev pub found : List ColumnFunction → Group → Found
-found functions group = (group.index, group_row functions group.key group.members)
+abbrev pub found : List ColumnFunction → SetGroup → Found
+found functions group = (group.index, group_summary functions group.key group.members)
 
 -- what is shown of all groups of a list of records
 abbrev pub all_found : List (List ℕ) → List ColumnFunction → List Row → List Found

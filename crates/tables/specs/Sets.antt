@@ -5,7 +5,8 @@ use Rattle.std.specs.declared.alloc.Global.{Global}
 use Rattle.std.specs.declared.vec.Vec.{Vec}
 use Rattle.query_check.specs.declared.function.ColumnFunction.{ColumnFunction}
 use Rattle.groups.specs.declared.group.Group.{Group}
-use Rattle.groups.specs.GroupRows.{SameBag, group_row_in, group_rows}
+use Rattle.groups.specs.GroupSummaries.{group_summary_in, group_summaries}
+use Rattle.groups.specs.Bags.{SameBag}
 use Rattle.groups.specs.Rows.{Row}
 use Rattle.groups.specs.Groups.{Key}
 use Rattle.groups.specs.Inside.Table.{Contents, IsTableOf, CanJoin, IsJoined, AreGroupsWithin}
@@ -23,7 +24,7 @@ AreTablesOf sets functions tables rows = ⊥
 -- for each set of the list there are its groups of the records: one for each key, and no other
 abbrev pub AreGroupsOf : List (List ℕ) → List ColumnFunction → List (Vec Group Global) → List Row → Type 0
 AreGroupsOf [] functions [] rows = ⊤
-AreGroupsOf (set ∷ sets) functions (groups ∷ more) rows = SameBag (map group_row_in groups.items) (group_rows set functions rows) × AreGroupsOf sets functions more rows
+AreGroupsOf (set ∷ sets) functions (groups ∷ more) rows = SameBag (map group_summary_in groups.items) (group_summaries set functions rows) × AreGroupsOf sets functions more rows
 AreGroupsOf sets functions groups rows = ⊥
 
 -- the tables of some list of records, fewer than 2^63 with one more

@@ -4,7 +4,7 @@ ghost use Rattle.lines.specs.declared.pieces.Piece.{Piece};
 ghost use Rattle.query_tree.specs.Syntax.{TreeForm};
 ghost use Rattle.groups.specs.Rows.{Row};
 ghost use Rattle.pool.specs.Totals.{sum_below, total};
-ghost use Rattle.groups.specs.Shuffle.{Shuffle};
+ghost use Rattle.groups.specs.Bags.{SameBag};
 ghost use Rattle.tables.specs.declared.grouped.Groups.{Groups};
 ghost use Rattle.tables.specs.declared.partial.Partial.{Partial};
 ghost use Rattle.tables.specs.Contents.{found_in};
@@ -16,7 +16,7 @@ ghost use Rattle.tables.specs.Pieces.{IndexedPiece, all_lines, refused_within};
 /// A law, with no work to do: a result stands for the same pieces in any other order.
 pub fn order_law()
     ensures { (fields : List Field) (q : TreeForm) (partial : Partial) (pieces others : List IndexedPiece)
-        → Shuffle pieces others → StandsFor fields q partial pieces → StandsFor fields q partial others }
+        → SameBag pieces others → StandsFor fields q partial pieces → StandsFor fields q partial others }
 {}
 
 /// A law: where groups are those that a query finds in a list of records, each record that WHERE keeps is a member of

@@ -2,7 +2,8 @@
 ghost use Rattle.std.specs.Prelude.{◌≡◌, ◌++◌, ℕ, IfOk, OnOk, List, map};
 ghost use Rattle.query_check.specs.declared.function.ColumnFunction.{ColumnFunction};
 ghost use Rattle.groups.specs.Rows.{Row};
-ghost use Rattle.groups.specs.GroupRows.{SameBag, group_row_in};
+ghost use Rattle.groups.specs.GroupSummaries.{group_summary_in};
+ghost use Rattle.groups.specs.Bags.{SameBag};
 ghost use Rattle.tables.specs.Found.{row_of, rows_from};
 ghost use Rattle.tables.specs.Results.{all_found};
 ghost use Rattle.tables.specs.Sets.{AreTablesOf};
@@ -37,7 +38,7 @@ fn put_groups(
     index: usize,
     groups: Vec<Group>,
 ) -> Result<(), AllocError>
-    ensures { OnOk result (map row_of rows.new.items ≡ map row_of rows.old.items ++ map (λ group. (index, group_row_in group)) groups.items) }
+    ensures { OnOk result (map row_of rows.new.items ≡ map row_of rows.old.items ++ map (λ group. (index, group_summary_in group)) groups.items) }
 {
     for group in groups {
         rows.push((index, group))?;

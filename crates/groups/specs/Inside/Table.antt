@@ -1,5 +1,5 @@
 -- A table of groups, apart from where it lies in memory, and what it is for a table to be that of a list of records.
-use Rattle.std.specs.Prelude.{◌≡◌, ◌+◌, ◌<◌, ◌≤◌, ◌^◌, ℕ, cond, List, map, length, [], Option, Some, None, IfSome, unwrap_or, if◌then◌else◌}
+use Rattle.std.specs.Prelude.{◌≡◌, ◌+◌, ◌<◌, ◌≤◌, ◌^◌, ℕ, cond, List, map, length, [], ◌∷◌, Option, Some, None, IfSome, unwrap_or, if◌then◌else◌}
 use Rattle.std.specs.declared.alloc.Global.{Global}
 use Rattle.std.specs.declared.vec.Vec.{Vec}
 use Rattle.std.specs.Coded.{Coded}
@@ -37,6 +37,17 @@ pub record TakesOne (set : List ℕ) (functions : List ColumnFunction) (table : 
   pub is_table : IsTableOf set functions table rows
   pub few : length rows + 1 < 2 ^ 63
 
+-- the table of some list of fewer than 2^63 records
+pub record IsOfFew (set : List ℕ) (functions : List ColumnFunction) (table : Contents) : Type 0 where
+  pub rows : List Row
+  pub is_table : IsTableOf set functions table rows
+  pub few : length rows < 2 ^ 63
+
+-- what a table keeps of some keys, put together
+abbrev pub joined_states : List ColumnFunction → Contents → List Key → GroupState
+joined_states functions table [] = group_state functions []
+joined_states functions table (key ∷ keys) = join (unwrap_or (fin.get table key) (group_state functions [])) (joined_states functions table keys)
+
 -- ---- steps
 
 -- what is kept of a group after one more record; of a group that is new, after its first one
@@ -56,6 +67,14 @@ join_options (Some a) (Some b) = Some (join a b)
 abbrev pub IsPut : Contents → Contents → Key → GroupState → Key → Type 0
 IsPut old new key part k = fin.get new k ≡ cond (same_key k key) (join_options (fin.get old k) (Some part)) (fin.get old k)
 
+-- what is kept of a group after one more part; of a group that is new, after its first one
+abbrev pub enlarged : List ColumnFunction → Option GroupState → GroupState → GroupState
+enlarged functions old part = join (unwrap_or old (group_state functions [])) part
+
+-- at the key k the table has one more part of the group of a key, put to what it had or to nothing
+abbrev pub IsEnlarged : List ColumnFunction → Contents → Contents → Key → GroupState → Key → Type 0
+IsEnlarged functions old new key part k = fin.get new k ≡ cond (same_key k key) (Some (enlarged functions (fin.get old k) part)) (fin.get old k)
+
 -- at the key k the table has what both have
 abbrev pub IsJoined : Contents → Contents → Contents → Key → Type 0
 IsJoined old other new k = fin.get new k ≡ join_options (fin.get old k) (fin.get other k)
@@ -67,6 +86,10 @@ HasPlace functions group = IfSome group (λ g. (g.lines + 1 < 2 ^ 63) × (length
 -- a group takes a part
 abbrev pub IsFitting : GroupState → Option GroupState → Type 0
 IsFitting part group = IfSome group (λ g. (g.lines + part.lines < 2 ^ 63) × (length part.parts ≡ length g.parts))
+
+-- a part that a group takes, or a new one for these functions
+abbrev pub IsFittingNew : List ColumnFunction → GroupState → Option GroupState → Type 0
+IsFittingNew functions part group = IsFitting part group × (part.lines < 2 ^ 63) × (length part.parts ≡ length functions)
 
 -- each group of the other table is a part that the group of its key takes, where there is one
 abbrev pub CanJoin : Contents → Contents → Type 0

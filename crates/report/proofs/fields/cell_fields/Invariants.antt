@@ -1,6 +1,6 @@
 use Rattle.std.proofs.Common.{◌≡◌, [], map, take}
 use Rattle.csv.specs.Records.{fields_of, partial_of}
-use Rattle.groups.specs.Shown.{summary_of}
+use Rattle.groups.specs.Cells.{summary_of}
 use Rattle.report.specs.Text.{cell_field}
 use Rattle.report.proofs.fields.cell_fields.Given as goal
 

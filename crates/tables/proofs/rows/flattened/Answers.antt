@@ -1,6 +1,6 @@
 use Rattle.std.proofs.Common.{◌++◌, ℕ, List, map, Vec, Global, sym, ap, ◌∙◌, append_assoc}
 use Rattle.groups.specs.declared.group.Group.{Group}
-use Rattle.groups.specs.GroupRows.{group_row_in}
+use Rattle.groups.specs.GroupSummaries.{group_summary_in}
 use Rattle.tables.specs.Found.{row_of, rows_from}
 use Rattle.tables.proofs.rows.flattened.Goals as goal
 
@@ -10,7 +10,7 @@ loop-index-preserved c =
     let old = map row_of c.loop-index.rows.items in
     let rest = c.next.new.self.iter.rest.items in
     let count = c.loop-index.index-iterator.count in
-    let shown : ℕ → List _ = λ n. map (λ group. (n, group_row_in group)) c.in-Some.of_set.items in
+    let shown : ℕ → List _ = λ n. map (λ group. (n, group_summary_in group)) c.in-Some.of_set.items in
     ap (λ rs. rs ++ rows_from c.next.new.self.count rest) c.in_ok-put_groups.ensures
     ∙ append_assoc old (shown c.in-Some.index) (rows_from c.next.new.self.count rest)
     ∙ ap (λ n. old ++ (shown n ++ rows_from c.next.new.self.count rest)) s.1

@@ -1,6 +1,6 @@
 use Rattle.std.proofs.Common.{sym, subst}
 use Rattle.std.proofs.lemmas.Result.{IfOk-weaker}
-use Rattle.groups.specs.GroupRows.{SameBag}
+use Rattle.groups.specs.Bags.{SameBag}
 use Rattle.tables.specs.Results.{all_found}
 use Rattle.tables.proofs.Finding.{all-found}
 use Rattle.tables.proofs.rows.rows_of.Goals as goal

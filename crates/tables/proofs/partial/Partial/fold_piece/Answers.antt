@@ -5,7 +5,7 @@ use Rattle.query_check.specs.Functions.{functions_of}
 use Rattle.query_check.specs.Sets.{sets_of}
 use Rattle.query_truth.specs.Kept.{kept}
 use Rattle.tables.specs.Folding.{good_of, refused_of}
-use Rattle.groups.specs.GroupRows.{SameBag}
+use Rattle.groups.specs.Bags.{SameBag}
 use Rattle.groups.specs.Rows.{Row}
 use Rattle.tables.specs.Notes.{IsWellNumbered, Noted, note_in, note_of}
 use Rattle.tables.specs.Pieces.{IndexedPiece}

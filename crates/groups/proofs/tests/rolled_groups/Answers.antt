@@ -1,0 +1,17 @@
+use Rattle.std.proofs.Common.{refl, arith}
+use Rattle.groups.proofs.Literals.{distinct-two}
+use Rattle.groups.proofs.tests.rolled_groups.Goals as goal
+
+pub table_of-requires-clause-different : goal.table_of-requires-clause-different
+table_of-requires-clause-different c = distinct-two 0 2 refl
+
+pub roll-requires-clause-few : goal.roll-requires-clause-few
+roll-requires-clause-few c =
+    let t = c.in_ok-finest.ensures in
+    ∣ record { rows = t.0; is_table = t.1.0; few = omega (arith, t.1.1) } ∣₁
+
+-- the table that was rolled is that of the same records
+pub roll-requires-2-clause-few : goal.roll-requires-2-clause-few
+roll-requires-2-clause-few c =
+    let t = c.in_ok-finest.ensures in
+    ∣ record { rows = t.0; is_table = c.in_ok-finer.ensures.rolled t.0 t.1.0; few = omega (arith, t.1.1) } ∣₁

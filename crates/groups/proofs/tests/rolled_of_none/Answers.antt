@@ -1,0 +1,11 @@
+use Rattle.std.proofs.Common.{arith}
+use Rattle.groups.proofs.Literals.{distinct-one}
+use Rattle.groups.proofs.tests.rolled_of_none.Goals as goal
+
+pub table_of-requires-clause-different : goal.table_of-requires-clause-different
+table_of-requires-clause-different c = distinct-one 0
+
+pub roll-requires-clause-few : goal.roll-requires-clause-few
+roll-requires-clause-few c =
+    let t = c.in_ok-none.ensures in
+    ∣ record { rows = t.0; is_table = t.1.0; few = omega (arith, t.1.1) } ∣₁
