@@ -1,12 +1,12 @@
 -- The rows of the groups of all grouping sets.
-use Rattle.std.proofs.Common.{◌≡◌, ◌+◌, ℕ, List, [], ◌∷◌, ◌++◌, map, Vec, Global, refl, sym, ap, ◌∙◌, arith}
+use Rattle.std.proofs.Common.{◌≡◌, ◌+◌, ℕ, List, [], ◌∷◌, map, Vec, Global, refl, sym, ap, ◌∙◌, arith}
 use Rattle.std.proofs.lemmas.List.{map-append}
 use Rattle.std.specs.List.{enumerate_from, flat_map}
 use Rattle.query_check.specs.declared.function.ColumnFunction.{ColumnFunction}
 use Rattle.groups.specs.declared.group.Group.{Group}
 use Rattle.groups.specs.Rows.{Row}
 use Rattle.groups.specs.Groups as meaning
-use Rattle.groups.specs.Groups.{Key, keys, members}
+use Rattle.groups.specs.Groups.{keys, members}
 use Rattle.groups.specs.GroupRows.{SameBag, weigh, group_row, group_rows, group_row_in}
 use Rattle.tables.proofs.Bags.{weigh-append, weigh-map}
 use Rattle.tables.specs.Found.{Found, rows_from}
