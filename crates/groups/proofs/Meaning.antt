@@ -1,5 +1,7 @@
 -- What is kept of a group, and tables, by the members of the groups.
 use Rattle.std.proofs.Common.{◌≡◌, ◌≢◌, ◌+◌, ◌<◌, ◌≤◌, ◌^◌, ℕ, suc, ℤ, ◌+ℤ◌, Bool, true, false, ◌||◌, cond, List, [], ◌∷◌, ◌++◌, length, map, filter, filter_map, Option, Some, None, IfSome, unwrap_or, refl, sym, ap, subst, ◌∙◌, arith, length-append}
+use Rattle.std.proofs.Math.Logic.{∥∥₁_elim}
+use Rattle.std.proofs.Props.{props}
 use Rattle.std.proofs.lemmas.Int.{ints}
 use Rattle.std.proofs.lemmas.List.{map-append}
 use Rattle.std.proofs.lemmas.List.Elements.{filter-append, filter_map-append}
@@ -16,7 +18,7 @@ use Rattle.groups.specs.Groups.{Key, project, key_order, same_key, keys, members
 use Rattle.groups.specs.Inside.Values.{falling, first_by, set_of}
 use Rattle.groups.specs.Inside.Accumulator.{AccumulatorState, counted, summed, averaged, collected, lowest, highest, accumulator_state, with_value, argument, joined}
 use Rattle.groups.specs.Inside.Group.{GroupState, group_state, all_with_row, all_joined, with_row, join}
-use Rattle.groups.specs.Inside.Table.{Contents, IsTableOf, IsAdded, IsPut, IsJoined, HasPlace, IsFitting, CanJoin, IsGroupWithin, AreGroupsWithin, grown, join_options}
+use Rattle.groups.specs.Inside.Table.{Contents, IsTableOf, IsAdded, IsPut, IsJoined, HasPlace, IsFitting, CanJoin, IsGroupWithin, AreGroupsWithin, TakesOne, grown, join_options}
 use Rattle.groups.proofs.Order.{key_total}
 use Rattle.groups.proofs.Firsts.{present-all, least-append, least-one, greatest-append, greatest-one}
 use Rattle.groups.proofs.Repeats.{any-distinct}
@@ -210,6 +212,14 @@ place-at fs false x h = tt
 pub table-place : (set : List ℕ) (fs : List ColumnFunction) (t : Contents) (l : List Row) → IsTableOf set fs t l → length l + 1 < 2 ^ 63 → (k : Key) → HasPlace fs (fin.get t k)
 table-place set fs t l a few k = subst (λ (o : Option GroupState). HasPlace fs o) (sym (a k)) (place-at fs (has_key set k l) (members set k l)
     (omega (arith, few, filter-le (λ r. same_key k (project set r)) l)))
+
+place-prop : (fs : List ColumnFunction) (o : Option GroupState) → IsProp (HasPlace fs o)
+place-prop fs None = hlevel props
+place-prop fs (Some g) = hlevel props
+
+-- so does one of which only that is known
+pub table-takes : (set : List ℕ) (fs : List ColumnFunction) (t : Contents) → ∥ TakesOne set fs t ∥₁ → (k : Key) → HasPlace fs (fin.get t k)
+table-takes set fs t some k = ∥∥₁_elim some (place-prop fs (fin.get t k)) (λ r. table-place set fs t r.rows r.is_table r.few k)
 
 -- ---- tables within a number of records
 

@@ -77,7 +77,7 @@ impl Table {
         row: &[Value],
     ) -> Result<(), AllocError>
         requires narrow { IsNarrowRow (data_of row.now) }
-        requires room { TakesOne set.now functions.now self.old }
+        requires room { ∥ TakesOne set.now functions.now self.old ∥₁ }
         ensures added { OnOk result ((rows : List Row) → IsTableOf set.now functions.now self.old rows
             → IsTableOf set.now functions.now self.new (rows ++ data_of row.now ∷ [])) }
     {
@@ -95,7 +95,7 @@ impl Table {
     ) -> Result<(), AllocError>
         requires different { IsDistinct nat_eq set.now }
         requires narrow { IsNarrowRow (data_of row.items) }
-        requires room { TakesOne set.now functions.now self.old }
+        requires room { ∥ TakesOne set.now functions.now self.old ∥₁ }
         ensures added { OnOk result ((rows : List Row) → IsTableOf set.now functions.now self.old rows
             → IsTableOf set.now functions.now self.new (rows ++ data_of row.items ∷ [])) }
     {

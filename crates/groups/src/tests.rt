@@ -49,7 +49,7 @@ fn add_one(
 ) -> Result<(), AllocError>
     requires different { IsDistinct nat_eq set.now }
     requires narrow { IsNarrowRow (data_of row.items) }
-    requires room { TakesOne set.now functions.now table.old }
+    requires room { ∥ TakesOne set.now functions.now table.old ∥₁ }
     ensures added { OnOk result ((rows : List Row) → IsTableOf set.now functions.now table.old rows
         → IsTableOf set.now functions.now table.new (rows ++ data_of row.items ∷ [])) }
 {

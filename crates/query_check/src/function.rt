@@ -50,7 +50,7 @@ impl ColumnFunction {
 }
 
 /// A set function with the place of its column, where it has one.
-pub(crate) fn column_function(columns: &[Column], aggregate: &Aggregate) -> Option<ColumnFunction>
+pub fn column_function(columns: &[Column], aggregate: &Aggregate) -> Option<ColumnFunction>
     ensures { result ≡ column_function (fields_of columns.now) aggregate.now }
 {
     match aggregate {

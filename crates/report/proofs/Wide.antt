@@ -10,10 +10,10 @@ use Rattle.groups.specs.Cells.{summary_of}
 use Rattle.tables.specs.Found.{Found}
 use Rattle.tables.specs.Fitting.{set_of}
 use Rattle.report.specs.Shown.{cells_of, expression_shown, row_shown}
-use Rattle.report.specs.declared.row.Row.{Row}
+use Rattle.report.specs.declared.row.ReportRow.{ReportRow}
 
 -- where the cells of rows, and then others, are those that groups show, each of the rows has one for each item
-wide : (fields : List Field) (t : TreeForm) (rows : List Row) (others : List (List Summary)) (found : List Found) → map cells_of rows ++ others ≡ map (row_shown fields t) found → AllByRecursion (λ row. length row.cells.items ≡ length t.items) rows
+wide : (fields : List Field) (t : TreeForm) (rows : List ReportRow) (others : List (List Summary)) (found : List Found) → map cells_of rows ++ others ≡ map (row_shown fields t) found → AllByRecursion (λ row. length row.cells.items ≡ length t.items) rows
 wide fields t [] others found e = tt
 wide fields t (row ∷ rows) others [] e = absurd cc
 wide fields t (row ∷ rows) others (x ∷ found) e =
@@ -23,5 +23,5 @@ wide fields t (row ∷ rows) others (x ∷ found) e =
       wide fields t rows others found rest,
     )
 
-pub all-wide : (fields : List Field) (t : TreeForm) (rows : List Row) (others : List (List Summary)) (found : List Found) → map cells_of rows ++ others ≡ map (row_shown fields t) found → All (λ row. length row.cells.items ≡ length t.items) rows
-all-wide fields t rows others found e = All-from_recursion (λ (row : Row). length row.cells.items ≡ length t.items) rows (wide fields t rows others found e)
+pub all-wide : (fields : List Field) (t : TreeForm) (rows : List ReportRow) (others : List (List Summary)) (found : List Found) → map cells_of rows ++ others ≡ map (row_shown fields t) found → All (λ row. length row.cells.items ≡ length t.items) rows
+all-wide fields t rows others found e = All-from_recursion (λ (row : ReportRow). length row.cells.items ≡ length t.items) rows (wide fields t rows others found e)

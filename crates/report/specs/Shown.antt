@@ -12,7 +12,7 @@ use Rattle.groups.specs.Functions.{Summary, plain}
 use Rattle.groups.specs.Groups.{Key}
 use Rattle.tables.specs.Found.{Found}
 use Rattle.tables.specs.Fitting.{set_of}
-use Rattle.report.specs.declared.row.Row.{Row}
+use Rattle.report.specs.declared.row.ReportRow.{ReportRow}
 use Rattle.groups.specs.Cells.{summary_of}
 
 -- the value that a row of a grouping set shows for a column: the column's part of the key, and NULL where the column is not in the set
@@ -65,5 +65,5 @@ abbrev pub row_shown : List Field → TreeForm → Found → List Summary
 row_shown fields t row = map (λ item. expression_shown fields t (set_of fields t row) row.1.key row.1.cells item.expression) t.items
 
 -- the cells of a row, apart from where they lie in memory
-abbrev pub cells_of : Row → List Summary
+abbrev pub cells_of : ReportRow → List Summary
 cells_of row = map summary_of row.cells.items

@@ -1,23 +1,22 @@
-// The rows of a report.
-ghost use Rattle.std.specs.Prelude.{◌≡◌, ◌<◌, All, IfOk, length, map};
-ghost use Rattle.query_check.specs.Sets.{sets_of};
+//! The rows of a report.
+ghost use Rattle.std.specs.Prelude.{◌≡◌, All, IfOk, length, map};
 ghost use Rattle.query.specs.Planned.{fields_of_plan, form_of_plan};
-ghost use Rattle.tables.specs.Contents.{found_in};
 ghost use Rattle.tables.specs.Found.{row_of};
-ghost use Rattle.tables.specs.Fitting.{AreFitting};
+ghost use Rattle.tables.specs.Planned.{AreFittingUnder};
+ghost use Rattle.report.specs.Inside.Planned.{HasSetUnder};
 ghost use Rattle.report.specs.Report.{rows_shown};
 ghost use Rattle.report.specs.Shown.{cells_of, row_shown};
 
 use crate::cells::expression_cell;
 use crate::having::kept_rows;
 use crate::ordering::in_order;
-use crate::row::Row;
+use crate::row::ReportRow;
 use groups::Group;
 use query::Plan;
 use std::alloc::{AllocError, Global};
 use tables::Groups;
 
-/// The rows of a report: one for each group for which the predicate of HAVING is True, and for each group where HAVING
+///! The rows of a report: one for each group for which the predicate of HAVING is True, and for each group where HAVING
 /// is not written. They stand by the keys of ORDER BY, from the first, then in the order of the index of the grouping
 /// set, and in one set by the grouping columns in the order in which GROUP BY first names them, ascending and with NULL
 /// last. A grouping column that is not in the set of the row is NULL.
@@ -29,9 +28,9 @@ use tables::Groups;
 /// # Errors
 ///
 /// `AllocError` where there is no memory for the rows.
-pub fn arrange(alloc: Global, groups: &Groups, plan: &Plan) -> Result<Vec<Row>, AllocError>
-    requires { AreFitting (fields_of_plan plan.now) (form_of_plan plan.now) (found_in groups.now) }
-    ensures cells { IfOk result (λ rows. map cells_of rows.items ≡ rows_shown (fields_of_plan plan.now) (form_of_plan plan.now) (found_in groups.now)) }
+pub fn arrange(alloc: Global, groups: &Groups, plan: &Plan) -> Result<Vec<ReportRow>, AllocError>
+    requires { AreFittingUnder plan.now groups.now.found }
+    ensures cells { IfOk result (λ rows. map cells_of rows.items ≡ rows_shown (fields_of_plan plan.now) (form_of_plan plan.now) groups.now.found) }
     ensures wide { IfOk result (λ rows. All (λ row. length row.cells.items ≡ length (form_of_plan plan.now).items) rows.items) }
 {
     let kept = kept_rows(alloc, plan, groups.rows())?;
@@ -44,8 +43,8 @@ pub fn arrange(alloc: Global, groups: &Groups, plan: &Plan) -> Result<Vec<Row>, 
 }
 
 /// The row of a group, which stands beside the index of its grouping set.
-fn row_for(alloc: Global, plan: &Plan, found: &(usize, Group)) -> Result<Row, AllocError>
-    requires { found.now.0 < length (sets_of (fields_of_plan plan.now) (form_of_plan plan.now)) }
+fn row_for(alloc: Global, plan: &Plan, found: &(usize, Group)) -> Result<ReportRow, AllocError>
+    requires { HasSetUnder plan.now (row_of found.now) }
     ensures { IfOk result (λ row. cells_of row ≡ row_shown (fields_of_plan plan.now) (form_of_plan plan.now) (row_of found.now)) }
 {
     let (index, group) = found;
@@ -55,5 +54,5 @@ fn row_for(alloc: Global, plan: &Plan, found: &(usize, Group)) -> Result<Row, Al
     for item in items {
         cells.push(expression_cell(plan, set, group, &item.expression)?)?;
     }
-    Ok(Row { cells })
+    Ok(ReportRow { cells })
 }

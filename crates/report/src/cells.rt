@@ -1,18 +1,18 @@
-// What a row shows for the items of SELECT.
+//! What a row shows for the items of SELECT.
 ghost use Rattle.std.specs.Prelude.{◌≡◌, ◌≤◌, IfOk, map, length, slice_get, slice_index_or, unwrap_or};
 ghost use Rattle.values.specs.Datum.{data_of, datum_of, null};
 ghost use Rattle.values.specs.Schema.{fields_of};
 ghost use Rattle.query_tree.specs.Syntax.{expression_form};
-ghost use Rattle.query_check.specs.Functions.{column_function};
 ghost use Rattle.query.specs.Planned.{fields_of_plan, form_of_plan};
 ghost use Rattle.groups.specs.Functions.{plain};
 ghost use Rattle.groups.specs.Cells.{summary_of};
 ghost use Rattle.report.specs.Having.{cell_value};
-ghost use Rattle.report.specs.Shown.{value_in, expression_shown, function_place, function_shown, grouping_number, grouping_shown, is_rolled_up, name_shown};
+ghost use Rattle.report.specs.Inside.Planned.{shown_under};
+ghost use Rattle.report.specs.Shown.{value_in, function_place, function_shown, grouping_number, grouping_shown, is_rolled_up, name_shown};
 
 use groups::{Cell, Group};
-use query::{Aggregate, ColumnFunction, Expression, Plan, Text};
-use query_check::place_of;
+use query::{Aggregate, Expression, Plan, Text};
+use query_check::{column_function, place_of};
 use std::alloc::AllocError;
 use values::{Column, Value};
 
@@ -26,7 +26,7 @@ pub(crate) fn expression_cell(
     group: &Group,
     expression: &Expression,
 ) -> Result<Cell, AllocError>
-    ensures { IfOk result (λ cell. summary_of cell ≡ expression_shown (fields_of_plan plan.now) (form_of_plan plan.now) set.now (data_of group.now.key.items) (map summary_of group.now.cells.items) (expression_form expression.now)) }
+    ensures { IfOk result (λ cell. summary_of cell ≡ shown_under plan.now set.now group.now (expression_form expression.now)) }
 {
     let columns = plan.schema().columns();
     match expression {
@@ -49,7 +49,7 @@ pub(crate) fn expression_value(
     group: &Group,
     expression: &Expression,
 ) -> Result<Value, AllocError>
-    ensures { IfOk result (λ value. datum_of value ≡ cell_value (expression_shown (fields_of_plan plan.now) (form_of_plan plan.now) set.now (data_of group.now.key.items) (map summary_of group.now.cells.items) (expression_form expression.now))) }
+    ensures { IfOk result (λ value. datum_of value ≡ cell_value (shown_under plan.now set.now group.now (expression_form expression.now))) }
 {
     match expression_cell(plan, set, group, expression)? {
         Cell::Plain(value) => Ok(value),
@@ -119,7 +119,7 @@ fn grouping_number(columns: &[Column], set: &[usize], names: &[Text]) -> u64
     number
 }
 
-/// What a row of a grouping set shows for GROUPING.
+///! What a row of a grouping set shows for GROUPING.
 fn grouping_value(columns: &[Column], set: &[usize], names: &[Text]) -> Value
     ensures { datum_of result ≡ grouping_shown (fields_of columns.now) set.now names.now }
 {
@@ -130,23 +130,6 @@ fn grouping_value(columns: &[Column], set: &[usize], names: &[Text]) -> Value
 }
 
 // ---- set functions
-
-/// A set function with the place of its column, where it has one.
-fn column_function(columns: &[Column], aggregate: &Aggregate) -> Option<ColumnFunction>
-    ensures { result ≡ column_function (fields_of columns.now) aggregate.now }
-{
-    match aggregate {
-        Aggregate::CountRows => Some(ColumnFunction::CountRows),
-        Aggregate::Count(x) => place_of(columns, x.as_str()).map(ColumnFunction::Count),
-        Aggregate::CountDistinct(x) => {
-            place_of(columns, x.as_str()).map(ColumnFunction::CountDistinct)
-        }
-        Aggregate::Sum(x) => place_of(columns, x.as_str()).map(ColumnFunction::Sum),
-        Aggregate::Min(x) => place_of(columns, x.as_str()).map(ColumnFunction::Min),
-        Aggregate::Max(x) => place_of(columns, x.as_str()).map(ColumnFunction::Max),
-        Aggregate::Avg(x) => place_of(columns, x.as_str()).map(ColumnFunction::Avg),
-    }
-}
 
 /// The place of a set function among those of the plan.
 fn function_place(plan: &Plan, aggregate: &Aggregate) -> Option<usize>
@@ -161,7 +144,7 @@ fn function_place(plan: &Plan, aggregate: &Aggregate) -> Option<usize>
     }
 }
 
-/// What a row with these cells shows for a set function.
+///! What a row with these cells shows for a set function.
 fn function_cell(plan: &Plan, cells: &[Cell], aggregate: &Aggregate) -> Result<Cell, AllocError>
     ensures { IfOk result (λ cell. summary_of cell ≡ function_shown (fields_of_plan plan.now) (form_of_plan plan.now) (map summary_of cells.now) aggregate.now) }
 {

@@ -1,4 +1,4 @@
-// The fields of a row.
+//! The fields of a row.
 ghost use Rattle.std.specs.Prelude.{◌≡◌, ◌++◌, IfOk, codes, decimal, map};
 ghost use Rattle.std.specs.Fmt.{signed_decimal};
 ghost use Rattle.values.specs.Datum.{datum_of};

@@ -1,15 +1,13 @@
-// The rows that HAVING keeps.
-ghost use Rattle.std.specs.Prelude.{◌≡◌, ◌<◌, ◌∷◌, [], IfOk, false, length, map};
+//! The rows that HAVING keeps.
+ghost use Rattle.std.specs.Prelude.{◌≡◌, IfOk, false, map};
 ghost use Rattle.values.specs.Datum.{datum_of};
 ghost use Rattle.query_tree.specs.Syntax.{between, compare, expression_form, member, name, operand_form, predicate_form, predicate_forms};
-ghost use Rattle.query_check.specs.declared.scope.Clause.TheVariants as clause;
-ghost use Rattle.query_check.specs.Sets.{grouping_places, sets_of};
-ghost use Rattle.query_check.specs.Typing.{AreTypedParts, IsTypedPredicate};
 ghost use Rattle.query_truth.specs.Truth.{all_of, any_of, operand_value, truth, truths};
 ghost use Rattle.query.specs.Planned.{fields_of_plan, form_of_plan};
 ghost use Rattle.tables.specs.Found.{row_of};
-ghost use Rattle.tables.specs.Fitting.{AreFitting};
-ghost use Rattle.report.specs.Having.{row_value, rows_kept};
+ghost use Rattle.tables.specs.Planned.{AreFittingUnder};
+ghost use Rattle.report.specs.Having.{rows_kept};
+ghost use Rattle.report.specs.Inside.Planned.{AreTypedUnder, FitsUnder, HasSetUnder, IsTypedUnder, value_under};
 
 use crate::cells::{expression_value, name_value};
 use groups::Group;
@@ -26,7 +24,7 @@ pub(crate) fn kept_rows<'a>(
     plan: &Plan,
     rows: &'a [(usize, Group)],
 ) -> Result<Vec<&'a (usize, Group)>, AllocError>
-    requires { AreFitting (fields_of_plan plan.now) (form_of_plan plan.now) (map row_of rows.now) }
+    requires { AreFittingUnder plan.now (map row_of rows.now) }
     ensures { IfOk result (λ kept. map (λ r. row_of r.now) kept.items ≡ rows_kept (fields_of_plan plan.now) (form_of_plan plan.now) (map row_of rows.now)) }
 {
     let Some(having) = &plan.query().tree().having_condition else {
@@ -49,9 +47,9 @@ fn row_truth(
     found: &(usize, Group),
     predicate: &Predicate,
 ) -> Result<Truth, AllocError>
-    requires fits { AreFitting (fields_of_plan plan.now) (form_of_plan plan.now) (row_of found.now ∷ []) }
-    requires typed { IsTypedPredicate (fields_of_plan plan.now) (grouping_places (fields_of_plan plan.now) (form_of_plan plan.now)) clause.Having (predicate_form predicate.now) }
-    ensures { IfOk result (λ worth. worth ≡ truth (row_value (fields_of_plan plan.now) (form_of_plan plan.now) (row_of found.now)) (predicate_form predicate.now)) }
+    requires fits { FitsUnder plan.now (row_of found.now) }
+    requires typed { IsTypedUnder plan.now (predicate_form predicate.now) }
+    ensures { IfOk result (λ worth. worth ≡ truth (value_under plan.now (row_of found.now)) (predicate_form predicate.now)) }
 {
     match predicate {
         Predicate::Or(parts) => any_truth(alloc, plan, found, parts),
@@ -97,9 +95,9 @@ fn any_truth(
     found: &(usize, Group),
     parts: &[Predicate],
 ) -> Result<Truth, AllocError>
-    requires fits { AreFitting (fields_of_plan plan.now) (form_of_plan plan.now) (row_of found.now ∷ []) }
-    requires typed { AreTypedParts (fields_of_plan plan.now) (grouping_places (fields_of_plan plan.now) (form_of_plan plan.now)) clause.Having (predicate_forms (map predicate_form parts.now)) }
-    ensures { IfOk result (λ worth. worth ≡ any_of (truths (row_value (fields_of_plan plan.now) (form_of_plan plan.now) (row_of found.now)) (predicate_forms (map predicate_form parts.now)))) }
+    requires fits { FitsUnder plan.now (row_of found.now) }
+    requires typed { AreTypedUnder plan.now (predicate_forms (map predicate_form parts.now)) }
+    ensures { IfOk result (λ worth. worth ≡ any_of (truths (value_under plan.now (row_of found.now)) (predicate_forms (map predicate_form parts.now)))) }
 {
     let mut worth = Truth::False;
     for part in parts {
@@ -119,9 +117,9 @@ fn all_truth(
     found: &(usize, Group),
     parts: &[Predicate],
 ) -> Result<Truth, AllocError>
-    requires fits { AreFitting (fields_of_plan plan.now) (form_of_plan plan.now) (row_of found.now ∷ []) }
-    requires typed { AreTypedParts (fields_of_plan plan.now) (grouping_places (fields_of_plan plan.now) (form_of_plan plan.now)) clause.Having (predicate_forms (map predicate_form parts.now)) }
-    ensures { IfOk result (λ worth. worth ≡ all_of (truths (row_value (fields_of_plan plan.now) (form_of_plan plan.now) (row_of found.now)) (predicate_forms (map predicate_form parts.now)))) }
+    requires fits { FitsUnder plan.now (row_of found.now) }
+    requires typed { AreTypedUnder plan.now (predicate_forms (map predicate_form parts.now)) }
+    ensures { IfOk result (λ worth. worth ≡ all_of (truths (value_under plan.now (row_of found.now)) (predicate_forms (map predicate_form parts.now)))) }
 {
     let mut worth = Truth::True;
     for part in parts {
@@ -144,9 +142,9 @@ fn comparison_truth(
     op: Op,
     right: &Operand,
 ) -> Result<Truth, AllocError>
-    requires fits { AreFitting (fields_of_plan plan.now) (form_of_plan plan.now) (row_of found.now ∷ []) }
-    requires typed { IsTypedPredicate (fields_of_plan plan.now) (grouping_places (fields_of_plan plan.now) (form_of_plan plan.now)) clause.Having (compare (operand_form left.now) op (operand_form right.now)) }
-    ensures { IfOk result (λ worth. worth ≡ truth (row_value (fields_of_plan plan.now) (form_of_plan plan.now) (row_of found.now)) (compare (operand_form left.now) op (operand_form right.now))) }
+    requires fits { FitsUnder plan.now (row_of found.now) }
+    requires typed { IsTypedUnder plan.now (compare (operand_form left.now) op (operand_form right.now)) }
+    ensures { IfOk result (λ worth. worth ≡ truth (value_under plan.now (row_of found.now)) (compare (operand_form left.now) op (operand_form right.now))) }
 {
     let left = operand_value(alloc, plan, found, left)?;
     let right = operand_value(alloc, plan, found, right)?;
@@ -162,9 +160,9 @@ fn range_truth(
     low: &Operand,
     high: &Operand,
 ) -> Result<Truth, AllocError>
-    requires fits { AreFitting (fields_of_plan plan.now) (form_of_plan plan.now) (row_of found.now ∷ []) }
-    requires typed { IsTypedPredicate (fields_of_plan plan.now) (grouping_places (fields_of_plan plan.now) (form_of_plan plan.now)) clause.Having (between (operand_form operand.now) false (operand_form low.now) (operand_form high.now)) }
-    ensures { IfOk result (λ worth. worth ≡ truth (row_value (fields_of_plan plan.now) (form_of_plan plan.now) (row_of found.now)) (between (operand_form operand.now) false (operand_form low.now) (operand_form high.now))) }
+    requires fits { FitsUnder plan.now (row_of found.now) }
+    requires typed { IsTypedUnder plan.now (between (operand_form operand.now) false (operand_form low.now) (operand_form high.now)) }
+    ensures { IfOk result (λ worth. worth ≡ truth (value_under plan.now (row_of found.now)) (between (operand_form operand.now) false (operand_form low.now) (operand_form high.now))) }
 {
     let value = operand_value(alloc, plan, found, operand)?;
     let low = operand_value(alloc, plan, found, low)?;
@@ -180,9 +178,9 @@ fn list_truth(
     operand: &Operand,
     literals: &[Literal],
 ) -> Result<Truth, AllocError>
-    requires fits { AreFitting (fields_of_plan plan.now) (form_of_plan plan.now) (row_of found.now ∷ []) }
-    requires typed { IsTypedPredicate (fields_of_plan plan.now) (grouping_places (fields_of_plan plan.now) (form_of_plan plan.now)) clause.Having (member (operand_form operand.now) false literals.now) }
-    ensures { IfOk result (λ worth. worth ≡ truth (row_value (fields_of_plan plan.now) (form_of_plan plan.now) (row_of found.now)) (member (operand_form operand.now) false literals.now)) }
+    requires fits { FitsUnder plan.now (row_of found.now) }
+    requires typed { IsTypedUnder plan.now (member (operand_form operand.now) false literals.now) }
+    ensures { IfOk result (λ worth. worth ≡ truth (value_under plan.now (row_of found.now)) (member (operand_form operand.now) false literals.now)) }
 {
     let value = operand_value(alloc, plan, found, operand)?;
     let values = literal_values(alloc, literals)?;
@@ -198,8 +196,8 @@ fn operand_value(
     found: &(usize, Group),
     operand: &Operand,
 ) -> Result<Value, AllocError>
-    requires { AreFitting (fields_of_plan plan.now) (form_of_plan plan.now) (row_of found.now ∷ []) }
-    ensures { IfOk result (λ value. datum_of value ≡ operand_value (row_value (fields_of_plan plan.now) (form_of_plan plan.now) (row_of found.now)) (operand_form operand.now)) }
+    requires { FitsUnder plan.now (row_of found.now) }
+    ensures { IfOk result (λ value. datum_of value ≡ operand_value (value_under plan.now (row_of found.now)) (operand_form operand.now)) }
 {
     match operand {
         Operand::Expression(expression) => shown_value(plan, found, expression),
@@ -213,8 +211,8 @@ fn shown_value(
     found: &(usize, Group),
     expression: &Expression,
 ) -> Result<Value, AllocError>
-    requires { found.now.0 < length (sets_of (fields_of_plan plan.now) (form_of_plan plan.now)) }
-    ensures { IfOk result (λ value. datum_of value ≡ row_value (fields_of_plan plan.now) (form_of_plan plan.now) (row_of found.now) (expression_form expression.now)) }
+    requires { HasSetUnder plan.now (row_of found.now) }
+    ensures { IfOk result (λ value. datum_of value ≡ value_under plan.now (row_of found.now) (expression_form expression.now)) }
 {
     let (index, group) = found;
     let set = &plan.sets()[*index];
@@ -223,8 +221,8 @@ fn shown_value(
 
 /// The value that the row of a group shows for the column of a name.
 fn column_value(plan: &Plan, found: &(usize, Group), column: &Text) -> Result<Value, AllocError>
-    requires { found.now.0 < length (sets_of (fields_of_plan plan.now) (form_of_plan plan.now)) }
-    ensures { IfOk result (λ value. datum_of value ≡ row_value (fields_of_plan plan.now) (form_of_plan plan.now) (row_of found.now) (name column.now)) }
+    requires { HasSetUnder plan.now (row_of found.now) }
+    ensures { IfOk result (λ value. datum_of value ≡ value_under plan.now (row_of found.now) (name column.now)) }
 {
     let (index, group) = found;
     let set = &plan.sets()[*index];

@@ -1,16 +1,14 @@
-// The keys of ORDER BY: their values for a row, and how such values stand to each other.
-ghost use Rattle.std.specs.Prelude.{◌≡◌, ◌<◌, IfOk, length, map};
+//! The keys of ORDER BY: their values for a row, and how such values stand to each other.
+ghost use Rattle.std.specs.Prelude.{◌≡◌, IfOk, map};
 ghost use Rattle.values.specs.Datum.{data_of, datum_of};
 ghost use Rattle.query_tree.specs.Syntax.{key_form};
-ghost use Rattle.query_check.specs.Sets.{sets_of};
 ghost use Rattle.query_check.specs.Typing.{key_expression};
 ghost use Rattle.query.specs.Planned.{fields_of_plan, form_of_plan};
-ghost use Rattle.groups.specs.Cells.{summary_of};
 ghost use Rattle.tables.specs.Found.{row_of};
 ghost use Rattle.report.specs.Having.{cell_value};
 ghost use Rattle.report.specs.Order.{null_order, under_key};
+ghost use Rattle.report.specs.Inside.Planned.{HasSetUnder, shown_under};
 ghost use Rattle.report.specs.Inside.Ranked.{key_values, under_values};
-ghost use Rattle.report.specs.Shown.{expression_shown};
 
 use crate::cells::expression_value;
 use groups::Group;
@@ -28,7 +26,7 @@ pub(crate) fn key_values(
     plan: &Plan,
     found: &(usize, Group),
 ) -> Result<Vec<Value>, AllocError>
-    requires { found.now.0 < length (sets_of (fields_of_plan plan.now) (form_of_plan plan.now)) }
+    requires { HasSetUnder plan.now (row_of found.now) }
     ensures { IfOk result (λ values. data_of values.items ≡ key_values (fields_of_plan plan.now) (form_of_plan plan.now) (row_of found.now)) }
 {
     let (index, group) = found;
@@ -43,7 +41,7 @@ pub(crate) fn key_values(
 
 /// The value of a key for a group of a grouping set.
 fn key_value(plan: &Plan, set: &[usize], group: &Group, key: &Key) -> Result<Value, AllocError>
-    ensures { IfOk result (λ value. datum_of value ≡ cell_value (expression_shown (fields_of_plan plan.now) (form_of_plan plan.now) set.now (data_of group.now.key.items) (map summary_of group.now.cells.items) (key_expression (form_of_plan plan.now).items (key_form key.now).expression))) }
+    ensures { IfOk result (λ value. datum_of value ≡ cell_value (shown_under plan.now set.now group.now (key_expression (form_of_plan plan.now).items (key_form key.now).expression))) }
 {
     let items = plan.query().tree().items.as_slice();
     let expression = key_expression(items, &key.expression);

@@ -1,4 +1,4 @@
-// Laws of the order of the rows, with no work to do.
+//! Laws of the order of the rows, with no work to do.
 ghost use Rattle.std.specs.Prelude.{List};
 ghost use Rattle.values.specs.Schema.{Field};
 ghost use Rattle.query_tree.specs.Syntax.{TreeForm};

@@ -18,6 +18,6 @@ mod text;
 pub use arranging::arrange;
 pub use laws::{arranged_law, order_law};
 pub use refused::refused_text;
-pub use row::Row;
+pub use row::ReportRow;
 pub use text::report_text;
 

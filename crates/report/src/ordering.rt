@@ -1,12 +1,13 @@
-// The order of rows.
-ghost use Rattle.std.specs.Prelude.{◌≡◌, ◌<◌, All, IfOk, List, [], length, map};
+//! The order of rows.
+ghost use Rattle.std.specs.Prelude.{◌≡◌, All, IfOk, List, [], map};
 ghost use Rattle.values.specs.Schema.{Field};
 ghost use Rattle.query_tree.specs.Syntax.{TreeForm, key_form};
-ghost use Rattle.query_check.specs.Sets.{sets_of};
 ghost use Rattle.query.specs.Planned.{fields_of_plan, form_of_plan};
 ghost use Rattle.tables.specs.Found.{row_of};
 ghost use Rattle.tables.specs.Fitting.{AreFitting};
+ghost use Rattle.tables.specs.Planned.{AreFittingUnder};
 ghost use Rattle.report.specs.Order.{before, in_order};
+ghost use Rattle.report.specs.Inside.Planned.{HasSetUnder};
 ghost use Rattle.report.specs.Inside.Ranked.{by_key, by_rank, ranked, ranked_in};
 
 use crate::keys::{key_values, under_values};
@@ -50,7 +51,7 @@ pub(crate) fn in_order<'a>(
     plan: &Plan,
     rows: Vec<&'a (usize, Group)>,
 ) -> Result<Vec<&'a (usize, Group)>, AllocError>
-    requires { AreFitting (fields_of_plan plan.now) (form_of_plan plan.now) (map (λ r. row_of r.now) rows.items) }
+    requires { AreFittingUnder plan.now (map (λ r. row_of r.now) rows.items) }
     ensures { IfOk result (λ v. map (λ r. row_of r.now) v.items ≡ in_order (before (fields_of_plan plan.now) (form_of_plan plan.now)) (map (λ r. row_of r.now) rows.entry.items)) }
 {
     if plan.query().tree().keys.is_empty() {
@@ -77,7 +78,7 @@ fn in_order_of_keys<'a>(
     plan: &Plan,
     rows: Vec<&'a (usize, Group)>,
 ) -> Result<Vec<&'a (usize, Group)>, AllocError>
-    requires { AreFitting (fields_of_plan plan.now) (form_of_plan plan.now) (map (λ r. row_of r.now) rows.items) }
+    requires { AreFittingUnder plan.now (map (λ r. row_of r.now) rows.items) }
     ensures { IfOk result (λ v. map (λ r. row_of r.now) v.items ≡ in_order (before (fields_of_plan plan.now) (form_of_plan plan.now)) (map (λ r. row_of r.now) rows.entry.items)) }
 {
     let keys = plan.query().tree().keys.as_slice();
@@ -96,7 +97,7 @@ fn rank<'a>(
     plan: &Plan,
     rows: Vec<&'a (usize, Group)>,
 ) -> Result<Vec<RankedRow<'a>>, AllocError>
-    requires { All (λ row. row.0 < length (sets_of (fields_of_plan plan.now) (form_of_plan plan.now))) (map (λ r. row_of r.now) rows.items) }
+    requires { All (λ row. HasSetUnder plan.now row) (map (λ r. row_of r.now) rows.items) }
     ensures { IfOk result (λ v. map ranked_in v.items ≡ map (ranked (fields_of_plan plan.now) (form_of_plan plan.now)) (map (λ r. row_of r.now) rows.entry.items)) }
 {
     let mut ranked = Vec::with_capacity(alloc, rows.len())?;

@@ -1,7 +1,6 @@
-// The list of refused lines.
+//! The list of refused lines.
 ghost use Rattle.std.specs.Prelude.{◌≡◌, ◌<◌, ◌++◌, All, IfOk, OnOk, codes, decimal, length};
 ghost use Rattle.query_print.specs.Canonical.{name_at};
-ghost use Rattle.tables.specs.Contents.{refused_in};
 ghost use Rattle.report.specs.Report.{NamesColumn, refusals_of};
 ghost use Rattle.report.specs.Text.{fault_text, refused_line};
 
@@ -18,8 +17,8 @@ use values::Schema;
 ///
 /// `AllocError` where there is no memory for the text.
 pub fn refused_text(alloc: Global, groups: &Groups, schema: &Schema) -> Result<Vec<u8>, AllocError>
-    requires { All (λ refused. NamesColumn schema.now refused.1) (refused_in groups.now) }
-    ensures { IfOk result (λ text. text.items ≡ refusals_of schema.now (refused_in groups.now)) }
+    requires { All (λ refused. NamesColumn schema.now refused.1) groups.now.refused }
+    ensures { IfOk result (λ text. text.items ≡ refusals_of schema.now groups.now.refused) }
 {
     let mut text = Vec::new(alloc);
     for (number, fault) in groups.refused() {

@@ -1,4 +1,4 @@
-// The bytes of a report.
+//! The bytes of a report.
 ghost use Rattle.std.specs.Prelude.{◌≡◌, All, IfOk, OnOk, length, map};
 ghost use Rattle.std.specs.Io.KnownBytes.{Appends};
 ghost use Rattle.csv.specs.Records.{fields_of};
@@ -10,13 +10,13 @@ ghost use Rattle.report.specs.Shown.{cells_of};
 ghost use Rattle.report.specs.Text.{report_bytes};
 
 use crate::fields::cell_fields;
-use crate::row::Row;
+use crate::row::ReportRow;
 use csv::{ByteRecord, Writer, WriterBuilder};
 use query::{Plan, header};
 use std::alloc::{AllocError, Global};
 use std::io::Write;
 
-/// The bytes of a report: CSV with commas, line feeds, and quotes where they are needed. The first row holds the
+///! The bytes of a report: CSV with commas, line feeds, and quotes where they are needed. The first row holds the
 /// header of each item of SELECT. NULL is `\N`, and a text that begins with `\` has one more in front; truth values
 /// are `true` and `false`, whole numbers plain decimal, and an average is its sum and its count with `/` between.
 /// Each row has one cell for each item.
@@ -24,7 +24,7 @@ use std::io::Write;
 /// # Errors
 ///
 /// `AllocError` where there is no memory for the text.
-pub fn report_text(alloc: Global, rows: &[Row], plan: &Plan) -> Result<Vec<u8>, AllocError>
+pub fn report_text(alloc: Global, rows: &[ReportRow], plan: &Plan) -> Result<Vec<u8>, AllocError>
     requires { All (λ row. length row.cells.items ≡ length (form_of_plan plan.now).items) rows.now }
     ensures { IfOk result (λ text. text.items ≡ report_bytes (form_of_plan plan.now).items (map cells_of rows.now)) }
 {

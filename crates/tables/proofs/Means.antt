@@ -18,12 +18,12 @@ use Rattle.groups.specs.Rows.{Row}
 use Rattle.groups.specs.Inside.Table.{Contents}
 use Rattle.pool.specs.Totals as pool
 use Rattle.pool.proofs.Sums.{total_load, total_weight}
-use Rattle.tables.specs.declared.partial.Partial.{Partial}
 use Rattle.tables.specs.Laws.{mean-append, means_lawful}
 use Rattle.tables.specs.Means.{Mean, both, group_of, indexed, mean, mean_at, meaning, no_bytes, piece_at, with_index}
 use Rattle.tables.specs.Partials.{StandsFor}
 use Rattle.tables.specs.Pieces.{IndexedPiece, all_lines, records_of, refused_within}
 use Rattle.tables.specs.Sets.{AreTablesOf}
+use Rattle.tables.specs.States.{PartialState}
 
 -- ---- standing for pieces is meaning what they come to
 
@@ -50,7 +50,7 @@ mean-tables [] fs (t ∷ ts) rows e = absurd (let n : suc (length (read_all ts))
 mean-tables (set ∷ sets) fs [] rows e = absurd (let n : 0 ≡ suc (length (map (group_of fs rows) sets)) = ap length e in omega (arith, n))
 mean-tables (set ∷ sets) fs (t ∷ ts) rows e = (λ key. ap (λ us. first_at us key) e, mean-tables sets fs ts rows (ap others e))
 
-pub mean-from_stands : (fields : List Field) (q : TreeForm) (partial : Partial) (pieces : List IndexedPiece) → StandsFor fields q partial pieces → meaning partial ≡ mean fields q pieces
+pub mean-from_stands : (fields : List Field) (q : TreeForm) (partial : PartialState) (pieces : List IndexedPiece) → StandsFor fields q partial pieces → meaning partial ≡ mean fields q pieces
 mean-from_stands fields q partial pieces p =
     let tables = tables-mean (sets_of fields q) (functions_of fields q) partial.tables (kept fields q (records_of fields pieces)) p.tables in
     λ i. record {
@@ -62,7 +62,7 @@ mean-from_stands fields q partial pieces p =
       notes = λ weight. sym (p.notes weight) i;
     }
 
-pub stands-from_mean : (fields : List Field) (q : TreeForm) (partial : Partial) (pieces : List IndexedPiece) → meaning partial ≡ mean fields q pieces → StandsFor fields q partial pieces
+pub stands-from_mean : (fields : List Field) (q : TreeForm) (partial : PartialState) (pieces : List IndexedPiece) → meaning partial ≡ mean fields q pieces → StandsFor fields q partial pieces
 stands-from_mean fields q partial pieces e = record {
   sets = ap (λ (m : Mean). m.sets) e;
   functions = ap (λ (m : Mean). m.functions) e;

@@ -10,6 +10,9 @@ use Rattle.query_check.specs.Sets.{sets_of}
 use Rattle.query_check.specs.Functions.{functions_of}
 use Rattle.query_truth.specs.Kept.{kept}
 use Rattle.groups.specs.Rows.{Row}
+use Rattle.groups.specs.Inside.Table.{Contents}
+use Rattle.query.specs.declared.plan.Plan.{Plan}
+use Rattle.query.specs.Planned.{fields_of_plan, form_of_plan}
 use Rattle.tables.specs.declared.folding.Folding.{Folding}
 use Rattle.tables.specs.Sets.{AreTablesOf, AllTakeOne}
 
@@ -34,6 +37,22 @@ pub record ReadsMore (fields : List Field) (q : TreeForm) (folding : Folding) (m
   pub has_read : HasRead fields q before folding seen
   pub few : length before + length seen + more < 2 ^ 63
 
+-- ---- under a plan
+
+-- the tables are those of the records that WHERE keeps of these
+abbrev pub AreTablesUnder : Plan → List Contents → List Row → Type 0
+AreTablesUnder plan tables rows =
+    AreTablesOf (sets_of (fields_of_plan plan) (form_of_plan plan)) (functions_of (fields_of_plan plan) (form_of_plan plan)) tables
+    (kept (fields_of_plan plan) (form_of_plan plan) rows)
+
+abbrev pub HasReadUnder : Plan → List Row → Folding → List (List ℕ) → Type 0
+HasReadUnder plan before folding ls = HasRead (fields_of_plan plan) (form_of_plan plan) before folding ls
+
+-- so many lines more can be read
+abbrev pub ReadsMoreUnder : Plan → Folding → ℕ → Type 0
+ReadsMoreUnder plan folding more = ∥ ReadsMore (fields_of_plan plan) (form_of_plan plan) folding more ∥₁
+
 -- the tables are those of some records, fewer than 2^63 with one more
-abbrev pub TakesRecord : List Field → TreeForm → Folding → Type 0
-TakesRecord fields q folding = AllTakeOne (sets_of fields q) (functions_of fields q) folding.tables
+abbrev pub TakesRecordUnder : Plan → Folding → Type 0
+TakesRecordUnder plan folding =
+    ∥ AllTakeOne (sets_of (fields_of_plan plan) (form_of_plan plan)) (functions_of (fields_of_plan plan) (form_of_plan plan)) folding.tables ∥₁

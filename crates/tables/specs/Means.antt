@@ -1,5 +1,5 @@
 -- What a partial result means, whatever the order of its pieces, and what pieces come to.
-use Rattle.std.specs.Prelude.{◌≡◌, ℕ, ◌+◌, ◌<◌, List, [], ◌∷◌, length, map, slice_index_or, Option, Some, None, if◌then◌else◌}
+use Rattle.std.specs.Prelude.{◌≡◌, ℕ, ◌+◌, List, [], ◌∷◌, length, map, slice_index_or, Option, Some, None, if◌then◌else◌}
 use Rattle.std.specs.FinMap as fin
 use Rattle.std.specs.List.{enumerate_from, list_any}
 use Rattle.values.specs.Schema.{Field}
@@ -8,7 +8,6 @@ use Rattle.lines.specs.Pieces.{bytes_of}
 use Rattle.query_tree.specs.Syntax.{TreeForm}
 use Rattle.query_check.specs.declared.function.ColumnFunction.{ColumnFunction}
 use Rattle.query_check.specs.Functions.{functions_of}
-use Rattle.query_check.specs.Resolution.{contents}
 use Rattle.query_check.specs.Sets.{sets_of}
 use Rattle.query_truth.specs.Kept.{kept}
 use Rattle.groups.specs.Bags.{weigh}
@@ -16,10 +15,9 @@ use Rattle.groups.specs.Groups.{Key, keys, members, same_key}
 use Rattle.groups.specs.Inside.Group.{GroupState, group_state}
 use Rattle.groups.specs.Rows.{Row}
 use Rattle.groups.specs.Inside.Table.{Contents, join_options}
-use Rattle.tables.specs.declared.partial.Partial.{Partial}
-use Rattle.tables.specs.Notes.{Noted, note_of, notes_in}
-use Rattle.tables.specs.Partials.{lines_counted, refused_counted}
+use Rattle.tables.specs.Notes.{Noted, note_of}
 use Rattle.tables.specs.Pieces.{IndexedPiece, all_lines, records_of, refused_within}
+use Rattle.tables.specs.States.{PartialState}
 
 -- the grouping sets and the set functions; for each set what is kept of each key's group; how many lines and refused lines there are; and of the notes of
 -- the pieces what they weigh together, whatever each weighs
@@ -93,15 +91,15 @@ piece_at input pieces index = with_index input (index, slice_index_or pieces ind
 abbrev pub mean_at : List Field → TreeForm → List ℕ → List Piece → ℕ → Mean
 mean_at fields q input pieces index = mean fields q (piece_at input pieces index ∷ [])
 
--- ---- in the code
+-- ---- of a partial result
 
 -- what a partial result means
-abbrev pub meaning : Partial → Mean
+abbrev pub meaning : PartialState → Mean
 meaning partial = record {
-  sets = contents partial.shape.sets.items;
-  functions = partial.shape.functions.items;
+  sets = partial.sets;
+  functions = partial.functions;
   tables = map (λ (table : Contents) key. fin.get table key) partial.tables;
-  lines = lines_counted partial;
-  refused = refused_counted partial;
-  notes = λ weight. weigh weight (notes_in partial.notes);
+  lines = partial.lines;
+  refused = partial.refused;
+  notes = λ weight. weigh weight partial.notes;
 }

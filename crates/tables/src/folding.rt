@@ -1,9 +1,8 @@
-// Reading the lines of a piece.
+//! Reading the lines of a piece.
 ghost use Rattle.std.specs.Prelude.{◌≡◌, ◌++◌, ℕ, List, IfOk, length};
 ghost use Rattle.lines.specs.Lines.{lines};
-ghost use Rattle.query.specs.Planned.{fields_of_plan, form_of_plan};
 ghost use Rattle.groups.specs.Rows.{Row};
-ghost use Rattle.tables.specs.Folding.{HasRead, ReadsMore};
+ghost use Rattle.tables.specs.Folding.{HasReadUnder, ReadsMoreUnder};
 
 use crate::sets::Tables;
 use lines::{LineFault, LineRefusal, RecordReader, lines_of};
@@ -24,20 +23,14 @@ pub(crate) struct Folding {
 
 impl Folding {
     ghost use Rattle.std.specs.Prelude.{◌≡◌, [], ◌∷◌, ◌++◌, ℕ, List, OnOk, IfOk};
-    ghost use Rattle.values.specs.Datum.{Datum};
     ghost use Rattle.values.specs.Fit.{Fits};
-    ghost use Rattle.lines.specs.Taken.{taken};
-    ghost use Rattle.query.specs.Planned.{fields_of_plan, form_of_plan};
-    ghost use Rattle.query_check.specs.Sets.{sets_of};
-    ghost use Rattle.query_check.specs.Functions.{functions_of};
-    ghost use Rattle.query_truth.specs.Kept.{kept};
+    ghost use Rattle.query.specs.Planned.{fields_of_plan};
     ghost use Rattle.groups.specs.Rows.{Row};
-    ghost use Rattle.tables.specs.Folding.{HasRead, ReadsMore, TakesRecord};
-    ghost use Rattle.tables.specs.Sets.{AreTablesOf};
+    ghost use Rattle.tables.specs.Folding.{AreTablesUnder, HasReadUnder, ReadsMoreUnder, TakesRecordUnder};
 
     /// No line has been read.
     pub(crate) fn new(alloc: Global, plan: &Plan) -> Result<Folding, AllocError>
-        ensures { IfOk result (λ folding. HasRead (fields_of_plan plan.now) (form_of_plan plan.now) [] folding []) }
+        ensures { IfOk result (λ folding. HasReadUnder plan.now [] folding []) }
     {
         let tables = Tables::new(alloc, plan.sets(), plan.functions())?;
         Ok(Folding::onto(alloc, tables))
@@ -63,9 +56,9 @@ impl Folding {
         plan: &Plan,
         line: &[u8],
     ) -> Result<(), AllocError>
-        requires { ReadsMore (fields_of_plan plan.now) (form_of_plan plan.now) self.old 1 }
-        ensures { OnOk result ((before : List Row) (seen : List (List ℕ)) → HasRead (fields_of_plan plan.now) (form_of_plan plan.now) before self.old seen
-            → HasRead (fields_of_plan plan.now) (form_of_plan plan.now) before self.new (seen ++ line.now ∷ [])) }
+        requires { ReadsMoreUnder plan.now self.old 1 }
+        ensures { OnOk result ((before : List Row) (seen : List (List ℕ)) → HasReadUnder plan.now before self.old seen
+            → HasReadUnder plan.now before self.new (seen ++ line.now ∷ [])) }
     {
         match reader.read(plan.schema(), line) {
             Ok(taken) => self.take(plan, taken)?,
@@ -79,9 +72,9 @@ impl Folding {
     /// Takes one more record into the tables, where it is kept.
     fn take(&mut self, plan: &Plan, taken: Record) -> Result<(), AllocError>
         requires fits { Fits (fields_of_plan plan.now) taken }
-        requires room { TakesRecord (fields_of_plan plan.now) (form_of_plan plan.now) self.old }
-        ensures tables { OnOk result ((rows : List (List Datum)) → AreTablesOf (sets_of (fields_of_plan plan.now) (form_of_plan plan.now)) (functions_of (fields_of_plan plan.now) (form_of_plan plan.now)) self.old.tables (kept (fields_of_plan plan.now) (form_of_plan plan.now) rows)
-            → AreTablesOf (sets_of (fields_of_plan plan.now) (form_of_plan plan.now)) (functions_of (fields_of_plan plan.now) (form_of_plan plan.now)) self.new.tables (kept (fields_of_plan plan.now) (form_of_plan plan.now) (rows ++ taken ∷ []))) }
+        requires room { TakesRecordUnder plan.now self.old }
+        ensures tables { OnOk result ((rows : List Row) → AreTablesUnder plan.now self.old.tables rows
+            → AreTablesUnder plan.now self.new.tables (rows ++ taken ∷ [])) }
         ensures lines { self.new.lines ≡ self.old.lines }
         ensures refused { self.new.refused.items ≡ self.old.refused.items }
     {
@@ -100,9 +93,9 @@ pub(crate) fn read_lines(
     folding: Folding,
     piece: &[u8],
 ) -> Result<Folding, AllocError>
-    requires { ReadsMore (fields_of_plan plan.now) (form_of_plan plan.now) folding (length (lines piece.now)) }
-    ensures { IfOk result (λ done. (before : List Row) (seen : List (List ℕ)) → HasRead (fields_of_plan plan.now) (form_of_plan plan.now) before folding seen
-        → HasRead (fields_of_plan plan.now) (form_of_plan plan.now) before done (seen ++ lines piece.now)) }
+    requires { ReadsMoreUnder plan.now folding (length (lines piece.now)) }
+    ensures { IfOk result (λ done. (before : List Row) (seen : List (List ℕ)) → HasReadUnder plan.now before folding seen
+        → HasReadUnder plan.now before done (seen ++ lines piece.now)) }
 {
     let mut folding = folding;
     let mut reader = RecordReader::new(alloc);

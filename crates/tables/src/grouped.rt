@@ -1,3 +1,4 @@
+//! The groups of an input, and its refused lines.
 ghost use Rattle.std.specs.Prelude.{◌≡◌, map};
 ghost use Rattle.std.proofs.Props.{props};
 ghost use Rattle.tables.specs.Fitting.{FitSomePlan};
@@ -5,6 +6,7 @@ ghost use Rattle.tables.specs.Found.{row_of};
 
 use groups::Group;
 use lines::LineFault;
+use std::marker::Model;
 
 /// What the grouping sets of a query find in an input: their groups, and the refused lines.
 ///
@@ -18,14 +20,22 @@ pub struct Groups {
     ghost fit: { FitSomePlan (map row_of rows.items) } by { Prim.hlevel props },
 }
 
-impl Groups {
-    ghost use Rattle.tables.specs.Contents.{found_in, refused_in};
+impl Model for Groups {
+    ghost use Rattle.std.specs.Prelude.{map};
+    ghost use Rattle.tables.specs.Found.{row_of};
+    ghost use Rattle.tables.specs.States.{GroupsState};
 
+    ghost Value = { GroupsState };
+
+    ghost view = { λ g. record { found = map row_of g.rows.items; refused = g.refused.items } };
+}
+
+impl Groups {
     /// These groups, which fit the plan of a query, and refused lines.
     pub(crate) fn new(rows: Vec<(usize, Group)>, refused: Vec<(u64, LineFault)>) -> Groups
         requires fit { FitSomePlan (map row_of rows.items) }
-        ensures rows { found_in result ≡ map row_of rows.items }
-        ensures refused { refused_in result ≡ refused.items }
+        ensures rows { result.found ≡ map row_of rows.items }
+        ensures refused { result.refused ≡ refused.items }
     {
         Groups { rows, refused }
     }
@@ -33,15 +43,15 @@ impl Groups {
     /// The groups, each with the index of its grouping set in the expanded list of sets, in no order
     /// that is said.
     pub fn rows(&self) -> &[(usize, Group)]
-        ensures rows { map row_of result.now ≡ found_in self.now }
-        ensures fit { FitSomePlan (found_in self.now) }
+        ensures rows { map row_of result.now ≡ self.now.found }
+        ensures fit { FitSomePlan self.now.found }
     {
         self.rows.as_slice()
     }
 
     /// The refused lines, each by its number in the input, from 1, with its fault, ascending.
     pub fn refused(&self) -> &[(u64, LineFault)]
-        ensures { result.now ≡ refused_in self.now }
+        ensures { result.now ≡ self.now.refused }
     {
         self.refused.as_slice()
     }

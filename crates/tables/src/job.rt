@@ -1,4 +1,4 @@
-// The pieces of an input as a work for a pool.
+//! The pieces of an input as a work for a pool.
 ghost use Rattle.std.specs.Prelude.{◌≡◌, ◌≤◌, ◌<◌, ◌^◌, All, length};
 ghost use Rattle.std.proofs.Props.{props};
 ghost use Rattle.tables.specs.Means.{piece_at};

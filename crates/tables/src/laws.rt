@@ -1,3 +1,4 @@
+//! Laws of partial results and of groups, with no work to do.
 ghost use Rattle.std.specs.Prelude.{◌≡◌, ◌↔◌, ℕ, [], List, length};
 ghost use Rattle.values.specs.Schema.{Field};
 ghost use Rattle.lines.specs.declared.pieces.Piece.{Piece};
@@ -7,7 +8,6 @@ ghost use Rattle.pool.specs.Totals.{sum_below, total};
 ghost use Rattle.groups.specs.Bags.{SameBag};
 ghost use Rattle.tables.specs.declared.grouped.Groups.{Groups};
 ghost use Rattle.tables.specs.declared.partial.Partial.{Partial};
-ghost use Rattle.tables.specs.Contents.{found_in};
 ghost use Rattle.tables.specs.Members.{HasEachRecordOnce};
 ghost use Rattle.tables.specs.Partials.{GivesGroups, StandsFor};
 ghost use Rattle.tables.specs.Means.{both, indexed, mean, mean_at, meaning};
@@ -23,7 +23,7 @@ pub fn order_law()
 /// exactly one row of each grouping set.
 pub fn members_law()
     ensures { (fields : List Field) (q : TreeForm) (groups : Groups) (rows : List Row)
-        → GivesGroups fields q groups rows → HasEachRecordOnce fields q (found_in groups) rows }
+        → GivesGroups fields q groups rows → HasEachRecordOnce fields q groups.found rows }
 {
     groups::members_law();
 }

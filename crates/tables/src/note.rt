@@ -1,3 +1,4 @@
+//! What is noted of a piece.
 use lines::LineFault;
 
 /// What is kept of the lines of a piece, beside their groups.

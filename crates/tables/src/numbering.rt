@@ -1,4 +1,4 @@
-// The refused lines of all pieces by their numbers in the input.
+//! The refused lines of all pieces by their numbers in the input.
 ghost use Rattle.std.specs.Prelude.{◌≡◌, ◌+◌, ◌<◌, ◌++◌, ◌^◌, IfOk, OnOk, All, map};
 ghost use Rattle.std.specs.List.Sorted.{IsPermutation, IsNonDecreasingBy};
 ghost use Rattle.tables.specs.Notes.{AreLinesOf, IsWellNumbered, lines_noted, notes_in, numbered_from};

@@ -1,3 +1,4 @@
+//! Partial results: what is known of some pieces of an input.
 ghost use Rattle.std.specs.Prelude.{◌≡◌, ◌<◌, ◌≤◌, ◌^◌, ◌∷◌, [], All, IfOk, length};
 ghost use Rattle.std.proofs.Props.{props};
 ghost use Rattle.tables.specs.Notes.{IsWellNumbered, lines_noted, notes_in};
@@ -13,6 +14,7 @@ use crate::sets::Tables;
 use crate::shape::Shape;
 use query::Plan;
 use std::alloc::{AllocError, Global};
+use std::marker::Model;
 
 /// The result of a query over some pieces of an input: the groups of their good records that are kept, the counts
 /// of their lines, and their refused lines.
@@ -33,19 +35,31 @@ pub struct Partial {
     ghost numbered: { All IsWellNumbered (notes_in notes) } by { Prim.hlevel props },
 }
 
+impl Model for Partial {
+    ghost use Rattle.std.specs.Coded.{codes};
+    ghost use Rattle.lines.specs.contracts.fault.LineFault as line_fault;
+    ghost use Rattle.query_check.specs.contracts.function.ColumnFunction as column_function;
+    ghost use Rattle.query_check.specs.Resolution.{contents};
+    ghost use Rattle.groups.specs.Inside.Table.{coded_contents};
+    ghost use Rattle.tables.specs.Notes.{notes_in};
+    ghost use Rattle.tables.specs.States.{PartialState};
+
+    ghost Value = { PartialState };
+
+    ghost coded = { Prim.hlevel (codes, coded_contents, column_function.the_row.coded, line_fault.the_row.coded) };
+
+    ghost view = { λ p. record { sets = contents p.shape.sets.items; functions = p.shape.functions.items; tables = p.tables; lines = p.lines; refused = p.refused; notes = notes_in p.notes } };
+}
+
 impl Partial {
     ghost use Rattle.std.specs.Prelude.{[], ◌∷◌, ◌++◌, ◌+◌, ◌↔◌, ℕ, List, IfOk, IsTrue};
     ghost use Rattle.values.specs.Schema.{Field};
     ghost use Rattle.lines.specs.Lines.{lines};
     ghost use Rattle.query_tree.specs.Syntax.{TreeForm};
-    ghost use Rattle.query.specs.Planned.{fields_of_plan, form_of_plan};
-    ghost use Rattle.query_check.specs.Sets.{sets_of};
-    ghost use Rattle.query_check.specs.Functions.{functions_of};
-    ghost use Rattle.tables.specs.Contents.{found_in, refused_in};
-    ghost use Rattle.tables.specs.Partials.{GivesGroups, HaveOneShape, IsPartialOf, IsResultOf, StandsFor, lines_counted, refused_counted};
+    ghost use Rattle.query.specs.Planned.{fields_of_plan};
+    ghost use Rattle.tables.specs.Partials.{HaveOneShape, IsPartialOf, StandsFor};
+    ghost use Rattle.tables.specs.Planned.{AreFittingUnder, GivesGroupsUnder, HasEachRecordOnceUnder, IsPartialUnder, IsResultUnder, StandsForUnder};
     ghost use Rattle.tables.specs.Pieces.{AreInOrder, AreNumbered, HaveOwnIndexes, IndexedPiece, IsCutInto, all_lines, records_of, refused_numbered, refused_within};
-    ghost use Rattle.tables.specs.Fitting.{AreFitting};
-    ghost use Rattle.tables.specs.Members.{HasEachRecordOnce};
 
     /// The result over no pieces.
     ///
@@ -53,7 +67,7 @@ impl Partial {
     ///
     /// `AllocError` where there is no memory for it.
     pub fn empty(alloc: Global, plan: &Plan) -> Result<Partial, AllocError>
-        ensures stands { IfOk result (λ partial. StandsFor (fields_of_plan plan.now) (form_of_plan plan.now) partial []) }
+        ensures stands { IfOk result (λ partial. StandsForUnder plan.now partial []) }
     {
         let shape = Shape::of(alloc, plan)?;
         let folding = Folding::new(alloc, plan)?;
@@ -80,7 +94,7 @@ impl Partial {
     ) -> Result<Partial, AllocError>
         requires { length piece.now < 2 ^ 63 }
         ensures stands { IfOk result (λ partial.
-            StandsFor (fields_of_plan plan.now) (form_of_plan plan.now) partial (record { index = index; bytes = piece.now } ∷ [])) }
+            StandsForUnder plan.now partial (record { index = index; bytes = piece.now } ∷ [])) }
     {
         let shape = Shape::of(alloc, plan)?;
         let folding = Folding::new(alloc, plan)?;
@@ -115,11 +129,11 @@ impl Partial {
     ///
     /// `AllocError` where there is no memory for it; what was there is given up then.
     pub fn fold_onto(self, plan: &Plan, index: u32, piece: &[u8]) -> Result<Partial, AllocError>
-        requires of_plan { (pieces : List IndexedPiece) × StandsFor (fields_of_plan plan.now) (form_of_plan plan.now) self pieces }
-        requires few { lines_counted self + length (lines piece.now) < 2 ^ 63 }
-        ensures stands { IfOk result (λ partial. (pieces : List IndexedPiece) → StandsFor (fields_of_plan plan.now) (form_of_plan plan.now) self pieces
-            → StandsFor (fields_of_plan plan.now) (form_of_plan plan.now) partial (pieces ++ record { index = index; bytes = piece.now } ∷ [])) }
-        ensures of_plan { IfOk result (IsPartialOf (fields_of_plan plan.now) (form_of_plan plan.now)) }
+        requires of_plan { IsPartialUnder plan.now self }
+        requires few { self.lines + length (lines piece.now) < 2 ^ 63 }
+        ensures stands { IfOk result (λ partial. (pieces : List IndexedPiece) → StandsForUnder plan.now self pieces
+            → StandsForUnder plan.now partial (pieces ++ record { index = index; bytes = piece.now } ∷ [])) }
+        ensures of_plan { IfOk result (IsPartialUnder plan.now) }
     {
         let Partial {
             alloc,
@@ -149,7 +163,7 @@ impl Partial {
 
     /// The number of all lines of the pieces.
     pub fn lines(&self) -> u64
-        ensures lines { result ≡ lines_counted self.now }
+        ensures lines { result ≡ self.now.lines }
         ensures of_pieces { (fields : List Field) (q : TreeForm) (pieces : List IndexedPiece) → StandsFor fields q self.now pieces → result ≡ length (all_lines pieces) }
         ensures few { result < 2 ^ 63 }
     {
@@ -158,9 +172,9 @@ impl Partial {
 
     /// The number of all refused lines of the pieces.
     pub fn refused(&self) -> u64
-        ensures refused { result ≡ refused_counted self.now }
+        ensures refused { result ≡ self.now.refused }
         ensures of_pieces { (fields : List Field) (q : TreeForm) (pieces : List IndexedPiece) → StandsFor fields q self.now pieces → result ≡ length (refused_within fields pieces) }
-        ensures fewer { result ≤ lines_counted self.now }
+        ensures fewer { result ≤ self.now.lines }
     {
         self.refused
     }
@@ -181,7 +195,7 @@ impl Partial {
     /// `AllocError` where there is no memory for it; both are given up then.
     pub fn merge(self, other: Partial) -> Result<Partial, AllocError>
         requires one_shape { HaveOneShape self other }
-        requires few { lines_counted self + lines_counted other < 2 ^ 63 }
+        requires few { self.lines + other.lines < 2 ^ 63 }
         ensures stands { IfOk result (λ merged. (fields : List Field) (q : TreeForm) (pieces more : List IndexedPiece)
             → StandsFor fields q self pieces → StandsFor fields q other more → StandsFor fields q merged (pieces ++ more)) }
         ensures of_plan { IfOk result (λ merged. (fields : List Field) (q : TreeForm)
@@ -215,23 +229,23 @@ impl Partial {
     ///
     /// `AllocError` where there is no memory for them.
     pub fn finish(self, plan: &Plan) -> Result<Groups, AllocError>
-        requires of_plan { IsPartialOf (fields_of_plan plan.now) (form_of_plan plan.now) self }
-        ensures rows { IfOk result (λ groups. (pieces : List IndexedPiece) → StandsFor (fields_of_plan plan.now) (form_of_plan plan.now) self pieces
-            → GivesGroups (fields_of_plan plan.now) (form_of_plan plan.now) groups (records_of (fields_of_plan plan.now) pieces)) }
-        ensures fit { IfOk result (λ groups. (pieces : List IndexedPiece) → StandsFor (fields_of_plan plan.now) (form_of_plan plan.now) self pieces
-            → AreFitting (fields_of_plan plan.now) (form_of_plan plan.now) (found_in groups)) }
+        requires of_plan { IsPartialUnder plan.now self }
+        ensures rows { IfOk result (λ groups. (pieces : List IndexedPiece) → StandsForUnder plan.now self pieces
+            → GivesGroupsUnder plan.now groups (records_of (fields_of_plan plan.now) pieces)) }
+        ensures fit { IfOk result (λ groups. (pieces : List IndexedPiece) → StandsForUnder plan.now self pieces
+            → AreFittingUnder plan.now groups.found) }
         // Each record that WHERE keeps is a member of one row of each grouping set.
-        ensures members { IfOk result (λ groups. (pieces : List IndexedPiece) → StandsFor (fields_of_plan plan.now) (form_of_plan plan.now) self pieces
-            → HasEachRecordOnce (fields_of_plan plan.now) (form_of_plan plan.now) (found_in groups) (records_of (fields_of_plan plan.now) pieces)) }
+        ensures members { IfOk result (λ groups. (pieces : List IndexedPiece) → StandsForUnder plan.now self pieces
+            → HasEachRecordOnceUnder plan.now groups.found (records_of (fields_of_plan plan.now) pieces)) }
         // The refused lines, where no two pieces have one index.
-        ensures numbered { IfOk result (λ groups. (pieces : List IndexedPiece) → StandsFor (fields_of_plan plan.now) (form_of_plan plan.now) self pieces
-            → HaveOwnIndexes pieces → AreNumbered (fields_of_plan plan.now) pieces (refused_in groups)) }
+        ensures numbered { IfOk result (λ groups. (pieces : List IndexedPiece) → StandsForUnder plan.now self pieces
+            → HaveOwnIndexes pieces → AreNumbered (fields_of_plan plan.now) pieces groups.refused) }
         // Where the pieces stand in their order, these are their refused lines one after the other.
-        ensures refused { IfOk result (λ groups. (pieces : List IndexedPiece) → StandsFor (fields_of_plan plan.now) (form_of_plan plan.now) self pieces
-            → AreInOrder pieces → refused_in groups ≡ refused_numbered (fields_of_plan plan.now) pieces) }
+        ensures refused { IfOk result (λ groups. (pieces : List IndexedPiece) → StandsForUnder plan.now self pieces
+            → AreInOrder pieces → groups.refused ≡ refused_numbered (fields_of_plan plan.now) pieces) }
         // Where the pieces are those of an input that was cut between its lines, it is the result of the input.
-        ensures whole { IfOk result (λ groups. (input : List ℕ) (pieces : List IndexedPiece) → StandsFor (fields_of_plan plan.now) (form_of_plan plan.now) self pieces
-            → IsCutInto input pieces → IsResultOf (fields_of_plan plan.now) (form_of_plan plan.now) groups input) }
+        ensures whole { IfOk result (λ groups. (input : List ℕ) (pieces : List IndexedPiece) → StandsForUnder plan.now self pieces
+            → IsCutInto input pieces → IsResultUnder plan.now groups input) }
     {
         let Partial {
             alloc,

@@ -1,4 +1,4 @@
-// The groups of all grouping sets, each beside the index of its set.
+//! The groups of all grouping sets, each beside the index of its set.
 ghost use Rattle.std.specs.Prelude.{◌≡◌, ◌++◌, ℕ, IfOk, OnOk, List, map};
 ghost use Rattle.query_check.specs.declared.function.ColumnFunction.{ColumnFunction};
 ghost use Rattle.groups.specs.Rows.{Row};

@@ -1,3 +1,4 @@
+//! Tables of a list of grouping sets.
 ghost use Rattle.std.specs.Prelude.{ℕ, IfOk, List};
 ghost use Rattle.query_check.specs.declared.function.ColumnFunction.{ColumnFunction};
 ghost use Rattle.groups.specs.Rows.{Row};
@@ -17,7 +18,7 @@ pub(crate) struct Tables {
 
 impl Model for Tables {
     ghost use Rattle.std.specs.Prelude.{List};
-    ghost use Rattle.std.specs.Coded.{Coded, coded_list};
+    ghost use Rattle.std.specs.Coded.{coded_list};
     ghost use Rattle.groups.specs.Inside.Table.{Contents, coded_contents};
 
     ghost Value = { List Contents };
@@ -28,7 +29,7 @@ impl Model for Tables {
 }
 
 impl Tables {
-    ghost use Rattle.std.specs.Prelude.{◌≡◌, ℕ, [], ◌∷◌, ◌++◌, nat_eq, All, OnOk, IfOk, List};
+    ghost use Rattle.std.specs.Prelude.{ℕ, [], ◌∷◌, ◌++◌, nat_eq, All, OnOk, IfOk, List};
     ghost use Rattle.std.specs.List.{IsDistinct};
     ghost use Rattle.values.specs.Datum.{data_of};
     ghost use Rattle.query_check.specs.declared.function.ColumnFunction.{ColumnFunction};
@@ -61,7 +62,7 @@ impl Tables {
     ) -> Result<(), AllocError>
         requires different { All (IsDistinct nat_eq) (places_of sets.now) }
         requires narrow { IsNarrowRow (data_of row.items) }
-        requires room { AllTakeOne (places_of sets.now) functions.now self.old }
+        requires room { ∥ AllTakeOne (places_of sets.now) functions.now self.old ∥₁ }
         ensures added { OnOk result ((rows : List Row) → AreTablesOf (places_of sets.now) functions.now self.old rows
             → AreTablesOf (places_of sets.now) functions.now self.new (rows ++ data_of row.items ∷ [])) }
     {

@@ -1,3 +1,4 @@
+//! What two partial results have the same that can be merged.
 ghost use Rattle.std.specs.Prelude.{◌≡◌, IfOk, IsTrue, ◌↔◌};
 ghost use Rattle.query_check.specs.Resolution.{contents};
 

@@ -1,7 +1,6 @@
-//! The texts of a report, and the laws of its rows.
+//! The report and the refused list of one input, and the laws.
 ghost use Rattle.std.specs.Prelude.{All, IsTrue};
 ghost use Rattle.report.specs.Report.{NamesColumn};
-ghost use Rattle.tables.specs.Contents.{refused_in};
 
 use lines::LineFault;
 use query::{Plan, check, parse};
@@ -19,7 +18,7 @@ fn plan_of(alloc: Global, columns: &str, text: &str) -> Result<Plan, Fail> {
 
 /// Whether the columns that faults name are in the schema.
 fn are_named(groups: &Groups, schema: &Schema) -> bool
-    ensures { IsTrue result → All (λ line. NamesColumn schema.now line.1) (refused_in groups.now) }
+    ensures { IsTrue result → All (λ line. NamesColumn schema.now line.1) groups.now.refused }
 {
     let width = schema.columns().len();
     groups.refused().iter().all(|(_, fault)| match fault {

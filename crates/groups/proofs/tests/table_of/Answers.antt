@@ -8,7 +8,7 @@ loop-fields-init c = ([], (c.in_ok-table.ensures.empty, refl))
 pub add_one-requires-clause-room : goal.add_one-requires-clause-room
 add_one-requires-clause-room c =
     let i = c.loop-fields.invariant in
-    record { rows = i.0; is_table = i.1.0; few = omega (arith, i.1.1, c.loop-fields-test.true, c.requires.few) }
+    ∣ record { rows = i.0; is_table = i.1.0; few = omega (arith, i.1.1, c.loop-fields-test.true, c.requires.few) } ∣₁
 
 pub loop-fields-preserved : goal.loop-fields-preserved
 loop-fields-preserved c =

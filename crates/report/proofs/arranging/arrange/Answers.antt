@@ -3,12 +3,11 @@ use Rattle.std.specs.List.{AllByRecursion}
 use Rattle.query_check.specs.Sets.{sets_of}
 use Rattle.query.specs.Planned.{fields_of_plan, form_of_plan}
 use Rattle.groups.specs.declared.group.Group.{Group}
-use Rattle.tables.specs.Contents.{found_in}
 use Rattle.tables.specs.Found.{Found, row_of}
 use Rattle.tables.specs.Fitting.{AreFitting}
 use Rattle.report.specs.Order.{arranged, before, in_order}
 use Rattle.report.specs.Shown.{cells_of, row_shown}
-use Rattle.report.specs.declared.row.Row.{Row}
+use Rattle.report.specs.declared.row.ReportRow.{ReportRow}
 use Rattle.report.proofs.Filtering.{kept-fit}
 use Rattle.report.proofs.Keeping.{within-kept}
 use Rattle.report.proofs.Wide.{all-wide}
@@ -27,7 +26,7 @@ pub loop-group-init : goal.loop-group-init
 loop-group-init c =
     let fields = fields_of_plan c.args.plan.now in
     let t = form_of_plan c.args.plan.now in
-    let found = found_in c.args.groups.now in
+    let found = c.args.groups.now.found in
     let shows = λ (r : Bor (ℕ × Group)). row_of r.now in
     let rest : c.into_iter-group-iterator.result.rest.items ≡ c.in_ok-ordered.ordered.items = c.into_iter-group-iterator.ensures.into_iter_gives.0 in
     let left : map shows c.into_iter-group-iterator.result.rest.items ≡ arranged fields t found =
@@ -36,7 +35,7 @@ loop-group-init c =
     ∙ ap (in_order (before fields t)) c.in_ok-kept.ensures
     ∙ ap (arranged fields t) c.rows.ensures.rows in
     record {
-      shown = ap (λ (rows : List Row). map cells_of rows ++ map (row_shown fields t) (map shows c.into_iter-group-iterator.result.rest.items)) c.in_ok-rows.ensures.items ∙ ap (map (row_shown fields t)) left;
+      shown = ap (λ (rows : List ReportRow). map cells_of rows ++ map (row_shown fields t) (map shows c.into_iter-group-iterator.result.rest.items)) c.in_ok-rows.ensures.items ∙ ap (map (row_shown fields t)) left;
       within = subst (λ (f : List Found). AllByRecursion (λ x. x.0 < length (sets_of fields t)) f) (sym left) (within-kept fields t found c.requires);
     }
 
@@ -44,4 +43,4 @@ pub returns-clause-wide : goal.returns-clause-wide
 returns-clause-wide c =
     let fields = fields_of_plan c.args.plan.now in
     let t = form_of_plan c.args.plan.now in
-    all-wide fields t c.loop-group.rows.items (map (row_shown fields t) (map (λ (r : Bor (ℕ × Group)). row_of r.now) c.loop-group.group-iterator.rest.items)) (arranged fields t (found_in c.args.groups.now)) c.loop-group.invariant.shown
+    all-wide fields t c.loop-group.rows.items (map (row_shown fields t) (map (λ (r : Bor (ℕ × Group)). row_of r.now) c.loop-group.group-iterator.rest.items)) (arranged fields t c.args.groups.now.found) c.loop-group.invariant.shown

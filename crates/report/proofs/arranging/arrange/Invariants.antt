@@ -3,7 +3,6 @@ use Rattle.std.specs.List.{AllByRecursion}
 use Rattle.query_check.specs.Sets.{sets_of}
 use Rattle.query.specs.Planned.{fields_of_plan, form_of_plan}
 use Rattle.groups.specs.declared.group.Group.{Group}
-use Rattle.tables.specs.Contents.{found_in}
 use Rattle.tables.specs.Found.{row_of}
 use Rattle.report.specs.Report.{rows_shown}
 use Rattle.report.specs.Shown.{cells_of, row_shown}
@@ -12,6 +11,6 @@ use Rattle.report.proofs.arranging.arrange.Given as goal
 -- the rows so far, and then those of the groups that are left, whose indexes are those of sets
 abbrev pub invariant-loop-group : goal.invariant-loop-group
 invariant-loop-group l = record {
-  shown : map cells_of l.rows.items ++ map (row_shown (fields_of_plan l.plan) (form_of_plan l.plan)) (map (λ (r : Bor (ℕ × Group)). row_of r.now) l.group-iterator.rest.items) ≡ rows_shown (fields_of_plan l.plan) (form_of_plan l.plan) (found_in l.groups);
+  shown : map cells_of l.rows.items ++ map (row_shown (fields_of_plan l.plan) (form_of_plan l.plan)) (map (λ (r : Bor (ℕ × Group)). row_of r.now) l.group-iterator.rest.items) ≡ rows_shown (fields_of_plan l.plan) (form_of_plan l.plan) l.groups.found;
   within : AllByRecursion (λ x. x.0 < length (sets_of (fields_of_plan l.plan) (form_of_plan l.plan))) (map (λ (r : Bor (ℕ × Group)). row_of r.now) l.group-iterator.rest.items);
 }

@@ -1,7 +1,6 @@
 use Rattle.std.proofs.Common.{◌≡◌, take}
-use Rattle.tables.specs.Contents.{refused_in}
 use Rattle.report.specs.Text.{refused_bytes}
 use Rattle.report.proofs.refused.refused_text.Given as goal
 
 abbrev pub invariant-loop-number : goal.invariant-loop-number
-invariant-loop-number l = l.text.items ≡ refused_bytes l.schema (take l.number-index (refused_in l.groups))
+invariant-loop-number l = l.text.items ≡ refused_bytes l.schema (take l.number-index l.groups.refused)

@@ -1,8 +1,8 @@
-use Rattle.std.proofs.Common.{◌≡◌, ◌+◌, ◌<◌, ◌≤◌, ◌^◌, ◌++◌, ◌∷◌, [], ℕ, List, length, rules, subst, sym, ap, ◌∙◌, append_assoc, append-nil, arith, length-append}
+use Rattle.std.proofs.Common.{◌≡◌, ◌+◌, ◌<◌, ◌^◌, ◌++◌, ◌∷◌, [], ℕ, List, length, rules, subst, sym, ap, ◌∙◌, append_assoc, append-nil, arith, length-append}
+use Rattle.std.proofs.Math.Logic.{∥∥₁_map}
 use Rattle.lines.specs.Lines.{lines}
 use Rattle.query.specs.Planned.{fields_of_plan, form_of_plan}
 use Rattle.tables.specs.Folding.{HasRead}
-use Rattle.tables.proofs.Reading.{HasReadSome}
 use Rattle.tables.proofs.folding.read_lines.Goals as goal
 
 -- with one more there are at most as many as all
@@ -24,14 +24,15 @@ loop-line-init c = λ before seen h. record {
 pub read-requires : goal.read-requires
 read-requires c =
     let left : c.loop-line.line-iterator ≡ c.in-Some.line.now ∷ c.next.new.self = search rules in
-    let v = c.loop-line.invariant c.requires.before c.requires.seen c.requires.has_read in
+    ∥∥₁_map c.requires (λ r.
+    let v = c.loop-line.invariant r.before r.seen r.has_read in
     record {
-      before = c.requires.before;
+      before = r.before;
       seen = v.seen;
       has_read = v.has_read;
-      few = few (length c.requires.before) v.seen c.next.new.self c.requires.seen (lines c.args.piece.now) c.in-Some.line.now
-          (ap (λ ls. v.seen ++ ls) (sym left) ∙ v.is) c.requires.few;
-    }
+      few = few (length r.before) v.seen c.next.new.self r.seen (lines c.args.piece.now) c.in-Some.line.now
+          (ap (λ ls. v.seen ++ ls) (sym left) ∙ v.is) r.few;
+    })
 
 pub loop-line-preserved : goal.loop-line-preserved
 loop-line-preserved c = λ before seen h.

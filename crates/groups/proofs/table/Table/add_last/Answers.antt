@@ -5,14 +5,12 @@ use Rattle.groups.specs.Rows.{Row}
 use Rattle.groups.specs.Groups.{Key, project}
 use Rattle.groups.specs.Inside.Moving.{AreArgumentsKept}
 use Rattle.groups.specs.Inside.Table.{IsAdded, IsTableOf}
-use Rattle.groups.proofs.Meaning.{table-added, table-place}
+use Rattle.groups.proofs.Meaning.{table-added, table-takes}
 use Rattle.groups.proofs.Moves.{added-arguments}
 use Rattle.groups.proofs.table.Table.add_last.Goals as goal
 
 pub add_to_group-requires-clause-place : goal.add_to_group-requires-clause-place
-add_to_group-requires-clause-place c =
-    let r = c.requires.room in
-    table-place c.args.set.now c.args.functions.now c.args.self.now r.rows r.is_table r.few (data_of c.in_ok-key.key.items)
+add_to_group-requires-clause-place c = table-takes c.args.set.now c.args.functions.now c.args.self.now c.requires.room (data_of c.in_ok-key.key.items)
 
 pub returns : goal.returns
 returns c =

@@ -1,4 +1,5 @@
 use Rattle.std.proofs.Common.{◌+◌, ◌++◌, ◌∷◌, [], sym, ap, subst, ◌∙◌, arith}
+use Rattle.std.proofs.Math.Logic.{∥∥₁_map}
 use Rattle.query.specs.Planned.{fields_of_plan, form_of_plan}
 use Rattle.lines.specs.declared.fault.LineRefusal.{LineRefusal}
 use Rattle.lines.specs.Refusal.{IsRefusal}
@@ -14,11 +15,11 @@ pub take-requires-clause-room : goal.take-requires-clause-room
 take-requires-clause-room c =
     let fields = fields_of_plan c.args.plan.now in
     let q = form_of_plan c.args.plan.now in
-    record {
-      rows = kept fields q (c.requires.before ++ good_of fields c.requires.seen);
-      are_tables = c.requires.has_read.tables;
-      few = (let h = length-kept_behind fields q c.requires.before c.requires.seen in omega (arith, h, c.requires.few));
-    }
+    ∥∥₁_map c.requires (λ r. record {
+      rows = kept fields q (r.before ++ good_of fields r.seen);
+      are_tables = r.has_read.tables;
+      few = (let h = length-kept_behind fields q r.before r.seen in omega (arith, h, r.few));
+    })
 
 pub returns : goal.returns
 returns c = λ before seen h.

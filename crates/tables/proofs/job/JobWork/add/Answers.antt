@@ -12,7 +12,7 @@ fold_onto-requires-clause-of_plan c =
     let fields = fields_of_plan c.args.self.now.plan.now in
     let q = form_of_plan c.args.self.now.plan.now in
     let x = c.requires.part in
-    (x.0, stands-from_mean fields q c.args.part x.0 x.1)
+    ∣ (x.0, stands-from_mean fields q c.args.part x.0 x.1) ∣₁
 
 pub returns : goal.returns
 returns c =

@@ -11,12 +11,17 @@ invariant_of-result c =
     let q = form_of_plan c.args.plan.now in
     let shape = c.in_ok-shape.shape in
     let tables = c.in_ok-folding.folding.tables in
-    let none = no-notes c.new-2.result.items c.new-2.ensures.items in
-    record {
-      few = omega arith;
-      fewer = omega arith;
-      within = within-shape (sets_of fields q) (functions_of fields q) shape.functions.items shape.sets.items 0 tables c.in_ok-shape.ensures.sets c.in_ok-shape.ensures.functions
-          (all-within (sets_of fields q) (functions_of fields q) tables [] 0 (omega arith) c.in_ok-folding.ensures.tables);
-      counted = none.0;
-      numbered = none.1;
-    }
+    let none = no-notes c.new-2.result.items c.new-2.ensures.items in (
+      omega arith,
+      (
+        omega arith,
+        (
+          within-shape (sets_of fields q) (functions_of fields q) shape.functions.items shape.sets.items 0 tables c.in_ok-shape.ensures.sets c.in_ok-shape.ensures.functions
+              (all-within (sets_of fields q) (functions_of fields q) tables [] 0 (omega arith) c.in_ok-folding.ensures.tables),
+          (
+            none.0,
+            (none.1, tt),
+          ),
+        ),
+      ),
+    )

@@ -6,11 +6,12 @@ use Rattle.query.specs.Planned.{fields_of_plan, form_of_plan}
 use Rattle.query_check.specs.Functions.{functions_of}
 use Rattle.query_check.specs.Sets.{sets_of}
 use Rattle.query_truth.specs.Kept.{kept}
-use Rattle.tables.specs.Contents.{found_in}
 use Rattle.tables.specs.Found.{Found, row_of}
 use Rattle.tables.specs.Notes.{notes_in}
+use Rattle.tables.specs.Partials.{StandsFor}
 use Rattle.tables.specs.Pieces.{AreNumbered, records_of}
 use Rattle.tables.specs.Results.{all_found, query_found}
+use Rattle.tables.specs.States.{PartialState}
 use Rattle.tables.proofs.Cutting.{cut-records, cut-refused}
 use Rattle.tables.proofs.Fitting.{found-fit}
 use Rattle.tables.proofs.Numbered.{lines-in_order, lines-numbered, numbered-in_order}
@@ -26,50 +27,58 @@ new-requires c =
     record {
       fit = ∥∥₁_map c.requires.of_plan (λ s.
           let rows = kept fields q (records_of fields s.0) in
-          (plan, found-fit fields q rows found (c.in_ok-rows.ensures (sets_of fields q) (functions_of fields q) rows s.1.tables) (kept-fits fields q s.0)));
+          let p = subst (λ (v : PartialState). StandsFor fields q v s.0) (sym c.self.view_is) s.1 in
+          (plan, found-fit fields q rows found (c.in_ok-rows.ensures (sets_of fields q) (functions_of fields q) rows p.tables) (kept-fits fields q s.0)));
     }
 
 pub returns-clause-fit : goal.returns-clause-fit
-returns-clause-fit c = λ pieces p.
+returns-clause-fit c = λ pieces given.
     let fields = fields_of_plan c.args.plan.now in
     let q = form_of_plan c.args.plan.now in
+    let p = subst (λ (v : PartialState). StandsFor fields q v pieces) (sym c.self.view_is) given in
     let rows = kept fields q (records_of fields pieces) in
     let found = all_found (sets_of fields q) (functions_of fields q) rows in
-    found-fit fields q rows (found_in c.new.result)
+    found-fit fields q rows c.new.result.found
     (subst (λ (fs : List Found). SameBag fs found) (sym c.new.ensures.rows) (c.in_ok-rows.ensures (sets_of fields q) (functions_of fields q) rows p.tables))
     (kept-fits fields q pieces)
 
 pub returns-clause-members : goal.returns-clause-members
-returns-clause-members c = λ pieces p.
+returns-clause-members c = λ pieces given.
     let fields = fields_of_plan c.args.plan.now in
     let q = form_of_plan c.args.plan.now in
+    let p = subst (λ (v : PartialState). StandsFor fields q v pieces) (sym c.self.view_is) given in
     let rows = records_of fields pieces in
     c.members_law.ensures fields q c.new.result rows
     (subst (λ (fs : List Found). SameBag fs (query_found fields q rows)) (sym c.new.ensures.rows)
     (c.in_ok-rows.ensures (sets_of fields q) (functions_of fields q) (kept fields q rows) p.tables))
 
 pub returns-clause-numbered : goal.returns-clause-numbered
-returns-clause-numbered c = λ pieces p own.
+returns-clause-numbered c = λ pieces given own.
     let fields = fields_of_plan c.args.plan.now in
+    let q = form_of_plan c.args.plan.now in
+    let p = subst (λ (v : PartialState). StandsFor fields q v pieces) (sym c.self.view_is) given in
     subst (AreNumbered fields pieces) (sym c.new.ensures.refused)
-    (lines-numbered fields pieces (notes_in c.args.self.notes) c.in_ok-refused.refused.items own p.notes c.in_ok-refused.ensures)
+    (lines-numbered fields pieces (notes_in c.self.inside.notes) c.in_ok-refused.refused.items own p.notes c.in_ok-refused.ensures)
 
 pub returns-clause-refused : goal.returns-clause-refused
-returns-clause-refused c = λ pieces p o.
+returns-clause-refused c = λ pieces given o.
     let fields = fields_of_plan c.args.plan.now in
+    let q = form_of_plan c.args.plan.now in
+    let p = subst (λ (v : PartialState). StandsFor fields q v pieces) (sym c.self.view_is) given in
     c.new.ensures.refused
-    ∙ lines-in_order fields pieces (notes_in c.args.self.notes) c.in_ok-refused.refused.items o p.notes c.in_ok-refused.ensures
+    ∙ lines-in_order fields pieces (notes_in c.self.inside.notes) c.in_ok-refused.refused.items o p.notes c.in_ok-refused.ensures
     ∙ numbered-in_order fields pieces o
 
 pub returns-clause-whole : goal.returns-clause-whole
-returns-clause-whole c = λ input pieces p w.
+returns-clause-whole c = λ input pieces given w.
     let fields = fields_of_plan c.args.plan.now in
     let q = form_of_plan c.args.plan.now in
+    let p = subst (λ (v : PartialState). StandsFor fields q v pieces) (sym c.self.view_is) given in
     record {
-      rows = subst (λ (rows : List Row). SameBag (found_in c.new.result) (query_found fields q rows)) (cut-records fields input pieces w)
+      rows = subst (λ (rows : List Row). SameBag c.new.result.found (query_found fields q rows)) (cut-records fields input pieces w)
           (subst (λ (fs : List Found). SameBag fs (query_found fields q (records_of fields pieces))) (sym c.new.ensures.rows)
           (c.in_ok-rows.ensures (sets_of fields q) (functions_of fields q) (kept fields q (records_of fields pieces)) p.tables));
       refused = c.new.ensures.refused
-          ∙ lines-in_order fields pieces (notes_in c.args.self.notes) c.in_ok-refused.refused.items w.in_order p.notes c.in_ok-refused.ensures
+          ∙ lines-in_order fields pieces (notes_in c.self.inside.notes) c.in_ok-refused.refused.items w.in_order p.notes c.in_ok-refused.ensures
           ∙ cut-refused fields input pieces w;
     }

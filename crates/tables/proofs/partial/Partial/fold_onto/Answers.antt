@@ -1,4 +1,7 @@
-use Rattle.std.proofs.Common.{◌≡◌, ◌+◌, ◌<◌, ◌≤◌, ◌++◌, ◌∷◌, [], List, length, map, sym, ap, subst, ◌∙◌, arith}
+use native.Mathlib.Nat.{ℕ_set}
+use Rattle.std.proofs.Common.{◌≡◌, ◌+◌, ◌++◌, ◌∷◌, [], List, length, map, sym, ap, subst, ◌∙◌, arith}
+use Rattle.std.proofs.Math.Logic.{∥∥₁_elim, ∥∥₁_map}
+use Rattle.std.proofs.Props.{props}
 use Rattle.std.proofs.lemmas.List.{map-append}
 use Rattle.lines.specs.Lines.{lines}
 use Rattle.groups.specs.Bags.{SameBag}
@@ -8,11 +11,12 @@ use Rattle.query_check.specs.Functions.{functions_of}
 use Rattle.query_check.specs.Sets.{sets_of}
 use Rattle.query_truth.specs.Kept.{kept}
 use Rattle.tables.specs.declared.note.Note.{Note}
-use Rattle.tables.specs.Folding.{HasRead, good_of}
-use Rattle.tables.specs.Notes.{Noted, note_in, note_of}
+use Rattle.tables.specs.Folding.{HasRead, good_of, refused_of}
+use Rattle.tables.specs.Notes.{IsWellNumbered, Noted, note_in, note_of}
 use Rattle.tables.specs.Partials.{StandsFor}
 use Rattle.tables.specs.Pieces.{IndexedPiece, records_of}
 use Rattle.tables.specs.Sets.{AreTablesOf}
+use Rattle.tables.specs.States.{PartialState}
 use Rattle.tables.proofs.Growing.{begun, few-records, lines-more, notes-more, one-noted_more, records-more, refused-more}
 use Rattle.tables.proofs.Merging.{all-within, within-shape}
 use Rattle.tables.proofs.Reading.{length-kept_behind, length-refused_of, well-numbered}
@@ -21,62 +25,79 @@ use Rattle.tables.proofs.partial.Partial.fold_onto.Goals as goal
 pub read_lines-requires : goal.read_lines-requires
 read_lines-requires c =
     let fields = fields_of_plan c.args.plan.now in
-    let pieces = c.requires.of_plan.0 in
-    let p = c.requires.of_plan.1 in
-    let few = few-records fields pieces in
-    let count = p.lines in
+    let q = form_of_plan c.args.plan.now in
+    ∥∥₁_map c.requires.of_plan (λ s.
+    let p = subst (λ (v : PartialState). StandsFor fields q v s.0) (sym c.self.view_is) s.1 in
+    let few = few-records fields s.0 in
+    let count = s.1.lines in
     record {
-      before = records_of fields pieces;
+      before = records_of fields s.0;
       seen = [];
-      has_read = begun fields (form_of_plan c.args.plan.now) pieces c.args.self.tables c.onto-folding.result p.tables c.onto-folding.ensures.tables c.onto-folding.ensures.lines c.onto-folding.ensures.refused;
+      has_read = begun fields q s.0 c.self.inside.tables c.onto-folding.result p.tables c.onto-folding.ensures.tables c.onto-folding.ensures.lines c.onto-folding.ensures.refused;
       few = omega (arith, few, count, c.requires.few);
-    }
+    })
 
 pub overflow_add-result : goal.overflow_add-result
 overflow_add-result c =
     let fields = fields_of_plan c.args.plan.now in
-    let pieces = c.requires.of_plan.0 in
-    let p = c.requires.of_plan.1 in
-    let read = c.in_ok-folding.ensures (records_of fields pieces) []
-    (begun fields (form_of_plan c.args.plan.now) pieces c.args.self.tables c.onto-folding.result p.tables c.onto-folding.ensures.tables c.onto-folding.ensures.lines c.onto-folding.ensures.refused) in
-    let count = read.lines in
-    let fewer = c.args.self.fewer in
+    let q = form_of_plan c.args.plan.now in
+    let self = c.self.inside in
+    let folding = c.in_ok-folding.folding in
+    let ls = lines c.args.piece.now in
+    let same : self.lines ≡ c.args.self.lines = ap (λ (v : PartialState). v.lines) c.self.view_is in
+    let read : (s : (pieces : List IndexedPiece) × StandsFor fields q c.args.self pieces) → HasRead fields q (records_of fields s.0) folding ls = λ s.
+    let p = subst (λ (v : PartialState). StandsFor fields q v s.0) (sym c.self.view_is) s.1 in
+    c.in_ok-folding.ensures (records_of fields s.0) []
+    (begun fields q s.0 self.tables c.onto-folding.result p.tables c.onto-folding.ensures.tables c.onto-folding.ensures.lines c.onto-folding.ensures.refused) in
+    let count : folding.lines ≡ length ls = ∥∥₁_elim c.requires.of_plan (ℕ_set _ _) (λ s. (read s).lines) in
+    let listed : length folding.refused.items ≡ length (refused_of fields ls) = ∥∥₁_elim c.requires.of_plan (ℕ_set _ _) (λ s. ap length (read s).refused) in
+    let fewer = self.fewer in
     let n = c.len-more.ensures in
-    let r = ap length read.refused in
-    let m = length-refused_of fields (lines c.args.piece.now) in
-    omega (arith, n, r, m, count, fewer, c.requires.few)
+    let m = length-refused_of fields ls in
+    omega (arith, n, listed, m, count, fewer, same, c.requires.few)
 
 pub invariant_of-result : goal.invariant_of-result
 invariant_of-result c =
     let fields = fields_of_plan c.args.plan.now in
     let q = form_of_plan c.args.plan.now in
-    let pieces = c.requires.of_plan.0 in
-    let p = c.requires.of_plan.1 in
-    let self = c.args.self in
+    let self = c.self.inside in
     let folding = c.in_ok-folding.folding in
     let ls = lines c.args.piece.now in
-    let read = c.in_ok-folding.ensures (records_of fields pieces) []
-    (begun fields q pieces self.tables c.onto-folding.result p.tables c.onto-folding.ensures.tables c.onto-folding.ensures.lines c.onto-folding.ensures.refused) in
-    let count = read.lines in
+    let same : self.lines ≡ c.args.self.lines = ap (λ (v : PartialState). v.lines) c.self.view_is in
+    let read : (s : (pieces : List IndexedPiece) × StandsFor fields q c.args.self pieces) → HasRead fields q (records_of fields s.0) folding ls = λ s.
+    let p = subst (λ (v : PartialState). StandsFor fields q v s.0) (sym c.self.view_is) s.1 in
+    c.in_ok-folding.ensures (records_of fields s.0) []
+    (begun fields q s.0 self.tables c.onto-folding.result p.tables c.onto-folding.ensures.tables c.onto-folding.ensures.lines c.onto-folding.ensures.refused) in
+    let count : folding.lines ≡ length ls = ∥∥₁_elim c.requires.of_plan (ℕ_set _ _) (λ s. (read s).lines) in
+    let listed : length folding.refused.items ≡ length (refused_of fields ls) = ∥∥₁_elim c.requires.of_plan (ℕ_set _ _) (λ s. ap length (read s).refused) in
     let note : Note = record { index = c.args.index; lines = folding.lines; refused = folding.refused } in
-    let noted = one-noted_more self.notes.items c.push.new.self.items note self.lines c.in_ok-push.ensures.items self.counted self.numbered
-    (well-numbered fields folding.lines folding.refused.items ls read.lines read.refused) in
-    record {
-      few = omega (arith, count, c.requires.few);
-      fewer = (let fewer = self.fewer in let n = c.len-more.ensures in let r = ap length read.refused in let m = length-refused_of fields ls in
-          omega (arith, n, r, m, count, fewer));
-      within = within-shape (sets_of fields q) (functions_of fields q) self.shape.functions.items self.shape.sets.items (self.lines + folding.lines) folding.tables p.sets p.functions
-          (all-within (sets_of fields q) (functions_of fields q) folding.tables (kept fields q (records_of fields pieces ++ good_of fields ls)) (self.lines + folding.lines)
-          (let few = length-kept_behind fields q (records_of fields pieces) ls in let records = few-records fields pieces in let before = p.lines in omega (arith, few, records, before, count)) read.tables);
-      counted = noted.0;
-      numbered = noted.1;
-    }
+    let well : IsWellNumbered (note_in note) = ∥∥₁_elim c.requires.of_plan (hlevel props) (λ s. well-numbered fields folding.lines folding.refused.items ls (read s).lines (read s).refused) in
+    let noted = one-noted_more self.notes.items c.push.new.self.items note self.lines c.in_ok-push.ensures.items self.counted self.numbered well in (
+      omega (arith, count, same, c.requires.few),
+      (
+        (let fewer = self.fewer in let n = c.len-more.ensures in let m = length-refused_of fields ls in
+            omega (arith, n, listed, m, count, fewer)),
+        (
+          ∥∥₁_elim c.requires.of_plan (hlevel props) (λ s.
+              let p = subst (λ (v : PartialState). StandsFor fields q v s.0) (sym c.self.view_is) s.1 in
+              let r = read s in
+              within-shape (sets_of fields q) (functions_of fields q) self.shape.functions.items self.shape.sets.items (self.lines + folding.lines) folding.tables p.sets p.functions
+              (all-within (sets_of fields q) (functions_of fields q) folding.tables (kept fields q (records_of fields s.0 ++ good_of fields ls)) (self.lines + folding.lines)
+              (let few = length-kept_behind fields q (records_of fields s.0) ls in let records = few-records fields s.0 in let before = p.lines in omega (arith, few, records, before, count)) r.tables)),
+          (
+            noted.0,
+            (noted.1, tt),
+          ),
+        ),
+      ),
+    )
 
 pub returns-clause-stands : goal.returns-clause-stands
-returns-clause-stands c = λ pieces p.
+returns-clause-stands c = λ pieces given.
     let fields = fields_of_plan c.args.plan.now in
     let q = form_of_plan c.args.plan.now in
-    let self = c.args.self in
+    let self = c.self.inside in
+    let p = subst (λ (v : PartialState). StandsFor fields q v pieces) (sym c.self.view_is) given in
     let folding = c.in_ok-folding.folding in
     let bytes = c.args.piece.now in
     let read = c.in_ok-folding.ensures (records_of fields pieces) []
@@ -94,5 +115,4 @@ returns-clause-stands c = λ pieces p.
 
 pub returns-clause-of_plan : goal.returns-clause-of_plan
 returns-clause-of_plan c =
-    let pieces = c.requires.of_plan.0 in
-    ∣ (pieces ++ record { index = c.args.index; bytes = c.args.piece.now } ∷ [], returns-clause-stands c pieces c.requires.of_plan.1) ∣₁
+    ∥∥₁_map c.requires.of_plan (λ s. (s.0 ++ record { index = c.args.index; bytes = c.args.piece.now } ∷ [], returns-clause-stands c s.0 s.1))

@@ -1,14 +1,17 @@
-use Rattle.std.proofs.Common.{◌≡◌, ◌++◌, List, All, length, map, sym, ap, subst, ◌∙◌, arith}
+use Rattle.std.proofs.Common.{◌≡◌, ◌+◌, ◌<◌, ◌^◌, ◌++◌, List, All, length, map, sym, ap, subst, ◌∙◌, arith}
 use Rattle.std.proofs.Math.Logic.{∥∥₁_map₂}
 use Rattle.std.proofs.lemmas.List.{map-append}
 use Rattle.std.proofs.lemmas.List.Elements.{All-append}
 use Rattle.groups.specs.Bags.{SameBag}
 use Rattle.groups.specs.Rows.{Row}
 use Rattle.query_check.specs.Functions.{functions_of}
+use Rattle.query_check.specs.Resolution.{contents}
 use Rattle.query_check.specs.Sets.{sets_of}
 use Rattle.tables.specs.Notes.{IsWellNumbered, Noted, lines_noted, note_in, note_of, notes_in}
 use Rattle.tables.specs.Pieces.{records_of}
+use Rattle.tables.specs.Partials.{StandsFor}
 use Rattle.tables.specs.Sets.{AreTablesOf}
+use Rattle.tables.specs.States.{PartialState}
 use Rattle.query_truth.specs.Kept.{kept}
 use Rattle.tables.proofs.Reading.{kept-append}
 use Rattle.tables.proofs.Merging.{all-can_join, all-joined_within, counted-append, lines-append, notes-append, records-append, refused-append, within-other}
@@ -16,30 +19,50 @@ use Rattle.tables.proofs.partial.Partial.merge.Goals as goal
 
 pub absorb-requires : goal.absorb-requires
 absorb-requires c =
-    let a = c.args.self in
-    let b = c.args.other in
-    all-can_join a.shape.functions.items a.lines b.lines (length a.shape.sets.items) a.tables b.tables c.requires.few a.within
-    (within-other b.shape.functions.items a.shape.functions.items a.shape.sets.items b.shape.sets.items b.lines b.tables c.requires.one_shape.sets c.requires.one_shape.functions b.within)
+    let a = c.self.inside in
+    let b = c.other.inside in
+    let sets : contents a.shape.sets.items ≡ contents b.shape.sets.items =
+    ap (λ (v : PartialState). v.sets) c.self.view_is ∙ c.requires.one_shape.sets ∙ sym (ap (λ (v : PartialState). v.sets) c.other.view_is) in
+    let functions : a.shape.functions.items ≡ b.shape.functions.items =
+    ap (λ (v : PartialState). v.functions) c.self.view_is ∙ c.requires.one_shape.functions ∙ sym (ap (λ (v : PartialState). v.functions) c.other.view_is) in
+    let first : a.lines ≡ c.args.self.lines = ap (λ (v : PartialState). v.lines) c.self.view_is in
+    let second : b.lines ≡ c.args.other.lines = ap (λ (v : PartialState). v.lines) c.other.view_is in
+    let few : a.lines + b.lines < 2 ^ 63 = omega (arith, first, second, c.requires.few) in
+    all-can_join a.shape.functions.items a.lines b.lines (length a.shape.sets.items) a.tables b.tables few a.within
+    (within-other b.shape.functions.items a.shape.functions.items a.shape.sets.items b.shape.sets.items b.lines b.tables sets functions b.within)
 
 pub invariant_of-result : goal.invariant_of-result
 invariant_of-result c =
-    let a = c.args.self in
-    let b = c.args.other in
-    let joined : notes_in c.append.new.self ≡ notes_in a.notes ++ notes_in b.notes = ap (map note_in) c.in_ok-append.ensures.items ∙ map-append note_in a.notes.items b.notes.items in
-    record {
-      few = c.requires.few;
-      fewer = (let x = a.fewer in let y = b.fewer in omega (arith, x, y));
-      within = all-joined_within a.shape.functions.items a.lines b.lines (length a.shape.sets.items) a.tables b.tables c.absorb.new.self a.within
-          (within-other b.shape.functions.items a.shape.functions.items a.shape.sets.items b.shape.sets.items b.lines b.tables c.requires.one_shape.sets c.requires.one_shape.functions b.within)
-          c.in_ok-absorb.ensures.groups;
-      counted = ap lines_noted joined ∙ counted-append (notes_in a.notes) (notes_in b.notes) a.lines b.lines a.counted b.counted;
-      numbered = subst (All IsWellNumbered) (sym joined) (All-append IsWellNumbered (notes_in a.notes) (notes_in b.notes) a.numbered b.numbered);
-    }
+    let a = c.self.inside in
+    let b = c.other.inside in
+    let sets : contents a.shape.sets.items ≡ contents b.shape.sets.items =
+    ap (λ (v : PartialState). v.sets) c.self.view_is ∙ c.requires.one_shape.sets ∙ sym (ap (λ (v : PartialState). v.sets) c.other.view_is) in
+    let functions : a.shape.functions.items ≡ b.shape.functions.items =
+    ap (λ (v : PartialState). v.functions) c.self.view_is ∙ c.requires.one_shape.functions ∙ sym (ap (λ (v : PartialState). v.functions) c.other.view_is) in
+    let first : a.lines ≡ c.args.self.lines = ap (λ (v : PartialState). v.lines) c.self.view_is in
+    let second : b.lines ≡ c.args.other.lines = ap (λ (v : PartialState). v.lines) c.other.view_is in
+    let joined : notes_in c.append.new.self ≡ notes_in a.notes ++ notes_in b.notes = ap (map note_in) c.in_ok-append.ensures.items ∙ map-append note_in a.notes.items b.notes.items in (
+      omega (arith, first, second, c.requires.few),
+      (
+        (let x = a.fewer in let y = b.fewer in omega (arith, x, y)),
+        (
+          all-joined_within a.shape.functions.items a.lines b.lines (length a.shape.sets.items) a.tables b.tables c.absorb.new.self a.within
+              (within-other b.shape.functions.items a.shape.functions.items a.shape.sets.items b.shape.sets.items b.lines b.tables sets functions b.within)
+              c.in_ok-absorb.ensures.groups,
+          (
+            ap lines_noted joined ∙ counted-append (notes_in a.notes) (notes_in b.notes) a.lines b.lines a.counted b.counted,
+            (subst (All IsWellNumbered) (sym joined) (All-append IsWellNumbered (notes_in a.notes) (notes_in b.notes) a.numbered b.numbered), tt),
+          ),
+        ),
+      ),
+    )
 
 pub returns-clause-stands : goal.returns-clause-stands
-returns-clause-stands c = λ fields q pieces more p m.
-    let a = c.args.self in
-    let b = c.args.other in
+returns-clause-stands c = λ fields q pieces more given other.
+    let a = c.self.inside in
+    let b = c.other.inside in
+    let p = subst (λ (v : PartialState). StandsFor fields q v pieces) (sym c.self.view_is) given in
+    let m = subst (λ (v : PartialState). StandsFor fields q v more) (sym c.other.view_is) other in
     let joined : notes_in c.append.new.self ≡ notes_in a.notes ++ notes_in b.notes = ap (map note_in) c.in_ok-append.ensures.items ∙ map-append note_in a.notes.items b.notes.items in
     record {
       sets = p.sets;

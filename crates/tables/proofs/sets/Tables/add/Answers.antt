@@ -1,4 +1,6 @@
+use native.Mathlib.Nat.{ℕ_set}
 use Rattle.std.proofs.Common.{◌≡◌, ◌+◌, ◌<◌, ℕ, suc, List, [], ◌∷◌, ◌++◌, nat_eq, length, set, rules, sym, subst, arith, add-one}
+use Rattle.std.proofs.Math.Logic.{∥∥₁_elim, ∥∥₁_map}
 use Rattle.std.proofs.lemmas.Result.{on_ok_weaker}
 use Rattle.std.specs.List.{IsDistinct}
 use Rattle.values.specs.Datum.{data_of}
@@ -10,24 +12,23 @@ use Rattle.tables.proofs.sets.Tables.add.Goals as goal
 
 pub index_mut-requires : goal.index_mut-requires
 index_mut-requires c =
-    let r = c.requires.room in
     let count : c.in-Some.last + 1 ≡ length c.args.sets.now = search rules in
-    let l : length c.loop-place.self-inside.tables.items ≡ length c.args.sets.now =
-    partly-length c.loop-place.place c.args.sets.now c.args.functions.now c.loop-place.self-inside.tables.items (r.rows ++ data_of c.args.row.items ∷ []) r.rows (c.loop-place.invariant r.rows r.are_tables) in
+    let l : length c.loop-place.self-inside.tables.items ≡ length c.args.sets.now = ∥∥₁_elim c.requires.room (ℕ_set _ _) (λ r.
+    partly-length c.loop-place.place c.args.sets.now c.args.functions.now c.loop-place.self-inside.tables.items (r.rows ++ data_of c.args.row.items ∷ []) r.rows (c.loop-place.invariant r.rows r.are_tables)) in
     let h : c.loop-place.place < length c.loop-place.self-inside.tables.items = omega (arith, l, count, c.loop-place-test.true) in
     grind (arith, h, c.loop-place.self-inside.tables.ok)
 
 pub add-requires-clause-room : goal.add-requires-clause-room
 add-requires-clause-room c =
-    let r = c.requires.room in
     let fs = c.args.functions.now in
     let item = c.index-sets-place.result in
     let t = c.index_mut.result.now in
     let count : c.in-Some.last + 1 ≡ length c.args.sets.now = search rules in
+    ∥∥₁_map c.requires.room (λ r.
     let is : IsTableOf item.items fs t r.rows =
     partly-at c.loop-place.place c.args.sets.now fs c.loop-place.self-inside.tables.items (r.rows ++ data_of c.args.row.items ∷ []) r.rows item t
     (omega (arith, count, c.loop-place-test.true)) c.index-sets-place.is c.index_mut.ensures.value (c.loop-place.invariant r.rows r.are_tables) in
-    record { rows = r.rows; is_table = subst (λ (s : List ℕ). IsTableOf s fs t r.rows) (sym c.as_slice.ensures.value) is; few = r.few }
+    record { rows = r.rows; is_table = subst (λ (s : List ℕ). IsTableOf s fs t r.rows) (sym c.as_slice.ensures.value) is; few = r.few })
 
 pub loop-place-preserved : goal.loop-place-preserved
 loop-place-preserved c = λ rows a.
@@ -52,10 +53,9 @@ loop-place-preserved c = λ rows a.
 
 pub index_mut-requires-2 : goal.index_mut-requires-2
 index_mut-requires-2 c =
-    let r = c.requires.room in
     let count : c.in-Some.last + 1 ≡ length c.args.sets.now = search rules in
-    let l : length c.loop-place.self-inside.tables.items ≡ length c.args.sets.now =
-    partly-length c.loop-place.place c.args.sets.now c.args.functions.now c.loop-place.self-inside.tables.items (r.rows ++ data_of c.args.row.items ∷ []) r.rows (c.loop-place.invariant r.rows r.are_tables) in
+    let l : length c.loop-place.self-inside.tables.items ≡ length c.args.sets.now = ∥∥₁_elim c.requires.room (ℕ_set _ _) (λ r.
+    partly-length c.loop-place.place c.args.sets.now c.args.functions.now c.loop-place.self-inside.tables.items (r.rows ++ data_of c.args.row.items ∷ []) r.rows (c.loop-place.invariant r.rows r.are_tables)) in
     let h : c.in-Some.last < length c.loop-place.self-inside.tables.items = omega (arith, l, count) in
     grind (arith, h, c.loop-place.self-inside.tables.ok)
 
@@ -66,17 +66,17 @@ add_last-requires-clause-different c =
 
 pub add_last-requires-clause-room : goal.add_last-requires-clause-room
 add_last-requires-clause-room c =
-    let r = c.requires.room in
     let fs = c.args.functions.now in
     let sets = c.args.sets.now in
     let item = c.index-sets-last.result in
     let t = c.index_mut-2.result.now in
-    let more = r.rows ++ data_of c.args.row.items ∷ [] in
     let count : c.in-Some.last + 1 ≡ length sets = search rules in
     let last : c.loop-place.place ≡ c.in-Some.last = omega (arith, c.loop-place-test.false, c.loop-place.auto.place-end) in
+    ∥∥₁_map c.requires.room (λ r.
+    let more = r.rows ++ data_of c.args.row.items ∷ [] in
     let p = subst (λ n. ArePartly n (places_of sets) fs c.loop-place.self-inside.tables.items more r.rows) last (c.loop-place.invariant r.rows r.are_tables) in
     let is : IsTableOf item.items fs t r.rows = partly-at c.in-Some.last sets fs c.loop-place.self-inside.tables.items more r.rows item t (omega (arith, count)) c.index-sets-last.is c.index_mut-2.ensures.value p in
-    record { rows = r.rows; is_table = subst (λ (s : List ℕ). IsTableOf s fs t r.rows) (sym c.as_slice-2.ensures.value) is; few = r.few }
+    record { rows = r.rows; is_table = subst (λ (s : List ℕ). IsTableOf s fs t r.rows) (sym c.as_slice-2.ensures.value) is; few = r.few })
 
 pub returns : goal.returns
 returns c =

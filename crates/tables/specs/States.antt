@@ -1,0 +1,22 @@
+-- What a partial result and the groups of an input hold, apart from where it lies in memory.
+use Rattle.std.specs.Prelude.{ℕ, List}
+use Rattle.lines.specs.declared.fault.LineFault.{LineFault}
+use Rattle.query_check.specs.declared.function.ColumnFunction.{ColumnFunction}
+use Rattle.groups.specs.Inside.Table.{Contents}
+use Rattle.tables.specs.Found.{Found}
+use Rattle.tables.specs.Notes.{Noted}
+
+-- A partial result: its grouping sets and set functions, for each set the groups of a table, how many lines and refused lines it counts, and of each
+-- piece its note.
+pub record PartialState : Type 0 where
+  pub sets : List (List ℕ)
+  pub functions : List ColumnFunction
+  pub tables : List Contents
+  pub lines : ℕ
+  pub refused : ℕ
+  pub notes : List Noted
+
+-- The groups of an input, each beside the index of its grouping set, and the refused lines by their numbers.
+pub record GroupsState : Type 0 where
+  pub found : List Found
+  pub refused : List (ℕ × LineFault)
