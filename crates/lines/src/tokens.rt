@@ -5,19 +5,20 @@ ghost use Rattle.lines.specs.Taken.{max_line_len, taken};
 
 mod numerals;
 mod passing;
+mod spare;
 mod taking;
 
 use json::{Reader, Scratch, Token};
-use std::alloc::Global;
+pub(crate) use spare::Spare;
 use taking::take_members;
 use values::{Record, Schema};
 
 /// Reads a line as a record by its tokens; `None` says nothing of the line.
 pub(crate) fn record_by_tokens(
-    alloc: Global,
     schema: &Schema,
     line: &[u8],
     scratch: &mut Scratch,
+    spare: &mut Spare,
 ) -> Option<Record>
     requires { length line.now ≤ max_line_len }
     ensures ok { IfSome result (λ «record». taken schema.now line.now ≡ Ok «record») }
@@ -28,7 +29,7 @@ pub(crate) fn record_by_tokens(
     let Token::BeginObject = reader.next()? else {
         return None;
     };
-    let values = take_members(alloc, schema.columns(), &mut reader)?;
+    let values = take_members(schema.columns(), &mut reader, spare)?;
     match reader.next() {
         Some(_) => None,
         None => Some(Record::new(values)),

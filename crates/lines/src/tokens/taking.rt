@@ -9,8 +9,8 @@ ghost use Rattle.lines.specs.Taken.{data_taken, datum_taken};
 
 use crate::tokens::numerals::whole_number;
 use crate::tokens::passing::pass;
+use crate::tokens::spare::Spare;
 use json::{Reader, Token};
-use std::alloc::Global;
 use values::{Column, Kind, Value};
 
 /// How deep the members of an object may nest.
@@ -18,22 +18,22 @@ const MEMBER_DEPTH: usize = 126;
 
 /// Takes the columns' values out of an object's members, up to its closing brace.
 pub(crate) fn take_members(
-    alloc: Global,
     columns: &[Column],
     reader: &mut Reader<'_>,
+    spare: &mut Spare,
 ) -> Option<Vec<Value>>
     requires { IsSchema (fields_of columns.now) }
     ensures taken { IfSome result (λ v. (found : Members)
         × (converted (λ ms. of_members ms no_members) (members (value 126) (length reader.old) reader.old) ≡ Some (found, reader.new))
         × (map (λ d. Some d) (data_of v.items) ≡ data_taken (fields_of columns.now) found)) }
 {
-    let mut values = missing_values(alloc, columns)?;
+    let mut values = missing_values(columns, spare)?;
     // Members mostly come in the order of the columns.
     let mut next = 0;
     'members: while let Some(name) = reader.next_key().ok()? {
         match place_of(columns, name, next) {
             Some(place) => {
-                let value = take_value(alloc, columns[place].kind, reader)?;
+                let value = take_value(columns[place].kind, reader, spare)?;
                 put_at(&mut values, place, value);
                 next = place + 1;
             }
@@ -52,11 +52,12 @@ fn put_at(values: &mut Vec<Value>, place: usize, value: Value)
 }
 
 /// What the columns take where no member is: NULL for each.
-fn missing_values(alloc: Global, columns: &[Column]) -> Option<Vec<Value>>
+fn missing_values(columns: &[Column], spare: &mut Spare) -> Option<Vec<Value>>
     requires { IsSchema (fields_of columns.now) }
     ensures { IfSome result (λ v. map (λ d. Some d) (data_of v.items) ≡ data_taken (fields_of columns.now) no_members) }
 {
-    let mut values = Vec::with_capacity(alloc, columns.len()).ok()?;
+    let mut values = spare.list();
+    values.reserve(columns.len()).ok()?;
     for _ in columns {
         values.push(Value::Null).ok()?;
     }
@@ -91,7 +92,7 @@ fn place_between(columns: &[Column], name: &str, low: usize, high: usize) -> Opt
 }
 
 /// Takes the value of a member as a column of this type takes it; `None` says nothing of the member.
-fn take_value(alloc: Global, kind: Kind, reader: &mut Reader<'_>) -> Option<Value>
+fn take_value(kind: Kind, reader: &mut Reader<'_>, spare: &mut Spare) -> Option<Value>
     ensures taken { IfSome result (λ v. (d : Data)
         × (converted of_json (value 126 reader.old) ≡ Some (d, reader.new))
         × (datum_taken kind d ≡ Some (datum_of v))) }
@@ -100,9 +101,7 @@ fn take_value(alloc: Global, kind: Kind, reader: &mut Reader<'_>) -> Option<Valu
     match (kind, reader.next()?) {
         (_, Token::Null) => Some(Value::Null),
         (Kind::Int, Token::Number(text)) => Some(Value::Int(i128::from(whole_number(text)?))),
-        (Kind::Text, Token::String(text)) => {
-            Some(Value::Text(String::from_str(alloc, text).ok()?))
-        }
+        (Kind::Text, Token::String(text)) => Some(Value::Text(spare.copy(text)?)),
         (Kind::Bool, Token::Bool(truth)) => Some(Value::Bool(truth)),
         _ => None,
     }

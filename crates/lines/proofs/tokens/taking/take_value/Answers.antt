@@ -45,12 +45,12 @@ returns-in_ok-whole_number-in-Int-Number-clause-taken c =
       ap (λ k. datum_taken k (number n.0)) c.in-Int-Number.is-0 ∙ n.2 ∙ ap (λ x. Some (whole x)) (sym same),
     )
 
-pub returns-in_ok-ok-in-Text-String-clause-taken :
-    goal.returns-in_ok-ok-in-Text-String-clause-taken
-returns-in_ok-ok-in-Text-String-clause-taken c =
+pub returns-in_ok-copy-in-Text-String-clause-taken :
+    goal.returns-in_ok-copy-in-Text-String-clause-taken
+returns-in_ok-copy-in-Text-String-clause-taken c =
     let s = c.in-Text-String.text.now in
     let first = c.in_ok-next.ensures.value ∙ ap (λ k. token_of k ∷ c.next.new.self) c.in-Text-String.is-1 in
-    let copied : string_bytes c.in_ok-ok-in-Text-String.field-0 ≡ s = grind arith in (
+    let copied : string_bytes c.in_ok-copy-in-Text-String.field-0 ≡ s = c.in_ok-copy-in-Text-String.ensures in (
       string s,
       ap (λ ts. converted of_json (value 126 ts)) first ∙ read-string 126 s c.next.new.self,
       ap (λ k. datum_taken k (string s)) c.in-Text-String.is-0 ∙ ap (λ x. Some (text x)) (sym copied),
