@@ -1,0 +1,139 @@
+//! Times dealing alone: 1,048,576 pieces are dealt to hands, and these, each on a thread of its own, take
+//! them all and do nothing with them. Its words are `ruled` or `plain`, and the number of hands: by a deal,
+//! or by the same loop over plain deques, which have no rule and no end marks. It prints how many pieces
+//! were taken, and on standard error the nanoseconds of dealing and of taking.
+#![tactic(auto)]
+
+ghost use Rattle.std.specs.Prelude.{◌≡◌, ◌<◌};
+
+use crossbeam_deque::{Steal, Stealer, Worker};
+use pool::{Deal, Hand, Next};
+use std::alloc::{AllocError, Global};
+use std::io::{Eprint, Print};
+use std::sync::atomic::{AtomicU64, Ordering};
+use std::thread::Threads;
+use std::time::{Clock, Instant};
+use std::{env, io, thread};
+
+const PIECES: u32 = 1_048_576;
+
+/// Who takes pieces, one at a time, until there is none for it.
+trait Taker {
+    fn take(&mut self) -> Option<u32>;
+}
+
+impl Taker for Hand {
+    fn take(&mut self) -> Option<u32> {
+        match self.next() {
+            Next::Piece(piece) => Some(piece),
+            Next::Spent | Next::Memory => None,
+        }
+    }
+}
+
+/// One worker's end of plain deques: its own, and its way into the others, from the next one on and round.
+#[derive(Drop)]
+struct Member {
+    own: Worker<u32>,
+    others: Vec<Stealer<u32>>,
+}
+
+impl Taker for Member {
+    fn take(&mut self) -> Option<u32> {
+        if let Some(piece) = self.own.pop() {
+            return Some(piece);
+        }
+        for other in self.others.iter() {
+            if let Steal::Success(piece) = other.steal() {
+                return Some(piece);
+            }
+        }
+        None
+    }
+}
+
+/// Members with empty deques.
+fn members(alloc: Global, count: usize) -> Result<Vec<Member>, AllocError>
+    requires { 0 < count }
+{
+    let mut members = Vec::new(alloc);
+    for _ in 0..count {
+        let own = Worker::new_fifo(alloc, (PIECES as usize).div_ceil(count))?;
+        let others = Vec::new(alloc);
+        members.push(Member { own, others })?;
+    }
+    Ok(members)
+}
+
+/// Deals the pieces, in turn, and gives each member its way into the others' deques.
+fn deal_plainly(members: &mut Vec<Member>) -> Result<(), AllocError> {
+    let count = members.len();
+    for piece in 0..PIECES {
+        if let Some(member) = members.get_mut(piece as usize % count.max(1)) {
+            if member.own.push(piece).is_err() {
+                return Err(AllocError);
+            }
+        }
+    }
+    for place in 0..count {
+        for step in 1..count {
+            let Some(other) = members.get((place + step) % count) else {
+                continue;
+            };
+            let way = other.own.stealer()?;
+            if let Some(member) = members.get_mut(place) {
+                member.others.push(way)?;
+            }
+        }
+    }
+    Ok(())
+}
+
+/// How many pieces it takes until there is none for it.
+fn take_all<T: Taker>(taker: &mut T) -> u64 {
+    for taken in 0..u64::MAX {
+        if taker.take().is_none() {
+            return taken;
+        }
+    }
+    u64::MAX
+}
+
+/// Each of those who were dealt pieces since the start takes until there is none.
+fn race<R: Threads + Clock + Print + Eprint + Sync, T: Taker + Send>(
+    rt: &R,
+    start: Instant,
+    takers: &mut [T],
+) -> io::Result<()> {
+    let dealt = Instant::now(rt)?;
+    let taken = AtomicU64::new(0);
+    let threads = takers.len().max(1);
+    thread::for_each_mut(
+        rt,
+        takers,
+        threads,
+        &|_, taker| {
+            taken.fetch_add(take_all(taker), Ordering::SeqCst);
+        },
+    );
+    let taking = dealt.elapsed(rt)?.as_nanos();
+    let dealing = dealt.duration_since(start).as_nanos();
+    println!(rt; "{}", taken.load(Ordering::SeqCst))?;
+    eprintln!(rt; "{dealing} {taking}")
+}
+
+fn main(rt: HostRuntime) -> io::Result<()> {
+    let mut words = env::args(&rt)?.skip(1);
+    let (Some(way), Some(hands)) = (words.next(), words.next()) else {
+        return Ok(());
+    };
+    let hands = hands.as_str().parse::<usize>().unwrap_or(1).clamp(1, 64);
+    let start = Instant::now(&rt)?;
+    if way.as_str() == "ruled" {
+        let mut hands = Deal::new(rt.alloc(), PIECES, hands)?.into_hands();
+        return race(&rt, start, hands.as_mut_slice());
+    }
+    let mut members = members(rt.alloc(), hands)?;
+    deal_plainly(&mut members)?;
+    race(&rt, start, members.as_mut_slice())
+}
