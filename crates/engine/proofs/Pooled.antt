@@ -14,8 +14,8 @@ use Rattle.pool.specs.declared.laws.Outcome.TheVariants.{Whole, Over}
 use Rattle.pool.specs.Outcomes.{Decides}
 use Rattle.pool.specs.Totals.{sum_below, total}
 use Rattle.query_tree.specs.Syntax.{TreeForm}
-use Rattle.query.specs.declared.plan.Plan.{Plan}
-use Rattle.query.specs.Planned.{fields_of_plan, form_of_plan}
+use Rattle.query_plan.specs.declared.plan.Plan.{Plan}
+use Rattle.query_plan.specs.Planned.{fields_of_plan, form_of_plan}
 use Rattle.tables.specs.declared.partial.Partial.{Partial}
 use Rattle.tables.specs.Means.{both, indexed, mean, mean_at, meaning}
 use Rattle.tables.specs.Partials.{StandsFor}

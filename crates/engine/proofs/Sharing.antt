@@ -10,7 +10,7 @@ use Rattle.query_tree.specs.contracts.expression.Expression as Expression
 use Rattle.query_tree.specs.contracts.expression.Predicate as Predicate
 use Rattle.query_tree.specs.contracts.tree.Tree as Tree
 use Rattle.query_truth.specs.contracts.condition.Condition as Condition
-use Rattle.query.specs.contracts.plan.Plan as Plan
+use Rattle.query_plan.specs.contracts.plan.Plan as Plan
 use Rattle.tables.specs.contracts.job.Job as Job
 
 group_sync : IsSync (GroupingElement.the_field).row

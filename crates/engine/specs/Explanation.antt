@@ -7,7 +7,7 @@ use Rattle.query_tree.specs.Syntax.{TreeForm}
 use Rattle.query_check.specs.Sets.{sets_of}
 use Rattle.query_check.specs.Typing.{IsTyped}
 use Rattle.query_print.specs.Canonical.{canonical_text, set_text}
-use Rattle.query.specs.Derivation.{Derives}
+use Rattle.query_derivation.specs.Derivation.{Derives}
 
 -- a grouping set on a line: its index, and its columns
 abbrev pub set_line : List Field → ℕ × List ℕ → List ℕ

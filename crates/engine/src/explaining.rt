@@ -1,7 +1,7 @@
 // The explanation of a query.
 ghost use Rattle.std.specs.Prelude.{◌≡◌, IfOk, string_bytes};
 ghost use Rattle.engine.specs.Explanation.{explanation};
-ghost use Rattle.query.specs.Planned.{fields_of_plan, form_of_plan};
+ghost use Rattle.query_plan.specs.Planned.{fields_of_plan, form_of_plan};
 
 use query::{Plan, print, set_text};
 use std::alloc::{AllocError, Global};

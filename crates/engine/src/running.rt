@@ -5,7 +5,7 @@ ghost use Rattle.values.specs.Schema.{Field};
 ghost use Rattle.lines.specs.Input.{refused};
 ghost use Rattle.lines.specs.Lines.{lines};
 ghost use Rattle.query_tree.specs.Syntax.{TreeForm};
-ghost use Rattle.query.specs.Planned.{fields_of_plan, form_of_plan};
+ghost use Rattle.query_plan.specs.Planned.{fields_of_plan, form_of_plan};
 ghost use Rattle.tables.specs.Fitting.{AreFitting};
 ghost use Rattle.tables.specs.Contents.{found_in};
 ghost use Rattle.report.specs.Report.{report_of};

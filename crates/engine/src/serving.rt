@@ -3,8 +3,8 @@ ghost use Rattle.std.specs.Prelude.{◌≡◌, ◌<◌, ◌≤◌, IfOk, Ok, OnO
 ghost use Rattle.std.specs.Io.KnownBytes.{Appends};
 ghost use Rattle.values.specs.Schema.{schema_of};
 ghost use Rattle.query_check.specs.Typing.{IsTyped};
-ghost use Rattle.query.specs.Derivation.{Derives};
-ghost use Rattle.query.specs.Planned.{fields_of_plan, form_of_plan};
+ghost use Rattle.query_derivation.specs.Derivation.{Derives};
+ghost use Rattle.query_plan.specs.Planned.{fields_of_plan, form_of_plan};
 ghost use Rattle.engine.specs.Explanation.{Explains, IsAnswerable, explanation};
 
 use crate::explaining::explanation;

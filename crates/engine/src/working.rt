@@ -3,7 +3,7 @@ ghost use Rattle.std.specs.Prelude.{◌≡◌, ◌≢◌, ◌<◌, ◌^◌, ◌�
 ghost use Rattle.values.specs.Schema.{Field};
 ghost use Rattle.lines.specs.Input.{refused};
 ghost use Rattle.query_tree.specs.Syntax.{TreeForm};
-ghost use Rattle.query.specs.Planned.{fields_of_plan, form_of_plan};
+ghost use Rattle.query_plan.specs.Planned.{fields_of_plan, form_of_plan};
 ghost use Rattle.engine.specs.Pieces.{IsOutcome, IsWhole};
 ghost use Rattle.engine.specs.Run.{IsUnwritten, IsWithin, Refuses};
 

@@ -4,7 +4,7 @@ use Rattle.std.proofs.Math.Logic.{∥∥₁_map}
 use Rattle.query_tree.specs.Syntax.{TreeForm}
 use Rattle.query_print.specs.Canonical.{canonical_text}
 use Rattle.query_round.specs.Texts.{IsTextOf}
-use Rattle.query.specs.Derivation.{Derives}
+use Rattle.query_derivation.specs.Derivation.{Derives}
 
 text_of : (q : TreeForm) (text : List ℕ) → Derives text q → IsTextOf text q
 text_of q text d = record { tokens = d.tokens; starts = d.starts; spelled = d.spelled; derived = d.derived }

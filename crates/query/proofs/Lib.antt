@@ -1,5 +1,3 @@
 pub mod Examples
 mod Again
-mod FunctionCodes
-mod TruthCodes
 mod Unique

@@ -3,8 +3,8 @@ use Rattle.std.proofs.Common.{◌≡◌, ℕ, List, subst, sym}
 use Rattle.query_tokens.specs.declared.token.Token.{Token}
 use Rattle.query_tokens.specs.Spelling.{Spells}
 use Rattle.query_tree.specs.Syntax.{TreeForm}
-use Rattle.query_grammar.specs.Grammar.{Derives as TokensDerive}
-use Rattle.query.specs.Derivation.{Derives}
+use Rattle.query_derivation.specs.Grammar.{Derives as TokensDerive}
+use Rattle.query_derivation.specs.Derivation.{Derives}
 
 pub one : ((text : List ℕ) (ks others : List Token) (starts places : List ℕ) → Spells text ks starts → Spells text others places → (ks ≡ others) × (starts ≡ places))
     → ((ts : List Token) (p q : TreeForm) → TokensDerive ts p → TokensDerive ts q → p ≡ q)

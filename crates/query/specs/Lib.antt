@@ -1,4 +1,1 @@
-pub mod Derivation
-pub mod Form
-pub mod Planned
 pub mod Refusal

@@ -1,7 +1,7 @@
 // A law of the language.
 ghost use Rattle.std.specs.Prelude.{◌≡◌, ℕ, List};
 ghost use Rattle.query_tree.specs.Syntax.{TreeForm};
-ghost use Rattle.query.specs.Derivation.{Derives};
+ghost use Rattle.query_derivation.specs.Derivation.{Derives};
 
 /// A law, with no work to do: no text derives two queries.
 pub fn derives_one()

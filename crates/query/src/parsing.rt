@@ -3,13 +3,13 @@ ghost use Rattle.std.specs.Prelude.{◌≡◌, ◌<◌, [], ◌∷◌, ◌++◌,
 ghost use Rattle.query_fault.specs.declared.QueryFault.TheVariants.{NoToken, OutOfMemory, OverLimit};
 ghost use Rattle.query_tokens.specs.Spelling.{StopsAt};
 ghost use Rattle.query_tree.specs.Syntax.{TreeForm};
-ghost use Rattle.query.specs.Derivation.{Derives};
-ghost use Rattle.query.specs.Form.{form_of};
+ghost use Rattle.query_derivation.specs.Derivation.{Derives};
+ghost use Rattle.query_plan.specs.Form.{form_of};
 ghost use Rattle.query.specs.Refusal.{IsRefusalOf};
 
-use crate::query::Query;
 use query_fault::QueryFault;
 use query_grammar::{GrammarFault, read_query};
+use query_plan::Query;
 use query_tokens::{TokenFault, Tokens, read_tokens};
 use std::alloc::Global;
 

@@ -7,11 +7,11 @@ use Rattle.query_tokens.specs.declared.token.Sign.TheVariants as s
 use Rattle.query_tree.specs.Syntax.{ElementForm, sets, element_forms}
 use Rattle.query_leaves.specs.Fronts.{is_word, is_sign, after}
 use Rattle.query_leaves.specs.Steps.{Reader, name_at}
-use Rattle.query_leaves.specs.Leaves.{Derivation, IsRepeated, IsName}
+use Rattle.query_derivation.specs.Leaves.{Derivation, IsRepeated, IsName}
 use Rattle.query_leaves.proofs.CompleteLists.{Shrinks, repeated_short, unlimited_c}
 use Rattle.query_leaves.proofs.CompleteLeaves.{name_c, name_short}
 use Rattle.query_grammar.specs.GroupSteps.{enclosed_at, unit_at, units_at, nothing_at, set_at, element_at, sets_at, group_at}
-use Rattle.query_grammar.specs.Grammar.{IsUnit, IsSet, IsElement, IsGroup}
+use Rattle.query_derivation.specs.Grammar.{IsUnit, IsSet, IsElement, IsGroup}
 
 -- Parts in brackets that are read whatever stands behind them, as many as there are.
 enclosed_c : {A : Type 0} (P : Derivation A) (f : Reader A) → ((ts r : List Token) (x : A) → P ts x r → f ts ≡ Some (x, r)) → Shrinks P

@@ -9,7 +9,7 @@ use Rattle.query_leaves.specs.Fronts.{is_word, is_sign, after}
 use Rattle.query_leaves.proofs.CompleteLists.{Shrinks, repeated_follow, unlimited_c}
 use Rattle.query_predicates.proofs.CompleteExpressions.{expression_c, expression_short}
 use Rattle.query_grammar.specs.KeySteps.{direction_at, null_ordering_at, key_at, keys_at}
-use Rattle.query_grammar.specs.Grammar.{IsDirection, IsNullOrdering, IsKey, IsOrderBy}
+use Rattle.query_derivation.specs.Grammar.{IsDirection, IsNullOrdering, IsKey, IsOrderBy}
 
 -- Neither ASC nor DESC goes on a direction that ends here.
 pub record EndsDirection (r : List Token) : Type 0 where

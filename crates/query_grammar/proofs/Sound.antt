@@ -20,9 +20,9 @@ use Rattle.query_predicates.specs.PredicateSteps.{predicate_at}
 use Rattle.query_grammar.specs.GroupSteps.{all_at, group_at}
 use Rattle.query_grammar.specs.KeySteps.{keys_at}
 use Rattle.query_grammar.specs.QuerySteps.{alias_at, item_at, items_at, from_at, clause_at, groups_at, query_at, at_end, whole_at}
-use Rattle.query_leaves.specs.Leaves.{Derivation, IsRepeated}
-use Rattle.query_predicates.specs.Predicates.{IsExpression, IsPredicate}
-use Rattle.query_grammar.specs.Grammar.{IsItem, IsWhere, IsGroup, IsGroupBy, IsHaving, IsQuery, Derives}
+use Rattle.query_derivation.specs.Leaves.{Derivation, IsRepeated}
+use Rattle.query_derivation.specs.Predicates.{IsExpression, IsPredicate}
+use Rattle.query_derivation.specs.Grammar.{IsItem, IsWhere, IsGroup, IsGroupBy, IsHaving, IsQuery, Derives}
 use Rattle.query_leaves.proofs.Heads.{after_word_is}
 use Rattle.query_leaves.proofs.SoundLists.{IsSound, IsListed, only_some, read_as, begins_as, leaves_as, listed_s}
 use Rattle.query_leaves.proofs.SoundLeaves.{name_is}

@@ -9,12 +9,12 @@ use Rattle.query_tokens.proofs.Inversions.{bind_some, choose_some, some_is}
 use Rattle.query_tree.specs.Syntax.{ElementForm, set, rollup, cube, sets, element_forms}
 use Rattle.query_leaves.specs.Fronts.{is_word, is_sign, after}
 use Rattle.query_leaves.specs.Steps.{Reader, with_front, more, name_at}
-use Rattle.query_leaves.specs.Leaves.{Derivation, IsRepeated, IsName}
+use Rattle.query_derivation.specs.Leaves.{Derivation, IsRepeated, IsName}
 use Rattle.query_leaves.proofs.Heads.{after_word_is, after_sign_is}
 use Rattle.query_leaves.proofs.SoundLists.{IsSound, IsListed, IsBracketed, only_some, read_as, begins_as, listed_s}
 use Rattle.query_leaves.proofs.SoundLeaves.{name_is, name_s}
 use Rattle.query_grammar.specs.GroupSteps.{all_at, enclosed_at, unit_at, units_at, nothing_at, set_at, element_at, sets_at, group_at}
-use Rattle.query_grammar.specs.Grammar.{IsUnit, IsSet, IsElement, IsGroup}
+use Rattle.query_derivation.specs.Grammar.{IsUnit, IsSet, IsElement, IsGroup}
 
 -- Parts in brackets, as many as there are.
 enclosed_s : {A : Type 0} (P : Derivation A) (f : Reader A) → IsSound P f → (ts : List Token) (y : List A × List Token) → enclosed_at f ts ≡ Some y → (n : ℕ) × IsBracketed P n ts y

@@ -15,7 +15,7 @@ use Rattle.query_leaves.proofs.SoundLists.{IsSound, only_some, read_as, begins_a
 use Rattle.query_predicates.proofs.SoundExpressions.{expression_s}
 use Rattle.query_grammar.specs.GroupSteps.{all_at}
 use Rattle.query_grammar.specs.KeySteps.{direction_at, null_ordering_at, key_at, keys_at}
-use Rattle.query_grammar.specs.Grammar.{IsDirection, IsNullOrdering, IsKey, IsOrderBy}
+use Rattle.query_derivation.specs.Grammar.{IsDirection, IsNullOrdering, IsKey, IsOrderBy}
 
 -- Which way a choice that always gives a value went.
 choose_is : {A B : Type 0} (o : Option A) (b : B) (f : A → B) → ((o ≡ None) × (choose o b f ≡ b)) ⊎ ((x : A) × (o ≡ Some x) × (choose o b f ≡ f x))

@@ -1,4 +1,3 @@
-pub mod Grammar
 pub mod GroupSteps
 pub mod KeySteps
 pub mod QuerySteps

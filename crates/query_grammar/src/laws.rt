@@ -3,7 +3,7 @@
 ghost use Rattle.std.specs.Prelude.{◌≡◌, List};
 ghost use Rattle.query_tokens.specs.declared.token.Token.{Token};
 ghost use Rattle.query_tree.specs.Syntax.{TreeForm};
-ghost use Rattle.query_grammar.specs.Grammar.{Derives};
+ghost use Rattle.query_derivation.specs.Grammar.{Derives};
 
 /// A law, with no work to do: no tokens derive two queries.
 pub fn derives_one()

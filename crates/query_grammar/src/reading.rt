@@ -4,7 +4,7 @@ ghost use Rattle.std.specs.Prelude.{◌≡◌, ◌<◌, ◌≤◌, length, IfOk,
 ghost use Rattle.std.specs.Option.{option_map};
 ghost use Rattle.query_tree.specs.Syntax.{TreeForm, tree_form, predicate_form};
 ghost use Rattle.query_leaves.specs.declared.fault.GrammarFault.TheVariants.{OutOfMemory};
-ghost use Rattle.query_grammar.specs.Grammar.{Derives};
+ghost use Rattle.query_derivation.specs.Grammar.{Derives};
 ghost use Rattle.query_leaves.specs.Steps.{Gives};
 ghost use Rattle.query_grammar.specs.QuerySteps.{from_at, clause_at, query_at, whole_at};
 

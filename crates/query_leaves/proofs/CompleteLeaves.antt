@@ -9,7 +9,7 @@ use Rattle.query_tokens.specs.declared.token.Sign.TheVariants as s
 use Rattle.query_tree.specs.declared.expression.Aggregate.{Aggregate}
 use Rattle.query_tree.specs.declared.predicate.Literal.{Literal}
 use Rattle.query_leaves.specs.Fronts.{is_word, after}
-use Rattle.query_leaves.specs.Leaves.{IsRepeated, IsName, IsAggregate, IsLiteral, IsOp, IsTruthValue, IsMark}
+use Rattle.query_derivation.specs.Leaves.{IsRepeated, IsName, IsAggregate, IsLiteral, IsOp, IsTruthValue, IsMark}
 use Rattle.query_leaves.specs.Steps.{name_at}
 use Rattle.query_leaves.specs.LeafSteps.{closed_name_at, argument_at, counted_at, count_at, aggregate_at, arguments_at, literal_at, literals_at, op_at, truth_at, mark_at}
 use Rattle.query_leaves.proofs.CompleteLists.{Shrinks, bracketed_c}

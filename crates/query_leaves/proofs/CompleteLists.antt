@@ -5,7 +5,7 @@ use Rattle.query_tokens.specs.declared.token.Token.TheVariants as tokens
 use Rattle.query_tokens.specs.declared.token.Sign.TheVariants as s
 use Rattle.query_leaves.specs.Fronts.{is_sign, after}
 use Rattle.query_leaves.specs.Steps.{Reader, more, bracketed_at}
-use Rattle.query_leaves.specs.Leaves.{Derivation, IsRepeated}
+use Rattle.query_derivation.specs.Leaves.{Derivation, IsRepeated}
 
 -- A part takes no less than nothing.
 abbrev pub Shrinks : {A : Type 0} → Derivation A → Type 0

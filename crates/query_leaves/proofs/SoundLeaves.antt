@@ -9,7 +9,7 @@ use Rattle.query_tokens.proofs.Inversions.{bind_some, choose_some, some_is}
 use Rattle.query_tree.specs.declared.expression.Aggregate.{Aggregate}
 use Rattle.query_tree.specs.declared.expression.Aggregate.TheVariants as aggregates
 use Rattle.query_leaves.specs.Fronts.{is_word, is_sign, after}
-use Rattle.query_leaves.specs.Leaves.{IsName, IsAggregate, IsLiteral, IsOp, IsTruthValue, IsMark}
+use Rattle.query_derivation.specs.Leaves.{IsName, IsAggregate, IsLiteral, IsOp, IsTruthValue, IsMark}
 use Rattle.query_leaves.specs.Steps.{name_at}
 use Rattle.query_leaves.specs.LeafSteps.{closed_name_at, argument_at, counted_at, count_at, aggregate_at, literal_at, op_at, truth_at, mark_at}
 use Rattle.query_leaves.proofs.Heads.{after_word_is, after_sign_is}

@@ -7,7 +7,7 @@ use Rattle.query_tokens.specs.Options.{◌>>=◌, choose}
 use Rattle.query_tokens.proofs.Inversions.{bind_some, choose_some, given, some_is}
 use Rattle.query_leaves.specs.Fronts.{is_sign, after}
 use Rattle.query_leaves.specs.Steps.{Reader, with_front, more, listed_at, bracketed_at}
-use Rattle.query_leaves.specs.Leaves.{Derivation, IsRepeated}
+use Rattle.query_derivation.specs.Leaves.{Derivation, IsRepeated}
 use Rattle.query_leaves.proofs.Heads.{after_sign_is}
 
 -- A choice whose one way gives nothing: the other way went.

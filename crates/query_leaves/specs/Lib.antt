@@ -1,4 +1,3 @@
 pub mod Fronts
-pub mod Leaves
 pub mod Steps
 pub mod LeafSteps

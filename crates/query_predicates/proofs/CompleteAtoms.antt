@@ -12,8 +12,8 @@ use Rattle.query_tree.specs.Syntax.{ExpressionForm, OperandForm, PredicateForm, 
 use Rattle.query_leaves.specs.Fronts.{is_word, is_sign, after}
 use Rattle.query_leaves.specs.LeafSteps.{literal_at, op_at}
 use Rattle.query_predicates.specs.AtomSteps.{operand_at, member_after, between_after, negated_after, column_of, atom_after, test_after, is_after, tested_atom_at}
-use Rattle.query_leaves.specs.Leaves.{IsRepeated, IsAggregate, IsLiteral, IsOp, IsTruthValue, IsMark}
-use Rattle.query_predicates.specs.Predicates.{IsFunction, IsExpression, IsOperand, IsAtom}
+use Rattle.query_derivation.specs.Leaves.{IsRepeated, IsAggregate, IsLiteral, IsOp, IsTruthValue, IsMark}
+use Rattle.query_derivation.specs.Predicates.{IsFunction, IsExpression, IsOperand, IsAtom}
 use Rattle.query_leaves.proofs.CompleteLists.{Shrinks, repeated_short}
 use Rattle.query_predicates.proofs.CompleteExpressions.{expression_c, expression_short}
 use Rattle.query_leaves.proofs.CompleteLeaves.{literal_c, literals_c, op_c, op_no_is, truth_c, truth_no_not, truth_no_null, mark_c, aggregate_no_literal, literal_short, op_short, mark_short}

@@ -6,8 +6,8 @@ use Rattle.query_tokens.specs.declared.token.Sign.TheVariants as s
 use Rattle.query_tree.specs.Syntax.{ExpressionForm}
 use Rattle.query_leaves.specs.Steps.{name_at}
 use Rattle.query_predicates.specs.ExpressionSteps.{expression_at}
-use Rattle.query_leaves.specs.Leaves.{IsName}
-use Rattle.query_predicates.specs.Predicates.{IsFunction, IsExpression}
+use Rattle.query_derivation.specs.Leaves.{IsName}
+use Rattle.query_derivation.specs.Predicates.{IsFunction, IsExpression}
 use Rattle.query_leaves.proofs.CompleteLists.{Shrinks, repeated_short}
 use Rattle.query_leaves.proofs.CompleteLeaves.{arguments_c, aggregate_c, function_begins, name_short, aggregate_short}
 

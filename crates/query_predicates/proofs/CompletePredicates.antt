@@ -9,8 +9,8 @@ use Rattle.query_leaves.specs.Fronts.{is_word, after}
 use Rattle.query_leaves.specs.Steps.{Reader}
 use Rattle.query_leaves.specs.LeafSteps.{op_at}
 use Rattle.query_predicates.specs.PredicateSteps.{test_at, negation_at, conjunction_at, disjunction_at, predicate_at}
-use Rattle.query_leaves.specs.Leaves.{Derivation}
-use Rattle.query_predicates.specs.Predicates.{IsPrimary, IsTest, IsNegation, IsConjunction, IsDisjunction, IsPredicate}
+use Rattle.query_derivation.specs.Leaves.{Derivation}
+use Rattle.query_derivation.specs.Predicates.{IsPrimary, IsTest, IsNegation, IsConjunction, IsDisjunction, IsPredicate}
 use Rattle.query_leaves.proofs.CompleteLists.{Shrinks, repeated_short, repeated_follow, unlimited_c}
 use Rattle.query_leaves.proofs.CompleteLeaves.{truth_short, mark_short}
 use Rattle.query_predicates.proofs.CompleteAtoms.{EndsTest, atom_begins, atom_c, atom_test_c, test_none, test_some, atom_short}

@@ -12,8 +12,8 @@ use Rattle.query_leaves.specs.Steps.{bracketed_at}
 use Rattle.query_predicates.specs.ExpressionSteps.{expression_at}
 use Rattle.query_leaves.specs.LeafSteps.{literal_at, literals_at, op_at, truth_at, mark_at}
 use Rattle.query_predicates.specs.AtomSteps.{operand_at, member_after, between_after, negated_after, column_of, atom_after, test_after, is_after, tested_atom_at}
-use Rattle.query_leaves.specs.Leaves.{Derivation, IsLiteral, IsMark}
-use Rattle.query_predicates.specs.Predicates.{IsExpression, IsOperand, IsAtom, IsPrimary, IsTest}
+use Rattle.query_derivation.specs.Leaves.{Derivation, IsLiteral, IsMark}
+use Rattle.query_derivation.specs.Predicates.{IsExpression, IsOperand, IsAtom, IsPrimary, IsTest}
 use Rattle.query_leaves.proofs.Heads.{after_word_is}
 use Rattle.query_leaves.proofs.SoundLists.{IsSound, only_some, read_as, begins_as, leaves_as, bracketed_s}
 use Rattle.query_predicates.proofs.SoundExpressions.{expression_s}

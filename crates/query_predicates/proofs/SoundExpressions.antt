@@ -11,8 +11,8 @@ use Rattle.query_leaves.specs.Fronts.{is_word, after}
 use Rattle.query_leaves.specs.Steps.{name_at}
 use Rattle.query_leaves.specs.LeafSteps.{aggregate_at, arguments_at}
 use Rattle.query_predicates.specs.ExpressionSteps.{expression_at}
-use Rattle.query_leaves.specs.Leaves.{IsRepeated, IsName}
-use Rattle.query_predicates.specs.Predicates.{IsFunction, IsExpression}
+use Rattle.query_derivation.specs.Leaves.{IsRepeated, IsName}
+use Rattle.query_derivation.specs.Predicates.{IsFunction, IsExpression}
 use Rattle.query_leaves.proofs.Heads.{after_word_is}
 use Rattle.query_leaves.proofs.SoundLists.{IsSound, read_as, begins_as, bracketed_s}
 use Rattle.query_leaves.proofs.SoundLeaves.{name_is, name_s, aggregate_s}

@@ -10,8 +10,8 @@ use Rattle.query_leaves.specs.Fronts.{is_word, is_sign, after}
 use Rattle.query_leaves.specs.Steps.{Reader, more}
 use Rattle.query_predicates.specs.AtomSteps.{test_after, tested_atom_at}
 use Rattle.query_predicates.specs.PredicateSteps.{test_at, negation_at, conjunction_at, disjunction_at, predicate_at}
-use Rattle.query_leaves.specs.Leaves.{Derivation}
-use Rattle.query_predicates.specs.Predicates.{IsPrimary, IsTest, IsNegation, IsConjunction, IsDisjunction, IsPredicate, conjunction_of, disjunction_of}
+use Rattle.query_derivation.specs.Leaves.{Derivation}
+use Rattle.query_derivation.specs.Predicates.{IsPrimary, IsTest, IsNegation, IsConjunction, IsDisjunction, IsPredicate, conjunction_of, disjunction_of}
 use Rattle.query_leaves.proofs.Heads.{after_word_is, after_sign_is}
 use Rattle.query_leaves.proofs.SoundLists.{IsSound, only_some, read_as, begins_as, leaves_as, repeated_s}
 use Rattle.query_predicates.proofs.SoundAtoms.{test_after_s, tested_atom_s}

@@ -1,4 +1,3 @@
-pub mod Predicates
 pub mod ExpressionSteps
 pub mod AtomSteps
 pub mod PredicateSteps

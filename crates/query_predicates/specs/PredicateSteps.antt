@@ -6,7 +6,7 @@ use Rattle.query_tokens.specs.declared.token.Sign.TheVariants as s
 use Rattle.query_tokens.specs.Options.{◌>>=◌, choose}
 use Rattle.query_tree.specs.Syntax.{PredicateForm, not_of}
 use Rattle.query_leaves.specs.Fronts.{is_word, is_sign, after}
-use Rattle.query_predicates.specs.Predicates.{conjunction_of, disjunction_of}
+use Rattle.query_derivation.specs.Predicates.{conjunction_of, disjunction_of}
 use Rattle.query_leaves.specs.Steps.{Reader, more}
 use Rattle.query_predicates.specs.AtomSteps.{test_after, tested_atom_at}
 

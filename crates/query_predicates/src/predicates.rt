@@ -5,7 +5,7 @@ ghost use Rattle.query_tokens.specs.declared.token.Word.TheVariants.{And, Or};
 ghost use Rattle.query_tree.specs.Syntax.{predicate_form};
 ghost use Rattle.query_leaves.specs.declared.fault.GrammarFault.TheVariants.{OutOfMemory};
 ghost use Rattle.query_leaves.specs.Fronts.{is_word};
-ghost use Rattle.query_predicates.specs.Predicates.{conjunction_of, disjunction_of};
+ghost use Rattle.query_derivation.specs.Predicates.{conjunction_of, disjunction_of};
 ghost use Rattle.query_leaves.specs.Steps.{Gives, more};
 ghost use Rattle.query_predicates.specs.PredicateSteps.{test_at, negation_at, conjunction_at, predicate_at};
 

@@ -17,8 +17,8 @@ use Rattle.query_tree.specs.declared.expression.Aggregate.{Aggregate}
 use Rattle.query_tree.specs.declared.expression.Aggregate.TheVariants as aggregates
 use Rattle.query_tree.specs.Syntax.{ExpressionForm, FunctionForm, OperandForm, PredicateForm, PredicateForms, name, grouping, function, over_all, over_filtered, or_of, and_of, not_of, truth_test, compare, between, member, null_test, column, no_parts, part, predicate_forms}
 use Rattle.query_print.specs.Canonical.{tightness}
-use Rattle.query_leaves.specs.Leaves.{Derivation, IsRepeated, IsName, IsAggregate, IsLiteral, IsOp, IsTruthValue, IsMark}
-use Rattle.query_predicates.specs.Predicates.{IsFunction, IsExpression, IsOperand, IsAtom, IsPrimary, IsTest, IsNegation, IsConjunction, IsDisjunction, IsPredicate}
+use Rattle.query_derivation.specs.Leaves.{Derivation, IsRepeated, IsName, IsAggregate, IsLiteral, IsOp, IsTruthValue, IsMark}
+use Rattle.query_derivation.specs.Predicates.{IsFunction, IsExpression, IsOperand, IsAtom, IsPrimary, IsTest, IsNegation, IsConjunction, IsDisjunction, IsPredicate}
 use Rattle.query_round.proofs.Good.{Each, Filled, GoodName, GoodFunction, GoodExpression, GoodLiteral, GoodOperand, IsMany, Fits, Good, PartsFit}
 use Rattle.query_round.proofs.Onto.{Onto, others_onto, list_onto, name_onto, aggregate_onto, function_onto, expression_onto, literal_onto, operand_onto, op_sign, truth_word, not_onto, bracketed_onto, predicate_onto, part_ontos}
 

@@ -2,7 +2,7 @@
 use Rattle.std.proofs.Common.{ℕ, Bool, true, false, List, [], ◌∷◌, Option, Some, None}
 use Rattle.query_tokens.specs.declared.token.Token.{Token}
 use Rattle.query_tree.specs.Syntax.{ExpressionForm, PredicateForm, ElementForm, ItemForm, KeyForm, TreeForm}
-use Rattle.query_grammar.specs.Grammar.{IsItem, IsWhere, IsGroup, IsGroupBy, IsHaving, IsDirection, IsNullOrdering, IsKey, IsOrderBy, IsQuery}
+use Rattle.query_derivation.specs.Grammar.{IsItem, IsWhere, IsGroup, IsGroupBy, IsHaving, IsDirection, IsNullOrdering, IsKey, IsOrderBy, IsQuery}
 use Rattle.query_round.proofs.Good.{Each, Within, GoodExpression, Good, GoodItem, GoodElement, GoodKey, GoodTree}
 use Rattle.query_round.proofs.Onto.{expression_onto, alias_onto, item_onto, group_onto, where_onto, group_by_onto, having_onto, direction_onto, nulls_onto, key_onto, order_by_onto, query_onto}
 use Rattle.query_round.proofs.DerivePredicates.{commas_derive, expression_d, predicate_d}

@@ -11,8 +11,8 @@ use Rattle.query_tree.specs.declared.predicate.Literal.{Literal}
 use Rattle.query_tree.specs.declared.expression.Aggregate.{Aggregate}
 use Rattle.query_tree.specs.Syntax.{ExpressionForm, FunctionForm, OperandForm, PredicateForm, or_of, and_of, not_of, truth_test, predicate_forms}
 use Rattle.query_print.specs.Canonical.{tightness}
-use Rattle.query_leaves.specs.Leaves.{Derivation, IsRepeated, IsName, IsAggregate, IsLiteral, IsOp, IsTruthValue, IsMark}
-use Rattle.query_predicates.specs.Predicates.{IsFunction, IsExpression, IsOperand, IsAtom, IsPrimary, IsTest, IsNegation, IsConjunction, IsDisjunction, IsPredicate, conjunction_of, disjunction_of}
+use Rattle.query_derivation.specs.Leaves.{Derivation, IsRepeated, IsName, IsAggregate, IsLiteral, IsOp, IsTruthValue, IsMark}
+use Rattle.query_derivation.specs.Predicates.{IsFunction, IsExpression, IsOperand, IsAtom, IsPrimary, IsTest, IsNegation, IsConjunction, IsDisjunction, IsPredicate, conjunction_of, disjunction_of}
 use Rattle.query_round.proofs.Good.{Each, GoodName, GoodAggregate, GoodFunction, GoodExpression, GoodLiteral, GoodOperand, IsMany, Deeper, Fits, Good, PartsFit, deeper_good}
 use Rattle.query_round.proofs.Sane.{AllSane}
 

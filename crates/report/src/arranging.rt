@@ -1,6 +1,6 @@
 //! The rows of a report.
 ghost use Rattle.std.specs.Prelude.{◌≡◌, All, IfOk, length, map};
-ghost use Rattle.query.specs.Planned.{fields_of_plan, form_of_plan};
+ghost use Rattle.query_plan.specs.Planned.{fields_of_plan, form_of_plan};
 ghost use Rattle.tables.specs.Found.{row_of};
 ghost use Rattle.tables.specs.Planned.{AreFittingUnder};
 ghost use Rattle.report.specs.Inside.Planned.{HasSetUnder};
@@ -12,7 +12,7 @@ use crate::having::kept_rows;
 use crate::ordering::in_order;
 use crate::row::ReportRow;
 use groups::Group;
-use query::Plan;
+use query_plan::Plan;
 use std::alloc::{AllocError, Global};
 use tables::Groups;
 

@@ -3,7 +3,7 @@ ghost use Rattle.std.specs.Prelude.{◌≡◌, ◌≤◌, IfOk, map, length, sli
 ghost use Rattle.values.specs.Datum.{data_of, datum_of, null};
 ghost use Rattle.values.specs.Schema.{fields_of};
 ghost use Rattle.query_tree.specs.Syntax.{expression_form};
-ghost use Rattle.query.specs.Planned.{fields_of_plan, form_of_plan};
+ghost use Rattle.query_plan.specs.Planned.{fields_of_plan, form_of_plan};
 ghost use Rattle.groups.specs.Functions.{plain};
 ghost use Rattle.groups.specs.Cells.{summary_of};
 ghost use Rattle.report.specs.Having.{cell_value};
@@ -11,7 +11,7 @@ ghost use Rattle.report.specs.Inside.Planned.{shown_under};
 ghost use Rattle.report.specs.Shown.{value_in, function_place, function_shown, grouping_number, grouping_shown, is_rolled_up, name_shown};
 
 use groups::{Cell, Group};
-use query::{Aggregate, Expression, Plan, Text};
+use query_plan::{Aggregate, Expression, Plan, Text};
 use query_check::{column_function, place_of};
 use std::alloc::AllocError;
 use values::{Column, Value};

@@ -3,7 +3,7 @@ ghost use Rattle.std.specs.Prelude.{◌≡◌, IfOk, false, map};
 ghost use Rattle.values.specs.Datum.{datum_of};
 ghost use Rattle.query_tree.specs.Syntax.{between, compare, expression_form, member, name, operand_form, predicate_form, predicate_forms};
 ghost use Rattle.query_truth.specs.Truth.{all_of, any_of, operand_value, truth, truths};
-ghost use Rattle.query.specs.Planned.{fields_of_plan, form_of_plan};
+ghost use Rattle.query_plan.specs.Planned.{fields_of_plan, form_of_plan};
 ghost use Rattle.tables.specs.Found.{row_of};
 ghost use Rattle.tables.specs.Planned.{AreFittingUnder};
 ghost use Rattle.report.specs.Having.{rows_kept};
@@ -11,7 +11,7 @@ ghost use Rattle.report.specs.Inside.Planned.{AreTypedUnder, FitsUnder, HasSetUn
 
 use crate::cells::{expression_value, name_value};
 use groups::Group;
-use query::{Expression, Literal, Operand, Plan, Predicate, Text};
+use query_plan::{Expression, Literal, Operand, Plan, Predicate, Text};
 use query_truth::{
     between_truth, literal_value, literal_values, marked, member_truth, null_truth, value_truth,
 };

@@ -3,7 +3,7 @@ ghost use Rattle.std.specs.Prelude.{◌≡◌, IfOk, map};
 ghost use Rattle.values.specs.Datum.{data_of, datum_of};
 ghost use Rattle.query_tree.specs.Syntax.{key_form};
 ghost use Rattle.query_check.specs.Typing.{key_expression};
-ghost use Rattle.query.specs.Planned.{fields_of_plan, form_of_plan};
+ghost use Rattle.query_plan.specs.Planned.{fields_of_plan, form_of_plan};
 ghost use Rattle.tables.specs.Found.{row_of};
 ghost use Rattle.report.specs.Having.{cell_value};
 ghost use Rattle.report.specs.Order.{null_order, under_key};
@@ -12,7 +12,7 @@ ghost use Rattle.report.specs.Inside.Ranked.{key_values, under_values};
 
 use crate::cells::expression_value;
 use groups::Group;
-use query::{Key, Plan};
+use query_plan::{Key, Plan};
 use query_check::key_expression;
 use std::alloc::{AllocError, Global};
 use std::cmp::Ordering;

@@ -2,7 +2,7 @@
 ghost use Rattle.std.specs.Prelude.{◌≡◌, All, IfOk, List, [], map};
 ghost use Rattle.values.specs.Schema.{Field};
 ghost use Rattle.query_tree.specs.Syntax.{TreeForm, key_form};
-ghost use Rattle.query.specs.Planned.{fields_of_plan, form_of_plan};
+ghost use Rattle.query_plan.specs.Planned.{fields_of_plan, form_of_plan};
 ghost use Rattle.tables.specs.Found.{row_of};
 ghost use Rattle.tables.specs.Fitting.{AreFitting};
 ghost use Rattle.tables.specs.Planned.{AreFittingUnder};
@@ -12,7 +12,7 @@ ghost use Rattle.report.specs.Inside.Ranked.{by_key, by_rank, ranked, ranked_in}
 
 use crate::keys::{key_values, under_values};
 use groups::Group;
-use query::{Key, Plan};
+use query_plan::{Key, Plan};
 use std::alloc::{AllocError, Global};
 use std::cmp::Ordering;
 use values::Value;

@@ -4,7 +4,7 @@ ghost use Rattle.std.specs.Io.KnownBytes.{Appends};
 ghost use Rattle.csv.specs.Records.{fields_of};
 ghost use Rattle.csv.specs.Writing.{row_text, default_writer, text_written};
 ghost use Rattle.query_print.specs.Canonical.{header_text};
-ghost use Rattle.query.specs.Planned.{form_of_plan};
+ghost use Rattle.query_plan.specs.Planned.{form_of_plan};
 ghost use Rattle.report.specs.Inside.Between.{IsBetweenRows};
 ghost use Rattle.report.specs.Shown.{cells_of};
 ghost use Rattle.report.specs.Text.{report_bytes};
@@ -12,7 +12,7 @@ ghost use Rattle.report.specs.Text.{report_bytes};
 use crate::fields::cell_fields;
 use crate::row::ReportRow;
 use csv::{ByteRecord, Writer, WriterBuilder};
-use query::{Plan, header};
+use query_plan::{Plan, header};
 use std::alloc::{AllocError, Global};
 use std::io::Write;
 

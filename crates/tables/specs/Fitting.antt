@@ -6,8 +6,8 @@ use Rattle.values.specs.Datum.{Datum, whole, null}
 use Rattle.values.specs.Fit.{Holds}
 use Rattle.values.specs.Schema.{Field}
 use Rattle.query_tree.specs.Syntax.{TreeForm}
-use Rattle.query.specs.declared.plan.Plan.{Plan}
-use Rattle.query.specs.Planned.{fields_of_plan, form_of_plan}
+use Rattle.query_plan.specs.declared.plan.Plan.{Plan}
+use Rattle.query_plan.specs.Planned.{fields_of_plan, form_of_plan}
 use Rattle.query_check.specs.declared.function.ColumnFunction.{ColumnFunction}
 use Rattle.query_check.specs.declared.function.ColumnFunction.TheVariants as function
 use Rattle.query_check.specs.Columns.{kind_at}

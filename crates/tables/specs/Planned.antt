@@ -1,8 +1,8 @@
 -- What partial results and groups are under a plan: under its columns and its query.
 use Rattle.std.specs.Prelude.{List, ℕ}
 use Rattle.groups.specs.Rows.{Row}
-use Rattle.query.specs.declared.plan.Plan.{Plan}
-use Rattle.query.specs.Planned.{fields_of_plan, form_of_plan}
+use Rattle.query_plan.specs.declared.plan.Plan.{Plan}
+use Rattle.query_plan.specs.Planned.{fields_of_plan, form_of_plan}
 use Rattle.tables.specs.Fitting.{AreFitting}
 use Rattle.tables.specs.Found.{Found}
 use Rattle.tables.specs.Members.{HasEachRecordOnce}

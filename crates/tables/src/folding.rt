@@ -6,7 +6,7 @@ ghost use Rattle.tables.specs.Folding.{HasReadUnder, ReadsMoreUnder};
 
 use crate::sets::Tables;
 use lines::{LineFault, LineRefusal, RecordReader, lines_of};
-use query::{Plan, holds};
+use query_plan::{Plan, holds};
 use std::alloc::{AllocError, Global};
 use values::{Record, Truth};
 
@@ -24,7 +24,7 @@ pub(crate) struct Folding {
 impl Folding {
     ghost use Rattle.std.specs.Prelude.{◌≡◌, [], ◌∷◌, ◌++◌, ℕ, List, OnOk, IfOk};
     ghost use Rattle.values.specs.Fit.{Fits};
-    ghost use Rattle.query.specs.Planned.{fields_of_plan};
+    ghost use Rattle.query_plan.specs.Planned.{fields_of_plan};
     ghost use Rattle.groups.specs.Rows.{Row};
     ghost use Rattle.tables.specs.Folding.{AreTablesUnder, HasReadUnder, ReadsMoreUnder, TakesRecordUnder};
 

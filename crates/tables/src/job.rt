@@ -6,7 +6,7 @@ ghost use Rattle.tables.specs.Means.{piece_at};
 use crate::partial::Partial;
 use lines::Piece;
 use pool::Work;
-use query::Plan;
+use query_plan::Plan;
 use std::alloc::{AllocError, Global};
 
 /// The pieces of an input under a plan, each by its index: what a pool makes one result of.
@@ -56,7 +56,7 @@ impl<'a> Job<'a> {
 
 impl<'a> Work for Job<'a> {
     ghost use Rattle.std.specs.Prelude.{[]};
-    ghost use Rattle.query.specs.Planned.{fields_of_plan, form_of_plan};
+    ghost use Rattle.query_plan.specs.Planned.{fields_of_plan, form_of_plan};
     ghost use Rattle.tables.specs.Means.{IsMean, Mean, both, mean, mean_at, meaning};
     ghost use Rattle.tables.specs.Laws.{means_lawful};
 

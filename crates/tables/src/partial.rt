@@ -12,7 +12,7 @@ use crate::numbering::number;
 use crate::rows::rows_of;
 use crate::sets::Tables;
 use crate::shape::Shape;
-use query::Plan;
+use query_plan::Plan;
 use std::alloc::{AllocError, Global};
 use std::marker::Model;
 
@@ -56,7 +56,7 @@ impl Partial {
     ghost use Rattle.values.specs.Schema.{Field};
     ghost use Rattle.lines.specs.Lines.{lines};
     ghost use Rattle.query_tree.specs.Syntax.{TreeForm};
-    ghost use Rattle.query.specs.Planned.{fields_of_plan};
+    ghost use Rattle.query_plan.specs.Planned.{fields_of_plan};
     ghost use Rattle.tables.specs.Partials.{HaveOneShape, IsPartialOf, StandsFor};
     ghost use Rattle.tables.specs.Planned.{AreFittingUnder, GivesGroupsUnder, HasEachRecordOnceUnder, IsPartialUnder, IsResultUnder, StandsForUnder};
     ghost use Rattle.tables.specs.Pieces.{AreInOrder, AreNumbered, HaveOwnIndexes, IndexedPiece, IsCutInto, all_lines, records_of, refused_numbered, refused_within};

@@ -2,7 +2,7 @@
 ghost use Rattle.std.specs.Prelude.{◌≡◌, IfOk, IsTrue, ◌↔◌};
 ghost use Rattle.query_check.specs.Resolution.{contents};
 
-use query::{ColumnFunction, Plan};
+use query_plan::{ColumnFunction, Plan};
 use std::alloc::{AllocError, Global};
 
 /// The grouping sets of a query, and its different set functions.
@@ -13,7 +13,7 @@ pub(crate) struct Shape {
 }
 
 impl Shape {
-    ghost use Rattle.query.specs.Planned.{fields_of_plan, form_of_plan};
+    ghost use Rattle.query_plan.specs.Planned.{fields_of_plan, form_of_plan};
     ghost use Rattle.query_check.specs.Sets.{sets_of};
     ghost use Rattle.query_check.specs.Functions.{functions_of};
 

@@ -1,7 +1,7 @@
 // Partial results over pieces of an input, merged in several orders.
 ghost use Rattle.std.specs.Prelude.{◌≤◌, ◌<◌, ◌^◌, length, IfOk};
 ghost use Rattle.std.proofs.Props.{props};
-ghost use Rattle.query.specs.Planned.{fields_of_plan, form_of_plan};
+ghost use Rattle.query_plan.specs.Planned.{fields_of_plan, form_of_plan};
 ghost use Rattle.tables.specs.Partials.{IsPartialOf};
 
 use super::reference::{Findings, Row, cell_of, findings_of};

@@ -6,8 +6,8 @@ use Rattle.query_check.specs.declared.scope.Clause.TheVariants as clause
 use Rattle.query_check.specs.Sets.{grouping_places, sets_of}
 use Rattle.query_check.specs.Typing.{AreTypedParts, IsTypedPredicate}
 use Rattle.query_truth.specs.Truth.{Valuation}
-use Rattle.query.specs.declared.plan.Plan.{Plan}
-use Rattle.query.specs.Planned.{fields_of_plan, form_of_plan}
+use Rattle.query_plan.specs.declared.plan.Plan.{Plan}
+use Rattle.query_plan.specs.Planned.{fields_of_plan, form_of_plan}
 use Rattle.groups.specs.declared.group.Group.{Group}
 use Rattle.groups.specs.Functions.{Summary}
 use Rattle.groups.specs.Shown.{summary_of}

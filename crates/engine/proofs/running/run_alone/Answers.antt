@@ -3,7 +3,7 @@ use Rattle.std.specs.Prelude.{IfSome}
 use Rattle.std.specs.Io.KnownBytes.{Appends}
 use Rattle.lines.specs.Input.{refused}
 use Rattle.lines.specs.Lines.{lines}
-use Rattle.query.specs.Planned.{fields_of_plan, form_of_plan}
+use Rattle.query_plan.specs.Planned.{fields_of_plan, form_of_plan}
 use Rattle.engine.specs.Run.{IsDecided, refusals, report}
 use Rattle.engine.proofs.Outcomes.{if-ok-known, known-slice, of-known, on-ok-known}
 use Rattle.engine.proofs.running.run_alone.Goals as goal

@@ -1,6 +1,6 @@
 use Rattle.std.proofs.Common.{◌∙◌, ap, map, subst, sym}
 use Rattle.std.specs.List.{All}
-use Rattle.query.specs.Planned.{fields_of_plan, form_of_plan}
+use Rattle.query_plan.specs.Planned.{fields_of_plan, form_of_plan}
 use Rattle.lines.specs.Input.{good}
 use Rattle.tables.specs.Contents.{found_in, refused_in}
 use Rattle.tables.specs.Results.{query_found}

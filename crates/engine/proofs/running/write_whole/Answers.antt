@@ -1,6 +1,6 @@
 use Rattle.std.proofs.Common.{◌∙◌, subst}
 use Rattle.std.specs.Prelude.{IfOk}
-use Rattle.query.specs.Planned.{fields_of_plan, form_of_plan}
+use Rattle.query_plan.specs.Planned.{fields_of_plan, form_of_plan}
 use Rattle.engine.specs.Pieces.{IsWhole}
 use Rattle.engine.proofs.Outcomes.{leaves-written}
 use Rattle.engine.proofs.running.write_whole.Goals as goal

@@ -2,7 +2,7 @@ use Rattle.std.proofs.Common.{◌≡◌, ◌∙◌, Result, Ok, Err, ap, subst, 
 use Rattle.std.specs.Prelude.{IfOk, IsErrAnd, MatchResult}
 use Rattle.std.proofs.lemmas.Result.{IfOk-weaker}
 use Rattle.values.specs.Schema.{schema_of}
-use Rattle.query.specs.Planned.{fields_of_plan}
+use Rattle.query_plan.specs.Planned.{fields_of_plan}
 use Rattle.engine.proofs.serving.plan_of.Goals as goal
 
 -- what holds of an answer holds where its fault is mapped

@@ -2,8 +2,8 @@ use Rattle.std.proofs.Common.{◌≡◌, ◌≤◌, List, length, string_bytes, 
 use Rattle.std.proofs.lemmas.Result.{IfOk-weaker}
 use Rattle.query_print.specs.Canonical.{canonical_text}
 use Rattle.query_tree.specs.Syntax.{TreeForm, tree_form}
-use Rattle.query.specs.Derivation.{Derives}
-use Rattle.query.specs.Form.{form_of}
+use Rattle.query_derivation.specs.Derivation.{Derives}
+use Rattle.query_plan.specs.Form.{form_of}
 use Rattle.query.proofs.Again.{derives-again}
 use Rattle.query.proofs.printing.print.Goals as goal
 

@@ -1,7 +1,7 @@
 use Rattle.std.proofs.Common.{◌≡◌, ◌++◌, ◌<◌, Bor, ℕ, length, map}
 use Rattle.std.specs.List.{AllByRecursion}
 use Rattle.query_check.specs.Sets.{sets_of}
-use Rattle.query.specs.Planned.{fields_of_plan, form_of_plan}
+use Rattle.query_plan.specs.Planned.{fields_of_plan, form_of_plan}
 use Rattle.groups.specs.declared.group.Group.{Group}
 use Rattle.tables.specs.Found.{row_of}
 use Rattle.report.specs.Report.{rows_shown}

@@ -5,7 +5,7 @@ use Rattle.query_tree.specs.Syntax.{ItemForm, TreeForm, item_form}
 use Rattle.query_tree.specs.declared.tree.Item.{Item}
 use Rattle.query_check.specs.Resolution.{contents}
 use Rattle.query_check.specs.Sets.{sets_of}
-use Rattle.query.specs.Planned.{fields_of_plan, form_of_plan}
+use Rattle.query_plan.specs.Planned.{fields_of_plan, form_of_plan}
 use Rattle.tables.specs.Found.{row_of}
 use Rattle.tables.specs.Fitting.{set_of}
 use Rattle.report.specs.Shown.{expression_shown}

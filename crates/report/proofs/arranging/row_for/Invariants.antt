@@ -1,7 +1,7 @@
 use Rattle.std.proofs.Common.{◌≡◌, map, take}
 use Rattle.values.specs.Datum.{data_of}
 use Rattle.query_tree.specs.Syntax.{expression_form}
-use Rattle.query.specs.Planned.{fields_of_plan, form_of_plan}
+use Rattle.query_plan.specs.Planned.{fields_of_plan, form_of_plan}
 use Rattle.groups.specs.Cells.{summary_of}
 use Rattle.report.specs.Shown.{expression_shown}
 use Rattle.report.proofs.arranging.row_for.Given as goal

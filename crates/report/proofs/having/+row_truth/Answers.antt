@@ -9,7 +9,7 @@ use Rattle.query_check.specs.Typing.{IsTypedPredicate}
 use Rattle.query_truth.specs.Meaning.{is_truth_value}
 use Rattle.query_truth.specs.Truth.{truth, truths}
 use Rattle.query_truth.proofs.Truths.{settled-false, settled-true}
-use Rattle.query.specs.Planned.{fields_of_plan, form_of_plan}
+use Rattle.query_plan.specs.Planned.{fields_of_plan, form_of_plan}
 use Rattle.tables.specs.Found.{row_of}
 use Rattle.report.specs.Having.{row_value}
 use Rattle.report.proofs.RowValues.{column_form, member_form, truth-shown, within}

@@ -5,7 +5,7 @@ use Rattle.query_check.specs.declared.scope.Clause.TheVariants as clause
 use Rattle.query_check.specs.Sets.{grouping_places}
 use Rattle.query_check.specs.Typing.{AreTypedParts}
 use Rattle.query_truth.specs.Truth.{all_of, any_of, truths}
-use Rattle.query.specs.Planned.{fields_of_plan, form_of_plan}
+use Rattle.query_plan.specs.Planned.{fields_of_plan, form_of_plan}
 use Rattle.tables.specs.Found.{row_of}
 use Rattle.report.specs.Having.{row_value}
 use Rattle.report.proofs.having.+row_truth.Given as goal

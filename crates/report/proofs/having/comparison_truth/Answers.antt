@@ -4,7 +4,7 @@ use Rattle.values.specs.Datum.{Datum, datum_of}
 use Rattle.query_tree.specs.Syntax.{operand_form}
 use Rattle.query_check.specs.Sets.{grouping_places}
 use Rattle.query_truth.specs.Truth.{operand_value}
-use Rattle.query.specs.Planned.{fields_of_plan, form_of_plan}
+use Rattle.query_plan.specs.Planned.{fields_of_plan, form_of_plan}
 use Rattle.tables.specs.Found.{row_of}
 use Rattle.report.specs.Having.{row_value}
 use Rattle.report.proofs.RowValues.{are-comparable}

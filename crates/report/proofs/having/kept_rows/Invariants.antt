@@ -1,6 +1,6 @@
 use Rattle.std.proofs.Common.{◌≡◌, ◌++◌, Bor, ℕ, drop, map}
 use Rattle.groups.specs.declared.group.Group.{Group}
-use Rattle.query.specs.Planned.{fields_of_plan, form_of_plan}
+use Rattle.query_plan.specs.Planned.{fields_of_plan, form_of_plan}
 use Rattle.tables.specs.Found.{row_of}
 use Rattle.report.specs.Having.{rows_kept}
 use Rattle.report.proofs.having.kept_rows.Given as goal

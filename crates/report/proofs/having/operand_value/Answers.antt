@@ -1,4 +1,4 @@
-use Rattle.query.specs.Planned.{fields_of_plan, form_of_plan}
+use Rattle.query_plan.specs.Planned.{fields_of_plan, form_of_plan}
 use Rattle.tables.specs.Found.{row_of}
 use Rattle.report.proofs.RowValues.{within}
 use Rattle.report.proofs.having.operand_value.Goals as goal

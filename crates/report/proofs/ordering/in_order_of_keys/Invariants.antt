@@ -1,5 +1,5 @@
 use Rattle.std.proofs.Common.{◌≡◌, ◌++◌, map}
-use Rattle.query.specs.Planned.{fields_of_plan, form_of_plan}
+use Rattle.query_plan.specs.Planned.{fields_of_plan, form_of_plan}
 use Rattle.report.specs.Order.{before, in_order}
 use Rattle.report.specs.Inside.Ranked.{ranked_in}
 use Rattle.report.proofs.Rows.{row_at}

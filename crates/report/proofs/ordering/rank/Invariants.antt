@@ -1,7 +1,7 @@
 use Rattle.std.proofs.Common.{◌≡◌, ◌++◌, ◌<◌, length, map}
 use Rattle.std.specs.List.{AllByRecursion}
 use Rattle.query_check.specs.Sets.{sets_of}
-use Rattle.query.specs.Planned.{fields_of_plan, form_of_plan}
+use Rattle.query_plan.specs.Planned.{fields_of_plan, form_of_plan}
 use Rattle.report.specs.Inside.Ranked.{ranked, ranked_in}
 use Rattle.report.proofs.Rows.{row_at}
 use Rattle.report.proofs.ordering.rank.Given as goal

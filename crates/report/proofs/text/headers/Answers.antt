@@ -1,6 +1,6 @@
 use Rattle.std.proofs.Common.{◌∙◌, [], ◌∷◌, ◌++◌, sym, string_bytes}
 use Rattle.query_print.specs.Canonical.{header_text}
-use Rattle.query.specs.Planned.{form_of_plan}
+use Rattle.query_plan.specs.Planned.{form_of_plan}
 use Rattle.report.proofs.Maps.{map-next}
 use Rattle.report.proofs.text.headers.Goals as goal
 

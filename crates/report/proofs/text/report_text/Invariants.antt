@@ -1,6 +1,6 @@
 use Rattle.std.proofs.Common.{◌≡◌, Some, map, take}
 use Rattle.csv.specs.Writing.{text_written}
-use Rattle.query.specs.Planned.{form_of_plan}
+use Rattle.query_plan.specs.Planned.{form_of_plan}
 use Rattle.report.specs.Inside.Between.{IsBetweenRows}
 use Rattle.report.specs.Shown.{cells_of}
 use Rattle.report.specs.Text.{report_bytes}

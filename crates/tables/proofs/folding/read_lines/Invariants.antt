@@ -1,7 +1,7 @@
 use Rattle.std.proofs.Common.{◌++◌, ℕ, List}
 use Rattle.lines.specs.Lines.{lines}
 use Rattle.groups.specs.Rows.{Row}
-use Rattle.query.specs.Planned.{fields_of_plan, form_of_plan}
+use Rattle.query_plan.specs.Planned.{fields_of_plan, form_of_plan}
 use Rattle.tables.specs.Folding.{HasRead}
 use Rattle.tables.proofs.Reading.{HasReadSome}
 use Rattle.tables.proofs.folding.read_lines.Given as goal

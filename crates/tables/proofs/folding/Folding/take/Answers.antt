@@ -1,7 +1,7 @@
 use Rattle.std.proofs.Common.{ℕ, nat_eq, List, All, sym, subst}
 use Rattle.std.specs.List.{IsDistinct}
 use Rattle.groups.specs.Rows.{IsNarrowRow}
-use Rattle.query.specs.Planned.{fields_of_plan, form_of_plan}
+use Rattle.query_plan.specs.Planned.{fields_of_plan, form_of_plan}
 use Rattle.tables.proofs.DistinctSets.{sets-distinct}
 use Rattle.tables.proofs.Narrow.{narrow-from_fits}
 use Rattle.tables.proofs.folding.Folding.take.Goals as goal

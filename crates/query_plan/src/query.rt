@@ -1,6 +1,6 @@
 ghost use Rattle.std.specs.Prelude.{◌≡◌, ℕ, List};
 ghost use Rattle.query_tree.specs.Syntax.{tree_form};
-ghost use Rattle.query.specs.Derivation.{Derives};
+ghost use Rattle.query_derivation.specs.Derivation.{Derives};
 
 use query_tree::Tree;
 
@@ -12,10 +12,10 @@ pub struct Query {
 }
 
 impl Query {
-    ghost use Rattle.query.specs.Form.{form_of};
+    ghost use Rattle.query_plan.specs.Form.{form_of};
 
     /// The query of a tree that some text derives.
-    pub(crate) fn new(tree: Tree) -> Query
+    pub fn new(tree: Tree) -> Query
         requires { ∥ ((text : List ℕ) × Derives text (tree_form tree)) ∥₁ }
         ensures { form_of result ≡ tree_form tree }
     {

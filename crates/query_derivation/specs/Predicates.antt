@@ -12,7 +12,7 @@ use Rattle.query_tokens.specs.declared.token.Word.TheVariants as w
 use Rattle.query_tokens.specs.declared.token.Sign.TheVariants as s
 use Rattle.query_tree.specs.declared.expression.Aggregate.{Aggregate}
 use Rattle.query_tree.specs.declared.predicate.Literal.{Literal}
-use Rattle.query_leaves.specs.Leaves.{Derivation, IsRepeated, IsName, IsAggregate, IsLiteral, IsOp, IsTruthValue, IsMark}
+use Rattle.query_derivation.specs.Leaves.{Derivation, IsRepeated, IsName, IsAggregate, IsLiteral, IsOp, IsTruthValue, IsMark}
 use Rattle.query_tree.specs.Syntax.{ExpressionForm, FunctionForm, OperandForm, PredicateForm, over_all, or_of, and_of, not_of, truth_test, predicate_forms}
 
 -- ---- expressions

@@ -4,8 +4,8 @@ use Rattle.std.proofs.Common.{◌≡◌, ◌∙◌, ap}
 use Rattle.std.proofs.Math.Logic.{∥∥₁_elim}
 use Rattle.query_check.specs.Resolution.{Resolution}
 use Rattle.query_check.specs.Sets.{grouping_places}
-use Rattle.query.specs.Planned.{fields_of_plan, form_of_plan}
-use Rattle.query.proofs.plan.Plan.grouping.Goals as goal
+use Rattle.query_plan.specs.Planned.{fields_of_plan, form_of_plan}
+use Rattle.query_plan.proofs.plan.Plan.grouping.Goals as goal
 
 pub returns : goal.returns
 returns c =

@@ -6,8 +6,8 @@ use Rattle.std.specs.Global.{Vec}
 use Rattle.query_check.specs.Resolution.{contents}
 use Rattle.query_check.specs.Sets.{sets_of}
 use Rattle.query_print.specs.Canonical.{set_text}
-use Rattle.query.specs.Planned.{fields_of_plan, form_of_plan}
-use Rattle.query.proofs.printing.set_text.Goals as goal
+use Rattle.query_plan.specs.Planned.{fields_of_plan, form_of_plan}
+use Rattle.query_plan.proofs.printing.set_text.Goals as goal
 
 -- the set at a place of the list, apart from where it lies in memory
 contents_at : (sets : List (Vec ℕ)) (i : ℕ) (set : Vec ℕ) → i < length sets → set ≡ get_or sets i set → slice_get (contents sets) i ≡ Some set.items

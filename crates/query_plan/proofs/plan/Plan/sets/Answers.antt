@@ -4,8 +4,8 @@ use Rattle.std.proofs.Common.{◌≡◌, ◌∙◌, ap}
 use Rattle.std.proofs.Math.Logic.{∥∥₁_elim}
 use Rattle.query_check.specs.Resolution.{Resolution, contents}
 use Rattle.query_check.specs.Sets.{sets_of}
-use Rattle.query.specs.Planned.{fields_of_plan, form_of_plan}
-use Rattle.query.proofs.plan.Plan.sets.Goals as goal
+use Rattle.query_plan.specs.Planned.{fields_of_plan, form_of_plan}
+use Rattle.query_plan.proofs.plan.Plan.sets.Goals as goal
 
 pub returns : goal.returns
 returns c =

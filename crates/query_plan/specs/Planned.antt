@@ -2,8 +2,8 @@
 use Rattle.std.specs.Prelude.{List}
 use Rattle.values.specs.Schema.{Field}
 use Rattle.query_tree.specs.Syntax.{TreeForm}
-use Rattle.query.specs.declared.plan.Plan.{Plan}
-use Rattle.query.specs.Form.{form_of}
+use Rattle.query_plan.specs.declared.plan.Plan.{Plan}
+use Rattle.query_plan.specs.Form.{form_of}
 
 -- The form of the tree of a plan's query.
 abbrev pub form_of_plan : Plan → TreeForm

@@ -2,7 +2,7 @@
 ghost use Rattle.std.specs.Prelude.{◌≡◌};
 ghost use Rattle.values.specs.Fit.{Fits};
 ghost use Rattle.query_truth.specs.Kept.{where_truth};
-ghost use Rattle.query.specs.Planned.{fields_of_plan, form_of_plan};
+ghost use Rattle.query_plan.specs.Planned.{fields_of_plan, form_of_plan};
 
 use crate::plan::Plan;
 use values::{Record, Truth};

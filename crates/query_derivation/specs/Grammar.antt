@@ -9,8 +9,8 @@ use Rattle.query_tokens.specs.declared.token.Token.TheVariants as tokens
 use Rattle.query_tokens.specs.declared.token.Word.TheVariants as w
 use Rattle.query_tokens.specs.declared.token.Sign.TheVariants as s
 use Rattle.query_tree.specs.Syntax.{ExpressionForm, PredicateForm, ElementForm, ItemForm, KeyForm, TreeForm, element_forms}
-use Rattle.query_leaves.specs.Leaves.{Derivation, IsRepeated, IsName}
-use Rattle.query_predicates.specs.Predicates.{IsExpression, IsPredicate}
+use Rattle.query_derivation.specs.Leaves.{Derivation, IsRepeated, IsName}
+use Rattle.query_derivation.specs.Predicates.{IsExpression, IsPredicate}
 
 -- ---- the query
 

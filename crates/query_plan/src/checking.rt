@@ -7,8 +7,8 @@ ghost use Rattle.query_check.specs.Typing.{IsTyped};
 ghost use Rattle.query_fault.specs.declared.QueryFault.TheVariants.{OutOfMemory};
 ghost use Rattle.query_tree.specs.Syntax.{tree_form};
 ghost use Rattle.query_truth.specs.Binding.{IsConditionOf};
-ghost use Rattle.query.specs.Form.{form_of};
-ghost use Rattle.query.specs.Planned.{fields_of_plan, form_of_plan};
+ghost use Rattle.query_plan.specs.Form.{form_of};
+ghost use Rattle.query_plan.specs.Planned.{fields_of_plan, form_of_plan};
 
 use crate::plan::Plan;
 use crate::query::Query;

@@ -1,5 +1,5 @@
 -- What a query is, for contracts.
-use Rattle.query.specs.declared.query.Query.{Query}
+use Rattle.query_plan.specs.declared.query.Query.{Query}
 use Rattle.query_tree.specs.Syntax.{TreeForm, tree_form}
 
 -- The form of the tree of a query.

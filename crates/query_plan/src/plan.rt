@@ -3,7 +3,7 @@ ghost use Rattle.values.specs.Schema.{Field};
 ghost use Rattle.query_check.specs.Resolution.{resolution_of};
 ghost use Rattle.query_check.specs.Typing.{IsTyped};
 ghost use Rattle.query_truth.specs.Binding.{IsConditionOf};
-ghost use Rattle.query.specs.Form.{form_of};
+ghost use Rattle.query_plan.specs.Form.{form_of};
 
 use crate::query::Query;
 use query_check::{ColumnFunction, Resolved};
@@ -30,7 +30,7 @@ impl Plan {
     ghost use Rattle.query_check.specs.Sets.{grouping_places, sets_of};
     ghost use Rattle.query_check.specs.Functions.{functions_of};
     ghost use Rattle.query_truth.specs.Kept.{where_truth};
-    ghost use Rattle.query.specs.Planned.{fields_of_plan, form_of_plan};
+    ghost use Rattle.query_plan.specs.Planned.{fields_of_plan, form_of_plan};
 
     /// The plan of a query that is typed under a schema, of what it is resolved to there, and of the
     /// condition of its WHERE.

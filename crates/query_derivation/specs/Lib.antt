@@ -1,0 +1,4 @@
+pub mod Derivation
+pub mod Grammar
+pub mod Leaves
+pub mod Predicates

@@ -1,0 +1,2 @@
+mod FunctionCodes
+mod TruthCodes

@@ -1,0 +1,21 @@
+//! A query that some text derives, and its plan under a schema: checking it, what it holds of a record,
+//! its headers and the texts of its grouping sets.
+#![tactic(auto)]
+
+mod checking;
+mod holding;
+mod plan;
+mod printing;
+mod query;
+
+pub use checking::check;
+pub use holding::holds;
+pub use plan::Plan;
+pub use printing::{header, set_text};
+pub use query::Query;
+pub use query_check::ColumnFunction;
+pub use query_fault::QueryFault;
+pub use query_tree::{
+    Aggregate, Expression, GroupingElement, Item, Key, Literal, Operand, Predicate, SetFunction,
+    Text, Tree,
+};

@@ -1,0 +1,35 @@
+// The texts of a plan.
+ghost use Rattle.std.specs.Prelude.{◌≡◌, ◌<◌, IfOk, Some, length, option_map, slice_get, string_bytes};
+ghost use Rattle.query_check.specs.Sets.{sets_of};
+ghost use Rattle.query_print.specs.Canonical.{header_text, set_text};
+ghost use Rattle.query_plan.specs.Planned.{fields_of_plan, form_of_plan};
+
+use crate::plan::Plan;
+use std::alloc::{AllocError, Global};
+
+/// The header of an item of SELECT, counted from 0: its alias, or its canonical text where it has
+/// none.
+///
+/// # Errors
+///
+/// `AllocError` where there is no memory for the text.
+pub fn header(alloc: Global, plan: &Plan, item: usize) -> Result<String, AllocError>
+    requires { item < length (form_of_plan plan.now).items }
+    ensures text { IfOk result (λ text. Some (string_bytes text) ≡ option_map header_text (slice_get (form_of_plan plan.now).items item)) }
+{
+    let items = plan.query().tree().items.as_slice();
+    query_print::header(alloc, &items[item])
+}
+
+/// The text `(c1, c2)` of a grouping set, counted from 0 in the expanded list: its columns in the
+/// order in which GROUP BY first names them.
+///
+/// # Errors
+///
+/// `AllocError` where there is no memory for the text.
+pub fn set_text(alloc: Global, plan: &Plan, set: usize) -> Result<String, AllocError>
+    requires { set < length (sets_of (fields_of_plan plan.now) (form_of_plan plan.now)) }
+    ensures text { IfOk result (λ text. Some (string_bytes text) ≡ option_map (set_text (fields_of_plan plan.now)) (slice_get (sets_of (fields_of_plan plan.now) (form_of_plan plan.now)) set)) }
+{
+    query_print::set_text(alloc, plan.schema(), &plan.sets()[set])
+}
