@@ -1,4 +1,4 @@
-//! The grammar of queries: which query a list of tokens derives, and a reader of it.
+//! The reader of whole queries.
 #![tactic(auto)]
 
 mod groups;

@@ -1,8 +1,7 @@
-//! The leaves of the grammar, which hold no expression and no predicate: names, the names of GROUPING, set functions
-//! apart from their FILTER, literals, operators and truth values. Which of them the tokens in front of others derive, and
-//! readers of them.
+//! The readers of the leaves of the grammar, which hold no expression and no predicate: names, the names of GROUPING, set
+//! functions apart from their FILTER, literals, operators and truth values.
 //!
-//! The grammar of expressions, predicates and queries stands on this crate, and takes its readers of single tokens too.
+//! The readers of expressions, predicates and queries stand on this crate, and take its readers of single tokens too.
 #![tactic(auto)]
 
 mod arguments;

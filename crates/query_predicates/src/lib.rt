@@ -1,4 +1,4 @@
-//! The grammar of expressions and predicates: which of them the tokens in front of others derive, and readers of them.
+//! The readers of expressions and predicates.
 #![tactic(auto)]
 
 mod atoms;
