@@ -3,7 +3,6 @@ pub mod Cuts
 pub mod Explained
 pub mod Tallies
 pub mod Named
-pub mod Shown
 pub mod Outcomes
 pub mod Pooled
 mod Sharing

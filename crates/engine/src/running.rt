@@ -6,8 +6,7 @@ ghost use Rattle.lines.specs.Input.{refused};
 ghost use Rattle.lines.specs.Lines.{lines};
 ghost use Rattle.query_tree.specs.Syntax.{TreeForm};
 ghost use Rattle.query_plan.specs.Planned.{fields_of_plan, form_of_plan};
-ghost use Rattle.tables.specs.Fitting.{AreFitting};
-ghost use Rattle.tables.specs.Contents.{found_in};
+ghost use Rattle.tables.specs.Planned.{AreFittingUnder};
 ghost use Rattle.report.specs.Report.{report_of};
 ghost use Rattle.engine.specs.Pieces.{IsWhole};
 ghost use Rattle.engine.specs.Run.{IsDecided, IsUnwritten, IsWithin, Leaves, Refuses, refusals, report};
@@ -199,9 +198,9 @@ fn texts_of(alloc: Global, plan: &Plan, partial: Partial) -> Result<Texts, Alloc
 
 /// The report on groups.
 fn report_of(alloc: Global, plan: &Plan, groups: &Groups) -> Result<Vec<u8>, AllocError>
-    requires { AreFitting (fields_of_plan plan.now) (form_of_plan plan.now) (found_in groups.now) }
+    requires { AreFittingUnder plan.now groups.now.found }
     ensures { IfOk result (λ text. text.items
-        ≡ report_of (fields_of_plan plan.now) (form_of_plan plan.now) (found_in groups.now)) }
+        ≡ report_of (fields_of_plan plan.now) (form_of_plan plan.now) groups.now.found) }
 {
     let rows = arrange(alloc, groups, plan)?;
     report_text(alloc, rows.as_slice(), plan)

@@ -2,7 +2,6 @@ use Rattle.std.proofs.Common.{◌∙◌, ap, map, subst, sym}
 use Rattle.std.specs.List.{All}
 use Rattle.query_plan.specs.Planned.{fields_of_plan, form_of_plan}
 use Rattle.lines.specs.Input.{good}
-use Rattle.tables.specs.Contents.{found_in, refused_in}
 use Rattle.tables.specs.Results.{query_found}
 use Rattle.report.specs.Report.{NamesColumn}
 use Rattle.report.specs.Shown.{row_shown}
@@ -15,7 +14,7 @@ refused_text-requires c =
     let plan = c.args.plan.now in
     let whole = c.requires.1 in
     let is = c.in_ok-groups.ensures.whole c.requires.0 whole.pieces whole.stands whole.cut in
-    subst (λ fields. All (λ line. NamesColumn fields line.1) (refused_in c.in_ok-groups.groups)) (sym c.schema.ensures.schema)
+    subst (λ fields. All (λ line. NamesColumn fields line.1) c.in_ok-groups.groups.refused) (sym c.schema.ensures.schema)
     (subst (λ refused. All (λ line. NamesColumn (fields_of_plan plan) line.1) refused) (sym is.refused) (refused-named (fields_of_plan plan) c.requires.0))
 
 pub returns-clause-report : goal.returns-clause-report
@@ -25,6 +24,6 @@ returns-clause-report c = λ input whole.
     let groups = c.in_ok-groups.groups in
     let is = c.in_ok-groups.ensures.whole input whole.pieces whole.stands whole.cut in
     let fit = c.in_ok-groups.ensures.fit whole.pieces whole.stands in
-    let blind = c.arranged_law.ensures fields q (found_in groups) fit
+    let blind = c.arranged_law.ensures fields q groups.found fit
     (query_found fields q (good fields input)) is.rows in
     c.in_ok-report.ensures ∙ ap (λ rows. report_bytes q.items (map (row_shown fields q) rows)) (sym blind)
