@@ -13,7 +13,6 @@ pub mod Cutting
 pub mod SameBags
 pub mod Numbered
 pub mod Shapes
-pub mod DistinctSets
 pub mod Bags
 pub mod Taken
 pub mod Types

@@ -1,8 +1,6 @@
 -- Tables of which those before a place have taken something and the others not yet.
 use Rattle.std.proofs.Common.{◌≡◌, ◌<◌, ℕ, zero, suc, List, [], ◌∷◌, ◌++◌, length, refl, sym, ap, subst, ◌∙◌, arith, get_or, set}
-use Rattle.std.proofs.Common.{All, Vec, Global, nat_eq}
-use Rattle.std.proofs.lemmas.List.{get_or-map, length-map}
-use Rattle.std.specs.List.{IsDistinct}
+use Rattle.std.proofs.Common.{Vec, Global}
 use Rattle.std.specs.Bool.{⊤}
 use Rattle.query_check.specs.declared.function.ColumnFunction.{ColumnFunction}
 use Rattle.groups.specs.Rows.{Row}
@@ -65,9 +63,3 @@ tables-pushed [] fs [] rows s t p h = (h, tt)
 tables-pushed [] fs (y ∷ tables) rows s t p h = absurd p
 tables-pushed (x ∷ sets) fs [] rows s t p h = absurd p
 tables-pushed (x ∷ sets) fs (y ∷ tables) rows s t p h = (p.0, tables-pushed sets fs tables rows s t p.1 h)
-
--- the set at the place has no column twice
-pub distinct-at : (sets : List (Vec ℕ Global)) (n : ℕ) (s : Vec ℕ Global) → n < length sets → s ≡ get_or sets n s → All (IsDistinct nat_eq) (places_of sets) → IsDistinct nat_eq s.items
-distinct-at sets n s h e d =
-    let long = length-map sets (λ (v : Vec ℕ Global). v.items) in
-    subst (IsDistinct nat_eq) (get_or-map (λ (v : Vec ℕ Global). v.items) sets n s s.items h ∙ ap (λ (v : Vec ℕ Global). v.items) (sym e)) (d n s.items (omega (arith, h, long)))

@@ -61,7 +61,10 @@ impl Folding {
             → HasReadUnder plan.now before self.new (seen ++ line.now ∷ [])) }
     {
         match reader.read(plan.schema(), line) {
-            Ok(taken) => self.take(plan, taken)?,
+            Ok(taken) => {
+                self.take(plan, &taken)?;
+                reader.give_back(taken);
+            }
             Err(LineRefusal::Fault(fault)) => self.refused.push((self.lines + 1, fault))?,
             Err(LineRefusal::Memory) => return Err(AllocError),
         }
@@ -70,17 +73,17 @@ impl Folding {
     }
 
     /// Takes one more record into the tables, where it is kept.
-    fn take(&mut self, plan: &Plan, taken: Record) -> Result<(), AllocError>
-        requires fits { Fits (fields_of_plan plan.now) taken }
+    fn take(&mut self, plan: &Plan, taken: &Record) -> Result<(), AllocError>
+        requires fits { Fits (fields_of_plan plan.now) taken.now }
         requires room { TakesRecordUnder plan.now self.old }
         ensures tables { OnOk result ((rows : List Row) → AreTablesUnder plan.now self.old.tables rows
-            → AreTablesUnder plan.now self.new.tables (rows ++ taken ∷ [])) }
+            → AreTablesUnder plan.now self.new.tables (rows ++ taken.now ∷ [])) }
         ensures lines { self.new.lines ≡ self.old.lines }
         ensures refused { self.new.refused.items ≡ self.old.refused.items }
     {
-        if holds(plan, &taken).is(Truth::True) {
+        if holds(plan, taken).is(Truth::True) {
             self.tables
-                .add(plan.sets(), plan.functions(), taken.into_values())?;
+                .add(plan.sets(), plan.functions(), taken.values())?;
         }
         Ok(())
     }

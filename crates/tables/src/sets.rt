@@ -29,8 +29,7 @@ impl Model for Tables {
 }
 
 impl Tables {
-    ghost use Rattle.std.specs.Prelude.{ℕ, [], ◌∷◌, ◌++◌, nat_eq, All, OnOk, IfOk, List};
-    ghost use Rattle.std.specs.List.{IsDistinct};
+    ghost use Rattle.std.specs.Prelude.{ℕ, [], ◌∷◌, ◌++◌, OnOk, IfOk, List};
     ghost use Rattle.values.specs.Datum.{data_of};
     ghost use Rattle.query_check.specs.declared.function.ColumnFunction.{ColumnFunction};
     ghost use Rattle.groups.specs.Rows.{Row};
@@ -52,27 +51,22 @@ impl Tables {
         Ok(Tables { tables })
     }
 
-    /// Takes one more record, by its values, into each table; they move into the key of the last. After
-    /// an error the tables are of no use.
+    /// Takes one more record, by its values, into each table. After an error the tables are of no use.
     pub(crate) fn add(
         &mut self,
         sets: &[Vec<usize>],
         functions: &[ColumnFunction],
-        row: Vec<Value>,
+        row: &[Value],
     ) -> Result<(), AllocError>
-        requires different { All (IsDistinct nat_eq) (places_of sets.now) }
-        requires narrow { IsNarrowRow (data_of row.items) }
+        requires narrow { IsNarrowRow (data_of row.now) }
         requires room { ∥ AllTakeOne (places_of sets.now) functions.now self.old ∥₁ }
         ensures added { OnOk result ((rows : List Row) → AreTablesOf (places_of sets.now) functions.now self.old rows
-            → AreTablesOf (places_of sets.now) functions.now self.new (rows ++ data_of row.items ∷ [])) }
+            → AreTablesOf (places_of sets.now) functions.now self.new (rows ++ data_of row.now ∷ [])) }
     {
-        let Some(last) = sets.len().checked_sub(1) else {
-            return Ok(());
-        };
-        for place in 0..last {
-            self.tables[place].add(sets[place].as_slice(), functions, row.as_slice())?;
+        for place in 0..sets.len() {
+            self.tables[place].add(sets[place].as_slice(), functions, row)?;
         }
-        self.tables[last].add_last(sets[last].as_slice(), functions, row)
+        Ok(())
     }
 
     /// Takes the records of other tables of the same sets. After an error the tables are of no use.
