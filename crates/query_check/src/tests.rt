@@ -1,3 +1,5 @@
+//! What no clause says: that a query is checked and resolved where memory is ample.
+
 use crate::{ColumnFunction, check_tree, set_count};
 use query_tree::{Aggregate, Expression, GroupingElement, Item, SetFunction, Text, Tree};
 use std::alloc::Global;
