@@ -1,5 +1,6 @@
-// The texts of a query and of its plan.
-ghost use Rattle.std.specs.Prelude.{◌≡◌, ◌<◌, ◌≤◌, IfOk, Some, length, map, option_map, slice_get, string_bytes};
+//! The texts of a query and of its plan.
+
+ghost use Rattle.std.specs.Prelude.{◌≡◌, ◌<◌, ◌≤◌, IfOk, Some, length, option_map, slice_get, string_bytes};
 ghost use Rattle.query_check.specs.Sets.{sets_of};
 ghost use Rattle.query_print.specs.Canonical.{canonical_text, header_text, set_text};
 ghost use Rattle.query.specs.Derivation.{Derives};
