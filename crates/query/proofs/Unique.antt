@@ -1,5 +1,5 @@
 -- No text derives two queries.
-use Rattle.std.proofs.Common.{◌≡◌, ℕ, List, subst, sym}
+use Rattle.std.proofs.Common.{◌≡◌, ℕ, List, subst}
 use Rattle.query_tokens.specs.declared.token.Token.{Token}
 use Rattle.query_tokens.specs.Spelling.{Spells}
 use Rattle.query_tree.specs.Syntax.{TreeForm}

@@ -1,4 +1,5 @@
-// A law of the language.
+//! A law of the language.
+
 ghost use Rattle.std.specs.Prelude.{◌≡◌, ℕ, List};
 ghost use Rattle.query_tree.specs.Syntax.{TreeForm};
 ghost use Rattle.query_derivation.specs.Derivation.{Derives};

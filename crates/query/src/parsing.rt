@@ -1,4 +1,5 @@
-// Reading a query.
+//! Reading a query.
+
 ghost use Rattle.std.specs.Prelude.{◌≡◌, ◌<◌, [], ◌∷◌, ◌++◌, ℕ, Contains, Err, IfErr, IfOk, MatchResult, length};
 ghost use Rattle.query_fault.specs.declared.QueryFault.TheVariants.{NoToken, OutOfMemory, OverLimit};
 ghost use Rattle.query_tokens.specs.Spelling.{StopsAt};

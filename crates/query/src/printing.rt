@@ -1,4 +1,5 @@
-// The canonical text of a query.
+//! The canonical text of a query.
+
 ghost use Rattle.std.specs.Prelude.{◌≡◌, ◌≤◌, IfOk, length, string_bytes};
 ghost use Rattle.query_print.specs.Canonical.{canonical_text};
 ghost use Rattle.query_derivation.specs.Derivation.{Derives};

@@ -1,7 +1,7 @@
 //! How many sets GROUP BY stands for.
 
 ghost use Rattle.std.specs.Prelude.{◌≡◌, length, map, min};
-ghost use Rattle.query_tree.specs.Syntax.{element_form, element_forms};
+ghost use Rattle.query_tree.specs.Syntax.{element_form};
 ghost use Rattle.query_check.specs.Sets.{expanded, group_sets};
 
 use query_tree::GroupingElement;

@@ -1,10 +1,10 @@
 //! The expanded list of grouping sets.
 
-ghost use Rattle.std.specs.Prelude.{◌≡◌, ◌++◌, map, IfOk, OnOk};
+ghost use Rattle.std.specs.Prelude.{◌≡◌, map, IfOk};
 ghost use Rattle.values.specs.Schema.{fields_of};
-ghost use Rattle.query_tree.specs.Syntax.{element_form, element_forms, units_form};
+ghost use Rattle.query_tree.specs.Syntax.{element_form, units_form};
 ghost use Rattle.query_check.specs.Columns.{places_of};
-ghost use Rattle.query_check.specs.Sets.{crossed, cube_sets, expanded, group_sets, ordered_set, rollup_sets};
+ghost use Rattle.query_check.specs.Sets.{expanded, group_sets, ordered_set};
 ghost use Rattle.query_check.specs.Resolution.{contents};
 
 use crate::joining::{cube, one_set, ordered_sets, rollup};

@@ -1,7 +1,6 @@
 //! Set functions over columns by their places.
 
-ghost use Rattle.std.specs.Prelude.{◌≡◌, ◌++◌, IfOk, OnOk};
-ghost use Rattle.std.specs.List.{filter_map};
+ghost use Rattle.std.specs.Prelude.{◌≡◌};
 ghost use Rattle.values.specs.Schema.{fields_of};
 ghost use Rattle.query_check.specs.Functions.{column_function, same_function};
 

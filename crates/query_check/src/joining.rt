@@ -1,7 +1,6 @@
 //! Sets of places of columns, joined.
 
-ghost use Rattle.std.specs.Prelude.{◌≡◌, ◌++◌, ◌∷◌, ◌==◌, [], filter, map, IfOk, OnOk};
-ghost use Rattle.std.specs.List.{list_any};
+ghost use Rattle.std.specs.Prelude.{◌≡◌, ◌++◌, ◌∷◌, [], filter, map, IfOk};
 ghost use Rattle.query_check.specs.Sets.{crossed, cube_sets, ordered_set, rollup_sets};
 ghost use Rattle.query_check.specs.Resolution.{contents};
 

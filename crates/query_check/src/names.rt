@@ -3,7 +3,7 @@
 ghost use Rattle.std.specs.Prelude.{◌≡◌, ◌++◌, ◌==◌, map, IfOk, OnOk};
 ghost use Rattle.std.specs.List.{flat_map};
 ghost use Rattle.values.specs.Schema.{fields_of};
-ghost use Rattle.query_tree.specs.Syntax.{element_form, element_forms, units_form};
+ghost use Rattle.query_tree.specs.Syntax.{element_form, units_form};
 ghost use Rattle.query_check.specs.Columns.{distinct, group_names, places_of};
 ghost use Rattle.query_check.specs.Faults.{Answers, first_fault, group_fault, names_fault};
 

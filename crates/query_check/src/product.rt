@@ -1,6 +1,6 @@
 //! A cross product of grouping sets that is being made.
 
-ghost use Rattle.std.specs.Prelude.{◌≡◌, ◌++◌, ◌∷◌, ◌==◌, [], filter, map, IfOk, OnOk};
+ghost use Rattle.std.specs.Prelude.{◌≡◌, ◌∷◌, [], map, IfOk, OnOk};
 ghost use Rattle.query_check.specs.Sets.{crossed, ordered_set};
 ghost use Rattle.query_check.specs.Resolution.{contents};
 

@@ -1,9 +1,9 @@
 //! Checking a query, and what it is resolved to.
 
-ghost use Rattle.std.specs.Prelude.{◌≡◌, ◌≢◌, ◌++◌, map, string_bytes, filter, false, length, IfErr, IfOk, OnOk, Some};
+ghost use Rattle.std.specs.Prelude.{◌≡◌, ◌≢◌, ◌++◌, map, string_bytes, length, IfErr, IfOk, OnOk, Some};
 ghost use Rattle.std.specs.List.{filter_map, flat_map, list_any};
 ghost use Rattle.std.specs.Str.{bytes_eq};
-ghost use Rattle.std.specs.Option.{option_map, option_map_or};
+ghost use Rattle.std.specs.Option.{option_map};
 ghost use Rattle.values.specs.Schema.{fields_of};
 ghost use Rattle.query_tree.specs.Syntax.{expression_form, element_form, item_form, key_form, operand_form, predicate_form, predicate_forms, tree_form};
 ghost use Rattle.query_print.specs.Canonical.{header_text};

@@ -1,6 +1,6 @@
 //! Whether expressions and predicates are typed, fault by fault.
 
-ghost use Rattle.std.specs.Prelude.{◌≡◌, ◌≢◌, map, IfOk, Some};
+ghost use Rattle.std.specs.Prelude.{◌≡◌, ◌≢◌, map, Some};
 ghost use Rattle.values.specs.Schema.{fields_of};
 ghost use Rattle.query_fault.specs.declared.QueryFault.TheVariants.{UnknownColumn, NotGrouped, OutOfMemory};
 ghost use Rattle.query_tree.specs.Syntax.{expression_form, operand_form, predicate_form, predicate_forms};

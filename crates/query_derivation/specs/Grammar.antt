@@ -1,7 +1,6 @@
--- The grammar of queries, with one case for each production. `P ts x rest` says that the tokens in front of `ts` derive
--- `x`, and that `rest` stands behind them. The production is written above its relation: words in capitals are keywords,
--- words in small letters are other productions, `{ x }` is none or more, `[ x ]` is none or one, `|` parts choices. The
--- relations of expressions and predicates stand in Predicates, and those of names in Leaves.
+-- The grammar of queries, with one case for each production. Relations and productions are written as in Leaves, where
+-- those of names stand; those of expressions and predicates stand in Predicates. All productions on one page are in
+-- docs/LANGUAGE.md.
 use Rattle.std.specs.Prelude.{◌<◌, ℕ, zero, suc, Bool, true, false, Option, Some, None, List, [], ◌∷◌, length, codes}
 use Rattle.query_tokens.specs.declared.token.Token.{Token}
 use Rattle.query_tokens.specs.declared.token.Token.TheVariants as tokens

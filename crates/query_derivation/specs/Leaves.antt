@@ -1,6 +1,7 @@
 -- The leaves of the grammar, which hold no expression and no predicate, with one case for each production. `P ts x rest`
 -- says that the tokens in front of `ts` derive `x`, and that `rest` stands behind them. The production is written above its
--- relation: words in capitals are keywords, `{ x }` is none or more, `[ x ]` is none or one, `|` parts choices.
+-- relation: words in capitals are keywords, words in small letters are other productions, `{ x }` is none or more, `[ x ]`
+-- is none or one, `|` parts choices.
 use Rattle.std.specs.Prelude.{ℕ, ℤ, Bool, true, false, List, [], ◌∷◌}
 use Rattle.values.specs.declared.comparison.Op.{Op}
 use Rattle.values.specs.declared.comparison.Op.TheVariants as op

@@ -1,8 +1,5 @@
--- The grammar of expressions and predicates, with one case for each production. `P ts x rest` says that the tokens in
--- front of `ts` derive `x`, and that `rest` stands behind them. The production is written above its relation: words in
--- capitals are keywords, words in small letters are other productions, `{ x }` is none or more, `[ x ]` is none or one,
--- `|` parts choices. The relations of names, set functions, literals, operators and truth values stand in
--- Leaves.
+-- The grammar of expressions and predicates, with one case for each production. Relations and productions are written as
+-- in Leaves, where those of names, set functions, literals, operators and truth values stand.
 use Rattle.std.specs.Prelude.{◌<◌, ℕ, zero, suc, Bool, List, [], ◌∷◌, length}
 use Rattle.values.specs.declared.comparison.Op.{Op}
 use Rattle.values.specs.declared.truth.Truth.{Truth}

@@ -13,7 +13,7 @@ use Rattle.query_leaves.specs.declared.fault.GrammarFault.TheVariants as faults
 use Rattle.query_leaves.specs.Fronts.{is_word, is_sign, after}
 use Rattle.query_leaves.specs.Steps.{Gives, name_at}
 use Rattle.query_grammar.specs.GroupSteps.{group_at}
-use Rattle.query_grammar.specs.QuerySteps.{alias_at, item_at, items_at, from_at, clause_at, groups_at, query_at, whole_at}
+use Rattle.query_grammar.specs.QuerySteps.{alias_at, item_at, items_at, from_at, clause_at, groups_at, select_at, records_at, rows_at, query_at, whole_at}
 use Rattle.query_derivation.specs.Grammar.{IsItem, IsWhere, IsGroup, IsGroupBy, IsHaving, IsOrderBy, IsQuery, Derives}
 use Rattle.query_leaves.proofs.CompleteLists.{repeated_follow, repeated_c, unlimited_c}
 use Rattle.query_predicates.proofs.CompleteExpressions.{expression_c}
@@ -90,7 +90,7 @@ keys_begin (IsOrderBy.keys {ts} p b) q = record {
 }
 
 query_c : {ts r : List Token} {q : TreeForm} → IsQuery ts q r → EndsQuery r → query_at ts ≡ Some (q, r)
-unfolding query_at items_at
+unfolding query_at select_at records_at rows_at items_at
 query_c (IsQuery.query {ts} {mid} {after_from} {after_where} {after_groups} {after_having} {r} {i} {is} {p} {h} {gs} {ks} first others few d_where d_groups d_having d_keys) q =
     let behind_groups : EndsHaving after_having = keys_begin d_keys q in
     let behind_where : EndsGroups after_groups = having_begins d_having behind_groups in

@@ -19,12 +19,12 @@ use Rattle.query_predicates.specs.ExpressionSteps.{expression_at}
 use Rattle.query_predicates.specs.PredicateSteps.{predicate_at}
 use Rattle.query_grammar.specs.GroupSteps.{all_at, group_at}
 use Rattle.query_grammar.specs.KeySteps.{keys_at}
-use Rattle.query_grammar.specs.QuerySteps.{alias_at, item_at, items_at, from_at, clause_at, groups_at, query_at, at_end, whole_at}
-use Rattle.query_derivation.specs.Leaves.{Derivation, IsRepeated}
+use Rattle.query_grammar.specs.QuerySteps.{alias_at, item_at, items_at, from_at, clause_at, groups_at, select_at, records_at, rows_at, query_at, at_end, whole_at}
+use Rattle.query_derivation.specs.Leaves.{Derivation}
 use Rattle.query_derivation.specs.Predicates.{IsExpression, IsPredicate}
-use Rattle.query_derivation.specs.Grammar.{IsItem, IsWhere, IsGroup, IsGroupBy, IsHaving, IsQuery, Derives}
+use Rattle.query_derivation.specs.Grammar.{IsItem, IsWhere, IsGroup, IsGroupBy, IsHaving, IsOrderBy, IsQuery, Derives}
 use Rattle.query_leaves.proofs.Heads.{after_word_is}
-use Rattle.query_leaves.proofs.SoundLists.{IsSound, IsListed, only_some, read_as, begins_as, leaves_as, listed_s}
+use Rattle.query_leaves.proofs.SoundLists.{IsSound, IsListed, only_some, read_as, begins_as, listed_s}
 use Rattle.query_leaves.proofs.SoundLeaves.{name_is}
 use Rattle.query_predicates.proofs.SoundExpressions.{expression_s}
 use Rattle.query_predicates.proofs.SoundPredicates.{predicate_s}
@@ -106,27 +106,65 @@ groups_s ts x e =
 tree_of : List ItemForm → Option PredicateForm → List ElementForm → Option PredicateForm → List KeyForm → TreeForm
 tree_of is p gs h ks = record { items = is; where_condition = p; groups = gs; having_condition = h; keys = ks }
 
+-- The items behind SELECT, up to what stands behind FROM.
+record IsSelect (ts : List Token) (y : List ItemForm × List Token) : Type 0 where
+  behind : List Token
+  begins : ts ≡ tokens.Word w.Select ∷ behind
+  listed : IsListed IsItem 63 behind (y.0, tokens.Word w.From ∷ tokens.Name (codes "lines") ∷ y.1)
+
+select_s : (ts : List Token) (y : List ItemForm × List Token) → select_at ts ≡ Some y → IsSelect ts y
+unfolding select_at
+select_s ts y e =
+    let a = only_some (after (is_word w.Select) ts) (λ a. items_at a >>= λ is. from_at is.1 >>= λ rest. Some (is.0, rest)) y e in
+    let b = bind_some (items_at a.0) (λ is. from_at is.1 >>= λ rest. Some (is.0, rest)) y a.2 in
+    let c = bind_some (from_at b.0.1) (λ rest. Some (b.0.0, rest)) y b.2 in
+    let l = subst (λ (us : List Token). IsListed IsItem 63 a.0 (b.0.0, us)) (from_is b.0.1 c.0 c.1) (items_s a.0 b.0 b.1) in
+    let made : IsSelect ts (b.0.0, c.0) = record { behind = a.0; begins = after_word_is w.Select ts a.0 a.1; listed = l } in
+    subst (λ (z : List ItemForm × List Token). IsSelect ts z) (some_is (b.0.0, c.0) y c.2) made
+
+-- WHERE and GROUP BY, one behind the other.
+record IsRecords (ts : List Token) (y : (Option PredicateForm × List ElementForm) × List Token) : Type 0 where
+  mid : List Token
+  of_where : IsWhere ts y.0.0 mid
+  of_groups : IsGroupBy mid y.0.1 y.1
+
+records_s : (ts : List Token) (y : (Option PredicateForm × List ElementForm) × List Token) → records_at ts ≡ Some y → IsRecords ts y
+unfolding records_at
+records_s ts y e =
+    let a = bind_some (clause_at w.Where ts) (λ p. groups_at p.1 >>= λ gs. Some ((p.0, gs.0), gs.1)) y e in
+    let b = bind_some (groups_at a.0.1) (λ gs. Some ((a.0.0, gs.0), gs.1)) y a.2 in
+    let made : IsRecords ts ((a.0.0, b.0.0), b.0.1) = record { mid = a.0.1; of_where = where_s ts a.0 a.1; of_groups = groups_s a.0.1 b.0 b.1 } in
+    subst (λ (z : (Option PredicateForm × List ElementForm) × List Token). IsRecords ts z) (some_is ((a.0.0, b.0.0), b.0.1) y b.2) made
+
+-- HAVING and ORDER BY, one behind the other.
+record IsRows (ts : List Token) (y : (Option PredicateForm × List KeyForm) × List Token) : Type 0 where
+  mid : List Token
+  of_having : IsHaving ts y.0.0 mid
+  of_keys : IsOrderBy mid y.0.1 y.1
+
+rows_s : (ts : List Token) (y : (Option PredicateForm × List KeyForm) × List Token) → rows_at ts ≡ Some y → IsRows ts y
+unfolding rows_at
+rows_s ts y e =
+    let a = bind_some (clause_at w.Having ts) (λ h. keys_at h.1 >>= λ ks. Some ((h.0, ks.0), ks.1)) y e in
+    let b = bind_some (keys_at a.0.1) (λ ks. Some ((a.0.0, ks.0), ks.1)) y a.2 in
+    let made : IsRows ts ((a.0.0, b.0.0), b.0.1) = record { mid = a.0.1; of_having = having_s ts a.0 a.1; of_keys = keys_s a.0.1 b.0 b.1 } in
+    subst (λ (z : (Option PredicateForm × List KeyForm) × List Token). IsRows ts z) (some_is ((a.0.0, b.0.0), b.0.1) y b.2) made
+
 query_s : IsSound IsQuery query_at
 unfolding query_at tree_of
 query_s ts x e =
-    let a = only_some (after (is_word w.Select) ts)
-    (λ a. items_at a >>= λ is. from_at is.1 >>= λ b. clause_at w.Where b >>= λ p. groups_at p.1 >>= λ gs. clause_at w.Having gs.1 >>= λ h. keys_at h.1 >>= λ ks. Some (tree_of is.0 p.0 gs.0 h.0 ks.0, ks.1)) x e in
-    let b = bind_some (items_at a.0)
-    (λ is. from_at is.1 >>= λ b. clause_at w.Where b >>= λ p. groups_at p.1 >>= λ gs. clause_at w.Having gs.1 >>= λ h. keys_at h.1 >>= λ ks. Some (tree_of is.0 p.0 gs.0 h.0 ks.0, ks.1)) x a.2 in
-    let c = bind_some (from_at b.0.1)
-    (λ c. clause_at w.Where c >>= λ p. groups_at p.1 >>= λ gs. clause_at w.Having gs.1 >>= λ h. keys_at h.1 >>= λ ks. Some (tree_of b.0.0 p.0 gs.0 h.0 ks.0, ks.1)) x b.2 in
-    let f = bind_some (clause_at w.Where c.0)
-    (λ p. groups_at p.1 >>= λ gs. clause_at w.Having gs.1 >>= λ h. keys_at h.1 >>= λ ks. Some (tree_of b.0.0 p.0 gs.0 h.0 ks.0, ks.1)) x c.2 in
-    let d = bind_some (groups_at f.0.1) (λ gs. clause_at w.Having gs.1 >>= λ h. keys_at h.1 >>= λ ks. Some (tree_of b.0.0 f.0.0 gs.0 h.0 ks.0, ks.1)) x f.2 in
-    let h = bind_some (clause_at w.Having d.0.1) (λ h. keys_at h.1 >>= λ ks. Some (tree_of b.0.0 f.0.0 d.0.0 h.0 ks.0, ks.1)) x d.2 in
-    let k = bind_some (keys_at h.0.1) (λ ks. Some (tree_of b.0.0 f.0.0 d.0.0 h.0.0 ks.0, ks.1)) x h.2 in
-    let l = items_s a.0 b.0 b.1 in
-    let tail = leaves_as (IsRepeated (tokens.Sign s.Comma) IsItem) (from_is b.0.1 c.0 c.1) l.tail in
+    let a = bind_some (select_at ts) (λ is. records_at is.1 >>= λ p. rows_at p.1 >>= λ h. Some (tree_of is.0 p.0.0 p.0.1 h.0.0 h.0.1, h.1)) x e in
+    let b = bind_some (records_at a.0.1) (λ p. rows_at p.1 >>= λ h. Some (tree_of a.0.0 p.0.0 p.0.1 h.0.0 h.0.1, h.1)) x a.2 in
+    let c = bind_some (rows_at b.0.1) (λ h. Some (tree_of a.0.0 b.0.0.0 b.0.0.1 h.0.0 h.0.1, h.1)) x b.2 in
+    let front = select_s ts a.0 a.1 in
+    let l = front.listed in
+    let records = records_s a.0.1 b.0 b.1 in
+    let rows = rows_s b.0.1 c.0 c.1 in
     let few : length l.others < 64 = omega (arith, l.few) in
-    let made : IsQuery (tokens.Word w.Select ∷ a.0) (tree_of (l.first ∷ l.others) f.0.0 d.0.0 h.0.0 k.0.0) k.0.1 =
-    IsQuery.query l.head tail few (where_s c.0 f.0 f.1) (groups_s f.0.1 d.0 d.1) (having_s d.0.1 h.0 h.1) (keys_s h.0.1 k.0 k.1) in
-    let named = subst (λ (is : List ItemForm). IsQuery (tokens.Word w.Select ∷ a.0) (tree_of is f.0.0 d.0.0 h.0.0 k.0.0) k.0.1) (sym l.all_is) made in
-    read_as IsQuery k.2 (begins_as IsQuery (after_word_is w.Select ts a.0 a.1) named)
+    let made : IsQuery (tokens.Word w.Select ∷ front.behind) (tree_of (l.first ∷ l.others) b.0.0.0 b.0.0.1 c.0.0.0 c.0.0.1) c.0.1 =
+    IsQuery.query l.head l.tail few records.of_where records.of_groups rows.of_having rows.of_keys in
+    let named = subst (λ (is : List ItemForm). IsQuery (tokens.Word w.Select ∷ front.behind) (tree_of is b.0.0.0 b.0.0.1 c.0.0.0 c.0.0.1) c.0.1) (sym l.all_is) made in
+    read_as IsQuery c.2 (begins_as IsQuery front.begins named)
 
 ends_s : (n : List Token) (p q : TreeForm) → at_end n p ≡ Some q → (n ≡ []) × (p ≡ q)
 ends_s [] p q e = (refl, some_is p q e)

@@ -6,7 +6,7 @@ use Rattle.query_tokens.specs.declared.token.Token.{Token}
 use Rattle.query_tokens.specs.declared.token.Word.{Word}
 use Rattle.query_tokens.specs.declared.token.Word.TheVariants as w
 use Rattle.query_tokens.specs.Options.{◌>>=◌, choose}
-use Rattle.query_tree.specs.Syntax.{PredicateForm, ElementForm, ItemForm, TreeForm}
+use Rattle.query_tree.specs.Syntax.{PredicateForm, ElementForm, ItemForm, KeyForm, TreeForm}
 use Rattle.query_leaves.specs.Fronts.{is_word, after}
 use Rattle.query_leaves.specs.Steps.{Reader, listed_at, name_at}
 use Rattle.query_predicates.specs.ExpressionSteps.{expression_at}
@@ -38,10 +38,22 @@ clause_at word ts = choose (after (is_word word) ts) (Some (None, ts)) (λ a. pr
 unfoldable pub groups_at : Reader (List ElementForm)
 groups_at ts = choose (after (is_word w.Group) ts) (Some ([], ts)) (λ a. choose (after (is_word w.By) a) None (λ b. all_at (group_at 16) b))
 
+-- The items of SELECT, and what stands behind FROM.
+unfoldable pub select_at : Reader (List ItemForm)
+select_at ts = choose (after (is_word w.Select) ts) None (λ a. items_at a >>= λ is. from_at is.1 >>= λ rest. Some (is.0, rest))
+
+-- WHERE and GROUP BY, which say of the records.
+unfoldable pub records_at : Reader (Option PredicateForm × List ElementForm)
+records_at ts = clause_at w.Where ts >>= λ p. groups_at p.1 >>= λ gs. Some ((p.0, gs.0), gs.1)
+
+-- HAVING and ORDER BY, which say of the rows.
+unfoldable pub rows_at : Reader (Option PredicateForm × List KeyForm)
+rows_at ts = clause_at w.Having ts >>= λ h. keys_at h.1 >>= λ ks. Some ((h.0, ks.0), ks.1)
+
 -- A query.
 unfoldable pub query_at : Reader TreeForm
-query_at ts = choose (after (is_word w.Select) ts) None (λ a. items_at a >>= λ is. from_at is.1 >>= λ b. clause_at w.Where b >>= λ p. groups_at p.1 >>= λ gs.
-    clause_at w.Having gs.1 >>= λ h. keys_at h.1 >>= λ ks. Some (record { items = is.0; where_condition = p.0; groups = gs.0; having_condition = h.0; keys = ks.0 }, ks.1))
+query_at ts = select_at ts >>= λ is. records_at is.1 >>= λ a. rows_at a.1 >>= λ b.
+    Some (record { items = is.0; where_condition = a.0.0; groups = a.0.1; having_condition = b.0.0; keys = b.0.1 }, b.1)
 
 -- What was read, where nothing is left.
 abbrev pub at_end : List Token → TreeForm → Option TreeForm

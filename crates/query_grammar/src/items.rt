@@ -1,15 +1,13 @@
 //! Reads the items of SELECT.
 
-ghost use Rattle.std.specs.Prelude.{◌≡◌, ◌<◌, ◌≤◌, ◌∷◌, [], length, map, IfOk};
-ghost use Rattle.query_tokens.specs.declared.token.Sign.TheVariants.{Comma};
+ghost use Rattle.std.specs.Prelude.{◌<◌, ◌≤◌, length, map, IfOk};
 ghost use Rattle.query_tree.specs.Syntax.{item_form};
-ghost use Rattle.query_leaves.specs.Fronts.{is_sign};
-ghost use Rattle.query_leaves.specs.Steps.{Gives, IsRefusal, with_front, more};
+ghost use Rattle.query_leaves.specs.Steps.{Gives};
 ghost use Rattle.query_grammar.specs.QuerySteps.{alias_at, item_at, items_at};
 
-use query_leaves::{GrammarFault, after_sign, after_word, expect_name, keep};
-use query_predicates::expression;
-use query_tokens::{Sign, Token, Word};
+use query_leaves::{GrammarFault, Listed, after_word, expect_name, keep, more_parts};
+use query_predicates::{begins_expression, expression};
+use query_tokens::{Token, Word};
 use query_tree::{Item, Text};
 use std::alloc::Global;
 
@@ -40,43 +38,28 @@ fn item(alloc: Global, tokens: &[Token]) -> Result<(Item, &[Token]), GrammarFaul
     Ok((Item { expression, alias }, rest))
 }
 
-/// The fault of an item too many: the limit where an item begins, else the token.
-fn excess_item(tokens: &[Token]) -> GrammarFault
-    ensures { IsRefusal result }
-{
-    match tokens {
-        [Token::Name(_), ..] => GrammarFault::OverLimit,
-        [Token::Word(Word::Grouping), ..] => GrammarFault::OverLimit,
-        [Token::Word(Word::Count), ..] => GrammarFault::OverLimit,
-        [Token::Word(Word::Sum), ..] => GrammarFault::OverLimit,
-        [Token::Word(Word::Min), ..] => GrammarFault::OverLimit,
-        [Token::Word(Word::Max), ..] => GrammarFault::OverLimit,
-        [Token::Word(Word::Avg), ..] => GrammarFault::OverLimit,
-        _ => GrammarFault::Unexpected(tokens.len()),
-    }
-}
+/// The items of SELECT, as a kind of list.
+struct SelectItems;
 
-/// The first item and those behind it, each behind its comma.
-fn more_items(
-    alloc: Global,
-    first: Item,
-    tokens: &[Token],
-) -> Result<(Vec<Item>, &[Token]), GrammarFault>
-    ensures exact { Gives (λ x. (map item_form x.0.items, x.1.now)) result (with_front (item_form first ∷ []) (more (is_sign Comma) item_at 63 tokens.now)) }
-    ensures shorter { IfOk result (λ x. length x.1.now ≤ length tokens.now) }
-{
-    let mut all = Vec::new(alloc);
-    all.push(first)?;
-    let mut rest = tokens;
-    while let Some(behind) = after_sign(rest, Sign::Comma) {
-        if all.len() == MOST_ITEMS {
-            return Err(excess_item(behind));
-        }
-        let (next, left) = item(alloc, behind)?;
-        all.push(next)?;
-        rest = left;
+impl Listed for SelectItems {
+    ghost use Rattle.query_tree.specs.Syntax.{ItemForm, item_form};
+    ghost use Rattle.query_grammar.specs.QuerySteps.{item_at};
+
+    type Part = Item;
+
+    ghost Form = { ItemForm };
+
+    ghost form = { item_form };
+
+    ghost reader = { item_at };
+
+    fn begins(tokens: &[Token]) -> bool {
+        begins_expression(tokens)
     }
-    Ok((all, rest))
+
+    fn read(alloc: Global, tokens: &[Token]) -> Result<(Item, &[Token]), GrammarFault> {
+        item(alloc, tokens)
+    }
 }
 
 /// The items of SELECT.
@@ -86,5 +69,5 @@ pub fn items(alloc: Global, tokens: &[Token]) -> Result<(Vec<Item>, &[Token]), G
     ensures shorter { IfOk result (λ x. length x.1.now < length tokens.now) }
 {
     let (first, rest) = item(alloc, tokens)?;
-    more_items(alloc, first, rest)
+    more_parts::<SelectItems>(alloc, first, rest, MOST_ITEMS - 1)
 }

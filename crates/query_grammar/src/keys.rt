@@ -1,15 +1,13 @@
 //! Reads the keys of ORDER BY.
 
-ghost use Rattle.std.specs.Prelude.{◌≡◌, ◌<◌, ◌≤◌, ◌∷◌, [], length, map, IfOk};
-ghost use Rattle.query_tokens.specs.declared.token.Sign.TheVariants.{Comma};
+ghost use Rattle.std.specs.Prelude.{◌≡◌, ◌<◌, ◌≤◌, length, map, IfOk};
 ghost use Rattle.query_tree.specs.Syntax.{key_form};
-ghost use Rattle.query_leaves.specs.Fronts.{is_sign};
-ghost use Rattle.query_leaves.specs.Steps.{Gives, with_front, more};
+ghost use Rattle.query_leaves.specs.Steps.{Gives};
 ghost use Rattle.query_grammar.specs.KeySteps.{direction_at, null_ordering_at, key_at, keys_at};
 
-use query_leaves::{GrammarFault, after_sign, after_word, expect_word, keep};
-use query_predicates::expression;
-use query_tokens::{Sign, Token, Word};
+use query_leaves::{GrammarFault, Listed, after_word, expect_word, keep, more_parts};
+use query_predicates::{begins_expression, expression};
+use query_tokens::{Token, Word};
 use query_tree::Key;
 use std::alloc::Global;
 
@@ -61,24 +59,28 @@ fn key(alloc: Global, tokens: &[Token]) -> Result<(Key, &[Token]), GrammarFault>
     Ok((key, rest))
 }
 
-/// The first key and those behind it, each behind its comma.
-fn more_keys(
-    alloc: Global,
-    first: Key,
-    tokens: &[Token],
-) -> Result<(Vec<Key>, &[Token]), GrammarFault>
-    ensures exact { Gives (λ x. (map key_form x.0.items, x.1.now)) result (with_front (key_form first ∷ []) (more (is_sign Comma) key_at (length tokens.now) tokens.now)) }
-    ensures shorter { IfOk result (λ x. length x.1.now ≤ length tokens.now) }
-{
-    let mut all = Vec::new(alloc);
-    all.push(first)?;
-    let mut rest = tokens;
-    while let Some(behind) = after_sign(rest, Sign::Comma) {
-        let (next, left) = key(alloc, behind)?;
-        all.push(next)?;
-        rest = left;
+/// The keys of ORDER BY, as a kind of list.
+struct SortKeys;
+
+impl Listed for SortKeys {
+    ghost use Rattle.query_tree.specs.Syntax.{KeyForm, key_form};
+    ghost use Rattle.query_grammar.specs.KeySteps.{key_at};
+
+    type Part = Key;
+
+    ghost Form = { KeyForm };
+
+    ghost form = { key_form };
+
+    ghost reader = { key_at };
+
+    fn begins(tokens: &[Token]) -> bool {
+        begins_expression(tokens)
     }
-    Ok((all, rest))
+
+    fn read(alloc: Global, tokens: &[Token]) -> Result<(Key, &[Token]), GrammarFault> {
+        key(alloc, tokens)
+    }
 }
 
 /// The keys of ORDER BY, none where it is not written.
@@ -92,5 +94,5 @@ pub fn keys(alloc: Global, tokens: &[Token]) -> Result<(Vec<Key>, &[Token]), Gra
     };
     let rest = expect_word(rest, Word::By)?;
     let (first, rest) = key(alloc, rest)?;
-    more_keys(alloc, first, rest)
+    more_parts::<SortKeys>(alloc, first, rest, rest.len())
 }

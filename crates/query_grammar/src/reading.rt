@@ -1,12 +1,12 @@
 //! Reads a query.
 
-ghost use Rattle.std.specs.Prelude.{◌≡◌, ◌<◌, ◌≤◌, length, IfOk, MatchResult};
+ghost use Rattle.std.specs.Prelude.{◌≡◌, ◌<◌, ◌≤◌, length, map, IfOk, MatchResult};
 ghost use Rattle.std.specs.Option.{option_map};
-ghost use Rattle.query_tree.specs.Syntax.{TreeForm, tree_form, predicate_form};
+ghost use Rattle.query_tree.specs.Syntax.{TreeForm, tree_form, element_form, item_form, key_form, predicate_form};
 ghost use Rattle.query_leaves.specs.declared.fault.GrammarFault.TheVariants.{OutOfMemory};
 ghost use Rattle.query_derivation.specs.Grammar.{Derives};
 ghost use Rattle.query_leaves.specs.Steps.{Gives};
-ghost use Rattle.query_grammar.specs.QuerySteps.{from_at, clause_at, query_at, whole_at};
+ghost use Rattle.query_grammar.specs.QuerySteps.{from_at, clause_at, select_at, records_at, rows_at, query_at, whole_at};
 
 use crate::groups::groups;
 use crate::items::items;
@@ -14,7 +14,7 @@ use crate::keys::keys;
 use query_leaves::{GrammarFault, after_word, expect_name, expect_word, keep, unexpected};
 use query_predicates::{MOST_LEVELS, predicate};
 use query_tokens::{Token, Word};
-use query_tree::{Predicate, Tree};
+use query_tree::{GroupingElement, Item, Key, Predicate, Tree};
 use std::alloc::Global;
 
 /// What stands behind FROM and the name `lines`.
@@ -48,27 +48,52 @@ fn clause(
     Ok((Some(predicate), rest))
 }
 
+/// The items of SELECT, and what stands behind FROM.
+#[tactic(auto, unfolding(crate::specs::QuerySteps::select_at))]
+fn select(alloc: Global, tokens: &[Token]) -> Result<(Vec<Item>, &[Token]), GrammarFault>
+    ensures exact { Gives (λ x. (map item_form x.0.items, x.1.now)) result (select_at tokens.now) }
+{
+    let rest = expect_word(tokens, Word::Select)?;
+    let (items, rest) = items(alloc, rest)?;
+    keep(items, from_lines(rest))
+}
+
+/// WHERE and GROUP BY, which say of the records.
+#[tactic(auto, unfolding(crate::specs::QuerySteps::records_at))]
+fn records(
+    alloc: Global,
+    tokens: &[Token],
+) -> Result<((Option<Predicate>, Vec<GroupingElement>), &[Token]), GrammarFault>
+    ensures exact { Gives (λ x. ((option_map predicate_form x.0.0, map element_form x.0.1.items), x.1.now)) result (records_at tokens.now) }
+{
+    let (where_condition, rest) = clause(alloc, tokens, Word::Where)?;
+    let (where_condition, (groups, rest)) = keep(where_condition, groups(alloc, rest))?;
+    Ok(((where_condition, groups), rest))
+}
+
+/// HAVING and ORDER BY, which say of the rows.
+#[tactic(auto, unfolding(crate::specs::QuerySteps::rows_at))]
+fn rows(
+    alloc: Global,
+    tokens: &[Token],
+) -> Result<((Option<Predicate>, Vec<Key>), &[Token]), GrammarFault>
+    ensures exact { Gives (λ x. ((option_map predicate_form x.0.0, map key_form x.0.1.items), x.1.now)) result (rows_at tokens.now) }
+{
+    let (having_condition, rest) = clause(alloc, tokens, Word::Having)?;
+    let (having_condition, (keys, rest)) = keep(having_condition, keys(alloc, rest))?;
+    Ok(((having_condition, keys), rest))
+}
+
 /// A query in front, and what stands behind it.
 #[tactic(auto, unfolding(crate::specs::QuerySteps::query_at))]
 fn query(alloc: Global, tokens: &[Token]) -> Result<(Tree, &[Token]), GrammarFault>
     ensures exact { Gives (λ x. (tree_form x.0, x.1.now)) result (query_at tokens.now) }
 {
-    let rest = expect_word(tokens, Word::Select)?;
-    let (items, rest) = items(alloc, rest)?;
-    let (items, rest) = keep(items, from_lines(rest))?;
-    let (items, (where_condition, rest)) = keep(items, clause(alloc, rest, Word::Where))?;
-    let ((items, where_condition), (groups, rest)) = keep(
-        (items, where_condition),
-        groups(alloc, rest),
-    )?;
-    let found = clause(alloc, rest, Word::Having);
-    let ((items, where_condition, groups), (having_condition, rest)) = keep(
-        (items, where_condition, groups),
-        found,
-    )?;
-    let found = keys(alloc, rest);
-    let (read, (keys, rest)) = keep((items, where_condition, groups, having_condition), found)?;
-    let (items, where_condition, groups, having_condition) = read;
+    let (items, rest) = select(alloc, tokens)?;
+    let (items, (records, rest)) = keep(items, records(alloc, rest))?;
+    let ((items, records), (rows, rest)) = keep((items, records), rows(alloc, rest))?;
+    let (where_condition, groups) = records;
+    let (having_condition, keys) = rows;
     let tree = Tree {
         items,
         where_condition,

@@ -9,13 +9,15 @@ mod fault;
 mod fronts;
 mod functions;
 mod keeping;
+mod lists;
 mod literals;
 mod operators;
 
-pub use arguments::grouping_names;
+pub use arguments::{Names, grouping_names};
 pub use fault::GrammarFault;
 pub use fronts::{after_sign, after_word, expect_name, expect_sign, expect_word, name, unexpected};
 pub use functions::aggregate;
 pub use keeping::keep;
-pub use literals::{in_list, literal};
+pub use lists::{Listed, more_parts};
+pub use literals::{Literals, in_list, literal};
 pub use operators::{mark, operator, truth_value};

@@ -1,14 +1,13 @@
 //! Reads literals, and the bracketed literals behind IN.
 
-ghost use Rattle.std.specs.Prelude.{◌≡◌, ◌<◌, ◌≤◌, ◌∷◌, [], length, IfOk, IfSome};
+ghost use Rattle.std.specs.Prelude.{◌<◌, length, IfOk, IfSome};
 ghost use Rattle.query_tokens.specs.Options.{Tells};
-ghost use Rattle.query_tokens.specs.declared.token.Sign.TheVariants.{Comma};
-ghost use Rattle.query_leaves.specs.Fronts.{is_sign};
-ghost use Rattle.query_leaves.specs.Steps.{Gives, IsRefusal, with_front, more};
+ghost use Rattle.query_leaves.specs.Steps.{Gives};
 ghost use Rattle.query_leaves.specs.LeafSteps.{literal_at, literals_at};
 
 use crate::fault::GrammarFault;
-use crate::fronts::{after_sign, expect_sign, unexpected};
+use crate::fronts::{expect_sign, unexpected};
+use crate::lists::{Listed, more_parts};
 use query_tokens::{Sign, Token, Word};
 use query_tree::Literal;
 use std::alloc::{AllocError, Global};
@@ -31,51 +30,37 @@ pub fn literal(tokens: &[Token]) -> Result<Option<(Literal, &[Token])>, AllocErr
     }
 }
 
-/// A literal that has to stand in front, and what stands behind it.
-fn expect_literal(tokens: &[Token]) -> Result<(Literal, &[Token]), GrammarFault>
-    ensures exact { Gives (λ x. (x.0, x.1.now)) result (literal_at tokens.now) }
-    ensures shorter { IfOk result (λ x. length x.1.now < length tokens.now) }
-{
-    match literal(tokens)? {
-        None => Err(unexpected(tokens)),
-        Some(found) => Ok(found),
-    }
-}
+/// Literals.
+pub struct Literals;
 
-/// The fault of a literal of an IN list too many: the limit where one begins, else the token.
-fn excess_literal(tokens: &[Token]) -> GrammarFault
-    ensures { IsRefusal result }
-{
-    match tokens {
-        [Token::Integer(_), ..] => GrammarFault::OverLimit,
-        [Token::Text(_), ..] => GrammarFault::OverLimit,
-        [Token::Word(Word::True), ..] => GrammarFault::OverLimit,
-        [Token::Word(Word::False), ..] => GrammarFault::OverLimit,
-        _ => GrammarFault::Unexpected(tokens.len()),
-    }
-}
+impl Listed for Literals {
+    ghost use Rattle.query_tree.specs.declared.predicate.Literal.{Literal};
+    ghost use Rattle.query_leaves.specs.LeafSteps.{literal_at};
 
-/// The first literal of an IN list and those behind it, each behind its comma.
-fn more_literals(
-    alloc: Global,
-    first: Literal,
-    tokens: &[Token],
-) -> Result<(Vec<Literal>, &[Token]), GrammarFault>
-    ensures exact { Gives (λ x. (x.0.items, x.1.now)) result (with_front (first ∷ []) (more (is_sign Comma) literal_at 63 tokens.now)) }
-    ensures shorter { IfOk result (λ x. length x.1.now ≤ length tokens.now) }
-{
-    let mut all = Vec::new(alloc);
-    all.push(first)?;
-    let mut rest = tokens;
-    while let Some(behind) = after_sign(rest, Sign::Comma) {
-        if all.len() == MOST_LITERALS {
-            return Err(excess_literal(behind));
+    type Part = Literal;
+
+    ghost Form = { Literal };
+
+    ghost form = { λ a. a };
+
+    ghost reader = { literal_at };
+
+    fn begins(tokens: &[Token]) -> bool {
+        matches!(
+            tokens,
+            [Token::Integer(_), ..]
+                | [Token::Text(_), ..]
+                | [Token::Word(Word::True), ..]
+                | [Token::Word(Word::False), ..]
+        )
+    }
+
+    fn read(_alloc: Global, tokens: &[Token]) -> Result<(Literal, &[Token]), GrammarFault> {
+        match literal(tokens)? {
+            None => Err(unexpected(tokens)),
+            Some(found) => Ok(found),
         }
-        let (next, left) = expect_literal(behind)?;
-        all.push(next)?;
-        rest = left;
     }
-    Ok((all, rest))
 }
 
 /// The bracketed literals behind IN.
@@ -85,8 +70,8 @@ pub fn in_list(alloc: Global, tokens: &[Token]) -> Result<(Vec<Literal>, &[Token
     ensures shorter { IfOk result (λ x. length x.1.now < length tokens.now) }
 {
     let rest = expect_sign(tokens, Sign::Open)?;
-    let (first, rest) = expect_literal(rest)?;
-    let (all, rest) = more_literals(alloc, first, rest)?;
+    let (first, rest) = Literals::read(alloc, rest)?;
+    let (all, rest) = more_parts::<Literals>(alloc, first, rest, MOST_LITERALS - 1)?;
     let rest = expect_sign(rest, Sign::Close)?;
     Ok((all, rest))
 }

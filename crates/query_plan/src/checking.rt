@@ -1,4 +1,5 @@
-// Checking a query under a schema.
+//! Checking a query under a schema.
+
 ghost use Rattle.std.specs.Prelude.{◌≡◌, ◌≢◌, IfErr, IfOk, OnOk, Some};
 ghost use Rattle.query_check.specs.Faults.{query_fault};
 ghost use Rattle.query_check.specs.Resolution.{resolution_of};

@@ -1,5 +1,6 @@
+//! A query that is typed under a schema, and what its names stand for there.
+
 ghost use Rattle.std.specs.Prelude.{◌≡◌};
-ghost use Rattle.values.specs.Schema.{Field};
 ghost use Rattle.query_check.specs.Resolution.{resolution_of};
 ghost use Rattle.query_check.specs.Typing.{IsTyped};
 ghost use Rattle.query_truth.specs.Binding.{IsConditionOf};

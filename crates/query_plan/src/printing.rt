@@ -1,4 +1,5 @@
-// The texts of a plan.
+//! The texts of a plan.
+
 ghost use Rattle.std.specs.Prelude.{◌≡◌, ◌<◌, IfOk, Some, length, option_map, slice_get, string_bytes};
 ghost use Rattle.query_check.specs.Sets.{sets_of};
 ghost use Rattle.query_print.specs.Canonical.{header_text, set_text};

@@ -1,3 +1,5 @@
+//! A query that was derived from some text.
+
 ghost use Rattle.std.specs.Prelude.{◌≡◌, ℕ, List};
 ghost use Rattle.query_tree.specs.Syntax.{tree_form};
 ghost use Rattle.query_derivation.specs.Derivation.{Derives};

@@ -10,6 +10,20 @@ use query_tokens::{Token, Word};
 use query_tree::{Expression, SetFunction};
 use std::alloc::Global;
 
+/// Whether an expression begins in front of these tokens.
+pub fn begins_expression(tokens: &[Token]) -> bool {
+    matches!(
+        tokens,
+        [Token::Name(_), ..]
+            | [Token::Word(Word::Grouping), ..]
+            | [Token::Word(Word::Count), ..]
+            | [Token::Word(Word::Sum), ..]
+            | [Token::Word(Word::Min), ..]
+            | [Token::Word(Word::Max), ..]
+            | [Token::Word(Word::Avg), ..]
+    )
+}
+
 /// An expression.
 #[tactic(auto, unfolding(crate::specs::ExpressionSteps::expression_at))]
 pub fn expression(alloc: Global, tokens: &[Token]) -> Result<(Expression, &[Token]), GrammarFault>

@@ -7,8 +7,8 @@ use Rattle.values.specs.declared.truth.Truth.TheVariants.{True, Unknown, False}
 use Rattle.values.specs.Datum.{Datum, boolean, whole, null}
 use Rattle.values.specs.Schema.{Field}
 use Rattle.query_tree.specs.declared.predicate.Literal.TheVariants as constant
-use Rattle.query_tree.specs.Syntax.{OperandForm, PredicateForm, TreeForm, name, expression, literal, or_of, and_of, not_of, truth_test, compare, between, member, column, no_parts, part}
-use Rattle.query_truth.specs.Kept.{kept, where_truth}
+use Rattle.query_tree.specs.Syntax.{OperandForm, PredicateForm, name, expression, literal, or_of, and_of, not_of, truth_test, compare, between, member, column, no_parts, part}
+use Rattle.query_truth.specs.Kept.{where_truth}
 
 abbrev fields : List Field
 fields = record { name = codes "a"; kind = kind.Bool } ∷ record { name = codes "q"; kind = kind.Int } ∷ []

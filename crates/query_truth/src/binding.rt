@@ -74,6 +74,21 @@ fn operand_source(
     }
 }
 
+/// What two operands stand for.
+fn two_sources(
+    alloc: Global,
+    columns: &[Column],
+    first: &Operand,
+    second: &Operand,
+) -> Result<(Source, Source), AllocError>
+    ensures value { IfOk result (λ both. GivesOperand (fields_of columns.now) (operand_form first.now) both.0 × GivesOperand (fields_of columns.now) (operand_form second.now) both.1) }
+    ensures there { IfOk result (λ both. IsThereWhereTyped (fields_of columns.now) (operand_form first.now) both.0 × IsThereWhereTyped (fields_of columns.now) (operand_form second.now) both.1) }
+{
+    let first = operand_source(alloc, columns, first)?;
+    let second = operand_source(alloc, columns, second)?;
+    Ok((first, second))
+}
+
 /// The condition of a comparison.
 fn bind_comparison(
     alloc: Global,
@@ -85,8 +100,7 @@ fn bind_comparison(
     ensures value { IfOk result (GivesPredicate (fields_of columns.now) (compare (operand_form left.now) op (operand_form right.now))) }
     ensures safe { IfOk result (IsSafeWhereTyped (fields_of columns.now) (compare (operand_form left.now) op (operand_form right.now))) }
 {
-    let left = operand_source(alloc, columns, left)?;
-    let right = operand_source(alloc, columns, right)?;
+    let (left, right) = two_sources(alloc, columns, left, right)?;
     Ok(Condition::Compare { left, op, right })
 }
 
@@ -103,8 +117,7 @@ fn bind_between(
     ensures safe { IfOk result (IsSafeWhereTyped (fields_of columns.now) (between (operand_form operand.now) not (operand_form low.now) (operand_form high.now))) }
 {
     let operand = operand_source(alloc, columns, operand)?;
-    let low = operand_source(alloc, columns, low)?;
-    let high = operand_source(alloc, columns, high)?;
+    let (low, high) = two_sources(alloc, columns, low, high)?;
     Ok(Condition::Between {
         operand,
         not,

@@ -1,4 +1,4 @@
-//! A syntax tree is resolved.
+//! What no clause says: that a query is checked and resolved where memory is ample.
 
 use query_check::{ColumnFunction, check_tree, set_count};
 use query_tree::{Aggregate, Expression, GroupingElement, Item, SetFunction, Text, Tree};

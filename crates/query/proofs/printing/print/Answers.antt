@@ -1,7 +1,7 @@
-use Rattle.std.proofs.Common.{◌≡◌, ◌≤◌, List, length, string_bytes, ◌∙◌, ap, sym, subst}
+use Rattle.std.proofs.Common.{◌≡◌, ◌≤◌, length, string_bytes, ◌∙◌, ap, sym, subst}
 use Rattle.std.proofs.lemmas.Result.{IfOk-weaker}
 use Rattle.query_print.specs.Canonical.{canonical_text}
-use Rattle.query_tree.specs.Syntax.{TreeForm, tree_form}
+use Rattle.query_tree.specs.Syntax.{tree_form}
 use Rattle.query_derivation.specs.Derivation.{Derives}
 use Rattle.query_plan.specs.Form.{form_of}
 use Rattle.query.proofs.Again.{derives-again}

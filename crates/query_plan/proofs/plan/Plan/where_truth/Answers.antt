@@ -3,8 +3,6 @@ use Rattle.std.proofs.Math.Logic.{∥∥₁_elim}
 use Rattle.std.specs.Coded.{Coded-set, coded_bool}
 use Rattle.values.specs.Datum.{data_of}
 use Rattle.query_truth.specs.Binding.{bound_safe}
-use Rattle.query_truth.specs.Kept.{where_truth}
-use Rattle.query_plan.specs.Planned.{fields_of_plan, form_of_plan}
 use Rattle.query_plan.proofs.TruthCodes.{truths-same}
 use Rattle.query_plan.proofs.plan.Plan.where_truth.Goals as goal
 

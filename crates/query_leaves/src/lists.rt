@@ -1,0 +1,65 @@
+//! Reads lists, whose parts stand with commas between them.
+
+ghost use Rattle.std.specs.Prelude.{◌<◌, ◌≤◌, ◌∷◌, [], length, map, IfOk};
+ghost use Rattle.query_tokens.specs.declared.token.Sign.TheVariants.{Comma};
+ghost use Rattle.query_leaves.specs.Fronts.{is_sign};
+ghost use Rattle.query_leaves.specs.Steps.{Gives, IsRefusal, Reader, with_front, more};
+
+use crate::fault::GrammarFault;
+use crate::fronts::{after_sign, unexpected};
+use query_tokens::{Sign, Token};
+use std::alloc::Global;
+
+/// What stands in a list, and how it is read.
+pub trait Listed {
+    /// A part, as the tree holds it.
+    type Part: Drop;
+
+    ghost Form: { Type 0 };
+
+    ghost form: { Self.Part → Form };
+
+    ghost reader: { Reader Form };
+
+    /// Whether a part begins in front of these tokens.
+    fn begins(tokens: &[Token]) -> bool;
+
+    /// A part, and what stands behind it.
+    fn read(alloc: Global, tokens: &[Token]) -> Result<(Self::Part, &[Token]), GrammarFault>
+        ensures exact { Gives (λ x. (form x.0, x.1.now)) result (reader tokens.now) }
+        ensures shorter { IfOk result (λ x. length x.1.now < length tokens.now) };
+}
+
+/// The fault of a part too many: the limit where one begins, else the token.
+fn excess<L: Listed>(tokens: &[Token]) -> GrammarFault
+    ensures { IsRefusal result }
+{
+    if L::begins(tokens) {
+        return GrammarFault::OverLimit;
+    }
+    unexpected(tokens)
+}
+
+/// The first part of a list and those behind it, each behind its comma, with at most so many others.
+pub fn more_parts<L: Listed>(
+    alloc: Global,
+    first: L::Part,
+    tokens: &[Token],
+    most_others: usize,
+) -> Result<(Vec<L::Part>, &[Token]), GrammarFault>
+    ensures exact { Gives (λ x. (map L.form x.0.items, x.1.now)) result (with_front (L.form first ∷ []) (more (is_sign Comma) L.reader most_others tokens.now)) }
+    ensures shorter { IfOk result (λ x. length x.1.now ≤ length tokens.now) }
+{
+    let mut all = Vec::new(alloc);
+    all.push(first)?;
+    let mut rest = tokens;
+    while let Some(behind) = after_sign(rest, Sign::Comma) {
+        if all.len() > most_others {
+            return Err(excess::<L>(behind));
+        }
+        let (next, left) = L::read(alloc, behind)?;
+        all.push(next)?;
+        rest = left;
+    }
+    Ok((all, rest))
+}
