@@ -49,6 +49,12 @@ module _ {M S P : Type 0} {fits : M → Type 0} {unit : M} {combined : M → M �
       let most = sum_list-within (λ j. weight (piece j)) (pieces_of hs) (flat (lists_in ks)) (fanned_flat apart) in
       omega (arith, is, above, most)
 
+  pub fanned_outweighs : (result limit : ℕ) (ls : List Holding) → ls ≡ ks → result ≡ sum_list (λ j. weight (piece j)) (flat (lists_in ks)) → limit < result → limit < sum_list (λ j. weight (piece j)) (joined ls)
+  fanned_outweighs result limit ls same is above =
+      let all = ap (sum_list (λ j. weight (piece j))) (flat_joined ks) in
+      let e = ap (λ l. sum_list (λ j. weight (piece j)) (joined l)) same in
+      omega (arith, is, above, all, e)
+
 pub settles_all : {P : Type 0} (outcome : Outcome P) (hs : List Holding) → AllSpent hs → Settles outcome hs
 settles_all (Whole p) hs all = all
 settles_all Over hs all = tt

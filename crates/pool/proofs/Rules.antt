@@ -11,7 +11,7 @@ use Rattle.pool.specs.declared.view.Task.{Task}
 use Rattle.pool.specs.declared.view.Task.TheVariants.{Number, End}
 use Rattle.pool.specs.Dealing.{State, state, begin, put, take_first, step, after, times, AllAbove, Ascends}
 use Rattle.pool.specs.Totals.{sum_below}
-use Rattle.pool.specs.Rule.{view_of, blank, tasks, pieces, total, held, Theirs, Seated, Fits, Kept, Dealt, Had, given, front, rest, TakenFrom, AllAscend, gathered_view, kept_view, returned_view, lent_view, giving_view, given_view, Down, Up, Apart}
+use Rattle.pool.specs.Rule.{view_of, blank, tasks, pieces, total, held, Theirs, Seated, Fits, Kept, Dealt, Had, given, front, rest, TakenFrom, AllAscend, UpTo, lent_view, giving_view, given_view, Up, Apart}
 
 -- Lists
 
@@ -162,19 +162,9 @@ sum_at : (f : ℕ → ℕ) (m h : ℕ) → h < m → f h ≤ sum_below f m
 sum_at f zero h below = absurd (omega arith)
 sum_at f (suc k) h below = ⊎_elim (λ (e : h ≡ k). let a = ap f e in omega arith) (λ (n : h ≢ k). let a = sum_at f k h (omega (arith, n)) in omega arith) (cases_eq h k)
 
--- the lists of the hands from r down
-sum_down : (x : ℕ) (lists : ℕ → List ℕ) (r : ℕ) (ps : List (ℕ × List ℕ)) → Down r ps → Had lists ps → sum_below (λ h. times x (lists h)) (suc r) ≡ times x (lists 0) + held x ps
-sum_down x lists zero [] d h = omega arith
-sum_down x lists zero (p ∷ ps) d h = absurd d
-sum_down x lists (suc r) [] d h = absurd d
-sum_down x lists (suc r) (p ∷ ps) d h =
-    let a = sum_down x lists r ps d.1 h.1 in
-    let b : times x (lists (suc r)) ≡ times x p.1 = ap (times x) (ap lists (sym d.0) ∙ h.0) in
-    omega arith
-
 -- The steps
 
-pub begins : Dealt [] (view_of true true 0 1 [] ((0, []) ∷ []) false [] ∷ [])
+pub begins : Dealt [] (view_of true true 0 1 [] ((0, []) ∷ []) false ∷ [])
 begins = (
   [],
   [],
@@ -190,8 +180,8 @@ begins = (
     account = λ x. refl;
     owed = refl;
     unmade = λ h _. refl;
-    each = only (Fits [] [] [] (λ _. []) (λ _. 0) 0 1 1) (view_of true true 0 1 [] ((0, []) ∷ []) false [])
-        record { same = λ _. refl; theirs = (refl, refl, omega arith, tt); owns = λ _. (refl, refl); alone = λ _. (refl, refl); ended = λ e. absurd (true≢false (sym e)); told = tt; unshown = λ _. refl };
+    each = only (Fits [] [] [] (λ _. []) (λ _. 0) 0 1 1) (view_of true true 0 1 [] ((0, []) ∷ []) false)
+        record { same = λ _. refl; theirs = (refl, refl, omega arith, tt); owns = λ _. (refl, refl); alone = λ _. (refl, refl); ended = λ e. absurd (true≢false (sym e)) };
   },
 )
 
@@ -202,7 +192,7 @@ lone_total f (u ∷ []) zero v n e = let i = ap f (some-injective u v e) in omeg
 lone_total f (u ∷ []) (suc j) v n e = absurd (some-ne-none v (sym e))
 lone_total f (u ∷ w ∷ ws) port v n e = absurd (omega arith)
 
-pub fills : (port : ℕ) (v : View) (x : ℕ) → v.filling ≡ true → v.ends ≡ 0 → v.closed ≡ false → Seated v.known → Pushes Dealt port v (Number x ∷ []) (λ w. w ≡ view_of v.filling v.owner v.ends v.made (v.numbers ++ pieces (Number x ∷ [])) v.known v.closed v.shown)
+pub fills : (port : ℕ) (v : View) (x : ℕ) → v.filling ≡ true → v.ends ≡ 0 → v.closed ≡ false → Seated v.known → Pushes Dealt port v (Number x ∷ []) (λ w. w ≡ view_of v.filling v.owner v.ends v.made (v.numbers ++ pieces (Number x ∷ [])) v.known v.closed)
 fills port v x may none opened seated items views h at =
     let numbers = h.0 in
     let schedule = h.1 in
@@ -215,7 +205,7 @@ fills port v x may none opened seated items views h at =
     let kept = h.8 in
     let mine = kept.each port v at in
     let lone = mine.alone may in
-    let w : View = view_of v.filling v.owner v.ends v.made (v.numbers ++ x ∷ []) v.known v.closed v.shown in
+    let w : View = view_of v.filling v.owner v.ends v.made (v.numbers ++ x ∷ []) v.known v.closed in
     let start : state numbers (λ _. []) ≡ state left lists = subst (λ s. after s (begin numbers) ≡ state left lists) lone.1 kept.reached in
     let no_ends : ends ≡ 0 = sym kept.owed ∙ lone_total (λ u. u.ends) views port v lone.0 at ∙ none in
     let lies : items ++ Number x ∷ [] ≡ tasks (left ++ x ∷ []) ends = ap (λ l. l ++ Number x ∷ []) kept.lie ∙ subst (λ e. tasks left e ++ Number x ∷ [] ≡ tasks (left ++ x ∷ []) e) (sym no_ends) (tasks_more left x) in
@@ -238,14 +228,14 @@ fills port v x may none opened seated items views h at =
           unmade = kept.unmade;
           each = subst (λ n. Each (Fits (numbers ++ x ∷ []) schedule (left ++ x ∷ []) lists seat boss made n) (set views port w)) (sym len)
               (each_set (Fits (numbers ++ x ∷ []) schedule (left ++ x ∷ []) lists seat boss made (length views)) views port w
-              record { same = λ p. ap (λ l. l ++ x ∷ []) (mine.same p); theirs = mine.theirs; owns = mine.owns; alone = mine.alone; ended = λ e. absurd (true≢false (sym e ∙ opened)); told = mine.told; unshown = mine.unshown }
+              record { same = λ p. ap (λ l. l ++ x ∷ []) (mine.same p); theirs = mine.theirs; owns = mine.owns; alone = mine.alone; ended = λ e. absurd (true≢false (sym e ∙ opened)) }
               (λ j u other e. let a = at_below views port v at in let b = at_below views j u e in let c = lone.0 in absurd (other (omega arith))));
         },
       ),
       refl,
     )
 
-pub marks : (port : ℕ) (v : View) → Pushes Dealt port v (End ∷ []) (λ w. w ≡ view_of v.filling v.owner (v.ends + 1) v.made v.numbers v.known v.closed v.shown)
+pub marks : (port : ℕ) (v : View) → Pushes Dealt port v (End ∷ []) (λ w. w ≡ view_of v.filling v.owner (v.ends + 1) v.made v.numbers v.known v.closed)
 marks port v items views h at =
     let numbers = h.0 in
     let schedule = h.1 in
@@ -257,7 +247,7 @@ marks port v items views h at =
     let ends = h.7 in
     let kept = h.8 in
     let mine = kept.each port v at in
-    let w : View = view_of v.filling v.owner (v.ends + 1) v.made v.numbers v.known v.closed v.shown in
+    let w : View = view_of v.filling v.owner (v.ends + 1) v.made v.numbers v.known v.closed in
     let len : length (set views port w) ≡ length views = length-set views port w in (
       w,
       (
@@ -277,14 +267,14 @@ marks port v items views h at =
           unmade = kept.unmade;
           each = subst (λ n. Each (Fits numbers schedule left lists seat boss made n) (set views port w)) (sym len)
               (each_set (Fits numbers schedule left lists seat boss made (length views)) views port w
-              record { same = mine.same; theirs = mine.theirs; owns = mine.owns; alone = mine.alone; ended = mine.ended; told = mine.told; unshown = mine.unshown }
+              record { same = mine.same; theirs = mine.theirs; owns = mine.owns; alone = mine.alone; ended = mine.ended }
               (λ j u other e. kept.each j u e));
         },
       ),
       refl,
     )
 
-module _ (port : ℕ) (v : View) (hand : ℕ) (list : List ℕ) (is : v.known ≡ (hand, list) ∷ []) (not_filling : v.filling ≡ false) (owed : 0 < v.ends) (untold : v.shown ≡ [])
+module _ (port : ℕ) (v : View) (hand : ℕ) (list : List ℕ) (is : v.known ≡ (hand, list) ∷ []) (not_filling : v.filling ≡ false) (owed : 0 < v.ends)
     (items : List Task) (views : List View) (numbers schedule : List ℕ) (lists : ℕ → List ℕ) (seat : ℕ → ℕ) (boss made : ℕ) (at : get_elem? views port ≡ some v) where
   takes_number : (x : ℕ) (xs : List ℕ) (ends : ℕ) → Kept (Number x ∷ items) views numbers schedule (x ∷ xs) lists seat boss made ends → items ≡ tasks xs ends
       → (w : View) × Dealt items (set views port w) × TakenFrom v (Number x ∷ []) w
@@ -292,7 +282,7 @@ module _ (port : ℕ) (v : View) (hand : ℕ) (list : List ℕ) (is : v.known �
       let mine = kept.each port v at in
       let opened : (u : View) (j : ℕ) → get_elem? views j ≡ some u → u.closed ≡ false = λ u j e. ⊎_elim (λ (c : u.closed ≡ true). let none : x ∷ xs ≡ [] = (kept.each j u e).ended c in cc) (λ (c : u.closed ≡ false). c) (cases_Bool u.closed) in
       let t : Theirs seat lists made port ((hand, list) ∷ []) = subst (Theirs seat lists made port) is mine.theirs in
-      let w : View = view_of v.filling v.owner v.ends v.made v.numbers (given v.known x) v.closed v.shown in
+      let w : View = view_of v.filling v.owner v.ends v.made v.numbers (given v.known x) v.closed in
       let now : w.known ≡ (hand, list ++ x ∷ []) ∷ [] = ap (λ k. given k x) is in
       let lists' = put lists hand x in
       let schedule' = schedule ++ hand ∷ [] in
@@ -323,8 +313,6 @@ module _ (port : ℕ) (v : View) (hand : ℕ) (list : List ℕ) (is : v.known �
                   owns = mine.owns;
                   alone = λ p. absurd (true≢false (sym p ∙ not_filling));
                   ended = λ c. absurd (true≢false (sym c ∙ opened v port at));
-                  told = subst (Had lists') (sym untold) tt;
-                  unshown = λ _. untold;
                 }
                 (λ j u other e. let f = kept.each j u e in
                 record {
@@ -333,8 +321,6 @@ module _ (port : ℕ) (v : View) (hand : ℕ) (list : List ℕ) (is : v.known �
                   owns = f.owns;
                   alone = λ p. (let a = at_below views port v at in let b = at_below views j u e in let c = (f.alone p).0 in absurd (other (omega arith)));
                   ended = λ c. absurd (true≢false (sym c ∙ opened u j e));
-                  told = subst (Had lists') (sym (f.unshown (opened u j e))) tt;
-                  unshown = f.unshown;
                 }));
           },
         ),
@@ -360,7 +346,7 @@ module _ (port : ℕ) (v : View) (hand : ℕ) (list : List ℕ) (is : v.known �
       → (w : View) × Dealt items (set views port w) × TakenFrom v (End ∷ []) w
   takes_end ends kept lies =
       let mine = kept.each port v at in
-      let w : View = view_of v.filling v.owner (v.ends - 1) v.made v.numbers v.known true v.shown in
+      let w : View = view_of v.filling v.owner (v.ends - 1) v.made v.numbers v.known true in
       let len : length (set views port w) ≡ length views = length-set views port w in
       let F : ℕ → View → Type 0 = Fits numbers schedule [] lists seat boss made (length views) in (
         w,
@@ -381,7 +367,7 @@ module _ (port : ℕ) (v : View) (hand : ℕ) (list : List ℕ) (is : v.known �
             unmade = kept.unmade;
             each = subst (λ n. Each (Fits numbers schedule [] lists seat boss made n) (set views port w)) (sym len)
                 (each_set F views port w
-                record { same = mine.same; theirs = mine.theirs; owns = mine.owns; alone = mine.alone; ended = λ _. refl; told = mine.told; unshown = λ c. absurd (true≢false c) }
+                record { same = mine.same; theirs = mine.theirs; owns = mine.owns; alone = mine.alone; ended = λ _. refl }
                 (λ j u other e. kept.each j u e));
           },
         ),
@@ -400,11 +386,11 @@ module _ (port : ℕ) (v : View) (hand : ℕ) (list : List ℕ) (is : v.known �
       subst (λ k. (w : View) × Dealt items (set views port w) × TakenFrom v (k ∷ []) w) (sym e)
       (takes_end ends (subst (λ k. Kept (k ∷ items) views numbers schedule [] lists seat boss made (suc ends)) e kept) (ap tail kept.lie))
 
-pub takes : (port : ℕ) (v : View) (hand : ℕ) (list : List ℕ) → v.known ≡ (hand, list) ∷ [] → v.filling ≡ false → 0 < v.ends → v.shown ≡ []
+pub takes : (port : ℕ) (v : View) (hand : ℕ) (list : List ℕ) → v.known ≡ (hand, list) ∷ [] → v.filling ≡ false → 0 < v.ends
     → Takes Dealt port v 1 (TakenFrom v)
-takes port v hand list is not_filling owed untold [] items views a b h at = absurd (omega arith)
-takes port v hand list is not_filling owed untold (t ∷ []) items views a b h at = takes_task port v hand list is not_filling owed untold items views h.0 h.1 h.3 h.4 h.5 h.6 at t h.2 h.7 h.8
-takes port v hand list is not_filling owed untold (x ∷ y ∷ ys) items views a b h at = absurd (omega arith)
+takes port v hand list is not_filling owed [] items views a b h at = absurd (omega arith)
+takes port v hand list is not_filling owed (t ∷ []) items views a b h at = takes_task port v hand list is not_filling owed items views h.0 h.1 h.3 h.4 h.5 h.6 at t h.2 h.7 h.8
+takes port v hand list is not_filling owed (x ∷ y ∷ ys) items views a b h at = absurd (omega arith)
 
 -- who finds no task is owed no mark
 pub finds : (port : ℕ) (v : View) → Finds Dealt port v (v.ends ≡ 0)
@@ -414,10 +400,6 @@ pub finds_few : (port : ℕ) (v : View) → FindsFew Dealt 0 port v (v.ends ≡ 
 finds_few port v [] views a h at = finds port v views h at
 finds_few port v (x ∷ xs) views a h at = absurd (omega arith)
 
--- a fact that nothing needs
-pub blocks : (capacity port : ℕ) (v : View) → Blocks Dealt capacity port v (Unit {0})
-blocks capacity port v items views a h at = tt
-
 theirs_made : (seat : ℕ → ℕ) (lists : ℕ → List ℕ) (made new j : ℕ) (known : List (ℕ × List ℕ)) → Theirs seat lists made j known → Theirs (λ h. if h == made then new else seat h) lists (made + 1) j known
 theirs_made seat lists made new j [] t = tt
 theirs_made seat lists made new j (p ∷ ps) t =
@@ -426,10 +408,11 @@ theirs_made seat lists made new j (p ∷ ps) t =
     (rw no t.0, t.1, omega arith, theirs_made seat lists made new j ps t.3)
 
 module _ (items : List Task) (views : List View) (numbers schedule left : List ℕ) (lists : ℕ → List ℕ) (seat : ℕ → ℕ) (boss made ends port : ℕ) (v : View) (at : get_elem? views port ≡ some v) where
-  -- a pass with no seat comes, and this one's view stays but for `filling` and `shown`
-  seals_kept : (l : View) (told : List (ℕ × List ℕ)) → l ≡ view_of false v.owner v.ends v.made v.numbers v.known v.closed told → Had lists told → (v.closed ≡ false → told ≡ []) → Kept items views numbers schedule left lists seat boss made ends → Kept items (set views port l ++ blank ∷ []) numbers schedule left lists seat boss made ends
-  seals_kept l told is had_told open_told kept =
+  -- a pass with no seat comes, and this one's view stays but for `filling`
+  seals_kept : Kept items views numbers schedule left lists seat boss made ends → Kept items (set views port (view_of false v.owner v.ends v.made v.numbers v.known v.closed) ++ blank ∷ []) numbers schedule left lists seat boss made ends
+  seals_kept kept =
       let mine = kept.each port v at in
+      let l : View = view_of false v.owner v.ends v.made v.numbers v.known v.closed in
       let vs : List View = set views port l in
       let F : ℕ → ℕ → View → Type 0 = λ n. Fits numbers schedule left lists seat boss made n in
       let N : ℕ = length (vs ++ blank ∷ []) in
@@ -438,24 +421,21 @@ module _ (items : List Task) (views : List View) (numbers schedule left : List �
         lie = kept.lie;
         reached = kept.reached;
         account = kept.account;
-        owed = (let s = total_set (λ u. u.ends) views port v l at in let t = total_snoc (λ u. u.ends) vs blank in let c = kept.owed in let d = ap (λ (u : View). u.ends) is in omega arith);
+        owed = (let s = total_set (λ u. u.ends) views port v l at in let t = total_snoc (λ u. u.ends) vs blank in let c = kept.owed in omega arith);
         unmade = kept.unmade;
         each = each_snoc (F N) vs blank
             (each_set (F N) views port l
-            (subst (F N port) (sym is) record { same = mine.same; theirs = mine.theirs; owns = mine.owns; alone = λ p. absurd (true≢false (sym p)); ended = mine.ended; told = had_told; unshown = open_told })
+            record { same = mine.same; theirs = mine.theirs; owns = mine.owns; alone = λ p. absurd (true≢false (sym p)); ended = mine.ended }
             (λ j u other e. let f = kept.each j u e in
-            record { same = f.same; theirs = f.theirs; owns = f.owns; alone = λ p. (let b = at_below views j u e in let c = (f.alone p).0 in absurd (other (omega arith))); ended = f.ended; told = f.told; unshown = f.unshown }))
-            record { same = λ p. absurd p; theirs = tt; owns = λ p. absurd (true≢false (sym p)); alone = λ p. absurd (true≢false (sym p)); ended = λ p. absurd (true≢false (sym p)); told = tt; unshown = λ _. refl };
+            record { same = f.same; theirs = f.theirs; owns = f.owns; alone = λ p. (let b = at_below views j u e in let c = (f.alone p).0 in absurd (other (omega arith))); ended = f.ended }))
+            record { same = λ p. absurd p; theirs = tt; owns = λ p. absurd (true≢false (sym p)); alone = λ p. absurd (true≢false (sym p)); ended = λ p. absurd (true≢false (sym p)) };
       }
 
-pub seals : (port : ℕ) (v : View) → Forks Dealt port v (view_of false v.owner v.ends v.made v.numbers v.known v.closed []) blank
-seals port v items views h at = (h.0, h.1, h.2, h.3, h.4, h.5, h.6, h.7, seals_kept items views h.0 h.1 h.2 h.3 h.4 h.5 h.6 h.7 port v at _ [] refl tt (λ _. refl) h.8)
-
-pub blanks : (port : ℕ) (v : View) → Forks Dealt port v (view_of false v.owner v.ends v.made v.numbers v.known v.closed v.shown) blank
-blanks port v items views h at = let mine = h.8.each port v at in (h.0, h.1, h.2, h.3, h.4, h.5, h.6, h.7, seals_kept items views h.0 h.1 h.2 h.3 h.4 h.5 h.6 h.7 port v at _ v.shown refl mine.told mine.unshown h.8)
+pub seals : (port : ℕ) (v : View) → Forks Dealt port v (view_of false v.owner v.ends v.made v.numbers v.known v.closed) blank
+seals port v items views h at = (h.0, h.1, h.2, h.3, h.4, h.5, h.6, h.7, seals_kept items views h.0 h.1 h.2 h.3 h.4 h.5 h.6 h.7 port v at h.8)
 
 pub seats : (port : ℕ) (v : View) → v.owner ≡ true → v.filling ≡ false → Seated v.known → 1 < v.ends
-    → Forks Dealt port v (view_of v.filling v.owner (v.ends - 1) (v.made + 1) v.numbers v.known v.closed v.shown) (view_of false false 1 0 v.numbers ((v.made, []) ∷ []) false [])
+    → Forks Dealt port v (view_of v.filling v.owner (v.ends - 1) (v.made + 1) v.numbers v.known v.closed) (view_of false false 1 0 v.numbers ((v.made, []) ∷ []) false)
 seats port v owns sealed seated more items views h at =
     let numbers = h.0 in
     let schedule = h.1 in
@@ -468,8 +448,8 @@ seats port v owns sealed seated more items views h at =
     let kept = h.8 in
     let mine = kept.each port v at in
     let is_made : v.made ≡ made = (mine.owns owns).1 in
-    let l : View = view_of v.filling v.owner (v.ends - 1) (v.made + 1) v.numbers v.known v.closed v.shown in
-    let r : View = view_of false false 1 0 v.numbers ((v.made, []) ∷ []) false [] in
+    let l : View = view_of v.filling v.owner (v.ends - 1) (v.made + 1) v.numbers v.known v.closed in
+    let r : View = view_of false false 1 0 v.numbers ((v.made, []) ∷ []) false in
     let vs : List View = set views port l in
     let count : length vs ≡ length views = length-set views port l in
     let seat' : ℕ → ℕ = λ k. if k == made then length views else seat k in
@@ -499,8 +479,6 @@ seats port v owns sealed seated more items views h at =
               owns = λ p. ((mine.owns p).0, ap (λ n. n + 1) (mine.owns p).1);
               alone = λ p. absurd (true≢false (sym p ∙ sealed));
               ended = mine.ended;
-              told = mine.told;
-              unshown = mine.unshown;
             }
             (λ j u other e. let f = kept.each j u e in
             record {
@@ -509,16 +487,10 @@ seats port v owns sealed seated more items views h at =
               owns = λ p. absurd (other ((f.owns p).0 ∙ sym (mine.owns owns).0));
               alone = λ p. (let a = at_below views port v at in let b = at_below views j u e in let c = (f.alone p).0 in absurd (other (omega arith)));
               ended = f.ended;
-              told = f.told;
-              unshown = f.unshown;
             }))
-            record { same = λ _. mine.same seated; theirs = new; owns = λ p. absurd (true≢false (sym p)); alone = λ p. absurd (true≢false (sym p)); ended = λ p. absurd (true≢false (sym p)); told = tt; unshown = λ _. refl };
+            record { same = λ _. mine.same seated; theirs = new; owns = λ p. absurd (true≢false (sym p)); alone = λ p. absurd (true≢false (sym p)); ended = λ p. absurd (true≢false (sym p)) };
       },
     )
-
-pub held-append : (x : ℕ) (ps qs : List (ℕ × List ℕ)) → held x (ps ++ qs) ≡ held x ps + held x qs
-held-append x [] qs = omega arith
-held-append x (p ∷ ps) qs = omega (arith, held-append x ps qs)
 
 theirs-append : (seat : ℕ → ℕ) (lists : ℕ → List ℕ) (made j : ℕ) (ps qs : List (ℕ × List ℕ)) → Theirs seat lists made j ps → Theirs seat lists made j qs → Theirs seat lists made j (ps ++ qs)
 theirs-append seat lists made j [] qs a b = b
@@ -534,71 +506,6 @@ theirs_stay seat lists made from to j (p ∷ ps) n t = let no : (seat p.0 == fro
 theirs_move : (seat : ℕ → ℕ) (lists : ℕ → List ℕ) (made from to : ℕ) (known : List (ℕ × List ℕ)) → Theirs seat lists made from known → Theirs (moved seat from to) lists made to known
 theirs_move seat lists made from to [] t = tt
 theirs_move seat lists made from to (p ∷ ps) t = let yes : (seat p.0 == from) ≡ true = eq-eqb (seat p.0) from t.0 in (rw yes refl, t.1, t.2, theirs_move seat lists made from to ps t.3)
-
-seated_more : (ps qs : List (ℕ × List ℕ)) → Seated ps → Seated (ps ++ qs)
-seated_more [] qs s = absurd s
-seated_more (p ∷ ps) qs s = tt
-
-pub gathers : (port : ℕ) (v : View) (other : ℕ) (w : View) → v.filling ≡ false → Seated v.known → w.owner ≡ false → Merges Dealt port v other w (gathered_view v w) blank
-gathers port v other w sealed seated guest items views h at two at' =
-    let numbers = h.0 in
-    let schedule = h.1 in
-    let left = h.2 in
-    let lists = h.3 in
-    let seat = h.4 in
-    let boss = h.5 in
-    let made = h.6 in
-    let ends = h.7 in
-    let kept = h.8 in
-    let both : View = gathered_view v w in
-    let vs : List View = set views port both in
-    let was : get_elem? views other ≡ some w = ⊎_elim (λ (x : (other ≡ port) × (both ≡ w)). absurd (two x.0)) (λ (x : (other ≢ port) × (get_elem? views other ≡ some w)). x.1) (at_set views port other both w at') in
-    let mine = kept.each port v at in
-    let theirs = kept.each other w was in
-    let seat' = moved seat other port in
-    let all = set vs other blank in
-    let len : length all ≡ length views = length-set vs other blank ∙ length-set views port both in
-    let F : ℕ → View → Type 0 = Fits numbers schedule left lists seat' boss made (length all) in (
-      numbers,
-      schedule,
-      left,
-      lists,
-      seat',
-      boss,
-      made,
-      ends,
-      record {
-        lie = kept.lie;
-        reached = kept.reached;
-        account = kept.account;
-        owed = (let s = total_set (λ u. u.ends) views port v both at in let t = total_set (λ u. u.ends) vs other w blank at' in let a = kept.owed in omega arith);
-        unmade = kept.unmade;
-        each = each_set F vs other blank
-            record { same = λ p. absurd p; theirs = tt; owns = λ p. absurd (true≢false (sym p)); alone = λ p. absurd (true≢false (sym p)); ended = λ p. absurd (true≢false (sym p)); told = tt; unshown = λ _. refl }
-            (λ j u apart e. ⊎_elim
-            (λ (x : (j ≡ port) × (both ≡ u)). subst (λ (y : ℕ × View). F y.0 y.1) (λ i. (sym x.0 i, x.1 i))
-            record {
-              same = λ p. mine.same seated;
-              theirs = theirs-append seat' lists made port v.known w.known (theirs_stay seat lists made other port port v.known (λ s. two (sym s)) mine.theirs) (theirs_move seat lists made other port w.known theirs.theirs);
-              owns = mine.owns;
-              alone = λ p. absurd (true≢false (sym p ∙ sealed));
-              ended = mine.ended;
-              told = mine.told;
-              unshown = mine.unshown;
-            })
-            (λ (x : (j ≢ port) × (get_elem? views j ≡ some u)). let f = kept.each j u x.1 in
-            record {
-              same = f.same;
-              theirs = theirs_stay seat lists made other port j u.known apart f.theirs;
-              owns = f.owns;
-              alone = λ p. (let a = at_below views port v at in let b = at_below views j u x.1 in let c = (f.alone p).0 in absurd (x.0 (omega arith)));
-              ended = f.ended;
-              told = f.told;
-              unshown = f.unshown;
-            })
-            (at_set views port j both u e));
-      },
-    )
 
 -- a hand's seat joins the owner's, behind the owner's own. Where one of both knows that no number is left, so may the owner
 pub lends : (closed : Bool) (port : ℕ) (v : View) (other : ℕ) (w : View) (p : ℕ × List ℕ) (more : List (ℕ × List ℕ)) → v.known ≡ p ∷ more → v.filling ≡ false → w.owner ≡ false → (closed ≡ true → (v.closed ≡ true) ⊎ (w.closed ≡ true)) → (closed ≡ false → v.closed ≡ false)
@@ -638,7 +545,7 @@ lends closed port v other w p more is sealed guest shut unshut items views h at 
         owed = (let s = total_set (λ u. u.ends) views port v both at in let t = total_set (λ u. u.ends) vs other w blank at' in let a = kept.owed in omega arith);
         unmade = kept.unmade;
         each = each_set F vs other blank
-            record { same = λ p. absurd p; theirs = tt; owns = λ p. absurd (true≢false (sym p)); alone = λ p. absurd (true≢false (sym p)); ended = λ p. absurd (true≢false (sym p)); told = tt; unshown = λ _. refl }
+            record { same = λ p. absurd p; theirs = tt; owns = λ p. absurd (true≢false (sym p)); alone = λ p. absurd (true≢false (sym p)); ended = λ p. absurd (true≢false (sym p)) }
             (λ j u apart e. ⊎_elim
             (λ (x : (j ≡ port) × (both ≡ u)). subst (λ (y : ℕ × View). F y.0 y.1) (λ i. (sym x.0 i, x.1 i))
             record {
@@ -649,8 +556,6 @@ lends closed port v other w p more is sealed guest shut unshut items views h at 
               owns = mine.owns;
               alone = λ p. absurd (true≢false (sym p ∙ sealed));
               ended = λ c. ⊎_elim (λ a. mine.ended a) (λ b. theirs.ended b) (shut c);
-              told = mine.told;
-              unshown = λ c. mine.unshown (unshut c);
             })
             (λ (x : (j ≢ port) × (get_elem? views j ≡ some u)). let f = kept.each j u x.1 in
             record {
@@ -659,8 +564,6 @@ lends closed port v other w p more is sealed guest shut unshut items views h at 
               owns = f.owns;
               alone = λ p. (let a = at_below views port v at in let b = at_below views j u x.1 in let c = (f.alone p).0 in absurd (x.0 (omega arith)));
               ended = f.ended;
-              told = f.told;
-              unshown = f.unshown;
             })
             (at_set views port j both u e));
       },
@@ -674,77 +577,6 @@ theirs_sent seat lists made hand to j (p ∷ ps) a t = let no : (p.0 == hand) �
 elsewhere : (seat : ℕ → ℕ) (lists : ℕ → List ℕ) (made hand j : ℕ) (known : List (ℕ × List ℕ)) → seat hand ≢ j → Theirs seat lists made j known → Apart hand known
 elsewhere seat lists made hand j [] n t = tt
 elsewhere seat lists made hand j (p ∷ ps) n t = ((λ (e : p.0 ≡ hand). n (ap seat (sym e) ∙ t.0)), elsewhere seat lists made hand j ps n t.3)
-
-had-append : (lists : ℕ → List ℕ) (ps qs : List (ℕ × List ℕ)) → Had lists ps → Had lists qs → Had lists (ps ++ qs)
-had-append lists [] qs a b = b
-had-append lists (p ∷ ps) qs a b = (a.0, had-append lists ps qs a.1 b)
-
-pub returns_seat : (port : ℕ) (v : View) (p q : ℕ × List ℕ) → v.known ≡ p ∷ q ∷ [] → (p.0 ≡ q.0 → ⊥) → v.filling ≡ false → v.closed ≡ true
-    → Forks Dealt port v (kept_view v) (returned_view v)
-returns_seat port v p q is apart sealed shut items views h at =
-    let numbers = h.0 in
-    let schedule = h.1 in
-    let left = h.2 in
-    let lists = h.3 in
-    let seat = h.4 in
-    let boss = h.5 in
-    let made = h.6 in
-    let ends = h.7 in
-    let kept = h.8 in
-    let mine = kept.each port v at in
-    let t : Theirs seat lists made port (p ∷ q ∷ []) = subst (Theirs seat lists made port) is mine.theirs in
-    let l : View = kept_view v in
-    let r : View = returned_view v in
-    let keeps : l.known ≡ p ∷ [] = ap front is in
-    let sends : r.known ≡ q ∷ [] = ap rest is in
-    let vs : List View = set views port l in
-    let count : length vs ≡ length views = length-set views port l in
-    let seat' : ℕ → ℕ = λ k. if k == q.0 then length views else seat k in
-    let N : ℕ = length (vs ++ r ∷ []) in
-    let F : ℕ → View → Type 0 = Fits numbers schedule left lists seat' boss made N in
-    let yes : (q.0 == q.0) ≡ true = eq-eqb q.0 q.0 refl in
-    let new : Theirs seat' lists made (length vs) (q ∷ []) = (rw yes (sym count), t.3.1, t.3.2, tt) in
-    let stay : Theirs seat' lists made port (p ∷ []) = theirs_sent seat lists made q.0 (length views) port (p ∷ []) (apart, tt) (t.0, t.1, t.2, tt) in
-    let seated : Seated v.known = subst Seated (sym is) tt in
-    let none : left ≡ [] = mine.ended shut in (
-      numbers,
-      schedule,
-      left,
-      lists,
-      seat',
-      boss,
-      made,
-      ends,
-      record {
-        lie = kept.lie;
-        reached = kept.reached;
-        account = kept.account;
-        owed = (let s = total_set (λ u. u.ends) views port v l at in let b = total_snoc (λ u. u.ends) vs r in let c = kept.owed in omega arith);
-        unmade = kept.unmade;
-        each = each_snoc F vs r
-            (each_set F views port l
-            record {
-              same = λ _. mine.same seated;
-              theirs = subst (Theirs seat' lists made port) (sym keeps) stay;
-              owns = mine.owns;
-              alone = λ a. absurd (true≢false (sym a ∙ sealed));
-              ended = mine.ended;
-              told = had-append lists v.shown (rest v.known) mine.told (subst (Had lists) (sym sends) (t.3.1, tt));
-              unshown = λ c. absurd (true≢false (sym shut ∙ c));
-            }
-            (λ j u other e. let f = kept.each j u e in
-            record {
-              same = f.same;
-              theirs = theirs_sent seat lists made q.0 (length views) j u.known (elsewhere seat lists made q.0 j u.known (λ s. other (sym s ∙ t.3.0)) f.theirs) f.theirs;
-              owns = f.owns;
-              alone = λ a. (let b = at_below views port v at in let c = at_below views j u e in let d = (f.alone a).0 in absurd (other (omega arith)));
-              ended = f.ended;
-              told = f.told;
-              unshown = f.unshown;
-            }))
-            record { same = λ _. mine.same seated; theirs = subst (Theirs seat' lists made (length vs)) (sym sends) new; owns = λ a. absurd (true≢false (sym a)); alone = λ a. absurd (true≢false (sym a)); ended = λ _. none; told = tt; unshown = λ _. refl };
-      },
-    )
 
 -- the owner of a deque gives a hand its seat again, which it knew beside others
 pub gives_back : (n port : ℕ) (v : View) (p q : ℕ × List ℕ) (more : List (ℕ × List ℕ)) → v.known ≡ p ∷ q ∷ more → (p.0 ≡ q.0 → ⊥) → Apart q.0 more → v.filling ≡ false → n ≤ v.ends
@@ -796,8 +628,6 @@ gives_back n port v p q more is apart others sealed enough items views h at =
               owns = mine.owns;
               alone = λ a. absurd (true≢false (sym a ∙ sealed));
               ended = mine.ended;
-              told = mine.told;
-              unshown = mine.unshown;
             }
             (λ j u other e. let f = kept.each j u e in
             record {
@@ -806,29 +636,10 @@ gives_back n port v p q more is apart others sealed enough items views h at =
               owns = f.owns;
               alone = λ a. (let b = at_below views port v at in let c = at_below views j u e in let d = (f.alone a).0 in absurd (other (omega arith)));
               ended = f.ended;
-              told = f.told;
-              unshown = f.unshown;
             }))
-            record { same = λ _. mine.same seated; theirs = subst (Theirs seat' lists made (length vs)) (sym sends) new; owns = λ a. absurd (true≢false (sym a)); alone = λ a. absurd (true≢false (sym a)); ended = mine.ended; told = tt; unshown = λ _. refl };
+            record { same = λ _. mine.same seated; theirs = subst (Theirs seat' lists made (length vs)) (sym sends) new; owns = λ a. absurd (true≢false (sym a)); alone = λ a. absurd (true≢false (sym a)); ended = mine.ended };
       },
     )
-
--- where no number is left, and the owner was shown every hand's list, these have what was dealt
-pub learns : (port : ℕ) (v : View) (list : List ℕ) (r : ℕ) → v.owner ≡ true → v.closed ≡ true → v.known ≡ (0, list) ∷ [] → Down r v.shown → v.made ≡ suc r
-    → Learns Dealt port v (λ items. (x : ℕ) → held x v.known + held x v.shown ≡ times x v.numbers)
-learns port v list r owns shut is down count items views h at x =
-    let lists = h.3 in
-    let kept = h.8 in
-    let mine = kept.each port v at in
-    let t = subst (Theirs h.4 lists h.6 port) is mine.theirs in
-    let a = kept.account x in
-    let b = sum_down x lists r v.shown down mine.told in
-    let c = ap (times x) (mine.same (subst Seated (sym is) tt)) in
-    let d = ap (times x) (mine.ended shut) in
-    let e = ap (sum_below (λ h. times x (lists h))) (sym (mine.owns owns).1 ∙ count) in
-    let f : held x v.known ≡ times x list + 0 = ap (held x) is in
-    let g : times x (lists 0) ≡ times x list = ap (times x) t.1 in
-    omega arith
 
 sum_up : (x : ℕ) (lists : ℕ → List ℕ) (k : ℕ) (ps : List (ℕ × List ℕ)) → Up k ps → Had lists ps → sum_below (λ h. times x (lists h)) (k + length ps) ≡ sum_below (λ h. times x (lists h)) k + held x ps
 sum_up x lists k [] up has = let e : k + 0 ≡ k = omega arith in rw e (omega arith)
@@ -838,8 +649,8 @@ sum_up x lists k (p ∷ ps) up has =
     let l : times x (lists k) ≡ times x p.1 = ap (times x) (ap lists (sym up.0) ∙ has.0) in
     rw e (omega (arith, i, l))
 
--- the owner of a deque that knows every hand's list: together they have no number more often than it was dealt
-pub learns_within : (port : ℕ) (v : View) → v.owner ≡ true → Seated v.known → Up 0 v.known → v.made ≡ length v.known → Learns Dealt port v (λ items. (x : ℕ) → held x v.known ≤ times x v.numbers)
+-- the owner of a deque that knows every hand's list: together they have no number more often than it was dealt, and each as often where none is left
+pub learns_within : (port : ℕ) (v : View) → v.owner ≡ true → Seated v.known → Up 0 v.known → v.made ≡ length v.known → Learns Dealt port v (λ items. (x : ℕ) → UpTo (v.closed ≡ true) (held x v.known) (times x v.numbers))
 learns_within port v owns seated up count items views h at x =
     let lists = h.3 in
     let kept = h.8 in
@@ -849,7 +660,7 @@ learns_within port v owns seated up count items views h at x =
     let c = ap (times x) (mine.same seated) in
     let n : 0 + length v.known ≡ h.6 = omega (arith, count, (mine.owns owns).1) in
     let e = ap (sum_below (λ h. times x (lists h))) n in
-    omega arith
+    (omega (arith, a, b, c, e), λ shut. let d = ap (times x) (mine.ended shut) in omega (arith, a, b, c, d, e))
 
 -- a hand below all of these is none of them
 pub up_apart : (q k : ℕ) (ps : List (ℕ × List ℕ)) → q < k → Up k ps → Apart q ps

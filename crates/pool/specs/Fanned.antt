@@ -4,7 +4,7 @@ use mathlib.Core.Option.{some}
 use lib.ListN.{get_elem?}
 use Rattle.pool.specs.Totals.{gathered, sum_below, sum_list}
 use Rattle.pool.specs.Holding.{Holding, numbers_of}
-use Rattle.pool.specs.Settled.{AllSpent}
+use Rattle.pool.specs.Settled.{AllSpent, joined}
 use Rattle.pool.specs.Done.{Follows, Did}
 use Rattle.pool.specs.declared.laws.Outcome.{Outcome}
 use Rattle.pool.specs.declared.laws.Outcome.TheVariants.{Whole, Over}
@@ -60,3 +60,8 @@ AreGathered unit combined piece meaning (l ∷ ls) ps = (p : _) × (ps' : List _
 abbrev pub Settles : {P : Type 0} → Outcome P → List Holding → Type 0
 Settles (Whole p) hs = AllSpent hs
 Settles Over hs = Unit {0}
+
+-- after Over, the pieces in the hands' lists weigh more than the limit
+abbrev pub Outweighs : {P : Type 0} → (ℕ → ℕ) → ℕ → Outcome P → List Holding → Type 0
+Outweighs weights limit (Whole p) hs = Unit {0}
+Outweighs weights limit Over hs = limit < sum_list weights (joined hs)

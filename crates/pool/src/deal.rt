@@ -1,18 +1,15 @@
 // Hands, which take numbers from their own deque, and then from those of the others.
 ghost use Rattle.std.specs.Prelude.{length, ◌%◌, ◌↔◌, All, IsTrue, ◌≡◌, ℕ, List, ◌+◌, ◌-◌, ◌<◌, ◌≤◌, true, false, [], ◌∷◌, ◌++◌, MatchOption, IfOk, IfSome, IfNone};
-ghost use Rattle.pool.specs.Seen.{Seen, WasEmpty, Took, with_seen, now_closed, told_view, Shut, Looked, IsThief};
+ghost use Rattle.pool.specs.Seen.{Seen, WasEmpty, Took, with_seen, now_closed, Looked, IsThief};
 ghost use Rattle.pool.specs.Holding.{Steals, IsHolding, InOrder, new_holding};
 ghost use Rattle.pool.specs.Answered.{Answers};
 ghost use Rattle.pool.specs.Settled.{list_from, Reaches, AllReach, told, AreAll, AllSpent, joined, pieces_of, KnowsAbove};
 ghost use Rattle.pool.specs.Totals.{once_below};
-ghost use Rattle.pool.specs.Rule.{held, Seated, Apart, lent_view, giving_view, given_view};
+ghost use Rattle.pool.specs.Rule.{held, UpTo, Seated, Apart, lent_view, giving_view, given_view};
 ghost use Rattle.pool.specs.Dealing.{times};
 ghost use Rattle.crossbeam_deque.specs.Handles.{worker_deque, worker_flavor, worker_view, view as pass_view, IsPassOf};
 
-use crate::protocol::{
-    Blank, Dealing, Gather, GiveOpen, GiveShut, LendOpen, LendShut, Return, Seal, Taken, Whole,
-    Within,
-};
+use crate::protocol::{Dealing, GiveOpen, GiveShut, LendOpen, LendShut, Seal, Taken, Within};
 use crate::view::{Task, View};
 use crossbeam_deque::{Pass, Steal, Stealer, Worker};
 use std::alloc::Global;
@@ -96,24 +93,6 @@ impl Reach {
             Steal::Retry => None,
         }
     }
-
-    /// Shows the owner of a deque with no number left what this hand has of it, for good.
-    fn show(&mut self, worker: &mut Deque)
-        requires deque { self.old.deque ≡ worker_deque worker.old }
-        requires numbers { self.old.numbers ≡ (worker_view worker.old).numbers }
-        requires apart { self.old.place ≡ 0 → ⊥ }
-        requires owner { Shut (worker_view worker.old) }
-        ensures same { self.new ≡ self.old }
-        ensures deque { (worker_deque worker.new ≡ worker_deque worker.old) × (worker_flavor worker.new ≡ worker_flavor worker.old) }
-        ensures shown { worker_view worker.new ≡ told_view (worker_view worker.old) (worker_view worker.new).ends ((self.old.place, self.old.list) ∷ []) }
-    {
-        let blank = worker.another::<Blank>();
-        let pass = mem::replace(&mut self.pass, blank);
-        worker.absorb::<Gather>(pass);
-        let back = worker.another::<Return>();
-        drop(mem::replace(&mut self.pass, back));
-        self.closed = true;
-    }
 }
 
 /// What a hand answers when it is asked for a piece.
@@ -192,62 +171,15 @@ impl Hand {
     }
 }
 
-impl Hand {
-    /// Shows the owner of the deque at this place what this hand has of it.
-    fn show(&mut self, worker: &mut Deque, place: usize)
-        requires reach { Reaches (worker_deque worker.old) (worker_view worker.old).numbers place self.old }
-        requires owner { Shut (worker_view worker.old) }
-        ensures same { self.new ≡ self.old }
-        ensures deque { (worker_deque worker.new ≡ worker_deque worker.old) × (worker_flavor worker.new ≡ worker_flavor worker.old) }
-        ensures shown { worker_view worker.new ≡ told_view (worker_view worker.old) (worker_view worker.new).ends ((place, list_from place self.old) ∷ []) }
-    {
-        let other = &mut self.others[place - 1];
-        other.show(worker);
-    }
-}
-
-/// Each of these hands shows what it has. The first has this place, and the others the places below.
-fn show_all(worker: &mut Deque, hands: &mut [Hand], place: usize)
-    requires reach { AllReach (worker_deque worker.old) (worker_view worker.old).numbers place hands.old }
-    requires owner { Shut (worker_view worker.old) }
-    ensures same { hands.new ≡ hands.old }
-    ensures deque { (worker_deque worker.new ≡ worker_deque worker.old) × (worker_flavor worker.new ≡ worker_flavor worker.old) }
-    ensures shown { worker_view worker.new ≡ told_view (worker_view worker.old) (worker_view worker.new).ends (told place hands.old) }
-{
-    for i in 0..hands.len() {
-        let hand = &mut hands[i];
-        hand.show(worker, place - i);
-    }
-}
-
 impl Own {
-    /// All other hands show what they have of the deque, which has no number left. What was shown is forgotten.
-    fn account(&mut self, before: &mut [Hand], after: &mut [Hand])
-        requires closed { self.old.closed ≡ true }
-        requires few { length before.old + length after.old < 64 }
-        requires count { self.old.made ≡ length before.old + length after.old + 1 }
-        requires after { AllReach self.old.seen.deque self.old.seen.numbers (length before.old + length after.old) after.old }
-        requires before { AllReach self.old.seen.deque self.old.seen.numbers (length before.old) before.old }
-        ensures same { (self.new ≡ self.old) × (before.new ≡ before.old) × (after.new ≡ after.old) }
-        ensures account { (x : ℕ) → times x self.old.seen.list + (held x (told (length before.old + length after.old) after.old) + held x (told (length before.old) before.old)) ≡ times x self.old.seen.numbers }
-    {
-        let first = before.len();
-        let place = first + after.len();
-        let worker = &mut self.worker;
-        show_all(worker, after, place);
-        show_all(worker, before, first);
-        worker.len_as::<Whole>();
-        drop(worker.another::<Seal>());
-    }
-
-    /// The owner looks at what all other hands have of the deque, whether or not numbers are left there: with its own list, they hold no number more often than it was dealt.
+    /// The owner looks at what all other hands have of the deque, whether or not numbers are left there: with its own list, they hold no number more often than it was dealt, and each as often once no number is left.
     fn apart(&mut self, before: &mut [Hand], after: &mut [Hand])
         requires few { length before.old + length after.old < 64 }
         requires count { self.old.made ≡ length before.old + length after.old + 1 }
         requires after { AllReach self.old.seen.deque self.old.seen.numbers (length before.old + length after.old) after.old }
         requires before { AllReach self.old.seen.deque self.old.seen.numbers (length before.old) before.old }
         ensures same { (self.new ≡ self.old) × (before.new ≡ before.old) × (after.new ≡ after.old) }
-        ensures apart { (x : ℕ) → times x self.old.seen.list + (held x (told (length before.old + length after.old) after.old) + held x (told (length before.old) before.old)) ≤ times x self.old.seen.numbers }
+        ensures apart { (x : ℕ) → UpTo (self.old.closed ≡ true) (times x self.old.seen.list + (held x (told (length before.old + length after.old) after.old) + held x (told (length before.old) before.old))) (times x self.old.seen.numbers) }
     {
         let place = before.len() + after.len();
         compare(&mut self.worker, after, before, place);
@@ -269,53 +201,25 @@ impl Hand {
         self.pieces
     }
 
-    /// The other hands of the deal show what they have of this hand's deque, which has no number left.
-    fn account(&mut self, before: &mut [Hand], after: &mut [Hand])
-        requires closed { self.old.own.closed ≡ true }
-        requires few { length before.old + length after.old < 64 }
-        requires count { self.old.own.made ≡ length before.old + length after.old + 1 }
-        requires after { AllReach self.old.own.seen.deque self.old.own.seen.numbers (length before.old + length after.old) after.old }
-        requires before { AllReach self.old.own.seen.deque self.old.own.seen.numbers (length before.old) before.old }
-        ensures same { (self.new ≡ self.old) × (before.new ≡ before.old) × (after.new ≡ after.old) }
-        ensures account { (x : ℕ) → times x self.old.own.seen.list + (held x (told (length before.old + length after.old) after.old) + held x (told (length before.old) before.old)) ≡ times x self.old.own.seen.numbers }
-    {
-        self.own.account(before, after);
-    }
-
-    /// The other hands of the deal show what they have of this hand's deque, in which numbers may be left.
+    /// As `Own::apart`, at this hand's deque.
     fn apart(&mut self, before: &mut [Hand], after: &mut [Hand])
         requires few { length before.old + length after.old < 64 }
         requires count { self.old.own.made ≡ length before.old + length after.old + 1 }
         requires after { AllReach self.old.own.seen.deque self.old.own.seen.numbers (length before.old + length after.old) after.old }
         requires before { AllReach self.old.own.seen.deque self.old.own.seen.numbers (length before.old) before.old }
         ensures same { (self.new ≡ self.old) × (before.new ≡ before.old) × (after.new ≡ after.old) }
-        ensures apart { (x : ℕ) → times x self.old.own.seen.list + (held x (told (length before.old + length after.old) after.old) + held x (told (length before.old) before.old)) ≤ times x self.old.own.seen.numbers }
+        ensures apart { (x : ℕ) → UpTo (self.old.own.closed ≡ true) (times x self.old.own.seen.list + (held x (told (length before.old + length after.old) after.old) + held x (told (length before.old) before.old))) (times x self.old.own.seen.numbers) }
     {
         self.own.apart(before, after);
     }
 }
 
-/// The pieces of the deque of the hand d are in the lists, each as often as it was dealt.
-fn account_of(hands: &mut [Hand], d: usize)
-    requires deal { AreAll hands.old }
-    requires low { d < length hands.old }
-    requires spent { AllSpent hands.old }
-    ensures same { hands.new ≡ hands.old }
-    ensures account { (x : ℕ) → x % length hands.old ≡ d → times x (joined hands.old) ≡ once_below x (pieces_of hands.old) }
-{
-    let (before, rest) = hands.split_at_mut(d);
-    let Some((mine, after)) = rest.split_first_mut() else {
-        unreachable!();
-    };
-    mine.account(before, after);
-}
-
-/// No piece of the deque of the hand d is in the lists more than once.
+/// No piece of the deque of the hand d is in the lists more than once, and each is in one where all hands are spent.
 fn apart_of(hands: &mut [Hand], d: usize)
     requires deal { AreAll hands.old }
     requires low { d < length hands.old }
     ensures same { hands.new ≡ hands.old }
-    ensures apart { (x : ℕ) → x % length hands.old ≡ d → times x (joined hands.old) ≤ once_below x (pieces_of hands.old) }
+    ensures apart { (x : ℕ) → x % length hands.old ≡ d → UpTo (AllSpent hands.old) (times x (joined hands.old)) (once_below x (pieces_of hands.old)) }
 {
     let (before, rest) = hands.split_at_mut(d);
     let Some((mine, after)) = rest.split_first_mut() else {
@@ -324,11 +228,12 @@ fn apart_of(hands: &mut [Hand], d: usize)
     mine.apart(before, after);
 }
 
-/// The hands of a deal have no piece twice, and none that the deal does not have, whether or not they have answered Spent. It takes no memory.
+/// The hands of a deal have no piece twice, and none that the deal does not have; where all have answered Spent, they
+/// have each piece. It takes no memory.
 pub fn apart(hands: &mut [Hand])
     requires deal { AreAll hands.old }
     ensures same { hands.new ≡ hands.old }
-    ensures apart { (x : ℕ) → times x (joined hands.old) ≤ once_below x (pieces_of hands.old) }
+    ensures apart { (x : ℕ) → UpTo (AllSpent hands.old) (times x (joined hands.old)) (once_below x (pieces_of hands.old)) }
 {
     for d in 0..hands.len() {
         apart_of(hands, d);
@@ -347,18 +252,6 @@ fn all_spent(hands: &[Hand]) -> bool
     true
 }
 
-/// The pieces of all deques are in the lists.
-fn account_all(hands: &mut [Hand])
-    requires deal { AreAll hands.old }
-    requires spent { AllSpent hands.old }
-    ensures same { hands.new ≡ hands.old }
-    ensures whole { (x : ℕ) → times x (joined hands.old) ≡ once_below x (pieces_of hands.old) }
-{
-    for d in 0..hands.len() {
-        account_of(hands, d);
-    }
-}
-
 /// Whether each hand of the deal has answered Spent. Then what they were given, joined, is each piece exactly once.
 /// It takes no memory, and leaves the hands as they were.
 pub fn settled(hands: &mut [Hand]) -> bool
@@ -370,7 +263,7 @@ pub fn settled(hands: &mut [Hand]) -> bool
     if !all_spent(hands) {
         return false;
     }
-    account_all(hands);
+    apart(hands);
     true
 }
 
@@ -432,10 +325,10 @@ impl Reach {
         ensures same { (self.new ≡ self.old) × (others.new ≡ others.old) × (more.new ≡ more.old) }
         ensures deque { (worker_deque worker.new ≡ worker_deque worker.old) × (worker_flavor worker.new ≡ worker_flavor worker.old) }
         ensures looked { Looked (worker_view worker.old) (worker_view worker.new) }
-        ensures within { (x : ℕ) → held x (worker_view worker.old).known + (times x self.old.list + (held x (told (place - 1) others.old) + held x (told (length more.old) more.old))) ≤ times x (worker_view worker.old).numbers }
+        ensures within { (x : ℕ) → UpTo ((worker_view worker.old).closed ≡ true) (held x (worker_view worker.old).known + (times x self.old.list + (held x (told (place - 1) others.old) + held x (told (length more.old) more.old)))) (times x (worker_view worker.old).numbers) }
     {
         let closed = self.closed;
-        let blank = worker.another::<Blank>();
+        let blank = worker.another::<Seal>();
         let pass = mem::replace(&mut self.pass, blank);
         take_in(worker, pass, closed);
         compare(worker, others, more, place - 1);
@@ -444,7 +337,7 @@ impl Reach {
     }
 }
 
-/// The owner of the deque takes in the seats of these hands, of which the first has this place and the others those below, learns that their lists hold no number more often than it was dealt, and gives the seats back.
+/// The owner of the deque takes in the seats of these hands, of which the first has this place and the others those below, learns that their lists hold no number more often than it was dealt, and each as often once no number is left, and gives the seats back.
 #[cycle(compare)]
 fn compare(worker: &mut Deque, hands: &mut [Hand], more: &mut [Hand], place: usize)
     requires place { (place ≡ length hands.old + length more.old) × (place < 64) }
@@ -454,7 +347,7 @@ fn compare(worker: &mut Deque, hands: &mut [Hand], more: &mut [Hand], place: usi
     ensures same { (hands.new ≡ hands.old) × (more.new ≡ more.old) }
     ensures deque { (worker_deque worker.new ≡ worker_deque worker.old) × (worker_flavor worker.new ≡ worker_flavor worker.old) }
     ensures looked { Looked (worker_view worker.old) (worker_view worker.new) }
-    ensures within { (x : ℕ) → held x (worker_view worker.old).known + (held x (told place hands.old) + held x (told (length more.old) more.old)) ≤ times x (worker_view worker.old).numbers }
+    ensures within { (x : ℕ) → UpTo ((worker_view worker.old).closed ≡ true) (held x (worker_view worker.old).known + (held x (told place hands.old) + held x (told (length more.old) more.old))) (times x (worker_view worker.old).numbers) }
 {
     if let Some((hand, rest)) = hands.split_first_mut() {
         let reach = &mut hand.others[place - 1];

@@ -23,8 +23,6 @@ mod laws;
 mod protocol;
 mod single;
 mod source;
-#[cfg(test)]
-mod tests;
 mod threads;
 mod view;
 mod worker;

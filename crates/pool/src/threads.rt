@@ -1,18 +1,19 @@
 // The hands of a deal, each on a thread of its own.
-ghost use Rattle.std.specs.Prelude.{◌≡◌, ℕ, ◌+◌, ◌^◌, ◌<◌, ◌≤◌, ◌⊎◌, ◌++◌, ◌∷◌, [], IfOk, IfErr, vec_len, length, List};
+ghost use Rattle.std.specs.Prelude.{◌≡◌, ℕ, ◌+◌, ◌^◌, ◌<◌, ◌≤◌, ◌⊎◌, ◌++◌, ◌∷◌, [], IfOk, IfErr, IfSome, IfNone, IsOkAnd, vec_len, length, List};
 ghost use Rattle.pool.specs.Totals.{gathered, sum_below, sum_list, total, once_below};
 ghost use Rattle.pool.specs.Outcomes.{Decides};
 ghost use Rattle.pool.specs.Dealing.{times};
+ghost use Rattle.pool.specs.Rule.{UpTo};
 ghost use Rattle.pool.specs.Holding.{Holding, numbers_of};
 ghost use Rattle.pool.specs.Settled.{AreAll, AllSpent, joined, pieces_of};
 ghost use Rattle.pool.specs.Done.{Did};
-ghost use Rattle.pool.specs.Fanned.{AreReady, DidAll, AreUnderWay, CameBack, NeedNoThread, AreGathered, flat, lists_in, Settles};
+ghost use Rattle.pool.specs.Fanned.{AreReady, DidAll, AreUnderWay, CameBack, NeedNoThread, AreGathered, flat, lists_in, Settles, Outweighs};
 ghost use Rattle.pool.specs.Assembly.{IsNewDeal};
 ghost use mathlib.Core.Option.{some};
 ghost use lib.ListN.{get_elem?};
 
 use crate::book::{Book, Share};
-use crate::deal::{Hand, apart, settled};
+use crate::deal::{Hand, apart};
 use crate::dealing::Deal;
 use crate::growing::put_last;
 use crate::laws::{Outcome, PoolFault, Work};
@@ -32,29 +33,44 @@ pub struct Gathered<P, L: Ledger> {
     pub parts: Vec<P>,
 }
 
-/// One more worker's.
+/// The last hand, with its share.
+fn last_pair<L: Ledger>(
+    hands: &mut Vec<Hand>,
+    shares: &mut Vec<Share<L>>,
+) -> Option<(Hand, Share<L>)>
+    requires count { length hands.old.items ≡ length shares.old.items }
+    ensures none { IfNone result ((hands.old.items ≡ []) × (shares.old.items ≡ [])) }
+    ensures hands { IfSome result (λ p. hands.old.items ≡ hands.new.items ++ p.0 ∷ []) }
+    ensures shares { IfSome result (λ p. shares.old.items ≡ shares.new.items ++ p.1 ∷ []) }
+{
+    let Some(hand) = hands.pop() else {
+        return None;
+    };
+    let Some(share) = shares.pop() else {
+        unreachable!();
+    };
+    Some((hand, share))
+}
+
+/// One more worker's, unless it ran out of memory.
 fn with_done<P: Drop, L: Ledger>(
     gathered: Gathered<P, L>,
-    done: Done<P, L>,
-) -> Result<Gathered<P, L>, AllocError>
-    ensures hands { IfOk result (λ g. g.hands.items ≡ gathered.hands.items ++ done.hand ∷ []) }
-    ensures shares { IfOk result (λ g. g.shares.items ≡ gathered.shares.items ++ done.share ∷ []) }
-    ensures parts { IfOk result (λ g. g.parts.items ≡ gathered.parts.items ++ done.part ∷ []) }
+    done: Result<Done<P, L>, AllocError>,
+) -> Result<Gathered<P, L>, PoolFault>
+    ensures more { IfOk result (λ g. IsOkAnd done (λ d. (g.hands.items ≡ gathered.hands.items ++ d.hand ∷ []) × (g.shares.items ≡ gathered.shares.items ++ d.share ∷ []) × (g.parts.items ≡ gathered.parts.items ++ d.part ∷ []))) }
+    ensures fault { IfErr result (λ e. e ≡ PoolFault.OutOfMemory) }
 {
-    let Gathered {
-        mut hands,
-        mut shares,
-        mut parts,
-    } = gathered;
-    let Done { hand, share, part } = done;
-    put_last(&mut hands, hand)?;
-    put_last(&mut shares, share)?;
-    put_last(&mut parts, part)?;
-    Ok(Gathered {
-        hands,
-        shares,
-        parts,
-    })
+    let Ok(Done { hand, share, part }) = done else {
+        return Err(PoolFault::OutOfMemory);
+    };
+    let mut all = gathered;
+    if put_last(&mut all.hands, hand).is_err()
+        || put_last(&mut all.shares, share).is_err()
+        || put_last(&mut all.parts, part).is_err()
+    {
+        return Err(PoolFault::OutOfMemory);
+    }
+    Ok(all)
 }
 
 /// Each hand works until it is spent or the book is above `stop`: the first on the calling thread, each other on its own, and where there is no piece all on the calling one.
@@ -74,28 +90,19 @@ fn spread<'s, E, W: Work + Sync, L: Ledger + Send + Sync, R: Threads + Wait + Sy
 {
     let mut hands = hands;
     let mut shares = shares;
-    let Some(hand) = hands.pop() else {
+    let Some((hand, share)) = last_pair(&mut hands, &mut shares) else {
         return Ok(Gathered {
             hands: Vec::new(alloc),
             shares: Vec::new(alloc),
             parts: Vec::new(alloc),
         });
     };
-    let Some(share) = shares.pop() else {
-        unreachable!();
-    };
     if hands.is_empty() || hand.pieces() == 0 {
         let others = match spread(scope, rt, alloc, work, book, stop, hands, shares) {
             Ok(others) => others,
             Err(fault) => return Err(fault),
         };
-        let Ok(done) = work_off(rt, work, book, stop, hand, share) else {
-            return Err(PoolFault::OutOfMemory);
-        };
-        let Ok(all) = with_done(others, done) else {
-            return Err(PoolFault::OutOfMemory);
-        };
-        return Ok(all);
+        return with_done(others, work_off(rt, work, book, stop, hand, share));
     }
     let Some(handle) = start(scope, rt, work, book, stop, hand, share) else {
         return Err(PoolFault::ThreadNotStarted);
@@ -104,13 +111,7 @@ fn spread<'s, E, W: Work + Sync, L: Ledger + Send + Sync, R: Threads + Wait + Sy
         Ok(others) => others,
         Err(fault) => return Err(fault),
     };
-    let Ok(done) = handle.join(rt) else {
-        return Err(PoolFault::OutOfMemory);
-    };
-    let Ok(all) = with_done(others, done) else {
-        return Err(PoolFault::OutOfMemory);
-    };
-    Ok(all)
+    with_done(others, handle.join(rt))
 }
 
 /// As `spread`, with a scope of its own.
@@ -150,6 +151,23 @@ fn weigh<W: Work>(work: &W, parts: &Vec<W::Part>) -> u64
     sum
 }
 
+/// The last worker's.
+fn last_done<P, L: Ledger>(gathered: &mut Gathered<P, L>) -> Option<Done<P, L>>
+    requires count { (length gathered.old.hands.items ≡ length gathered.old.shares.items) × (length gathered.old.hands.items ≡ length gathered.old.parts.items) }
+    ensures none { IfNone result ((gathered.old.hands.items ≡ []) × (gathered.old.shares.items ≡ []) × (gathered.old.parts.items ≡ [])) }
+    ensures hands { IfSome result (λ d. gathered.old.hands.items ≡ gathered.new.hands.items ++ d.hand ∷ []) }
+    ensures shares { IfSome result (λ d. gathered.old.shares.items ≡ gathered.new.shares.items ++ d.share ∷ []) }
+    ensures parts { IfSome result (λ d. gathered.old.parts.items ≡ gathered.new.parts.items ++ d.part ∷ []) }
+{
+    let Some((hand, share)) = last_pair(&mut gathered.hands, &mut gathered.shares) else {
+        return None;
+    };
+    let Some(part) = gathered.parts.pop() else {
+        unreachable!();
+    };
+    Some(Done { hand, share, part })
+}
+
 /// Each hand goes on until it is spent, on the calling thread.
 fn finish_all<W: Work, L: Ledger, R: Wait>(
     rt: &R,
@@ -157,38 +175,25 @@ fn finish_all<W: Work, L: Ledger, R: Wait>(
     work: &W,
     book: &Book<L>,
     gathered: Gathered<W::Part, L>,
-) -> Result<Gathered<W::Part, L>, AllocError>
+) -> Result<Gathered<W::Part, L>, PoolFault>
     requires { AreUnderWay (W.unit_meaning work.now) (W.combined work.now) (W.piece_meaning work.now) (W.weight_of work.now) (W.load_of work.now) (λ s. s.sum) W.meaning gathered.hands.items gathered.shares.items gathered.parts.items }
     ensures did { IfOk result (λ g. DidAll (W.unit_meaning work.now) (W.combined work.now) (W.piece_meaning work.now) (W.weight_of work.now) (λ s. s.sum) W.meaning gathered.hands.items gathered.shares.items g.hands.items g.shares.items g.parts.items) }
     ensures spent { IfOk result (λ g. AllSpent g.hands.items) }
+    ensures fault { IfErr result (λ e. e ≡ PoolFault.OutOfMemory) }
 {
-    let Gathered {
-        mut hands,
-        mut shares,
-        mut parts,
-    } = gathered;
-    let Some(hand) = hands.pop() else {
+    let mut gathered = gathered;
+    let Some(done) = last_done(&mut gathered) else {
         return Ok(Gathered {
             hands: Vec::new(alloc),
             shares: Vec::new(alloc),
             parts: Vec::new(alloc),
         });
     };
-    let Some(share) = shares.pop() else {
-        unreachable!();
+    let others = match finish_all(rt, alloc, work, book, gathered) {
+        Ok(others) => others,
+        Err(fault) => return Err(fault),
     };
-    let Some(part) = parts.pop() else {
-        unreachable!();
-    };
-    let fewer = Gathered {
-        hands,
-        shares,
-        parts,
-    };
-    let others = finish_all(rt, alloc, work, book, fewer)?;
-    let done = go_on(rt, work, book, u128::MAX, Done { hand, share, part })?;
-    let all = with_done(others, done)?;
-    Ok(all)
+    with_done(others, go_on(rt, work, book, u128::MAX, done))
 }
 
 /// All parts, combined. No piece is in their lists twice.
@@ -203,23 +208,11 @@ fn combine_all<W: Work>(work: &W, parts: Vec<W::Part>) -> Result<W::Part, AllocE
     Ok(all)
 }
 
-/// The hands of a deal have all answered Spent: their lists joined hold each piece once.
-fn settle(hands: &mut Vec<Hand>)
-    requires deal { AreAll hands.old.items }
-    requires spent { AllSpent hands.old.items }
-    ensures same { hands.new.items ≡ hands.old.items }
-    ensures whole { (x : ℕ) → times x (joined hands.old.items) ≡ once_below x (pieces_of hands.old.items) }
-{
-    if !settled(hands.as_mut_slice()) {
-        unreachable!();
-    }
-}
-
-/// The hands of a deal have no piece twice, also where some are not spent.
+/// The hands of a deal have no piece twice, and where all are spent, they have each piece.
 fn keep_apart(hands: &mut Vec<Hand>)
     requires { AreAll hands.old.items }
     ensures same { hands.new.items ≡ hands.old.items }
-    ensures apart { (x : ℕ) → times x (joined hands.old.items) ≤ once_below x (pieces_of hands.old.items) }
+    ensures apart { (x : ℕ) → UpTo (AllSpent hands.old.items) (times x (joined hands.old.items)) (once_below x (pieces_of hands.old.items)) }
 {
     apart(hands.as_mut_slice());
 }
@@ -237,13 +230,14 @@ fn conclude<W: Work, L: Ledger>(
     ensures decided { IfOk result (λ r. Decides W.meaning (total (W.unit_meaning work.now) (W.combined work.now) (W.piece_meaning work.now) (pieces_of finished.hands.items)) (sum_below (λ i. W.weight_of work.now (W.piece_meaning work.now i)) (pieces_of finished.hands.items)) limit r.0) }
     ensures same { IfOk result (λ r. (r.1.items ≡ finished.hands.items) × (r.2.items ≡ finished.shares.items)) }
     ensures once { IfOk result (λ r. (x : ℕ) → times x (joined finished.hands.items) ≡ once_below x (pieces_of finished.hands.items)) }
+    ensures over { IfOk result (λ r. Outweighs (λ i. W.weight_of work.now (W.piece_meaning work.now i)) limit r.0 r.1.items) }
 {
     let Gathered {
         mut hands,
         shares,
         parts,
     } = finished;
-    settle(&mut hands);
+    keep_apart(&mut hands);
     let part = combine_all(work, parts)?;
     if work.weight(&part) > limit {
         return Ok((Outcome::Over, hands, shares));
@@ -279,6 +273,7 @@ pub fn fan_on<W: Work + Sync, L: Ledger + Send + Sync, R: Threads + Wait + Sync>
     ensures back { IfOk result (λ r. CameBack (λ i. W.weight_of work.now (W.piece_meaning work.now i)) (λ s. s.sum) hands.items shares.items r.1.items r.2.items) }
     ensures once { IfOk result (λ r. (x : ℕ) → times x (joined r.1.items) ≤ once_below x (pieces_of hands.items)) }
     ensures settled { IfOk result (λ r. Settles r.0 r.1.items) }
+    ensures over { IfOk result (λ r. Outweighs (λ i. W.weight_of work.now (W.piece_meaning work.now i)) limit r.0 r.1.items) }
     ensures alone { (vec_len hands ≡ 1) ⊎ (pieces_of hands.items ≡ 0) → IfErr result (λ e. e ≡ PoolFault.OutOfMemory) }
 {
     let gathered = match gather(rt, alloc, work, book, stop, hands, shares) {

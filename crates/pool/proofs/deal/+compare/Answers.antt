@@ -1,4 +1,4 @@
-use Rattle.std.proofs.Common.{◌≡◌, ◌∙◌, ℕ, suc, ◌-◌, ◌<◌, ◌+◌, List, length, rules, ap, sym, subst, refl, arith}
+use Rattle.std.proofs.Common.{◌≡◌, ◌∙◌, ℕ, true, suc, ◌-◌, ◌<◌, ◌+◌, List, length, rules, ap, sym, subst, refl, arith}
 use Rattle.crossbeam_deque.specs.Handles.{worker_view, view, Pass}
 use Rattle.std.specs.declared.alloc.Global.{Global}
 use Rattle.pool.specs.declared.view.View.{View}
@@ -10,19 +10,19 @@ use lib.ListN.{get_elem?}
 use Rattle.crossbeam_deque.proofs.Lists.{at_index}
 use Rattle.crossbeam_deque.specs.Handles.{worker_deque}
 use Rattle.pool.specs.Dealing.{times}
-use Rattle.pool.specs.Rule.{held, Seated, Up}
+use Rattle.pool.specs.Rule.{held, UpTo, Seated, Up}
 use Rattle.pool.specs.Holding.{Holding}
 use Rattle.pool.specs.Settled.{AllReach, told, list_in}
 use Rattle.pool.proofs.Rounds.{at_less}
-use Rattle.pool.proofs.Rules.{blanks, learns_within}
-use Rattle.pool.proofs.Looks.{second, knows_two}
+use Rattle.pool.proofs.Rules.{seals, learns_within}
+use Rattle.pool.proofs.Looks.{second, knows_two, within_four}
 use Rattle.pool.proofs.deal.+compare.Goals as goal
 
 abbrev view_in : Pass Task View Global → View
 view_in p = view p
 
 pub Reach::lend-another-blank-requires : goal.Reach::lend-another-blank-requires
-Reach::lend-another-blank-requires t c = blanks _ _
+Reach::lend-another-blank-requires t c = seals _ _
 
 pub Reach::lend-give_back-back-requires-clause-second : goal.Reach::lend-give_back-back-requires-clause-second
 Reach::lend-give_back-back-requires-clause-second t c =
@@ -31,9 +31,8 @@ Reach::lend-give_back-back-requires-clause-second t c =
     let v1 = worker_view c.another-blank.new.self in
     let v2 = worker_view c.take_in.new.worker in
     let at = ap (λ (s : Seen). s.place) c.self.view_is ∙ c.requires.place.0 in
-    let numbers = ap (λ (s : Seen). s.numbers) c.self.view_is ∙ c.requires.numbers in
     let lent = c.take_in.ensures.lent ∙ ap (λ (u : View). lent_view v2.closed v1 u) (ap view_in c.replace-pass.ensures.value) in
-    second c.args.place 0 v0 v1 v2 (worker_view c.compare.new.worker) v2 w w c.requires.place.1 c.requires.owner c.another-blank.ensures.rule.0 c.self.invariant.2 at numbers lent c.take_in.ensures.closed c.compare.ensures.looked
+    second c.args.place v0 v1 v2 w c.requires.place.1 c.requires.owner c.another-blank.ensures.rule.0 c.self.invariant.2 at lent c.take_in.ensures.closed (worker_view c.compare.new.worker) c.compare.ensures.looked
 
 pub Reach::lend-compare-requires : goal.Reach::lend-compare-requires
 Reach::lend-compare-requires t c =
@@ -42,7 +41,6 @@ Reach::lend-compare-requires t c =
     let v1 = worker_view c.another-blank.new.self in
     let v2 = worker_view c.take_in.new.worker in
     let at = ap (λ (s : Seen). s.place) c.self.view_is ∙ c.requires.place.0 in
-    let numbers = ap (λ (s : Seen). s.numbers) c.self.view_is ∙ c.requires.numbers in
     let lent = c.take_in.ensures.lent ∙ ap (λ (u : View). lent_view v2.closed v1 u) (ap view_in c.replace-pass.ensures.value) in
     let deque = c.take_in.ensures.deque.0 ∙ c.another-blank.ensures.same.0.0 in
     let same = ap (λ (u : View). u.numbers) c.take_in.ensures.lent ∙ ap (λ (u : View). u.numbers) c.another-blank.ensures.rule.0 in
@@ -53,7 +51,7 @@ Reach::lend-compare-requires t c =
       (
         (omega (arith, p.2), omega (arith, p.3)),
         (
-          knows_two c.args.place 0 v0 v1 v2 v2 v2 w w c.requires.place.1 c.requires.owner c.another-blank.ensures.rule.0 c.self.invariant.2 at numbers lent c.take_in.ensures.closed,
+          knows_two c.args.place v0 v1 v2 w c.requires.place.1 c.requires.owner c.another-blank.ensures.rule.0 c.self.invariant.2 at lent c.take_in.ensures.closed,
           (
             move (c.args.place - 1) c.args.others.now c.requires.others,
             move (length c.args.more.now) c.args.more.now c.requires.more,
@@ -61,6 +59,18 @@ Reach::lend-compare-requires t c =
         ),
       ),
     )
+
+pub Reach::lend-returns-clause-within : goal.Reach::lend-returns-clause-within
+Reach::lend-returns-clause-within t c =
+    let w = view_in c.self.inside.pass in
+    let v0 = worker_view c.args.worker.now in
+    let v1 = worker_view c.another-blank.new.self in
+    let v2 = worker_view c.take_in.new.worker in
+    let at = ap (λ (s : Seen). s.place) c.self.view_is ∙ c.requires.place.0 in
+    let lent = c.take_in.ensures.lent ∙ ap (λ (u : View). lent_view v2.closed v1 u) (ap view_in c.replace-pass.ensures.value) in
+    let rest : ℕ → ℕ = λ x. held x (told (c.args.place - 1) c.args.others.now) + held x (told (length c.args.more.now) c.args.more.now) in
+    subst (λ (s : Seen). (x : ℕ) → UpTo (v0.closed ≡ true) (held x v0.known + (times x s.list + rest x)) (times x v0.numbers)) c.self.view_is
+    (λ x. within_four c.args.place v0 v1 v2 w c.requires.place.1 c.requires.owner c.another-blank.ensures.rule.0 c.self.invariant.2 at lent c.take_in.ensures.closed x (rest x) (c.compare.ensures.within x))
 
 pub compare-index_mut-reach-requires : goal.compare-index_mut-reach-requires
 compare-index_mut-reach-requires t c =
@@ -112,7 +122,8 @@ compare-returns-in-Some-clause-within t c = λ x.
     let b = ap (λ l. held x (told c.args.place l)) cases in
     let e = ap (λ (u : Seen). times x u.list) is in
     let f = ap (λ o. times x (list_in o)) all.0.1.1 in
-    omega (arith, a, b, e, f)
+    let l = a.0 in
+    (omega (arith, l, b, e, f), λ shut. let i = a.1 shut in omega (arith, i, b, e, f))
 
 pub compare-len_as-requires : goal.compare-len_as-requires
 compare-len_as-requires t c =

@@ -2,14 +2,15 @@ use Rattle.std.proofs.Common.{◌≡◌, ◌∙◌, ◌≢◌, ◌≤◌, ◌%�
 use Rattle.std.proofs.lemmas.Bool.{cases_eq}
 use Rattle.std.proofs.lemmas.Nat.{mod_below}
 use Rattle.pool.specs.Dealing.{times}
+use Rattle.pool.specs.Rule.{UpTo}
 use Rattle.pool.specs.Totals.{once_below}
-use Rattle.pool.specs.Settled.{joined, pieces_of, AreAll}
+use Rattle.pool.specs.Settled.{joined, pieces_of, AreAll, AllSpent}
 use Rattle.pool.proofs.deal.apart.Goals as goal
 
 pub loop-d-preserved : goal.loop-d-preserved
 loop-d-preserved c =
     let inv = c.loop-d.invariant in
-    let fact = subst (λ l. (x : ℕ) → x % length l ≡ c.loop-d.d → times x (joined l) ≤ once_below x (pieces_of l)) inv.0 c.apart_of.ensures.apart in (
+    let fact = subst (λ l. (x : ℕ) → x % length l ≡ c.loop-d.d → UpTo (AllSpent l) (times x (joined l)) (once_below x (pieces_of l))) inv.0 c.apart_of.ensures.apart in (
       c.apart_of.ensures.same ∙ inv.0,
       λ x below. ⊎_elim (λ (e : x % length c.args.hands.now ≡ c.loop-d.d). fact x e) (λ (n : x % length c.args.hands.now ≢ c.loop-d.d). inv.1 x (omega (arith, n, below))) (cases_eq (x % length c.args.hands.now) c.loop-d.d),
     )

@@ -1,8 +1,9 @@
 use Rattle.std.proofs.Common.{◌∙◌, ℕ, sym, ap, subst, ◌≤◌, length, arith}
 use Rattle.std.proofs.lemmas.List.{with_items_is}
 use Rattle.pool.specs.Dealing.{times}
+use Rattle.pool.specs.Rule.{UpTo}
 use Rattle.pool.specs.Totals.{once_below}
-use Rattle.pool.specs.Settled.{AreAll, joined, pieces_of}
+use Rattle.pool.specs.Settled.{AreAll, AllSpent, joined, pieces_of}
 use Rattle.pool.proofs.threads.keep_apart.Goals as goal
 
 pub apart-requires : goal.apart-requires
@@ -16,4 +17,4 @@ returns-clause-same c =
     with_items_is c.args.hands.now c.apart.new.hands (omega (arith, n, ok)) ∙ e
 
 pub returns-clause-apart : goal.returns-clause-apart
-returns-clause-apart c = subst (λ l. (x : ℕ) → times x (joined l) ≤ once_below x (pieces_of l)) c.as_mut_slice.ensures.value c.apart.ensures.apart
+returns-clause-apart c = subst (λ l. (x : ℕ) → UpTo (AllSpent l) (times x (joined l)) (once_below x (pieces_of l))) c.as_mut_slice.ensures.value c.apart.ensures.apart

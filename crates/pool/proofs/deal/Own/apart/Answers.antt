@@ -1,6 +1,6 @@
-use Rattle.std.proofs.Common.{◌∙◌, ℕ, ◌+◌, ◌≤◌, length, ap, subst}
+use Rattle.std.proofs.Common.{◌≡◌, true, ◌∙◌, ℕ, ◌+◌, ◌≤◌, length, ap, subst}
 use Rattle.pool.specs.Dealing.{times}
-use Rattle.pool.specs.Rule.{held}
+use Rattle.pool.specs.Rule.{held, UpTo}
 use Rattle.crossbeam_deque.specs.Handles.{worker_view}
 use Rattle.pool.specs.Seen.{Owned}
 use Rattle.pool.specs.Settled.{told}
@@ -23,5 +23,5 @@ pub returns-clause-apart : goal.returns-clause-apart
 returns-clause-apart c =
     let b = c.args.before.now in
     let a = c.args.after.now in
-    subst (λ (o : Owned). (x : ℕ) → times x o.seen.list + (held x (told (length b + length a) a) + held x (told (length b) b)) ≤ times x o.seen.numbers) c.self.view_is
+    subst (λ (o : Owned). (x : ℕ) → UpTo (o.closed ≡ true) (times x o.seen.list + (held x (told (length b + length a) a) + held x (told (length b) b))) (times x o.seen.numbers)) c.self.view_is
     (λ x. owner_within (worker_view c.self.inside.worker) x _ c.self.invariant.1 (c.compare.ensures.within x))

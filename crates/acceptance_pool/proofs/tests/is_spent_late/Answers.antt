@@ -4,7 +4,7 @@ use Rattle.crossbeam_deque.proofs.Lists.{at_index}
 use Rattle.pool.specs.Holding.{Holding}
 use Rattle.pool.specs.Settled.{AreAll}
 use Rattle.pool.proofs.Nexts.{all_next}
-use Rattle.pool.proofs.tests.is_spent_late.Goals as goal
+use Rattle.acceptance_pool.proofs.tests.is_spent_late.Goals as goal
 
 pub settled-late-requires : goal.settled-late-requires
 settled-late-requires c = record { deal = subst AreAll (sym c.as_mut_slice.ensures.value) c.requires.deal }

@@ -1,6 +1,6 @@
 use Rattle.std.proofs.Common.{sym, subst}
 use Rattle.pool.specs.Settled.{AreAll}
-use Rattle.pool.proofs.tests.nothing_to_deal.Goals as goal
+use Rattle.acceptance_pool.proofs.tests.nothing_to_deal.Goals as goal
 
 pub is_spent_late-requires-clause-deal : goal.is_spent_late-requires-clause-deal
 is_spent_late-requires-clause-deal g c = subst AreAll (sym c.into_hands-hands.ensures) c.in_ok-new.ensures.0

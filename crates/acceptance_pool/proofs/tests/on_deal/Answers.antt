@@ -4,7 +4,7 @@ use Rattle.pool.specs.Outcomes.{Decides}
 use Rattle.pool.specs.Settled.{AreAll, pieces_of}
 use Rattle.pool.specs.Assembly.{IsNewDeal}
 use Rattle.pool.proofs.Fans.{all_at, new_pieces}
-use Rattle.pool.proofs.tests.on_deal.Goals as goal
+use Rattle.acceptance_pool.proofs.tests.on_deal.Goals as goal
 
 pub fan_on-requires-clause-deal : goal.fan_on-requires-clause-deal
 fan_on-requires-clause-deal g c κs within =

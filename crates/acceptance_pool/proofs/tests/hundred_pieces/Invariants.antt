@@ -1,4 +1,4 @@
-use Rattle.pool.proofs.tests.hundred_pieces.Given as goal
+use Rattle.acceptance_pool.proofs.tests.hundred_pieces.Given as goal
 
 abbrev pub ghosts-on_deal : goal.ghosts-on_deal
 ghosts-on_deal g a = record { name = a.blank.name; parts = a.blank.parts }

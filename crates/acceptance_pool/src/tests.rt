@@ -3,12 +3,9 @@ ghost use Rattle.std.specs.Prelude.{◌≡◌, ℕ, ◌<◌, ◌≤◌, ◌^◌,
 ghost use Rattle.pool.specs.Totals.{sum_below};
 ghost use Rattle.pool.specs.Settled.{AreAll};
 
-use crate::book::{Book, Share};
-use crate::deal::{Hand, Next, settled};
-use crate::dealing::Deal;
-use crate::laws::{Outcome, PoolFault, Work};
-use crate::single::alone;
-use crate::threads::{fan_on, fan_out};
+use pool::{
+    Book, Deal, Hand, Next, Outcome, PoolFault, Share, Work, alone, fan_on, fan_out, settled,
+};
 use std::alloc::{AllocError, Global};
 use std::marker::{Brand, Send, Sync};
 use std::sync::Wait;
@@ -221,20 +218,6 @@ fn new_meeting() -> Meeting {
     }
 }
 
-fn is_whole(outcome: &Outcome<u64>, of: u64) -> bool {
-    match outcome {
-        Outcome::Whole(p) => *p == of,
-        Outcome::Over => false,
-    }
-}
-
-fn is_over(outcome: &Outcome<u64>) -> bool {
-    match outcome {
-        Outcome::Whole(_) => false,
-        Outcome::Over => true,
-    }
-}
-
 /// What `fan_on` makes of a new deal: the outcome, whether the hands that come back are settled, and the book's sum.
 fn on_deal<L: Ledger + Send + Sync, W: Work + Sync, R: Threads + Wait + Sync>(
     rt: &R,
@@ -267,40 +250,54 @@ fn on_deal<L: Ledger + Send + Sync, W: Work + Sync, R: Threads + Wait + Sync>(
     Ok((outcome, settled(hands.as_mut_slice()), book.close(shares)))
 }
 
-/// Whether pieces of weight i are decided rightly, at the limits 6 and 5.
-fn decides_four<R: Threads + Wait + Sync>(rt: &R, alloc: Global, hands: usize) -> Result<bool, Fail>
+/// Whether four pieces, which together weigh this much, are decided rightly.
+fn is_right(outcome: &Outcome<u64>, weight: u64, limit: u64) -> bool {
+    match outcome {
+        Outcome::Whole(p) => *p == weight && weight <= limit,
+        Outcome::Over => weight > limit,
+    }
+}
+
+/// Whether `fan_out` decides four pieces of weight i rightly.
+fn adds_up<R: Threads + Wait + Sync>(
+    rt: &R,
+    alloc: Global,
+    hands: usize,
+    limit: u64,
+) -> Result<bool, PoolFault>
     requires { (1 ≤ hands) × (hands ≤ 64) }
 {
-    let six = fan_out(rt, alloc, &Numbers, 4, hands, 6)?;
-    let five = fan_out(rt, alloc, &Numbers, 4, hands, 5)?;
-    Ok(is_whole(&six, 6) && is_over(&five))
+    let outcome = fan_out(rt, alloc, &Numbers, 4, hands, limit)?;
+    Ok(is_right(&outcome, 6, limit))
 }
 
 #[test]
 fn pieces_of_their_own_weight(rt: HostRuntime) -> Result<(), Fail> {
     let alloc = rt.alloc();
-    assert!(rt; is_whole(&alone(&Numbers, 4, 6)?, 6));
-    assert!(rt; is_over(&alone(&Numbers, 4, 5)?));
-    assert!(rt; decides_four(&rt, alloc, 1)?);
-    assert!(rt; decides_four(&rt, alloc, 2)?);
-    assert!(rt; decides_four(&rt, alloc, 8)?);
-    assert!(rt; is_whole(&fan_out(&rt, alloc, &Numbers, 0, 8, 0)?, 0));
+    for limit in [6, 5] {
+        let outcome = alone(&Numbers, 4, limit)?;
+        assert!(rt; is_right(&outcome, 6, limit));
+        assert!(rt; adds_up(&rt, alloc, 1, limit)?);
+        assert!(rt; adds_up(&rt, alloc, 2, limit)?);
+        assert!(rt; adds_up(&rt, alloc, 8, limit)?);
+    }
+    let nothing = fan_out(&rt, alloc, &Numbers, 0, 8, 0)?;
+    assert!(rt; is_right(&nothing, 0, 0));
     Ok(())
 }
 
-/// Whether four pieces of weight 1 are decided rightly each time, at the limits 4, 3 and 0.
-fn decides_each_time<R: Threads + Wait + Sync>(
+/// Whether `fan_out` decides four pieces of weight 1 rightly each time.
+fn counts_up<R: Threads + Wait + Sync>(
     rt: &R,
     alloc: Global,
     hands: usize,
-) -> Result<bool, Fail>
+    limit: u64,
+) -> Result<bool, PoolFault>
     requires { (1 ≤ hands) × (hands ≤ 64) }
 {
     for _ in 0..200 {
-        let four = fan_out(rt, alloc, &Ones, 4, hands, 4)?;
-        let three = fan_out(rt, alloc, &Ones, 4, hands, 3)?;
-        let none = fan_out(rt, alloc, &Ones, 4, hands, 0)?;
-        if !is_whole(&four, 4) || !is_over(&three) || !is_over(&none) {
+        let outcome = fan_out(rt, alloc, &Ones, 4, hands, limit)?;
+        if !is_right(&outcome, 4, limit) {
             return Ok(false);
         }
     }
@@ -309,10 +306,12 @@ fn decides_each_time<R: Threads + Wait + Sync>(
 
 #[test]
 fn limits(rt: HostRuntime) -> Result<(), Fail> {
-    assert!(rt; decides_each_time(&rt, rt.alloc(), 1)?);
-    assert!(rt; decides_each_time(&rt, rt.alloc(), 2)?);
-    assert!(rt; decides_each_time(&rt, rt.alloc(), 4)?);
-    assert!(rt; decides_each_time(&rt, rt.alloc(), 64)?);
+    for limit in [4, 3, 0] {
+        assert!(rt; counts_up(&rt, rt.alloc(), 1, limit)?);
+        assert!(rt; counts_up(&rt, rt.alloc(), 2, limit)?);
+        assert!(rt; counts_up(&rt, rt.alloc(), 4, limit)?);
+        assert!(rt; counts_up(&rt, rt.alloc(), 64, limit)?);
+    }
     Ok(())
 }
 
@@ -340,39 +339,20 @@ fn workers_meet(rt: HostRuntime) -> Result<(), Fail> {
 /// Workers that stop after their first piece leave the others to the calling thread.
 #[test]
 fn hundred_pieces(rt: HostRuntime) -> Result<(), Fail> {
-    let (outcome, all, sum) = on_deal::<Brand, Ones, HostRuntime>(
-        &rt,
-        rt.alloc(),
-        &Ones,
-        100,
-        4,
-        100,
-        100,
-        Blank::new(4),
-    )?;
-    assert!(rt; is_whole(&outcome, 100) && all && sum == 100);
-    let (outcome, all, sum) = on_deal::<Brand, Ones, HostRuntime>(
-        &rt,
-        rt.alloc(),
-        &Ones,
-        100,
-        4,
-        100,
-        0,
-        Blank::new(4),
-    )?;
-    assert!(rt; is_whole(&outcome, 100) && all && sum == 100);
-    let (outcome, _, _) = on_deal::<Brand, Ones, HostRuntime>(
-        &rt,
-        rt.alloc(),
-        &Ones,
-        100,
-        4,
-        99,
-        99,
-        Blank::new(4),
-    )?;
-    assert!(rt; is_over(&outcome));
+    for (limit, stop) in [(100, 100), (100, 0), (99, 99)] {
+        let (outcome, all, sum) = on_deal::<Brand, Ones, HostRuntime>(
+            &rt,
+            rt.alloc(),
+            &Ones,
+            100,
+            4,
+            limit,
+            stop,
+            Blank::new(4),
+        )?;
+        assert!(rt; is_right(&outcome, 100, limit));
+        assert!(rt; limit < 100 || all && sum == 100);
+    }
     Ok(())
 }
 
@@ -556,7 +536,7 @@ fn refusal_of_book(rt: HostRuntime) {
 #[test]
 fn refusal_of_fan_out(rt: HostRuntime) {
     match fan_out(&rt, rt.alloc(), &Numbers, 4, 2, 6) {
-        Ok(outcome) => assert!(rt; is_whole(&outcome, 6)),
+        Ok(outcome) => assert!(rt; is_right(&outcome, 6, 6)),
         Err(PoolFault::OutOfMemory) => {}
         Err(PoolFault::ThreadNotStarted) => {}
     }

@@ -1,0 +1,5 @@
+//! Tests of the pool.
+#![tactic(auto)]
+
+#[cfg(test)]
+mod tests;
