@@ -7,7 +7,7 @@ ghost use Rattle.query_print.specs.Canonical.{header_text};
 ghost use Rattle.query_plan.specs.Planned.{form_of_plan};
 ghost use Rattle.report.specs.Inside.Between.{IsBetweenRows};
 ghost use Rattle.report.specs.Shown.{cells_of};
-ghost use Rattle.report.specs.Text.{report_bytes};
+ghost use Rattle.report.specs.Text.{cell_field, report_bytes};
 
 use crate::fields::cell_fields;
 use crate::row::ReportRow;
@@ -29,9 +29,9 @@ pub fn report_text(alloc: Global, rows: &[ReportRow], plan: &Plan) -> Result<Vec
     ensures { IfOk result (λ text. text.items ≡ report_bytes (form_of_plan plan.now).items (map cells_of rows.now)) }
 {
     let mut writer = WriterBuilder::new().from_writer(Vec::new(alloc));
-    put_fields(&mut writer, &headers(alloc, plan)?)?;
+    put_headers(&mut writer, alloc, plan)?;
     for row in rows {
-        put_fields(&mut writer, &cell_fields(alloc, row.cells.as_slice())?)?;
+        put_row(&mut writer, alloc, row)?;
     }
     match writer.into_inner() {
         Ok(text) => Ok(text),
@@ -50,6 +50,26 @@ fn headers(alloc: Global, plan: &Plan) -> Result<ByteRecord, AllocError>
         fields.push_field(text.as_bytes())?;
     }
     Ok(fields)
+}
+
+/// Writes the row of the headers.
+fn put_headers(writer: &mut Writer<Vec<u8>>, alloc: Global, plan: &Plan) -> Result<(), AllocError>
+    requires { IsBetweenRows writer.old }
+    ensures between { OnOk result (IsBetweenRows writer.new) }
+    ensures appends { OnOk result (Appends (text_written ⟦<Vec<u8> as Write>⟧.contents writer.old) (text_written ⟦<Vec<u8> as Write>⟧.contents writer.new) (row_text default_writer (map header_text (form_of_plan plan.now).items))) }
+{
+    let fields = headers(alloc, plan)?;
+    put_fields(writer, &fields)
+}
+
+/// Writes the row of some cells.
+fn put_row(writer: &mut Writer<Vec<u8>>, alloc: Global, row: &ReportRow) -> Result<(), AllocError>
+    requires { IsBetweenRows writer.old }
+    ensures between { OnOk result (IsBetweenRows writer.new) }
+    ensures appends { OnOk result (Appends (text_written ⟦<Vec<u8> as Write>⟧.contents writer.old) (text_written ⟦<Vec<u8> as Write>⟧.contents writer.new) (row_text default_writer (map cell_field (cells_of row.now)))) }
+{
+    let fields = cell_fields(alloc, row.cells.as_slice())?;
+    put_fields(writer, &fields)
 }
 
 /// Writes a row of fields. The writer goes into memory, so its errors are want of memory.
