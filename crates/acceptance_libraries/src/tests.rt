@@ -1,3 +1,4 @@
+mod groups;
 mod lines;
 mod reports;
 mod resolution;

@@ -22,5 +22,3 @@ pub use group::Group;
 pub use laws::{members_law, order_law, roll_law};
 pub use table::Table;
 
-#[cfg(test)]
-mod tests;

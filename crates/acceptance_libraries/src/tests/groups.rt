@@ -5,7 +5,7 @@ ghost use Rattle.values.specs.Datum.{data_of, datum_of};
 ghost use Rattle.groups.specs.Rows.{Row, IsNarrow, IsNarrowRow};
 ghost use Rattle.groups.specs.Inside.Table.{IsTableOf, TakesOne};
 
-use crate::{Cell, Group, Table};
+use groups::{Cell, Group, Table};
 use query_check::ColumnFunction;
 use std::alloc::{AllocError, Global};
 use std::test::Fail;
