@@ -1,3 +1,5 @@
+//! A module for each library.
+
 mod groups;
 mod lines;
 mod reports;

@@ -1,4 +1,4 @@
-// What no clause says: that the calls give their answers where memory and threads are ample, that threads run side by side, and who gets which piece.
+//! What no clause says: that the calls give their answers where memory and threads are ample, that threads run side by side, and who gets which piece.
 ghost use Rattle.std.specs.Prelude.{◌≡◌, ℕ, ◌<◌, ◌≤◌, ◌^◌, vec_len};
 ghost use Rattle.pool.specs.Totals.{sum_below};
 ghost use Rattle.pool.specs.Settled.{AreAll};

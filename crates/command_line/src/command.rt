@@ -1,4 +1,4 @@
-// The command of the program, and what words say under it.
+//! The command of the program, and what words say under it.
 ghost use Rattle.std.specs.Prelude.{◌≡◌, ◌↔◌, [], ℕ, IfErr, IfOk, IfSome, IsNone, Some, codes, true};
 ghost use Rattle.clap.specs.Walk.{texts};
 ghost use Rattle.clap.specs.Words.{app_of, fault_of, found_of, kind_of, new_app, one_text};

@@ -1,4 +1,4 @@
-// The numbers by which a run is done.
+//! The numbers by which a run is done.
 ghost use Rattle.std.specs.Prelude.{◌≡◌, ◌≤◌, IsSome, IfSome};
 ghost use Rattle.command_line.specs.Ranges.{AreInRange};
 

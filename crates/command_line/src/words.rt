@@ -1,4 +1,4 @@
-// What the words of a command line ask for, and why they are refused.
+//! What the words of a command line ask for, and why they are refused.
 ghost use Rattle.std.specs.Prelude.{◌≡◌};
 ghost use Rattle.command_line.specs.declared.words.WordsFault.TheVariants as fault;
 

@@ -1,4 +1,4 @@
-// The explanation of a query.
+//! The explanation of a query.
 ghost use Rattle.std.specs.Prelude.{◌≡◌, IfOk, string_bytes};
 ghost use Rattle.engine.specs.Explanation.{explanation};
 ghost use Rattle.query_plan.specs.Planned.{fields_of_plan, form_of_plan};

@@ -1,4 +1,4 @@
-// How a run fails.
+//! How a run fails.
 ghost use Rattle.std.specs.Prelude.{◌≡◌};
 ghost use Rattle.engine.specs.declared.fault.RunFault.TheVariants.{OutOfMemory};
 ghost use Rattle.engine.specs.Run.{fault_of_pool};

@@ -1,4 +1,4 @@
-// Reading an input whole.
+//! Reading an input whole.
 ghost use Rattle.std.specs.Prelude.{◌≡◌, ◌<◌, ◌≤◌, ◌+◌, ◌^◌, ◌⊎◌, IfErr, IfOk, IfSome, OnOk};
 ghost use Rattle.std.specs.Prelude.{drop, length, take, vec_len};
 ghost use Rattle.std.specs.Io.KnownBytes.{Consumes, IsAtEnd};

@@ -1,4 +1,4 @@
-// A run: from a reader to the report and the list of refused lines.
+//! A run: from a reader to the report and the list of refused lines.
 ghost use Rattle.std.specs.Prelude.{◌≡◌, ◌≢◌, ◌⊎◌, ℕ, List, IfErr, IfOk, IfSome, OnOk, Some, length};
 ghost use Rattle.std.specs.Io.KnownBytes.{Appends};
 ghost use Rattle.values.specs.Schema.{Field};

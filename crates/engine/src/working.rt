@@ -1,4 +1,4 @@
-// The result of a query over the pieces of an input.
+//! The result of a query over the pieces of an input.
 ghost use Rattle.std.specs.Prelude.{◌≡◌, ◌≢◌, ◌<◌, ◌^◌, ◌⊎◌, ℕ, List, IfErr, IfOk, length};
 ghost use Rattle.values.specs.Schema.{Field};
 ghost use Rattle.lines.specs.Input.{refused};

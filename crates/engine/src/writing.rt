@@ -1,4 +1,4 @@
-// Writing texts whole.
+//! Writing texts whole.
 ghost use Rattle.std.specs.Prelude.{IfErr, OnErr, OnOk};
 ghost use Rattle.std.specs.Io.KnownBytes.{Appends};
 ghost use Rattle.engine.specs.Written.{AppendsBeginning, LeavesWritten};

@@ -21,4 +21,3 @@ pub use cell::Cell;
 pub use group::Group;
 pub use laws::{members_law, order_law, roll_law};
 pub use table::Table;
-

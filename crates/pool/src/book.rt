@@ -1,4 +1,4 @@
-// A number that many threads add to, and that each of them may read.
+//! A number that many threads add to, and that each of them may read.
 ghost use Rattle.std.specs.Prelude.{◌≡◌, ℕ, ◌+◌, ◌-◌, ◌^◌, ◌<◌, ◌≤◌, min, IfOk, IfErr, vec_len, All, sum_by, length};
 
 use std::alloc::{AllocError, Global};

@@ -1,4 +1,4 @@
-// Hands, which take numbers from their own deque, and then from those of the others.
+//! Hands, which take numbers from their own deque, and then from those of the others.
 ghost use Rattle.std.specs.Prelude.{length, ◌%◌, ◌↔◌, All, IsTrue, ◌≡◌, ℕ, List, ◌+◌, ◌-◌, ◌<◌, ◌≤◌, true, false, [], ◌∷◌, ◌++◌, MatchOption, IfOk, IfSome, IfNone};
 ghost use Rattle.pool.specs.Seen.{Seen, WasEmpty, Took, with_seen, now_closed, Looked, IsThief};
 ghost use Rattle.pool.specs.Holding.{Steals, IsHolding, InOrder, new_holding};

@@ -1,4 +1,4 @@
-// A deal: its deques are filled in one pass over the pieces, and then each hand gets its seat at each of them.
+//! A deal: its deques are filled in one pass over the pieces, and then each hand gets its seat at each of them.
 ghost use Rattle.std.specs.Prelude.{◌≡◌, ℕ, ◌+◌, ◌<◌, ◌≤◌, All, IfOk, OnOk, length, vec_len, [], ◌∷◌, ◌++◌};
 ghost use Rattle.pool.specs.Seen.{Seen};
 ghost use Rattle.pool.specs.Holding.{IsHolding};

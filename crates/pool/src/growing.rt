@@ -1,4 +1,4 @@
-// Lists that grow.
+//! Lists that grow.
 ghost use Rattle.std.specs.Prelude.{◌≡◌, ◌+◌, [], ◌∷◌, ◌++◌, OnOk, vec_len};
 
 use std::alloc::AllocError;

@@ -1,4 +1,4 @@
-// What a pool works on, and what it answers.
+//! What a pool works on, and what it answers.
 ghost use Rattle.std.specs.Prelude.{◌≡◌, ℕ, ◌+◌, ◌^◌, ◌<◌, IfOk};
 ghost use Rattle.pool.specs.Lawful.{Lawful};
 

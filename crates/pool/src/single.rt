@@ -1,4 +1,4 @@
-// All pieces on the calling thread.
+//! All pieces on the calling thread.
 ghost use Rattle.std.specs.Prelude.{◌≡◌, ℕ, ◌+◌, ◌^◌, ◌<◌, ◌≤◌, MatchResult, IfOk};
 ghost use Rattle.pool.specs.Totals.{total, sum_below};
 ghost use Rattle.pool.specs.Outcomes.{Decides};

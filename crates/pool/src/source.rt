@@ -1,4 +1,4 @@
-// A deque that is filled, and then gives out its seats.
+//! A deque that is filled, and then gives out its seats.
 ghost use Rattle.std.specs.Prelude.{◌≡◌, ℕ, ◌+◌, ◌-◌, ◌<◌, ◌≤◌, true, false, [], ◌∷◌, ◌++◌, IfOk, OnOk};
 ghost use Rattle.pool.specs.Dealing.{dealt};
 ghost use Rattle.pool.specs.Seen.{Seen, Offer, Owned, seated, offered, owned_first};

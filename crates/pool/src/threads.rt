@@ -1,4 +1,4 @@
-// The hands of a deal, each on a thread of its own.
+//! The hands of a deal, each on a thread of its own.
 ghost use Rattle.std.specs.Prelude.{◌≡◌, ℕ, ◌+◌, ◌^◌, ◌<◌, ◌≤◌, ◌⊎◌, ◌++◌, ◌∷◌, [], IfOk, IfErr, IfSome, IfNone, IsOkAnd, vec_len, length, List};
 ghost use Rattle.pool.specs.Totals.{gathered, sum_below, sum_list, total, once_below};
 ghost use Rattle.pool.specs.Outcomes.{Decides};

@@ -1,4 +1,4 @@
-// One worker: it takes pieces until its hand is spent or the book is above a number, and reports their weights.
+//! One worker: it takes pieces until its hand is spent or the book is above a number, and reports their weights.
 ghost use Rattle.std.specs.Prelude.{◌≡◌, ℕ, ◌+◌, ◌^◌, ◌<◌, ◌≤◌, ◌++◌, ◌-◌, true, IfOk, IfSome, length, []};
 ghost use Rattle.pool.specs.Totals.{gathered, sum_below, sum_list};
 ghost use Rattle.pool.specs.Holding.{Holding, numbers_of};

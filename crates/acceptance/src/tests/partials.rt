@@ -1,4 +1,4 @@
-// Partial results over pieces of an input, merged in several orders.
+//! Partial results over pieces of an input, merged in several orders.
 ghost use Rattle.std.specs.Prelude.{◌≤◌, ◌<◌, ◌^◌, length, IfOk};
 ghost use Rattle.std.proofs.Props.{props};
 ghost use Rattle.query_plan.specs.Planned.{fields_of_plan, form_of_plan};

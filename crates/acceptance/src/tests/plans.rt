@@ -1,4 +1,4 @@
-// The plans of queries under columns.
+//! The plans of queries under columns.
 use super::queries::is_out_of_memory;
 use query::{ColumnFunction, Plan, QueryFault, check, header, parse, set_text};
 use std::alloc::Global;

@@ -1,4 +1,4 @@
-// Reading queries, and their canonical texts.
+//! Reading queries, and their canonical texts.
 use query::{Expression, Query, QueryFault, parse, print};
 use std::alloc::Global;
 use std::process::Abort;

@@ -1,4 +1,4 @@
-// What a query finds in an input, by the definitions' plain program: slow, over lists, without tables.
+//! What a query finds in an input, by the definitions' plain program: slow, over lists, without tables.
 use groups::Cell;
 use lines::{LineFault, LineRefusal, lines_of, read_record};
 use query::{ColumnFunction, Plan};

@@ -1,4 +1,4 @@
-// Runs over readers and writers that are slow or fail, and with memory refused.
+//! Runs over readers and writers that are slow or fail, and with memory refused.
 use super::streams::{Sink, Source};
 use command_line::Options;
 use engine::{Done, RunFault, run_alone};

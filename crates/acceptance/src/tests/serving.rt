@@ -1,4 +1,4 @@
-// What the program says, and its status, where an output fails or memory is refused.
+//! What the program says, and its status, where an output fails or memory is refused.
 use super::running::{BY_D, BY_D_REPORT, COLUMNS, COUNT, THREE};
 use super::streams::Sink;
 use command_line::settings;

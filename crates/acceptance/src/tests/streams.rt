@@ -1,4 +1,4 @@
-// Readers and writers that are slow or fail.
+//! Readers and writers that are slow or fail.
 use std::io;
 use std::io::{Read, Write};
 

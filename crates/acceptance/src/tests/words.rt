@@ -1,4 +1,4 @@
-// The words of the command line, as `settings` reads them.
+//! The words of the command line, as `settings` reads them.
 use clap::error::ErrorKind;
 use command_line::{Options, WordsFault, settings};
 
