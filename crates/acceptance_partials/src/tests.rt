@@ -1,0 +1,2 @@
+mod partials;
+mod reference;

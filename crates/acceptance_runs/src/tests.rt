@@ -1,0 +1,4 @@
+mod running;
+mod serving;
+mod streams;
+mod words;
