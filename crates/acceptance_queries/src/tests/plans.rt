@@ -7,18 +7,21 @@ use values::Schema;
 
 const COLUMNS: &str = "d:text,r:text,q:int";
 
-/// The plan of a query under columns. A text that is no schema is taken for want of memory.
-fn planned(alloc: Global, columns: &str, text: &str) -> Result<Plan, QueryFault> {
-    let Ok(schema) = Schema::parse(alloc, columns) else {
-        return Err(QueryFault::OutOfMemory);
-    };
+/// The plan of a query under the columns, whose text is a schema: it is refused for want of memory alone.
+fn planned(alloc: Global, text: &str) -> Result<Plan, QueryFault> {
     let query = parse(alloc, text)?;
-    check(alloc, query, schema)
+    match Schema::parse(alloc, COLUMNS) {
+        Ok(schema) => check(alloc, query, schema),
+        Err(_) => {
+            drop(query);
+            Err(QueryFault::OutOfMemory)
+        }
+    }
 }
 
 /// The header of the first item and the text of the first set of a query.
-fn first_texts(alloc: Global, columns: &str, text: &str) -> Result<(String, String), QueryFault> {
-    let plan = planned(alloc, columns, text)?;
+fn first_texts(alloc: Global, text: &str) -> Result<(String, String), QueryFault> {
+    let plan = planned(alloc, text)?;
     if plan.query().tree().items.is_empty() || plan.sets().is_empty() {
         return Ok((String::new(alloc), String::new(alloc)));
     }
@@ -44,7 +47,7 @@ const FIRST_TEXTS: &[(&str, &str, &str)] = &[
 #[test]
 fn refusal_of_check(rt: HostRuntime) {
     for (text, header, set) in FIRST_TEXTS {
-        match first_texts(rt.alloc(), COLUMNS, text) {
+        match first_texts(rt.alloc(), text) {
             Ok((first, second)) => {
                 assert_eq!(rt; first.as_str(), *header);
                 assert_eq!(rt; second.as_str(), *set);
@@ -74,11 +77,9 @@ fn assert_places(rt: &impl Abort, plan: &Plan) {
 #[test]
 fn keeps_functions_and_places(rt: HostRuntime) {
     let text = "SELECT r, COUNT(*), SUM(q) AS s, SUM(q) AS t FROM lines GROUP BY r, d, r";
-    match planned(rt.alloc(), COLUMNS, text) {
-        Ok(plan) => {
-            assert_functions(&rt, &plan);
-            assert_places(&rt, &plan);
-        }
-        Err(fault) => panic!(rt; "{fault:?}"),
-    }
+    let plan = planned(rt.alloc(), text).expect(&rt, "a plan");
+    assert_functions(&rt, &plan);
+    assert_places(&rt, &plan);
+    // By a call: a drop in place is proved for each form of a query.
+    drop(plan);
 }

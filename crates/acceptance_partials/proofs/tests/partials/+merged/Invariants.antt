@@ -1,5 +1,5 @@
 use Rattle.std.proofs.Common.{length}
-use Rattle.acceptance.proofs.tests.partials.+merged.Given as goal
+use Rattle.acceptance_partials.proofs.tests.partials.+merged.Given as goal
 
 -- fewer pieces in each part
 abbrev pub decreases-merged : goal.decreases-merged

@@ -70,10 +70,11 @@ fn assert_tree(rt: &impl Abort, query: &Query) {
 
 #[test]
 fn keeps_the_tree(rt: HostRuntime) {
-    match parse(rt.alloc(), "SELECT d AS \"D\", COUNT(*) FROM lines") {
-        Ok(query) => assert_tree(&rt, &query),
-        Err(fault) => panic!(rt; "{fault:?}"),
-    }
+    let text = "SELECT d AS \"D\", COUNT(*) FROM lines";
+    let query = parse(rt.alloc(), text).expect(&rt, "a query");
+    assert_tree(&rt, &query);
+    // By a call: a drop in place is proved for each form of a query.
+    drop(query);
 }
 
 fn is_name(expression: &Expression, wanted: &str) -> bool {

@@ -5,12 +5,10 @@ ghost use Rattle.query_plan.specs.Planned.{fields_of_plan, form_of_plan};
 ghost use Rattle.tables.specs.Partials.{IsPartialOf};
 
 use super::reference::{Findings, Row, cell_of, findings_of};
-use super::running::{FOUR_BAD, THREE};
 use lines::{LineFault, Piece, cut};
-use query::{ColumnFunction, Plan, QueryFault, check, parse};
+use query::{ColumnFunction, Plan, Query, QueryFault, check, parse};
 use std::alloc::{AllocError, Global};
 use std::process::Abort;
-use std::test::Fail;
 use tables::{Cell, Group, Groups, Partial};
 use values::{Record, Schema, SchemaFault, Value};
 
@@ -24,11 +22,56 @@ const BY_D_AND_R: &str = "SELECT d, r, COUNT(*), SUM(q) FROM lines GROUP BY d, r
 
 const BY_R: &str = "SELECT r FROM lines GROUP BY r";
 
+/// The columns, and `None` for want of memory.
+fn schema_or_refused(rt: &impl Abort, alloc: Global) -> Option<Schema> {
+    match Schema::parse(alloc, COLUMNS) {
+        Ok(schema) => Some(schema),
+        Err(fault) => {
+            assert!(rt; fault == SchemaFault::OutOfMemory);
+            None
+        }
+    }
+}
+
+fn is_out_of_memory(fault: &QueryFault) -> bool {
+    match fault {
+        QueryFault::OutOfMemory => true,
+        _ => false,
+    }
+}
+
+/// The query of a text, and `None` for want of memory.
+fn query_or_refused(rt: &impl Abort, alloc: Global, text: &str) -> Option<Query> {
+    match parse(alloc, text) {
+        Ok(query) => Some(query),
+        Err(fault) => {
+            assert!(rt; is_out_of_memory(&fault), "{text}");
+            None
+        }
+    }
+}
+
+// A query or a plan is given up by a call: a drop in place is proved in place, for each form of a query.
+
+/// The plan of a query's text, and `None` for want of memory.
+fn planned_or_refused(rt: &impl Abort, alloc: Global, text: &str) -> Option<Plan> {
+    let query = query_or_refused(rt, alloc, text)?;
+    let Some(schema) = schema_or_refused(rt, alloc) else {
+        drop(query);
+        return None;
+    };
+    match check(alloc, query, schema) {
+        Ok(plan) => Some(plan),
+        Err(fault) => {
+            assert!(rt; is_out_of_memory(&fault), "{text}");
+            None
+        }
+    }
+}
+
 /// The plan of a query's text.
-fn planned(alloc: Global, text: &str) -> Result<Plan, Fail> {
-    let schema = Schema::parse(alloc, COLUMNS)?;
-    let query = parse(alloc, text)?;
-    Ok(check(alloc, query, schema)?)
+fn planned(rt: &impl Abort, alloc: Global, text: &str) -> Plan {
+    planned_or_refused(rt, alloc, text).expect(rt, "memory")
 }
 
 /// The result over the pieces of both, which are of the query of a plan.
@@ -42,9 +85,22 @@ fn merge(rt: &impl Abort, plan: &Plan, left: Partial, right: Partial) -> Result<
     left.merge(right)
 }
 
-/// The bytes of a piece.
-fn bytes_of<'a>(input: &'a [u8], piece: &Piece) -> Result<&'a [u8], Fail> {
-    Ok(input.get(piece.start..piece.stop).ok_or("no such piece")?)
+/// The result over a piece of an input.
+fn folded(
+    rt: &impl Abort,
+    alloc: Global,
+    plan: &Plan,
+    input: &[u8],
+    index: usize,
+    piece: &Piece,
+) -> Partial
+    ensures { IsPartialOf (fields_of_plan plan.now) (form_of_plan plan.now) result }
+{
+    let bytes = input
+        .get(piece.start..piece.stop)
+        .expect(rt, "a piece of the input");
+    let index = u32::try_from(index).expect(rt, "few pieces");
+    Partial::fold_piece(alloc, plan, index, bytes).expect(rt, "memory")
 }
 
 /// Where a list of pieces is parted in two, which are merged apart.
@@ -82,90 +138,71 @@ fn merged(
     pieces: &[Piece],
     first: usize,
     parting: Parting,
-) -> Result<Partial, Fail>
-    ensures { IfOk result (λ partial. IsPartialOf (fields_of_plan plan.now) (form_of_plan plan.now) partial) }
+) -> Partial
+    ensures { IsPartialOf (fields_of_plan plan.now) (form_of_plan plan.now) result }
 {
-    let none = Partial::empty(alloc, plan)?;
-    match pieces {
-        [] => Ok(none),
-        [piece] => {
-            let bytes = bytes_of(input, piece)?;
-            let one = Partial::fold_piece(alloc, plan, u32::try_from(first)?, bytes)?;
-            Ok(merge(rt, plan, none, one)?)
-        }
-        _ => {
-            let (left, right) = pieces.split_at(parting.place(pieces.len()));
-            let second = first.checked_add(left.len()).ok_or("too many pieces")?;
-            let left = merged(rt, alloc, plan, input, left, first, parting)?;
-            let right = merged(rt, alloc, plan, input, right, second, parting)?;
-            Ok(merge(rt, plan, left, right)?)
-        }
+    if pieces.len() < 2 {
+        let none = Partial::empty(alloc, plan).expect(rt, "memory");
+        let Some(piece) = pieces.first() else {
+            return none;
+        };
+        let one = folded(rt, alloc, plan, input, first, piece);
+        return merge(rt, plan, none, one).expect(rt, "memory");
     }
+    let (left, right) = pieces.split_at(parting.place(pieces.len()));
+    let second = first.checked_add(left.len()).expect(rt, "few pieces");
+    let left = merged(rt, alloc, plan, input, left, first, parting);
+    let right = merged(rt, alloc, plan, input, right, second, parting);
+    merge(rt, plan, left, right).expect(rt, "memory")
 }
 
 /// The rows by the index of their set, those of one set by their keys.
-fn sorted_rows(alloc: Global, groups: &Groups) -> Result<Vec<&(usize, Group)>, Fail> {
-    let mut rows: Vec<&(usize, Group)> = groups.rows().iter().collect(alloc)?;
+fn sorted_rows<'a>(rt: &impl Abort, alloc: Global, groups: &'a Groups) -> Vec<&'a (usize, Group)> {
+    let rows: Result<Vec<&(usize, Group)>, AllocError> = groups.rows().iter().collect(alloc);
+    let mut rows = rows.expect(rt, "memory");
     rows.sort_unstable_by(|a, b| a.0.cmp(&b.0).then_with(|| a.1.key.cmp(&b.1.key)));
-    Ok(rows)
+    rows
 }
 
-fn assert_row(rt: &impl Abort, found: &(usize, Group), wanted: &Row) {
-    let (set, group) = found;
-    assert_eq!(rt; *set, wanted.set);
-    assert_eq!(rt; group.key.as_slice(), wanted.key.as_slice());
-    assert_eq!(rt; group.lines, wanted.lines, "{:?}", group.key);
-    assert_eq!(rt;
-        group.cells.as_slice(),
-        wanted.cells.as_slice(),
-        "{:?}",
-        group.key
-    );
+/// Whether this is the row that is wanted.
+fn is_row((set, group): &(usize, Group), wanted: &Row) -> bool {
+    *set == wanted.set
+        && group.key.as_slice() == wanted.key.as_slice()
+        && group.lines == wanted.lines
+        && group.cells.as_slice() == wanted.cells.as_slice()
 }
 
-fn assert_groups(
-    rt: &impl Abort,
-    alloc: Global,
-    groups: &Groups,
-    wanted: &Findings,
-) -> Result<(), Fail> {
-    let rows = sorted_rows(alloc, groups)?;
-    assert_eq!(rt; rows.len(), wanted.rows.len());
-    for (row, wanted) in rows.into_iter().zip(wanted.rows.iter()) {
-        assert_row(rt, row, wanted);
-    }
+fn assert_groups(rt: &impl Abort, alloc: Global, groups: &Groups, wanted: &Findings) {
+    assert_eq!(rt; groups.rows().len(), wanted.rows.len());
     assert_eq!(rt; groups.refused(), wanted.refused.as_slice());
-    Ok(())
+    let rows = sorted_rows(rt, alloc, groups);
+    for (row, wanted) in rows.iter().zip(wanted.rows.iter()) {
+        assert!(rt; is_row(*row, wanted), "{row:?} / {wanted:?}");
+    }
 }
 
 /// Cuts an input into small pieces, greater ones and a single one, merges the results over its pieces in several
 /// orders, and compares the numbers of lines and what comes of it.
-fn assert_found(
-    rt: &impl Abort,
-    alloc: Global,
-    plan: &Plan,
-    input: &[u8],
-    wanted: &Findings,
-) -> Result<(), Fail> {
+fn assert_found(rt: &impl Abort, alloc: Global, plan: &Plan, input: &[u8], wanted: &Findings) {
     let partings = [
         Parting::BehindTheFirst,
         Parting::InTheMiddle,
         Parting::BeforeTheLast,
     ];
     for target in [1, 7, 1_000_000] {
-        let pieces = cut(alloc, input, target)?;
+        let pieces = cut(alloc, input, target).expect(rt, "memory");
         for parting in partings {
-            let partial = merged(rt, alloc, plan, input, pieces.as_slice(), 0, parting)?;
+            let partial = merged(rt, alloc, plan, input, pieces.as_slice(), 0, parting);
             assert_eq!(rt; partial.lines(), wanted.lines);
             assert_eq!(rt; partial.refused(), wanted.refused.len() as u64);
-            assert_groups(rt, alloc, &partial.finish(plan)?, wanted)?;
+            let groups = partial.finish(plan).expect(rt, "memory");
+            assert_groups(rt, alloc, &groups, wanted);
         }
     }
-    Ok(())
 }
 
 /// A value of a text, and NULL of none.
-fn text_value(alloc: Global, text: Option<&str>) -> Result<Value, Fail> {
+fn text_value(alloc: Global, text: Option<&str>) -> Result<Value, AllocError> {
     match text {
         Some(text) => Ok(Value::Text(text.to_string(alloc)?)),
         None => Ok(Value::Null),
@@ -192,6 +229,13 @@ struct ByHand<'a> {
     refused: &'a [(u64, LineFault)],
 }
 
+/// Three good lines and a refused one.
+const FOUR: &[u8] =
+    b"{\"d\":\"x\",\"q\":5}\n{\"d\":\"x\",\"q\":2}\n[1]\n{\"d\":\"y\",\"r\":\"n\"}\n";
+
+/// A line for each fault, and one with a number that no 64 bits hold.
+const ALL_REFUSED: &[u8] = b"\n[1]\n{\"q\":true}\n{\"q\":9223372036854775808}\n";
+
 /// Three lines with the greatest number of 64 bits.
 const GREATEST: &[u8] =
     b"{\"q\":9223372036854775807}\n{\"q\":9223372036854775807}\n{\"q\":9223372036854775807}\n";
@@ -199,20 +243,20 @@ const GREATEST: &[u8] =
 const ALL_BY_HAND: &[ByHand<'static>] = &[
     ByHand {
         text: BY_D,
-        input: THREE,
-        lines: 3,
+        input: FOUR,
+        lines: 4,
         groups: &[
             (&[Some("x")], 2, &[Some(2), Some(7)]),
             (&[Some("y")], 1, &[Some(1), None]),
         ],
-        refused: &[],
+        refused: &[(3, LineFault::NoObject)],
     },
     ByHand {
         text: BY_R,
-        input: THREE,
-        lines: 3,
-        groups: &[(&[Some("n")], 2, &[]), (&[None], 1, &[])],
-        refused: &[],
+        input: FOUR,
+        lines: 4,
+        groups: &[(&[Some("n")], 1, &[]), (&[None], 2, &[])],
+        refused: &[(3, LineFault::NoObject)],
     },
     ByHand {
         text: UNGROUPED,
@@ -237,7 +281,7 @@ const ALL_BY_HAND: &[ByHand<'static>] = &[
     },
     ByHand {
         text: UNGROUPED,
-        input: FOUR_BAD,
+        input: ALL_REFUSED,
         lines: 4,
         groups: &[(&[], 0, &[Some(0), None])],
         refused: &[
@@ -250,7 +294,7 @@ const ALL_BY_HAND: &[ByHand<'static>] = &[
 ];
 
 /// The row of a group of the first set.
-fn row(alloc: Global, (texts, lines, numbers): &GroupByHand<'_>) -> Result<Row, Fail> {
+fn row(alloc: Global, (texts, lines, numbers): &GroupByHand<'_>) -> Result<Row, AllocError> {
     let mut key = Vec::new(alloc);
     for text in *texts {
         key.push(text_value(alloc, *text)?)?;
@@ -268,7 +312,7 @@ fn row(alloc: Global, (texts, lines, numbers): &GroupByHand<'_>) -> Result<Row, 
 }
 
 /// What was written by hand, as the reference gives it.
-fn by_hand(alloc: Global, found: &ByHand<'_>) -> Result<Findings, Fail> {
+fn by_hand(alloc: Global, found: &ByHand<'_>) -> Result<Findings, AllocError> {
     let mut rows = Vec::new(alloc);
     for group in found.groups {
         rows.push(row(alloc, group)?)?;
@@ -281,23 +325,25 @@ fn by_hand(alloc: Global, found: &ByHand<'_>) -> Result<Findings, Fail> {
 }
 
 #[test]
-fn found_by_hand(rt: HostRuntime) -> Result<(), Fail> {
+fn found_by_hand(rt: HostRuntime) {
     for found in ALL_BY_HAND {
-        let plan = planned(rt.alloc(), found.text)?;
-        let wanted = by_hand(rt.alloc(), found)?;
-        assert_found(&rt, rt.alloc(), &plan, found.input, &wanted)?;
+        let plan = planned(&rt, rt.alloc(), found.text);
+        let wanted = by_hand(rt.alloc(), found).expect(&rt, "memory");
+        assert_found(&rt, rt.alloc(), &plan, found.input, &wanted);
+        drop(plan);
     }
-    Ok(())
 }
 
 /// The result of a query over no pieces.
-fn empty_of(alloc: Global, text: &str) -> Result<Partial, Fail> {
-    let plan = planned(alloc, text)?;
-    Ok(Partial::empty(alloc, &plan)?)
+fn empty_of(rt: &impl Abort, alloc: Global, text: &str) -> Partial {
+    let plan = planned(rt, alloc, text);
+    let empty = Partial::empty(alloc, &plan).expect(rt, "memory");
+    drop(plan);
+    empty
 }
 
 #[test]
-fn shapes(rt: HostRuntime) -> Result<(), Fail> {
+fn shapes(rt: HostRuntime) {
     let alloc = rt.alloc();
     let by_d = "SELECT COUNT(*) FROM lines GROUP BY d";
     let cases = [
@@ -314,12 +360,11 @@ fn shapes(rt: HostRuntime) -> Result<(), Fail> {
         (BY_D, "SELECT SUM(q), COUNT(*) FROM lines GROUP BY d", false),
     ];
     for (text, other, same) in cases {
-        let one = empty_of(alloc, text)?;
-        let another = empty_of(alloc, other)?;
-        assert_eq!(rt; one.same_shape(&another), same, "{text} / {other}");
-        assert_eq!(rt; another.same_shape(&one), same, "{other} / {text}");
+        let one = empty_of(&rt, alloc, text);
+        let another = empty_of(&rt, alloc, other);
+        let met = (one.same_shape(&another), another.same_shape(&one));
+        assert!(rt; met == (same, same), "{text} / {other}");
     }
-    Ok(())
 }
 
 /// Numbers that look like chance, the same for the same seed: a linear congruential generator.
@@ -382,7 +427,7 @@ const Q_MEMBERS: [&str; 7] = [
 ];
 
 /// Puts a made-up line behind a text; about one in five is refused.
-fn push_line(numbers: &mut Numbers, text: &mut String) -> Result<(), Fail> {
+fn push_line(numbers: &mut Numbers, text: &mut String) -> Result<(), AllocError> {
     if numbers.below(5) == 0 {
         text.push_str(numbers.one_of(&BAD_LINES))?;
     } else {
@@ -396,7 +441,7 @@ fn push_line(numbers: &mut Numbers, text: &mut String) -> Result<(), Fail> {
 }
 
 /// A made-up input of up to 30 lines, the last with or without its line feed.
-fn made_up_input(alloc: Global, seed: u64) -> Result<String, Fail> {
+fn made_up_input(alloc: Global, seed: u64) -> Result<String, AllocError> {
     let mut numbers = Numbers { state: seed };
     let mut text = String::new(alloc);
     for _ in 0..numbers.below(31) {
@@ -413,163 +458,143 @@ fn made_up_input(alloc: Global, seed: u64) -> Result<String, Fail> {
 const INPUTS: u64 = 100;
 
 /// Holds the result of a query over the made-up inputs to the plain program.
-fn assert_like_reference(rt: &impl Abort, alloc: Global, text: &str) -> Result<(), Fail> {
-    let plan = planned(alloc, text)?;
+fn assert_like_reference(rt: &impl Abort, alloc: Global, text: &str) {
+    let plan = planned(rt, alloc, text);
     for seed in 0..INPUTS {
-        let input = made_up_input(alloc, seed)?;
-        let wanted = findings_of(alloc, &plan, input.as_bytes())?;
-        assert_found(rt, alloc, &plan, input.as_bytes(), &wanted)?;
+        let input = made_up_input(alloc, seed).expect(rt, "memory");
+        let wanted = findings_of(rt, alloc, &plan, input.as_bytes());
+        assert_found(rt, alloc, &plan, input.as_bytes(), &wanted);
     }
-    Ok(())
+    drop(plan);
 }
 
 /// The made-up inputs have what makes a comparison worth it: the most groups, with NULL in some of
 /// their keys, many refused lines, no line at all, and a last line with and without its line feed.
 #[test]
-fn made_up_inputs_are_of_all_kinds(rt: HostRuntime) -> Result<(), Fail> {
+fn made_up_inputs_are_of_all_kinds(rt: HostRuntime) {
     let alloc = rt.alloc();
-    let plan = planned(alloc, BY_D_AND_R)?;
+    let plan = planned(&rt, alloc, BY_D_AND_R);
     let mut most_groups = 0;
     let mut most_refused = 0;
     let mut fewest_lines = u64::MAX;
     let mut ended = false;
     let mut unended = false;
     for seed in 0..INPUTS {
-        let input = made_up_input(alloc, seed)?;
-        let found = findings_of(alloc, &plan, input.as_bytes())?;
+        let input = made_up_input(alloc, seed).expect(&rt, "memory");
+        let found = findings_of(&rt, alloc, &plan, input.as_bytes());
         most_groups = found.rows.len().max(most_groups);
         most_refused = found.refused.len().max(most_refused);
         fewest_lines = found.lines.min(fewest_lines);
         ended |= input.ends_with("}\n");
         unended |= input.ends_with('}');
     }
-    assert_eq!(rt;
-        most_groups,
-        9,
-        "each of x, y and NULL with each of n, the empty text and NULL"
-    );
+    // Each of x, y and NULL with each of n, the empty text and NULL.
+    assert!(rt; most_groups == 9);
     assert!(rt; most_refused > 5);
-    assert_eq!(rt; fewest_lines, 0);
+    assert!(rt; fewest_lines == 0);
     assert!(rt; ended && unended);
-    Ok(())
+    drop(plan);
 }
 
 #[test]
-fn like_reference(rt: HostRuntime) -> Result<(), Fail> {
+fn like_reference(rt: HostRuntime) {
     for text in [BY_D, UNGROUPED, BY_D_AND_R, BY_R] {
-        assert_like_reference(&rt, rt.alloc(), text)?;
+        assert_like_reference(&rt, rt.alloc(), text);
     }
-    Ok(())
 }
-
-/// Three good lines and a refused one.
-const FOUR: &[u8] =
-    b"{\"d\":\"x\",\"q\":5}\n{\"d\":\"x\",\"q\":2}\n[1]\n{\"d\":\"y\",\"r\":\"n\"}\n";
 
 /// The first piece of the four lines has so many bytes, which are the first line's.
 const FIRST_LEN: usize = 16;
 
 /// Takes no memory.
 fn assert_four_counted(rt: &impl Abort, partial: &Partial) {
-    assert_eq!(rt; partial.lines(), 4);
-    assert_eq!(rt; partial.refused(), 1);
+    assert!(rt; partial.lines() == 4 && partial.refused() == 1);
 }
 
 /// Whether this is a group of the four lines by `d`. It takes no memory.
-fn is_group_of_four(group: &Group) -> bool {
+fn is_group_of_four((set, group): &(usize, Group)) -> bool {
     let (lines, sum) = match group.key.first() {
         Some(Value::Text(text)) if text.as_str() == "x" => (2, Value::Int(7)),
         Some(Value::Text(text)) if text.as_str() == "y" => (1, Value::Null),
         _ => return false,
     };
     let cells = [Cell::Plain(Value::Int(i128::from(lines))), Cell::Plain(sum)];
-    group.key.len() == 1 && group.lines == lines && group.cells.as_slice() == cells.as_slice()
+    *set == 0
+        && group.key.len() == 1
+        && group.lines == lines
+        && group.cells.as_slice() == cells.as_slice()
 }
 
 /// Takes no memory.
 fn assert_four_found(rt: &impl Abort, groups: &Groups) {
-    assert_eq!(rt; groups.rows().len(), 2);
-    for (set, group) in groups.rows() {
-        assert_eq!(rt; *set, 0);
-        assert!(rt; is_group_of_four(group), "{group:?}");
-    }
-    if let [(_, first), (_, second)] = groups.rows() {
-        assert!(rt; first.key.first() != second.key.first());
-    }
-    assert_eq!(rt; groups.refused(), [(3, LineFault::NoObject)].as_slice());
+    let [first, second] = groups.rows() else {
+        panic!(rt; "not two groups");
+    };
+    assert!(rt; is_group_of_four(first) && is_group_of_four(second));
+    assert!(rt; first.1.lines != second.1.lines);
+    let refused = [(3, LineFault::NoObject)];
+    assert!(rt; groups.refused() == refused.as_slice());
 }
 
-/// The plan of a query's text, and `None` for want of memory.
-fn planned_or_refused(rt: &impl Abort, alloc: Global, text: &str) -> Option<Plan> {
-    let schema = match Schema::parse(alloc, COLUMNS) {
-        Ok(schema) => schema,
-        Err(fault) => {
-            assert_eq!(rt; fault, SchemaFault::OutOfMemory);
-            return None;
-        }
+/// What is found of the four lines by a result over them, or want of memory.
+fn assert_four_or_refused(rt: &impl Abort, plan: &Plan, partial: Result<Partial, AllocError>)
+    requires { IfOk partial (IsPartialOf (fields_of_plan plan.now) (form_of_plan plan.now)) }
+{
+    let Ok(partial) = partial else {
+        return;
     };
-    let query = match parse(alloc, text) {
-        Ok(query) => query,
-        Err(QueryFault::OutOfMemory) => return None,
-        Err(fault) => panic!(rt; "{fault}"),
-    };
-    match check(alloc, query, schema) {
-        Ok(plan) => Some(plan),
-        Err(QueryFault::OutOfMemory) => None,
-        Err(fault) => panic!(rt; "{fault}"),
+    assert_four_counted(rt, &partial);
+    if let Ok(groups) = partial.finish(plan) {
+        assert_four_found(rt, &groups);
     }
 }
 
 /// For the loop that refuses each allocation in turn: the result over a piece, or want of memory.
 #[test]
 fn refusal_of_fold_piece(rt: HostRuntime) {
-    let Some(plan) = planned_or_refused(&rt, rt.alloc(), BY_D) else {
-        return;
-    };
-    let Ok(partial) = Partial::fold_piece(rt.alloc(), &plan, 0, FOUR) else {
-        return;
-    };
-    assert_four_counted(&rt, &partial);
-    let Ok(groups) = partial.finish(&plan) else {
-        return;
-    };
-    assert_four_found(&rt, &groups);
+    if let Some(plan) = planned_or_refused(&rt, rt.alloc(), BY_D) {
+        let folded = Partial::fold_piece(rt.alloc(), &plan, 0, FOUR);
+        assert_four_or_refused(&rt, &plan, folded);
+        drop(plan);
+    }
 }
 
-/// The results over the two pieces of the four lines.
-fn two_partials(alloc: Global, plan: &Plan) -> Result<(Partial, Partial), AllocError>
-    ensures first { IfOk result (λ partials. IsPartialOf (fields_of_plan plan.now) (form_of_plan plan.now) partials.0) }
-    ensures second { IfOk result (λ partials. IsPartialOf (fields_of_plan plan.now) (form_of_plan plan.now) partials.1) }
+/// The result over the first of the four lines.
+fn first_folded(alloc: Global, plan: &Plan) -> Result<Partial, AllocError>
+    ensures { IfOk result (IsPartialOf (fields_of_plan plan.now) (form_of_plan plan.now)) }
 {
-    let first = Partial::fold_piece(alloc, plan, 0, &FOUR[..FIRST_LEN])?;
+    Partial::fold_piece(alloc, plan, 0, &FOUR[..FIRST_LEN])
+}
+
+/// Two pieces of the four lines merged.
+fn two_merged(rt: &impl Abort, alloc: Global, plan: &Plan) -> Result<Partial, AllocError>
+    ensures { IfOk result (IsPartialOf (fields_of_plan plan.now) (form_of_plan plan.now)) }
+{
     let second = Partial::fold_piece(alloc, plan, 1, &FOUR[FIRST_LEN..])?;
-    Ok((first, second))
+    match first_folded(alloc, plan) {
+        Ok(first) => merge(rt, plan, second, first),
+        Err(refused) => {
+            drop(second);
+            Err(refused)
+        }
+    }
 }
 
 /// The same of two results: the result over both, or want of memory.
 #[test]
 fn refusal_of_merge(rt: HostRuntime) {
-    let Some(plan) = planned_or_refused(&rt, rt.alloc(), BY_D) else {
-        return;
-    };
-    let Ok((first, second)) = two_partials(rt.alloc(), &plan) else {
-        return;
-    };
-    let Ok(merged) = merge(&rt, &plan, second, first) else {
-        return;
-    };
-    assert_four_counted(&rt, &merged);
-    let Ok(groups) = merged.finish(&plan) else {
-        return;
-    };
-    assert_four_found(&rt, &groups);
+    if let Some(plan) = planned_or_refused(&rt, rt.alloc(), BY_D) {
+        let merged = two_merged(&rt, rt.alloc(), &plan);
+        assert_four_or_refused(&rt, &plan, merged);
+        drop(plan);
+    }
 }
 
 /// A piece of the four lines folded onto the result over the one before.
 fn folded_on(rt: &impl Abort, alloc: Global, plan: &Plan) -> Result<Partial, AllocError>
     ensures { IfOk result (IsPartialOf (fields_of_plan plan.now) (form_of_plan plan.now)) }
 {
-    let first = Partial::fold_piece(alloc, plan, 0, &FOUR[..FIRST_LEN])?;
+    let first = first_folded(alloc, plan)?;
     assert!(rt; first.lines() < 1 << 62);
     first.fold_onto(plan, 1, &FOUR[FIRST_LEN..])
 }
@@ -577,42 +602,43 @@ fn folded_on(rt: &impl Abort, alloc: Global, plan: &Plan) -> Result<Partial, All
 /// The same of a piece folded onto a result: the result over both, or want of memory.
 #[test]
 fn refusal_of_fold_onto(rt: HostRuntime) {
-    let Some(plan) = planned_or_refused(&rt, rt.alloc(), BY_D) else {
-        return;
+    if let Some(plan) = planned_or_refused(&rt, rt.alloc(), BY_D) {
+        let folded = folded_on(&rt, rt.alloc(), &plan);
+        assert_four_or_refused(&rt, &plan, folded);
+        drop(plan);
+    }
+}
+
+/// The groups of no line, or want of memory.
+fn finished_or_refused(alloc: Global, plan: &Plan) -> Option<Groups> {
+    let none = Partial::empty(alloc, plan).ok()?;
+    none.finish(plan).ok()
+}
+
+/// Asserts that there is one group, of no line. It takes no memory.
+fn assert_none_found(rt: &impl Abort, groups: &Groups) {
+    let [(set, group)] = groups.rows() else {
+        panic!(rt; "not one group");
     };
-    let Ok(folded) = folded_on(&rt, rt.alloc(), &plan) else {
-        return;
-    };
-    assert_four_counted(&rt, &folded);
-    let Ok(groups) = folded.finish(&plan) else {
-        return;
-    };
-    assert_four_found(&rt, &groups);
+    let cells = [Cell::Plain(Value::Int(0)), Cell::Plain(Value::Null)];
+    assert!(rt; *set == 0 && group.key.is_empty() && group.lines == 0);
+    assert!(rt; group.cells.as_slice() == cells.as_slice());
+    assert!(rt; groups.refused().is_empty());
 }
 
 /// The same of the groups of no line: the one group, or want of memory.
 #[test]
 fn refusal_of_finish(rt: HostRuntime) {
-    let Some(plan) = planned_or_refused(&rt, rt.alloc(), UNGROUPED) else {
-        return;
-    };
-    let Ok(partial) = Partial::empty(rt.alloc(), &plan) else {
-        return;
-    };
-    let Ok(groups) = partial.finish(&plan) else {
-        return;
-    };
-    assert!(rt; groups.refused().is_empty());
-    let cells = [Cell::Plain(Value::Int(0)), Cell::Plain(Value::Null)];
-    assert_eq!(rt; groups.rows().len(), 1);
-    for (set, group) in groups.rows() {
-        assert_eq!(rt; (*set, group.key.len(), group.lines), (0, 0, 0));
-        assert_eq!(rt; group.cells.as_slice(), cells.as_slice());
+    if let Some(plan) = planned_or_refused(&rt, rt.alloc(), UNGROUPED) {
+        if let Some(groups) = finished_or_refused(rt.alloc(), &plan) {
+            assert_none_found(&rt, &groups);
+        }
+        drop(plan);
     }
 }
 
 /// Records of one column of whole numbers.
-fn records_of(alloc: Global, numbers: &[Option<i128>]) -> Result<Vec<Record>, Fail> {
+fn records_of(alloc: Global, numbers: &[Option<i128>]) -> Result<Vec<Record>, AllocError> {
     let mut records = Vec::new(alloc);
     for number in numbers {
         let value = match number {
@@ -624,9 +650,14 @@ fn records_of(alloc: Global, numbers: &[Option<i128>]) -> Result<Vec<Record>, Fa
     Ok(records)
 }
 
+fn references<'a>(rt: &impl Abort, alloc: Global, records: &'a [Record]) -> Vec<&'a Record> {
+    let references: Result<Vec<&Record>, AllocError> = records.iter().collect(alloc);
+    references.expect(rt, "memory")
+}
+
 /// The plain program itself, held to values written by hand.
 #[test]
-fn reference_by_hand(rt: HostRuntime) -> Result<(), Fail> {
+fn reference_by_hand(rt: HostRuntime) {
     let alloc = rt.alloc();
     let cases = [
         (
@@ -661,21 +692,16 @@ fn reference_by_hand(rt: HostRuntime) -> Result<(), Fail> {
         ),
         (ColumnFunction::Avg(0), Cell::Ratio(8, 3), number_cell(None)),
     ];
-    let some = records_of(alloc, &[Some(5), None, Some(-2), Some(5)])?;
-    let null = records_of(alloc, &[None])?;
-    let some: Vec<&Record> = some.iter().collect(alloc)?;
-    let null: Vec<&Record> = null.iter().collect(alloc)?;
+    let some = records_of(alloc, &[Some(5), None, Some(-2), Some(5)]).expect(&rt, "memory");
+    let null = records_of(alloc, &[None]).expect(&rt, "memory");
+    let some = references(&rt, alloc, some.as_slice());
+    let null = references(&rt, alloc, null.as_slice());
     for (function, of_some, of_null) in cases {
-        assert_eq!(rt;
-            cell_of(alloc, function, some.as_slice())?,
-            of_some,
-            "{function:?}"
-        );
-        assert_eq!(rt;
-            cell_of(alloc, function, null.as_slice())?,
-            of_null,
+        let met_of_some = cell_of(&rt, alloc, function, some.as_slice());
+        let met_of_null = cell_of(&rt, alloc, function, null.as_slice());
+        assert!(rt;
+            met_of_some == of_some && met_of_null == of_null,
             "{function:?}"
         );
     }
-    Ok(())
 }

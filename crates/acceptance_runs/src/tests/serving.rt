@@ -1,9 +1,10 @@
 //! What the program says, and its status, where an output fails or memory is refused.
 use super::running::{BY_D, BY_D_REPORT, COLUMNS, COUNT, THREE};
-use super::streams::Sink;
+use super::streams::{Pause, Sink};
 use command_line::settings;
 use engine::serve;
 use std::alloc::Global;
+use std::io::ErrorKind;
 use std::marker::Sync;
 use std::process::Abort;
 use std::sync::Wait;
@@ -36,6 +37,7 @@ fn assert_not_written(
     let taken = Vec::new(alloc);
     let mut out = Sink {
         room,
+        pause: Pause::Error(ErrorKind::BrokenPipe),
         flushes,
         taken,
     };
@@ -65,12 +67,18 @@ fn outputs_that_are_not_written(rt: HostRuntime) {
     }
 }
 
+/// What is said where memory is refused, and where a thread is not started.
+const OUT_OF_MEMORY: &[u8] = b"jlreport: out of memory\n\0";
+
+const THREAD_NOT_STARTED: &[u8] = b"jlreport: a thread could not be started\n\0";
+
 /// Asserts that the program writes this and ends so, or, where memory is refused, says so and ends with 4.
 fn assert_served(
     rt: &(impl Abort + Threads + Wait + Sync),
     alloc: Global,
     words: &[&str],
     (status, report, told): (u8, &[u8], &[u8]),
+    starts_threads: bool,
 ) {
     let (mut room, mut note) = ([0u8; 64], [0u8; 64]);
     let (mut out, mut err) = (room.as_mut_slice(), note.as_mut_slice());
@@ -81,21 +89,45 @@ fn assert_served(
         assert!(rt; room.starts_with(report));
         assert!(rt; note.starts_with(told));
     } else {
+        let is_unstarted = starts_threads && note.starts_with(THREAD_NOT_STARTED);
         assert_eq!(rt; met, 4);
         assert!(rt; room.starts_with(b"\0"));
-        assert!(rt; note.starts_with(b"jlreport: out of memory\n\0"));
+        assert!(rt; is_unstarted || note.starts_with(OUT_OF_MEMORY));
     }
 }
 
-/// A run, one whose schema is refused, and an explanation.
+/// Runs on the calling thread and on two.
 #[test]
 fn refusal_of_serve(rt: HostRuntime) {
-    let run = ["jlreport", "--columns", COLUMNS, "--query", COUNT, "f"];
     let report = b"n\n3\n\0".as_slice();
-    assert_served(&rt, rt.alloc(), run.as_slice(), (0, report, b"\0"));
+    for (workers, starts_threads) in [("1", false), ("2", true)] {
+        let words = [
+            "jlreport",
+            "--columns",
+            COLUMNS,
+            "--query",
+            COUNT,
+            "--workers",
+            workers,
+            "f",
+        ];
+        let wanted = (0, report, b"\0".as_slice());
+        assert_served(&rt, rt.alloc(), words.as_slice(), wanted, starts_threads);
+    }
+}
+
+/// A schema that is refused, and an explanation.
+#[test]
+fn refusal_of_serve_without_a_run(rt: HostRuntime) {
     let refused = ["jlreport", "--columns", "q:date", "--query", COUNT, "f"];
     let told = b"jlreport: schema: column 1 has no known type\n\0".as_slice();
-    assert_served(&rt, rt.alloc(), refused.as_slice(), (2, b"\0", told));
+    assert_served(&rt, rt.alloc(), refused.as_slice(), (2, b"\0", told), false);
     let explanation = b"SELECT SUM(q) FROM lines\n0: ()\n\0".as_slice();
-    assert_served(&rt, rt.alloc(), AN_EXPLANATION, (0, explanation, b"\0"));
+    assert_served(
+        &rt,
+        rt.alloc(),
+        AN_EXPLANATION,
+        (0, explanation, b"\0"),
+        false,
+    );
 }

@@ -1,0 +1,4 @@
+//! A module for each subject.
+
+mod plans;
+mod queries;
