@@ -10,7 +10,7 @@ use Rattle.query_plan.specs.declared.plan.Plan.{Plan}
 use Rattle.query_plan.specs.Planned.{fields_of_plan, form_of_plan}
 use Rattle.groups.specs.declared.group.Group.{Group}
 use Rattle.groups.specs.Functions.{Summary}
-use Rattle.groups.specs.Shown.{summary_of}
+use Rattle.groups.specs.Cells.{summary_of}
 use Rattle.tables.specs.Found.{Found}
 use Rattle.tables.specs.Planned.{AreFittingUnder}
 use Rattle.report.specs.Having.{row_value}
