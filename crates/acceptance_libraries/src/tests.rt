@@ -1,7 +1,7 @@
 //! A module for each library.
 
-mod groups;
-mod lines;
+mod grouping;
+mod reading;
 mod reports;
 mod resolution;
 mod schemas;

@@ -20,4 +20,3 @@ pub use function::{ColumnFunction, column_function};
 pub use laws::{cube_law, rollup_law};
 pub use resolution::{Resolved, check_tree, key_expression};
 pub use scope::Clause;
-

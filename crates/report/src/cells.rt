@@ -11,8 +11,8 @@ ghost use Rattle.report.specs.Inside.Planned.{shown_under};
 ghost use Rattle.report.specs.Shown.{value_in, function_place, function_shown, grouping_number, grouping_shown, is_rolled_up, name_shown};
 
 use groups::{Cell, Group};
-use query_plan::{Aggregate, Expression, Plan, Text};
 use query_check::{column_function, place_of};
+use query_plan::{Aggregate, Expression, Plan, Text};
 use std::alloc::AllocError;
 use values::{Column, Value};
 

@@ -12,8 +12,8 @@ ghost use Rattle.report.specs.Inside.Ranked.{key_values, under_values};
 
 use crate::cells::expression_value;
 use groups::Group;
-use query_plan::{Key, Plan};
 use query_check::key_expression;
+use query_plan::{Key, Plan};
 use std::alloc::{AllocError, Global};
 use std::cmp::Ordering;
 use values::Value;

@@ -20,4 +20,3 @@ pub use laws::{arranged_law, order_law};
 pub use refused::refused_text;
 pub use row::ReportRow;
 pub use text::report_text;
-

@@ -19,4 +19,3 @@ pub use record::Record;
 pub use schema::{Column, Kind, Schema};
 pub use truth::Truth;
 pub use value::Value;
-

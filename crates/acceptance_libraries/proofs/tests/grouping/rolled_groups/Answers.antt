@@ -1,6 +1,6 @@
 use Rattle.std.proofs.Common.{refl, arith}
 use Rattle.groups.proofs.Literals.{distinct-two}
-use Rattle.acceptance_libraries.proofs.tests.groups.rolled_groups.Goals as goal
+use Rattle.acceptance_libraries.proofs.tests.grouping.rolled_groups.Goals as goal
 
 pub table_of-requires-clause-different : goal.table_of-requires-clause-different
 table_of-requires-clause-different c = distinct-two 0 2 refl

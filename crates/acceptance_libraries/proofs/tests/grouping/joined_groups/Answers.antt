@@ -1,6 +1,6 @@
 use Rattle.std.proofs.Common.{length, arith}
 use Rattle.groups.proofs.Meaning.{table-within, within-can_join}
-use Rattle.acceptance_libraries.proofs.tests.groups.joined_groups.Goals as goal
+use Rattle.acceptance_libraries.proofs.tests.grouping.joined_groups.Goals as goal
 
 pub absorb-requires : goal.absorb-requires
 absorb-requires c =

@@ -1,6 +1,6 @@
 use Rattle.std.proofs.Common.{[], ◌∷◌, ◌++◌, refl, arith, length-append}
 use Rattle.values.specs.Datum.{data_of}
-use Rattle.acceptance_libraries.proofs.tests.groups.table_of.Goals as goal
+use Rattle.acceptance_libraries.proofs.tests.grouping.table_of.Goals as goal
 
 pub loop-fields-init : goal.loop-fields-init
 loop-fields-init c = ([], (c.in_ok-table.ensures.empty, refl))

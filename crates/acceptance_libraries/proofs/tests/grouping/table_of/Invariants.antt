@@ -1,7 +1,7 @@
 use Rattle.std.proofs.Common.{◌≡◌, List, length}
 use Rattle.groups.specs.Rows.{Row}
 use Rattle.groups.specs.Inside.Table.{IsTableOf}
-use Rattle.acceptance_libraries.proofs.tests.groups.table_of.Given as goal
+use Rattle.acceptance_libraries.proofs.tests.grouping.table_of.Given as goal
 
 -- the table of as many records as were taken
 abbrev pub invariant-loop-fields : goal.invariant-loop-fields
