@@ -16,7 +16,7 @@ use query_plan::Plan;
 use std::alloc::{AllocError, Global};
 use tables::Groups;
 
-///! The rows of a report: one for each group for which the predicate of HAVING is True, and for each group where HAVING
+/// The rows of a report: one for each group for which the predicate of HAVING is True, and for each group where HAVING
 /// is not written. They stand by the keys of ORDER BY, from the first, then in the order of the index of the grouping
 /// set, and in one set by the grouping columns in the order in which GROUP BY first names them, ascending and with NULL
 /// last. A grouping column that is not in the set of the row is NULL.

@@ -119,7 +119,7 @@ fn grouping_number(columns: &[Column], set: &[usize], names: &[Text]) -> u64
     number
 }
 
-///! What a row of a grouping set shows for GROUPING.
+/// What a row of a grouping set shows for GROUPING.
 fn grouping_value(columns: &[Column], set: &[usize], names: &[Text]) -> Value
     ensures { datum_of result ≡ grouping_shown (fields_of columns.now) set.now names.now }
 {
@@ -144,7 +144,7 @@ fn function_place(plan: &Plan, aggregate: &Aggregate) -> Option<usize>
     }
 }
 
-///! What a row with these cells shows for a set function.
+/// What a row with these cells shows for a set function.
 fn function_cell(plan: &Plan, cells: &[Cell], aggregate: &Aggregate) -> Result<Cell, AllocError>
     ensures { IfOk result (λ cell. summary_of cell ≡ function_shown (fields_of_plan plan.now) (form_of_plan plan.now) (map summary_of cells.now) aggregate.now) }
 {

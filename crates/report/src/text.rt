@@ -16,7 +16,7 @@ use query_plan::{Plan, header};
 use std::alloc::{AllocError, Global};
 use std::io::Write;
 
-///! The bytes of a report: CSV with commas, line feeds, and quotes where they are needed. The first row holds the
+/// The bytes of a report: CSV with commas, line feeds, and quotes where they are needed. The first row holds the
 /// header of each item of SELECT. NULL is `\N`, and a text that begins with `\` has one more in front; truth values
 /// are `true` and `false`, whole numbers plain decimal, and an average is its sum and its count with `/` between.
 /// Each row has one cell for each item.
