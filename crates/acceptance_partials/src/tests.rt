@@ -2,3 +2,4 @@
 
 mod partials;
 mod reference;
+mod rolling;

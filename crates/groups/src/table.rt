@@ -136,6 +136,11 @@ impl Table {
         Ok(rolled)
     }
 
+    /// The number of groups.
+    pub fn len(&self) -> usize {
+        self.groups.len()
+    }
+
     /// One group for each key of the records, in no order that is said.
     pub fn finish(self) -> Result<Vec<Group>, AllocError>
         ensures groups { IfOk result (λ groups. (set : List ℕ) (functions : List ColumnFunction) (rows : List Row)

@@ -1,5 +1,5 @@
 -- A result over some pieces, and one piece more.
-use Rattle.std.proofs.Common.{◌≡◌, ◌+◌, ◌≤◌, ℕ, List, [], ◌∷◌, ◌++◌, length, map, refl, sym, ap, subst, ◌∙◌, arith, append-nil, length-append}
+use Rattle.std.proofs.Common.{◌≡◌, ◌+◌, ◌<◌, ◌≤◌, ◌^◌, ℕ, List, [], ◌∷◌, ◌++◌, length, map, refl, sym, ap, subst, ◌∙◌, arith, append-nil, length-append}
 use Rattle.std.proofs.lemmas.List.{map-append}
 use Rattle.std.proofs.lemmas.List.Elements.{All-append}
 use Rattle.std.specs.List.{All}
@@ -9,19 +9,18 @@ use Rattle.lines.specs.Input.{good, refused}
 use Rattle.lines.specs.Lines.{lines}
 use Rattle.query_tree.specs.Syntax.{TreeForm}
 use Rattle.query_check.specs.Functions.{functions_of}
-use Rattle.query_check.specs.Sets.{sets_of}
+use Rattle.query_check.specs.Sets.{grouping_places}
 use Rattle.query_truth.specs.Kept.{kept}
 use Rattle.groups.specs.Bags.{SameBag}
 use Rattle.groups.specs.Rows.{Row}
-use Rattle.groups.specs.Inside.Table.{Contents}
+use Rattle.groups.specs.Inside.Table.{Contents, IsTableOf}
 use Rattle.tables.specs.declared.folding.Folding.{Folding}
 use Rattle.tables.specs.declared.note.Note.{Note}
 use Rattle.tables.specs.Folding.{HasRead}
 use Rattle.tables.specs.Notes.{IsWellNumbered, Noted, lines_noted, note_in, note_of}
 use Rattle.tables.specs.Pieces.{IndexedPiece, all_lines, records_of, refused_within}
-use Rattle.tables.specs.Sets.{AreTablesOf}
 use Rattle.tables.proofs.Merging.{counted-append, lines-append, notes-append, one-note, records-append, refused-append}
-use Rattle.tables.proofs.Reading.{length-good_of}
+use Rattle.tables.proofs.Reading.{length-good_of, length-kept}
 
 -- ---- before the first line of the piece
 
@@ -35,13 +34,21 @@ few-records fields (p ∷ pieces) =
     let b = length-append (lines p.bytes) (all_lines pieces) in
     omega (arith, more, here, a, b)
 
+-- fewer than 2^63 lines have fewer than 2^63 records that are kept
+pub few-kept : (fields : List Field) (q : TreeForm) (pieces : List IndexedPiece) (lines : ℕ) → lines ≡ length (all_lines pieces) → lines < 2 ^ 63
+    → length (kept fields q (records_of fields pieces)) < 2 ^ 63
+few-kept fields q pieces lines e few =
+    let kept = length-kept fields q (records_of fields pieces) in
+    let records = few-records fields pieces in
+    omega (arith, kept, records, e, few)
+
 -- behind the pieces no line has been read
-pub begun : (fields : List Field) (q : TreeForm) (pieces : List IndexedPiece) (tables : List Contents) (folding : Folding)
-    → AreTablesOf (sets_of fields q) (functions_of fields q) tables (kept fields q (records_of fields pieces))
-    → folding.tables ≡ tables → folding.lines ≡ 0 → folding.refused.items ≡ [] → HasRead fields q (records_of fields pieces) folding []
-begun fields q pieces tables folding held same none nothing = record {
-  tables = subst (λ (ts : List Contents). AreTablesOf (sets_of fields q) (functions_of fields q) ts (kept fields q (records_of fields pieces ++ []))) (sym same)
-      (subst (λ (rows : List Row). AreTablesOf (sets_of fields q) (functions_of fields q) tables (kept fields q rows)) (sym (append-nil (records_of fields pieces))) held);
+pub begun : (fields : List Field) (q : TreeForm) (pieces : List IndexedPiece) (table : Contents) (folding : Folding)
+    → IsTableOf (grouping_places fields q) (functions_of fields q) table (kept fields q (records_of fields pieces))
+    → folding.table ≡ table → folding.lines ≡ 0 → folding.refused.items ≡ [] → HasRead fields q (records_of fields pieces) folding []
+begun fields q pieces table folding held same none nothing = record {
+  table = subst (λ (t : Contents). IsTableOf (grouping_places fields q) (functions_of fields q) t (kept fields q (records_of fields pieces ++ []))) (sym same)
+      (subst (λ (rows : List Row). IsTableOf (grouping_places fields q) (functions_of fields q) table (kept fields q rows)) (sym (append-nil (records_of fields pieces))) held);
   lines = none;
   refused = nothing;
 }

@@ -1,6 +1,4 @@
-pub mod Partly
-pub mod Joining
-pub mod Finishing
+pub mod SetTables
 pub mod Telling
 pub mod Orders
 pub mod Reading

@@ -22,41 +22,16 @@ use Rattle.tables.specs.Laws.{mean-append, means_lawful}
 use Rattle.tables.specs.Means.{Mean, both, group_of, indexed, mean, mean_at, meaning, no_bytes, piece_at, with_index}
 use Rattle.tables.specs.Partials.{StandsFor}
 use Rattle.tables.specs.Pieces.{IndexedPiece, all_lines, records_of, refused_within}
-use Rattle.tables.specs.Sets.{AreTablesOf}
 use Rattle.tables.specs.States.{PartialState}
 
 -- ---- standing for pieces is meaning what they come to
 
-abbrev read_all : List Contents → List (Key → Option GroupState)
-read_all tables = map (λ (table : Contents) key. fin.get table key) tables
-
-tables-mean : (sets : List (List ℕ)) (fs : List ColumnFunction) (ts : List Contents) (rows : List Row) → AreTablesOf sets fs ts rows → read_all ts ≡ map (group_of fs rows) sets
-tables-mean [] fs [] rows a = refl
-tables-mean [] fs (t ∷ ts) rows a = absurd a
-tables-mean (set ∷ sets) fs [] rows a = absurd a
-tables-mean (set ∷ sets) fs (t ∷ ts) rows a = λ i. (λ key. a.0 key i) ∷ tables-mean sets fs ts rows a.1 i
-
-abbrev first_at : List (Key → Option GroupState) → Key → Option GroupState
-first_at [] key = None
-first_at (t ∷ ts) key = t key
-
-abbrev others : List (Key → Option GroupState) → List (Key → Option GroupState)
-others [] = []
-others (t ∷ ts) = ts
-
-mean-tables : (sets : List (List ℕ)) (fs : List ColumnFunction) (ts : List Contents) (rows : List Row) → read_all ts ≡ map (group_of fs rows) sets → AreTablesOf sets fs ts rows
-mean-tables [] fs [] rows e = tt
-mean-tables [] fs (t ∷ ts) rows e = absurd (let n : suc (length (read_all ts)) ≡ 0 = ap length e in omega (arith, n))
-mean-tables (set ∷ sets) fs [] rows e = absurd (let n : 0 ≡ suc (length (map (group_of fs rows) sets)) = ap length e in omega (arith, n))
-mean-tables (set ∷ sets) fs (t ∷ ts) rows e = (λ key. ap (λ us. first_at us key) e, mean-tables sets fs ts rows (ap others e))
-
 pub mean-from_stands : (fields : List Field) (q : TreeForm) (partial : PartialState) (pieces : List IndexedPiece) → StandsFor fields q partial pieces → meaning partial ≡ mean fields q pieces
 mean-from_stands fields q partial pieces p =
-    let tables = tables-mean (sets_of fields q) (functions_of fields q) partial.tables (kept fields q (records_of fields pieces)) p.tables in
     λ i. record {
       sets = p.sets i;
       functions = p.functions i;
-      tables = tables i;
+      table = λ key. p.table key i;
       lines = p.lines i;
       refused = p.refused i;
       notes = λ weight. sym (p.notes weight) i;
@@ -66,7 +41,7 @@ pub stands-from_mean : (fields : List Field) (q : TreeForm) (partial : PartialSt
 stands-from_mean fields q partial pieces e = record {
   sets = ap (λ (m : Mean). m.sets) e;
   functions = ap (λ (m : Mean). m.functions) e;
-  tables = mean-tables (sets_of fields q) (functions_of fields q) partial.tables (kept fields q (records_of fields pieces)) (ap (λ (m : Mean). m.tables) e);
+  table = λ key. ap (λ (m : Mean). m.table key) e;
   lines = ap (λ (m : Mean). m.lines) e;
   refused = ap (λ (m : Mean). m.refused) e;
   notes = λ weight. sym (ap (λ (m : Mean). m.notes weight) e);

@@ -13,11 +13,10 @@ use Rattle.lines.specs.Lines.{line_feed, lines, without_empty_last}
 use Rattle.lines.specs.Taken.{taken}
 use Rattle.query_tree.specs.Syntax.{TreeForm}
 use Rattle.query_check.specs.Functions.{functions_of}
-use Rattle.query_check.specs.Sets.{sets_of}
+use Rattle.query_check.specs.Sets.{grouping_places}
 use Rattle.query_truth.specs.Kept.{is_kept, kept}
 use Rattle.groups.specs.Rows.{Row}
-use Rattle.groups.specs.Inside.Table.{Contents}
-use Rattle.tables.specs.Sets.{AreTablesOf}
+use Rattle.groups.specs.Inside.Table.{Contents, IsTableOf}
 use Rattle.tables.specs.declared.folding.Folding.{Folding}
 use Rattle.tables.specs.Folding.{HasRead, good_of, refused_of}
 
@@ -141,23 +140,23 @@ pub record HasReadSome (fields : List Field) (q : TreeForm) (before : List Row) 
 -- ---- a line that has been read
 
 pub read-ok : (fields : List Field) (q : TreeForm) (before : List Row) (old new : Folding) (seen : List (List ℕ)) (line : List ℕ) (row : List Datum) → taken fields line ≡ Ok row → HasRead fields q before old seen
-    → ((rows : List (List Datum)) → AreTablesOf (sets_of fields q) (functions_of fields q) old.tables (kept fields q rows) → AreTablesOf (sets_of fields q) (functions_of fields q) new.tables (kept fields q (rows ++ row ∷ [])))
+    → ((rows : List (List Datum)) → IsTableOf (grouping_places fields q) (functions_of fields q) old.table (kept fields q rows) → IsTableOf (grouping_places fields q) (functions_of fields q) new.table (kept fields q (rows ++ row ∷ [])))
     → new.lines ≡ old.lines → new.refused.items ≡ old.refused.items
-    → HasRead fields q before (record { tables = new.tables; lines = new.lines + 1; refused = new.refused }) (seen ++ line ∷ [])
+    → HasRead fields q before (record { table = new.table; lines = new.lines + 1; refused = new.refused }) (seen ++ line ∷ [])
 read-ok fields q before old new seen line row e h added same stay = record {
-  tables = subst (λ (rows : List (List Datum)). AreTablesOf (sets_of fields q) (functions_of fields q) new.tables (kept fields q rows))
+  table = subst (λ (rows : List (List Datum)). IsTableOf (grouping_places fields q) (functions_of fields q) new.table (kept fields q rows))
       (append_assoc before (good_of fields seen) (row ∷ []) ∙ ap (λ rows. before ++ rows) (sym (good-ok fields seen line row e)))
-      (added (before ++ good_of fields seen) h.tables);
+      (added (before ++ good_of fields seen) h.table);
   lines = (let a = h.lines in let b = length-append seen (line ∷ []) in omega (arith, same, a, b));
   refused = stay ∙ h.refused ∙ sym (refused-ok fields seen line row e);
 }
 
 pub read-err : (fields : List Field) (q : TreeForm) (before : List Row) (old new : Folding) (seen : List (List ℕ)) (line : List ℕ) (fault : LineFault) → taken fields line ≡ Err fault → HasRead fields q before old seen
-    → new.tables ≡ old.tables → new.lines ≡ old.lines → new.refused.items ≡ old.refused.items ++ (old.lines + 1, fault) ∷ []
-    → HasRead fields q before (record { tables = new.tables; lines = new.lines + 1; refused = new.refused }) (seen ++ line ∷ [])
+    → new.table ≡ old.table → new.lines ≡ old.lines → new.refused.items ≡ old.refused.items ++ (old.lines + 1, fault) ∷ []
+    → HasRead fields q before (record { table = new.table; lines = new.lines + 1; refused = new.refused }) (seen ++ line ∷ [])
 read-err fields q before old new seen line fault e h stay same more = record {
-  tables = subst (λ (ts : List Contents). AreTablesOf (sets_of fields q) (functions_of fields q) ts (kept fields q (before ++ good_of fields (seen ++ line ∷ [])))) (sym stay)
-      (subst (λ (rows : List (List Datum)). AreTablesOf (sets_of fields q) (functions_of fields q) old.tables (kept fields q (before ++ rows))) (sym (good-err fields seen line fault e)) h.tables);
+  table = subst (λ (t : Contents). IsTableOf (grouping_places fields q) (functions_of fields q) t (kept fields q (before ++ good_of fields (seen ++ line ∷ [])))) (sym stay)
+      (subst (λ (rows : List (List Datum)). IsTableOf (grouping_places fields q) (functions_of fields q) old.table (kept fields q (before ++ rows))) (sym (good-err fields seen line fault e)) h.table);
   lines = (let a = h.lines in let b = length-append seen (line ∷ []) in omega (arith, same, a, b));
   refused = more ∙ ap (λ rs. rs ++ (old.lines + 1, fault) ∷ []) h.refused ∙ ap (λ n. refused_of fields seen ++ (n + 1, fault) ∷ []) h.lines ∙ sym (refused-err fields seen line fault e);
 }

@@ -15,7 +15,7 @@ use Rattle.lines.specs.Taken.{taken}
 use Rattle.query_tree.specs.Syntax.{TreeForm}
 use Rattle.query_check.specs.declared.function.ColumnFunction.{ColumnFunction}
 use Rattle.query_check.specs.Functions.{functions_of}
-use Rattle.query_check.specs.Sets.{sets_of}
+use Rattle.query_check.specs.Sets.{grouping_places, sets_of}
 use Rattle.query_truth.specs.Kept.{is_kept, kept}
 use Rattle.groups.specs.Bags.{weigh}
 use Rattle.groups.specs.Groups.{members}
@@ -24,7 +24,7 @@ use Rattle.groups.proofs.Bags.{weigh-append}
 use Rattle.groups.proofs.Meaning.{has_key, group_at-append}
 use Rattle.groups.proofs.AnyOrder.{options-flip}
 use Rattle.pool.specs.Lawful.{Lawful}
-use Rattle.tables.specs.Means.{IsMean, both, group_of, mean, mean_at, piece_at, tables_of_both}
+use Rattle.tables.specs.Means.{IsMean, both, group_of, mean, mean_at, piece_at}
 use Rattle.tables.specs.Notes.{note_of}
 use Rattle.tables.specs.Pieces.{IndexedPiece, all_lines, records_of, refused_within}
 
@@ -52,23 +52,21 @@ few-faults n (Err fault ∷ rs) = let h = few-faults (n + 1) rs in omega (arith,
 
 -- ---- pieces joined
 
-tables-append : (sets : List (List ℕ)) (fs : List ColumnFunction) (l m : List Row) → map (group_of fs (l ++ m)) sets ≡ tables_of_both (map (group_of fs l) sets) (map (group_of fs m) sets)
-tables-append [] fs l m = refl
-tables-append (set ∷ sets) fs l m = λ i. (λ key. group_at-append set fs key l m i) ∷ tables-append sets fs l m i
-
 pub mean-append : (fields : List Field) (q : TreeForm) (xs ys : List IndexedPiece) → mean fields q (xs ++ ys) ≡ both (mean fields q xs) (mean fields q ys)
 mean-append fields q xs ys =
     let fs = functions_of fields q in
-    let sets = sets_of fields q in
+    let grouping = grouping_places fields q in
     let rows : kept fields q (records_of fields (xs ++ ys)) ≡ kept fields q (records_of fields xs) ++ kept fields q (records_of fields ys) =
     ap (kept fields q) (records-append fields xs ys) ∙ kept-append fields q (records_of fields xs) (records_of fields ys) in
-    let tables = ap (λ (rs : List Row). map (group_of fs rs) sets) rows ∙ tables-append sets fs (kept fields q (records_of fields xs)) (kept fields q (records_of fields ys)) in
+    let first = kept fields q (records_of fields xs) in
+    let second = kept fields q (records_of fields ys) in
+    let table = ap (group_of grouping fs) rows ∙ (λ i key. group_at-append grouping fs key first second i) in
     let lines = lines-append xs ys in
     let refused = refused-append fields xs ys in
     λ i. record {
-      sets = sets;
+      sets = sets_of fields q;
       functions = fs;
-      tables = tables i;
+      table = table i;
       lines = lines i;
       refused = refused i;
       notes = λ weight. (ap (weigh weight) (map-append (note_of fields) xs ys) ∙ weigh-append weight (map (note_of fields) xs) (map (note_of fields) ys)) i;
@@ -79,18 +77,16 @@ mean-append fields q xs ys =
 plus-flip : (m n : ℕ) → m + n ≡ n + m
 plus-flip m n = omega arith
 
-tables-flip : (sets : List (List ℕ)) (fs : List ColumnFunction) (l m : List Row)
-    → tables_of_both (map (group_of fs l) sets) (map (group_of fs m) sets) ≡ tables_of_both (map (group_of fs m) sets) (map (group_of fs l) sets)
-tables-flip [] fs l m = refl
-tables-flip (set ∷ sets) fs l m = λ i. (λ key. options-flip fs (has_key set key l) (has_key set key m) (members set key l) (members set key m) i) ∷ tables-flip sets fs l m i
-
 mean-flip : (fields : List Field) (q : TreeForm) (xs ys : List IndexedPiece) → both (mean fields q xs) (mean fields q ys) ≡ both (mean fields q ys) (mean fields q xs)
 mean-flip fields q xs ys =
-    let tables = tables-flip (sets_of fields q) (functions_of fields q) (kept fields q (records_of fields xs)) (kept fields q (records_of fields ys)) in
+    let grouping = grouping_places fields q in
+    let fs = functions_of fields q in
+    let first = kept fields q (records_of fields xs) in
+    let second = kept fields q (records_of fields ys) in
     λ i. record {
       sets = sets_of fields q;
-      functions = functions_of fields q;
-      tables = tables i;
+      functions = fs;
+      table = λ key. options-flip fs (has_key grouping key first) (has_key grouping key second) (members grouping key first) (members grouping key second) i;
       lines = plus-flip (length (all_lines xs)) (length (all_lines ys)) i;
       refused = plus-flip (length (refused_within fields xs)) (length (refused_within fields ys)) i;
       notes = λ weight. plus-flip (weigh weight (map (note_of fields) xs)) (weigh weight (map (note_of fields) ys)) i;

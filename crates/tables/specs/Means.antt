@@ -8,23 +8,23 @@ use Rattle.lines.specs.Pieces.{bytes_of}
 use Rattle.query_tree.specs.Syntax.{TreeForm}
 use Rattle.query_check.specs.declared.function.ColumnFunction.{ColumnFunction}
 use Rattle.query_check.specs.Functions.{functions_of}
-use Rattle.query_check.specs.Sets.{sets_of}
+use Rattle.query_check.specs.Sets.{grouping_places, sets_of}
 use Rattle.query_truth.specs.Kept.{kept}
 use Rattle.groups.specs.Bags.{weigh}
 use Rattle.groups.specs.Groups.{Key, keys, members, same_key}
 use Rattle.groups.specs.Inside.Group.{GroupState, group_state}
 use Rattle.groups.specs.Rows.{Row}
-use Rattle.groups.specs.Inside.Table.{Contents, join_options}
+use Rattle.groups.specs.Inside.Table.{join_options}
 use Rattle.tables.specs.Notes.{Noted, note_of}
 use Rattle.tables.specs.Pieces.{IndexedPiece, all_lines, records_of, refused_within}
 use Rattle.tables.specs.States.{PartialState}
 
--- the grouping sets and the set functions; for each set what is kept of each key's group; how many lines and refused lines there are; and of the notes of
--- the pieces what they weigh together, whatever each weighs
+-- the grouping sets and the set functions; under all grouping columns what is kept of each key's group; how many lines and refused lines there are; and of
+-- the notes of the pieces what they weigh together, whatever each weighs
 pub record Mean : Type 0 where
   pub sets : List (List ℕ)
   pub functions : List ColumnFunction
-  pub tables : List (Key → Option GroupState)
+  pub table : Key → Option GroupState
   pub lines : ℕ
   pub refused : ℕ
   pub notes : (Noted → ℕ) → ℕ
@@ -32,15 +32,15 @@ pub record Mean : Type 0 where
 -- ---- of pieces
 
 -- what is kept of the group of a key under a grouping set: of a key that is one of the records', what is kept of its members
-abbrev pub group_of : List ColumnFunction → List Row → List ℕ → Key → Option GroupState
-group_of functions rows set key = if list_any (same_key key) (keys set rows) then Some (group_state functions (members set key rows)) else None
+abbrev pub group_of : List ℕ → List ColumnFunction → List Row → Key → Option GroupState
+group_of set functions rows key = if list_any (same_key key) (keys set rows) then Some (group_state functions (members set key rows)) else None
 
 -- what pieces come to under a schema and a query
 abbrev pub mean : List Field → TreeForm → List IndexedPiece → Mean
 mean fields q pieces = record {
   sets = sets_of fields q;
   functions = functions_of fields q;
-  tables = map (group_of (functions_of fields q) (kept fields q (records_of fields pieces))) (sets_of fields q);
+  table = group_of (grouping_places fields q) (functions_of fields q) (kept fields q (records_of fields pieces));
   lines = length (all_lines pieces);
   refused = length (refused_within fields pieces);
   notes = λ weight. weigh weight (map (note_of fields) pieces);
@@ -52,18 +52,12 @@ IsMean fields q m = (pieces : List IndexedPiece) × (m ≡ mean fields q pieces)
 
 -- ---- of two
 
--- for each grouping set what is kept of each key's group in either
-abbrev pub tables_of_both : List (Key → Option GroupState) → List (Key → Option GroupState) → List (Key → Option GroupState)
-tables_of_both [] us = []
-tables_of_both (t ∷ ts) [] = []
-tables_of_both (t ∷ ts) (u ∷ us) = (λ key. join_options (t key) (u key)) ∷ tables_of_both ts us
-
 -- what two come to together
 abbrev pub both : Mean → Mean → Mean
 both a b = record {
   sets = a.sets;
   functions = a.functions;
-  tables = tables_of_both a.tables b.tables;
+  table = λ key. join_options (a.table key) (b.table key);
   lines = a.lines + b.lines;
   refused = a.refused + b.refused;
   notes = λ weight. a.notes weight + b.notes weight;
@@ -98,7 +92,7 @@ abbrev pub meaning : PartialState → Mean
 meaning partial = record {
   sets = partial.sets;
   functions = partial.functions;
-  tables = map (λ (table : Contents) key. fin.get table key) partial.tables;
+  table = λ key. fin.get partial.table key;
   lines = partial.lines;
   refused = partial.refused;
   notes = λ weight. weigh weight partial.notes;

@@ -3,23 +3,23 @@ use Rattle.std.specs.Prelude.{◌≡◌, ℕ, List, length, map}
 use Rattle.values.specs.Schema.{Field}
 use Rattle.lines.specs.Input.{good, refused}
 use Rattle.query_tree.specs.Syntax.{TreeForm}
-use Rattle.query_check.specs.Sets.{sets_of}
+use Rattle.query_check.specs.Sets.{grouping_places, sets_of}
 use Rattle.query_check.specs.Functions.{functions_of}
 use Rattle.query_truth.specs.Kept.{kept}
 use Rattle.groups.specs.Rows.{Row}
 use Rattle.groups.specs.Bags.{SameBag}
+use Rattle.groups.specs.Inside.Table.{IsTableOf}
 use Rattle.tables.specs.Results.{query_found}
 use Rattle.tables.specs.Notes.{note_of}
 use Rattle.tables.specs.Pieces.{IndexedPiece, all_lines, records_of, refused_within}
-use Rattle.tables.specs.Sets.{AreTablesOf}
 use Rattle.tables.specs.States.{GroupsState, PartialState}
 
--- Under a schema and a query a partial result stands for pieces, in whatever order: it has the query's grouping sets and set functions, one table for
--- each set, which is that of the good records of all lines of the pieces, the numbers of all lines and of all refused lines, and of each piece its note.
+-- Under a schema and a query a partial result stands for pieces, in whatever order: it has the query's grouping sets and set functions, the table of all
+-- grouping columns over the good records of all lines of the pieces that are kept, the numbers of all lines and of all refused lines, and of each piece its note.
 pub record StandsFor (fields : List Field) (q : TreeForm) (partial : PartialState) (pieces : List IndexedPiece) : Type 0 where
   pub sets : partial.sets ≡ sets_of fields q
   pub functions : partial.functions ≡ functions_of fields q
-  pub tables : AreTablesOf (sets_of fields q) (functions_of fields q) partial.tables (kept fields q (records_of fields pieces))
+  pub table : IsTableOf (grouping_places fields q) (functions_of fields q) partial.table (kept fields q (records_of fields pieces))
   pub lines : partial.lines ≡ length (all_lines pieces)
   pub refused : partial.refused ≡ length (refused_within fields pieces)
   pub notes : SameBag (map (note_of fields) pieces) partial.notes

@@ -1,5 +1,13 @@
 -- What partial results and groups are under a plan: under its columns and its query.
-use Rattle.std.specs.Prelude.{List, ℕ}
+use Rattle.std.specs.Prelude.{List, map, ℕ}
+use Rattle.query_check.specs.Functions.{functions_of}
+use Rattle.query_check.specs.Sets.{grouping_places}
+use Rattle.query_truth.specs.Kept.{kept}
+use Rattle.groups.specs.declared.group.Group.{Group}
+use Rattle.groups.specs.Bags.{SameBag}
+use Rattle.groups.specs.Groups.{Key, members}
+use Rattle.groups.specs.GroupSummaries.{group_summaries, group_summary_in}
+use Rattle.groups.specs.Rolled.{AreAmong, finer_members}
 use Rattle.groups.specs.Rows.{Row}
 use Rattle.query_plan.specs.declared.plan.Plan.{Plan}
 use Rattle.query_plan.specs.Planned.{fields_of_plan, form_of_plan}
@@ -27,3 +35,17 @@ AreFittingUnder plan found = AreFitting (fields_of_plan plan) (form_of_plan plan
 
 abbrev pub HasEachRecordOnceUnder : Plan → List Found → List Row → Type 0
 HasEachRecordOnceUnder plan found rows = HasEachRecordOnce (fields_of_plan plan) (form_of_plan plan) found rows
+
+-- each place of the set is that of a grouping column
+abbrev pub AreGroupingColumns : Plan → List ℕ → Type 0
+AreGroupingColumns plan set = AreAmong set (grouping_places (fields_of_plan plan) (form_of_plan plan))
+
+-- the groups are those of the records that WHERE keeps under a set of columns: one for each key, and no other
+abbrev pub GivesGroupsOfSet : Plan → List ℕ → List Group → List Row → Type 0
+GivesGroupsOfSet plan set groups rows =
+    SameBag (map group_summary_in groups)
+    (group_summaries set (functions_of (fields_of_plan plan) (form_of_plan plan)) (kept (fields_of_plan plan) (form_of_plan plan) rows))
+
+-- the members of a key under a set of columns are those of all keys of the grouping columns that have its values, joined
+abbrev pub HasMembersOfFiner : Plan → List ℕ → Key → List Row → Type 0
+HasMembersOfFiner plan set key rows = SameBag (finer_members (grouping_places (fields_of_plan plan) (form_of_plan plan)) set key rows) (members set key rows)

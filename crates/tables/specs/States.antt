@@ -6,12 +6,11 @@ use Rattle.groups.specs.Inside.Table.{Contents}
 use Rattle.tables.specs.Found.{Found}
 use Rattle.tables.specs.Notes.{Noted}
 
--- A partial result: its grouping sets and set functions, for each set the groups of a table, how many lines and refused lines it counts, and of each
--- piece its note.
+-- A partial result: its grouping sets and set functions, the groups of its table, how many lines and refused lines it counts, and of each piece its note.
 pub record PartialState : Type 0 where
   pub sets : List (List ℕ)
   pub functions : List ColumnFunction
-  pub tables : List Contents
+  pub table : Contents
   pub lines : ℕ
   pub refused : ℕ
   pub notes : List Noted

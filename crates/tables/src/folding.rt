@@ -4,7 +4,7 @@ ghost use Rattle.lines.specs.Lines.{lines};
 ghost use Rattle.groups.specs.Rows.{Row};
 ghost use Rattle.tables.specs.Folding.{HasReadUnder, ReadsMoreUnder};
 
-use crate::sets::Tables;
+use groups::Table;
 use lines::{LineFault, LineRefusal, RecordReader, lines_of};
 use query_plan::{Plan, holds};
 use std::alloc::{AllocError, Global};
@@ -13,8 +13,8 @@ use values::{Record, Truth};
 /// The lines of a piece, as far as they have been read.
 #[derive(Debug, Drop)]
 pub(crate) struct Folding {
-    /// The tables of the good records that are kept.
-    pub(crate) tables: Tables,
+    /// The table of the good records that are kept, by all grouping columns.
+    pub(crate) table: Table,
     /// The number of lines.
     pub(crate) lines: u64,
     /// The refused lines by their numbers, from 1.
@@ -26,24 +26,24 @@ impl Folding {
     ghost use Rattle.values.specs.Fit.{Fits};
     ghost use Rattle.query_plan.specs.Planned.{fields_of_plan};
     ghost use Rattle.groups.specs.Rows.{Row};
-    ghost use Rattle.tables.specs.Folding.{AreTablesUnder, HasReadUnder, ReadsMoreUnder, TakesRecordUnder};
+    ghost use Rattle.tables.specs.Folding.{HasReadUnder, IsTableUnder, ReadsMoreUnder, TakesRecordUnder};
 
     /// No line has been read.
     pub(crate) fn new(alloc: Global, plan: &Plan) -> Result<Folding, AllocError>
         ensures { IfOk result (λ folding. HasReadUnder plan.now [] folding []) }
     {
-        let tables = Tables::new(alloc, plan.sets(), plan.functions())?;
-        Ok(Folding::onto(alloc, tables))
+        let table = Table::new(alloc, plan.grouping(), plan.functions())?;
+        Ok(Folding::onto(alloc, table))
     }
 
-    /// No line has been read behind the records that tables have.
-    pub(crate) fn onto(alloc: Global, tables: Tables) -> Folding
-        ensures tables { result.tables ≡ tables }
+    /// No line has been read behind the records that a table has.
+    pub(crate) fn onto(alloc: Global, table: Table) -> Folding
+        ensures table { result.table ≡ table }
         ensures lines { result.lines ≡ 0 }
         ensures refused { result.refused.items ≡ [] }
     {
         Folding {
-            tables,
+            table,
             lines: 0,
             refused: Vec::new(alloc),
         }
@@ -72,18 +72,18 @@ impl Folding {
         Ok(())
     }
 
-    /// Takes one more record into the tables, where it is kept.
+    /// Takes one more record into the table, where it is kept.
     fn take(&mut self, plan: &Plan, taken: &Record) -> Result<(), AllocError>
         requires fits { Fits (fields_of_plan plan.now) taken.now }
         requires room { TakesRecordUnder plan.now self.old }
-        ensures tables { OnOk result ((rows : List Row) → AreTablesUnder plan.now self.old.tables rows
-            → AreTablesUnder plan.now self.new.tables (rows ++ taken.now ∷ [])) }
+        ensures table { OnOk result ((rows : List Row) → IsTableUnder plan.now self.old.table rows
+            → IsTableUnder plan.now self.new.table (rows ++ taken.now ∷ [])) }
         ensures lines { self.new.lines ≡ self.old.lines }
         ensures refused { self.new.refused.items ≡ self.old.refused.items }
     {
         if holds(plan, taken).is(Truth::True) {
-            self.tables
-                .add(plan.sets(), plan.functions(), taken.values())?;
+            self.table
+                .add(plan.grouping(), plan.functions(), taken.values())?;
         }
         Ok(())
     }

@@ -8,8 +8,8 @@ mod laws;
 mod note;
 mod numbering;
 mod partial;
+mod rolling;
 mod rows;
-mod sets;
 mod shape;
 
 pub use grouped::Groups;

@@ -2,7 +2,7 @@
 ghost use Rattle.std.specs.Prelude.{◌≡◌, ◌<◌, ◌≤◌, ◌^◌, ◌∷◌, [], All, IfOk, length};
 ghost use Rattle.std.proofs.Props.{props};
 ghost use Rattle.tables.specs.Notes.{IsWellNumbered, lines_noted, notes_in};
-ghost use Rattle.tables.specs.Sets.{AreAllWithin};
+ghost use Rattle.groups.specs.Inside.Table.{AreGroupsWithin};
 
 use crate::folding::{Folding, read_lines};
 use crate::grouped::Groups;
@@ -10,8 +10,8 @@ use crate::laws::members_law;
 use crate::note::Note;
 use crate::numbering::number;
 use crate::rows::rows_of;
-use crate::sets::Tables;
 use crate::shape::Shape;
+use groups::{Group, Table, roll_law};
 use query_plan::Plan;
 use std::alloc::{AllocError, Global};
 use std::marker::Model;
@@ -24,13 +24,13 @@ use std::marker::Model;
 pub struct Partial {
     alloc: Global,
     shape: Shape,
-    tables: Tables,
+    table: Table,
     lines: u64,
     refused: u64,
     notes: Vec<Note>,
     ghost few: { lines < 2 ^ 63 },
     ghost fewer: { refused ≤ lines },
-    ghost within: { AreAllWithin (length shape.sets.items) lines shape.functions.items tables } by { Prim.hlevel props },
+    ghost within: { AreGroupsWithin lines shape.functions.items table } by { Prim.hlevel props },
     ghost counted: { lines_noted (notes_in notes) ≡ lines },
     ghost numbered: { All IsWellNumbered (notes_in notes) } by { Prim.hlevel props },
 }
@@ -48,17 +48,19 @@ impl Model for Partial {
 
     ghost coded = { Prim.hlevel (codes, coded_contents, column_function.the_row.coded, line_fault.the_row.coded) };
 
-    ghost view = { λ p. record { sets = contents p.shape.sets.items; functions = p.shape.functions.items; tables = p.tables; lines = p.lines; refused = p.refused; notes = notes_in p.notes } };
+    ghost view = { λ p. record { sets = contents p.shape.sets.items; functions = p.shape.functions.items; table = p.table; lines = p.lines; refused = p.refused; notes = notes_in p.notes } };
 }
 
 impl Partial {
-    ghost use Rattle.std.specs.Prelude.{[], ◌∷◌, ◌++◌, ◌+◌, ◌↔◌, ℕ, List, IfOk, IsTrue};
+    ghost use Rattle.std.specs.Prelude.{[], ◌∷◌, ◌++◌, ◌+◌, ◌↔◌, ℕ, List, IfOk, OnOk, IsTrue};
     ghost use Rattle.values.specs.Schema.{Field};
     ghost use Rattle.lines.specs.Lines.{lines};
     ghost use Rattle.query_tree.specs.Syntax.{TreeForm};
+    ghost use Rattle.groups.specs.Groups.{Key};
+    ghost use Rattle.groups.specs.Rows.{Row};
     ghost use Rattle.query_plan.specs.Planned.{fields_of_plan};
     ghost use Rattle.tables.specs.Partials.{HaveOneShape, IsPartialOf, StandsFor};
-    ghost use Rattle.tables.specs.Planned.{AreFittingUnder, GivesGroupsUnder, HasEachRecordOnceUnder, IsPartialUnder, IsResultUnder, StandsForUnder};
+    ghost use Rattle.tables.specs.Planned.{AreFittingUnder, AreGroupingColumns, GivesGroupsOfSet, GivesGroupsUnder, HasEachRecordOnceUnder, HasMembersOfFiner, IsPartialUnder, IsResultUnder, StandsForUnder};
     ghost use Rattle.tables.specs.Pieces.{AreInOrder, AreNumbered, HaveOwnIndexes, IndexedPiece, IsCutInto, all_lines, records_of, refused_numbered, refused_within};
 
     /// The result over no pieces.
@@ -74,7 +76,7 @@ impl Partial {
         Ok(Partial {
             alloc,
             shape,
-            tables: folding.tables,
+            table: folding.table,
             lines: 0,
             refused: 0,
             notes: Vec::new(alloc),
@@ -99,7 +101,7 @@ impl Partial {
         let shape = Shape::of(alloc, plan)?;
         let folding = Folding::new(alloc, plan)?;
         let Folding {
-            tables,
+            table,
             lines,
             refused,
         } = read_lines(alloc, plan, folding, piece)?;
@@ -115,7 +117,7 @@ impl Partial {
         Ok(Partial {
             alloc,
             shape,
-            tables,
+            table,
             lines,
             refused: count,
             notes,
@@ -123,7 +125,7 @@ impl Partial {
     }
 
     /// The result over the pieces of this one and one piece more, which has this index among the
-    /// pieces of its input. Its records go into the tables that are there.
+    /// pieces of its input. Its records go into the table that is there.
     ///
     /// # Errors
     ///
@@ -138,12 +140,12 @@ impl Partial {
         let Partial {
             alloc,
             shape,
-            tables,
+            table,
             lines,
             refused,
             mut notes,
         } = self;
-        let folding = Folding::onto(alloc, tables);
+        let folding = Folding::onto(alloc, table);
         let folding = read_lines(alloc, plan, folding, piece)?;
         let more = folding.refused.len() as u64;
         notes.push(Note {
@@ -154,7 +156,7 @@ impl Partial {
         Ok(Partial {
             alloc,
             shape,
-            tables: folding.tables,
+            table: folding.table,
             lines: lines + folding.lines,
             refused: refused + more,
             notes,
@@ -204,18 +206,18 @@ impl Partial {
         let Partial {
             alloc,
             shape,
-            mut tables,
+            mut table,
             lines,
             refused,
             mut notes,
         } = self;
         let mut other = other;
         notes.append(&mut other.notes)?;
-        tables.absorb(other.tables)?;
+        table.absorb(other.table)?;
         Ok(Partial {
             alloc,
             shape,
-            tables,
+            table,
             lines: lines + other.lines,
             refused: refused + other.refused,
             notes,
@@ -249,14 +251,33 @@ impl Partial {
     {
         let Partial {
             alloc,
-            tables,
+            table,
             notes,
             ..
         } = self;
-        let rows = rows_of(alloc, tables)?;
+        let rows = rows_of(alloc, plan, table)?;
         let refused = number(alloc, notes)?;
         members_law();
         Ok(Groups::new(rows, refused))
+    }
+
+    /// The groups under any set of grouping columns, whether or not it is one of the query's grouping sets: one for each
+    /// key of the kept records and no other, its values in the order of the set. They come in no order that is said.
+    ///
+    /// # Errors
+    ///
+    /// `AllocError` where there is no memory for them.
+    pub fn roll(&self, plan: &Plan, set: &[usize]) -> Result<Vec<Group>, AllocError>
+        requires of_plan { IsPartialUnder plan.now self.now }
+        requires among { AreGroupingColumns plan.now set.now }
+        ensures groups { IfOk result (λ groups. (pieces : List IndexedPiece) → StandsForUnder plan.now self.now pieces
+            → GivesGroupsOfSet plan.now set.now groups.items (records_of (fields_of_plan plan.now) pieces)) }
+        // The members of a key are those of all keys of the grouping columns that have its values, joined.
+        ensures members { OnOk result ((rows : List Row) (key : Key) → HasMembersOfFiner plan.now set.now key rows) }
+    {
+        let table = self.table.roll(plan.grouping(), set, plan.functions())?;
+        roll_law();
+        table.finish()
     }
 }
 

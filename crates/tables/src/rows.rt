@@ -1,23 +1,35 @@
 //! The groups of all grouping sets, each beside the index of its set.
 ghost use Rattle.std.specs.Prelude.{◌≡◌, ◌++◌, ℕ, IfOk, OnOk, List, map};
-ghost use Rattle.query_check.specs.declared.function.ColumnFunction.{ColumnFunction};
 ghost use Rattle.groups.specs.Rows.{Row};
 ghost use Rattle.groups.specs.GroupSummaries.{group_summary_in};
 ghost use Rattle.groups.specs.Bags.{SameBag};
 ghost use Rattle.tables.specs.Found.{row_of, rows_from};
-ghost use Rattle.tables.specs.Results.{all_found};
-ghost use Rattle.tables.specs.Sets.{AreTablesOf};
+ghost use Rattle.query_plan.specs.Planned.{fields_of_plan, form_of_plan};
+ghost use Rattle.tables.specs.Folding.{IsOfFewUnder, IsTableUnder};
+ghost use Rattle.tables.specs.Results.{query_found};
 
-use crate::sets::Tables;
-use groups::Group;
+use crate::rolling::groups_of_sets;
+use groups::{Group, Table};
+use query_plan::Plan;
 use std::alloc::{AllocError, Global};
 
-/// The groups of the tables, each beside the index of its grouping set.
-pub(crate) fn rows_of(alloc: Global, tables: Tables) -> Result<Vec<(usize, Group)>, AllocError>
-    ensures { IfOk result (λ rows. (sets : List (List ℕ)) (functions : List ColumnFunction) (records : List Row)
-        → AreTablesOf sets functions tables records → SameBag (map row_of rows.items) (all_found sets functions records)) }
+/// The groups of each grouping set of a plan, each beside the index of its set, by the table of all grouping columns.
+pub(crate) fn rows_of(
+    alloc: Global,
+    plan: &Plan,
+    finest: Table,
+) -> Result<Vec<(usize, Group)>, AllocError>
+    requires { IsOfFewUnder plan.now finest }
+    ensures { IfOk result (λ rows. (records : List Row) → IsTableUnder plan.now finest records
+        → SameBag (map row_of rows.items) (query_found (fields_of_plan plan.now) (form_of_plan plan.now) records)) }
 {
-    let groups = tables.finish(alloc)?;
+    let groups = groups_of_sets(
+        alloc,
+        plan.grouping(),
+        plan.sets(),
+        plan.functions(),
+        finest,
+    )?;
     flattened(alloc, groups)
 }
 

@@ -37,7 +37,7 @@ impl Shape {
 }
 
 /// A copy of grouping sets.
-fn copied_sets(alloc: Global, sets: &[Vec<usize>]) -> Result<Vec<Vec<usize>>, AllocError>
+pub(crate) fn copied_sets(alloc: Global, sets: &[Vec<usize>]) -> Result<Vec<Vec<usize>>, AllocError>
     ensures { IfOk result (λ copies. contents copies.items ≡ contents sets.now) }
 {
     let mut copies = Vec::with_capacity(alloc, sets.len())?;

@@ -14,11 +14,11 @@ use values::{Record, Schema, SchemaFault, Value};
 
 const COLUMNS: &str = "d:text,r:text,q:int";
 
-const BY_D: &str = "SELECT d, COUNT(*) AS n, SUM(q) AS s FROM lines GROUP BY d";
+pub const BY_D: &str = "SELECT d, COUNT(*) AS n, SUM(q) AS s FROM lines GROUP BY d";
 
 const UNGROUPED: &str = "SELECT COUNT(*) AS n, SUM(q) AS s FROM lines";
 
-const BY_D_AND_R: &str = "SELECT d, r, COUNT(*), SUM(q) FROM lines GROUP BY d, r";
+pub const BY_D_AND_R: &str = "SELECT d, r, COUNT(*), SUM(q) FROM lines GROUP BY d, r";
 
 const BY_R: &str = "SELECT r FROM lines GROUP BY r";
 
@@ -54,7 +54,7 @@ fn query_or_refused(rt: &impl Abort, alloc: Global, text: &str) -> Option<Query>
 // A query or a plan is given up by a call: a drop in place is proved in place, for each form of a query.
 
 /// The plan of a query's text, and `None` for want of memory.
-fn planned_or_refused(rt: &impl Abort, alloc: Global, text: &str) -> Option<Plan> {
+pub fn planned_or_refused(rt: &impl Abort, alloc: Global, text: &str) -> Option<Plan> {
     let query = query_or_refused(rt, alloc, text)?;
     let Some(schema) = schema_or_refused(rt, alloc) else {
         drop(query);
@@ -70,7 +70,7 @@ fn planned_or_refused(rt: &impl Abort, alloc: Global, text: &str) -> Option<Plan
 }
 
 /// The plan of a query's text.
-fn planned(rt: &impl Abort, alloc: Global, text: &str) -> Plan {
+pub fn planned(rt: &impl Abort, alloc: Global, text: &str) -> Plan {
     planned_or_refused(rt, alloc, text).expect(rt, "memory")
 }
 
@@ -165,7 +165,7 @@ fn sorted_rows<'a>(rt: &impl Abort, alloc: Global, groups: &'a Groups) -> Vec<&'
 }
 
 /// Whether this is the row that is wanted.
-fn is_row((set, group): &(usize, Group), wanted: &Row) -> bool {
+pub fn is_row((set, group): &(usize, Group), wanted: &Row) -> bool {
     *set == wanted.set
         && group.key.as_slice() == wanted.key.as_slice()
         && group.lines == wanted.lines
@@ -230,7 +230,7 @@ struct ByHand<'a> {
 }
 
 /// Three good lines and a refused one.
-const FOUR: &[u8] =
+pub const FOUR: &[u8] =
     b"{\"d\":\"x\",\"q\":5}\n{\"d\":\"x\",\"q\":2}\n[1]\n{\"d\":\"y\",\"r\":\"n\"}\n";
 
 /// A line for each fault, and one with a number that no 64 bits hold.
@@ -440,11 +440,11 @@ fn push_line(numbers: &mut Numbers, text: &mut String) -> Result<(), AllocError>
     Ok(())
 }
 
-/// A made-up input of up to 30 lines, the last with or without its line feed.
-fn made_up_input(alloc: Global, seed: u64) -> Result<String, AllocError> {
+/// A made-up input of up to 50 lines, the last with or without its line feed.
+pub fn made_up_input(alloc: Global, seed: u64) -> Result<String, AllocError> {
     let mut numbers = Numbers { state: seed };
     let mut text = String::new(alloc);
-    for _ in 0..numbers.below(31) {
+    for _ in 0..numbers.below(51) {
         push_line(&mut numbers, &mut text)?;
         text.push('\n')?;
     }
@@ -455,7 +455,7 @@ fn made_up_input(alloc: Global, seed: u64) -> Result<String, AllocError> {
 }
 
 /// The number of made-up inputs.
-const INPUTS: u64 = 100;
+pub const INPUTS: u64 = 500;
 
 /// Holds the result of a query over the made-up inputs to the plain program.
 fn assert_like_reference(rt: &impl Abort, alloc: Global, text: &str) {
@@ -496,9 +496,23 @@ fn made_up_inputs_are_of_all_kinds(rt: HostRuntime) {
     drop(plan);
 }
 
+/// Lists of grouping sets, with all set functions.
+const SET_LISTS: [&str; 7] = [
+    "SELECT COUNT(*), COUNT(DISTINCT q), MIN(d) FROM lines GROUP BY ROLLUP (d, r)",
+    "SELECT COUNT(r), AVG(q), MAX(r) FROM lines GROUP BY CUBE (d, r)",
+    "SELECT SUM(q), MIN(d), COUNT(DISTINCT d) FROM lines GROUP BY GROUPING SETS ((r), (), (d))",
+    "SELECT COUNT(DISTINCT d), MAX(q) FROM lines GROUP BY GROUPING SETS ((r), (d))",
+    "SELECT COUNT(*), COUNT(DISTINCT r) FROM lines GROUP BY ROLLUP (d), ROLLUP (d)",
+    "SELECT COUNT(q), MIN(q) FROM lines GROUP BY r, CUBE (d)",
+    "SELECT SUM(q), COUNT(DISTINCT q) FROM lines GROUP BY GROUPING SETS (ROLLUP (d, r), CUBE (r), (d, d))",
+];
+
 #[test]
 fn like_reference(rt: HostRuntime) {
     for text in [BY_D, UNGROUPED, BY_D_AND_R, BY_R] {
+        assert_like_reference(&rt, rt.alloc(), text);
+    }
+    for text in SET_LISTS {
         assert_like_reference(&rt, rt.alloc(), text);
     }
 }

@@ -68,16 +68,49 @@ fn read_all(rt: &impl Abort, alloc: Global, schema: &Schema, input: &[u8]) -> Re
     }
 }
 
+/// The groups of an input under one set of columns, as those of a set with the index 0.
+pub fn rows_under(
+    rt: &impl Abort,
+    alloc: Global,
+    plan: &Plan,
+    set: &[usize],
+    input: &[u8],
+) -> Vec<Row> {
+    let reading = read_all(rt, alloc, plan.schema(), input);
+    let mut rows = Vec::new(alloc);
+    push_rows(
+        rt,
+        alloc,
+        plan,
+        (0, set),
+        reading.good.as_slice(),
+        &mut rows,
+    );
+    rows
+}
+
 /// The groups of all sets.
 fn rows_of(rt: &impl Abort, alloc: Global, plan: &Plan, good: &[Record]) -> Vec<Row> {
     let mut rows = Vec::new(alloc);
     for (index, set) in plan.sets().iter().enumerate() {
-        for key in keys_of(rt, alloc, set.as_slice(), good) {
-            let row = row_of(rt, alloc, plan, index, set.as_slice(), key, good);
-            rows.push(row).expect(rt, "memory");
-        }
+        push_rows(rt, alloc, plan, (index, set.as_slice()), good, &mut rows);
     }
     rows
+}
+
+/// Puts the groups of a set, which has an index, to others.
+fn push_rows(
+    rt: &impl Abort,
+    alloc: Global,
+    plan: &Plan,
+    (index, set): (usize, &[usize]),
+    good: &[Record],
+    rows: &mut Vec<Row>,
+) {
+    for key in keys_of(rt, alloc, set, good) {
+        let row = row_of(rt, alloc, plan, index, set, key, good);
+        rows.push(row).expect(rt, "memory");
+    }
 }
 
 /// The group of a key.

@@ -2,21 +2,22 @@ use Rattle.std.proofs.Common.{◌∙◌, sym}
 use Rattle.lines.specs.Input.{good, refused}
 use Rattle.lines.specs.Lines.{lines}
 use Rattle.query_check.specs.Functions.{functions_of}
-use Rattle.query_check.specs.Sets.{sets_of}
+use Rattle.query_check.specs.Sets.{grouping_places}
 use Rattle.query_truth.specs.Kept.{is_kept, kept}
 use Rattle.tables.specs.Notes.{note_of}
 use Rattle.tables.specs.Pieces.{all_lines, records_of, refused_within}
 use Rattle.groups.proofs.Bags.{bag-filter, length-bag}
 use Rattle.tables.proofs.Bags.{bag-map}
-use Rattle.tables.proofs.SameBags.{bag-flat_map, tables-same}
+use Rattle.groups.proofs.AnyOrder.{table-same}
+use Rattle.tables.proofs.SameBags.{bag-flat_map}
 use Rattle.tables.proofs.laws.order_law.Goals as goal
 
 pub returns : goal.returns
 returns c = λ fields q partial pieces others s p. record {
   sets = p.sets;
   functions = p.functions;
-  tables = tables-same (sets_of fields q) (functions_of fields q) partial.tables (kept fields q (records_of fields pieces)) (kept fields q (records_of fields others))
-      (bag-filter (is_kept fields q) (records_of fields pieces) (records_of fields others) (bag-flat_map (λ piece. good fields piece.bytes) pieces others s)) p.tables;
+  table = table-same (grouping_places fields q) (functions_of fields q) partial.table (kept fields q (records_of fields pieces)) (kept fields q (records_of fields others))
+      (bag-filter (is_kept fields q) (records_of fields pieces) (records_of fields others) (bag-flat_map (λ piece. good fields piece.bytes) pieces others s)) p.table;
   lines = p.lines ∙ length-bag (all_lines pieces) (all_lines others) (bag-flat_map (λ piece. lines piece.bytes) pieces others s);
   refused = p.refused ∙ length-bag (refused_within fields pieces) (refused_within fields others) (bag-flat_map (λ piece. refused fields piece.bytes) pieces others s);
   notes = λ f. sym (bag-map (note_of fields) pieces others s f) ∙ p.notes f;

@@ -17,7 +17,7 @@ take-requires-clause-room c =
     let q = form_of_plan c.args.plan.now in
     ∥∥₁_map c.requires (λ r. record {
       rows = kept fields q (r.before ++ good_of fields r.seen);
-      are_tables = r.has_read.tables;
+      is_table = r.has_read.table;
       few = (let h = length-kept_behind fields q r.before r.seen in omega (arith, h, r.few));
     })
 
@@ -28,13 +28,13 @@ returns c = λ before seen h.
     let line = c.args.line.now in
     elim c.match-read.branch [
       | in-Ok+in_ok-take-in-Ok w ↦
-          subst (λ (f : Folding). HasRead fields q before (record { tables = f.tables; lines = f.lines + 1; refused = f.refused }) (seen ++ line ∷ [])) (sym w.self-is)
+          subst (λ (f : Folding). HasRead fields q before (record { table = f.table; lines = f.lines + 1; refused = f.refused }) (seen ++ line ∷ [])) (sym w.self-is)
           (read-ok fields q before c.args.self.now w.take.new.self seen line w.in-Ok.taken
           (ap (λ fs. taken fs line) (sym c.schema.ensures.schema) ∙ w.in-Ok.ensures.ok) h
-          w.in_ok-take-in-Ok.ensures.tables w.in_ok-take-in-Ok.ensures.lines w.in_ok-take-in-Ok.ensures.refused)
+          w.in_ok-take-in-Ok.ensures.table w.in_ok-take-in-Ok.ensures.lines w.in_ok-take-in-Ok.ensures.refused)
       | in-Err-Fault+in_ok-push-in-Err-Fault w ↦
           read-err fields q before c.args.self.now c.match-read.self seen line w.in-Err-Fault.fault
           (ap (λ fs. taken fs line) (sym c.schema.ensures.schema) ∙ subst (λ (r : LineRefusal). IsRefusal r (taken c.schema.result.now line)) w.in-Err-Fault.field-0-is w.in-Err-Fault.ensures.refused) h
-          (ap (λ (f : Folding). f.tables) w.self-is) (ap (λ (f : Folding). f.lines) w.self-is)
+          (ap (λ (f : Folding). f.table) w.self-is) (ap (λ (f : Folding). f.lines) w.self-is)
           (ap (λ (f : Folding). f.refused.items) w.self-is ∙ w.in_ok-push-in-Err-Fault.ensures.items)
     ]

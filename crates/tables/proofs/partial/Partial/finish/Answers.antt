@@ -14,9 +14,22 @@ use Rattle.tables.specs.Results.{all_found, query_found}
 use Rattle.tables.specs.States.{PartialState}
 use Rattle.tables.proofs.Cutting.{cut-records, cut-refused}
 use Rattle.tables.proofs.Fitting.{found-fit}
+use Rattle.tables.proofs.Growing.{few-kept}
 use Rattle.tables.proofs.Numbered.{lines-in_order, lines-numbered, numbered-in_order}
 use Rattle.tables.proofs.Taken.{kept-fits}
 use Rattle.tables.proofs.partial.Partial.finish.Goals as goal
+
+pub rows_of-requires : goal.rows_of-requires
+rows_of-requires c =
+    let fields = fields_of_plan c.args.plan.now in
+    let q = form_of_plan c.args.plan.now in
+    ∥∥₁_map c.requires.of_plan (λ s.
+    let p = subst (λ (v : PartialState). StandsFor fields q v s.0) (sym c.self.view_is) s.1 in
+    record {
+      rows = kept fields q (records_of fields s.0);
+      is_table = p.table;
+      few = few-kept fields q s.0 c.self.inside.lines p.lines c.self.inside.few;
+    })
 
 pub new-requires : goal.new-requires
 new-requires c =
@@ -28,8 +41,16 @@ new-requires c =
       fit = ∥∥₁_map c.requires.of_plan (λ s.
           let rows = kept fields q (records_of fields s.0) in
           let p = subst (λ (v : PartialState). StandsFor fields q v s.0) (sym c.self.view_is) s.1 in
-          (plan, found-fit fields q rows found (c.in_ok-rows.ensures (sets_of fields q) (functions_of fields q) rows p.tables) (kept-fits fields q s.0)));
+          (plan, found-fit fields q rows found (c.in_ok-rows.ensures (records_of fields s.0) p.table) (kept-fits fields q s.0)));
     }
+
+pub returns-clause-rows : goal.returns-clause-rows
+returns-clause-rows c = λ pieces given.
+    let fields = fields_of_plan c.args.plan.now in
+    let q = form_of_plan c.args.plan.now in
+    let p = subst (λ (v : PartialState). StandsFor fields q v pieces) (sym c.self.view_is) given in
+    subst (λ (fs : List Found). SameBag fs (query_found fields q (records_of fields pieces))) (sym c.new.ensures.rows)
+    (c.in_ok-rows.ensures (records_of fields pieces) p.table)
 
 pub returns-clause-fit : goal.returns-clause-fit
 returns-clause-fit c = λ pieces given.
@@ -39,7 +60,7 @@ returns-clause-fit c = λ pieces given.
     let rows = kept fields q (records_of fields pieces) in
     let found = all_found (sets_of fields q) (functions_of fields q) rows in
     found-fit fields q rows c.new.result.found
-    (subst (λ (fs : List Found). SameBag fs found) (sym c.new.ensures.rows) (c.in_ok-rows.ensures (sets_of fields q) (functions_of fields q) rows p.tables))
+    (subst (λ (fs : List Found). SameBag fs found) (sym c.new.ensures.rows) (c.in_ok-rows.ensures (records_of fields pieces) p.table))
     (kept-fits fields q pieces)
 
 pub returns-clause-members : goal.returns-clause-members
@@ -50,7 +71,7 @@ returns-clause-members c = λ pieces given.
     let rows = records_of fields pieces in
     c.members_law.ensures fields q c.new.result rows
     (subst (λ (fs : List Found). SameBag fs (query_found fields q rows)) (sym c.new.ensures.rows)
-    (c.in_ok-rows.ensures (sets_of fields q) (functions_of fields q) (kept fields q rows) p.tables))
+    (c.in_ok-rows.ensures rows p.table))
 
 pub returns-clause-numbered : goal.returns-clause-numbered
 returns-clause-numbered c = λ pieces given own.
@@ -77,7 +98,7 @@ returns-clause-whole c = λ input pieces given w.
     record {
       rows = subst (λ (rows : List Row). SameBag c.new.result.found (query_found fields q rows)) (cut-records fields input pieces w)
           (subst (λ (fs : List Found). SameBag fs (query_found fields q (records_of fields pieces))) (sym c.new.ensures.rows)
-          (c.in_ok-rows.ensures (sets_of fields q) (functions_of fields q) (kept fields q (records_of fields pieces)) p.tables));
+          (c.in_ok-rows.ensures (records_of fields pieces) p.table));
       refused = c.new.ensures.refused
           ∙ lines-in_order fields pieces (notes_in c.self.inside.notes) c.in_ok-refused.refused.items w.in_order p.notes c.in_ok-refused.ensures
           ∙ cut-refused fields input pieces w;

@@ -6,19 +6,20 @@ use Rattle.std.proofs.lemmas.List.{map-append}
 use Rattle.lines.specs.Lines.{lines}
 use Rattle.groups.specs.Bags.{SameBag}
 use Rattle.groups.specs.Rows.{Row}
+use Rattle.groups.specs.Inside.Table.{AreGroupsWithin, IsTableOf}
+use Rattle.groups.proofs.Meaning.{table-within}
+use Rattle.query_check.specs.declared.function.ColumnFunction.{ColumnFunction}
 use Rattle.query_plan.specs.Planned.{fields_of_plan, form_of_plan}
 use Rattle.query_check.specs.Functions.{functions_of}
-use Rattle.query_check.specs.Sets.{sets_of}
+use Rattle.query_check.specs.Sets.{grouping_places}
 use Rattle.query_truth.specs.Kept.{kept}
 use Rattle.tables.specs.declared.note.Note.{Note}
 use Rattle.tables.specs.Folding.{HasRead, good_of, refused_of}
 use Rattle.tables.specs.Notes.{IsWellNumbered, Noted, note_in, note_of}
 use Rattle.tables.specs.Partials.{StandsFor}
 use Rattle.tables.specs.Pieces.{IndexedPiece, records_of}
-use Rattle.tables.specs.Sets.{AreTablesOf}
 use Rattle.tables.specs.States.{PartialState}
 use Rattle.tables.proofs.Growing.{begun, few-records, lines-more, notes-more, one-noted_more, records-more, refused-more}
-use Rattle.tables.proofs.Merging.{all-within, within-shape}
 use Rattle.tables.proofs.Reading.{length-kept_behind, length-refused_of, well-numbered}
 use Rattle.tables.proofs.partial.Partial.fold_onto.Goals as goal
 
@@ -33,7 +34,7 @@ read_lines-requires c =
     record {
       before = records_of fields s.0;
       seen = [];
-      has_read = begun fields q s.0 c.self.inside.tables c.onto-folding.result p.tables c.onto-folding.ensures.tables c.onto-folding.ensures.lines c.onto-folding.ensures.refused;
+      has_read = begun fields q s.0 c.self.inside.table c.onto-folding.result p.table c.onto-folding.ensures.table c.onto-folding.ensures.lines c.onto-folding.ensures.refused;
       few = omega (arith, few, count, c.requires.few);
     })
 
@@ -48,7 +49,7 @@ overflow_add-result c =
     let read : (s : (pieces : List IndexedPiece) × StandsFor fields q c.args.self pieces) → HasRead fields q (records_of fields s.0) folding ls = λ s.
     let p = subst (λ (v : PartialState). StandsFor fields q v s.0) (sym c.self.view_is) s.1 in
     c.in_ok-folding.ensures (records_of fields s.0) []
-    (begun fields q s.0 self.tables c.onto-folding.result p.tables c.onto-folding.ensures.tables c.onto-folding.ensures.lines c.onto-folding.ensures.refused) in
+    (begun fields q s.0 self.table c.onto-folding.result p.table c.onto-folding.ensures.table c.onto-folding.ensures.lines c.onto-folding.ensures.refused) in
     let count : folding.lines ≡ length ls = ∥∥₁_elim c.requires.of_plan (ℕ_set _ _) (λ s. (read s).lines) in
     let listed : length folding.refused.items ≡ length (refused_of fields ls) = ∥∥₁_elim c.requires.of_plan (ℕ_set _ _) (λ s. ap length (read s).refused) in
     let fewer = self.fewer in
@@ -67,7 +68,7 @@ invariant_of-result c =
     let read : (s : (pieces : List IndexedPiece) × StandsFor fields q c.args.self pieces) → HasRead fields q (records_of fields s.0) folding ls = λ s.
     let p = subst (λ (v : PartialState). StandsFor fields q v s.0) (sym c.self.view_is) s.1 in
     c.in_ok-folding.ensures (records_of fields s.0) []
-    (begun fields q s.0 self.tables c.onto-folding.result p.tables c.onto-folding.ensures.tables c.onto-folding.ensures.lines c.onto-folding.ensures.refused) in
+    (begun fields q s.0 self.table c.onto-folding.result p.table c.onto-folding.ensures.table c.onto-folding.ensures.lines c.onto-folding.ensures.refused) in
     let count : folding.lines ≡ length ls = ∥∥₁_elim c.requires.of_plan (ℕ_set _ _) (λ s. (read s).lines) in
     let listed : length folding.refused.items ≡ length (refused_of fields ls) = ∥∥₁_elim c.requires.of_plan (ℕ_set _ _) (λ s. ap length (read s).refused) in
     let note : Note = record { index = c.args.index; lines = folding.lines; refused = folding.refused } in
@@ -81,9 +82,9 @@ invariant_of-result c =
           ∥∥₁_elim c.requires.of_plan (hlevel props) (λ s.
               let p = subst (λ (v : PartialState). StandsFor fields q v s.0) (sym c.self.view_is) s.1 in
               let r = read s in
-              within-shape (sets_of fields q) (functions_of fields q) self.shape.functions.items self.shape.sets.items (self.lines + folding.lines) folding.tables p.sets p.functions
-              (all-within (sets_of fields q) (functions_of fields q) folding.tables (kept fields q (records_of fields s.0 ++ good_of fields ls)) (self.lines + folding.lines)
-              (let few = length-kept_behind fields q (records_of fields s.0) ls in let records = few-records fields s.0 in let before = p.lines in omega (arith, few, records, before, count)) r.tables)),
+              subst (λ (fs : List ColumnFunction). AreGroupsWithin (self.lines + folding.lines) fs folding.table) (sym p.functions)
+              (table-within (grouping_places fields q) (functions_of fields q) folding.table (kept fields q (records_of fields s.0 ++ good_of fields ls)) (self.lines + folding.lines) r.table
+              (let few = length-kept_behind fields q (records_of fields s.0) ls in let records = few-records fields s.0 in let before = p.lines in omega (arith, few, records, before, count)))),
           (
             noted.0,
             (noted.1, tt),
@@ -101,11 +102,11 @@ returns-clause-stands c = λ pieces given.
     let folding = c.in_ok-folding.folding in
     let bytes = c.args.piece.now in
     let read = c.in_ok-folding.ensures (records_of fields pieces) []
-    (begun fields q pieces self.tables c.onto-folding.result p.tables c.onto-folding.ensures.tables c.onto-folding.ensures.lines c.onto-folding.ensures.refused) in
+    (begun fields q pieces self.table c.onto-folding.result p.table c.onto-folding.ensures.table c.onto-folding.ensures.lines c.onto-folding.ensures.refused) in
     record {
       sets = p.sets;
       functions = p.functions;
-      tables = subst (λ (rows : List Row). AreTablesOf (sets_of fields q) (functions_of fields q) folding.tables (kept fields q rows)) (sym (records-more fields pieces c.args.index bytes)) read.tables;
+      table = subst (λ (rows : List Row). IsTableOf (grouping_places fields q) (functions_of fields q) folding.table (kept fields q rows)) (sym (records-more fields pieces c.args.index bytes)) read.table;
       lines = (let x = p.lines in let y = read.lines in let z = lines-more pieces c.args.index bytes in omega (arith, x, y, z));
       refused = (let x = p.refused in let n = c.len-more.ensures in let y = ap length read.refused in let z = refused-more fields pieces c.args.index bytes in omega (arith, x, n, y, z));
       notes = subst (λ (ns : List Noted). SameBag (map (note_of fields) (pieces ++ record { index = c.args.index; bytes = bytes } ∷ [])) ns)

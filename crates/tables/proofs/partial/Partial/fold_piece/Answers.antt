@@ -2,15 +2,17 @@ use Rattle.std.proofs.Common.{◌∷◌, [], List, length, map, refl, sym, ap, s
 use Rattle.lines.specs.Lines.{lines}
 use Rattle.query_plan.specs.Planned.{fields_of_plan, form_of_plan}
 use Rattle.query_check.specs.Functions.{functions_of}
-use Rattle.query_check.specs.Sets.{sets_of}
+use Rattle.query_check.specs.Sets.{grouping_places}
 use Rattle.query_truth.specs.Kept.{kept}
 use Rattle.tables.specs.Folding.{good_of}
 use Rattle.groups.specs.Bags.{SameBag}
 use Rattle.groups.specs.Rows.{Row}
+use Rattle.groups.specs.Inside.Table.{AreGroupsWithin, IsTableOf}
+use Rattle.groups.proofs.Meaning.{table-within}
+use Rattle.query_check.specs.declared.function.ColumnFunction.{ColumnFunction}
 use Rattle.tables.specs.Notes.{Noted, note_in, note_of}
-use Rattle.tables.specs.Sets.{AreTablesOf}
 use Rattle.tables.proofs.Growing.{lines-more, notes-more, records-more, refused-more}
-use Rattle.tables.proofs.Merging.{all-within, one-note, within-shape}
+use Rattle.tables.proofs.Merging.{one-note}
 use Rattle.tables.proofs.Reading.{length-good_of, length-kept, length-lines, length-refused_of, well-numbered}
 use Rattle.tables.proofs.partial.Partial.fold_piece.Goals as goal
 
@@ -28,8 +30,8 @@ invariant_of-result c =
     let q = form_of_plan c.args.plan.now in
     let shape = c.in_ok-shape.shape in
     let ls = lines c.args.piece.now in
-    let read = c.in_ok-tables.ensures [] [] c.in_ok-folding.ensures in
-    let folding = c.in_ok-tables.field-0 in
+    let read = c.in_ok-table.ensures [] [] c.in_ok-folding.ensures in
+    let folding = c.in_ok-table.field-0 in
     let good = length-good_of fields ls in
     let few = length-kept fields q (good_of fields ls) in
     let count = read.lines in
@@ -39,8 +41,8 @@ invariant_of-result c =
       (
         (let n = c.len-count.ensures in let r = ap length read.refused in let m = length-refused_of fields ls in let ok = folding.refused.ok in grind (arith, n, r, m, count, ok)),
         (
-          within-shape (sets_of fields q) (functions_of fields q) shape.functions.items shape.sets.items folding.lines folding.tables c.in_ok-shape.ensures.sets c.in_ok-shape.ensures.functions
-              (all-within (sets_of fields q) (functions_of fields q) folding.tables (kept fields q (good_of fields ls)) folding.lines (omega (arith, good, few, count)) read.tables),
+          subst (λ (fs : List ColumnFunction). AreGroupsWithin folding.lines fs folding.table) (sym c.in_ok-shape.ensures.functions)
+              (table-within (grouping_places fields q) (functions_of fields q) folding.table (kept fields q (good_of fields ls)) folding.lines read.table (omega (arith, good, few, count))),
           (
             notes.0,
             (notes.1, tt),
@@ -54,13 +56,13 @@ returns c =
     let fields = fields_of_plan c.args.plan.now in
     let q = form_of_plan c.args.plan.now in
     let bytes = c.args.piece.now in
-    let folding = c.in_ok-tables.field-0 in
-    let read = c.in_ok-tables.ensures [] [] c.in_ok-folding.ensures in
+    let folding = c.in_ok-table.field-0 in
+    let read = c.in_ok-table.ensures [] [] c.in_ok-folding.ensures in
     record {
       stands = record {
         sets = c.in_ok-shape.ensures.sets;
         functions = c.in_ok-shape.ensures.functions;
-        tables = subst (λ (rows : List Row). AreTablesOf (sets_of fields q) (functions_of fields q) folding.tables (kept fields q rows)) (sym (records-more fields [] c.args.index bytes)) read.tables;
+        table = subst (λ (rows : List Row). IsTableOf (grouping_places fields q) (functions_of fields q) folding.table (kept fields q rows)) (sym (records-more fields [] c.args.index bytes)) read.table;
         lines = (let y = read.lines in let z = lines-more [] c.args.index bytes in omega (arith, y, z));
         refused = (let n = c.len-count.ensures in let y = ap length read.refused in let z = refused-more fields [] c.args.index bytes in omega (arith, n, y, z));
         notes = subst (λ (ns : List Noted). SameBag (map (note_of fields) (record { index = c.args.index; bytes = bytes } ∷ [])) ns)

@@ -5,38 +5,35 @@ use Rattle.std.proofs.lemmas.List.Elements.{All-append}
 use Rattle.groups.specs.Bags.{SameBag}
 use Rattle.groups.specs.Rows.{Row}
 use Rattle.query_check.specs.Functions.{functions_of}
-use Rattle.query_check.specs.Resolution.{contents}
-use Rattle.query_check.specs.Sets.{sets_of}
+use Rattle.query_check.specs.Sets.{grouping_places}
+use Rattle.query_check.specs.declared.function.ColumnFunction.{ColumnFunction}
+use Rattle.groups.specs.Inside.Table.{AreGroupsWithin, IsTableOf}
+use Rattle.groups.proofs.Meaning.{tables-within, within-can_join}
 use Rattle.tables.specs.Notes.{IsWellNumbered, Noted, lines_noted, note_in, note_of, notes_in}
 use Rattle.tables.specs.Pieces.{records_of}
 use Rattle.tables.specs.Partials.{StandsFor}
-use Rattle.tables.specs.Sets.{AreTablesOf}
 use Rattle.tables.specs.States.{PartialState}
 use Rattle.query_truth.specs.Kept.{kept}
 use Rattle.tables.proofs.Reading.{kept-append}
-use Rattle.tables.proofs.Merging.{all-can_join, all-joined_within, counted-append, lines-append, notes-append, records-append, refused-append, within-other}
+use Rattle.tables.proofs.Merging.{counted-append, lines-append, notes-append, records-append, refused-append}
 use Rattle.tables.proofs.partial.Partial.merge.Goals as goal
 
 pub absorb-requires : goal.absorb-requires
 absorb-requires c =
     let a = c.self.inside in
     let b = c.other.inside in
-    let sets : contents a.shape.sets.items ≡ contents b.shape.sets.items =
-    ap (λ (v : PartialState). v.sets) c.self.view_is ∙ c.requires.one_shape.sets ∙ sym (ap (λ (v : PartialState). v.sets) c.other.view_is) in
     let functions : a.shape.functions.items ≡ b.shape.functions.items =
     ap (λ (v : PartialState). v.functions) c.self.view_is ∙ c.requires.one_shape.functions ∙ sym (ap (λ (v : PartialState). v.functions) c.other.view_is) in
     let first : a.lines ≡ c.args.self.lines = ap (λ (v : PartialState). v.lines) c.self.view_is in
     let second : b.lines ≡ c.args.other.lines = ap (λ (v : PartialState). v.lines) c.other.view_is in
     let few : a.lines + b.lines < 2 ^ 63 = omega (arith, first, second, c.requires.few) in
-    all-can_join a.shape.functions.items a.lines b.lines (length a.shape.sets.items) a.tables b.tables few a.within
-    (within-other b.shape.functions.items a.shape.functions.items a.shape.sets.items b.shape.sets.items b.lines b.tables sets functions b.within)
+    within-can_join a.shape.functions.items a.lines b.lines a.table b.table few a.within
+    (subst (λ (fs : List ColumnFunction). AreGroupsWithin b.lines fs b.table) (sym functions) b.within)
 
 pub invariant_of-result : goal.invariant_of-result
 invariant_of-result c =
     let a = c.self.inside in
     let b = c.other.inside in
-    let sets : contents a.shape.sets.items ≡ contents b.shape.sets.items =
-    ap (λ (v : PartialState). v.sets) c.self.view_is ∙ c.requires.one_shape.sets ∙ sym (ap (λ (v : PartialState). v.sets) c.other.view_is) in
     let functions : a.shape.functions.items ≡ b.shape.functions.items =
     ap (λ (v : PartialState). v.functions) c.self.view_is ∙ c.requires.one_shape.functions ∙ sym (ap (λ (v : PartialState). v.functions) c.other.view_is) in
     let first : a.lines ≡ c.args.self.lines = ap (λ (v : PartialState). v.lines) c.self.view_is in
@@ -46,8 +43,8 @@ invariant_of-result c =
       (
         (let x = a.fewer in let y = b.fewer in omega (arith, x, y)),
         (
-          all-joined_within a.shape.functions.items a.lines b.lines (length a.shape.sets.items) a.tables b.tables c.absorb.new.self a.within
-              (within-other b.shape.functions.items a.shape.functions.items a.shape.sets.items b.shape.sets.items b.lines b.tables sets functions b.within)
+          tables-within a.shape.functions.items a.lines b.lines a.table b.table c.absorb.new.self a.within
+              (subst (λ (fs : List ColumnFunction). AreGroupsWithin b.lines fs b.table) (sym functions) b.within)
               c.in_ok-absorb.ensures.groups,
           (
             ap lines_noted joined ∙ counted-append (notes_in a.notes) (notes_in b.notes) a.lines b.lines a.counted b.counted,
@@ -67,8 +64,8 @@ returns-clause-stands c = λ fields q pieces more given other.
     record {
       sets = p.sets;
       functions = p.functions;
-      tables = subst (λ (rows : List Row). AreTablesOf (sets_of fields q) (functions_of fields q) c.absorb.new.self rows) (sym (ap (kept fields q) (records-append fields pieces more) ∙ kept-append fields q (records_of fields pieces) (records_of fields more)))
-          (c.in_ok-absorb.ensures.joined (sets_of fields q) (functions_of fields q) (kept fields q (records_of fields pieces)) (kept fields q (records_of fields more)) p.tables m.tables);
+      table = subst (λ (rows : List Row). IsTableOf (grouping_places fields q) (functions_of fields q) c.absorb.new.self rows) (sym (ap (kept fields q) (records-append fields pieces more) ∙ kept-append fields q (records_of fields pieces) (records_of fields more)))
+          (c.in_ok-absorb.ensures.joined (grouping_places fields q) (functions_of fields q) (kept fields q (records_of fields pieces)) (kept fields q (records_of fields more)) p.table m.table);
       lines = (let x = p.lines in let y = m.lines in let z = lines-append pieces more in omega (arith, x, y, z));
       refused = (let x = p.refused in let y = m.refused in let z = refused-append fields pieces more in omega (arith, x, y, z));
       notes = subst (λ (ns : List Noted). SameBag (map (note_of fields) (pieces ++ more)) ns) (sym joined) (notes-append fields pieces more (notes_in a.notes) (notes_in b.notes) p.notes m.notes);

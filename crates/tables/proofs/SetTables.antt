@@ -1,0 +1,199 @@
+-- Tables of grouping sets, rolled out of one another.
+use Rattle.std.proofs.Common.{◌≡◌, ◌≢◌, ◌==◌, ◌<◌, ◌≤◌, ◌^◌, ℕ, zero, suc, Bool, true, false, ◌||◌, not, cond, List, [], ◌∷◌, ◌++◌, All, Vec, Global, length, map, filter, slice_index_or, get_or, nat_eq, nat_lt, refl, sym, ap, subst, ◌∙◌, arith, append_assoc}
+use Rattle.std.proofs.lemmas.Bool.Decides.{Decides-eqb}
+use Rattle.std.proofs.lemmas.List.Elements.{All-from_recursion, All-map, recursion_from_All}
+use Rattle.std.proofs.lemmas.Slice.Eq.{slice_eq-Decides}
+use Rattle.std.specs.Bool.{Decides}
+use Rattle.std.specs.Cmp.Lexicographic.{pointwise}
+use Rattle.std.specs.List.{AllByRecursion, list_any, remove}
+use Rattle.std.specs.List.Sorted.{IsPermutation}
+use Rattle.values.specs.Schema.{Field}
+use Rattle.query_tree.specs.Syntax.{TreeForm}
+use Rattle.query_check.specs.declared.function.ColumnFunction.{ColumnFunction}
+use Rattle.query_check.specs.Columns.{places_of}
+use Rattle.query_check.specs.Resolution.{contents}
+use Rattle.query_check.specs.Sets.{expanded, grouping_places, ordered_set, sets_of}
+use Rattle.groups.specs.declared.group.Group.{Group}
+use Rattle.groups.specs.Rolled.{AreAmong}
+use Rattle.groups.specs.Rows.{Row}
+use Rattle.groups.specs.Inside.Table.{IsTableOf}
+use Rattle.tables.specs.declared.rolling.SetTable.{SetTable}
+use Rattle.tables.specs.SetTables.{AreOfFew, AreTablesOf, HasFiner, IsMade}
+use Rattle.tables.specs.Sets.{AreGroupsOf, AreGroupsOfSet}
+use Rattle.tables.proofs.Bags.{all-everywhere, all-filter, all-map}
+
+-- ---- columns that are among others
+
+there : (n : ℕ) → (n == n) ≡ true
+there n = grind arith
+
+or-true : (b : Bool) → (b || true) ≡ true
+or-true true = refl
+or-true false = refl
+
+one-among : (front rest : List ℕ) (place : ℕ) → list_any (λ p. p == place) (front ++ place ∷ rest) ≡ true
+one-among [] rest place = ap (λ b. b || list_any (λ p. p == place) rest) (there place)
+one-among (x ∷ front) rest place = ap (λ b. (x == place) || b) (one-among front rest place) ∙ or-true (x == place)
+
+rest-among : (front rest : List ℕ) → AllByRecursion (λ place. list_any (λ p. p == place) (front ++ rest) ≡ true) rest
+rest-among front [] = tt
+rest-among front (place ∷ rest) = (
+  one-among front rest place,
+  subst (λ (all : List ℕ). AllByRecursion (λ p. list_any (λ r. r == p) all ≡ true) rest) (append_assoc front (place ∷ []) rest) (rest-among (front ++ place ∷ []) rest),
+)
+
+pub among-self : (set : List ℕ) → AreAmong set set
+among-self set = rest-among [] set
+
+-- each grouping set is of grouping columns
+pub sets-among : (fields : List Field) (q : TreeForm) → All (λ set. AreAmong set (grouping_places fields q)) (sets_of fields q)
+sets-among fields q =
+    let grouping = grouping_places fields q in
+    let set_of_names : List (List ℕ) → List ℕ = λ names. ordered_set grouping (places_of fields names) in
+    All-from_recursion (λ set. AreAmong set grouping) (sets_of fields q)
+    (all-map (λ set. AreAmong set grouping) set_of_names (expanded q.groups)
+    (all-everywhere (λ names. AreAmong (set_of_names names) grouping) (expanded q.groups)
+    (λ names. all-filter (λ place. list_any (λ p. p == place) grouping ≡ true) (λ c. list_any (λ p. p == c) (places_of fields names)) grouping (among-self grouping))))
+
+-- ---- sets that are the same
+
+same-Decides : (set other : List ℕ) (b : Bool) → b ≡ pointwise nat_eq set other → Decides b (set ≡ other)
+same-Decides set other b e = slice_eq-Decides Decides-eqb set other b e
+
+or-false : (a b : Bool) → (a || b) ≡ false → (a ≡ false) × (b ≡ false)
+or-false true b h = cc
+or-false false b h = (refl, h)
+
+-- a set that none of a list is the same as is none of it
+not-any : (sets : List (Vec ℕ Global)) (set : List ℕ) → list_any (λ (other : Vec ℕ Global). pointwise nat_eq other.items set) sets ≡ false
+    → AllByRecursion (λ (other : Vec ℕ Global). other.items ≢ set) sets
+not-any [] set h = tt
+not-any (other ∷ sets) set h =
+    let both = or-false (pointwise nat_eq other.items set) (list_any (λ (o : Vec ℕ Global). pointwise nat_eq o.items set) sets) h in
+    (λ e. cc (sym both.0 ∙ (same-Decides other.items set (pointwise nat_eq other.items set) refl).1 e), not-any sets set both.1)
+
+pub none-same : (sets : List (Vec ℕ Global)) (set : List ℕ) (b : Bool) → b ≡ list_any (λ (other : Vec ℕ Global). pointwise nat_eq other.items set) sets → b ≡ false
+    → All (λ (other : Vec ℕ Global). other.items ≢ set) sets
+none-same sets set b e h = All-from_recursion (λ (other : Vec ℕ Global). other.items ≢ set) sets (not-any sets set (sym e ∙ h))
+
+pub not-true : (b : Bool) → not b ≡ true → b ≡ false
+not-true true h = cc
+not-true false h = refl
+
+-- ---- sets of the code, and their columns
+
+from-contents : (P : List ℕ → Type 0) (sets : List (Vec ℕ Global)) → AllByRecursion P (contents sets) → AllByRecursion (λ (set : Vec ℕ Global). P set.items) sets
+from-contents P [] h = tt
+from-contents P (set ∷ sets) h = (h.0, from-contents P sets h.1)
+
+pub all-from_contents : (P : List ℕ → Type 0) (sets : List (Vec ℕ Global)) → All P (contents sets) → All (λ (set : Vec ℕ Global). P set.items) sets
+all-from_contents P sets h = All-from_recursion (λ (set : Vec ℕ Global). P set.items) sets (from-contents P sets (recursion_from_All P (contents sets) h))
+
+pub all-contents : (P : List ℕ → Type 0) (sets : List (Vec ℕ Global)) → All (λ (set : Vec ℕ Global). P set.items) sets → All P (contents sets)
+all-contents P sets h = All-map P (λ (set : Vec ℕ Global). set.items) sets h
+
+-- ---- tables that are there
+
+pub under : (m n : ℕ) → (n ≤ m → ⊥) → m < n
+under m n h = elim (nat_lt m n) as (λ b. nat_lt m n ≡ b → m < n) [
+  | true ↦ λ e. grind (arith, e)
+  | false ↦ λ e. absurd (h (grind (arith, e)))
+] refl
+
+below : (m n : ℕ) → m ≤ n → (m ≡ n → ⊥) → m < n
+below m n le different = elim (m == n) as (λ b. (m == n) ≡ b → m < n) [
+  | true ↦ λ e. absurd (different (grind (arith, e)))
+  | false ↦ λ e. grind (arith, e, le)
+] refl
+
+-- where the table of a set is there, its place is one of a table
+pub placed : (set : List ℕ) (tables : List SetTable) (place : ℕ) → place ≤ length tables
+    → (place ≡ length tables → All (λ (table : SetTable). table.set.items ≢ set) tables) → IsMade set tables → place < length tables
+placed set tables place le none made = below place (length tables) le (λ e. made (none e))
+
+firsts : {X : Type 0} (P : X → Type 0) (xs ys : List X) → AllByRecursion P (xs ++ ys) → AllByRecursion P xs
+firsts P [] ys h = tt
+firsts P (x ∷ xs) ys h = (h.0, firsts P xs ys h.1)
+
+last : {X : Type 0} (P : X → Type 0) (xs : List X) (x : X) → AllByRecursion P (xs ++ x ∷ []) → P x
+last P [] x h = h.0
+last P (y ∷ xs) x h = last P xs x h.1
+
+-- where a table comes to others, those that are there stay
+pub made-others : (set : List ℕ) (tables : List SetTable) (table : SetTable) → IsMade set tables → IsMade set (tables ++ table ∷ [])
+made-others set tables table made h =
+    let P : SetTable → Type 0 = λ x. x.set.items ≢ set in
+    made (All-from_recursion P tables (firsts P tables (table ∷ []) (recursion_from_All P (tables ++ table ∷ []) h)))
+
+-- and it is there
+pub made-last : (set : List ℕ) (tables : List SetTable) (table : SetTable) → table.set.items ≡ set → IsMade set (tables ++ table ∷ [])
+made-last set tables table e h =
+    let P : SetTable → Type 0 = λ x. x.set.items ≢ set in
+    last P tables table (recursion_from_All P (tables ++ table ∷ []) h) e
+
+-- where all but one are so, and that one is, all are
+around : {X : Type 0} (P : X → Type 0) (xs : List X) (i : ℕ) → AllByRecursion P (remove xs i) → ((d : X) → P (slice_index_or xs i d)) → AllByRecursion P xs
+around P [] i h p = tt
+around P (x ∷ xs) zero h p = (p x, h)
+around P (x ∷ xs) (suc i) h p = (h.0, around P xs i h.1 p)
+
+-- where the table of a set goes, those of other sets stay
+pub made-left : (set other : List ℕ) (tables : List SetTable) (i : ℕ) → ((d : SetTable) → (slice_index_or tables i d).set.items ≡ set) → other ≢ set
+    → IsMade other tables → IsMade other (remove tables i)
+made-left set other tables i at different made h =
+    let P : SetTable → Type 0 = λ x. x.set.items ≢ other in
+    made (All-from_recursion P tables (around P tables i (recursion_from_All P (remove tables i) h) (λ d e. different (sym e ∙ at d))))
+
+others-left : {X : Type 0} (P : X → Type 0) (xs : List X) (i : ℕ) → AllByRecursion P xs → AllByRecursion P (remove xs i)
+others-left P [] zero h = tt
+others-left P [] (suc i) h = tt
+others-left P (x ∷ xs) zero h = h.1
+others-left P (x ∷ xs) (suc i) h = (h.0, others-left P xs i h.1)
+
+-- tables of the records, but for one, are such tables
+pub tables-left : (fs : List ColumnFunction) (tables : List SetTable) (i : ℕ) (rows : List Row) → AreTablesOf fs tables rows → AreTablesOf fs (remove tables i) rows
+tables-left fs tables i rows h =
+    let P : SetTable → Type 0 = λ table. IsTableOf table.set.items fs table.table rows in
+    All-from_recursion P (remove tables i) (others-left P tables i (recursion_from_All P tables h))
+
+-- ---- a table that has the columns of a set
+
+-- where the table of all grouping columns is there, each set of such columns has one
+pub finer-there : (set grouping : List ℕ) (tables : List SetTable) → AreAmong set grouping → IsMade grouping tables → HasFiner set tables
+finer-there set grouping tables among made h = made (λ k d l e. h k d l (subst (AreAmong set) (sym e) among))
+
+-- ---- the groups of the sets so far
+
+pub groups-more : (sets : List (List ℕ)) (fs : List ColumnFunction) (groups : List (Vec Group Global)) (rows : List Row) (set : List ℕ) (more : Vec Group Global)
+    → AreGroupsOf sets fs groups rows → AreGroupsOfSet set fs more.items rows → AreGroupsOf (sets ++ set ∷ []) fs (groups ++ more ∷ []) rows
+groups-more [] fs [] rows set more h g = (g, tt)
+groups-more [] fs (x ∷ groups) rows set more h g = absurd h
+groups-more (s ∷ sets) fs [] rows set more h g = absurd h
+groups-more (s ∷ sets) fs (x ∷ groups) rows set more h g = (h.0, groups-more sets fs groups rows set more h.1 g)
+
+-- ---- a table at its place
+
+-- where the table of a set is there, it stands at the place that is found
+pub placed-at : (set : List ℕ) (tables found : List SetTable) (place : ℕ) → found ≡ tables → place ≤ length found
+    → (place < length found → (d : SetTable) → (slice_index_or found place d).set.items ≡ set)
+    → (place ≡ length found → All (λ (table : SetTable). table.set.items ≢ set) found) → IsMade set tables
+    → (place < length tables) × ((d : SetTable) → (slice_index_or tables place d).set.items ≡ set)
+placed-at set tables found place e within there none made =
+    let lt : place < length found = placed set found place within none (subst (IsMade set) (sym e) made) in
+    subst (λ (ts : List SetTable). (place < length ts) × ((d : SetTable) → (slice_index_or ts place d).set.items ≡ set)) e (lt, there lt)
+
+-- a table of the records, by its own set
+pub table-at : (fs : List ColumnFunction) (tables : List SetTable) (place : ℕ) (item : SetTable) (rows : List Row) → place < length tables → item ≡ get_or tables place item
+    → AreTablesOf fs tables rows → IsTableOf item.set.items fs item.table rows
+table-at fs tables place item rows lt is h = subst (λ (t : SetTable). IsTableOf t.set.items fs t.table rows) (sym is) (h place item lt)
+
+-- the same by the set for which it stands there
+pub table-of : (fs : List ColumnFunction) (tables : List SetTable) (place : ℕ) (item : SetTable) (set : List ℕ) (rows : List Row) → place < length tables → item ≡ get_or tables place item
+    → ((d : SetTable) → (slice_index_or tables place d).set.items ≡ set) → AreTablesOf fs tables rows → IsTableOf set fs item.table rows
+table-of fs tables place item set rows lt is at h =
+    subst (λ (s : List ℕ). IsTableOf s fs item.table rows) (ap (λ (t : SetTable). t.set.items) is ∙ at item) (table-at fs tables place item rows lt is h)
+
+-- ---- sets in another order
+
+pub permuted : (xs ys zs : List (List ℕ)) → xs ≡ ys → IsPermutation xs zs → IsPermutation ys zs
+permuted xs ys zs e p = subst (λ (ls : List (List ℕ)). IsPermutation ls zs) e p

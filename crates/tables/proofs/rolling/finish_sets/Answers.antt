@@ -1,0 +1,53 @@
+use Rattle.std.proofs.Common.{All, ◌≡◌, ◌+◌, ◌++◌, ◌∷◌, [], drop, take, slice_index_or, length, ◌-◌, ◌≢◌, List, Vec, Global, ℕ, sym, ap, subst, ◌∙◌, arith}
+use Rattle.std.proofs.Math.Logic.{∥∥₁_map}
+use Rattle.std.proofs.lemmas.List.{drop_more, length-drop, map-append, take_all, take_more}
+use Rattle.std.proofs.lemmas.List.Elements.{All-head, All-tail}
+use Rattle.groups.specs.declared.group.Group.{Group}
+use Rattle.groups.specs.Inside.Table.{IsTableOf}
+use Rattle.query_check.specs.Resolution.{contents}
+use Rattle.tables.specs.Sets.{AreGroupsOf}
+use Rattle.tables.specs.SetTables.{AreTablesOf, IsMade}
+use Rattle.tables.proofs.SetTables.{groups-more, none-same, not-true}
+use Rattle.tables.proofs.rolling.finish_sets.Goals as goal
+
+pub take_table-requires-clause-few : goal.take_table-requires-clause-few
+take_table-requires-clause-few c = ∥∥₁_map c.requires.few (λ p. record { rows = p.rows; are_tables = c.loop-index.invariant.tables p.rows p.are_tables; few = p.few })
+
+pub take_table-requires-clause-made : goal.take_table-requires-clause-made
+take_table-requires-clause-made c =
+    let sets = c.args.sets.now in
+    let i = c.loop-index.index in
+    let item = c.index-sets-index.result in
+    let P : Vec ℕ Global → Type 0 = λ set. IsMade set.items c.loop-index.tables.items in
+    let left : drop i sets ≡ item ∷ drop (i + 1) sets = drop_more sets i item c.loop-index-test.true ∙ ap (λ (set : Vec ℕ Global). set ∷ drop (i + 1) sets) (sym c.index-sets-index.is) in
+    subst (λ set. IsMade set c.loop-index.tables.items) (sym c.as_slice-set.ensures.value)
+    (All-head P item (drop (i + 1) sets) (subst (All P) left c.loop-index.invariant.made))
+
+pub loop-index-preserved : goal.loop-index-preserved
+loop-index-preserved c =
+    let sets = c.args.sets.now in
+    let fs = c.args.functions.now in
+    let i = c.loop-index.index in
+    let item = c.index-sets-index.result in
+    let old = c.loop-index.tables.items in
+    let new = c.take_table.new.tables.items in
+    let groups = c.loop-index.groups.items in
+    let P : Vec ℕ Global → Type 0 = λ set. IsMade set.items old in
+    let left : drop i sets ≡ item ∷ drop (i + 1) sets = drop_more sets i item c.loop-index-test.true ∙ ap (λ (set : Vec ℕ Global). set ∷ drop (i + 1) sets) (sym c.index-sets-index.is) in
+    let seen : contents (take (i + 1) sets) ≡ contents (take i sets) ++ item.items ∷ [] =
+    ap contents (take_more sets i item c.loop-index-test.true ∙ ap (λ (set : Vec ℕ Global). take i sets ++ set ∷ []) (sym c.index-sets-index.is)) ∙ map-append (λ (set : Vec ℕ Global). set.items) (take i sets) (item ∷ []) in
+    let slice : take (length sets - (i + 1)) (drop (i + 1) sets) ≡ drop (i + 1) sets = take_all (length sets - (i + 1)) (drop (i + 1) sets) (omega (arith, length-drop (i + 1) sets)) in
+    let rest = All-tail P item (drop (i + 1) sets) (subst (All P) left c.loop-index.invariant.made) in
+    record {
+      tables = λ rows h. c.in_ok-table.ensures.tables rows (c.loop-index.invariant.tables rows h);
+      groups = λ rows h.
+          let table = c.in_ok-table.ensures.table rows (c.loop-index.invariant.tables rows h) in
+          subst (λ sets. AreGroupsOf sets fs c.push.new.self.items rows) (sym seen)
+          (subst (λ (gs : List (Vec Group Global)). AreGroupsOf (contents (take i sets) ++ item.items ∷ []) fs gs rows) (sym c.in_ok-push.ensures.items)
+          (groups-more (contents (take i sets)) fs groups rows item.items c.in_ok-finish.field-0 (c.loop-index.invariant.groups rows h)
+          (c.in_ok-finish.ensures.groups item.items fs rows (subst (λ set. IsTableOf set fs c.in_ok-table.table rows) c.as_slice-set.ensures.value table))));
+      made = λ k d l. c.in_ok-table.ensures.others (slice_index_or (drop (i + 1) sets) k d).items
+          (λ last. subst (All (λ (other : Vec ℕ Global). other.items ≢ c.as_slice-set.result.now)) slice
+          (none-same (take (length sets - (i + 1)) (drop (i + 1) sets)) c.as_slice-set.result.now c.stands_in-is_last.result c.stands_in-is_last.ensures (not-true c.stands_in-is_last.result last)) k d l)
+          (rest k d l);
+    }

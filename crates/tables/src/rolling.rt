@@ -1,0 +1,222 @@
+//! The groups of each grouping set, rolled out of the table of all grouping columns.
+ghost use Rattle.std.specs.Prelude.{◌≡◌, ◌≢◌, ◌≤◌, ◌<◌, ◌↔◌, true, false, ℕ, nat_eq, All, IfOk, OnOk, IsTrue, List, length, slice_index_or};
+ghost use Rattle.std.specs.Cmp.Lexicographic.{pointwise};
+ghost use Rattle.std.specs.List.{list_any};
+ghost use Rattle.std.specs.List.Sorted.{IsPermutation};
+ghost use Rattle.query_check.specs.declared.function.ColumnFunction.{ColumnFunction};
+ghost use Rattle.query_check.specs.Resolution.{contents};
+ghost use Rattle.groups.specs.Rows.{Row};
+ghost use Rattle.groups.specs.Rolled.{AreAmong};
+ghost use Rattle.groups.specs.Inside.Table.{IsOfFew, IsTableOf};
+ghost use Rattle.tables.specs.SetTables.{AreOfFew, AreTablesOf, HasFiner, IsMade};
+ghost use Rattle.tables.specs.Sets.{AreGroupsOf};
+
+use crate::shape::copied_sets;
+use groups::{Group, Table};
+use query_plan::ColumnFunction;
+use std::alloc::{AllocError, Global};
+
+/// The table of a grouping set.
+#[derive(Debug, Drop)]
+struct SetTable {
+    /// The places of its columns.
+    set: Vec<usize>,
+    table: Table,
+}
+
+/// The groups of each grouping set of a list, in the order of the list; those of one set in no order that is said.
+///
+/// They are made of the table of all grouping columns, among which the columns of each set are.
+pub(crate) fn groups_of_sets(
+    alloc: Global,
+    grouping: &[usize],
+    sets: &[Vec<usize>],
+    functions: &[ColumnFunction],
+    finest: Table,
+) -> Result<Vec<Vec<Group>>, AllocError>
+    requires among { All (λ set. AreAmong set grouping.now) (contents sets.now) }
+    requires few { ∥ IsOfFew grouping.now functions.now finest ∥₁ }
+    ensures { IfOk result (λ groups. (rows : List Row) → IsTableOf grouping.now functions.now finest rows
+        → AreGroupsOf (contents sets.now) functions.now groups.items rows) }
+{
+    let order = longest_first(alloc, sets)?;
+    let tables = tables_of_sets(alloc, grouping, order.as_slice(), functions, finest)?;
+    finish_sets(alloc, sets, functions, tables)
+}
+
+/// A table for each different set of a list, and the one of all grouping columns.
+fn tables_of_sets(
+    alloc: Global,
+    grouping: &[usize],
+    sets: &[Vec<usize>],
+    functions: &[ColumnFunction],
+    finest: Table,
+) -> Result<Vec<SetTable>, AllocError>
+    requires among { All (λ set. AreAmong set.items grouping.now) sets.now }
+    requires few { ∥ IsOfFew grouping.now functions.now finest ∥₁ }
+    ensures tables { IfOk result (λ tables. (rows : List Row) → IsTableOf grouping.now functions.now finest rows
+        → AreTablesOf functions.now tables.items rows) }
+    ensures sets { IfOk result (λ tables. All (λ set. IsMade set.items tables.items) sets.now) }
+{
+    let mut tables = first_table(alloc, grouping, finest)?;
+    for set in sets {
+        roll_set(alloc, &mut tables, set.as_slice(), functions)?;
+    }
+    Ok(tables)
+}
+
+/// The table of all grouping columns alone.
+fn first_table(
+    alloc: Global,
+    grouping: &[usize],
+    finest: Table,
+) -> Result<Vec<SetTable>, AllocError>
+    ensures made { IfOk result (λ tables. IsMade grouping.now tables.items) }
+    ensures tables { IfOk result (λ tables. (functions : List ColumnFunction) (rows : List Row)
+        → IsTableOf grouping.now functions finest rows → AreTablesOf functions tables.items rows) }
+{
+    let set = Vec::from_slice(alloc, grouping)?;
+    let mut tables = Vec::with_capacity(alloc, 1)?;
+    tables.push(SetTable { set, table: finest })?;
+    Ok(tables)
+}
+
+/// The sets, those of more columns before those of fewer, so that each comes after those that it can be rolled out of.
+fn longest_first(alloc: Global, sets: &[Vec<usize>]) -> Result<Vec<Vec<usize>>, AllocError>
+    ensures { IfOk result (λ order. IsPermutation (contents sets.now) (contents order.items)) }
+{
+    let mut order = copied_sets(alloc, sets)?;
+    order.sort_unstable_by_key(|set| usize::MAX - set.len());
+    Ok(order)
+}
+
+/// Makes the table of a set where it is not there, out of the one with the fewest groups that has its columns. After an
+/// error the tables are of no use.
+fn roll_set(
+    alloc: Global,
+    tables: &mut Vec<SetTable>,
+    set: &[usize],
+    functions: &[ColumnFunction],
+) -> Result<(), AllocError>
+    requires few { ∥ AreOfFew functions.now tables.old.items ∥₁ }
+    requires finer { HasFiner set.now tables.old.items }
+    ensures tables { OnOk result ((rows : List Row) → AreTablesOf functions.now tables.old.items rows → AreTablesOf functions.now tables.new.items rows) }
+    ensures made { OnOk result (IsMade set.now tables.new.items) }
+    ensures others { OnOk result ((other : List ℕ) → IsMade other tables.old.items → IsMade other tables.new.items) }
+{
+    if place_of(tables.as_slice(), set) < tables.len() {
+        return Ok(());
+    }
+    let finer = &tables[place_of_finer(tables.as_slice(), set)];
+    let table = finer.table.roll(finer.set.as_slice(), set, functions)?;
+    let set = Vec::from_slice(alloc, set)?;
+    tables.push(SetTable { set, table })?;
+    Ok(())
+}
+
+/// Where the table of a set stands, and the number of the tables where there is none.
+fn place_of(tables: &[SetTable], set: &[usize]) -> usize
+    ensures within { result ≤ length tables.now }
+    ensures there { result < length tables.now → (other : SetTable) → (slice_index_or tables.now result other).set.items ≡ set.now }
+    ensures none { result ≡ length tables.now → All (λ (table : SetTable). table.set.items ≢ set.now) tables.now }
+{
+    for place in 0..tables.len() {
+        if is_same(tables[place].set.as_slice(), set) {
+            return place;
+        }
+    }
+    tables.len()
+}
+
+/// Where the table stands that has the fewest groups of those whose set has all columns of a set.
+fn place_of_finer(tables: &[SetTable], set: &[usize]) -> usize
+    requires finer { HasFiner set.now tables.now }
+    ensures within { result < length tables.now }
+    ensures finer { (other : SetTable) → AreAmong set.now (slice_index_or tables.now result other).set.items }
+{
+    let mut finer = tables.len();
+    for place in 0..tables.len() {
+        if has_columns(tables[place].set.as_slice(), set) && is_smaller(tables, place, finer) {
+            finer = place;
+        }
+    }
+    finer
+}
+
+/// Whether one table has fewer groups than another one, by their places, or there is no such other one.
+fn is_smaller(tables: &[SetTable], place: usize, other: usize) -> bool
+    requires { place < length tables.now }
+    ensures { length tables.now ≤ other → result ≡ true }
+{
+    match tables.get(other) {
+        Some(other) => tables[place].table.len() < other.table.len(),
+        None => true,
+    }
+}
+
+/// Whether a set has all columns of another one.
+fn has_columns(finer: &[usize], set: &[usize]) -> bool
+    ensures { IsTrue result ↔ AreAmong set.now finer.now }
+{
+    set.iter().all(|place| finer.contains(place))
+}
+
+/// Whether two sets have the same columns in the same order.
+fn is_same(set: &[usize], other: &[usize]) -> bool
+    ensures { IsTrue result ↔ (set.now ≡ other.now) }
+{
+    set == other
+}
+
+/// The groups of each set, whose tables are there.
+fn finish_sets(
+    alloc: Global,
+    sets: &[Vec<usize>],
+    functions: &[ColumnFunction],
+    tables: Vec<SetTable>,
+) -> Result<Vec<Vec<Group>>, AllocError>
+    requires few { ∥ AreOfFew functions.now tables.items ∥₁ }
+    requires made { All (λ set. IsMade set.items tables.items) sets.now }
+    ensures { IfOk result (λ groups. (rows : List Row) → AreTablesOf functions.now tables.items rows
+        → AreGroupsOf (contents sets.now) functions.now groups.items rows) }
+{
+    let mut tables = tables;
+    let mut groups = Vec::with_capacity(alloc, sets.len())?;
+    for index in 0..sets.len() {
+        let set = sets[index].as_slice();
+        let is_last = !stands_in(&sets[index + 1..], set);
+        let table = take_table(&mut tables, set, functions, is_last)?;
+        groups.push(table.finish()?)?;
+    }
+    Ok(groups)
+}
+
+/// Whether a set is one of a list.
+fn stands_in(sets: &[Vec<usize>], set: &[usize]) -> bool
+    ensures { result ≡ list_any (λ other. pointwise nat_eq other.items set.now) sets.now }
+{
+    sets.iter().any(|other| other.as_slice() == set)
+}
+
+/// The table of a set, which is there. It goes where the set does not come again, and else it is copied. After an
+/// error the tables are of no use.
+fn take_table(
+    tables: &mut Vec<SetTable>,
+    set: &[usize],
+    functions: &[ColumnFunction],
+    is_last: bool,
+) -> Result<Table, AllocError>
+    requires few { ∥ AreOfFew functions.now tables.old.items ∥₁ }
+    requires made { IsMade set.now tables.old.items }
+    ensures table { IfOk result (λ table. (rows : List Row) → AreTablesOf functions.now tables.old.items rows → IsTableOf set.now functions.now table rows) }
+    ensures tables { OnOk result ((rows : List Row) → AreTablesOf functions.now tables.old.items rows → AreTablesOf functions.now tables.new.items rows) }
+    ensures others { OnOk result ((other : List ℕ) → (is_last ≡ true → other ≢ set.now) → IsMade other tables.old.items → IsMade other tables.new.items) }
+{
+    let place = place_of(tables.as_slice(), set);
+    if is_last {
+        let SetTable { table, .. } = tables.remove(place);
+        return Ok(table);
+    }
+    let copied = &tables[place];
+    copied.table.roll(set, set, functions)
+}
