@@ -11,7 +11,7 @@ use Rattle.pool.specs.declared.view.Task.{Task}
 use Rattle.pool.specs.declared.view.Task.TheVariants.{Number, End}
 use Rattle.pool.specs.Dealing.{State, state, begin, put, take_first, step, after, times, AllAbove, Ascends}
 use Rattle.pool.specs.Totals.{sum_below}
-use Rattle.pool.specs.Rule.{view_of, blank, tasks, pieces, total, held, Theirs, Seated, Fits, Kept, Dealt, Had, given, front, rest, TakenFrom, AllAscend, UpTo, lent_view, giving_view, given_view, Up, Apart}
+use Rattle.pool.specs.Rule.{view_of, blank, tasks, pieces, total, held, Theirs, Seated, Fits, DealtBy, Dealt, Had, given, front, rest, TakenFrom, AllAscend, UpTo, lent_view, giving_view, given_view, Up, Apart}
 
 -- Lists
 
@@ -202,13 +202,13 @@ fills port v x may none opened seated items views h at =
     let boss = h.5 in
     let made = h.6 in
     let ends = h.7 in
-    let kept = h.8 in
-    let mine = kept.each port v at in
+    let facts = h.8 in
+    let mine = facts.each port v at in
     let lone = mine.alone may in
     let w : View = view_of v.filling v.owner v.ends v.made (v.numbers ++ x ∷ []) v.known v.closed in
-    let start : state numbers (λ _. []) ≡ state left lists = subst (λ s. after s (begin numbers) ≡ state left lists) lone.1 kept.reached in
-    let no_ends : ends ≡ 0 = sym kept.owed ∙ lone_total (λ u. u.ends) views port v lone.0 at ∙ none in
-    let lies : items ++ Number x ∷ [] ≡ tasks (left ++ x ∷ []) ends = ap (λ l. l ++ Number x ∷ []) kept.lie ∙ subst (λ e. tasks left e ++ Number x ∷ [] ≡ tasks (left ++ x ∷ []) e) (sym no_ends) (tasks_more left x) in
+    let start : state numbers (λ _. []) ≡ state left lists = subst (λ s. after s (begin numbers) ≡ state left lists) lone.1 facts.reached in
+    let no_ends : ends ≡ 0 = sym facts.owed ∙ lone_total (λ u. u.ends) views port v lone.0 at ∙ none in
+    let lies : items ++ Number x ∷ [] ≡ tasks (left ++ x ∷ []) ends = ap (λ l. l ++ Number x ∷ []) facts.lie ∙ subst (λ e. tasks left e ++ Number x ∷ [] ≡ tasks (left ++ x ∷ []) e) (sym no_ends) (tasks_more left x) in
     let len : length (set views port w) ≡ length views = length-set views port w in (
       w,
       (
@@ -223,9 +223,9 @@ fills port v x may none opened seated items views h at =
         record {
           lie = lies;
           reached = subst (λ s. after s (begin (numbers ++ x ∷ [])) ≡ state (left ++ x ∷ []) lists) (sym lone.1) (ap (λ (s : State). state (s.deque ++ x ∷ []) s.lists) start);
-          account = λ y. (let a = kept.account y in omega (arith, times-append y left (x ∷ []), times-append y numbers (x ∷ [])));
-          owed = (let s = total_set (λ u. u.ends) views port v w at in let a = kept.owed in omega arith);
-          unmade = kept.unmade;
+          account = λ y. (let a = facts.account y in omega (arith, times-append y left (x ∷ []), times-append y numbers (x ∷ [])));
+          owed = (let s = total_set (λ u. u.ends) views port v w at in let a = facts.owed in omega arith);
+          unmade = facts.unmade;
           each = subst (λ n. Each (Fits (numbers ++ x ∷ []) schedule (left ++ x ∷ []) lists seat boss made n) (set views port w)) (sym len)
               (each_set (Fits (numbers ++ x ∷ []) schedule (left ++ x ∷ []) lists seat boss made (length views)) views port w
               record { same = λ p. ap (λ l. l ++ x ∷ []) (mine.same p); theirs = mine.theirs; owns = mine.owns; alone = mine.alone; ended = λ e. absurd (true≢false (sym e ∙ opened)) }
@@ -245,8 +245,8 @@ marks port v items views h at =
     let boss = h.5 in
     let made = h.6 in
     let ends = h.7 in
-    let kept = h.8 in
-    let mine = kept.each port v at in
+    let facts = h.8 in
+    let mine = facts.each port v at in
     let w : View = view_of v.filling v.owner (v.ends + 1) v.made v.numbers v.known v.closed in
     let len : length (set views port w) ≡ length views = length-set views port w in (
       w,
@@ -260,15 +260,15 @@ marks port v items views h at =
         made,
         suc ends,
         record {
-          lie = ap (λ l. l ++ End ∷ []) kept.lie ∙ tasks_end left ends;
-          reached = kept.reached;
-          account = kept.account;
-          owed = (let s = total_set (λ u. u.ends) views port v w at in let a = kept.owed in omega arith);
-          unmade = kept.unmade;
+          lie = ap (λ l. l ++ End ∷ []) facts.lie ∙ tasks_end left ends;
+          reached = facts.reached;
+          account = facts.account;
+          owed = (let s = total_set (λ u. u.ends) views port v w at in let a = facts.owed in omega arith);
+          unmade = facts.unmade;
           each = subst (λ n. Each (Fits numbers schedule left lists seat boss made n) (set views port w)) (sym len)
               (each_set (Fits numbers schedule left lists seat boss made (length views)) views port w
               record { same = mine.same; theirs = mine.theirs; owns = mine.owns; alone = mine.alone; ended = mine.ended }
-              (λ j u other e. kept.each j u e));
+              (λ j u other e. facts.each j u e));
         },
       ),
       refl,
@@ -276,11 +276,11 @@ marks port v items views h at =
 
 module _ (port : ℕ) (v : View) (hand : ℕ) (list : List ℕ) (is : v.known ≡ (hand, list) ∷ []) (not_filling : v.filling ≡ false) (owed : 0 < v.ends)
     (items : List Task) (views : List View) (numbers schedule : List ℕ) (lists : ℕ → List ℕ) (seat : ℕ → ℕ) (boss made : ℕ) (at : get_elem? views port ≡ some v) where
-  takes_number : (x : ℕ) (xs : List ℕ) (ends : ℕ) → Kept (Number x ∷ items) views numbers schedule (x ∷ xs) lists seat boss made ends → items ≡ tasks xs ends
+  takes_number : (x : ℕ) (xs : List ℕ) (ends : ℕ) → DealtBy (Number x ∷ items) views numbers schedule (x ∷ xs) lists seat boss made ends → items ≡ tasks xs ends
       → (w : View) × Dealt items (set views port w) × TakenFrom v (Number x ∷ []) w
-  takes_number x xs ends kept lies =
-      let mine = kept.each port v at in
-      let opened : (u : View) (j : ℕ) → get_elem? views j ≡ some u → u.closed ≡ false = λ u j e. ⊎_elim (λ (c : u.closed ≡ true). let none : x ∷ xs ≡ [] = (kept.each j u e).ended c in cc) (λ (c : u.closed ≡ false). c) (cases_Bool u.closed) in
+  takes_number x xs ends facts lies =
+      let mine = facts.each port v at in
+      let opened : (u : View) (j : ℕ) → get_elem? views j ≡ some u → u.closed ≡ false = λ u j e. ⊎_elim (λ (c : u.closed ≡ true). let none : x ∷ xs ≡ [] = (facts.each j u e).ended c in cc) (λ (c : u.closed ≡ false). c) (cases_Bool u.closed) in
       let t : Theirs seat lists made port ((hand, list) ∷ []) = subst (Theirs seat lists made port) is mine.theirs in
       let w : View = view_of v.filling v.owner v.ends v.made v.numbers (given v.known x) v.closed in
       let now : w.known ≡ (hand, list ++ x ∷ []) ∷ [] = ap (λ k. given k x) is in
@@ -301,10 +301,10 @@ module _ (port : ℕ) (v : View) (hand : ℕ) (list : List ℕ) (is : v.known �
           ends,
           record {
             lie = lies;
-            reached = after-snoc schedule hand (begin numbers) ∙ ap (step hand) kept.reached;
-            account = λ y. (let a = kept.account y in let b = sum_put y lists hand x made t.2 in omega arith);
-            owed = (let s = total_set (λ u. u.ends) views port v w at in let a = kept.owed in omega arith);
-            unmade = λ k far. put_other lists hand x k (λ e. let below = t.2 in omega (arith, e)) ∙ kept.unmade k far;
+            reached = after-snoc schedule hand (begin numbers) ∙ ap (step hand) facts.reached;
+            account = λ y. (let a = facts.account y in let b = sum_put y lists hand x made t.2 in omega arith);
+            owed = (let s = total_set (λ u. u.ends) views port v w at in let a = facts.owed in omega arith);
+            unmade = λ k far. put_other lists hand x k (λ e. let below = t.2 in omega (arith, e)) ∙ facts.unmade k far;
             each = subst (λ n. Each (Fits numbers schedule' xs lists' seat boss made n) (set views port w)) (sym len)
                 (each_set F views port w
                 record {
@@ -314,7 +314,7 @@ module _ (port : ℕ) (v : View) (hand : ℕ) (list : List ℕ) (is : v.known �
                   alone = λ p. absurd (true≢false (sym p ∙ not_filling));
                   ended = λ c. absurd (true≢false (sym c ∙ opened v port at));
                 }
-                (λ j u other e. let f = kept.each j u e in
+                (λ j u other e. let f = facts.each j u e in
                 record {
                   same = f.same;
                   theirs = theirs_put seat lists made hand x j u.known (λ same. other (sym same ∙ t.0)) f.theirs;
@@ -326,7 +326,7 @@ module _ (port : ℕ) (v : View) (hand : ℕ) (list : List ℕ) (is : v.known �
         ),
         (
           refl,
-          λ y. (let a = kept.account y in
+          λ y. (let a = facts.account y in
               let b = sum_put y lists hand x made t.2 in
               let c : held y w.known ≡ times y (list ++ x ∷ []) + 0 = ap (held y) now in
               let d = sum_at (λ h. times y (put lists hand x h)) made hand t.2 in
@@ -335,17 +335,17 @@ module _ (port : ℕ) (v : View) (hand : ℕ) (list : List ℕ) (is : v.known �
               omega arith),
           λ asc. (let up : Ascends numbers = subst Ascends (mine.same (subst Seated (sym is) tt)) asc in
               let run = run_ascends schedule' (begin numbers) (λ _. up) hand in
-              let here : Ascends (lists' hand ++ xs) = subst (λ (s : State). Ascends (s.lists hand ++ s.deque)) (after-snoc schedule hand (begin numbers) ∙ ap (step hand) kept.reached) run in
+              let here : Ascends (lists' hand ++ xs) = subst (λ (s : State). Ascends (s.lists hand ++ s.deque)) (after-snoc schedule hand (begin numbers) ∙ ap (step hand) facts.reached) run in
               let list_up : Ascends (list ++ x ∷ []) = subst Ascends theirs'.1 (ascends_front (lists' hand) xs here) in
               subst AllAscend (sym now) (list_up, tt)),
-          (schedule, xs, lists, subst (λ n. after schedule (begin n) ≡ state (x ∷ xs) lists) (sym (mine.same (subst Seated (sym is) tt))) kept.reached, had seat lists made port v.known mine.theirs),
+          (schedule, xs, lists, subst (λ n. after schedule (begin n) ≡ state (x ∷ xs) lists) (sym (mine.same (subst Seated (sym is) tt))) facts.reached, had seat lists made port v.known mine.theirs),
         ),
       )
 
-  takes_end : (ends : ℕ) → Kept (End ∷ items) views numbers schedule [] lists seat boss made (suc ends) → items ≡ tasks [] ends
+  takes_end : (ends : ℕ) → DealtBy (End ∷ items) views numbers schedule [] lists seat boss made (suc ends) → items ≡ tasks [] ends
       → (w : View) × Dealt items (set views port w) × TakenFrom v (End ∷ []) w
-  takes_end ends kept lies =
-      let mine = kept.each port v at in
+  takes_end ends facts lies =
+      let mine = facts.each port v at in
       let w : View = view_of v.filling v.owner (v.ends - 1) v.made v.numbers v.known true in
       let len : length (set views port w) ≡ length views = length-set views port w in
       let F : ℕ → View → Type 0 = Fits numbers schedule [] lists seat boss made (length views) in (
@@ -361,30 +361,30 @@ module _ (port : ℕ) (v : View) (hand : ℕ) (list : List ℕ) (is : v.known �
           ends,
           record {
             lie = lies;
-            reached = kept.reached;
-            account = kept.account;
-            owed = (let s = total_set (λ u. u.ends) views port v w at in let a = kept.owed in omega arith);
-            unmade = kept.unmade;
+            reached = facts.reached;
+            account = facts.account;
+            owed = (let s = total_set (λ u. u.ends) views port v w at in let a = facts.owed in omega arith);
+            unmade = facts.unmade;
             each = subst (λ n. Each (Fits numbers schedule [] lists seat boss made n) (set views port w)) (sym len)
                 (each_set F views port w
                 record { same = mine.same; theirs = mine.theirs; owns = mine.owns; alone = mine.alone; ended = λ _. refl }
-                (λ j u other e. kept.each j u e));
+                (λ j u other e. facts.each j u e));
           },
         ),
-        (refl, (schedule, lists, subst (λ n. after schedule (begin n) ≡ state [] lists) (sym (mine.same (subst Seated (sym is) tt))) kept.reached, had seat lists made port v.known mine.theirs)),
+        (refl, (schedule, lists, subst (λ n. after schedule (begin n) ≡ state [] lists) (sym (mine.same (subst Seated (sym is) tt))) facts.reached, had seat lists made port v.known mine.theirs)),
       )
 
-  takes_task : (t : Task) (left : List ℕ) (ends : ℕ) → Kept (t ∷ items) views numbers schedule left lists seat boss made ends → (w : View) × Dealt items (set views port w) × TakenFrom v (t ∷ []) w
+  takes_task : (t : Task) (left : List ℕ) (ends : ℕ) → DealtBy (t ∷ items) views numbers schedule left lists seat boss made ends → (w : View) × Dealt items (set views port w) × TakenFrom v (t ∷ []) w
   unfolding task_or tail
-  takes_task t (x ∷ xs) ends kept =
-      let e : t ≡ Number x = ap (task_or t) kept.lie in
+  takes_task t (x ∷ xs) ends facts =
+      let e : t ≡ Number x = ap (task_or t) facts.lie in
       subst (λ k. (w : View) × Dealt items (set views port w) × TakenFrom v (k ∷ []) w) (sym e)
-      (takes_number x xs ends (subst (λ k. Kept (k ∷ items) views numbers schedule (x ∷ xs) lists seat boss made ends) e kept) (ap tail kept.lie))
-  takes_task t [] zero kept = let none : t ∷ items ≡ [] = kept.lie in cc
-  takes_task t [] (suc ends) kept =
-      let e : t ≡ End = ap (task_or t) kept.lie in
+      (takes_number x xs ends (subst (λ k. DealtBy (k ∷ items) views numbers schedule (x ∷ xs) lists seat boss made ends) e facts) (ap tail facts.lie))
+  takes_task t [] zero facts = let none : t ∷ items ≡ [] = facts.lie in cc
+  takes_task t [] (suc ends) facts =
+      let e : t ≡ End = ap (task_or t) facts.lie in
       subst (λ k. (w : View) × Dealt items (set views port w) × TakenFrom v (k ∷ []) w) (sym e)
-      (takes_end ends (subst (λ k. Kept (k ∷ items) views numbers schedule [] lists seat boss made (suc ends)) e kept) (ap tail kept.lie))
+      (takes_end ends (subst (λ k. DealtBy (k ∷ items) views numbers schedule [] lists seat boss made (suc ends)) e facts) (ap tail facts.lie))
 
 pub takes : (port : ℕ) (v : View) (hand : ℕ) (list : List ℕ) → v.known ≡ (hand, list) ∷ [] → v.filling ≡ false → 0 < v.ends
     → Takes Dealt port v 1 (TakenFrom v)
@@ -409,30 +409,30 @@ theirs_made seat lists made new j (p ∷ ps) t =
 
 module _ (items : List Task) (views : List View) (numbers schedule left : List ℕ) (lists : ℕ → List ℕ) (seat : ℕ → ℕ) (boss made ends port : ℕ) (v : View) (at : get_elem? views port ≡ some v) where
   -- a pass with no seat comes, and this one's view stays but for `filling`
-  seals_kept : Kept items views numbers schedule left lists seat boss made ends → Kept items (set views port (view_of false v.owner v.ends v.made v.numbers v.known v.closed) ++ blank ∷ []) numbers schedule left lists seat boss made ends
-  seals_kept kept =
-      let mine = kept.each port v at in
+  seals_dealt : DealtBy items views numbers schedule left lists seat boss made ends → DealtBy items (set views port (view_of false v.owner v.ends v.made v.numbers v.known v.closed) ++ blank ∷ []) numbers schedule left lists seat boss made ends
+  seals_dealt facts =
+      let mine = facts.each port v at in
       let l : View = view_of false v.owner v.ends v.made v.numbers v.known v.closed in
       let vs : List View = set views port l in
       let F : ℕ → ℕ → View → Type 0 = λ n. Fits numbers schedule left lists seat boss made n in
       let N : ℕ = length (vs ++ blank ∷ []) in
       let a = at_below views port v at in
       record {
-        lie = kept.lie;
-        reached = kept.reached;
-        account = kept.account;
-        owed = (let s = total_set (λ u. u.ends) views port v l at in let t = total_snoc (λ u. u.ends) vs blank in let c = kept.owed in omega arith);
-        unmade = kept.unmade;
+        lie = facts.lie;
+        reached = facts.reached;
+        account = facts.account;
+        owed = (let s = total_set (λ u. u.ends) views port v l at in let t = total_snoc (λ u. u.ends) vs blank in let c = facts.owed in omega arith);
+        unmade = facts.unmade;
         each = each_snoc (F N) vs blank
             (each_set (F N) views port l
             record { same = mine.same; theirs = mine.theirs; owns = mine.owns; alone = λ p. absurd (true≢false (sym p)); ended = mine.ended }
-            (λ j u other e. let f = kept.each j u e in
+            (λ j u other e. let f = facts.each j u e in
             record { same = f.same; theirs = f.theirs; owns = f.owns; alone = λ p. (let b = at_below views j u e in let c = (f.alone p).0 in absurd (other (omega arith))); ended = f.ended }))
             record { same = λ p. absurd p; theirs = tt; owns = λ p. absurd (true≢false (sym p)); alone = λ p. absurd (true≢false (sym p)); ended = λ p. absurd (true≢false (sym p)) };
       }
 
 pub seals : (port : ℕ) (v : View) → Forks Dealt port v (view_of false v.owner v.ends v.made v.numbers v.known v.closed) blank
-seals port v items views h at = (h.0, h.1, h.2, h.3, h.4, h.5, h.6, h.7, seals_kept items views h.0 h.1 h.2 h.3 h.4 h.5 h.6 h.7 port v at h.8)
+seals port v items views h at = (h.0, h.1, h.2, h.3, h.4, h.5, h.6, h.7, seals_dealt items views h.0 h.1 h.2 h.3 h.4 h.5 h.6 h.7 port v at h.8)
 
 pub seats : (port : ℕ) (v : View) → v.owner ≡ true → v.filling ≡ false → Seated v.known → 1 < v.ends
     → Forks Dealt port v (view_of v.filling v.owner (v.ends - 1) (v.made + 1) v.numbers v.known v.closed) (view_of false false 1 0 v.numbers ((v.made, []) ∷ []) false)
@@ -445,8 +445,8 @@ seats port v owns sealed seated more items views h at =
     let boss = h.5 in
     let made = h.6 in
     let ends = h.7 in
-    let kept = h.8 in
-    let mine = kept.each port v at in
+    let facts = h.8 in
+    let mine = facts.each port v at in
     let is_made : v.made ≡ made = (mine.owns owns).1 in
     let l : View = view_of v.filling v.owner (v.ends - 1) (v.made + 1) v.numbers v.known v.closed in
     let r : View = view_of false false 1 0 v.numbers ((v.made, []) ∷ []) false in
@@ -456,7 +456,7 @@ seats port v owns sealed seated more items views h at =
     let F : ℕ → ℕ → View → Type 0 = λ n. Fits numbers schedule left lists seat' boss (made + 1) n in
     let N : ℕ = length (vs ++ r ∷ []) in
     let yes : (v.made == made) ≡ true = eq-eqb v.made made is_made in
-    let new : Theirs seat' lists (made + 1) (length vs) ((v.made, []) ∷ []) = (rw yes (sym count), kept.unmade v.made (omega arith), omega arith, tt) in (
+    let new : Theirs seat' lists (made + 1) (length vs) ((v.made, []) ∷ []) = (rw yes (sym count), facts.unmade v.made (omega arith), omega arith, tt) in (
       numbers,
       schedule,
       left,
@@ -466,11 +466,11 @@ seats port v owns sealed seated more items views h at =
       made + 1,
       ends,
       record {
-        lie = kept.lie;
-        reached = kept.reached;
-        account = λ x. (let a = kept.account x in let b = ap (sum_below (λ h. times x (lists h))) (add-one made) in let c = ap (times x) (kept.unmade made (omega arith)) in omega arith);
-        owed = (let s = total_set (λ u. u.ends) views port v l at in let t = total_snoc (λ u. u.ends) vs r in let c = kept.owed in omega arith);
-        unmade = λ k far. kept.unmade k (omega arith);
+        lie = facts.lie;
+        reached = facts.reached;
+        account = λ x. (let a = facts.account x in let b = ap (sum_below (λ h. times x (lists h))) (add-one made) in let c = ap (times x) (facts.unmade made (omega arith)) in omega arith);
+        owed = (let s = total_set (λ u. u.ends) views port v l at in let t = total_snoc (λ u. u.ends) vs r in let c = facts.owed in omega arith);
+        unmade = λ k far. facts.unmade k (omega arith);
         each = each_snoc (F N) vs r
             (each_set (F N) views port l
             record {
@@ -480,7 +480,7 @@ seats port v owns sealed seated more items views h at =
               alone = λ p. absurd (true≢false (sym p ∙ sealed));
               ended = mine.ended;
             }
-            (λ j u other e. let f = kept.each j u e in
+            (λ j u other e. let f = facts.each j u e in
             record {
               same = f.same;
               theirs = theirs_made seat lists made (length views) j u.known f.theirs;
@@ -519,13 +519,13 @@ lends closed port v other w p more is sealed guest shut unshut items views h at 
     let boss = h.5 in
     let made = h.6 in
     let ends = h.7 in
-    let kept = h.8 in
+    let facts = h.8 in
     let both : View = lent_view closed v w in
     let vs : List View = set views port both in
     let was : get_elem? views other ≡ some w = ⊎_elim (λ (x : (other ≡ port) × (both ≡ w)). absurd (two x.0)) (λ (x : (other ≢ port) × (get_elem? views other ≡ some w)). x.1) (at_set views port other both w at') in
-    let mine = kept.each port v at in
+    let mine = facts.each port v at in
     let seated : Seated v.known = subst Seated (sym is) tt in
-    let theirs = kept.each other w was in
+    let theirs = facts.each other w was in
     let seat' = moved seat other port in
     let all = set vs other blank in
     let len : length all ≡ length views = length-set vs other blank ∙ length-set views port both in
@@ -539,11 +539,11 @@ lends closed port v other w p more is sealed guest shut unshut items views h at 
       made,
       ends,
       record {
-        lie = kept.lie;
-        reached = kept.reached;
-        account = kept.account;
-        owed = (let s = total_set (λ u. u.ends) views port v both at in let t = total_set (λ u. u.ends) vs other w blank at' in let a = kept.owed in omega arith);
-        unmade = kept.unmade;
+        lie = facts.lie;
+        reached = facts.reached;
+        account = facts.account;
+        owed = (let s = total_set (λ u. u.ends) views port v both at in let t = total_set (λ u. u.ends) vs other w blank at' in let a = facts.owed in omega arith);
+        unmade = facts.unmade;
         each = each_set F vs other blank
             record { same = λ p. absurd p; theirs = tt; owns = λ p. absurd (true≢false (sym p)); alone = λ p. absurd (true≢false (sym p)); ended = λ p. absurd (true≢false (sym p)) }
             (λ j u apart e. ⊎_elim
@@ -557,7 +557,7 @@ lends closed port v other w p more is sealed guest shut unshut items views h at 
               alone = λ p. absurd (true≢false (sym p ∙ sealed));
               ended = λ c. ⊎_elim (λ a. mine.ended a) (λ b. theirs.ended b) (shut c);
             })
-            (λ (x : (j ≢ port) × (get_elem? views j ≡ some u)). let f = kept.each j u x.1 in
+            (λ (x : (j ≢ port) × (get_elem? views j ≡ some u)). let f = facts.each j u x.1 in
             record {
               same = f.same;
               theirs = theirs_stay seat lists made other port j u.known apart f.theirs;
@@ -590,8 +590,8 @@ gives_back n port v p q more is apart others sealed enough items views h at =
     let boss = h.5 in
     let made = h.6 in
     let ends = h.7 in
-    let kept = h.8 in
-    let mine = kept.each port v at in
+    let facts = h.8 in
+    let mine = facts.each port v at in
     let t : Theirs seat lists made port (p ∷ q ∷ more) = subst (Theirs seat lists made port) is mine.theirs in
     let l : View = giving_view n v in
     let r : View = given_view n v in
@@ -615,11 +615,11 @@ gives_back n port v p q more is apart others sealed enough items views h at =
       made,
       ends,
       record {
-        lie = kept.lie;
-        reached = kept.reached;
-        account = kept.account;
-        owed = (let s = total_set (λ u. u.ends) views port v l at in let b = total_snoc (λ u. u.ends) vs r in let c = kept.owed in omega arith);
-        unmade = kept.unmade;
+        lie = facts.lie;
+        reached = facts.reached;
+        account = facts.account;
+        owed = (let s = total_set (λ u. u.ends) views port v l at in let b = total_snoc (λ u. u.ends) vs r in let c = facts.owed in omega arith);
+        unmade = facts.unmade;
         each = each_snoc F vs r
             (each_set F views port l
             record {
@@ -629,7 +629,7 @@ gives_back n port v p q more is apart others sealed enough items views h at =
               alone = λ a. absurd (true≢false (sym a ∙ sealed));
               ended = mine.ended;
             }
-            (λ j u other e. let f = kept.each j u e in
+            (λ j u other e. let f = facts.each j u e in
             record {
               same = f.same;
               theirs = theirs_sent seat lists made q.0 (length views) j u.known (elsewhere seat lists made q.0 j u.known (λ s. other (sym s ∙ t.3.0)) f.theirs) f.theirs;
@@ -653,9 +653,9 @@ sum_up x lists k (p ∷ ps) up has =
 pub learns_within : (port : ℕ) (v : View) → v.owner ≡ true → Seated v.known → Up 0 v.known → v.made ≡ length v.known → Learns Dealt port v (λ items. (x : ℕ) → UpTo (v.closed ≡ true) (held x v.known) (times x v.numbers))
 learns_within port v owns seated up count items views h at x =
     let lists = h.3 in
-    let kept = h.8 in
-    let mine = kept.each port v at in
-    let a = kept.account x in
+    let facts = h.8 in
+    let mine = facts.each port v at in
+    let a = facts.account x in
     let b = sum_up x lists 0 v.known up (had h.4 lists h.6 port v.known mine.theirs) in
     let c = ap (times x) (mine.same seated) in
     let n : 0 + length v.known ≡ h.6 = omega (arith, count, (mine.owns owns).1) in

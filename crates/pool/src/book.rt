@@ -10,7 +10,7 @@ use std::sync::{Mutex, Wait, ledger};
 struct Tally<L: Ledger> {
     number: u128,
     reported: ledger::Book<L>,
-    ghost kept: { number ≡ min reported.total (2 ^ 128 - 1) },
+    ghost is_total: { number ≡ min reported.total (2 ^ 128 - 1) },
 }
 
 /// The sum of what all workers reported. L says which shares are of this book.

@@ -10,6 +10,7 @@ ghost use Rattle.pool.specs.Dealing.{times};
 ghost use Rattle.crossbeam_deque.specs.Handles.{worker_deque, worker_flavor, worker_view, view as pass_view, IsPassOf};
 
 use crate::protocol::{Dealing, GiveOpen, GiveShut, LendOpen, LendShut, Seal, Taken, Within};
+use crate::source::Gap;
 use crate::view::{Task, View};
 use crossbeam_deque::{Pass, Steal, Stealer, Worker};
 use std::alloc::Global;
@@ -22,6 +23,7 @@ pub type Deque = Worker<Task, Global, View, Dealing>;
 /// The end of a deque that its own hand takes from.
 #[derive(Drop)]
 pub struct Own {
+    pub gap: Gap,
     pub worker: Deque,
     pub closed: bool,
 }

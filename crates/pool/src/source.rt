@@ -9,9 +9,17 @@ use crate::view::Task;
 use std::alloc::{AllocError, Global};
 use std::marker::Model;
 
+/// How many words a gap has: as many as a line of the processor's cache.
+const LINE: usize = 8;
+
+/// Room that nobody uses, taken before a deque is made. It keeps what the owner of one deque reads at each take off
+/// the line of the cache that the owner of the next one writes at each take.
+pub type Gap = Vec<u64>;
+
 /// A deque that is being filled. Contracts see it as its numbers.
 #[derive(Drop)]
 pub struct Filling {
+    gap: Gap,
     worker: Deque,
 }
 
@@ -29,6 +37,7 @@ impl Model for Filling {
 
 #[derive(Drop)]
 pub struct Source {
+    gap: Gap,
     worker: Deque,
     hands: usize,
 }
@@ -51,10 +60,11 @@ impl Filling {
     pub fn new(alloc: Global, room: usize) -> Result<Filling, AllocError>
         ensures { IfOk result (λ f. f ≡ []) }
     {
+        let gap = Gap::with_capacity(alloc, LINE)?;
         let Ok(worker) = Deque::fifo_as(alloc, room) else {
             return Err(AllocError);
         };
-        Ok(Filling { worker })
+        Ok(Filling { gap, worker })
     }
 
     /// The number goes behind all others.
@@ -72,14 +82,14 @@ impl Filling {
         requires { (0 < hands) × (hands < 65) }
         ensures { IfOk result (λ s. (s.numbers ≡ self) × (s.made ≡ 1) × (s.hands ≡ hands)) }
     {
-        let Filling { mut worker } = self;
+        let Filling { gap, mut worker } = self;
         for _mark in 0..hands {
             if worker.push_as::<Mark>(Task::End).is_err() {
                 return Err(AllocError);
             }
         }
         drop(worker.another::<Seal>());
-        Ok(Source { worker, hands })
+        Ok(Source { gap, worker, hands })
     }
 }
 
@@ -106,8 +116,13 @@ impl Source {
         requires { self.made ≡ self.hands }
         ensures { result ≡ owned_first self }
     {
-        let Source { worker, hands: _ } = self;
+        let Source {
+            gap,
+            worker,
+            hands: _,
+        } = self;
         Own {
+            gap,
             worker,
             closed: false,
         }
