@@ -17,12 +17,7 @@ pub(crate) fn required_option<'a>(
     ensures rule { rule_of result ≡ required_option name.now }
     ensures local { result.global ≡ false }
 {
-    Arg::new(alloc, name)
-        .long(name)
-        .value_name(value)
-        .action(ArgAction::Set)
-        .required(true)
-        .help(help)
+    required_word(alloc, name, value, help).long(name)
 }
 
 /// An option `--NAME <VALUE>` whose value is a number of 64 bits, with its line of help.

@@ -6,12 +6,14 @@ use Rattle.query_tree.specs.Syntax.{TreeForm}
 use Rattle.engine.specs.declared.fault.RunFault.{RunFault}
 use Rattle.engine.specs.declared.fault.RunFault.TheVariants.{Reading, OutOfMemory, ThreadNotStarted, TooManyRefused, WritingReport, WritingRefused}
 use Rattle.lines.specs.Input.{refused}
-use Rattle.engine.specs.Run.{IsUnwritten, Leaves, Refuses, refusals, report}
+use Rattle.lines.specs.Lines.{lines}
+use Rattle.engine.specs.declared.running.Done.{Done}
+use Rattle.engine.specs.Run.{IsDecided, IsUnwritten, Leaves, Refuses, refusals, report}
 use Rattle.engine.specs.Written.{AppendsBeginning, LeavesWritten}
 use Rattle.std.specs.Io.KnownBytes.{Appends, Keeps}
 
 -- what holds of the bytes that were read holds of what the reader gives, where that is known
-pub of-known : (P : List ℕ → Type 0) (bytes : List ℕ) (known : Option (List ℕ)) → IfSome known (λ b. bytes ≡ b) → P bytes → IfSome known P
+of-known : (P : List ℕ → Type 0) (bytes : List ℕ) (known : Option (List ℕ)) → IfSome known (λ b. bytes ≡ b) → P bytes → IfSome known P
 of-known P bytes None same h = tt
 of-known P bytes (Some b) same h = subst P same h
 
@@ -21,15 +23,38 @@ known-slice slice bytes None is same = tt
 known-slice slice bytes (Some b) is same = is ∙ same
 
 -- so where an answer is Ok
-pub on-ok-known : {T E : Type 0} (r : Result T E) (P : List ℕ → Type 0) (bytes : List ℕ) (known : Option (List ℕ))
+on-ok-known : {T E : Type 0} (r : Result T E) (P : List ℕ → Type 0) (bytes : List ℕ) (known : Option (List ℕ))
     → IfSome known (λ b. bytes ≡ b) → OnOk r (P bytes) → OnOk r (IfSome known P)
 on-ok-known (Ok v) P bytes known same h = of-known P bytes known same h
 on-ok-known (Err e) P bytes known same h = tt
 
-pub if-ok-known : {T E : Type 0} (r : Result T E) (P : T → List ℕ → Type 0) (bytes : List ℕ) (known : Option (List ℕ))
+if-ok-known : {T E : Type 0} (r : Result T E) (P : T → List ℕ → Type 0) (bytes : List ℕ) (known : Option (List ℕ))
     → IfSome known (λ b. bytes ≡ b) → IfOk r (λ v. P v bytes) → IfOk r (λ v. IfSome known (P v))
 if-ok-known (Ok v) P bytes known same h = of-known (P v) bytes known same h
 if-ok-known (Err e) P bytes known same h = tt
+
+-- so of the report and the list that are written
+pub report-known : (r : Result Done RunFault) (fields : List Field) (q : TreeForm) (bytes : List ℕ) (known old new : Option (List ℕ))
+    → IfSome known (λ b. bytes ≡ b) → OnOk r (Appends old new (report fields q bytes)) → OnOk r (IfSome known (λ input. Appends old new (report fields q input)))
+report-known r fields q bytes known old new same h = on-ok-known r (λ input. Appends old new (report fields q input)) bytes known same h
+
+pub refusals-known : (r : Result Done RunFault) (fields : List Field) (bytes : List ℕ) (known old new : Option (List ℕ))
+    → IfSome known (λ b. bytes ≡ b) → OnOk r (Appends old new (refusals fields bytes)) → OnOk r (IfSome known (λ input. Appends old new (refusals fields input)))
+refusals-known r fields bytes known old new same h = on-ok-known r (λ input. Appends old new (refusals fields input)) bytes known same h
+
+-- so of the counts
+pub lines-known : (r : Result Done RunFault) (bytes : List ℕ) (known : Option (List ℕ))
+    → IfSome known (λ b. bytes ≡ b) → IfOk r (λ done. done.lines ≡ length (lines bytes)) → IfOk r (λ done. IfSome known (λ input. done.lines ≡ length (lines input)))
+lines-known r bytes known same h = if-ok-known r (λ done input. done.lines ≡ length (lines input)) bytes known same h
+
+pub refused-known : (r : Result Done RunFault) (fields : List Field) (bytes : List ℕ) (known : Option (List ℕ))
+    → IfSome known (λ b. bytes ≡ b) → IfOk r (λ done. done.refused ≡ length (refused fields bytes)) → IfOk r (λ done. IfSome known (λ input. done.refused ≡ length (refused fields input)))
+refused-known r fields bytes known same h = if-ok-known r (λ done input. done.refused ≡ length (refused fields input)) bytes known same h
+
+-- so of what the limit decides
+pub decided-known : (r : Result Done RunFault) (limit : Option ℕ) (fields : List Field) (bytes : List ℕ) (known : Option (List ℕ))
+    → IfSome known (λ b. bytes ≡ b) → IsDecided r limit (length (refused fields bytes)) → IfSome known (λ input. IsDecided r limit (length (refused fields input)))
+decided-known r limit fields bytes known same h = of-known (λ input. IsDecided r limit (length (refused fields input))) bytes known same h
 
 -- so of what a fault leaves
 pub leaves-known : (limit : Option ℕ) (fields : List Field) (q : TreeForm) (bytes : List ℕ) (known : Option (List ℕ))

@@ -87,7 +87,7 @@ pub fn run<R: Read + Drop, O: Write, E: Write, H: Threads + Wait + Sync>(
     let input = read_all(alloc, reader)?;
     let bytes = input.as_slice();
     let whole = whole_among(rt, alloc, plan, options, bytes);
-    write_whole(alloc, plan, options.max_refused(), bytes, whole, out, err)
+    write_whole(alloc, plan, options, bytes, whole, out, err)
 }
 
 /// Does what `run` does on the calling thread, without a thread of its own. The number of workers is
@@ -125,32 +125,32 @@ pub fn run_alone<R: Read + Drop, O: Write, E: Write>(
     let input = read_all(alloc, reader)?;
     let bytes = input.as_slice();
     let whole = whole_alone(alloc, plan, options, bytes);
-    write_whole(alloc, plan, options.max_refused(), bytes, whole, out, err)
+    write_whole(alloc, plan, options, bytes, whole, out, err)
 }
 
 /// Writes the report and the list of refused lines by the result over an input, where there is one.
 fn write_whole<O: Write, E: Write>(
     alloc: Global,
     plan: &Plan,
-    limit: Option<u64>,
+    options: Options,
     input: &[u8],
     whole: Result<Partial, RunFault>,
     out: &mut O,
     err: &mut E,
 ) -> Result<Done, RunFault>
     requires whole { IfOk whole (IsWhole (fields_of_plan plan.now) (form_of_plan plan.now) input.now) }
-    requires limit { IfOk whole (λ _. IsWithin limit (length (refused (fields_of_plan plan.now) input.now))) }
+    requires limit { IfOk whole (λ _. IsWithin options.max_refused (length (refused (fields_of_plan plan.now) input.now))) }
     requires fault { IfErr whole (λ fault. IsUnwritten fault
-        ⊎ Refuses fault limit (length (refused (fields_of_plan plan.now) input.now))) }
+        ⊎ Refuses fault options.max_refused (length (refused (fields_of_plan plan.now) input.now))) }
     ensures report { OnOk result (Appends (O.contents out.old) (O.contents out.new)
         (report (fields_of_plan plan.now) (form_of_plan plan.now) input.now)) }
     ensures refusals { OnOk result (Appends (E.contents err.old) (E.contents err.new)
         (refusals (fields_of_plan plan.now) input.now)) }
     ensures lines { IfOk result (λ done. done.lines ≡ length (lines input.now)) }
     ensures refused { IfOk result (λ done. done.refused ≡ length (refused (fields_of_plan plan.now) input.now)) }
-    ensures limit { IfOk result (λ done. IsWithin limit done.refused) }
-    ensures decided { IsDecided result limit (length (refused (fields_of_plan plan.now) input.now)) }
-    ensures fault { IfErr result (λ fault. Leaves fault limit
+    ensures limit { IfOk result (λ done. IsWithin options.max_refused done.refused) }
+    ensures decided { IsDecided result options.max_refused (length (refused (fields_of_plan plan.now) input.now)) }
+    ensures fault { IfErr result (λ fault. Leaves fault options.max_refused
         (fields_of_plan plan.now) (form_of_plan plan.now) (Some input.now)
         (O.contents out.old) (O.contents out.new) (E.contents err.old) (E.contents err.new)) }
     ensures started { IfErr whole (λ fault. fault ≢ RunFault.ThreadNotStarted)

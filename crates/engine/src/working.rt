@@ -1,10 +1,8 @@
 //! The result of a query over the pieces of an input.
-ghost use Rattle.std.specs.Prelude.{◌≡◌, ◌≢◌, ◌<◌, ◌^◌, ◌⊎◌, ℕ, List, IfErr, IfOk, length};
-ghost use Rattle.values.specs.Schema.{Field};
+ghost use Rattle.std.specs.Prelude.{◌≡◌, ◌≢◌, ◌<◌, ◌^◌, ◌⊎◌, IfErr, IfOk, length};
 ghost use Rattle.lines.specs.Input.{refused};
-ghost use Rattle.query_tree.specs.Syntax.{TreeForm};
 ghost use Rattle.query_plan.specs.Planned.{fields_of_plan, form_of_plan};
-ghost use Rattle.engine.specs.Pieces.{IsOutcome, IsWhole};
+ghost use Rattle.engine.specs.Pieces.{IsOutcome, IsWhole, limit_number};
 ghost use Rattle.engine.specs.Run.{IsUnwritten, IsWithin, Refuses};
 
 use crate::cutting::pieces_of;
@@ -35,9 +33,8 @@ pub(crate) fn whole_alone(
     let pieces = pieces_of(alloc, input, options.piece())?;
     job_law();
     let job = Job::new(alloc, plan, input, pieces.as_slice());
-    let limit = options.max_refused();
-    match alone(&job, pieces.len() as u32, limit.unwrap_or(u64::MAX)) {
-        Ok(outcome) => decided(limit, outcome),
+    match alone(&job, pieces.len() as u32, limit_of(options)) {
+        Ok(outcome) => decided(plan, options, input, outcome),
         Err(fault) => Err(RunFault::from(fault)),
     }
 }
@@ -61,32 +58,41 @@ pub(crate) fn whole_among<H: Threads + Wait + Sync>(
     let pieces = pieces_of(alloc, input, options.piece())?;
     job_law();
     let job = Job::new(alloc, plan, input, pieces.as_slice());
-    let limit = options.max_refused();
     match fan_out(
         rt,
         alloc,
         &job,
         pieces.len() as u32,
         options.workers(),
-        limit.unwrap_or(u64::MAX),
+        limit_of(options),
     ) {
-        Ok(outcome) => decided(limit, outcome),
+        Ok(outcome) => decided(plan, options, input, outcome),
         Err(fault) => Err(RunFault::from(fault)),
     }
 }
 
-/// The result that a pool answers; Over is the fault that too many lines are refused.
-fn decided(limit: Option<u64>, outcome: Outcome<Partial>) -> Result<Partial, RunFault>
-    requires { (fields : List Field) × (q : TreeForm) × (input : List ℕ) × (length input < 2 ^ 63)
-        × IsOutcome fields q input limit outcome }
-    ensures whole { IfOk result (λ partial. (fields : List Field) (q : TreeForm) (input : List ℕ)
-        → IsOutcome fields q input limit outcome → IsWhole fields q input partial) }
-    ensures limit { IfOk result (λ _. (fields : List Field) (q : TreeForm) (input : List ℕ)
-        → IsOutcome fields q input limit outcome → IsWithin limit (length (refused fields input))) }
-    ensures fault { IfErr result (λ fault. (fields : List Field) (q : TreeForm) (input : List ℕ)
-        → IsOutcome fields q input limit outcome → Refuses fault limit (length (refused fields input))) }
+/// The limit of refused lines as a number: the greatest one where there is no limit.
+fn limit_of(options: Options) -> u64
+    ensures { result ≡ limit_number options.max_refused }
 {
-    match (outcome, limit) {
+    options.max_refused().unwrap_or(u64::MAX)
+}
+
+/// The result over an input that a pool answers; Over is the fault that too many lines are refused.
+fn decided(
+    plan: &Plan,
+    options: Options,
+    input: &[u8],
+    outcome: Outcome<Partial>,
+) -> Result<Partial, RunFault>
+    requires short { length input.now < 2 ^ 63 }
+    requires outcome { IsOutcome (fields_of_plan plan.now) (form_of_plan plan.now) input.now options.max_refused outcome }
+    ensures whole { IfOk result (IsWhole (fields_of_plan plan.now) (form_of_plan plan.now) input.now) }
+    ensures limit { IfOk result (λ _. IsWithin options.max_refused (length (refused (fields_of_plan plan.now) input.now))) }
+    ensures fault { IfErr result (λ fault. Refuses fault options.max_refused (length (refused (fields_of_plan plan.now) input.now))) }
+    ensures started { IfErr result (λ fault. fault ≢ RunFault.ThreadNotStarted) }
+{
+    match (outcome, options.max_refused()) {
         (Outcome::Whole(partial), _) => Ok(partial),
         (Outcome::Over, Some(most)) => Err(RunFault::TooManyRefused(most)),
         (Outcome::Over, None) => unreachable!(),

@@ -14,7 +14,7 @@ use Rattle.query_tree.specs.declared.predicate.Literal.TheVariants as constant
 use Rattle.query_tree.specs.Syntax.{KeyForm, PredicateForm, TreeForm, name, grouping, function, over_all, rollup, expression, literal, or_of, not_of, compare, null_test, no_parts, part}
 use Rattle.groups.specs.Functions.{Summary, plain, ratio}
 use Rattle.tables.specs.Found.{Found}
-use Rattle.report.specs.Having.{having_truth, rows_kept}
+use Rattle.report.specs.Having.{having_truth, rows_having_true}
 use Rattle.report.specs.Order.{arranged, under_key}
 use Rattle.report.specs.Report.{refusals_of, report_of, rows_shown}
 use Rattle.report.specs.Shown.{number_of_digits}
@@ -104,8 +104,8 @@ a-lone-field = refl
 -- ---- HAVING
 
 -- the same query with HAVING
-abbrev kept_by : PredicateForm → TreeForm
-kept_by p = record { items = query.items; where_condition = query.where_condition; groups = query.groups; having_condition = Some p; keys = query.keys }
+abbrev query_having : PredicateForm → TreeForm
+query_having p = record { items = query.items; where_condition = query.where_condition; groups = query.groups; having_condition = Some p; keys = query.keys }
 
 -- GROUPING(d) = 1 OR COUNT(*) > 1
 abbrev rolled_up_or_many : PredicateForm
@@ -117,20 +117,20 @@ rolled_up_or_many = or_of
 abbrev r_is_n : PredicateForm
 r_is_n = compare (expression (name (codes "r"))) Eq (literal (constant.Text (codes "n")))
 
-rows-of-some : rows_kept fields (kept_by rolled_up_or_many) found ≡ group 2 [] 3 ∷ group 1 (text (codes "x") ∷ []) 2 ∷ []
+rows-of-some : rows_having_true fields (query_having rolled_up_or_many) found ≡ group 2 [] 3 ∷ group 1 (text (codes "x") ∷ []) 2 ∷ []
 rows-of-some = refl
 
-rows-of-a-text : rows_kept fields (kept_by r_is_n) found ≡ group 0 (text (codes "x") ∷ text (codes "n") ∷ []) 1 ∷ []
+rows-of-a-text : rows_having_true fields (query_having r_is_n) found ≡ group 0 (text (codes "x") ∷ text (codes "n") ∷ []) 1 ∷ []
 rows-of-a-text = refl
 
--- a column that is not in the set of the row is NULL, so a comparison with it is unknown, and NOT keeps no such row
-unknown-where-rolled-up : having_truth fields (kept_by r_is_n) (group 1 (text (codes "y") ∷ []) 1) ≡ Unknown
+-- a column that is not in the set of the row is NULL, so a comparison with it is unknown, and NOT is True of no such row
+unknown-where-rolled-up : having_truth fields (query_having r_is_n) (group 1 (text (codes "y") ∷ []) 1) ≡ Unknown
 unknown-where-rolled-up = refl
 
-no-row-of-what-is-not-so : rows_kept fields (kept_by (not_of r_is_n)) found ≡ []
+no-row-of-what-is-not-so : rows_having_true fields (query_having (not_of r_is_n)) found ≡ []
 no-row-of-what-is-not-so = refl
 
-report-of-NULL : report_of fields (kept_by (null_test (expression (name (codes "r"))) false)) found ≡ codes "day,g,n\nx,0,1\nx,1,2\ny,1,1\n\\N,3,3\n"
+report-of-NULL : report_of fields (query_having (null_test (expression (name (codes "r"))) false)) found ≡ codes "day,g,n\nx,0,1\nx,1,2\ny,1,1\n\\N,3,3\n"
 unfolding digits fields_text is_blank
 report-of-NULL = refl
 

@@ -1,4 +1,4 @@
--- The rows that HAVING keeps fit the query as all rows do.
+-- The rows of which HAVING is True fit the query as all rows do.
 use Rattle.std.proofs.Common.{◌≡◌, ◌≢◌, ◌<◌, ◌+◌, ℕ, Bool, true, false, cond, List, [], ◌∷◌, length, refl, sym, ap, ◌∙◌, arith}
 use Rattle.std.specs.Prelude.{filter}
 use Rattle.std.specs.List.{AllZip}
@@ -12,11 +12,11 @@ use Rattle.query_check.specs.Sets.{sets_of}
 use Rattle.groups.specs.Bags.{SameBag, weigh}
 use Rattle.tables.specs.Fitting.{AreFitting, HasType, IsHeld, set_of}
 use Rattle.tables.specs.Found.{Found}
-use Rattle.report.specs.Having.{is_row_kept, rows_kept}
+use Rattle.report.specs.Having.{is_having_true, rows_having_true}
 
-pub kept-fit : (fields : List Field) (t : TreeForm) (found : List Found) → AreFitting fields t found → AreFitting fields t (rows_kept fields t found)
-kept-fit fields t found fit =
-    let p = is_row_kept fields t in
+pub fit-having_true : (fields : List Field) (t : TreeForm) (found : List Found) → AreFitting fields t found → AreFitting fields t (rows_having_true fields t found)
+fit-having_true fields t found fit =
+    let p = is_having_true fields t in
     record {
       indexes = All-filter p (λ (row : Found). row.0 < length (sets_of fields t)) found fit.indexes;
       keys = All-filter p (λ (row : Found). length row.1.key ≡ length (set_of fields t row)) found fit.keys;
@@ -26,7 +26,7 @@ kept-fit fields t found fit =
       distinct = AllPairs-filter (λ (x y : Found). x.0 ≡ y.0 → x.1.key ≢ y.1.key) p found fit.distinct;
     }
 
--- what is filtered weighs what is kept of each thing
+-- what is filtered weighs what passes of each thing
 weigh-filter : {X : Type 0} (weight : X → ℕ) (p : X → Bool) (xs : List X) → weigh weight (filter p xs) ≡ weigh (λ x. cond (p x) (weight x) 0) xs
 weigh-filter {X} weight p [] = refl
 weigh-filter {X} weight p (x ∷ xs) =
@@ -35,8 +35,8 @@ weigh-filter {X} weight p (x ∷ xs) =
       | false ↦ let bare : (n : ℕ) → n ≡ 0 + n = λ n. omega arith in weigh-filter weight p xs ∙ bare (weigh (λ (y : X). cond (p y) (weight y) 0) xs)
     ]
 
--- rows that are the same bag are so where HAVING has kept its own
-pub kept-bag : (fields : List Field) (t : TreeForm) (xs ys : List Found) → SameBag xs ys → SameBag (rows_kept fields t xs) (rows_kept fields t ys)
-kept-bag fields t xs ys same weight =
-    let p = is_row_kept fields t in
+-- rows that are the same bag are so where those are left of which HAVING is True
+pub bag-having_true : (fields : List Field) (t : TreeForm) (xs ys : List Found) → SameBag xs ys → SameBag (rows_having_true fields t xs) (rows_having_true fields t ys)
+bag-having_true fields t xs ys same weight =
+    let p = is_having_true fields t in
     weigh-filter weight p xs ∙ same (λ x. cond (p x) (weight x) 0) ∙ sym (weigh-filter weight p ys)

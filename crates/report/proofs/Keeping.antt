@@ -18,9 +18,9 @@ use Rattle.query_check.proofs.WholeLemmas.{none_from_typed, typed_from_none}
 use Rattle.groups.specs.declared.group.Group.{Group}
 use Rattle.tables.specs.Fitting.{AreFitting, HasType, IsHeld, set_of}
 use Rattle.tables.specs.Found.{Found, row_of}
-use Rattle.report.specs.Having.{is_row_kept, rows_kept}
+use Rattle.report.specs.Having.{is_having_true, rows_having_true}
 use Rattle.report.specs.Order.{arranged, before}
-use Rattle.report.proofs.Filtering.{kept-fit}
+use Rattle.report.proofs.Filtering.{fit-having_true}
 use Rattle.report.proofs.Sorting.{all-in_order}
 
 -- ---- typing
@@ -69,14 +69,14 @@ filter-all : (p : Found → Bool) (xs : List Found) → ((x : Found) → p x ≡
 filter-all p [] h = refl
 filter-all p (x ∷ xs) h = rw (h x) (ap (λ (ys : List Found). x ∷ ys) (filter-all p xs h))
 
--- all rows are kept
-pub all-kept : (fields : List Field) (t : TreeForm) (found : List Found) → t.having_condition ≡ None → rows_kept fields t found ≡ found
-all-kept fields t found e = filter-all (is_row_kept fields t) found (λ x. rw e refl)
+-- HAVING is True of all rows
+pub all-having_true : (fields : List Field) (t : TreeForm) (found : List Found) → t.having_condition ≡ None → rows_having_true fields t found ≡ found
+all-having_true fields t found e = filter-all (is_having_true fields t) found (λ x. rw e refl)
 
--- ---- the rows that are kept, in their order
+-- ---- the rows of which HAVING is True, in their order
 
 -- they have indexes of sets
-pub within-kept : (fields : List Field) (t : TreeForm) (found : List Found) → AreFitting fields t found → AllByRecursion (λ x. x.0 < length (sets_of fields t)) (arranged fields t found)
-within-kept fields t found fit =
-    let kept = rows_kept fields t found in
-    all-in_order (before fields t) (λ x. x.0 < length (sets_of fields t)) kept (recursion_from_All (λ (x : Found). x.0 < length (sets_of fields t)) kept (kept-fit fields t found fit).indexes)
+pub within-having_true : (fields : List Field) (t : TreeForm) (found : List Found) → AreFitting fields t found → AllByRecursion (λ x. x.0 < length (sets_of fields t)) (arranged fields t found)
+within-having_true fields t found fit =
+    let rows = rows_having_true fields t found in
+    all-in_order (before fields t) (λ x. x.0 < length (sets_of fields t)) rows (recursion_from_All (λ (x : Found). x.0 < length (sets_of fields t)) rows (fit-having_true fields t found fit).indexes)

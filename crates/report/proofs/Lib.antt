@@ -10,3 +10,4 @@ mod Examples
 pub mod Filtering
 pub mod RowValues
 pub mod Keeping
+mod RowSets

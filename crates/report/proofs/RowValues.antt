@@ -204,16 +204,25 @@ operand-of fields t row grouped k (expression e) fit typed has = shown-of fields
 operand-of fields t row grouped k (literal a) fit typed has = subst (λ (l : Kind). is_of l (literal_value a) ≡ true) (some-is (literal_kind a) k has) (is_of-literal a)
 
 -- the values of two operands of one type can be compared
-pub comparable-typed : (fields : List Field) (t : TreeForm) (row : Found) (grouped : List ℕ) (x y : OperandForm) → AreFitting fields t (row ∷ [])
+comparable-typed : (fields : List Field) (t : TreeForm) (row : Found) (grouped : List ℕ) (x y : OperandForm) → AreFitting fields t (row ∷ [])
     → IsTypedOperand fields grouped clause.Having x → IsTypedOperand fields grouped clause.Having y → IsOfOneKind (operand_kind fields x) (operand_kind fields y)
     → comparable (operand_value (row_value fields t row) x) (operand_value (row_value fields t row) y) ≡ true
 comparable-typed fields t row grouped x y fit xt yt one =
     comparable-of one.0 _ _ (operand-of fields t row grouped one.0 x fit xt one.1) (operand-of fields t row grouped one.0 y fit yt one.2)
 
-pub are-comparable : (fields : List Field) (t : TreeForm) (row : Found) (grouped : List ℕ) (x y : OperandForm) → AreFitting fields t (row ∷ [])
+-- so can values that are theirs
+pub comparable-values : (fields : List Field) (t : TreeForm) (row : Found) (grouped : List ℕ) (x y : OperandForm) (d e : Datum)
+    → d ≡ operand_value (row_value fields t row) x → e ≡ operand_value (row_value fields t row) y → AreFitting fields t (row ∷ [])
     → IsTypedOperand fields grouped clause.Having x → IsTypedOperand fields grouped clause.Having y → IsOfOneKind (operand_kind fields x) (operand_kind fields y)
-    → AreComparable (operand_value (row_value fields t row) x) (operand_value (row_value fields t row) y)
-are-comparable fields t row grouped x y fit xt yt one = comparable-is _ _ (comparable-typed fields t row grouped x y fit xt yt one)
+    → comparable d e ≡ true
+comparable-values fields t row grouped x y d e is_x is_y fit xt yt one =
+    ap (λ (v : Datum). comparable v e) is_x ∙ ap (comparable (operand_value (row_value fields t row) x)) is_y ∙ comparable-typed fields t row grouped x y fit xt yt one
+
+pub are-comparable : (fields : List Field) (t : TreeForm) (row : Found) (grouped : List ℕ) (x y : OperandForm) (d e : Datum)
+    → d ≡ operand_value (row_value fields t row) x → e ≡ operand_value (row_value fields t row) y → AreFitting fields t (row ∷ [])
+    → IsTypedOperand fields grouped clause.Having x → IsTypedOperand fields grouped clause.Having y → IsOfOneKind (operand_kind fields x) (operand_kind fields y)
+    → AreComparable d e
+are-comparable fields t row grouped x y d e is_x is_y fit xt yt one = comparable-is _ _ (comparable-values fields t row grouped x y d e is_x is_y fit xt yt one)
 
 -- the value of an operand can be compared with those of literals of its type
 pub comparable-literals : (fields : List Field) (t : TreeForm) (row : Found) (grouped : List ℕ) (x : OperandForm) (ls : List Literal) → AreFitting fields t (row ∷ [])

@@ -22,12 +22,12 @@ use Rattle.groups.specs.Groups.{key_order}
 use Rattle.groups.specs.Bags.{SameBag}
 use Rattle.groups.proofs.Order.{key_antisymmetric}
 use Rattle.tables.specs.Found.{Found, row_of}
-use Rattle.report.specs.Having.{rows_kept}
+use Rattle.report.specs.Having.{rows_having_true}
 use Rattle.report.specs.Order.{grouping_values, key_value, under_key, under_keys, before, NoneBefore, Ascends, in_order, arranged}
 use Rattle.report.specs.Inside.Ranked.{Ranked, by_key, by_rank, key_values, ranked, under_values}
 use Rattle.tables.specs.Fitting.{AreFitting, set_of}
 use Rattle.report.specs.Laws.{IsTheOrder, IsBlind}
-use Rattle.report.proofs.Filtering.{kept-bag, kept-fit}
+use Rattle.report.proofs.Filtering.{bag-having_true, fit-having_true}
 use Rattle.report.proofs.Totals.{before-total, by_rank-total}
 use Rattle.report.proofs.Sorting.{Apart, apart-in_order, ascends-in_order, ascends-sorted, bag-permutation, one-list, weigh-in_order}
 use Rattle.report.proofs.Sameness.{both-tied, found-tells, same_found}
@@ -138,16 +138,16 @@ only-order fields t found others fit bag up =
 
 pub the-order : (fields : List Field) (t : TreeForm) (found : List Found) → AreFitting fields t found → IsTheOrder fields t found
 the-order fields t found fit = record {
-  same = λ f. sym (weigh-in_order (before fields t) f (rows_kept fields t found));
-  ascends = ascends-in_order (before-total fields t) (rows_kept fields t found);
-  only = λ others. only-order fields t (rows_kept fields t found) others (kept-fit fields t found fit);
+  same = λ f. sym (weigh-in_order (before fields t) f (rows_having_true fields t found));
+  ascends = ascends-in_order (before-total fields t) (rows_having_true fields t found);
+  only = λ others. only-order fields t (rows_having_true fields t found) others (fit-having_true fields t found fit);
 }
 
 pub is-blind : (fields : List Field) (t : TreeForm) (found : List Found) → AreFitting fields t found → IsBlind fields t found
 is-blind fields t found fit others bag =
-    only-order fields t (rows_kept fields t found) (arranged fields t others) (kept-fit fields t found fit)
-    (λ f. kept-bag fields t found others bag f ∙ sym (weigh-in_order (before fields t) f (rows_kept fields t others)))
-    (ascends-in_order (before-total fields t) (rows_kept fields t others))
+    only-order fields t (rows_having_true fields t found) (arranged fields t others) (fit-having_true fields t found fit)
+    (λ f. bag-having_true fields t found others bag f ∙ sym (weigh-in_order (before fields t) f (rows_having_true fields t others)))
+    (ascends-in_order (before-total fields t) (rows_having_true fields t others))
 
 -- ---- the code's sort
 

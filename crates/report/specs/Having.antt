@@ -1,4 +1,4 @@
--- The rows that HAVING keeps (ISO/IEC 9075-2, <having clause>).
+-- The rows of which HAVING is True (ISO/IEC 9075-2, <having clause>).
 use Rattle.std.specs.Prelude.{Bool, List, filter}
 use Rattle.std.specs.Option.{option_map_or}
 use Rattle.values.specs.declared.truth.Truth.{Truth}
@@ -25,10 +25,10 @@ row_value fields t row e = cell_value (expression_shown fields t (set_of fields 
 abbrev pub having_truth : List Field → TreeForm → Found → Truth
 having_truth fields t row = option_map_or (truth (row_value fields t row)) t.having_condition True
 
--- whether a row is kept: where the predicate is True, not where it is False or Unknown
-abbrev pub is_row_kept : List Field → TreeForm → Found → Bool
-is_row_kept fields t row = same_truth (having_truth fields t row) True
+-- whether the predicate is True for a row, and not False or Unknown
+abbrev pub is_having_true : List Field → TreeForm → Found → Bool
+is_having_true fields t row = same_truth (having_truth fields t row) True
 
--- the rows that are kept
-abbrev pub rows_kept : List Field → TreeForm → List Found → List Found
-rows_kept fields t found = filter (is_row_kept fields t) found
+-- the rows for which it is True
+abbrev pub rows_having_true : List Field → TreeForm → List Found → List Found
+rows_having_true fields t found = filter (is_having_true fields t) found

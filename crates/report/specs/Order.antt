@@ -14,7 +14,7 @@ use Rattle.query_check.specs.Typing.{key_expression}
 use Rattle.query_truth.specs.Truth.{is_null}
 use Rattle.tables.specs.Fitting.{set_of}
 use Rattle.tables.specs.Found.{Found}
-use Rattle.report.specs.Having.{row_value, rows_kept}
+use Rattle.report.specs.Having.{row_value, rows_having_true}
 use Rattle.report.specs.Shown.{value_in}
 
 -- ---- grouping columns
@@ -78,6 +78,6 @@ abbrev pub in_order : {X : Type 0} → (X → X → Ordering) → List X → Lis
 in_order order [] = []
 in_order order (x ∷ xs) = inserted order x (in_order order xs)
 
--- the rows of a report in their order: those that HAVING keeps
+-- the rows of a report in their order: those for which HAVING is True
 abbrev pub arranged : List Field → TreeForm → List Found → List Found
-arranged fields t found = in_order (before fields t) (rows_kept fields t found)
+arranged fields t found = in_order (before fields t) (rows_having_true fields t found)

@@ -10,7 +10,7 @@ use Rattle.report.specs.Order.{arranged}
 use Rattle.report.specs.Shown.{row_shown}
 use Rattle.report.specs.Text.{report_bytes, refused_bytes}
 
--- what a report shows: for each group that HAVING keeps, in the order of the rows, its cells
+-- what a report shows: for each group for which HAVING is True, in the order of the rows, its cells
 abbrev pub rows_shown : List Field → TreeForm → List Found → List (List Summary)
 rows_shown fields t found = map (row_shown fields t) (arranged fields t found)
 

@@ -8,7 +8,7 @@ ghost use Rattle.report.specs.Report.{rows_shown};
 ghost use Rattle.report.specs.Shown.{cells_of, row_shown};
 
 use crate::cells::expression_cell;
-use crate::having::kept_rows;
+use crate::having::rows_having_true;
 use crate::ordering::in_order;
 use crate::row::ReportRow;
 use groups::Group;
@@ -33,8 +33,8 @@ pub fn arrange(alloc: Global, groups: &Groups, plan: &Plan) -> Result<Vec<Report
     ensures cells { IfOk result (λ rows. map cells_of rows.items ≡ rows_shown (fields_of_plan plan.now) (form_of_plan plan.now) groups.now.found) }
     ensures wide { IfOk result (λ rows. All (λ row. length row.cells.items ≡ length (form_of_plan plan.now).items) rows.items) }
 {
-    let kept = kept_rows(alloc, plan, groups.rows())?;
-    let ordered = in_order(alloc, plan, kept)?;
+    let unordered = rows_having_true(alloc, plan, groups.rows())?;
+    let ordered = in_order(alloc, plan, unordered)?;
     let mut rows = Vec::with_capacity(alloc, ordered.len())?;
     for group in ordered {
         rows.push(row_for(alloc, plan, group)?)?;

@@ -1,4 +1,4 @@
-//! The rows that HAVING keeps.
+//! The rows of which HAVING is True.
 ghost use Rattle.std.specs.Prelude.{◌≡◌, IfOk, false, map};
 ghost use Rattle.values.specs.Datum.{datum_of};
 ghost use Rattle.query_tree.specs.Syntax.{between, compare, expression_form, member, name, operand_form, predicate_form, predicate_forms};
@@ -6,7 +6,7 @@ ghost use Rattle.query_truth.specs.Truth.{all_of, any_of, operand_value, truth, 
 ghost use Rattle.query_plan.specs.Planned.{fields_of_plan, form_of_plan};
 ghost use Rattle.tables.specs.Found.{row_of};
 ghost use Rattle.tables.specs.Planned.{AreFittingUnder};
-ghost use Rattle.report.specs.Having.{rows_kept};
+ghost use Rattle.report.specs.Having.{rows_having_true};
 ghost use Rattle.report.specs.Inside.Planned.{AreTypedUnder, FitsUnder, HasSetUnder, IsTypedUnder, value_under};
 
 use crate::cells::{expression_value, name_value};
@@ -18,25 +18,25 @@ use query_truth::{
 use std::alloc::{AllocError, Global};
 use values::{Op, Truth, Value, compare};
 
-/// The groups whose rows HAVING keeps: those for which its predicate is True. Without HAVING they are all groups.
-pub(crate) fn kept_rows<'a>(
+/// The groups of whose rows the predicate of HAVING is True. Without HAVING they are all groups.
+pub(crate) fn rows_having_true<'a>(
     alloc: Global,
     plan: &Plan,
     rows: &'a [(usize, Group)],
 ) -> Result<Vec<&'a (usize, Group)>, AllocError>
     requires { AreFittingUnder plan.now (map row_of rows.now) }
-    ensures { IfOk result (λ kept. map (λ r. row_of r.now) kept.items ≡ rows_kept (fields_of_plan plan.now) (form_of_plan plan.now) (map row_of rows.now)) }
+    ensures { IfOk result (λ found. map (λ r. row_of r.now) found.items ≡ rows_having_true (fields_of_plan plan.now) (form_of_plan plan.now) (map row_of rows.now)) }
 {
     let Some(having) = &plan.query().tree().having_condition else {
         return rows.iter().collect(alloc);
     };
-    let mut kept = Vec::new(alloc);
+    let mut true_rows = Vec::new(alloc);
     for found in rows {
         if row_truth(alloc, plan, found, having)?.is(Truth::True) {
-            kept.push(found)?;
+            true_rows.push(found)?;
         }
     }
-    Ok(kept)
+    Ok(true_rows)
 }
 
 /// The truth value of a predicate of HAVING for the row of a group.

@@ -11,7 +11,7 @@ returns-clause-fault g c =
     let q = form_of_plan c.args.plan.now in
     let input = c.args.input.now in
     let whole : IsWhole fields q input c.in_ok-partial.partial = subst (λ w. IfOk w (IsWhole fields q input)) c.in_ok-partial.was c.requires.whole in
-    leaves-written c.args.limit fields q input
+    leaves-written c.args.options.max_refused fields q input
     c.as_slice.result.now c.as_slice-2.result.now
     (g.O.Write.contents c.args.out.now) (g.O.Write.contents c.put_both.new.out) (g.E.Write.contents c.args.err.now) (g.E.Write.contents c.put_both.new.err)
     c.in-Err.fault

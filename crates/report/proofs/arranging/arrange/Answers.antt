@@ -8,19 +8,19 @@ use Rattle.tables.specs.Fitting.{AreFitting}
 use Rattle.report.specs.Order.{arranged, before, in_order}
 use Rattle.report.specs.Shown.{cells_of, row_shown}
 use Rattle.report.specs.declared.row.ReportRow.{ReportRow}
-use Rattle.report.proofs.Filtering.{kept-fit}
-use Rattle.report.proofs.Keeping.{within-kept}
+use Rattle.report.proofs.Filtering.{fit-having_true}
+use Rattle.report.proofs.Keeping.{within-having_true}
 use Rattle.report.proofs.Wide.{all-wide}
 use Rattle.report.proofs.arranging.arrange.Goals as goal
 
-pub kept_rows-requires : goal.kept_rows-requires
-kept_rows-requires c = subst (AreFitting (fields_of_plan c.args.plan.now) (form_of_plan c.args.plan.now)) (sym c.rows.ensures.rows) c.requires
+pub rows_having_true-requires : goal.rows_having_true-requires
+rows_having_true-requires c = subst (AreFitting (fields_of_plan c.args.plan.now) (form_of_plan c.args.plan.now)) (sym c.rows.ensures.rows) c.requires
 
 pub in_order-requires : goal.in_order-requires
 in_order-requires c =
     let fields = fields_of_plan c.args.plan.now in
     let t = form_of_plan c.args.plan.now in
-    subst (AreFitting fields t) (sym c.in_ok-kept.ensures) (kept-fit fields t (map row_of c.rows.result.now) (subst (AreFitting fields t) (sym c.rows.ensures.rows) c.requires))
+    subst (AreFitting fields t) (sym c.in_ok-unordered.ensures) (fit-having_true fields t (map row_of c.rows.result.now) (subst (AreFitting fields t) (sym c.rows.ensures.rows) c.requires))
 
 pub loop-group-init : goal.loop-group-init
 loop-group-init c =
@@ -32,11 +32,11 @@ loop-group-init c =
     let left : map shows c.into_iter-group-iterator.result.rest.items ≡ arranged fields t found =
     ap (map shows) rest
     ∙ c.in_ok-ordered.ensures
-    ∙ ap (in_order (before fields t)) c.in_ok-kept.ensures
+    ∙ ap (in_order (before fields t)) c.in_ok-unordered.ensures
     ∙ ap (arranged fields t) c.rows.ensures.rows in
     record {
       shown = ap (λ (rows : List ReportRow). map cells_of rows ++ map (row_shown fields t) (map shows c.into_iter-group-iterator.result.rest.items)) c.in_ok-rows.ensures.items ∙ ap (map (row_shown fields t)) left;
-      within = subst (λ (f : List Found). AllByRecursion (λ x. x.0 < length (sets_of fields t)) f) (sym left) (within-kept fields t found c.requires);
+      within = subst (λ (f : List Found). AllByRecursion (λ x. x.0 < length (sets_of fields t)) f) (sym left) (within-having_true fields t found c.requires);
     }
 
 pub returns-clause-wide : goal.returns-clause-wide

@@ -7,10 +7,10 @@ use Rattle.query_tree.specs.Syntax.{TreeForm, predicate_form}
 use Rattle.query_plan.specs.Planned.{fields_of_plan, form_of_plan}
 use Rattle.groups.specs.declared.group.Group.{Group}
 use Rattle.tables.specs.Found.{row_of}
-use Rattle.report.specs.Having.{rows_kept}
-use Rattle.report.proofs.Keeping.{all-kept, group-fits, having-typed}
+use Rattle.report.specs.Having.{rows_having_true}
+use Rattle.report.proofs.Keeping.{all-having_true, group-fits, having-typed}
 use Rattle.report.proofs.Maps.{map-twice}
-use Rattle.report.proofs.having.kept_rows.Goals as goal
+use Rattle.report.proofs.having.rows_having_true.Goals as goal
 
 pub returns-in_default : goal.returns-in_default
 returns-in_default c =
@@ -23,8 +23,8 @@ returns-in_default c =
     let gathered : IfOk c.collect.result (λ v. map now v.items ≡ c.args.rows.now) = map_from_collect {s = c.iter.result} c.collect.result c.collect.ensures.ran (YieldsList-from_slice c.args.rows.now (search rules)) in
     IfOk-weaker c.collect.result
     (λ v. map now v.items ≡ c.args.rows.now)
-    (λ v. map (λ (r : Bor (ℕ × Group)). row_of r.now) v.items ≡ rows_kept fields t (map row_of c.args.rows.now))
-    (λ v h. sym (map-twice row_of now v.items) ∙ ap (map row_of) h ∙ sym (all-kept fields t (map row_of c.args.rows.now) unwritten))
+    (λ v. map (λ (r : Bor (ℕ × Group)). row_of r.now) v.items ≡ rows_having_true fields t (map row_of c.args.rows.now))
+    (λ v h. sym (map-twice row_of now v.items) ∙ ap (map row_of) h ∙ sym (all-having_true fields t (map row_of c.args.rows.now) unwritten))
     gathered
 
 pub row_truth-requires-clause-fits : goal.row_truth-requires-clause-fits
