@@ -1,17 +1,21 @@
 -- The entries of a hashed map from keys to groups, and what is found in them by a key.
-use Rattle.std.proofs.Common.{◌≡◌, IfSome, Bool, true, false, cond, List, [], ◌∷◌, Option, Some, None, Vec, Global, refl, sym, ap, subst, ◌∙◌}
+use Rattle.std.proofs.Common.{◌≡◌, ◌+◌, IfSome, Bool, length, add-one, arith, true, false, cond, List, [], ◌∷◌, Option, Some, None, Vec, Global, refl, sym, ap, subst, ◌∙◌}
+use Rattle.std.proofs.lemmas.List.{length-map}
 use Rattle.std.specs.Cmp.{eq_by_cmp_equiv}
 use Rattle.std.specs.Cmp.Lexicographic.{pointwise}
-use Rattle.std.specs.FinMap.{find, get, get-from_entries}
+use Rattle.std.specs.FinMap.{find, get, len, get-from_entries, len-empty, len-insert}
+use Rattle.std.specs.Option.{is_some}
 use Rattle.std.specs.Map.{lookup, keys_of, KeepsOthers}
 use Rattle.std.specs.List.{IsDistinct}
 use Rattle.values.specs.Datum.{data_of}
 use Rattle.values.specs.declared.value.Value.{Value}
 use Rattle.query_check.specs.declared.function.ColumnFunction.{ColumnFunction}
-use Rattle.groups.specs.Rows.{Row}
 use Rattle.groups.specs.Groups.{Key, key_order, same_key}
-use Rattle.groups.specs.Inside.Group.{GroupState}
-use Rattle.groups.specs.Inside.Table.{Contents, IsAdded, IsPut, IsEnlarged, IsFitting, grown, enlarged, join_options, entries_by_key, contents_of}
+use Rattle.groups.specs.Inside.Accumulator.{accumulator_state}
+use Rattle.groups.specs.Inside.Group.{GroupState, group_state}
+use Rattle.groups.specs.declared.part.Part.{Part}
+use Rattle.groups.specs.declared.part.Part.TheVariants as taken
+use Rattle.groups.specs.Inside.Table.{Contents, IsPut, IsFitting, IsTaken, IsWithPart, with_part, join_options, entries_by_key, contents_of}
 use Rattle.groups.proofs.Order.{key_total, same_key-Decides, value_eq, key_eq-ties}
 
 abbrev pub Entries : Type 0
@@ -61,15 +65,6 @@ get-updated es fs key w at others q = get-from_entries key_total (entries_by_key
 pub get-shown : (key : List Value) (es : Entries) → get (contents_of es) (data_of key) ≡ lookup (λ k. pointwise value_eq key k.items) es
 get-shown key es = get-from_entries key_total (entries_by_key es) (data_of key) ∙ sym (lookup-shown key es)
 
-pub added_is : (functions : List ColumnFunction) (old new : Contents) (key : Key) (row : Row) (w : Option GroupState)
-    → ((q : Key) → get new q ≡ cond (same_key q key) w (get old q))
-    → w ≡ Some (grown functions (get old key) row) → (k : Key) → IsAdded functions old new key row k
-added_is functions old new key row w h e k =
-    h k ∙ elim (same_key k key) as (λ b. same_key k key ≡ b → cond b w (get old k) ≡ cond b (Some (grown functions (get old k) row)) (get old k)) [
-      | true ↦ λ i. e ∙ ap (λ l. Some (grown functions (get old l) row)) (sym ((same_key-Decides k key).0 i))
-      | false ↦ λ i. refl
-    ] refl
-
 pub put_is : (old new : Contents) (key : Key) (part : GroupState) (w : Option GroupState)
     → ((q : Key) → get new q ≡ cond (same_key q key) w (get old q))
     → w ≡ join_options (get old key) (Some part) → (k : Key) → IsPut old new key part k
@@ -79,14 +74,35 @@ put_is old new key part w h e k =
       | false ↦ λ i. refl
     ] refl
 
-pub enlarged_is : (functions : List ColumnFunction) (old new : Contents) (key : Key) (part : GroupState) (w : Option GroupState)
+pub with_part_is : (functions : List ColumnFunction) (old new : Contents) (key : Key) (part : Part) (w : Option GroupState)
     → ((q : Key) → get new q ≡ cond (same_key q key) w (get old q))
-    → w ≡ Some (enlarged functions (get old key) part) → (k : Key) → IsEnlarged functions old new key part k
-enlarged_is functions old new key part w h e k =
-    h k ∙ elim (same_key k key) as (λ b. same_key k key ≡ b → cond b w (get old k) ≡ cond b (Some (enlarged functions (get old k) part)) (get old k)) [
-      | true ↦ λ i. e ∙ ap (λ l. Some (enlarged functions (get old l) part)) (sym ((same_key-Decides k key).0 i))
+    → w ≡ Some (with_part functions (get old key) part) → (k : Key) → IsWithPart functions old new key part k
+with_part_is functions old new key part w h e k =
+    h k ∙ elim (same_key k key) as (λ b. same_key k key ≡ b → cond b w (get old k) ≡ cond b (Some (with_part functions (get old k) part)) (get old k)) [
+      | true ↦ λ i. e ∙ ap (λ l. Some (with_part functions (get old l) part)) (sym ((same_key-Decides k key).0 i))
       | false ↦ λ i. refl
     ] refl
+
+-- what a search by a key of the code finds
+pub got-by : (es : Entries) (table : Contents) (key : Key) (code : List Value) → contents_of es ≡ table → data_of code ≡ key → get table key ≡ lookup (λ k. pointwise value_eq code k.items) es
+got-by es table key code view is = ap (λ m. get m key) (sym view) ∙ ap (get (contents_of es)) (sym is) ∙ get-shown code es
+
+-- after one more part was put to what a search by a key of the code finds
+pub with_part-by : (functions : List ColumnFunction) (part : Part) (es fs : Entries) (old : Contents) (key : Key) (code : List Value) (group : GroupState)
+    → contents_of es ≡ old → data_of code ≡ key → lookup (λ k. pointwise value_eq code k.items) fs ≡ Some group
+    → KeepsOthers (λ x y. pointwise value_eq x.items y.items) (λ k. pointwise value_eq code k.items) es fs
+    → group ≡ with_part functions (get old key) part → (k : Key) → IsWithPart functions old (contents_of fs) key part k
+with_part-by functions part es fs old key code group view is at others h =
+    with_part_is functions old (contents_of fs) key part (Some group)
+    (λ q. get-updated es fs code (Some group) at others q
+    ∙ ap (λ l. cond (same_key q l) (Some group) (get (contents_of es) q)) is
+    ∙ ap (λ m. cond (same_key q key) (Some group) (get m q)) view)
+    (ap Some h)
+
+-- a new group takes a part as one without members does
+pub taken-first : (functions : List ColumnFunction) (part : Part) → IsTaken functions None part → IsTaken functions (Some (group_state functions [])) part
+taken-first functions (taken.Record row) h = (h.0, (omega arith, length-map functions (λ f. accumulator_state f [])))
+taken-first functions (taken.Copies members) h = ((omega (arith, h.1), h.2 ∙ sym (length-map functions (λ f. accumulator_state f []))), h.1, h.2)
 
 -- ---- merging the entries of another table, one after another
 
@@ -128,3 +144,16 @@ fits_step old new k e es d a h =
 
 pub find-first : (e : Vec Value Global × GroupState) (es : Entries) → find key_order (data_of e.0.items) (entries_by_key (e ∷ es)) ≡ Some e.1
 find-first e es = ap (λ b. cond b (Some e.1) (find key_order (data_of e.0.items) (entries_by_key es))) ((eq_by_cmp_equiv key_total).refl (data_of e.0.items))
+
+-- the contents have as many keys as there are entries
+pub len-entries : (es : Entries) → IsDistinct key_eq (keys_of es) → len (contents_of es) ≡ length es
+unfolding IsDistinct
+len-entries [] d = len-empty key_order GroupState
+len-entries (e ∷ es) d =
+    let k = data_of e.0.items in
+    let m = contents_of es in
+    let absent : get m k ≡ None = get-from_entries key_total (entries_by_key es) k ∙ none_after k e es d ((eq_by_cmp_equiv key_total).refl k) in
+    len-insert key_total m k e.1
+    ∙ ap (λ (o : Option GroupState). cond (is_some o) (len m) (len m + 1)) absent
+    ∙ ap (λ n. n + 1) (len-entries es d.1)
+    ∙ add-one (length es)

@@ -6,7 +6,7 @@ pub mod Bags
 pub mod Firsts
 pub mod Sets
 pub mod Entries
-pub mod Moves
+pub mod Keys
 pub mod Meaning
 pub mod Distinct
 pub mod GroupsLaw
@@ -14,4 +14,3 @@ pub mod Covering
 pub mod Rolled
 pub mod AnyOrder
 pub mod Rolling
-pub mod Literals

@@ -4,5 +4,4 @@ pub mod Values
 pub mod Coding
 pub mod Accumulator
 pub mod Group
-pub mod Moving
 pub mod Table

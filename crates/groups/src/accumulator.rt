@@ -195,7 +195,7 @@ pub(crate) fn is_present(value: &Value) -> bool
 }
 
 /// The place of the column that a set function takes; `COUNT(*)` takes none.
-pub(crate) fn argument_place(function: ColumnFunction) -> Option<usize>
+fn argument_place(function: ColumnFunction) -> Option<usize>
     ensures { result ≡ argument_place function }
 {
     match function {

@@ -14,6 +14,7 @@ mod extreme;
 mod group;
 mod key;
 mod laws;
+mod part;
 mod table;
 mod total;
 

@@ -1,7 +1,8 @@
 //! A hashed table of groups.
 use crate::accumulators::Accumulators;
 use crate::group::{Group, groups_of};
-use crate::key::{indices_in, key_of, moved_key};
+use crate::key::{indices_in, key_of, write_key};
+use crate::part::Part;
 use query_check::ColumnFunction;
 use std::alloc::{AllocError, Global};
 use std::collections::HashMap;
@@ -13,6 +14,10 @@ use values::Value;
 pub struct Table {
     alloc: Global,
     groups: HashMap<Vec<Value>, Accumulators>,
+    /// The key by which a group was last searched. It is written over the one before, so that no memory is taken for a
+    /// record whose group is there. A new group gets a key of its own, with room for its own texts and no more; this
+    /// one keeps room for the longest text of each column so far, which is no longer than a line may be.
+    scratch: Vec<Value>,
 }
 
 impl Model for Table {
@@ -26,17 +31,16 @@ impl Model for Table {
 }
 
 impl Table {
-    ghost use Rattle.std.specs.Prelude.{ℕ, nat_eq, [], ◌∷◌, ◌++◌, OnOk, IfOk, List, map};
-    ghost use Rattle.std.specs.List.{IsDistinct};
+    ghost use Rattle.std.specs.Prelude.{◌≡◌, ℕ, [], ◌∷◌, ◌++◌, OnOk, IfOk, List, map};
     ghost use Rattle.groups.specs.Rows.{Row, IsNarrowRow};
     ghost use Rattle.query_check.specs.declared.function.ColumnFunction.{ColumnFunction};
     ghost use Rattle.std.specs.FinMap as fin;
     ghost use Rattle.values.specs.Datum.{data_of};
-    ghost use Rattle.groups.specs.Groups.{Key};
+    ghost use Rattle.groups.specs.Groups.{Key, project};
     ghost use Rattle.groups.specs.Inside.Group.{group_state};
     ghost use Rattle.groups.specs.GroupSummaries.{group_summary_in, group_summaries};
     ghost use Rattle.groups.specs.Bags.{SameBag};
-    ghost use Rattle.groups.specs.Inside.Table.{CanJoin, HasPlace, IsAdded, IsEnlarged, IsPut, IsFitting, IsFittingNew, IsJoined, IsOfFew, IsTableOf, TakesOne};
+    ghost use Rattle.groups.specs.Inside.Table.{CanJoin, IsPut, IsFitting, IsJoined, IsOfFew, IsTableOf, IsTaken, IsWithPart, TakesOne};
     ghost use Rattle.groups.specs.Rolled.{AreAmong};
 
     /// The table of no records under a grouping set, for these set functions.
@@ -50,20 +54,25 @@ impl Table {
         if set.is_empty() {
             return Table::with_empty_key(alloc, functions);
         }
-        Ok(Table {
+        Ok(Table::without_groups(alloc))
+    }
+
+    /// The table that has no group.
+    fn without_groups(alloc: Global) -> Table
+        ensures { result ≡ fin.empty }
+    {
+        Table {
             alloc,
             groups: HashMap::new(alloc),
-        })
+            scratch: Vec::new(alloc),
+        }
     }
 
     /// The table of no records under the empty set, whose one key is there from the start.
     fn with_empty_key(alloc: Global, functions: &[ColumnFunction]) -> Result<Table, AllocError>
         ensures { IfOk result (λ table. (k : Key) → IsPut fin.empty table [] (group_state functions.now []) k) }
     {
-        let mut table = Table {
-            alloc,
-            groups: HashMap::new(alloc),
-        };
+        let mut table = Table::without_groups(alloc);
         let group = Accumulators::new(alloc, functions)?;
         table.put_to_group(Vec::new(alloc), group)?;
         Ok(table)
@@ -81,27 +90,7 @@ impl Table {
         ensures added { OnOk result ((rows : List Row) → IsTableOf set.now functions.now self.old rows
             → IsTableOf set.now functions.now self.new (rows ++ data_of row.now ∷ [])) }
     {
-        let key = key_of(self.alloc, set, row)?;
-        self.add_to_group(functions, key, row)
-    }
-
-    /// Takes one more record, as `add` does. The record's values move into the key, but for those that a set function
-    /// takes. After an error the table is of no use.
-    pub fn add_last(
-        &mut self,
-        set: &[usize],
-        functions: &[ColumnFunction],
-        row: Vec<Value>,
-    ) -> Result<(), AllocError>
-        requires different { IsDistinct nat_eq set.now }
-        requires narrow { IsNarrowRow (data_of row.items) }
-        requires room { ∥ TakesOne set.now functions.now self.old ∥₁ }
-        ensures added { OnOk result ((rows : List Row) → IsTableOf set.now functions.now self.old rows
-            → IsTableOf set.now functions.now self.new (rows ++ data_of row.items ∷ [])) }
-    {
-        let mut row = row;
-        let key = moved_key(self.alloc, set, functions, &mut row)?;
-        self.add_to_group(functions, key, row.as_slice())
+        self.put(set, functions, row, Part::Record(row))
     }
 
     /// Takes the records of another table, whose groups move into this one. After an error the table is of no use.
@@ -130,14 +119,20 @@ impl Table {
         let indices = indices_in(self.alloc, finer, set)?;
         let mut rolled = Table::new(self.alloc, set, functions)?;
         for (key, part) in &self.groups {
-            let rolled_key = key_of(self.alloc, indices.as_slice(), key.as_slice())?;
-            rolled.put_copies(functions, rolled_key, part)?;
+            rolled.put(
+                indices.as_slice(),
+                functions,
+                key.as_slice(),
+                Part::Copies(part),
+            )?;
         }
         Ok(rolled)
     }
 
-    /// The number of groups.
-    pub fn len(&self) -> usize {
+    /// The number of its groups.
+    pub fn len(&self) -> usize
+        ensures { result ≡ fin.len self.now }
+    {
         self.groups.len()
     }
 
@@ -146,31 +141,37 @@ impl Table {
         ensures groups { IfOk result (λ groups. (set : List ℕ) (functions : List ColumnFunction) (rows : List Row)
             → IsTableOf set functions self rows → SameBag (map group_summary_in groups.items) (group_summaries set functions rows)) }
     {
-        let Table { alloc, groups } = self;
+        let Table {
+            alloc,
+            groups,
+            scratch: _,
+        } = self;
         groups_of(alloc, groups)
     }
 
-    /// Takes one more record of the group of a key.
-    fn add_to_group(
+    /// Puts one more part to the group of a record's key.
+    fn put(
         &mut self,
+        set: &[usize],
         functions: &[ColumnFunction],
-        key: Vec<Value>,
         row: &[Value],
+        part: Part<'_>,
     ) -> Result<(), AllocError>
-        requires narrow { IsNarrowRow (data_of row.now) }
-        requires place { HasPlace functions.now (fin.get self.old (data_of key.items)) }
-        ensures { OnOk result ((k : Key) → IsAdded functions.now self.old self.new (data_of key.items) (data_of row.now) k) }
+        requires { IsTaken functions.now (fin.get self.old (project set.now (data_of row.now))) part }
+        ensures { OnOk result ((k : Key) → IsWithPart functions.now self.old self.new (project set.now (data_of row.now)) part.entry k) }
     {
-        if let Some(group) = self.groups.get_mut(&key) {
-            return group.add(functions, row);
+        write_key(&mut self.scratch, set, row)?;
+        if let Some(group) = self.groups.get_mut(&self.scratch) {
+            return part.put_to(group, functions);
         }
         let mut group = Accumulators::new(self.alloc, functions)?;
-        group.add(functions, row)?;
+        part.put_to(&mut group, functions)?;
+        let key = key_of(self.alloc, set, row)?;
         self.groups.insert(key, group)?;
         Ok(())
     }
 
-    /// Puts one more part to the group of a key.
+    /// Moves one more part to the group of a key.
     fn put_to_group(&mut self, key: Vec<Value>, part: Accumulators) -> Result<(), AllocError>
         requires { IsFitting part (fin.get self.old (data_of key.items)) }
         ensures { OnOk result ((k : Key) → IsPut self.old self.new (data_of key.items) part k) }
@@ -182,31 +183,16 @@ impl Table {
         Ok(())
     }
 
-    /// Puts copies of one more part to the group of a key.
-    fn put_copies(
-        &mut self,
-        functions: &[ColumnFunction],
-        key: Vec<Value>,
-        part: &Accumulators,
-    ) -> Result<(), AllocError>
-        requires { IsFittingNew functions.now part.now (fin.get self.old (data_of key.items)) }
-        ensures { OnOk result ((k : Key) → IsEnlarged functions.now self.old self.new (data_of key.items) part.now k) }
-    {
-        if let Some(group) = self.groups.get_mut(&key) {
-            return group.absorb_copies(part);
-        }
-        let mut group = Accumulators::new(self.alloc, functions)?;
-        group.absorb_copies(part)?;
-        self.groups.insert(key, group)?;
-        Ok(())
-    }
-
     /// Puts the groups of another table to these.
     fn put_all(&mut self, other: Table) -> Result<(), AllocError>
         requires { CanJoin self.old other }
         ensures { OnOk result ((k : Key) → IsJoined self.old other self.new k) }
     {
-        let Table { alloc: _, groups } = other;
+        let Table {
+            alloc: _,
+            groups,
+            scratch: _,
+        } = other;
         for (key, part) in groups {
             self.put_to_group(key, part)?;
         }

@@ -1,9 +1,8 @@
-//! Records are grouped in two parts, by copies and by moved keys, and the parts are put together; groups are rolled up.
-ghost use Rattle.std.specs.Prelude.{◌<◌, ◌^◌, ◌++◌, ◌∷◌, [], nat_eq, IfOk, OnOk, length, List};
-ghost use Rattle.std.specs.List.{IsDistinct};
+//! Records are grouped in two parts, and the parts are put together; groups are rolled up.
+ghost use Rattle.std.specs.Prelude.{◌<◌, ◌^◌, IfOk, length, List};
 ghost use Rattle.values.specs.Datum.{data_of, datum_of};
 ghost use Rattle.groups.specs.Rows.{Row, IsNarrow, IsNarrowRow};
-ghost use Rattle.groups.specs.Inside.Table.{IsTableOf, TakesOne};
+ghost use Rattle.groups.specs.Inside.Table.{IsTableOf};
 
 use groups::{Cell, Group, Table};
 use query_check::ColumnFunction;
@@ -39,42 +38,20 @@ fn row_of(alloc: Global, fields: &[Field]) -> Result<Vec<Value>, AllocError>
     Ok(row)
 }
 
-/// Takes a record by a copy, or by the record itself.
-fn add_one(
-    table: &mut Table,
-    set: &[usize],
-    functions: &[ColumnFunction],
-    row: Vec<Value>,
-    moved: bool,
-) -> Result<(), AllocError>
-    requires different { IsDistinct nat_eq set.now }
-    requires narrow { IsNarrowRow (data_of row.items) }
-    requires room { ∥ TakesOne set.now functions.now table.old ∥₁ }
-    ensures added { OnOk result ((rows : List Row) → IsTableOf set.now functions.now table.old rows
-        → IsTableOf set.now functions.now table.new (rows ++ data_of row.items ∷ [])) }
-{
-    if moved {
-        return table.add_last(set, functions, row);
-    }
-    table.add(set, functions, row.as_slice())
-}
-
 /// The table of some records.
 fn table_of(
     alloc: Global,
     set: &[usize],
     functions: &[ColumnFunction],
     records: &[&[Field]],
-    moved: bool,
 ) -> Result<Table, AllocError>
-    requires different { IsDistinct nat_eq set.now }
-    requires few { length records.now < 2 ^ 62 }
+    requires { length records.now < 2 ^ 62 }
     ensures { IfOk result (λ table. (rows : List Row) × (IsTableOf set.now functions.now table rows × (length rows < 2 ^ 62))) }
 {
     let mut table = Table::new(alloc, set, functions)?;
     for fields in records {
         let row = row_of(alloc, fields)?;
-        add_one(&mut table, set, functions, row, moved)?;
+        table.add(set, functions, row.as_slice())?;
     }
     Ok(table)
 }
@@ -87,12 +64,11 @@ fn joined_groups(
     left: &[&[Field]],
     right: &[&[Field]],
 ) -> Result<Vec<Group>, AllocError>
-    requires different { IsDistinct nat_eq set.now }
     requires few_left { length left.now < 2 ^ 62 }
     requires few_right { length right.now < 2 ^ 62 }
 {
-    let mut table = table_of(alloc, set, functions, left, false)?;
-    let other = table_of(alloc, set, functions, right, true)?;
+    let mut table = table_of(alloc, set, functions, left)?;
+    let other = table_of(alloc, set, functions, right)?;
     table.absorb(other)?;
     table.finish()
 }
@@ -135,17 +111,21 @@ fn parted_groups(alloc: Global) -> Result<Vec<Group>, AllocError> {
 fn rolled_groups(alloc: Global) -> Result<Vec<Group>, AllocError> {
     let records: [&[Field]; 3] = [
         &[Field::Text("x"), Field::Number(5), Field::Text("a")],
+        &[
+            Field::Text("x"),
+            Field::Number(5),
+            Field::Text("much longer"),
+        ],
         &[Field::Nothing, Field::Nothing, Field::Nothing],
-        &[Field::Text("x"), Field::Number(5), Field::Text("b")],
     ];
-    let finest = table_of(alloc, &[0, 2], &FUNCTIONS, &records, true)?;
+    let finest = table_of(alloc, &[0, 2], &FUNCTIONS, &records)?;
     let finer = finest.roll(&[0, 2], &[2, 0], &FUNCTIONS)?;
     finer.roll(&[2, 0], &[0], &FUNCTIONS)?.finish()
 }
 
 /// The groups of no records under the empty set, by way of those by a column.
 fn rolled_of_none(alloc: Global) -> Result<Vec<Group>, AllocError> {
-    let none = table_of(alloc, &[0], &FUNCTIONS, &[], true)?;
+    let none = table_of(alloc, &[0], &FUNCTIONS, &[])?;
     none.roll(&[0], &[], &FUNCTIONS)?.finish()
 }
 

@@ -9,9 +9,11 @@ use Rattle.values.specs.declared.value.Value.{Value}
 use Rattle.values.specs.Datum.{data_of}
 use Rattle.query_check.specs.declared.function.ColumnFunction.{ColumnFunction}
 use Rattle.groups.specs.Inside.Coding.{coded_key}
-use Rattle.groups.specs.Rows.{Row}
+use Rattle.groups.specs.Rows.{Row, IsNarrowRow}
 use Rattle.groups.specs.Groups.{Key, key_order, same_key, keys, members}
 use Rattle.groups.specs.Inside.Group.{GroupState, coded_group, group_state, with_row, join}
+use Rattle.groups.specs.declared.part.Part.{Part}
+use Rattle.groups.specs.declared.part.Part.TheVariants as taken
 
 -- what is kept of each group, by its key
 abbrev pub Contents : Type 0
@@ -90,6 +92,20 @@ IsFitting part group = IfSome group (λ g. (g.lines + part.lines < 2 ^ 63) × (l
 -- a part that a group takes, or a new one for these functions
 abbrev pub IsFittingNew : List ColumnFunction → GroupState → Option GroupState → Type 0
 IsFittingNew functions part group = IsFitting part group × (part.lines < 2 ^ 63) × (length part.parts ≡ length functions)
+
+-- a group, or a new one for these functions, takes a part: a record, or what is kept of some members
+abbrev pub IsTaken : List ColumnFunction → Option GroupState → Part → Type 0
+IsTaken functions group (taken.Record row) = IsNarrowRow (data_of row.now) × HasPlace functions group
+IsTaken functions group (taken.Copies members) = IsFittingNew functions members.now group
+
+-- what is kept of a group after one more part; of a group that is new, after its first one
+abbrev pub with_part : List ColumnFunction → Option GroupState → Part → GroupState
+with_part functions old (taken.Record row) = grown functions old (data_of row.now)
+with_part functions old (taken.Copies members) = enlarged functions old members.now
+
+-- at the key k the table has one more part of the group of a key, put to what it had or to nothing
+abbrev pub IsWithPart : List ColumnFunction → Contents → Contents → Key → Part → Key → Type 0
+IsWithPart functions old new key part k = fin.get new k ≡ cond (same_key k key) (Some (with_part functions (fin.get old k) part)) (fin.get old k)
 
 -- each group of the other table is a part that the group of its key takes, where there is one
 abbrev pub CanJoin : Contents → Contents → Type 0

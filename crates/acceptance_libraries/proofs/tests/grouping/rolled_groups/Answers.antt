@@ -1,9 +1,5 @@
-use Rattle.std.proofs.Common.{refl, arith}
-use Rattle.groups.proofs.Literals.{distinct-two}
+use Rattle.std.proofs.Common.{arith}
 use Rattle.acceptance_libraries.proofs.tests.grouping.rolled_groups.Goals as goal
-
-pub table_of-requires-clause-different : goal.table_of-requires-clause-different
-table_of-requires-clause-different c = distinct-two 0 2 refl
 
 pub roll-requires-clause-few : goal.roll-requires-clause-few
 roll-requires-clause-few c =

@@ -1,9 +1,5 @@
 use Rattle.std.proofs.Common.{arith}
-use Rattle.groups.proofs.Literals.{distinct-one}
 use Rattle.acceptance_libraries.proofs.tests.grouping.rolled_of_none.Goals as goal
-
-pub table_of-requires-clause-different : goal.table_of-requires-clause-different
-table_of-requires-clause-different c = distinct-one 0
 
 pub roll-requires-clause-few : goal.roll-requires-clause-few
 roll-requires-clause-few c =

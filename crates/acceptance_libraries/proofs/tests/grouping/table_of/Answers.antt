@@ -5,19 +5,19 @@ use Rattle.acceptance_libraries.proofs.tests.grouping.table_of.Goals as goal
 pub loop-fields-init : goal.loop-fields-init
 loop-fields-init c = ([], (c.in_ok-table.ensures.empty, refl))
 
-pub add_one-requires-clause-room : goal.add_one-requires-clause-room
-add_one-requires-clause-room c =
+pub add-requires-clause-room : goal.add-requires-clause-room
+add-requires-clause-room c =
     let i = c.loop-fields.invariant in
-    ∣ record { rows = i.0; is_table = i.1.0; few = omega (arith, i.1.1, c.loop-fields-test.true, c.requires.few) } ∣₁
+    ∣ record { rows = i.0; is_table = i.1.0; few = omega (arith, i.1.1, c.loop-fields-test.true, c.requires) } ∣₁
 
 pub loop-fields-preserved : goal.loop-fields-preserved
 loop-fields-preserved c =
     let i = c.loop-fields.invariant in
-    let row = data_of c.in_ok-row.row.items in
+    let row = data_of c.as_slice.result.now in
     let l = length-append i.0 (row ∷ []) in
-    (i.0 ++ row ∷ [], (c.in_ok-add_one.ensures.added i.0 i.1.0, omega (arith, l, i.1.1)))
+    (i.0 ++ row ∷ [], (c.in_ok-add.ensures.added i.0 i.1.0, omega (arith, l, i.1.1)))
 
 pub returns : goal.returns
 returns c =
     let i = c.loop-fields.invariant in
-    (i.0, (i.1.0, omega (arith, i.1.1, c.loop-fields.auto.fields-index-end, c.requires.few)))
+    (i.0, (i.1.0, omega (arith, i.1.1, c.loop-fields.auto.fields-index-end, c.requires)))

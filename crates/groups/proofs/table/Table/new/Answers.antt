@@ -1,9 +1,9 @@
-use Rattle.std.proofs.Common.{◌≡◌, ◌≢◌, ◌==◌, true, ℕ, List, [], length, Result, Ok, Err, IfOk, ap, arith, eq-eqb}
+use Rattle.std.proofs.Common.{◌≡◌, ◌≢◌, ◌==◌, true, ℕ, List, [], length, Result, Ok, Err, IfOk, arith, eq-eqb}
 use Rattle.query_check.specs.declared.function.ColumnFunction.{ColumnFunction}
 use Rattle.std.specs.FinMap as fin
 use Rattle.groups.specs.Groups.{Key}
 use Rattle.groups.specs.Inside.Group.{group_state}
-use Rattle.groups.specs.Inside.Table.{Contents, IsPut, IsTableOf, contents_of}
+use Rattle.groups.specs.Inside.Table.{Contents, IsPut, IsTableOf}
 use Rattle.groups.proofs.Meaning.{table-empty_set, table-no_group}
 use Rattle.groups.proofs.table.Table.new.Goals as goal
 
@@ -11,7 +11,7 @@ pub returns : goal.returns
 returns c =
     let set = c.args.set.now in
     let some : length set ≢ 0 = λ h. let t : (length set == 0) ≡ true = eq-eqb (length set) 0 h in let f = c.if-is_empty.ensures in cc in
-    record { empty = table-no_group set c.args.functions.now (contents_of c.new.result.entries) some (ap contents_of c.new.ensures.empty) }
+    record { empty = table-no_group set c.args.functions.now c.without_groups.result some c.without_groups.ensures }
 
 by_key : {E : Type 0} (set : List ℕ) (fs : List ColumnFunction) (r : Result Contents E) → length set ≡ 0 → IfOk r (λ t. (k : Key) → IsPut fin.empty t [] (group_state fs []) k) → IfOk r (λ t. IsTableOf set fs t [])
 by_key set fs (Ok t) z h = table-empty_set set fs t z h

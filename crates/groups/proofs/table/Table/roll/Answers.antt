@@ -25,8 +25,8 @@ loop-key-init c =
       each = get-each all c.args.self.now (ap contents_of g.0 ∙ c.self.view_is) d;
     }
 
-pub put_copies-requires : goal.put_copies-requires
-put_copies-requires c =
+pub put-requires : goal.put-requires
+put-requires c =
     let g = c.into_iter-key-iterator.ensures.into_iter_gives in
     let all : Entries = c.into_iter-key-iterator.result in
     let d : IsDistinct key_eq (keys_of all) = subst (λ (es : Entries). IsDistinct key_eq (keys_of es)) (sym g.0) g.4 in
@@ -39,8 +39,9 @@ put_copies-requires c =
     let e : Vec Value Global × GroupState = (c.in-Some.key.now, c.in-Some.part.now) in
     let more : c.loop-key.key-iterator ≡ e ∷ rest = rest_more (deref_pair {K = Vec Value Global} {X = GroupState}) c.loop-key.key-iterator rest c.next.result (c.in-Some.key, c.in-Some.part) c.in-Some.is c.next.ensures.steps in
     let each = subst (λ (es : Entries). AllByRecursion (λ e. fin.get t (data_of e.0.items) ≡ Some e.1) es) more i.each in
-    ∥∥₁_elim c.requires.few (fitting-prop fs e.1 (fin.get c.loop-key.rolled (data_of c.in_ok-rolled_key.rolled_key.items))) (λ few.
-    rolled-fitting finer set fs t c.loop-key.rolled e rest all few.rows (data_of c.in_ok-rolled_key.rolled_key.items)
+    let key = project c.as_slice.result.now (data_of c.as_slice-in-loop-key.result.now) in
+    ∥∥₁_elim c.requires.few (fitting-prop fs e.1 (fin.get c.loop-key.rolled key)) (λ few.
+    rolled-fitting finer set fs t c.loop-key.rolled e rest all few.rows key
     (ap contents_of g.0 ∙ c.self.view_is) d few.few few.is_table each.0
     (subst (λ (es : Entries). IsRolled finer set fs c.loop-key.rolled es all few.rows) more (i.rolled few.rows few.is_table)))
 
@@ -52,17 +53,17 @@ loop-key-preserved c =
     let fs = c.args.functions.now in
     let t = c.args.self.now in
     let old = c.loop-key.rolled in
-    let new = c.put_copies.new.self in
+    let new = c.put.new.self in
     let i = c.loop-key.invariant in
     let rest = c.next.new.self in
     let e : Vec Value Global × GroupState = (c.in-Some.key.now, c.in-Some.part.now) in
     let more : c.loop-key.key-iterator ≡ e ∷ rest = rest_more (deref_pair {K = Vec Value Global} {X = GroupState}) c.loop-key.key-iterator rest c.next.result (c.in-Some.key, c.in-Some.part) c.in-Some.is c.next.ensures.steps in
     let each = subst (λ (es : Entries). AllByRecursion (λ e. fin.get t (data_of e.0.items) ≡ Some e.1) es) more i.each in
-    let key : data_of c.in_ok-rolled_key.rolled_key.items ≡ rolled finer set (data_of e.0.items) =
-    c.in_ok-rolled_key.ensures ∙ (λ j. project (c.as_slice.ensures.value j) (data_of (c.as_slice-in-loop-key.ensures.value j))) ∙ ap (λ xs. project xs (data_of e.0.items)) c.in_ok-indices.ensures in
+    let key : project c.as_slice.result.now (data_of c.as_slice-in-loop-key.result.now) ≡ rolled finer set (data_of e.0.items) =
+    (λ j. project (c.as_slice.ensures.value j) (data_of (c.as_slice-in-loop-key.ensures.value j))) ∙ ap (λ xs. project xs (data_of e.0.items)) c.in_ok-indices.ensures in
     record {
       rolled = λ rows is. rolled-step finer set fs t old new e rest all rows c.requires.among is each.0
-          (λ k. subst (λ (q : Key). IsEnlarged fs old new q e.1 k) key (c.in_ok-put_copies.ensures k))
+          (λ k. subst (λ (q : Key). IsEnlarged fs old new q e.1 k) key (c.in_ok-put.ensures k))
           (subst (λ (es : Entries). IsRolled finer set fs old es all rows) more (i.rolled rows is));
       each = each.1;
     }

@@ -1,0 +1,34 @@
+//! What a group takes.
+ghost use Rattle.std.specs.Prelude.{◌≡◌, Some, OnOk};
+ghost use Rattle.groups.specs.Inside.Table.{IsTaken, with_part};
+
+use crate::accumulators::Accumulators;
+use query_check::ColumnFunction;
+use std::alloc::AllocError;
+use values::Value;
+
+/// A part of a group, which a group takes.
+#[derive(Clone, Copy, Debug)]
+pub(crate) enum Part<'a> {
+    /// One member, by its values.
+    Record(&'a [Value]),
+    /// What is kept of some members, of which copies are taken.
+    Copies(&'a Accumulators),
+}
+
+impl Part<'_> {
+    /// Puts it to a group. After an error the group is of no use.
+    pub(crate) fn put_to(
+        self,
+        group: &mut Accumulators,
+        functions: &[ColumnFunction],
+    ) -> Result<(), AllocError>
+        requires { IsTaken functions.now (Some group.old) self }
+        ensures { OnOk result (group.new ≡ with_part functions.now (Some group.old) self.entry) }
+    {
+        match self {
+            Part::Record(row) => group.add(functions, row),
+            Part::Copies(members) => group.absorb_copies(members),
+        }
+    }
+}
