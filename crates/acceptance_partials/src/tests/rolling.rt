@@ -1,6 +1,7 @@
 //! Partial results rolled to sets of grouping columns, listed or not.
 ghost use Rattle.std.specs.Prelude.{◌≡◌, true, IfOk};
 ghost use Rattle.query_plan.specs.Planned.{fields_of_plan, form_of_plan};
+ghost use Rattle.groups.specs.Rolled.{AreAmong};
 ghost use Rattle.tables.specs.Partials.{IsPartialOf};
 ghost use Rattle.tables.specs.Planned.{AreGroupingColumns};
 
@@ -35,12 +36,18 @@ fn rolled_to_a_set_that_is_not_listed(rt: HostRuntime) {
     drop(plan);
 }
 
+/// Whether a set has all columns of another one.
+fn has_columns(finer: &[usize], set: &[usize]) -> bool
+    ensures { result ≡ true → AreAmong set.now finer.now }
+{
+    set.iter().all(|place| finer.contains(place))
+}
+
 /// Whether each place is that of a grouping column.
 fn are_grouping_columns(plan: &Plan, set: &[usize]) -> bool
     ensures { result ≡ true → AreGroupingColumns plan.now set.now }
 {
-    let grouping = plan.grouping();
-    set.iter().all(|place| grouping.contains(place))
+    has_columns(plan.grouping(), set)
 }
 
 /// The groups by their keys.

@@ -3,7 +3,7 @@ use Rattle.std.specs.List.{All}
 use Rattle.query_plan.specs.Planned.{fields_of_plan, form_of_plan}
 use Rattle.lines.specs.Input.{good}
 use Rattle.tables.specs.Results.{query_found}
-use Rattle.report.specs.Report.{NamesColumn}
+use Rattle.report.specs.Report.{NamesColumn, refusals_of}
 use Rattle.report.specs.Shown.{row_shown}
 use Rattle.report.specs.Text.{report_bytes}
 use Rattle.engine.proofs.Named.{refused-named}
@@ -27,3 +27,11 @@ returns-clause-report c = λ input whole.
     let blind = c.arranged_law.ensures fields q groups.found fit
     (query_found fields q (good fields input)) is.rows in
     c.in_ok-report.ensures ∙ ap (λ rows. report_bytes q.items (map (row_shown fields q) rows)) (sym blind)
+
+pub returns-clause-refused : goal.returns-clause-refused
+returns-clause-refused c = λ input whole.
+    let fields = fields_of_plan c.args.plan.now in
+    let is = c.in_ok-groups.ensures.whole input whole.pieces whole.stands whole.cut in
+    c.in_ok-refused.ensures
+    ∙ ap (λ columns. refusals_of columns c.in_ok-groups.groups.refused) c.schema.ensures.schema
+    ∙ ap (refusals_of fields) is.refused
