@@ -1,6 +1,9 @@
 //! The numbers by which a run is done.
 ghost use Rattle.std.specs.Prelude.{◌≡◌, ◌≤◌, IsSome, IfSome};
-ghost use Rattle.command_line.specs.Ranges.{AreInRange};
+ghost use Rattle.command_line.specs.Ranges.{AreInRange, IsRoundLength};
+
+/// The most bytes that a round may have.
+const LONGEST_ROUND: usize = 67_108_864;
 
 /// How a run is done: its numbers, each in its range.
 #[derive(Clone, Copy, Debug, PartialEq, Eq)]
@@ -8,32 +11,57 @@ pub struct Options {
     workers: usize,
     piece: usize,
     max_refused: Option<u64>,
+    round: usize,
     ghost some_worker: { 1 ≤ workers },
     ghost few_workers: { workers ≤ 64 },
     ghost some_byte: { 1 ≤ piece },
     ghost short_piece: { piece ≤ 67108864 },
+    ghost long_round: { 1048578 ≤ round },
+    ghost short_round: { round ≤ 67108864 },
 }
 
 impl Options {
     /// The options of these numbers: how many workers there are, 1 to 64; how many bytes of the
     /// input are worked on at once, 1 to 67,108,864; and how many lines may be refused, where that
-    /// is limited. None where a number is out of its range.
+    /// is limited. The input is read in rounds of at most 67,108,864 bytes. None where a number is out
+    /// of its range.
     pub fn new(workers: usize, piece: usize, max_refused: Option<u64>) -> Option<Options>
         ensures inside { AreInRange workers piece → IsSome result }
         ensures outside { IsSome result → AreInRange workers piece }
         ensures workers { IfSome result (λ options. options.workers ≡ workers) }
         ensures piece { IfSome result (λ options. options.piece ≡ piece) }
         ensures max_refused { IfSome result (λ options. options.max_refused ≡ max_refused) }
+        ensures round { IfSome result (λ options. options.round ≡ 67108864) }
     {
         if (1..=64).contains(&workers) && (1..=67_108_864).contains(&piece) {
             Some(Options {
                 workers,
                 piece,
                 max_refused,
+                round: LONGEST_ROUND,
             })
         } else {
             None
         }
+    }
+
+    /// The same options, but that the input is read in rounds of at most so many bytes, 1,048,578 to
+    /// 67,108,864. None where the number is out of its range.
+    pub fn with_round(self, bytes: usize) -> Option<Options>
+        ensures inside { IsRoundLength bytes → IsSome result }
+        ensures outside { IsSome result → IsRoundLength bytes }
+        ensures round { IfSome result (λ options. options.round ≡ bytes) }
+        ensures workers { IfSome result (λ options. options.workers ≡ self.workers) }
+        ensures piece { IfSome result (λ options. options.piece ≡ self.piece) }
+        ensures max_refused { IfSome result (λ options. options.max_refused ≡ self.max_refused) }
+    {
+        if !(1_048_578..=LONGEST_ROUND).contains(&bytes) {
+            return None;
+        }
+        Some(Options {
+            round: bytes,
+            ..self
+        })
     }
 
     /// How many workers there are, 1 to 64.
@@ -59,5 +87,14 @@ impl Options {
         ensures { result ≡ self.now.max_refused }
     {
         self.max_refused
+    }
+
+    /// How many bytes of the input are held at once and worked on together, at most: 1,048,578 to
+    /// 67,108,864.
+    pub fn round(&self) -> usize
+        ensures value { result ≡ self.now.round }
+        ensures long_round { 1048578 ≤ result }
+    {
+        self.round
     }
 }

@@ -1,17 +1,24 @@
-//! An input of JSON lines: cut into pieces that end with lines, split into lines, and read as records.
+//! An input of JSON lines: read in rounds of whole lines, cut into pieces that end with lines, split into lines, and read as
+//! records.
 #![tactic(auto)]
 
 mod cutting;
 mod fault;
+mod held;
+mod holding;
+mod laws;
 mod pieces;
 mod reading;
+mod rounds;
 mod splitting;
 mod tokens;
 mod tree;
 
 pub use cutting::cut;
-pub use fault::{LineFault, LineRefusal};
+pub use fault::{LineFault, LineRefusal, ReadFault};
+pub use laws::{front_law, trim_law};
 pub use pieces::Piece;
 pub use reading::{RecordReader, read_record};
+pub use rounds::{Round, Rounds};
 pub use splitting::{Lines, lines_of};
 pub use tree::read_by_tree;

@@ -1,5 +1,5 @@
 -- What a partial result stands for.
-use Rattle.std.specs.Prelude.{◌≡◌, ℕ, List, length, map}
+use Rattle.std.specs.Prelude.{◌≡◌, ℕ, List, [], ◌∷◌, length, map}
 use Rattle.values.specs.Schema.{Field}
 use Rattle.lines.specs.Input.{good, refused}
 use Rattle.query_tree.specs.Syntax.{TreeForm}
@@ -11,7 +11,7 @@ use Rattle.groups.specs.Bags.{SameBag}
 use Rattle.groups.specs.Inside.Table.{IsTableOf}
 use Rattle.tables.specs.Results.{query_found}
 use Rattle.tables.specs.Notes.{note_of}
-use Rattle.tables.specs.Pieces.{IndexedPiece, all_lines, records_of, refused_within}
+use Rattle.tables.specs.Pieces.{IndexedPiece, IsCutInto, all_lines, records_of, refused_within}
 use Rattle.tables.specs.States.{GroupsState, PartialState}
 
 -- Under a schema and a query a partial result stands for pieces, in whatever order: it has the query's grouping sets and set functions, the table of all
@@ -27,6 +27,16 @@ pub record StandsFor (fields : List Field) (q : TreeForm) (partial : PartialStat
 -- a partial result of a query stands for some pieces
 abbrev pub IsPartialOf : List Field → TreeForm → PartialState → Type 0
 IsPartialOf fields q partial = ∥ ((pieces : List IndexedPiece) × StandsFor fields q partial pieces) ∥₁
+
+-- a partial result stands for an input: for pieces that the input is cut into
+pub record StandsForInput (fields : List Field) (q : TreeForm) (partial : PartialState) (input : List ℕ) : Type 0 where
+  pub pieces : List IndexedPiece
+  pub stands : StandsFor fields q partial pieces
+  pub cut : IsCutInto input pieces
+
+-- the one piece that is the whole input
+abbrev pub whole_piece : List ℕ → List IndexedPiece
+whole_piece input = record { index = 0; bytes = input } ∷ []
 
 -- partial results have one shape where their grouping sets and set functions are the same
 pub record HaveOneShape (partial other : PartialState) : Type 0 where

@@ -55,11 +55,12 @@ impl Partial {
     ghost use Rattle.std.specs.Prelude.{[], ◌∷◌, ◌++◌, ◌+◌, ◌↔◌, ℕ, List, IfOk, OnOk, IsTrue};
     ghost use Rattle.values.specs.Schema.{Field};
     ghost use Rattle.lines.specs.Lines.{lines};
+    ghost use Rattle.lines.specs.Pieces.{AreWholeLines};
     ghost use Rattle.query_tree.specs.Syntax.{TreeForm};
     ghost use Rattle.groups.specs.Groups.{Key};
     ghost use Rattle.groups.specs.Rows.{Row};
     ghost use Rattle.query_plan.specs.Planned.{fields_of_plan};
-    ghost use Rattle.tables.specs.Partials.{HaveOneShape, IsPartialOf, StandsFor};
+    ghost use Rattle.tables.specs.Partials.{HaveOneShape, IsPartialOf, StandsFor, StandsForInput, whole_piece};
     ghost use Rattle.tables.specs.Planned.{AreFittingUnder, AreGroupingColumns, GivesGroupsOfSet, GivesGroupsUnder, HasEachRecordOnceUnder, HasMembersOfFiner, IsPartialUnder, IsResultUnder, StandsForUnder};
     ghost use Rattle.tables.specs.Pieces.{AreInOrder, AreNumbered, HaveOwnIndexes, IndexedPiece, IsCutInto, all_lines, records_of, refused_numbered, refused_within};
 
@@ -222,6 +223,23 @@ impl Partial {
             refused: refused + other.refused,
             notes,
         })
+    }
+
+    /// The result over an input whose front this one is the result of and whose rest the other one is the result of,
+    /// where the front is whole lines: over all of it as one piece of index 0, so that the refused lines of the rest are
+    /// numbered behind the lines of the front. Which pieces the two were cut into is forgotten.
+    ///
+    /// # Errors
+    ///
+    /// `AllocError` where there is no memory for it; both are given up then.
+    pub fn follow(self, rest: Partial) -> Result<Partial, AllocError>
+        requires one_shape { HaveOneShape self rest }
+        requires few { self.lines + rest.lines < 2 ^ 63 }
+        ensures stands { IfOk result (λ followed. (fields : List Field) (q : TreeForm) (front back : List ℕ)
+            → StandsForInput fields q self front → StandsForInput fields q rest back → AreWholeLines front
+            → StandsFor fields q followed (whole_piece (front ++ back))) }
+    {
+        Err(AllocError)
     }
 
     /// The groups of the good records of all lines of the pieces, and the refused lines by their

@@ -1,0 +1,85 @@
+-- The lines of an input whose front is whole lines.
+use Rattle.std.proofs.Common.{◌≡◌, ◌+◌, ℕ, suc, inl, inr, List, [], ◌∷◌, ◌++◌, length, map, filter_map, option_map, Option, Result, Ok, Err, refl, sym, ap, ◌∙◌, arith, append_assoc}
+use Rattle.std.proofs.lemmas.List.{map-append, length-map}
+use Rattle.std.proofs.lemmas.List.Elements.{filter_map-append}
+use Rattle.std.specs.List.{enumerate_from}
+use Rattle.std.specs.Result.{result_err, result_ok}
+use Rattle.values.specs.Datum.{Datum}
+use Rattle.values.specs.Schema.{Field}
+use Rattle.lines.specs.declared.fault.LineFault.{LineFault}
+use Rattle.lines.specs.Input.{answers, good, refused}
+use Rattle.lines.specs.Lines.{line_feed, lines}
+use Rattle.lines.specs.Pieces.{AreWholeLines, EndsInFeed}
+use Rattle.lines.specs.Taken.{taken}
+use Rattle.lines.proofs.Splits.{lines-append}
+
+lines-front : (front rest : List ℕ) → EndsInFeed front → lines (front ++ rest) ≡ lines front ++ lines rest
+lines-front front rest e =
+    ap (λ xs. lines (xs ++ rest)) e.is
+    ∙ ap lines (append_assoc e.front (line_feed ∷ []) rest)
+    ∙ lines-append e.front rest
+    ∙ ap (λ xs. lines xs ++ lines rest) (sym e.is)
+
+answers-front : (fields : List Field) (front rest : List ℕ) → EndsInFeed front → answers fields (front ++ rest) ≡ answers fields front ++ answers fields rest
+answers-front fields front rest e = ap (map (taken fields)) (lines-front front rest e) ∙ map-append (taken fields) (lines front) (lines rest)
+
+good-front : (fields : List Field) (front rest : List ℕ) → EndsInFeed front → good fields (front ++ rest) ≡ good fields front ++ good fields rest
+good-front fields front rest e = ap (filter_map result_ok) (answers-front fields front rest e) ∙ filter_map-append result_ok (answers fields front) (answers fields rest)
+
+-- ---- numbers
+
+abbrev Answer : Type 0
+Answer = Result (List Datum) LineFault
+
+abbrev fault_at : ℕ × Answer → Option (ℕ × LineFault)
+fault_at p = option_map (λ fault. (p.0, fault)) (result_err p.1)
+
+abbrev shift : ℕ → ℕ × LineFault → ℕ × LineFault
+shift n line = (n + line.0, line.1)
+
+abbrev refused_from : ℕ → List Answer → List (ℕ × LineFault)
+refused_from n found = filter_map fault_at (enumerate_from n found)
+
+refused_from-append : (n : ℕ) (xs ys : List Answer) → refused_from n (xs ++ ys) ≡ refused_from n xs ++ refused_from (n + length xs) ys
+refused_from-append n [] ys = ap (λ m. refused_from m ys) (let e : n ≡ n + 0 = omega arith in e)
+refused_from-append n (Ok value ∷ xs) ys =
+    refused_from-append (n + 1) xs ys ∙ ap (λ m. refused_from (n + 1) xs ++ refused_from m ys) (let e : n + 1 + length xs ≡ n + suc (length xs) = omega arith in e)
+refused_from-append n (Err fault ∷ xs) ys =
+    ap (λ ls. (n, fault) ∷ ls)
+    (refused_from-append (n + 1) xs ys ∙ ap (λ m. refused_from (n + 1) xs ++ refused_from m ys) (let e : n + 1 + length xs ≡ n + suc (length xs) = omega arith in e))
+
+refused_from-shift : (k n : ℕ) (xs : List Answer) → refused_from (k + n) xs ≡ map (shift k) (refused_from n xs)
+refused_from-shift k n [] = refl
+refused_from-shift k n (Ok value ∷ xs) = ap (λ m. refused_from m xs) (let e : k + n + 1 ≡ k + (n + 1) = omega arith in e) ∙ refused_from-shift k (n + 1) xs
+refused_from-shift k n (Err fault ∷ xs) =
+    ap (λ ls. (k + n, fault) ∷ ls) (ap (λ m. refused_from m xs) (let e : k + n + 1 ≡ k + (n + 1) = omega arith in e) ∙ refused_from-shift k (n + 1) xs)
+
+refused-front : (fields : List Field) (front rest : List ℕ) → EndsInFeed front
+    → refused fields (front ++ rest) ≡ refused fields front ++ map (shift (length (lines front))) (refused fields rest)
+refused-front fields front rest e =
+    ap (refused_from 1) (answers-front fields front rest e)
+    ∙ refused_from-append 1 (answers fields front) (answers fields rest)
+    ∙ ap (λ m. refused fields front ++ refused_from m (answers fields rest)) (let n : 1 + length (answers fields front) ≡ length (lines front) + 1 = omega (arith, length-map (lines front) (taken fields)) in n)
+    ∙ ap (λ ls. refused fields front ++ ls) (refused_from-shift (length (lines front)) 1 (answers fields rest))
+
+-- ---- a front of no bytes, or one that ends in a line feed
+
+shift-none : (found : List (ℕ × LineFault)) → found ≡ map (shift 0) found
+shift-none [] = refl
+shift-none (line ∷ found) = ap (λ n. (n, line.1) ∷ found) (let e : line.0 ≡ 0 + line.0 = omega arith in e) ∙ ap (λ ls. shift 0 line ∷ ls) (shift-none found)
+
+pub lines-whole_lines : (front rest : List ℕ) → AreWholeLines front → lines (front ++ rest) ≡ lines front ++ lines rest
+lines-whole_lines front rest (inl none) = ap (λ bytes. lines (bytes ++ rest)) none ∙ ap (λ bytes. lines bytes ++ lines rest) (sym none)
+lines-whole_lines front rest (inr feed) = lines-front front rest feed
+
+pub good-whole_lines : (fields : List Field) (front rest : List ℕ) → AreWholeLines front → good fields (front ++ rest) ≡ good fields front ++ good fields rest
+good-whole_lines fields front rest (inl none) = ap (λ bytes. good fields (bytes ++ rest)) none ∙ ap (λ bytes. good fields bytes ++ good fields rest) (sym none)
+good-whole_lines fields front rest (inr feed) = good-front fields front rest feed
+
+pub refused-whole_lines : (fields : List Field) (front rest : List ℕ) → AreWholeLines front
+    → refused fields (front ++ rest) ≡ refused fields front ++ map (shift (length (lines front))) (refused fields rest)
+refused-whole_lines fields front rest (inl none) =
+    ap (λ bytes. refused fields (bytes ++ rest)) none
+    ∙ shift-none (refused fields rest)
+    ∙ ap (λ bytes. refused fields bytes ++ map (shift (length (lines bytes))) (refused fields rest)) (sym none)
+refused-whole_lines fields front rest (inr feed) = refused-front fields front rest feed

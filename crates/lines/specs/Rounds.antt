@@ -1,0 +1,46 @@
+-- What contracts see of an input that is read in rounds.
+use Rattle.std.specs.Prelude.{◌≡◌, ◌⊎◌, ◌↔◌, ℕ, ◌+◌, ◌^◌, ◌<◌, ◌≤◌, Bool, true, false, List, length, Option, Result, Ok, IsErr}
+use Rattle.std.specs.Io.KnownBytes.{Consumes, IsAtEnd, Keeps}
+use Rattle.lines.specs.declared.fault.ReadFault.{ReadFault}
+use Rattle.lines.specs.Pieces.{EndsInFeed}
+
+-- the reader; what is left to give, where the reader's bytes are known; the round that was given last; the greatest length of a round; how many bytes were given in
+-- all; whether the last round was given; and whether reading has failed
+pub record RoundsState (R : Type 0) : Type 0 where
+  pub reader : R
+  pub left : Option (List ℕ)
+  pub round : List ℕ
+  pub size : ℕ
+  pub given : ℕ
+  pub over : Bool
+  pub failed : Bool
+
+-- a round that was handed out, and the greatest length of a round in its buffer
+pub record RoundState : Type 0 where
+  pub bytes : List ℕ
+  pub size : ℕ
+
+-- a round was given: it and what is left behind it are what was left before, and it ends in a line feed unless it is the last
+pub record HasGiven {R : Type 0} (old new : RoundsState R) : Type 0 where
+  pub left : Consumes old.left new.left new.round
+  pub some : 0 < length new.round
+  pub fits : length new.round ≤ new.size
+  pub feed : EndsInFeed new.round ⊎ (new.over ≡ true)
+  pub given : new.given ≡ old.given + length new.round
+
+-- nothing was left, and that stays so
+pub record HasNothing {R : Type 0} (old new : RoundsState R) : Type 0 where
+  pub left : IsAtEnd old.left
+  pub same : Keeps old.left new.left
+  pub given : new.given ≡ old.given
+  pub over : new.over ≡ old.over
+
+-- what a call does that may give a round
+pub record HasMoved {R : Type 0} (old : RoundsState R) (found : Result Bool ReadFault) (new : RoundsState R) : Type 0 where
+  pub round : found ≡ Ok true → HasGiven old new
+  pub none : found ≡ Ok false → HasNothing old new
+  pub fault : IsErr found ↔ (new.failed ≡ true)
+  pub failed : old.failed ≡ true → IsErr found
+  pub over : old.over ≡ true → old.failed ≡ false → found ≡ Ok false
+  pub size : new.size ≡ old.size
+  pub limit : new.given < 2 ^ 63

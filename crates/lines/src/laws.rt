@@ -1,0 +1,29 @@
+//! Laws of the definitions, for the layers above.
+ghost use Rattle.std.specs.Prelude.{◌≡◌, ◌+◌, ◌++◌, ℕ, List, length, map, take};
+ghost use Rattle.values.specs.Schema.{Field};
+ghost use Rattle.lines.specs.Input.{good, refused};
+ghost use Rattle.lines.specs.Lines.{lines};
+ghost use Rattle.lines.specs.Pieces.{AreWholeLines};
+ghost use Rattle.lines.specs.Trim.{parts, trim, trimmed_len};
+
+/// A law, with no work to do: in a trimmed input each part between two line feeds is the first 1,048,577 bytes of what
+/// it was. So it has as many lines, and the same good records and refused lines.
+pub fn trim_law()
+    ensures parts { (input : List ℕ) → parts (trim input) ≡ map (take trimmed_len) (parts input) }
+    ensures lines { (input : List ℕ) → lines (trim input) ≡ map (take trimmed_len) (lines input) }
+    ensures count { (input : List ℕ) → length (lines (trim input)) ≡ length (lines input) }
+    ensures good { (fields : List Field) (input : List ℕ) → good fields (trim input) ≡ good fields input }
+    ensures refused { (fields : List Field) (input : List ℕ) → refused fields (trim input) ≡ refused fields input }
+{}
+
+/// A law, with no work to do: an input whose front is whole lines has the lines of its front and then those of its
+/// rest, and so it is with the good records and with the refused lines, of which those of the rest are numbered behind
+/// the lines of the front.
+pub fn front_law()
+    ensures lines { (front rest : List ℕ) → AreWholeLines front → lines (front ++ rest) ≡ lines front ++ lines rest }
+    ensures good { (fields : List Field) (front rest : List ℕ) → AreWholeLines front
+        → good fields (front ++ rest) ≡ good fields front ++ good fields rest }
+    ensures refused { (fields : List Field) (front rest : List ℕ) → AreWholeLines front
+        → refused fields (front ++ rest) ≡ refused fields front
+        ++ map (λ line. (length (lines front) + line.0, line.1)) (refused fields rest) }
+{}

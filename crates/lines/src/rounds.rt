@@ -1,0 +1,353 @@
+//! Reading an input in rounds of whole lines.
+ghost use Rattle.std.specs.Prelude.{◌≡◌, [], ◌+◌, ◌-◌, ◌<◌, ◌≤◌, ◌^◌, true, false, zero, IsTrue, IsFalse, IsErr, Ok, Err, None, Some, IfErr, IfOk, IfSome, OnOk, length, option_map, take, drop, vec_len};
+ghost use Rattle.std.specs.Io.KnownBytes.{Consumes, IsAtEnd, Keeps};
+ghost use Rattle.lines.specs.Holding.{IsBetween, IsHeld, left_behind, left_of, open_part, whole_lines};
+ghost use Rattle.lines.specs.Rounds.{HasMoved};
+ghost use Rattle.lines.specs.Trim.{trim, trimmed_len};
+
+use crate::fault::ReadFault;
+use crate::held::{TRIMMED_LEN, pass, release, settle};
+use crate::holding::Held;
+use std::alloc::{AllocError, Global};
+use std::io::Read;
+use std::marker::Model;
+use std::mem;
+
+/// The number of bytes that an input stays below.
+const INPUT_LIMIT: usize = 0x8000_0000_0000_0000;
+
+/// The room for bytes that are read beyond a round, so that no read has to be small.
+const SPARE: usize = 65_536;
+
+/// One read into the buffer from place `at` on. It answers how many bytes the reader gave.
+fn read_at<R: Read>(reader: &mut R, buffer: &mut [u8], at: usize) -> Result<usize, ReadFault>
+    requires { at < length buffer.old }
+    ensures length { length buffer.new ≡ length buffer.old }
+    ensures front { take at buffer.new ≡ take at buffer.old }
+    ensures fits { IfOk result (λ n. at + n ≤ length buffer.new) }
+    ensures bytes { IfOk result (λ n. Consumes (R.remaining reader.old) (R.remaining reader.new)
+        (take n (drop at buffer.new))) }
+    ensures end { IfOk result (λ n. n ≡ 0 → IsAtEnd (R.remaining reader.new)) }
+{
+    match reader.read(&mut buffer[at..]) {
+        Ok(count) => Ok(count),
+        Err(_) => Err(ReadFault),
+    }
+}
+
+/// One read behind what is held. It answers how many bytes the reader gave.
+fn read_more<R: Read>(reader: &mut R, held: &mut Held) -> Result<usize, ReadFault>
+    requires held { IsHeld held.old }
+    requires room { held.old.filled < vec_len held.old.buffer }
+    ensures held { OnOk result (IsHeld held.new) }
+    ensures left { OnOk result (Keeps (left_of held.old (R.remaining reader.old)) (left_of held.new (R.remaining reader.new))) }
+    ensures len { vec_len held.new.buffer ≡ vec_len held.old.buffer }
+    ensures cut { held.new.cut ≡ held.old.cut }
+    ensures filled { IfOk result (λ n. held.new.filled ≡ held.old.filled + n) }
+    ensures end { IfOk result (λ n. n ≡ 0 → IsAtEnd (R.remaining reader.new)) }
+{
+    let count = read_at(reader, held.buffer.as_mut_slice(), held.filled)?;
+    held.filled += count;
+    Ok(count)
+}
+
+/// Reads until the whole lines come near to `size` bytes or the input is at its end, and counts the bytes. It
+/// answers whether the input is at its end.
+fn fill<R: Read>(
+    reader: &mut R,
+    held: &mut Held,
+    size: usize,
+    taken: &mut usize,
+) -> Result<bool, ReadFault>
+    requires held { IsHeld held.old }
+    requires within { held.old.cut ≤ size }
+    requires room { size ≤ vec_len held.old.buffer }
+    requires limit { taken.old < 2 ^ 63 }
+    ensures held { OnOk result (IsHeld held.new) }
+    ensures left { OnOk result (Keeps (left_of held.old (R.remaining reader.old)) (left_of held.new (R.remaining reader.new))) }
+    ensures len { vec_len held.new.buffer ≡ vec_len held.old.buffer }
+    ensures within { OnOk result (held.new.cut ≤ size) }
+    ensures taken { OnOk result (held.new.filled + taken.old ≤ held.old.filled + taken.new) }
+    ensures limit { OnOk result (taken.new < 2 ^ 63) }
+    ensures end { IfOk result (λ ended. IsTrue ended → IsAtEnd (R.remaining reader.new)) }
+    ensures few { IfOk result (λ ended. IsTrue ended
+        → (held.new.filled ≤ held.new.cut + trimmed_len) × (held.new.filled ≤ size)) }
+    ensures whole { IfOk result (λ ended. IsFalse ended → size ≤ held.new.cut + trimmed_len) }
+{
+    settle(held, size);
+    while held.cut + TRIMMED_LEN < size {
+        let count = read_more(reader, held)?;
+        if count == 0 {
+            return Ok(true);
+        }
+        *taken += count;
+        if *taken >= INPUT_LIMIT {
+            return Err(ReadFault);
+        }
+        settle(held, size);
+    }
+    Ok(false)
+}
+
+/// Lets go the round before, and holds the next round in front, of at most `size` bytes. It answers whether it
+/// is the last.
+fn turn<R: Read>(
+    reader: &mut R,
+    held: &mut Held,
+    size: usize,
+    taken: &mut usize,
+) -> Result<bool, ReadFault>
+    requires held { IsHeld held.old }
+    requires size { trimmed_len < size }
+    requires room { size ≤ vec_len held.old.buffer }
+    requires limit { taken.old < 2 ^ 63 }
+    ensures round { OnOk result (Consumes (left_behind held.old (R.remaining reader.old))
+        (left_behind held.new (R.remaining reader.new)) (whole_lines held.new)) }
+    ensures len { vec_len held.new.buffer ≡ vec_len held.old.buffer }
+    ensures held { IfOk result (λ ended. IsFalse ended → IsHeld held.new) }
+    ensures some { IfOk result (λ ended. IsFalse ended → 0 < held.new.cut) }
+    ensures none { OnOk result (held.new.cut ≡ 0 → IsHeld held.new) }
+    ensures within { OnOk result ((held.new.cut ≤ held.new.filled) × (held.new.cut ≤ size)) }
+    ensures all { IfOk result (λ ended. IsTrue ended → (held.new.cut ≡ held.new.filled) × IsAtEnd (R.remaining reader.new)) }
+    ensures taken { OnOk result (held.new.filled + taken.old ≤ held.old.filled - held.old.cut + taken.new) }
+    ensures limit { OnOk result (taken.new < 2 ^ 63) }
+{
+    release(held);
+    let ended = fill(reader, held, size, taken)?;
+    if ended {
+        held.cut = held.filled;
+    } else if !held.full {
+        let window = held.filled.min(size) - held.cut;
+        pass(held, window);
+    }
+    Ok(ended)
+}
+
+/// Copies bytes to the front of a buffer.
+fn copy_front(to: &mut [u8], from: &[u8])
+    requires { length from.now ≤ length to.old }
+    ensures length { length to.new ≡ length to.old }
+    ensures front { take (length from.now) to.new ≡ from.now }
+{
+    to[..from.len()].copy_from_slice(from);
+}
+
+/// Goes on in another buffer with what follows the whole lines, and gives up this one.
+fn trade(held: &mut Held, spare: Vec<u8>) -> Vec<u8>
+    requires cut { held.old.cut ≤ held.old.filled }
+    requires filled { held.old.filled ≤ vec_len held.old.buffer }
+    requires len { vec_len spare ≡ vec_len held.old.buffer }
+    ensures buffer { result ≡ held.old.buffer }
+    ensures len { vec_len held.new.buffer ≡ vec_len held.old.buffer }
+    ensures cut { held.new.cut ≡ 0 }
+    ensures filled { held.new.filled ≡ held.old.filled - held.old.cut }
+    ensures open { open_part held.new ≡ open_part held.old }
+    ensures full { held.new.full ≡ false }
+{
+    let mut next = spare;
+    let len = held.filled - held.cut;
+    copy_front(next.as_mut_slice(), &held.buffer[held.cut..held.filled]);
+    held.cut = 0;
+    held.filled = len;
+    held.full = false;
+    mem::replace(&mut held.buffer, next)
+}
+
+/// A round that was handed out, or a spare buffer for one.
+#[derive(Drop)]
+pub struct Round {
+    buffer: Vec<u8>,
+    len: usize,
+    size: usize,
+}
+
+impl Model for Round {
+    ghost use Rattle.std.specs.Prelude.{◌≡◌, ◌+◌, ◌≤◌, take, vec_len};
+    ghost use Rattle.lines.specs.Rounds.{RoundState};
+
+    ghost Value = { RoundState };
+
+    ghost view = { λ inside. record { bytes = take inside.len inside.buffer.items; size = inside.size } };
+
+    ghost invariant = { λ inside. (inside.len ≤ vec_len inside.buffer) × (vec_len inside.buffer ≡ inside.size + 65536) };
+}
+
+impl Round {
+    /// A spare buffer for rounds of at most `size` bytes.
+    ///
+    /// # Errors
+    ///
+    /// `AllocError` where there is no memory for it.
+    pub fn new(alloc: Global, size: usize) -> Result<Self, AllocError>
+        ensures { IfOk result (λ round. round ≡ record { bytes = []; size = size }) }
+    {
+        Ok(Round {
+            buffer: buffer_of(alloc, size)?,
+            len: 0,
+            size,
+        })
+    }
+
+    /// Its bytes.
+    pub fn bytes(&self) -> &[u8]
+        ensures { result.now ≡ self.now.bytes }
+    {
+        &self.buffer[..self.len]
+    }
+}
+
+/// A buffer for rounds of at most `size` bytes.
+fn buffer_of(alloc: Global, size: usize) -> Result<Vec<u8>, AllocError>
+    ensures { IfOk result (λ v. vec_len v ≡ size + 65536) }
+{
+    match size.checked_add(SPARE) {
+        Some(len) => vec![in alloc; 0u8; len],
+        None => Err(AllocError),
+    }
+}
+
+/// An input that is read in rounds: whole lines, as many as the buffer holds. Of each line at most 1,048,577
+/// bytes are given, which is enough to tell that it is too long.
+#[derive(Drop)]
+pub struct Rounds<R: Read + Drop> {
+    reader: R,
+    held: Held,
+    size: usize,
+    taken: usize,
+    given: usize,
+    over: bool,
+    failed: bool,
+}
+
+impl<R: Read + Drop> Model for Rounds<R> {
+    ghost use Rattle.lines.specs.Holding.{IsBetween, left_behind, whole_lines};
+    ghost use Rattle.lines.specs.Rounds.{RoundsState};
+
+    ghost Value = { RoundsState R };
+
+    ghost view = { λ inside. record {
+      reader = inside.reader;
+      left = left_behind inside.held (R.remaining inside.reader);
+      round = whole_lines inside.held;
+      size = inside.size;
+      given = inside.given;
+      over = inside.over;
+      failed = inside.failed;
+    } };
+
+    ghost invariant = { λ inside.
+        IsBetween inside.held (R.remaining inside.reader) inside.size inside.taken inside.given inside.over inside.failed };
+}
+
+impl<R: Read + Drop> Rounds<R> {
+    /// An input whose rounds have at most `size` bytes. It takes the buffer, and reads nothing.
+    ///
+    /// # Errors
+    ///
+    /// `AllocError` where there is no memory for the buffer.
+    pub fn new(alloc: Global, reader: R, size: usize) -> Result<Self, AllocError>
+        requires { trimmed_len < size }
+        ensures { IfOk result (λ rounds. rounds ≡ record {
+          reader = reader;
+          left = option_map trim (R.remaining reader);
+          round = [];
+          size = size;
+          given = 0;
+          over = false;
+          failed = false;
+        }) }
+    {
+        let buffer = buffer_of(alloc, size)?;
+        let held = Held {
+            buffer,
+            cut: 0,
+            filled: 0,
+            full: false,
+        };
+        Ok(Rounds {
+            reader,
+            held,
+            size,
+            taken: 0,
+            given: 0,
+            over: false,
+            failed: false,
+        })
+    }
+
+    /// Goes on to the next round. It answers whether there is one. It takes no memory.
+    ///
+    /// # Errors
+    ///
+    /// `ReadFault` where a read failed or the input has 2^63 bytes or more, and from then on.
+    pub fn advance(&mut self) -> Result<bool, ReadFault>
+        ensures { HasMoved self.old result self.new }
+    {
+        if self.failed {
+            return Err(ReadFault);
+        }
+        if self.over {
+            return Ok(false);
+        }
+        match turn(&mut self.reader, &mut self.held, self.size, &mut self.taken) {
+            Ok(ended) => {
+                if self.held.cut == 0 {
+                    return Ok(false);
+                }
+                self.over = ended;
+                self.given += self.held.cut;
+                Ok(true)
+            }
+            Err(fault) => {
+                self.held.cut = 0;
+                self.held.filled = 0;
+                self.failed = true;
+                Err(fault)
+            }
+        }
+    }
+
+    /// The round that was given last.
+    pub fn round(&self) -> &[u8]
+        ensures { result.now ≡ self.now.round }
+    {
+        &self.held.buffer[..self.held.cut]
+    }
+
+    /// Hands out the round that was given last, and goes on with the buffer of another one. It takes no memory.
+    pub fn hand_out(&mut self, spare: Round) -> Round
+        requires { spare.size ≡ self.old.size }
+        ensures round { result.bytes ≡ self.old.round }
+        ensures size { result.size ≡ self.old.size }
+        ensures rest { self.new ≡ record self.old { round = [] } }
+    {
+        let len = self.held.cut;
+        let Round {
+            buffer,
+            len: _,
+            size,
+        } = spare;
+        let buffer = trade(&mut self.held, buffer);
+        Round { buffer, len, size }
+    }
+}
+
+impl<R: Read + Drop> Rounds<R> {
+    ghost use Rattle.std.specs.Borrow.{sem};
+    ghost use Rattle.lines.specs.Moving.{EndsAs};
+
+    /// The next round: whole lines, but perhaps the last line. `None` where there is none. It takes no memory.
+    ///
+    /// # Errors
+    ///
+    /// `ReadFault` where a read failed or the input has 2^63 bytes or more, and from then on.
+    pub fn next(&mut self) -> Result<Option<&[u8]>, ReadFault>
+        ensures* moves { sem 𝓛 (EndsAs R.row R.Read self.entry result) }
+    {
+        if self.advance()? {
+            Ok(Some(self.round()))
+        } else {
+            Ok(None)
+        }
+    }
+}
