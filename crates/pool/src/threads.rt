@@ -1,5 +1,5 @@
 //! The hands of a deal, each on a thread of its own.
-ghost use Rattle.std.specs.Prelude.{◌≡◌, ℕ, ◌+◌, ◌^◌, ◌<◌, ◌≤◌, ◌⊎◌, ◌++◌, ◌∷◌, [], IfOk, IfErr, IfSome, IfNone, IsOkAnd, vec_len, length, List};
+ghost use Rattle.std.specs.Prelude.{◌≡◌, ℕ, ◌+◌, ◌^◌, ◌<◌, ◌≤◌, ◌⊎◌, ◌++◌, ◌∷◌, [], All, IfOk, IfErr, IfSome, IfNone, IsOkAnd, vec_len, length, List};
 ghost use Rattle.pool.specs.Totals.{gathered, sum_below, sum_list, total, once_below};
 ghost use Rattle.pool.specs.Outcomes.{Decides};
 ghost use Rattle.pool.specs.Dealing.{times};
@@ -301,6 +301,39 @@ pub fn fan_on<W: Work + Sync, L: Ledger + Send + Sync, R: Threads + Wait + Sync>
         return Err(PoolFault::OutOfMemory);
     };
     Ok(concluded)
+}
+
+/// Does the pieces below a number, at most 1,048,576, by the hands of a new deal, as many as there are shares, over a
+/// book that may have been reported to before: hand 0 works on the calling thread, each other hand on a thread of its
+/// own. So one book serves several deals, one after the other. With one hand, or no piece, no thread is started.
+///
+/// A worker may stop once the book's number is above `stop`. It answers the combination of all parts, or `Over` where
+/// they weigh more than `limit`, and the shares in their order.
+///
+/// All threads have ended when it answers. The errors are want of memory, and that a thread could not be started, which
+/// comes first. The shares are then given up.
+pub fn fan_deal<W: Work + Sync, L: Ledger + Send + Sync, R: Threads + Wait + Sync>(
+    rt: &R,
+    alloc: Global,
+    work: &W,
+    pieces: u32,
+    limit: u64,
+    book: &Book<L>,
+    stop: u128,
+    shares: Vec<Share<L>>,
+) -> Result<(Outcome<W::Part>, Vec<Share<L>>), PoolFault>
+    requires pieces { pieces ≤ 1048576 }
+    requires hands { (1 ≤ vec_len shares) × (vec_len shares ≤ 64) }
+    requires loads { sum_below (λ i. W.load_of work.now (W.piece_meaning work.now i)) pieces < 2 ^ 63 }
+    requires room { All (λ s. sum_below (λ i. W.load_of work.now (W.piece_meaning work.now i)) pieces + s.sum < 2 ^ 63) shares.items }
+    ensures decided { IfOk result (λ r. Decides W.meaning (total (W.unit_meaning work.now) (W.combined work.now) (W.piece_meaning work.now) pieces) (sum_below (λ i. W.weight_of work.now (W.piece_meaning work.now i)) pieces) limit r.0) }
+    ensures count { IfOk result (λ r. vec_len r.1 ≡ vec_len shares) }
+    // No share has grown by more than the weights of all pieces.
+    ensures grown { IfOk result (λ r. (most : ℕ) → All (λ s. s.sum ≤ most) shares.items
+        → All (λ s. s.sum ≤ most + sum_below (λ i. W.weight_of work.now (W.piece_meaning work.now i)) pieces) r.1.items) }
+    ensures alone { (vec_len shares ≡ 1) ⊎ (pieces ≡ 0) → IfErr result (λ e. e ≡ PoolFault.OutOfMemory) }
+{
+    Err(PoolFault::OutOfMemory)
 }
 
 /// `fan_out` with a book of the ledger L.
