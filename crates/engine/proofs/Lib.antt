@@ -6,3 +6,4 @@ pub mod Named
 pub mod Outcomes
 pub mod Pooled
 mod Sharing
+pub mod Gathered

@@ -1,110 +1,176 @@
 -- What a run leaves, from what it is known to have read and made.
-use Rattle.std.proofs.Common.{◌≡◌, ◌≢◌, ◌∙◌, ◌⊎◌, inl, inr, ℕ, List, length, Option, Some, None, Result, Ok, Err, subst, sym}
-use Rattle.std.specs.Prelude.{IfErr, IfOk, IfSome, OnOk}
+use Rattle.std.proofs.Common.{◌≡◌, ◌≢◌, ◌≤◌, ◌<◌, ◌⊎◌, ◌∙◌, inl, inr, ℕ, List, length, Option, Some, None, Result, Ok, Err, subst, sym, ap, arith}
+use Rattle.std.specs.Prelude.{◌↔◌, IfErr, IfOk, IfSome, IsOk, OnOk}
 use Rattle.values.specs.Schema.{Field}
 use Rattle.query_tree.specs.Syntax.{TreeForm}
 use Rattle.engine.specs.declared.fault.RunFault.{RunFault}
 use Rattle.engine.specs.declared.fault.RunFault.TheVariants.{Reading, OutOfMemory, ThreadNotStarted, TooManyRefused, WritingReport, WritingRefused}
-use Rattle.lines.specs.Input.{refused}
+use Rattle.groups.specs.Rows.{Row}
+use Rattle.lines.specs.declared.fault.LineFault.{LineFault}
+use Rattle.lines.specs.Input.{good, refused}
 use Rattle.lines.specs.Lines.{lines}
+use Rattle.lines.specs.Trim.{trim}
+use Rattle.lines.proofs.Trims.{count-trim, good-trim, refused-trim}
+use Rattle.report.specs.Report.{refusals_of, report_of}
+use Rattle.tables.specs.Partials.{StandsForInput}
+use Rattle.tables.specs.Results.{query_found}
+use Rattle.tables.specs.States.{PartialState}
 use Rattle.engine.specs.declared.running.Done.{Done}
-use Rattle.engine.specs.Run.{IsDecided, IsUnwritten, Leaves, Refuses, refusals, report}
+use Rattle.engine.specs.Pieces.{IsWhole, limit_number}
+use Rattle.engine.specs.Run.{Hinders, IsDecided, IsWithin, Leaves, LeavesOfInput, Stops, refusals, report}
 use Rattle.engine.specs.Written.{AppendsBeginning, LeavesWritten}
+use Rattle.engine.proofs.Tallies.{lines-of-input, refused-of-input}
 use Rattle.std.specs.Io.KnownBytes.{Appends, Keeps}
 
--- what holds of the bytes that were read holds of what the reader gives, where that is known
-of-known : (P : List ℕ → Type 0) (bytes : List ℕ) (known : Option (List ℕ)) → IfSome known (λ b. bytes ≡ b) → P bytes → IfSome known P
-of-known P bytes None same h = tt
-of-known P bytes (Some b) same h = subst P same h
+-- what holds of all that was read holds of what the reader gives, where that is known
+of-known : (P : List ℕ → Type 0) (bytes : List ℕ) (known : Option (List ℕ)) → ((input : List ℕ) → P (trim input) → P input) → IfSome known (λ input. bytes ≡ trim input)
+    → P bytes → IfSome known P
+of-known P bytes None trimmed same h = tt
+of-known P bytes (Some input) trimmed same h = trimmed input (subst P same h)
 
--- the same of bytes that are those
-pub known-slice : (slice bytes : List ℕ) (known : Option (List ℕ)) → slice ≡ bytes → IfSome known (λ b. bytes ≡ b) → IfSome known (λ b. slice ≡ b)
-known-slice slice bytes None is same = tt
-known-slice slice bytes (Some b) is same = is ∙ same
+-- the texts of a trimmed input are those of the input
+report-trimmed : (fields : List Field) (q : TreeForm) (input : List ℕ) → report fields q (trim input) ≡ report fields q input
+report-trimmed fields q input = ap (λ (rows : List Row). report_of fields q (query_found fields q rows)) (good-trim fields input)
 
--- so where an answer is Ok
-on-ok-known : {T E : Type 0} (r : Result T E) (P : List ℕ → Type 0) (bytes : List ℕ) (known : Option (List ℕ))
-    → IfSome known (λ b. bytes ≡ b) → OnOk r (P bytes) → OnOk r (IfSome known P)
-on-ok-known (Ok v) P bytes known same h = of-known P bytes known same h
-on-ok-known (Err e) P bytes known same h = tt
-
-if-ok-known : {T E : Type 0} (r : Result T E) (P : T → List ℕ → Type 0) (bytes : List ℕ) (known : Option (List ℕ))
-    → IfSome known (λ b. bytes ≡ b) → IfOk r (λ v. P v bytes) → IfOk r (λ v. IfSome known (P v))
-if-ok-known (Ok v) P bytes known same h = of-known (P v) bytes known same h
-if-ok-known (Err e) P bytes known same h = tt
+refusals-trimmed : (fields : List Field) (input : List ℕ) → refusals fields (trim input) ≡ refusals fields input
+refusals-trimmed fields input = ap (λ (found : List (ℕ × LineFault)). refusals_of fields found) (refused-trim fields input)
 
 -- so of the report and the list that are written
-pub report-known : (r : Result Done RunFault) (fields : List Field) (q : TreeForm) (bytes : List ℕ) (known old new : Option (List ℕ))
-    → IfSome known (λ b. bytes ≡ b) → OnOk r (Appends old new (report fields q bytes)) → OnOk r (IfSome known (λ input. Appends old new (report fields q input)))
-report-known r fields q bytes known old new same h = on-ok-known r (λ input. Appends old new (report fields q input)) bytes known same h
+pub report-known : (r : Result Done RunFault) (fields : List Field) (q : TreeForm) (known : Option (List ℕ)) (partial : PartialState) (old new : Option (List ℕ)) → IsWhole fields q known partial
+    → OnOk r ((input : List ℕ) → StandsForInput fields q partial input → Appends old new (report fields q input))
+    → OnOk r (IfSome known (λ input. Appends old new (report fields q input)))
+report-known (Err e) fields q known partial old new w h = tt
+report-known (Ok done) fields q known partial old new w h =
+    of-known (λ input. Appends old new (report fields q input)) w.bytes known (λ input. subst (λ (text : List ℕ). Appends old new text) (report-trimmed fields q input)) w.known (h w.bytes w.stands)
 
-pub refusals-known : (r : Result Done RunFault) (fields : List Field) (bytes : List ℕ) (known old new : Option (List ℕ))
-    → IfSome known (λ b. bytes ≡ b) → OnOk r (Appends old new (refusals fields bytes)) → OnOk r (IfSome known (λ input. Appends old new (refusals fields input)))
-refusals-known r fields bytes known old new same h = on-ok-known r (λ input. Appends old new (refusals fields input)) bytes known same h
+pub refusals-known : (r : Result Done RunFault) (fields : List Field) (q : TreeForm) (known : Option (List ℕ)) (partial : PartialState) (old new : Option (List ℕ)) → IsWhole fields q known partial
+    → OnOk r ((input : List ℕ) → StandsForInput fields q partial input → Appends old new (refusals fields input))
+    → OnOk r (IfSome known (λ input. Appends old new (refusals fields input)))
+refusals-known (Err e) fields q known partial old new w h = tt
+refusals-known (Ok done) fields q known partial old new w h =
+    of-known (λ input. Appends old new (refusals fields input)) w.bytes known (λ input. subst (λ (text : List ℕ). Appends old new text) (refusals-trimmed fields input)) w.known (h w.bytes w.stands)
 
 -- so of the counts
-pub lines-known : (r : Result Done RunFault) (bytes : List ℕ) (known : Option (List ℕ))
-    → IfSome known (λ b. bytes ≡ b) → IfOk r (λ done. done.lines ≡ length (lines bytes)) → IfOk r (λ done. IfSome known (λ input. done.lines ≡ length (lines input)))
-lines-known r bytes known same h = if-ok-known r (λ done input. done.lines ≡ length (lines input)) bytes known same h
+pub lines-known : (r : Result Done RunFault) (fields : List Field) (q : TreeForm) (known : Option (List ℕ)) (partial : PartialState) → IsWhole fields q known partial
+    → IfOk r (λ done. done.lines ≡ partial.lines) → IfOk r (λ done. IfSome known (λ input. done.lines ≡ length (lines input)))
+lines-known (Err e) fields q known partial w h = tt
+lines-known (Ok done) fields q known partial w h =
+    of-known (λ input. done.lines ≡ length (lines input)) w.bytes known (λ input same. same ∙ count-trim input) w.known (h ∙ lines-of-input fields q partial w.bytes w.stands)
 
-pub refused-known : (r : Result Done RunFault) (fields : List Field) (bytes : List ℕ) (known : Option (List ℕ))
-    → IfSome known (λ b. bytes ≡ b) → IfOk r (λ done. done.refused ≡ length (refused fields bytes)) → IfOk r (λ done. IfSome known (λ input. done.refused ≡ length (refused fields input)))
-refused-known r fields bytes known same h = if-ok-known r (λ done input. done.refused ≡ length (refused fields input)) bytes known same h
+-- so many lines are refused of what the reader gives
+refused-whole : (fields : List Field) (q : TreeForm) (known : Option (List ℕ)) (partial : PartialState) → IsWhole fields q known partial → IfSome known (λ input. partial.refused ≡ length (refused fields input))
+refused-whole fields q known partial w =
+    of-known (λ input. partial.refused ≡ length (refused fields input)) w.bytes known (λ input same. same ∙ ap length (refused-trim fields input)) w.known (refused-of-input fields q partial w.bytes w.stands)
 
--- so of what the limit decides
-pub decided-known : (r : Result Done RunFault) (limit : Option ℕ) (fields : List Field) (bytes : List ℕ) (known : Option (List ℕ))
-    → IfSome known (λ b. bytes ≡ b) → IsDecided r limit (length (refused fields bytes)) → IfSome known (λ input. IsDecided r limit (length (refused fields input)))
-decided-known r limit fields bytes known same h = of-known (λ input. IsDecided r limit (length (refused fields input))) bytes known same h
+refused-count : (known : Option (List ℕ)) (count : List ℕ → ℕ) (m n : ℕ) → m ≡ n → IfSome known (λ input. n ≡ count input) → IfSome known (λ input. m ≡ count input)
+refused-count None count m n e h = tt
+refused-count (Some input) count m n e h = e ∙ h
 
--- so of what a fault leaves
-pub leaves-known : (limit : Option ℕ) (fields : List Field) (q : TreeForm) (bytes : List ℕ) (known : Option (List ℕ))
-    (out_old out_new err_old err_new : Option (List ℕ)) (fault : RunFault)
-    → IfSome known (λ b. bytes ≡ b)
-    → Leaves fault limit fields q (Some bytes) out_old out_new err_old err_new → Leaves fault limit fields q known out_old out_new err_old err_new
-leaves-known limit fields q bytes None oo on eo en Reading same h = h
-leaves-known limit fields q bytes None oo on eo en OutOfMemory same h = h
-leaves-known limit fields q bytes None oo on eo en ThreadNotStarted same h = h
-leaves-known limit fields q bytes None oo on eo en (TooManyRefused most) same h = (h.0, tt, h.2, h.3)
-leaves-known limit fields q bytes None oo on eo en WritingReport same h = (tt, h.1)
-leaves-known limit fields q bytes None oo on eo en WritingRefused same h = tt
-leaves-known limit fields q bytes (Some b) oo on eo en fault same h = subst (λ (bs : List ℕ). Leaves fault limit fields q (Some bs) oo on eo en) same h
+pub refused-known : (r : Result Done RunFault) (fields : List Field) (q : TreeForm) (known : Option (List ℕ)) (partial : PartialState) → IsWhole fields q known partial
+    → IfOk r (λ done. done.refused ≡ partial.refused) → IfOk r (λ done. IfSome known (λ input. done.refused ≡ length (refused fields input)))
+refused-known (Err e) fields q known partial w h = tt
+refused-known (Ok done) fields q known partial w h = refused-count known (λ input. length (refused fields input)) done.refused partial.refused h (refused-whole fields q known partial w)
+
+-- ---- the limit
+
+within : (limit : Option ℕ) (count n : ℕ) → count ≤ limit_number limit → n ≡ count → IsWithin limit n
+within None count n few e = tt
+within (Some most) count n few e = omega (arith, few, e)
+
+pub limit-known : (r : Result Done RunFault) (limit : Option ℕ) (partial : PartialState) → partial.refused ≤ limit_number limit
+    → IfOk r (λ done. done.refused ≡ partial.refused) → IfOk r (λ done. IsWithin limit done.refused)
+limit-known (Err e) limit partial few h = tt
+limit-known (Ok done) limit partial few h = within limit partial.refused done.refused few h
+
+-- a fault before anything was written, and the limit
+stopped : (limit : Option ℕ) (count : ℕ) (most : ℕ) → limit ≡ Some most → most < count → IsDecided {X = Done} (Err (TooManyRefused most)) limit count
+stopped limit count most e l = λ _. (λ no. absurd no, λ few. let at_most = subst (λ (x : Option ℕ). IsWithin x count) e few in omega (arith, l, at_most))
+
+pub decided-stopped : (limit : Option ℕ) (fields : List Field) (known : Option (List ℕ)) (fault : RunFault) → Stops fault limit fields known
+    → IfSome known (λ input. IsDecided {X = Done} (Err fault) limit (length (refused fields input)))
+decided-stopped limit fields None fault h = tt
+decided-stopped limit fields (Some input) Reading h = λ free. absurd (free tt)
+decided-stopped limit fields (Some input) OutOfMemory h = λ free. absurd (free tt)
+decided-stopped limit fields (Some input) ThreadNotStarted h = λ free. absurd (free tt)
+decided-stopped limit fields (Some input) (TooManyRefused most) h = stopped limit (length (refused fields input)) most h.0 h.1
+decided-stopped limit fields (Some input) WritingReport h = absurd h
+decided-stopped limit fields (Some input) WritingRefused h = absurd h
+
+hinders : (fields : List Field) (q : TreeForm) (input : List ℕ) (oo on eo en : Option (List ℕ)) (fault : RunFault) → LeavesOfInput fault fields q input oo on eo en → Hinders fault
+hinders fields q input oo on eo en Reading h = absurd h
+hinders fields q input oo on eo en OutOfMemory h = tt
+hinders fields q input oo on eo en ThreadNotStarted h = absurd h
+hinders fields q input oo on eo en (TooManyRefused most) h = absurd h
+hinders fields q input oo on eo en WritingReport h = tt
+hinders fields q input oo on eo en WritingRefused h = tt
+
+decided-count : (r : Result Done RunFault) (limit : Option ℕ) (known : Option (List ℕ)) (count : List ℕ → ℕ) (n : ℕ) → n ≤ limit_number limit → IfErr r Hinders
+    → IfSome known (λ input. n ≡ count input) → IfSome known (λ input. IsDecided r limit (count input))
+decided-count r limit None count n few h same = tt
+decided-count (Ok done) limit (Some input) count n few h same = λ _. (λ _. within limit n (count input) few (sym same), λ _. tt)
+decided-count (Err fault) limit (Some input) count n few h same = λ free. absurd (free h)
+
+err-hinders : (r : Result Done RunFault) (fields : List Field) (q : TreeForm) (bytes : List ℕ) (partial : PartialState) (oo on eo en : Option (List ℕ)) → StandsForInput fields q partial bytes
+    → IfErr r (λ fault. (input : List ℕ) → StandsForInput fields q partial input → LeavesOfInput fault fields q input oo on eo en) → IfErr r Hinders
+err-hinders (Ok done) fields q bytes partial oo on eo en s h = tt
+err-hinders (Err fault) fields q bytes partial oo on eo en s h = hinders fields q bytes oo on eo en fault (h bytes s)
+
+pub decided-known : (r : Result Done RunFault) (limit : Option ℕ) (fields : List Field) (q : TreeForm) (known : Option (List ℕ)) (partial : PartialState) (oo on eo en : Option (List ℕ)) → IsWhole fields q known partial
+    → partial.refused ≤ limit_number limit
+    → IfErr r (λ fault. (input : List ℕ) → StandsForInput fields q partial input → LeavesOfInput fault fields q input oo on eo en)
+    → IfSome known (λ input. IsDecided r limit (length (refused fields input)))
+decided-known r limit fields q known partial oo on eo en w few h =
+    decided-count r limit known (λ input. length (refused fields input)) partial.refused few (err-hinders r fields q w.bytes partial oo on eo en w.stands h) (refused-whole fields q known partial w)
+
+-- ---- what a fault leaves
+
+pub leaves-stopped : (limit : Option ℕ) (fields : List Field) (q : TreeForm) (known out err : Option (List ℕ)) (fault : RunFault) → Stops fault limit fields known
+    → Keeps out out → Keeps err err → Leaves fault limit fields q known out out err err
+leaves-stopped limit fields q known out err Reading h a b = (a, b)
+leaves-stopped limit fields q known out err OutOfMemory h a b = (a, b)
+leaves-stopped limit fields q known out err ThreadNotStarted h a b = (a, b)
+leaves-stopped limit fields q known out err (TooManyRefused most) h a b = (h.0, h.1, a, b)
+leaves-stopped limit fields q known out err WritingReport h a b = absurd h
+leaves-stopped limit fields q known out err WritingRefused h a b = absurd h
+
+fault-leaves : (limit : Option ℕ) (fields : List Field) (q : TreeForm) (bytes : List ℕ) (known oo on eo en : Option (List ℕ)) (fault : RunFault) → IfSome known (λ input. bytes ≡ trim input)
+    → LeavesOfInput fault fields q bytes oo on eo en → Leaves fault limit fields q known oo on eo en
+fault-leaves limit fields q bytes known oo on eo en Reading same h = absurd h
+fault-leaves limit fields q bytes known oo on eo en OutOfMemory same h = h
+fault-leaves limit fields q bytes known oo on eo en ThreadNotStarted same h = absurd h
+fault-leaves limit fields q bytes known oo on eo en (TooManyRefused most) same h = absurd h
+fault-leaves limit fields q bytes known oo on eo en WritingReport same h =
+    (of-known (λ input. AppendsBeginning oo on (report fields q input)) bytes known (λ input. subst (λ (text : List ℕ). AppendsBeginning oo on text) (report-trimmed fields q input)) same h.0, h.1)
+fault-leaves limit fields q bytes known oo on eo en WritingRefused same h =
+    of-known (λ input. Appends oo on (report fields q input) × AppendsBeginning eo en (refusals fields input)) bytes known
+    (λ input both. (subst (λ (text : List ℕ). Appends oo on text) (report-trimmed fields q input) both.0, subst (λ (text : List ℕ). AppendsBeginning eo en text) (refusals-trimmed fields input) both.1))
+    same h
+
+pub leaves-known : (r : Result Done RunFault) (limit : Option ℕ) (fields : List Field) (q : TreeForm) (known : Option (List ℕ)) (partial : PartialState) (oo on eo en : Option (List ℕ)) → IsWhole fields q known partial
+    → IfErr r (λ fault. (input : List ℕ) → StandsForInput fields q partial input → LeavesOfInput fault fields q input oo on eo en)
+    → IfErr r (λ fault. Leaves fault limit fields q known oo on eo en)
+leaves-known (Ok done) limit fields q known partial oo on eo en w h = tt
+leaves-known (Err fault) limit fields q known partial oo on eo en w h = fault-leaves limit fields q w.bytes known oo on eo en fault w.known (h w.bytes w.stands)
+
+-- no fault after all of an input was worked on is one of a thread
+thread-started : (fields : List Field) (q : TreeForm) (input : List ℕ) (oo on eo en : Option (List ℕ)) (fault : RunFault) → LeavesOfInput fault fields q input oo on eo en → fault ≢ ThreadNotStarted
+thread-started fields q input oo on eo en fault h e = subst (λ (f : RunFault). LeavesOfInput f fields q input oo on eo en) e h
+
+pub started-known : (r : Result Done RunFault) (fields : List Field) (q : TreeForm) (known : Option (List ℕ)) (partial : PartialState) (oo on eo en : Option (List ℕ)) → IsWhole fields q known partial
+    → IfErr r (λ fault. (input : List ℕ) → StandsForInput fields q partial input → LeavesOfInput fault fields q input oo on eo en)
+    → IfErr r (λ fault. fault ≢ ThreadNotStarted)
+started-known (Ok done) fields q known partial oo on eo en w h = tt
+started-known (Err fault) fields q known partial oo on eo en w h = thread-started fields q w.bytes oo on eo en fault (h w.bytes w.stands)
 
 -- what a fault of writing leaves, where the two texts are those of the input
-pub leaves-written : (limit : Option ℕ) (fields : List Field) (q : TreeForm) (bytes text list : List ℕ)
+pub leaves-written : (fields : List Field) (q : TreeForm) (bytes text list : List ℕ)
     (out_old out_new err_old err_new : Option (List ℕ)) (fault : RunFault)
     → text ≡ report fields q bytes → list ≡ refusals fields bytes
-    → LeavesWritten fault text list out_old out_new err_old err_new → Leaves fault limit fields q (Some bytes) out_old out_new err_old err_new
-leaves-written limit fields q bytes text list oo on eo en Reading is_text is_list h = absurd h
-leaves-written limit fields q bytes text list oo on eo en OutOfMemory is_text is_list h = absurd h
-leaves-written limit fields q bytes text list oo on eo en ThreadNotStarted is_text is_list h = absurd h
-leaves-written limit fields q bytes text list oo on eo en (TooManyRefused most) is_text is_list h = absurd h
-leaves-written limit fields q bytes text list oo on eo en WritingReport is_text is_list h = (subst (λ (t : List ℕ). AppendsBeginning oo on t) is_text h.0, h.1)
-leaves-written limit fields q bytes text list oo on eo en WritingRefused is_text is_list h =
+    → LeavesWritten fault text list out_old out_new err_old err_new → LeavesOfInput fault fields q bytes out_old out_new err_old err_new
+leaves-written fields q bytes text list oo on eo en Reading is_text is_list h = absurd h
+leaves-written fields q bytes text list oo on eo en OutOfMemory is_text is_list h = absurd h
+leaves-written fields q bytes text list oo on eo en ThreadNotStarted is_text is_list h = absurd h
+leaves-written fields q bytes text list oo on eo en (TooManyRefused most) is_text is_list h = absurd h
+leaves-written fields q bytes text list oo on eo en WritingReport is_text is_list h = (subst (λ (t : List ℕ). AppendsBeginning oo on t) is_text h.0, h.1)
+leaves-written fields q bytes text list oo on eo en WritingRefused is_text is_list h =
     (subst (λ (t : List ℕ). Appends oo on t) is_text h.0, subst (λ (t : List ℕ). AppendsBeginning eo en t) is_list h.1)
-
--- so of what an answer that is a fault leaves
-pub if-err-known : {T : Type 0} (r : Result T RunFault) (limit : Option ℕ) (fields : List Field) (q : TreeForm) (bytes : List ℕ) (known : Option (List ℕ))
-    (out_old out_new err_old err_new : Option (List ℕ))
-    → IfSome known (λ b. bytes ≡ b)
-    → IfErr r (λ fault. Leaves fault limit fields q (Some bytes) out_old out_new err_old err_new)
-    → IfErr r (λ fault. Leaves fault limit fields q known out_old out_new err_old err_new)
-if-err-known (Ok v) limit fields q bytes known oo on eo en same h = tt
-if-err-known (Err fault) limit fields q bytes known oo on eo en same h = leaves-known limit fields q bytes known oo on eo en fault same h
-
--- a fault of writing is none of a thread
-pub written-started : (text list : List ℕ) (out_old out_new err_old err_new : Option (List ℕ)) (fault : RunFault)
-    → LeavesWritten fault text list out_old out_new err_old err_new → fault ≢ ThreadNotStarted
-written-started text list oo on eo en fault h e = subst (λ (f : RunFault). LeavesWritten f text list oo on eo en) e h
-
--- a fault before anything was written leaves both outputs as they were
-pub leaves-unwritten : (limit : Option ℕ) (fields : List Field) (q : TreeForm) (bytes : List ℕ) (out err : Option (List ℕ)) (fault : RunFault)
-    → IsUnwritten fault ⊎ Refuses fault limit (length (refused fields bytes)) → Keeps out out → Keeps err err
-    → Leaves fault limit fields q (Some bytes) out out err err
-leaves-unwritten limit fields q bytes out err fault (inl (inl e)) a b = subst (λ (f : RunFault). Leaves f limit fields q (Some bytes) out out err err) (sym e) (a, b)
-leaves-unwritten limit fields q bytes out err fault (inl (inr e)) a b = subst (λ (f : RunFault). Leaves f limit fields q (Some bytes) out out err err) (sym e) (a, b)
-leaves-unwritten limit fields q bytes out err Reading (inr h) a b = absurd h
-leaves-unwritten limit fields q bytes out err OutOfMemory (inr h) a b = absurd h
-leaves-unwritten limit fields q bytes out err ThreadNotStarted (inr h) a b = absurd h
-leaves-unwritten limit fields q bytes out err (TooManyRefused most) (inr h) a b = (h.0, h.1, a, b)
-leaves-unwritten limit fields q bytes out err WritingReport (inr h) a b = absurd h
-leaves-unwritten limit fields q bytes out err WritingRefused (inr h) a b = absurd h

@@ -1,5 +1,5 @@
 -- What a pool answers over the pieces of an input.
-use Rattle.std.proofs.Common.{◌≡◌, ◌∙◌, ◌+◌, ◌≤◌, ◌<◌, ◌^◌, ℕ, suc, List, [], ◌∷◌, length, map, filter_map, Option, Some, None, Result, Ok, Err, sym, ap, subst, arith}
+use Rattle.std.proofs.Common.{◌≡◌, ◌∙◌, ◌+◌, ◌-◌, ◌≤◌, ◌<◌, ◌^◌, ℕ, suc, List, [], ◌∷◌, length, map, filter_map, Option, Some, None, Result, Ok, Err, sym, ap, subst, arith}
 use Rattle.std.proofs.lemmas.List.{length-map}
 use Rattle.std.specs.Result.{result_err}
 use Rattle.values.specs.Datum.{Datum}
@@ -18,10 +18,12 @@ use Rattle.query_plan.specs.declared.plan.Plan.{Plan}
 use Rattle.query_plan.specs.Planned.{fields_of_plan, form_of_plan}
 use Rattle.tables.specs.declared.partial.Partial.{Partial}
 use Rattle.tables.specs.Means.{both, indexed, mean, mean_at, meaning}
-use Rattle.tables.specs.Partials.{StandsFor}
+use Rattle.tables.specs.Partials.{StandsFor, StandsForInput}
 use Rattle.tables.specs.Pieces.{IndexedPiece, IsCutInto, all_lines, refused_within}
-use Rattle.engine.specs.Pieces.{IsAnswer, IsOutcome, IsWhole, limit_number}
-use Rattle.engine.specs.Run.{IsWithin, Refuses}
+use Rattle.engine.specs.Pieces.{IsAnswer, IsOutcome, limit_number}
+use Rattle.tables.specs.States.{PartialState}
+use Rattle.tables.proofs.Cutting.{cut-lines}
+use Rattle.engine.specs.Run.{Refuses}
 use Rattle.engine.specs.declared.fault.RunFault.TheVariants.{TooManyRefused}
 use Rattle.engine.proofs.Tallies.{faults_of, length-lines, length-within, refused-counted}
 
@@ -50,12 +52,12 @@ answered plan input pieces limit (Whole partial) stands weighs d =
     (stands (fields_of_plan plan) (form_of_plan plan) input pieces partial d.0, omega (arith, weighs (fields_of_plan plan) (form_of_plan plan) input pieces, d.1))
 answered plan input pieces limit Over stands weighs d = omega (arith, weighs (fields_of_plan plan) (form_of_plan plan) input pieces, d)
 
--- what is decided of the pieces that an input is cut into is an outcome over the input
-pub outcome-of : (plan p : Plan) (input b : List ℕ) (pieces ps : List Piece) (n m : ℕ) (limit : Option ℕ) (outcome : Outcome Partial)
-    → p ≡ plan → b ≡ input → ps ≡ pieces → n ≡ length pieces → m ≡ limit_number limit → Stands → Weighs
-    → IsCutInto input (indexed input pieces) → all_lines (indexed input pieces) ≡ lines input
+-- what is decided of the pieces that a round is cut into is an outcome over the round
+pub outcome-of : (plan p : Plan) (input b : List ℕ) (pieces ps : List Piece) (n m limit : ℕ) (outcome : Outcome Partial)
+    → p ≡ plan → b ≡ input → ps ≡ pieces → n ≡ length pieces → m ≡ limit → Stands → Weighs
+    → IsCutInto input (indexed input pieces)
     → DecidesOf p b ps n m outcome → IsOutcome (fields_of_plan plan) (form_of_plan plan) input limit outcome
-outcome-of plan p input b pieces ps n m limit outcome e f g h k stands weighs cut same d =
+outcome-of plan p input b pieces ps n m limit outcome e f g h k stands weighs cut d =
     let d1 = subst (λ (x : Plan). DecidesOf x b ps n m outcome) e d in
     let d2 = subst (λ (x : List ℕ). DecidesOf plan x ps n m outcome) f d1 in
     let d3 = subst (λ (x : List Piece). DecidesOf plan input x n m outcome) g d2 in
@@ -63,9 +65,8 @@ outcome-of plan p input b pieces ps n m limit outcome e f g h k stands weighs cu
     let d5 = subst (λ (x : ℕ). DecidesOf plan input pieces (length pieces) x outcome) k d4 in
     record {
       pieces = indexed input pieces;
-      answer = answered plan input pieces (limit_number limit) outcome stands weighs d5;
+      answer = answered plan input pieces limit outcome stands weighs d5;
       cut = cut;
-      lines = same;
     }
 
 -- how many lines the pieces have
@@ -88,39 +89,38 @@ few-faults [] = omega arith
 few-faults (Ok r ∷ rs) = omega (arith, few-faults rs)
 few-faults (Err fault ∷ rs) = omega (arith, few-faults rs)
 
+-- the lines of the pieces that a round is cut into are those of the round
+lines-cut : (pieces : List IndexedPiece) (round : List ℕ) → IsCutInto round pieces → all_lines pieces ≡ lines round
+lines-cut pieces round cut = cut-lines pieces cut.feeds ∙ ap lines cut.joined
+
 -- without a limit it is never Over
-pub never-over : (fields : List Field) (q : TreeForm) (input : List ℕ) (outcome : Outcome Partial) → IsOutcome fields q input None outcome → outcome ≡ Over
-    → length input < 2 ^ 63 → ⊥
-never-over fields q input outcome is over short =
-    let above = subst (IsAnswer fields q is.pieces (limit_number None)) over is.answer in
+pub never-over : (fields : List Field) (q : TreeForm) (round : List ℕ) (before : ℕ) (outcome : Outcome Partial) → IsOutcome fields q round (limit_number None - before) outcome → outcome ≡ Over
+    → before + length round < 2 ^ 63 → ⊥
+never-over fields q round before outcome is over short =
+    let above = subst (IsAnswer fields q is.pieces (limit_number None - before)) over is.answer in
     let count = length-within fields is.pieces in
     let few = few-faults (map (taken fields) (all_lines is.pieces)) in
     let long = length-map (all_lines is.pieces) (taken fields) in
-    let same = ap length is.lines in
-    omega (arith, above, count, few, long, same, length-lines input, short)
+    let same = ap length (lines-cut is.pieces round is.cut) in
+    omega (arith, above, count, few, long, same, length-lines round, short)
 
-pub whole-from : (fields : List Field) (q : TreeForm) (input : List ℕ) (limit : Option ℕ) (outcome : Outcome Partial) (partial : Partial) → outcome ≡ Whole partial
-    → IsOutcome fields q input limit outcome → IsWhole fields q input partial
-whole-from fields q input limit outcome partial e is = record {
+pub whole-from : (fields : List Field) (q : TreeForm) (round : List ℕ) (limit : ℕ) (outcome : Outcome Partial) (partial : Partial) → outcome ≡ Whole partial
+    → IsOutcome fields q round limit outcome → StandsForInput fields q partial round
+whole-from fields q round limit outcome partial e is = record {
   pieces = is.pieces;
-  stands = (subst (IsAnswer fields q is.pieces (limit_number limit)) e is.answer).0;
+  stands = (subst (IsAnswer fields q is.pieces limit) e is.answer).0;
   cut = is.cut;
-  lines = is.lines;
 }
 
-within : (limit : Option ℕ) (count n : ℕ) → count ≤ limit_number limit → count ≡ n → IsWithin limit n
-within None count n le e = tt
-within (Some most) count n le e = omega (arith, le, e)
+pub within-from : (fields : List Field) (q : TreeForm) (round : List ℕ) (limit before : ℕ) (outcome : Outcome Partial) (partial : Partial) (state : PartialState) → state.refused ≡ length (refused fields round)
+    → outcome ≡ Whole partial → before ≤ limit → IsOutcome fields q round (limit - before) outcome → before + state.refused ≤ limit
+within-from fields q round limit before outcome partial state count e within is =
+    let few = (subst (IsAnswer fields q is.pieces (limit - before)) e is.answer).1 in
+    omega (arith, few, within, count, refused-counted fields is.pieces round (lines-cut is.pieces round is.cut))
 
-pub within-from : (fields : List Field) (q : TreeForm) (input : List ℕ) (limit : Option ℕ) (outcome : Outcome Partial) (partial : Partial) → outcome ≡ Whole partial
-    → IsOutcome fields q input limit outcome → IsWithin limit (length (refused fields input))
-within-from fields q input limit outcome partial e is =
-    within limit (length (refused_within fields is.pieces)) (length (refused fields input)) (subst (IsAnswer fields q is.pieces (limit_number limit)) e is.answer).1
-    (refused-counted fields is.pieces input is.lines)
-
-pub refuses-from : (fields : List Field) (q : TreeForm) (input : List ℕ) (limit : Option ℕ) (most : ℕ) (outcome : Outcome Partial) → outcome ≡ Over → limit ≡ Some most
-    → IsOutcome fields q input limit outcome → Refuses (TooManyRefused most) limit (length (refused fields input))
-refuses-from fields q input limit most outcome e is_limit is =
-    let above = subst (IsAnswer fields q is.pieces (limit_number limit)) e is.answer in
+pub refuses-from : (fields : List Field) (q : TreeForm) (round : List ℕ) (limit : Option ℕ) (before most : ℕ) (outcome : Outcome Partial) → outcome ≡ Over → limit ≡ Some most → before ≤ limit_number limit
+    → IsOutcome fields q round (limit_number limit - before) outcome → Refuses (TooManyRefused most) limit (before + length (refused fields round))
+refuses-from fields q round limit before most outcome e is_limit within is =
+    let above = subst (IsAnswer fields q is.pieces (limit_number limit - before)) e is.answer in
     let number = ap limit_number is_limit in
-    (is_limit, omega (arith, above, number, refused-counted fields is.pieces input is.lines))
+    (is_limit, omega (arith, above, number, within, refused-counted fields is.pieces round (lines-cut is.pieces round is.cut)))

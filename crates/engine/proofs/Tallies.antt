@@ -12,7 +12,11 @@ use Rattle.lines.specs.declared.fault.LineFault.{LineFault}
 use Rattle.lines.specs.Lines.{line_feed, lines, without_empty_last}
 use Rattle.lines.specs.Taken.{taken}
 use Rattle.lines.specs.Input.{answers, refused}
+use Rattle.query_tree.specs.Syntax.{TreeForm}
+use Rattle.tables.specs.Partials.{StandsForInput}
 use Rattle.tables.specs.Pieces.{IndexedPiece, all_lines, refused_within}
+use Rattle.tables.specs.States.{PartialState}
+use Rattle.tables.proofs.Cutting.{cut-lines}
 
 -- ---- an input has at most as many lines as bytes
 
@@ -76,3 +80,11 @@ pub refused-counted : (fields : List Field) (pieces : List IndexedPiece) (input 
     → length (refused_within fields pieces) ≡ length (refused fields input)
 refused-counted fields pieces input same =
     length-within fields pieces ∙ ap (λ ls. length (faults_of fields ls)) same ∙ sym (length-refused fields input)
+
+-- ---- the numbers of a result over an input
+
+pub lines-of-input : (fields : List Field) (q : TreeForm) (partial : PartialState) (input : List ℕ) → StandsForInput fields q partial input → partial.lines ≡ length (lines input)
+lines-of-input fields q partial input s = s.stands.lines ∙ ap length (cut-lines s.pieces s.cut.feeds ∙ ap lines s.cut.joined)
+
+pub refused-of-input : (fields : List Field) (q : TreeForm) (partial : PartialState) (input : List ℕ) → StandsForInput fields q partial input → partial.refused ≡ length (refused fields input)
+refused-of-input fields q partial input s = s.stands.refused ∙ refused-counted fields s.pieces input (cut-lines s.pieces s.cut.feeds ∙ ap lines s.cut.joined)

@@ -1,13 +1,17 @@
--- The pieces of an input that is cut, and a result over all of them. Private calls alone speak of them.
-use Rattle.std.specs.Prelude.{◌≡◌, ◌<◌, ◌≤◌, ℕ, List, Option, length, unwrap_or}
+-- The pieces of a round that is cut, and the result over all that was read. Private calls alone speak of them.
+use Rattle.std.specs.Prelude.{◌≡◌, ◌⊎◌, ◌<◌, ◌≤◌, true, ℕ, List, Option, IfSome, length, option_map, unwrap_or}
+use Rattle.std.specs.Io.KnownBytes.{Consumes}
 use Rattle.values.specs.Schema.{Field}
-use Rattle.lines.specs.Lines.{lines}
+use Rattle.lines.specs.Pieces.{AreWholeLines}
+use Rattle.lines.specs.Rounds.{RoundsState}
+use Rattle.lines.specs.Trim.{trim}
 use Rattle.pool.specs.declared.laws.Outcome.{Outcome}
 use Rattle.pool.specs.declared.laws.Outcome.TheVariants.{Whole, Over}
 use Rattle.query_tree.specs.Syntax.{TreeForm}
 use Rattle.tables.specs.declared.partial.Partial.{Partial}
-use Rattle.tables.specs.Partials.{StandsFor}
-use Rattle.tables.specs.Pieces.{IndexedPiece, IsCutInto, all_lines, refused_within}
+use Rattle.tables.specs.Partials.{StandsFor, StandsForInput}
+use Rattle.tables.specs.Pieces.{IndexedPiece, IsCutInto, refused_within}
+use Rattle.tables.specs.States.{PartialState}
 
 -- a pool's answer over pieces under a limit: a result that stands for them, where not more lines are refused than the limit; Over, where more are
 abbrev pub IsAnswer : List Field → TreeForm → List IndexedPiece → ℕ → Outcome Partial → Type 0
@@ -18,16 +22,24 @@ IsAnswer fields q pieces limit Over = limit < length (refused_within fields piec
 abbrev pub limit_number : Option ℕ → ℕ
 limit_number limit = unwrap_or limit 18446744073709551615
 
--- the partial result stands for pieces that the input is cut into, and whose lines are those of the input
-pub record IsWhole (fields : List Field) (q : TreeForm) (input : List ℕ) (partial : Partial) : Type 0 where
+-- the answer is one over pieces that the round is cut into
+pub record IsOutcome (fields : List Field) (q : TreeForm) (round : List ℕ) (limit : ℕ) (outcome : Outcome Partial) : Type 0 where
   pub pieces : List IndexedPiece
-  pub stands : StandsFor fields q partial pieces
-  pub cut : IsCutInto input pieces
-  pub lines : all_lines pieces ≡ lines input
+  pub answer : IsAnswer fields q pieces limit outcome
+  pub cut : IsCutInto round pieces
 
--- the answer is one over pieces that the input is cut into, and whose lines are those of the input
-pub record IsOutcome (fields : List Field) (q : TreeForm) (input : List ℕ) (limit : Option ℕ) (outcome : Outcome Partial) : Type 0 where
-  pub pieces : List IndexedPiece
-  pub answer : IsAnswer fields q pieces (limit_number limit) outcome
-  pub cut : IsCutInto input pieces
-  pub lines : all_lines pieces ≡ lines input
+-- the partial result stands for all that a reader gives: for bytes which, where it is known what the reader gives, are that, trimmed
+pub record IsWhole (fields : List Field) (q : TreeForm) (known : Option (List ℕ)) (partial : PartialState) : Type 0 where
+  pub bytes : List ℕ
+  pub stands : StandsForInput fields q partial bytes
+  pub known : IfSome known (λ input. bytes ≡ trim input)
+
+-- Between two rounds the partial result stands for the bytes of all rounds so far. Where it is known what the reader gives, these and what is left make up
+-- that, trimmed. They are counted; they are whole lines, unless the last round was given; and not more of their lines are refused than the limit.
+pub record StandsForRounds {R : Type 0} (fields : List Field) (q : TreeForm) (known : Option (List ℕ)) (limit : ℕ) (rounds : RoundsState R) (partial : PartialState) : Type 0 where
+  pub bytes : List ℕ
+  pub stands : StandsForInput fields q partial bytes
+  pub left : Consumes (option_map trim known) rounds.left bytes
+  pub count : rounds.given ≡ length bytes
+  pub ends : AreWholeLines bytes ⊎ (rounds.over ≡ true)
+  pub within : partial.refused ≤ limit

@@ -64,3 +64,24 @@ IsUnwritten fault = (fault ≡ OutOfMemory) ⊎ (fault ≡ ThreadNotStarted)
 abbrev pub Refuses : RunFault → Option ℕ → ℕ → Type 0
 Refuses (TooManyRefused most) limit count = (limit ≡ Some most) × (most < count)
 Refuses fault limit count = ⊥
+
+-- the fault came before anything was written: a read failed, memory or a thread was refused, or more lines are refused than the limit
+abbrev pub Stops : RunFault → Option ℕ → List Field → Option (List ℕ) → Type 0
+Stops Reading limit fields input = ⊤
+Stops OutOfMemory limit fields input = ⊤
+Stops ThreadNotStarted limit fields input = ⊤
+Stops (TooManyRefused most) limit fields input = (limit ≡ Some most) × IfSome input (λ bytes. most < length (refused fields bytes))
+Stops WritingReport limit fields input = ⊥
+Stops WritingRefused limit fields input = ⊥
+
+-- what a fault leaves after all of an input was worked on: nothing was written where memory was refused, and else what a failed write leaves of the two texts
+abbrev pub LeavesOfInput :
+    RunFault → List Field → TreeForm → List ℕ → (out_old out_new err_old err_new : Option (List ℕ)) → Type 0
+LeavesOfInput OutOfMemory fields q input out_old out_new err_old err_new = Keeps out_old out_new × Keeps err_old err_new
+LeavesOfInput Reading fields q input out_old out_new err_old err_new = ⊥
+LeavesOfInput ThreadNotStarted fields q input out_old out_new err_old err_new = ⊥
+LeavesOfInput (TooManyRefused most) fields q input out_old out_new err_old err_new = ⊥
+LeavesOfInput WritingReport fields q input out_old out_new err_old err_new =
+    AppendsBeginning out_old out_new (report fields q input) × Keeps err_old err_new
+LeavesOfInput WritingRefused fields q input out_old out_new err_old err_new =
+    Appends out_old out_new (report fields q input) × AppendsBeginning err_old err_new (refusals fields input)

@@ -1,8 +1,9 @@
 //! How a run fails.
 ghost use Rattle.std.specs.Prelude.{◌≡◌};
-ghost use Rattle.engine.specs.declared.fault.RunFault.TheVariants.{OutOfMemory};
+ghost use Rattle.engine.specs.declared.fault.RunFault.TheVariants.{OutOfMemory, Reading};
 ghost use Rattle.engine.specs.Run.{fault_of_pool};
 
+use lines::ReadFault;
 use pool::PoolFault;
 use std::alloc::AllocError;
 use thiserror::Error;
@@ -37,6 +38,14 @@ impl From<AllocError> for RunFault {
 
     fn from(_error: AllocError) -> RunFault {
         RunFault::OutOfMemory
+    }
+}
+
+impl From<ReadFault> for RunFault {
+    ghost from_gives = { λ _ fault. fault ≡ Reading };
+
+    fn from(_error: ReadFault) -> RunFault {
+        RunFault::Reading
     }
 }
 

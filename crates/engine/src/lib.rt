@@ -4,7 +4,7 @@
 mod cutting;
 mod explaining;
 mod fault;
-mod reading;
+mod gathering;
 mod running;
 mod serving;
 mod working;

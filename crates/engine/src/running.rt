@@ -1,19 +1,18 @@
 //! A run: from a reader to the report and the list of refused lines.
-ghost use Rattle.std.specs.Prelude.{◌≡◌, ◌≢◌, ◌⊎◌, ℕ, List, IfErr, IfOk, IfSome, OnOk, Some, length};
+ghost use Rattle.std.specs.Prelude.{◌≡◌, ◌≢◌, ℕ, List, IfErr, IfOk, IfSome, OnOk, length};
 ghost use Rattle.std.specs.Io.KnownBytes.{Appends};
 ghost use Rattle.values.specs.Schema.{Field};
 ghost use Rattle.lines.specs.Input.{refused};
 ghost use Rattle.lines.specs.Lines.{lines};
 ghost use Rattle.query_tree.specs.Syntax.{TreeForm};
 ghost use Rattle.query_plan.specs.Planned.{fields_of_plan, form_of_plan};
+ghost use Rattle.tables.specs.Partials.{StandsForInput};
 ghost use Rattle.tables.specs.Planned.{AreFittingUnder};
 ghost use Rattle.report.specs.Report.{report_of};
-ghost use Rattle.engine.specs.Pieces.{IsWhole};
-ghost use Rattle.engine.specs.Run.{IsDecided, IsUnwritten, IsWithin, Leaves, Refuses, refusals, report};
+ghost use Rattle.engine.specs.Run.{IsDecided, IsWithin, Leaves, LeavesOfInput, refusals, report};
 
 use crate::fault::RunFault;
-use crate::reading::read_all;
-use crate::working::{whole_alone, whole_among};
+use crate::gathering::{whole_alone, whole_among};
 use crate::writing::put_both;
 use command_line::Options;
 use query::Plan;
@@ -84,10 +83,8 @@ pub fn run<R: Read + Drop, O: Write, E: Write, H: Threads + Wait + Sync>(
     // One worker starts no thread.
     ensures started { options.workers ≡ 1 → IfErr result (λ fault. fault ≢ RunFault.ThreadNotStarted) }
 {
-    let input = read_all(alloc, reader)?;
-    let bytes = input.as_slice();
-    let whole = whole_among(rt, alloc, plan, options, bytes);
-    write_whole(alloc, plan, options, bytes, whole, out, err)
+    let whole = whole_among(rt, alloc, plan, options, reader)?;
+    write_whole(alloc, plan, whole, out, err)
 }
 
 /// Does what `run` does on the calling thread, without a thread of its own. The number of workers is
@@ -122,70 +119,48 @@ pub fn run_alone<R: Read + Drop, O: Write, E: Write>(
         (O.contents out.old) (O.contents out.new) (E.contents err.old) (E.contents err.new)) }
     ensures started { IfErr result (λ fault. fault ≢ RunFault.ThreadNotStarted) }
 {
-    let input = read_all(alloc, reader)?;
-    let bytes = input.as_slice();
-    let whole = whole_alone(alloc, plan, options, bytes);
-    write_whole(alloc, plan, options, bytes, whole, out, err)
+    let whole = whole_alone(alloc, plan, options, reader)?;
+    write_whole(alloc, plan, whole, out, err)
 }
 
-/// Writes the report and the list of refused lines by the result over an input, where there is one.
+/// Writes the report and the list of refused lines by the result over an input.
 fn write_whole<O: Write, E: Write>(
     alloc: Global,
     plan: &Plan,
-    options: Options,
-    input: &[u8],
-    whole: Result<Partial, RunFault>,
+    whole: Partial,
     out: &mut O,
     err: &mut E,
 ) -> Result<Done, RunFault>
-    requires whole { IfOk whole (IsWhole (fields_of_plan plan.now) (form_of_plan plan.now) input.now) }
-    requires limit { IfOk whole (λ _. IsWithin options.max_refused (length (refused (fields_of_plan plan.now) input.now))) }
-    requires fault { IfErr whole (λ fault. IsUnwritten fault
-        ⊎ Refuses fault options.max_refused (length (refused (fields_of_plan plan.now) input.now))) }
-    ensures report { OnOk result (Appends (O.contents out.old) (O.contents out.new)
-        (report (fields_of_plan plan.now) (form_of_plan plan.now) input.now)) }
-    ensures refusals { OnOk result (Appends (E.contents err.old) (E.contents err.new)
-        (refusals (fields_of_plan plan.now) input.now)) }
-    ensures lines { IfOk result (λ done. done.lines ≡ length (lines input.now)) }
-    ensures refused { IfOk result (λ done. done.refused ≡ length (refused (fields_of_plan plan.now) input.now)) }
-    ensures limit { IfOk result (λ done. IsWithin options.max_refused done.refused) }
-    ensures decided { IsDecided result options.max_refused (length (refused (fields_of_plan plan.now) input.now)) }
-    ensures fault { IfErr result (λ fault. Leaves fault options.max_refused
-        (fields_of_plan plan.now) (form_of_plan plan.now) (Some input.now)
+    requires { (input : List ℕ) × StandsForInput (fields_of_plan plan.now) (form_of_plan plan.now) whole input }
+    ensures report { OnOk result ((input : List ℕ) → StandsForInput (fields_of_plan plan.now) (form_of_plan plan.now) whole input
+        → Appends (O.contents out.old) (O.contents out.new) (report (fields_of_plan plan.now) (form_of_plan plan.now) input)) }
+    ensures refusals { OnOk result ((input : List ℕ) → StandsForInput (fields_of_plan plan.now) (form_of_plan plan.now) whole input
+        → Appends (E.contents err.old) (E.contents err.new) (refusals (fields_of_plan plan.now) input)) }
+    ensures lines { IfOk result (λ done. done.lines ≡ whole.lines) }
+    ensures refused { IfOk result (λ done. done.refused ≡ whole.refused) }
+    ensures fault { IfErr result (λ fault. (input : List ℕ) → StandsForInput (fields_of_plan plan.now) (form_of_plan plan.now) whole input
+        → LeavesOfInput fault (fields_of_plan plan.now) (form_of_plan plan.now) input
         (O.contents out.old) (O.contents out.new) (E.contents err.old) (E.contents err.new)) }
-    ensures started { IfErr whole (λ fault. fault ≢ RunFault.ThreadNotStarted)
-        → IfErr result (λ fault. fault ≢ RunFault.ThreadNotStarted) }
 {
-    let partial = whole?;
-    let done = done_of(&partial);
-    let texts = texts_of(alloc, plan, partial)?;
+    let done = Done {
+        lines: whole.lines(),
+        refused: whole.refused(),
+    };
+    let texts = texts_of(alloc, plan, whole)?;
     match put_both(out, texts.report.as_slice(), err, texts.refused.as_slice()) {
         Ok(()) => Ok(done),
         Err(fault) => Err(fault),
     }
 }
 
-/// The counts of a result over an input.
-fn done_of(partial: &Partial) -> Done
-    ensures lines { (fields : List Field) (q : TreeForm) (input : List ℕ)
-        → IsWhole fields q input partial.now → result.lines ≡ length (lines input) }
-    ensures refused { (fields : List Field) (q : TreeForm) (input : List ℕ)
-        → IsWhole fields q input partial.now → result.refused ≡ length (refused fields input) }
-{
-    Done {
-        lines: partial.lines(),
-        refused: partial.refused(),
-    }
-}
-
 /// What is written of an input, by the result over it.
 fn texts_of(alloc: Global, plan: &Plan, partial: Partial) -> Result<Texts, AllocError>
-    requires { (input : List ℕ) × IsWhole (fields_of_plan plan.now) (form_of_plan plan.now) input partial }
+    requires { (input : List ℕ) × StandsForInput (fields_of_plan plan.now) (form_of_plan plan.now) partial input }
     ensures report { IfOk result (λ texts. (input : List ℕ)
-        → IsWhole (fields_of_plan plan.now) (form_of_plan plan.now) input partial
+        → StandsForInput (fields_of_plan plan.now) (form_of_plan plan.now) partial input
         → texts.report.items ≡ report (fields_of_plan plan.now) (form_of_plan plan.now) input) }
     ensures refused { IfOk result (λ texts. (input : List ℕ)
-        → IsWhole (fields_of_plan plan.now) (form_of_plan plan.now) input partial
+        → StandsForInput (fields_of_plan plan.now) (form_of_plan plan.now) partial input
         → texts.refused.items ≡ refusals (fields_of_plan plan.now) input) }
 {
     let groups = partial.finish(plan)?;

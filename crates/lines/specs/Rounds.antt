@@ -20,12 +20,13 @@ pub record RoundState : Type 0 where
   pub bytes : List ℕ
   pub size : ℕ
 
--- a round was given: it and what is left behind it are what was left before, and it ends in a line feed unless it is the last
+-- a round was given: it and what is left behind it are what was left before, and it ends in a line feed unless it is the last, behind which nothing is left
 pub record HasGiven {R : Type 0} (old new : RoundsState R) : Type 0 where
   pub left : Consumes old.left new.left new.round
   pub some : 0 < length new.round
   pub fits : length new.round ≤ new.size
   pub feed : EndsInFeed new.round ⊎ (new.over ≡ true)
+  pub last : new.over ≡ true → IsAtEnd new.left
   pub given : new.given ≡ old.given + length new.round
 
 -- nothing was left, and that stays so

@@ -1,0 +1,13 @@
+use Rattle.std.proofs.Common.{◌-◌}
+use Rattle.query_plan.specs.Planned.{fields_of_plan, form_of_plan}
+use Rattle.engine.specs.Pieces.{StandsForRounds, limit_number}
+use Rattle.engine.proofs.gathering.whole_alone.Given as goal
+
+-- the result stands for all rounds so far
+abbrev pub invariant-loop : goal.invariant-loop
+invariant-loop g l =
+    StandsForRounds (fields_of_plan l.plan) (form_of_plan l.plan) (g.R.Read.remaining l.fn.reader) (limit_number l.options.max_refused) l.rounds l.whole
+
+-- each round has a byte
+abbrev pub decreases-loop : goal.decreases-loop
+decreases-loop g l = 9223372036854775808 - l.rounds.given
