@@ -380,8 +380,7 @@ fn hundred_pieces(rt: HostRuntime) -> Result<(), Fail> {
         assert!(rt; limit < 100 || all && sum == 100);
     }
     for third in [false, true] {
-        let right =
-            deal_in_turn::<Brand, HostRuntime>(&rt, rt.alloc(), third, Blank::new(4))?;
+        let right = deal_in_turn::<Brand, HostRuntime>(&rt, rt.alloc(), third, Blank::new(4))?;
         assert!(rt; right);
     }
     Ok(())
