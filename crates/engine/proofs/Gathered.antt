@@ -91,28 +91,38 @@ abbrev Follows : List Field → TreeForm → PartialState → PartialState → P
 Follows fields q partial more sum = (front back : List ℕ) → StandsForInput fields q partial front → StandsForInput fields q more back → AreWholeLines front
     → StandsFor fields q sum (whole_piece (front ++ back))
 
+after : {R : Type 0} (fields : List Field) (q : TreeForm) (known : Option (List ℕ)) (limit : ℕ) (old new : RoundsState R) (found : Result Bool ReadFault) (partial more sum : PartialState)
+    → (s : StandsForRounds fields q known limit old partial) → HasMoved old found new → found ≡ Ok true → StandsForInput fields q more new.round
+    → Follows fields q partial more sum → StandsForInput fields q sum (s.bytes ++ new.round)
+after fields q known limit old new found partial more sum s moved is stands follows =
+    let whole = whole-before s.bytes old new found moved is s.ends in
+    record { pieces = whole_piece (s.bytes ++ new.round); stands = follows s.bytes new.round s.stands stands whole; cut = one-piece (s.bytes ++ new.round) }
+
+-- as many lines are refused as before and in the round
+pub refused-after : {R : Type 0} (fields : List Field) (q : TreeForm) (known : Option (List ℕ)) (limit : ℕ) (old new : RoundsState R) (found : Result Bool ReadFault) (partial more sum : PartialState)
+    → StandsForRounds fields q known limit old partial → HasMoved old found new → found ≡ Ok true → StandsForInput fields q more new.round
+    → Follows fields q partial more sum → sum.refused ≡ partial.refused + more.refused
+refused-after fields q known limit old new found partial more sum s moved is stands follows =
+    omega (
+      arith,
+      refused-of-input fields q sum (s.bytes ++ new.round) (after fields q known limit old new found partial more sum s moved is stands follows),
+      refused-of-input fields q partial s.bytes s.stands,
+      refused-of-input fields q more new.round stands,
+      refused-both fields s.bytes new.round (whole-before s.bytes old new found moved is s.ends),
+    )
+
 pub next-round : {R : Type 0} (fields : List Field) (q : TreeForm) (known : Option (List ℕ)) (limit : ℕ) (old new : RoundsState R) (found : Result Bool ReadFault) (partial more sum : PartialState)
     → StandsForRounds fields q known limit old partial → HasMoved old found new → found ≡ Ok true → StandsForInput fields q more new.round
     → Follows fields q partial more sum → partial.refused + more.refused ≤ limit → StandsForRounds fields q known limit new sum
 next-round fields q known limit old new found partial more sum s moved is stands follows few =
     let given = moved.round is in
-    let whole = whole-before s.bytes old new found moved is s.ends in
-    let bytes = s.bytes ++ new.round in
-    let all : StandsForInput fields q sum bytes = record { pieces = whole_piece bytes; stands = follows s.bytes new.round s.stands stands whole; cut = one-piece bytes } in
     record {
-      bytes = bytes;
-      stands = all;
+      bytes = s.bytes ++ new.round;
+      stands = after fields q known limit old new found partial more sum s moved is stands follows;
       left = Consumes-trans (option_map trim known) old.left new.left s.bytes new.round s.left given.left;
       count = (let c = s.count in let g = given.given in omega (arith, c, g, length-append s.bytes new.round));
       ends = ends-after s.bytes new given.feed;
-      within = omega (
-          arith,
-          few,
-          refused-of-input fields q sum bytes all,
-          refused-of-input fields q partial s.bytes s.stands,
-          refused-of-input fields q more new.round stands,
-          refused-both fields s.bytes new.round whole,
-        );
+      within = omega (arith, few, refused-after fields q known limit old new found partial more sum s moved is stands follows);
     }
 
 -- before the first round

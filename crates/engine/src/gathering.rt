@@ -79,8 +79,16 @@ fn by_one_book<L: Ledger + Send + Sync, R: Read + Drop, H: Threads + Wait + Sync
     let mut whole = Partial::empty(alloc, plan)?;
     while rounds.advance()? {
         let before = whole.refused();
-        let (round, back) =
-            round_among(rt, alloc, plan, options, before, rounds.round(), &book, shares)?;
+        let (round, back) = round_among(
+            rt,
+            alloc,
+            plan,
+            options,
+            before,
+            rounds.round(),
+            &book,
+            shares,
+        )?;
         shares = back;
         whole = whole.follow(round)?;
     }

@@ -73,7 +73,16 @@ pub(crate) fn round_among<L: Ledger + Send + Sync, H: Threads + Wait + Sync>(
     job_law();
     let job = Job::new(alloc, plan, round, pieces.as_slice());
     let stop = limit_of(options);
-    match fan_deal(rt, alloc, &job, pieces.len() as u32, stop - before, book, stop as u128, shares) {
+    match fan_deal(
+        rt,
+        alloc,
+        &job,
+        pieces.len() as u32,
+        stop - before,
+        book,
+        stop as u128,
+        shares,
+    ) {
         Ok((outcome, shares)) => {
             let partial = decided(plan, options, before, round, outcome)?;
             Ok((partial, shares))

@@ -4,7 +4,7 @@ use Rattle.lines.specs.Rounds.{RoundsState}
 use Rattle.tables.specs.Partials.{StandsForInput}
 use Rattle.engine.specs.Pieces.{limit_number}
 use Rattle.engine.specs.Run.{Stops}
-use Rattle.engine.proofs.Gathered.{few-lines, next-round, no-round, round-stops, short-round}
+use Rattle.engine.proofs.Gathered.{few-lines, next-round, no-round, refused-after, round-stops, short-round}
 use Rattle.engine.proofs.Pooled.{grown-by}
 use Rattle.engine.proofs.gathering.by_one_book.Goals as goal
 
@@ -57,8 +57,12 @@ loop-whole-preserved g c =
     c.loop-whole.rounds c.advance.new.self _ c.loop-whole.whole c.in_ok-round.round c.in_ok-whole-2.whole c.loop-whole.invariant.rounds c.in_ok-advance.ensures (ap Ok c.if-branch.true)
     (subst (StandsForInput fields q c.in_ok-round.round) c.round-in-loop-whole.ensures c.in_ok-round.ensures.whole)
     (c.in_ok-whole-2.ensures.stands fields q) (omega (arith, before, limit)) in
+    let more = refused-after fields q (g.R.Read.remaining c.args.reader) (limit_number c.args.options.max_refused)
+    c.loop-whole.rounds c.advance.new.self _ c.loop-whole.whole c.in_ok-round.round c.in_ok-whole-2.whole c.loop-whole.invariant.rounds c.in_ok-advance.ensures (ap Ok c.if-branch.true)
+    (subst (StandsForInput fields q c.in_ok-round.round) c.round-in-loop-whole.ensures c.in_ok-round.ensures.whole)
+    (c.in_ok-whole-2.ensures.stands fields q) in
     record {
       rounds = rounds;
       hands = c.in_ok-round.ensures.hands ∙ c.loop-whole.invariant.hands;
-      reported = ?;
+      reported = grown-by (λ share. share.sum) c.in_ok-round.back.items _ _ (omega (arith, before, more)) c.in_ok-round.ensures.reported;
     }
