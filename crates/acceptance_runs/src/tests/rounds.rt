@@ -1,7 +1,7 @@
 //! Runs that read their input in several rounds write what they write of one round: the numbers of lines run on, and
 //! the limit of refused lines is one limit for all rounds.
 use super::running::{
-    BY_D, By, Case, assert_done, assert_run_or_refused, assert_too_many, planned,
+    BY_D, By, Case, LEAST_ROUND, assert_done, assert_run_or_refused, assert_too_many, planned,
 };
 use super::streams::{Pause, Source};
 use command_line::Options;
@@ -14,11 +14,8 @@ use std::sync::Wait;
 use std::test::Fail;
 use std::thread::Threads;
 
-/// The least size of a round.
-const LEAST: usize = 1_048_578;
-
-/// Sizes of rounds, the greatest among them.
-const ROUNDS: [usize; 3] = [LEAST, 4_000_000, 67_108_864];
+/// Sizes of rounds, the least and the greatest among them.
+const ROUNDS: [usize; 3] = [LEAST_ROUND, 4_000_000, 67_108_864];
 
 const CALLS: [By; 3] = [By::Alone, By::Workers(1), By::Workers(4)];
 
@@ -104,6 +101,16 @@ fn case_of_three_rounds(input: &[u8]) -> Case<'_> {
     }
 }
 
+/// Sizes of rounds and of pieces, each with the most bytes that a read gives.
+const SIZES: [(usize, usize, usize); 6] = [
+    (LEAST_ROUND, 20, 1),
+    (LEAST_ROUND, 1, 2),
+    (4_000_000, 67_108_864, 7),
+    (LEAST_ROUND, 1_048_576, 1_000_000),
+    (4_000_000, 1_048_576, 1_000_000),
+    (67_108_864, 1_048_576, 1_000_000),
+];
+
 /// Asserts that a case is done by each call in rounds of each size, from readers that give few bytes a call and many.
 fn assert_done_in_rounds(
     rt: &(impl Abort + Threads + Wait + Sync),
@@ -112,12 +119,10 @@ fn assert_done_in_rounds(
 ) {
     let plan = planned(rt, alloc, case.query);
     for by in CALLS {
-        for round in ROUNDS {
-            for (piece, at_once) in [(20, 1), (1, 2), (67_108_864, 7), (1_048_576, 1_000_000)] {
-                let asked = in_rounds(rt, by, (round, piece), None);
-                let reader = Source::whole(case.input, at_once);
-                assert_done(rt, alloc, asked, (&plan, case), reader);
-            }
+        for (round, piece, at_once) in SIZES {
+            let asked = in_rounds(rt, by, (round, piece), None);
+            let reader = Source::whole(case.input, at_once);
+            assert_done(rt, alloc, asked, (&plan, case), reader);
         }
     }
     drop(plan);
@@ -187,7 +192,7 @@ fn limits_before_a_read_that_fails(rt: HostRuntime) -> Result<(), Fail> {
     }
     let plan = planned(&rt, alloc, SUM);
     for by in CALLS {
-        let asked = in_rounds(&rt, by, (LEAST, 1_048_576), Some(0));
+        let asked = in_rounds(&rt, by, (LEAST_ROUND, 1_048_576), Some(0));
         let reader = Source {
             front: lines.as_slice(),
             pause: Pause::Error(ErrorKind::Other),
@@ -208,7 +213,7 @@ fn refusal_of_runs_in_rounds(rt: HostRuntime) {
     };
     let case = case_of_three_rounds(several.as_slice());
     for by in [By::Alone, By::Workers(2)] {
-        let asked = in_rounds(&rt, by, (LEAST, 1), None);
+        let asked = in_rounds(&rt, by, (LEAST_ROUND, 1), None);
         assert_run_or_refused(&rt, rt.alloc(), asked, &case);
     }
 }

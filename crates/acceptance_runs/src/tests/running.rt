@@ -82,6 +82,9 @@ const ROLLED_UP: Case<'static> = Case {
     },
 };
 
+/// The least size of a round.
+pub const LEAST_ROUND: usize = 1_048_578;
+
 /// Which call runs: `run_alone`, or `run` with so many workers.
 #[derive(Clone, Copy, Debug, PartialEq, Eq)]
 pub enum By {
@@ -90,13 +93,17 @@ pub enum By {
 }
 
 impl By {
-    /// The options of a run by this call, in pieces of a size, under a limit of refused lines.
+    /// The options of a run by this call, in pieces of a size, under a limit of refused lines. It reads in rounds of
+    /// the least size, and so takes little memory.
     pub fn options(self, rt: &impl Abort, piece: usize, limit: Option<u64>) -> Options {
         let workers = match self {
             By::Alone => 4,
             By::Workers(workers) => workers,
         };
-        Options::new(workers, piece, limit).expect(rt, "the numbers are in range")
+        let options = Options::new(workers, piece, limit).expect(rt, "the numbers are in range");
+        options
+            .with_round(LEAST_ROUND)
+            .expect(rt, "a round of the least size")
     }
 }
 
