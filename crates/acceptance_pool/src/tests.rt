@@ -4,7 +4,8 @@ ghost use Rattle.pool.specs.Totals.{sum_below};
 ghost use Rattle.pool.specs.Settled.{AreAll};
 
 use pool::{
-    Book, Deal, Hand, Next, Outcome, PoolFault, Share, Work, alone, fan_on, fan_out, settled,
+    Book, Deal, Hand, Next, Outcome, PoolFault, Share, Work, alone, fan_deal, fan_on, fan_out,
+    settled,
 };
 use std::alloc::{AllocError, Global};
 use std::marker::{Brand, Send, Sync};
@@ -336,6 +337,31 @@ fn workers_meet(rt: HostRuntime) -> Result<(), Fail> {
     Ok(())
 }
 
+/// Whether deals of a hundred pieces, one after the other over one book of four shares, are decided rightly: two with the
+/// limit 100, after which the book closes with 200; and, where it is asked for, a third one with the limit 99 in place of
+/// closing.
+fn deal_in_turn<L: Ledger + Send + Sync, R: Threads + Wait + Sync>(
+    rt: &R,
+    alloc: Global,
+    third: bool,
+    blank: Blank,
+) -> Result<bool, PoolFault>
+    requires { (blank.name ≡ L.name) × (blank.parts ≡ L.parts) × (L.parts ≡ 4) }
+{
+    let Ok((book, shares)) = Book::<L>::new(alloc, blank, 4) else {
+        return Err(PoolFault::OutOfMemory);
+    };
+    let (first, shares) = fan_deal(rt, alloc, &Ones, 100, 100, &book, 200, shares)?;
+    let (second, shares) = fan_deal(rt, alloc, &Ones, 100, 100, &book, 200, shares)?;
+    let right = is_right(&first, 100, 100) && is_right(&second, 100, 100);
+    if third {
+        let (last, _) = fan_deal(rt, alloc, &Ones, 100, 99, &book, 200, shares)?;
+        return Ok(right && is_right(&last, 100, 99));
+    }
+    let sum = book.close(shares);
+    Ok(right && sum == 200)
+}
+
 /// Workers that stop after their first piece leave the others to the calling thread.
 #[test]
 fn hundred_pieces(rt: HostRuntime) -> Result<(), Fail> {
@@ -352,6 +378,10 @@ fn hundred_pieces(rt: HostRuntime) -> Result<(), Fail> {
         )?;
         assert!(rt; is_right(&outcome, 100, limit));
         assert!(rt; limit < 100 || all && sum == 100);
+    }
+    for third in [false, true] {
+        let right = deal_in_turn::<Brand, HostRuntime>(&rt, rt.alloc(), third, Blank::new(4))?;
+        assert!(rt; right);
     }
     Ok(())
 }
@@ -537,6 +567,11 @@ fn refusal_of_book(rt: HostRuntime) {
 fn refusal_of_fan_out(rt: HostRuntime) {
     match fan_out(&rt, rt.alloc(), &Numbers, 4, 2, 6) {
         Ok(outcome) => assert!(rt; is_right(&outcome, 6, 6)),
+        Err(PoolFault::OutOfMemory) => {}
+        Err(PoolFault::ThreadNotStarted) => {}
+    }
+    match deal_in_turn::<Brand, HostRuntime>(&rt, rt.alloc(), false, Blank::new(4)) {
+        Ok(right) => assert!(rt; right),
         Err(PoolFault::OutOfMemory) => {}
         Err(PoolFault::ThreadNotStarted) => {}
     }

@@ -59,8 +59,10 @@ impl Options {
             return None;
         }
         Some(Options {
+            workers: self.workers,
+            piece: self.piece,
+            max_refused: self.max_refused,
             round: bytes,
-            ..self
         })
     }
 

@@ -66,7 +66,7 @@ refused-so_far fields (Some input) (Some rest) bytes h (inr end) =
 -- where a round is given, none before it was the last
 not-over : {R : Type 0} (bytes : List ℕ) (old new : RoundsState R) (found : Result Bool ReadFault) (failed : Bool) → old.failed ≡ failed → HasMoved old found new → found ≡ Ok true
     → old.over ≡ true → AreWholeLines bytes
-not-over bytes old new found true e moved is over = absurd (subst (λ r. IsErr r) is (moved.failed e))
+not-over bytes old new found true e moved is over = let wrong = subst (λ r. IsErr r) is (moved.failed e) in absurd cc
 not-over bytes old new found false e moved is over = let wrong = sym is ∙ moved.over over e in absurd cc
 
 whole-before : {R : Type 0} (bytes : List ℕ) (old new : RoundsState R) (found : Result Bool ReadFault) → HasMoved old found new → found ≡ Ok true
@@ -132,7 +132,7 @@ no-round fields q known limit rounds partial left given stands =
 pub no-more : {R : Type 0} (fields : List Field) (q : TreeForm) (known : Option (List ℕ)) (limit : ℕ) (old new : RoundsState R) (found : Result Bool ReadFault) (partial : PartialState)
     → StandsForRounds fields q known limit old partial → HasMoved old found new → found ≡ Ok false → IsWhole fields q known partial
 no-more fields q known limit old new found partial s moved is =
-    record { bytes = s.bytes; stands = s.stands; known = at-end known old.left s.bytes s.left (moved.none is).left }
+    record { bytes = s.bytes; stands = s.stands; trimmed = at-end known old.left s.bytes s.left (moved.none is).left }
 
 -- ---- what is asked of a round and of `follow`
 

@@ -1,5 +1,5 @@
 -- What a run leaves, from what it is known to have read and made.
-use Rattle.std.proofs.Common.{◌≡◌, ◌≢◌, ◌≤◌, ◌<◌, ◌⊎◌, ◌∙◌, inl, inr, ℕ, List, length, Option, Some, None, Result, Ok, Err, subst, sym, ap, arith}
+use Rattle.std.proofs.Common.{◌≡◌, ◌≢◌, ◌≤◌, ◌<◌, ◌⊎◌, ◌∙◌, inl, inr, ℕ, List, length, Option, Some, None, Result, Ok, Err, refl, subst, sym, ap, arith}
 use Rattle.std.specs.Prelude.{◌↔◌, IfErr, IfOk, IfSome, IsOk, OnOk}
 use Rattle.values.specs.Schema.{Field}
 use Rattle.query_tree.specs.Syntax.{TreeForm}
@@ -41,26 +41,26 @@ pub report-known : (r : Result Done RunFault) (fields : List Field) (q : TreeFor
     → OnOk r (IfSome known (λ input. Appends old new (report fields q input)))
 report-known (Err e) fields q known partial old new w h = tt
 report-known (Ok done) fields q known partial old new w h =
-    of-known (λ input. Appends old new (report fields q input)) w.bytes known (λ input. subst (λ (text : List ℕ). Appends old new text) (report-trimmed fields q input)) w.known (h w.bytes w.stands)
+    of-known (λ input. Appends old new (report fields q input)) w.bytes known (λ input. subst (λ (text : List ℕ). Appends old new text) (report-trimmed fields q input)) w.trimmed (h w.bytes w.stands)
 
 pub refusals-known : (r : Result Done RunFault) (fields : List Field) (q : TreeForm) (known : Option (List ℕ)) (partial : PartialState) (old new : Option (List ℕ)) → IsWhole fields q known partial
     → OnOk r ((input : List ℕ) → StandsForInput fields q partial input → Appends old new (refusals fields input))
     → OnOk r (IfSome known (λ input. Appends old new (refusals fields input)))
 refusals-known (Err e) fields q known partial old new w h = tt
 refusals-known (Ok done) fields q known partial old new w h =
-    of-known (λ input. Appends old new (refusals fields input)) w.bytes known (λ input. subst (λ (text : List ℕ). Appends old new text) (refusals-trimmed fields input)) w.known (h w.bytes w.stands)
+    of-known (λ input. Appends old new (refusals fields input)) w.bytes known (λ input. subst (λ (text : List ℕ). Appends old new text) (refusals-trimmed fields input)) w.trimmed (h w.bytes w.stands)
 
 -- so of the counts
 pub lines-known : (r : Result Done RunFault) (fields : List Field) (q : TreeForm) (known : Option (List ℕ)) (partial : PartialState) → IsWhole fields q known partial
     → IfOk r (λ done. done.lines ≡ partial.lines) → IfOk r (λ done. IfSome known (λ input. done.lines ≡ length (lines input)))
 lines-known (Err e) fields q known partial w h = tt
 lines-known (Ok done) fields q known partial w h =
-    of-known (λ input. done.lines ≡ length (lines input)) w.bytes known (λ input same. same ∙ count-trim input) w.known (h ∙ lines-of-input fields q partial w.bytes w.stands)
+    of-known (λ input. done.lines ≡ length (lines input)) w.bytes known (λ input same. same ∙ count-trim input) w.trimmed (h ∙ lines-of-input fields q partial w.bytes w.stands)
 
 -- so many lines are refused of what the reader gives
 refused-whole : (fields : List Field) (q : TreeForm) (known : Option (List ℕ)) (partial : PartialState) → IsWhole fields q known partial → IfSome known (λ input. partial.refused ≡ length (refused fields input))
 refused-whole fields q known partial w =
-    of-known (λ input. partial.refused ≡ length (refused fields input)) w.bytes known (λ input same. same ∙ ap length (refused-trim fields input)) w.known (refused-of-input fields q partial w.bytes w.stands)
+    of-known (λ input. partial.refused ≡ length (refused fields input)) w.bytes known (λ input same. same ∙ ap length (refused-trim fields input)) w.trimmed (refused-of-input fields q partial w.bytes w.stands)
 
 refused-count : (known : Option (List ℕ)) (count : List ℕ → ℕ) (m n : ℕ) → m ≡ n → IfSome known (λ input. n ≡ count input) → IfSome known (λ input. m ≡ count input)
 refused-count None count m n e h = tt
@@ -84,7 +84,7 @@ limit-known (Ok done) limit partial few h = within limit partial.refused done.re
 
 -- a fault before anything was written, and the limit
 stopped : (limit : Option ℕ) (count : ℕ) (most : ℕ) → limit ≡ Some most → most < count → IsDecided {X = Done} (Err (TooManyRefused most)) limit count
-stopped limit count most e l = λ _. (λ no. absurd no, λ few. let at_most = subst (λ (x : Option ℕ). IsWithin x count) e few in omega (arith, l, at_most))
+stopped limit count most e l = λ _. (λ no. let wrong = no in absurd cc, λ few. let at_most = subst (λ (x : Option ℕ). IsWithin x count) e few in absurd (omega (arith, l, at_most)))
 
 pub decided-stopped : (limit : Option ℕ) (fields : List Field) (known : Option (List ℕ)) (fault : RunFault) → Stops fault limit fields known
     → IfSome known (λ input. IsDecided {X = Done} (Err fault) limit (length (refused fields input)))
@@ -107,7 +107,7 @@ hinders fields q input oo on eo en WritingRefused h = tt
 decided-count : (r : Result Done RunFault) (limit : Option ℕ) (known : Option (List ℕ)) (count : List ℕ → ℕ) (n : ℕ) → n ≤ limit_number limit → IfErr r Hinders
     → IfSome known (λ input. n ≡ count input) → IfSome known (λ input. IsDecided r limit (count input))
 decided-count r limit None count n few h same = tt
-decided-count (Ok done) limit (Some input) count n few h same = λ _. (λ _. within limit n (count input) few (sym same), λ _. tt)
+decided-count (Ok done) limit (Some input) count n few h same = λ _. (λ _. within limit n (count input) few (sym same), λ _. refl)
 decided-count (Err fault) limit (Some input) count n few h same = λ free. absurd (free h)
 
 err-hinders : (r : Result Done RunFault) (fields : List Field) (q : TreeForm) (bytes : List ℕ) (partial : PartialState) (oo on eo en : Option (List ℕ)) → StandsForInput fields q partial bytes
@@ -150,7 +150,7 @@ pub leaves-known : (r : Result Done RunFault) (limit : Option ℕ) (fields : Lis
     → IfErr r (λ fault. (input : List ℕ) → StandsForInput fields q partial input → LeavesOfInput fault fields q input oo on eo en)
     → IfErr r (λ fault. Leaves fault limit fields q known oo on eo en)
 leaves-known (Ok done) limit fields q known partial oo on eo en w h = tt
-leaves-known (Err fault) limit fields q known partial oo on eo en w h = fault-leaves limit fields q w.bytes known oo on eo en fault w.known (h w.bytes w.stands)
+leaves-known (Err fault) limit fields q known partial oo on eo en w h = fault-leaves limit fields q w.bytes known oo on eo en fault w.trimmed (h w.bytes w.stands)
 
 -- no fault after all of an input was worked on is one of a thread
 thread-started : (fields : List Field) (q : TreeForm) (input : List ℕ) (oo on eo en : Option (List ℕ)) (fault : RunFault) → LeavesOfInput fault fields q input oo on eo en → fault ≢ ThreadNotStarted
@@ -174,3 +174,7 @@ leaves-written fields q bytes text list oo on eo en (TooManyRefused most) is_tex
 leaves-written fields q bytes text list oo on eo en WritingReport is_text is_list h = (subst (λ (t : List ℕ). AppendsBeginning oo on t) is_text h.0, h.1)
 leaves-written fields q bytes text list oo on eo en WritingRefused is_text is_list h =
     (subst (λ (t : List ℕ). Appends oo on t) is_text h.0, subst (λ (t : List ℕ). AppendsBeginning eo en t) is_list h.1)
+
+-- what was appended is the text that it is
+pub appends-text : (old new : Option (List ℕ)) (bytes text : List ℕ) → bytes ≡ text → Appends old new bytes → Appends old new text
+appends-text old new bytes text e h = subst (λ (t : List ℕ). Appends old new t) e h

@@ -1,6 +1,7 @@
 -- What a pool answers over the pieces of an input.
 use Rattle.std.proofs.Common.{◌≡◌, ◌∙◌, ◌+◌, ◌-◌, ◌≤◌, ◌<◌, ◌^◌, ℕ, suc, List, [], ◌∷◌, length, map, filter_map, Option, Some, None, Result, Ok, Err, sym, ap, subst, arith}
 use Rattle.std.proofs.lemmas.List.{length-map}
+use Rattle.std.specs.List.{All}
 use Rattle.std.specs.Result.{result_err}
 use Rattle.values.specs.Datum.{Datum}
 use Rattle.values.specs.Schema.{Field}
@@ -73,14 +74,33 @@ outcome-of plan p input b pieces ps n m limit outcome e f g h k stands weighs cu
 abbrev pub loads_of : Plan → List ℕ → List Piece → ℕ → ℕ
 loads_of plan input pieces n = sum_below (λ i. (mean_at (fields_of_plan plan) (form_of_plan plan) input pieces i).lines) n
 
--- they are few
-pub few-loads : (plan p : Plan) (input b : List ℕ) (pieces ps : List Piece) (n : ℕ)
-    → p ≡ plan → b ≡ input → ps ≡ pieces → n ≡ length pieces → Loads → all_lines (indexed input pieces) ≡ lines input → length input < 2 ^ 63
-    → loads_of p b ps n < 2 ^ 63
-few-loads plan p input b pieces ps n e f g h loads same short =
+-- with some more they are few
+pub few-loads : (plan p : Plan) (input b : List ℕ) (pieces ps : List Piece) (n more : ℕ)
+    → p ≡ plan → b ≡ input → ps ≡ pieces → n ≡ length pieces → Loads → all_lines (indexed input pieces) ≡ lines input → more + length input < 2 ^ 63
+    → loads_of p b ps n + more < 2 ^ 63
+few-loads plan p input b pieces ps n more e f g h loads same short =
     let is = ap (λ (x : Plan). loads_of x b ps n) e ∙ ap (λ (x : List ℕ). loads_of plan x ps n) f ∙ ap (λ (x : List Piece). loads_of plan input x n) g
     ∙ ap (λ (x : ℕ). loads_of plan input pieces x) h ∙ loads (fields_of_plan plan) (form_of_plan plan) input pieces ∙ ap length same in
     omega (arith, is, length-lines input, short)
+
+-- how many refused lines the pieces have
+abbrev pub weights_of : Plan → List ℕ → List Piece → ℕ → ℕ
+weights_of plan input pieces n = sum_below (λ i. (mean_at (fields_of_plan plan) (form_of_plan plan) input pieces i).refused) n
+
+pub weights-counted : (plan p : Plan) (input b : List ℕ) (pieces ps : List Piece) (n : ℕ)
+    → p ≡ plan → b ≡ input → ps ≡ pieces → n ≡ length pieces → Weighs → all_lines (indexed input pieces) ≡ lines input
+    → weights_of p b ps n ≡ length (refused (fields_of_plan plan) input)
+weights-counted plan p input b pieces ps n e f g h weighs same =
+    ap (λ (x : Plan). weights_of x b ps n) e ∙ ap (λ (x : List ℕ). weights_of plan x ps n) f ∙ ap (λ (x : List Piece). weights_of plan input x n) g
+    ∙ ap (λ (x : ℕ). weights_of plan input pieces x) h ∙ weighs (fields_of_plan plan) (form_of_plan plan) input pieces
+    ∙ refused-counted (fields_of_plan plan) (indexed input pieces) input same
+
+-- with each share below some number, and so many loads beside, there is room
+pub room-beside : {S : Type 0} (sum : S → ℕ) (shares : List S) (before loads : ℕ) → loads + before < 2 ^ 63 → All (λ share. sum share ≤ before) shares → All (λ share. loads + sum share < 2 ^ 63) shares
+room-beside sum shares before loads short all = λ k d l. let most = all k d l in omega (arith, most, short)
+
+pub grown-by : {S : Type 0} (sum : S → ℕ) (shares : List S) (most more : ℕ) → most ≤ more → All (λ share. sum share ≤ most) shares → All (λ share. sum share ≤ more) shares
+grown-by sum shares most more few all = λ k d l. let at_most = all k d l in omega (arith, at_most, few)
 
 -- ---- of an outcome
 

@@ -32,7 +32,7 @@ pub record IsOutcome (fields : List Field) (q : TreeForm) (round : List ℕ) (li
 pub record IsWhole (fields : List Field) (q : TreeForm) (known : Option (List ℕ)) (partial : PartialState) : Type 0 where
   pub bytes : List ℕ
   pub stands : StandsForInput fields q partial bytes
-  pub known : IfSome known (λ input. bytes ≡ trim input)
+  pub trimmed : IfSome known (λ input. bytes ≡ trim input)
 
 -- Between two rounds the partial result stands for the bytes of all rounds so far. Where it is known what the reader gives, these and what is left make up
 -- that, trimmed. They are counted; they are whole lines, unless the last round was given; and not more of their lines are refused than the limit.

@@ -74,7 +74,10 @@ pub(crate) fn round_among<L: Ledger + Send + Sync, H: Threads + Wait + Sync>(
     let job = Job::new(alloc, plan, round, pieces.as_slice());
     let stop = limit_of(options);
     match fan_deal(rt, alloc, &job, pieces.len() as u32, stop - before, book, stop as u128, shares) {
-        Ok((outcome, shares)) => Ok((decided(plan, options, before, round, outcome)?, shares)),
+        Ok((outcome, shares)) => {
+            let partial = decided(plan, options, before, round, outcome)?;
+            Ok((partial, shares))
+        }
         Err(fault) => Err(RunFault::from(fault)),
     }
 }

@@ -333,7 +333,22 @@ pub fn fan_deal<W: Work + Sync, L: Ledger + Send + Sync, R: Threads + Wait + Syn
         → All (λ s. s.sum ≤ most + sum_below (λ i. W.weight_of work.now (W.piece_meaning work.now i)) pieces) r.1.items) }
     ensures alone { (vec_len shares ≡ 1) ⊎ (pieces ≡ 0) → IfErr result (λ e. e ≡ PoolFault.OutOfMemory) }
 {
-    Err(PoolFault::OutOfMemory)
+    let Ok(deal) = Deal::new(alloc, pieces, shares.len()) else {
+        return Err(PoolFault::OutOfMemory);
+    };
+    match fan_on(
+        rt,
+        alloc,
+        work,
+        deal.into_hands(),
+        limit,
+        book,
+        stop,
+        shares,
+    ) {
+        Ok((outcome, _, shares)) => Ok((outcome, shares)),
+        Err(fault) => Err(fault),
+    }
 }
 
 /// `fan_out` with a book of the ledger L.
@@ -354,23 +369,20 @@ fn with_book<L: Ledger + Send + Sync, W: Work + Sync, R: Threads + Wait + Sync>(
     ensures decided { IfOk result (Decides W.meaning (total (W.unit_meaning work.now) (W.combined work.now) (W.piece_meaning work.now) pieces) (sum_below (λ i. W.weight_of work.now (W.piece_meaning work.now i)) pieces) limit) }
     ensures alone { (hands ≡ 1) ⊎ (pieces ≡ 0) → IfErr result (λ e. e ≡ PoolFault.OutOfMemory) }
 {
-    let Ok(deal) = Deal::new(alloc, pieces, hands) else {
-        return Err(PoolFault::OutOfMemory);
-    };
     let Ok((book, shares)) = Book::<L>::new(alloc, blank, hands) else {
         return Err(PoolFault::OutOfMemory);
     };
-    let (outcome, shares) = match fan_on(
+    let (outcome, shares) = match fan_deal(
         rt,
         alloc,
         work,
-        deal.into_hands(),
+        pieces,
         limit,
         &book,
         limit as u128,
         shares,
     ) {
-        Ok((outcome, _, shares)) => (outcome, shares),
+        Ok((outcome, shares)) => (outcome, shares),
         Err(fault) => return Err(fault),
     };
     book.close(shares);

@@ -4,10 +4,10 @@ use Rattle.engine.specs.Pieces.{StandsForRounds, limit_number}
 use Rattle.engine.proofs.gathering.whole_alone.Given as goal
 
 -- the result stands for all rounds so far
-abbrev pub invariant-loop : goal.invariant-loop
-invariant-loop g l =
+abbrev pub invariant-loop-whole : goal.invariant-loop-whole
+invariant-loop-whole g l =
     StandsForRounds (fields_of_plan l.plan) (form_of_plan l.plan) (g.R.Read.remaining l.fn.reader) (limit_number l.options.max_refused) l.rounds l.whole
 
 -- each round has a byte
-abbrev pub decreases-loop : goal.decreases-loop
-decreases-loop g l = 9223372036854775808 - l.rounds.given
+abbrev pub decreases-loop-whole : goal.decreases-loop-whole
+decreases-loop-whole g l = 9223372036854775808 - l.rounds.given

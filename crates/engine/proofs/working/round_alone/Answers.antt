@@ -8,10 +8,9 @@ alone-requires-clause-loads c =
     let pieces = c.in_ok-pieces.pieces in
     let job = c.new-job.result in
     let count : c.len.result ≡ length pieces.items = grind (arith, c.len.ensures, pieces.ok) in
-    let short : length c.args.round.now < 2 ^ 63 = omega (arith, c.requires.short) in
-    λ κs. few-loads c.args.plan.now job.plan.now c.args.round.now job.input.now pieces.items job.pieces.now c.len.result
+    λ κs. let few = few-loads c.args.plan.now job.plan.now c.args.round.now job.input.now pieces.items job.pieces.now c.len.result c.args.before
     c.new-job.ensures.plan c.new-job.ensures.input (c.new-job.ensures.pieces ∙ c.as_slice.ensures.value) count
-    c.job_law.ensures.lines c.in_ok-pieces.ensures.lines short
+    c.job_law.ensures.lines c.in_ok-pieces.ensures.lines c.requires.short in omega (arith, few)
 
 pub decided-requires-clause-outcome : goal.decided-requires-clause-outcome
 decided-requires-clause-outcome c =

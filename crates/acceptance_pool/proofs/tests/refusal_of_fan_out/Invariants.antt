@@ -1,0 +1,4 @@
+use Rattle.acceptance_pool.proofs.tests.refusal_of_fan_out.Given as goal
+
+abbrev pub ghosts-deal_in_turn : goal.ghosts-deal_in_turn
+ghosts-deal_in_turn g a = record { name = a.blank.name; parts = a.blank.parts }
