@@ -172,20 +172,28 @@ above : (known : Option (List ℕ)) (count : List ℕ → ℕ) (most so_far : �
 above None count most so_far l few = tt
 above (Some input) count most so_far l few = omega (arith, l, few)
 
-pub round-stops : {R : Type 0} (fields : List Field) (q : TreeForm) (known : Option (List ℕ)) (limit : ℕ) (most : Option ℕ) (old new : RoundsState R) (found : Result Bool ReadFault) (partial : PartialState) (fault : RunFault)
+stops-there : {R : Type 0} (fields : List Field) (q : TreeForm) (known : Option (List ℕ)) (limit : ℕ) (most : Option ℕ) (old new : RoundsState R) (found : Result Bool ReadFault) (partial : PartialState) (fault : RunFault)
     → StandsForRounds fields q known limit old partial → HasMoved old found new → found ≡ Ok true
     → IsUnwritten fault ⊎ Refuses fault most (partial.refused + length (refused fields new.round)) → Stops fault most fields known
-round-stops fields q known limit most old new found partial fault s moved is (inl (inl e)) = subst (λ (f : RunFault). Stops f most fields known) (sym e) tt
-round-stops fields q known limit most old new found partial fault s moved is (inl (inr e)) = subst (λ (f : RunFault). Stops f most fields known) (sym e) tt
-round-stops fields q known limit most old new found partial Reading s moved is (inr h) = absurd h
-round-stops fields q known limit most old new found partial OutOfMemory s moved is (inr h) = absurd h
-round-stops fields q known limit most old new found partial ThreadNotStarted s moved is (inr h) = absurd h
-round-stops fields q known limit most old new found partial (TooManyRefused n) s moved is (inr h) =
+stops-there fields q known limit most old new found partial fault s moved is (inl (inl e)) = subst (λ (f : RunFault). Stops f most fields known) (sym e) tt
+stops-there fields q known limit most old new found partial fault s moved is (inl (inr e)) = subst (λ (f : RunFault). Stops f most fields known) (sym e) tt
+stops-there fields q known limit most old new found partial Reading s moved is (inr h) = absurd h
+stops-there fields q known limit most old new found partial OutOfMemory s moved is (inr h) = absurd h
+stops-there fields q known limit most old new found partial ThreadNotStarted s moved is (inr h) = absurd h
+stops-there fields q known limit most old new found partial (TooManyRefused n) s moved is (inr h) =
     let given = moved.round is in
     let whole = whole-before s.bytes old new found moved is s.ends in
     let so_far = length (refused fields (s.bytes ++ new.round)) in
     let left = Consumes-trans (option_map trim known) old.left new.left s.bytes new.round s.left given.left in
     let more : n < so_far = omega (arith, h.1, refused-of-input fields q partial s.bytes s.stands, refused-both fields s.bytes new.round whole) in
     (h.0, above known (λ input. length (refused fields input)) n so_far more (refused-so_far fields known new.left (s.bytes ++ new.round) left (end-after s.bytes new given.last given.feed)))
-round-stops fields q known limit most old new found partial WritingReport s moved is (inr h) = absurd h
-round-stops fields q known limit most old new found partial WritingRefused s moved is (inr h) = absurd h
+stops-there fields q known limit most old new found partial WritingReport s moved is (inr h) = absurd h
+stops-there fields q known limit most old new found partial WritingRefused s moved is (inr h) = absurd h
+
+pub round-stops : {R : Type 0} (fields : List Field) (q : TreeForm) (known : Option (List ℕ)) (limit : ℕ) (most : Option ℕ) (old new : RoundsState R) (found : Result Bool ReadFault) (partial : PartialState)
+    (before : ℕ) (round : List ℕ) (fault : RunFault) → StandsForRounds fields q known limit old partial → HasMoved old found new → found ≡ Ok true → before ≡ partial.refused → round ≡ new.round
+    → IsUnwritten fault ⊎ Refuses fault most (before + length (refused fields round)) → Stops fault most fields known
+round-stops fields q known limit most old new found partial before round fault s moved is e f h =
+    let there = subst (λ (bytes : List ℕ). IsUnwritten fault ⊎ Refuses fault most (before + length (refused fields bytes))) f h in
+    stops-there fields q known limit most old new found partial fault s moved is
+    (subst (λ (n : ℕ). IsUnwritten fault ⊎ Refuses fault most (n + length (refused fields new.round))) e there)

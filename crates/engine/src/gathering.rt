@@ -33,7 +33,8 @@ pub(crate) fn whole_alone<R: Read + Drop>(
     let mut rounds = Rounds::new(alloc, reader, options.round())?;
     let mut whole = Partial::empty(alloc, plan)?;
     while rounds.advance()? {
-        let round = round_alone(alloc, plan, options, whole.refused(), rounds.round())?;
+        let before = whole.refused();
+        let round = round_alone(alloc, plan, options, before, rounds.round())?;
         whole = whole.follow(round)?;
     }
     Ok(whole)

@@ -13,6 +13,7 @@ pub mod Numbered
 pub mod Shapes
 pub mod Bags
 pub mod Taken
+pub mod Following
 pub mod Types
 pub mod TypeTests
 pub mod Growing

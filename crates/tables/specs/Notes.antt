@@ -48,3 +48,9 @@ pub record AreLinesOf (notes : List Noted) (lines : List (ℕ × LineFault)) : T
   pub same : SameBag notes ordered
   pub ascending : IsNonDecreasingBy (λ note. note.index) ordered
   pub numbered : lines ≡ numbered_from 0 ordered
+
+-- behind a front of lines stand the refused lines of the notes, each by its number among the lines of the notes and so many lines before
+pub record AreLinesBehind (before : ℕ) (notes : List Noted) (front all : List (ℕ × LineFault)) : Type 0 where
+  pub lines : List (ℕ × LineFault)
+  pub of_notes : AreLinesOf notes lines
+  pub behind : all ≡ front ++ map (λ line. (before + line.0, line.1)) lines

@@ -1,7 +1,7 @@
 //! The refused lines of all pieces by their numbers in the input.
 ghost use Rattle.std.specs.Prelude.{◌≡◌, ◌+◌, ◌<◌, ◌++◌, ◌^◌, IfOk, OnOk, All, map};
 ghost use Rattle.std.specs.List.Sorted.{IsPermutation, IsNonDecreasingBy};
-ghost use Rattle.tables.specs.Notes.{AreLinesOf, IsWellNumbered, lines_noted, notes_in, numbered_from};
+ghost use Rattle.tables.specs.Notes.{AreLinesBehind, AreLinesOf, IsWellNumbered, lines_noted, notes_in, numbered_from};
 
 use crate::note::Note;
 use lines::LineFault;
@@ -18,6 +18,21 @@ pub(crate) fn number(alloc: Global, notes: Vec<Note>) -> Result<Vec<(u64, LineFa
     number_in_order(alloc, notes)
 }
 
+/// Puts the refused lines of more pieces behind those of an earlier part of the input, which has so many lines: by
+/// ascending index, each numbered by its place within its piece and the line counts of all that is before.
+pub(crate) fn number_behind(
+    numbered: &mut Vec<(u64, LineFault)>,
+    before: u64,
+    notes: Vec<Note>,
+) -> Result<(), AllocError>
+    requires few { before + lines_noted (notes_in notes) < 2 ^ 63 }
+    requires numbered { All IsWellNumbered (notes_in notes) }
+    ensures { OnOk result (AreLinesBehind before (notes_in notes) numbered.old.items numbered.new.items) }
+{
+    let notes = sorted(notes);
+    put_all_behind(numbered, before, notes)
+}
+
 /// The notes by ascending index.
 fn sorted(mut notes: Vec<Note>) -> Vec<Note>
     ensures permutation { IsPermutation notes.items result.items }
@@ -28,19 +43,37 @@ fn sorted(mut notes: Vec<Note>) -> Vec<Note>
 }
 
 /// The refused lines of the pieces in the order of the notes, each numbered by its place within its
-/// piece and the line counts of the pieces before.
-fn number_in_order(alloc: Global, notes: Vec<Note>) -> Result<Vec<(u64, LineFault)>, AllocError>
+/// piece and the line counts of the pieces before. Those of the first piece have these numbers already.
+fn number_in_order(alloc: Global, mut notes: Vec<Note>) -> Result<Vec<(u64, LineFault)>, AllocError>
     requires few { lines_noted (notes_in notes) < 2 ^ 63 }
     requires numbered { All IsWellNumbered (notes_in notes) }
     ensures { IfOk result (λ lines. lines.items ≡ numbered_from 0 (notes_in notes)) }
 {
-    let mut numbered = Vec::new(alloc);
-    let mut before = 0;
+    if notes.is_empty() {
+        return Ok(Vec::new(alloc));
+    }
+    let first = notes.remove(0);
+    let mut numbered = first.refused;
+    put_all_behind(&mut numbered, first.lines, notes)?;
+    Ok(numbered)
+}
+
+/// Puts the refused lines of pieces, in the order of the notes, behind those of the pieces before, which have so many
+/// lines.
+fn put_all_behind(
+    numbered: &mut Vec<(u64, LineFault)>,
+    mut before: u64,
+    notes: Vec<Note>,
+) -> Result<(), AllocError>
+    requires few { before + lines_noted (notes_in notes) < 2 ^ 63 }
+    requires numbered { All IsWellNumbered (notes_in notes) }
+    ensures { OnOk result (numbered.new.items ≡ numbered.old.items ++ numbered_from before (notes_in notes)) }
+{
     for note in notes {
-        put_behind(&mut numbered, before, note.refused.as_slice())?;
+        put_behind(numbered, before, note.refused.as_slice())?;
         before += note.lines;
     }
-    Ok(numbered)
+    Ok(())
 }
 
 /// Puts the refused lines of a piece to those of the pieces before, which have so many lines.

@@ -8,7 +8,7 @@ use crate::folding::{Folding, read_lines};
 use crate::grouped::Groups;
 use crate::laws::members_law;
 use crate::note::Note;
-use crate::numbering::number;
+use crate::numbering::{number, number_behind};
 use crate::rows::rows_of;
 use crate::shape::Shape;
 use groups::{Group, Table, roll_law};
@@ -239,7 +239,34 @@ impl Partial {
             → StandsForInput fields q self front → StandsForInput fields q rest back → AreWholeLines front
             → StandsFor fields q followed (whole_piece (front ++ back))) }
     {
-        Err(AllocError)
+        let Partial {
+            alloc,
+            shape,
+            mut table,
+            lines: before,
+            refused,
+            notes,
+        } = self;
+        let lines = before + rest.lines;
+        table.absorb(rest.table)?;
+        let mut numbered = number(alloc, notes)?;
+        number_behind(&mut numbered, before, rest.notes)?;
+        let notes = one_note(
+            alloc,
+            Note {
+                index: 0,
+                lines,
+                refused: numbered,
+            },
+        )?;
+        Ok(Partial {
+            alloc,
+            shape,
+            table,
+            lines,
+            refused: refused + rest.refused,
+            notes,
+        })
     }
 
     /// The groups of the good records of all lines of the pieces, and the refused lines by their

@@ -37,3 +37,9 @@ returns-clause-fault g c =
     leaves-known c.write_whole.result c.args.options.max_refused (fields_of_plan c.args.plan.now) (form_of_plan c.args.plan.now) (g.R.Read.remaining c.args.reader) c.in_ok-whole.whole
     (g.O.Write.contents c.args.out.now) (g.O.Write.contents c.write_whole.new.out) (g.E.Write.contents c.args.err.now) (g.E.Write.contents c.write_whole.new.err)
     c.in_ok-whole.ensures.whole c.write_whole.ensures.fault
+
+pub returns-clause-started : goal.returns-clause-started
+returns-clause-started g c = 
+    started-known c.write_whole.result (fields_of_plan c.args.plan.now) (form_of_plan c.args.plan.now) (g.R.Read.remaining c.args.reader) c.in_ok-whole.whole
+    (g.O.Write.contents c.args.out.now) (g.O.Write.contents c.write_whole.new.out) (g.E.Write.contents c.args.err.now) (g.E.Write.contents c.write_whole.new.err)
+    c.in_ok-whole.ensures.whole c.write_whole.ensures.fault

@@ -45,10 +45,10 @@ returns-in-Ok-clause-reported g c =
     let fields = fields_of_plan plan in
     let pieces = c.in_ok-pieces.pieces in
     let job = c.new-job.result in
-    let partial = c.in_ok-partial.partial in
+    let partial = c.in_ok-partial-in-Ok.partial in
     let count : c.len.result ≡ length pieces.items = grind (arith, c.len.ensures, pieces.ok) in
     let weights = weights-counted plan job.plan.now c.args.round.now job.input.now pieces.items job.pieces.now c.len.result
     c.new-job.ensures.plan c.new-job.ensures.input (c.new-job.ensures.pieces ∙ c.as_slice.ensures.value) count
     c.job_law.ensures.refused c.in_ok-pieces.ensures.lines in
-    let refused = refused-of-input fields (form_of_plan plan) partial c.args.round.now c.in_ok-partial.ensures.whole in
+    let refused = refused-of-input fields (form_of_plan plan) partial c.args.round.now c.in_ok-partial-in-Ok.ensures.whole in
     grown-by (λ share. share.sum) c.in-Ok.shares.items _ _ (omega (arith, weights, refused)) (c.in-Ok.ensures.grown c.args.before c.requires.reported)

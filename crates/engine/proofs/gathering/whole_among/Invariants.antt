@@ -1,0 +1,4 @@
+use Rattle.engine.proofs.gathering.whole_among.Given as goal
+
+abbrev pub ghosts-by_one_book : goal.ghosts-by_one_book
+ghosts-by_one_book g a = record { name = a.blank.name; parts = a.blank.parts }

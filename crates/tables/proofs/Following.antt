@@ -1,0 +1,167 @@
+-- A result over the front of an input and one over its rest, put together.
+use Rattle.std.proofs.Common.{◌≡◌, ◌+◌, ◌≤◌, ℕ, Bool, nat_le, Decides, List, [], ◌∷◌, ◌++◌, All, length, map, refl, sym, ap, ◌∙◌, arith, append-nil, length-append}
+use Rattle.std.proofs.lemmas.Bool.Decides.{Decides-by_and, nat_tests}
+use Rattle.std.proofs.lemmas.List.{map-append, length-map}
+use Rattle.std.proofs.lemmas.List.Elements.{All-append, All-from_recursion, All-head, All-map, All-nil, All-same, All-tail, All-weaker, recursion_from_All}
+use Rattle.std.proofs.lemmas.List.Recursion.{is_sum_by}
+use Rattle.std.proofs.lemmas.List.Sums.{sum_by-cons}
+use Rattle.std.specs.List.{list_all}
+use Rattle.values.specs.Schema.{Field}
+use Rattle.lines.specs.declared.fault.LineFault.{LineFault}
+use Rattle.lines.specs.Input.{good, refused}
+use Rattle.lines.specs.Lines.{lines}
+use Rattle.lines.specs.Pieces.{AreWholeLines}
+use Rattle.lines.proofs.Fronts.{good-whole_lines, lines-whole_lines, refused-whole_lines}
+use Rattle.groups.specs.Bags.{SameBag, weigh}
+use Rattle.tables.specs.Notes.{AreLinesBehind, AreLinesOf, IsWellNumbered, Noted, lines_noted, note_of, numbered_from}
+use Rattle.tables.specs.Partials.{whole_piece}
+use Rattle.tables.specs.Pieces.{IndexedPiece, IsCutInto, all_lines, records_of, refused_within}
+use Rattle.tables.proofs.Bags.{all-decided}
+use Rattle.tables.proofs.Cutting.{cut-lines, cut-records, cut-refused}
+use Rattle.tables.proofs.Numbered.{lines-in_order}
+
+abbrev shift : ℕ → ℕ × LineFault → ℕ × LineFault
+shift n line = (n + line.0, line.1)
+
+-- ---- lines numbered behind others
+
+shift-none : (found : List (ℕ × LineFault)) → map (shift 0) found ≡ found
+shift-none [] = refl
+shift-none (line ∷ found) =
+    ap (λ n. (n, line.1) ∷ map (shift 0) found) (let e : 0 + line.0 ≡ line.0 = omega arith in e) ∙ ap (λ ls. line ∷ ls) (shift-none found)
+
+shift-shift : (m n : ℕ) (found : List (ℕ × LineFault)) → map (shift (m + n)) found ≡ map (shift m) (map (shift n) found)
+shift-shift m n [] = refl
+shift-shift m n (line ∷ found) =
+    ap (λ k. (k, line.1) ∷ map (shift (m + n)) found) (let e : m + n + line.0 ≡ m + (n + line.0) = omega arith in e)
+    ∙ ap (λ ls. shift m (shift n line) ∷ ls) (shift-shift m n found)
+
+numbered-shift : (m n : ℕ) (notes : List Noted) → numbered_from (m + n) notes ≡ map (shift m) (numbered_from n notes)
+numbered-shift m n [] = refl
+numbered-shift m n (note ∷ notes) =
+    let rest = numbered_from (n + note.lines) notes in
+    ap (λ k. map (shift (m + n)) note.refused ++ numbered_from k notes) (let e : m + n + note.lines ≡ m + (n + note.lines) = omega arith in e)
+    ∙ ap (λ ls. map (shift (m + n)) note.refused ++ ls) (numbered-shift m (n + note.lines) notes)
+    ∙ ap (λ ls. ls ++ map (shift m) rest) (shift-shift m n note.refused)
+    ∙ sym (map-append (shift m) (map (shift n) note.refused) rest)
+
+-- behind so many lines each number is that much greater
+pub numbered-behind : (before : ℕ) (notes : List Noted) → numbered_from before notes ≡ map (shift before) (numbered_from 0 notes)
+numbered-behind before notes = ap (λ n. numbered_from n notes) (let e : before ≡ before + 0 = omega arith in e) ∙ numbered-shift before 0 notes
+
+-- the lines of the first note keep their numbers
+pub first-numbered : (note : Noted) (notes : List Noted) → numbered_from 0 (note ∷ notes) ≡ note.refused ++ numbered_from note.lines notes
+first-numbered note notes =
+    ap (λ ls. ls ++ numbered_from (0 + note.lines) notes) (shift-none note.refused)
+    ∙ ap (λ n. note.refused ++ numbered_from n notes) (let e : 0 + note.lines ≡ note.lines = omega arith in e)
+
+-- ---- no number is above that of the lines
+
+numbers-within : (before : ℕ) (notes : List Noted) → All IsWellNumbered notes → All (λ line. line.0 ≤ before + lines_noted notes) (numbered_from before notes)
+numbers-within before [] well = All-nil (λ line. line.0 ≤ before + lines_noted [])
+numbers-within before (note ∷ notes) well =
+    let sum : lines_noted (note ∷ notes) ≡ note.lines + lines_noted notes = sum_by-cons (λ (n : Noted). n.lines) note notes in
+    All-append (λ line. line.0 ≤ before + lines_noted (note ∷ notes)) (map (shift before) note.refused) (numbered_from (before + note.lines) notes)
+    (All-map (λ line. line.0 ≤ before + lines_noted (note ∷ notes)) (shift before) note.refused
+    (All-weaker (λ line. line.0 ≤ note.lines) (λ line. before + line.0 ≤ before + lines_noted (note ∷ notes)) (λ line l. omega (arith, sum, l)) note.refused (All-head IsWellNumbered note notes well)))
+    (All-weaker (λ line. line.0 ≤ before + note.lines + lines_noted notes) (λ line. line.0 ≤ before + lines_noted (note ∷ notes)) (λ line l. omega (arith, sum, l)) (numbered_from (before + note.lines) notes)
+    (numbers-within (before + note.lines) notes (All-tail IsWellNumbered note notes well)))
+
+abbrev is_well_numbered : Noted → Bool
+is_well_numbered note = list_all (λ line. nat_le line.0 note.lines) note.refused
+
+up_to-Decides : (m n : ℕ) → Decides (nat_le m n) (m ≤ n)
+up_to-Decides m n = (λ e. grind (arith, nat_tests, e), λ l. grind (arith, nat_tests, l))
+
+well-Decides : (note : Noted) → Decides (is_well_numbered note) (IsWellNumbered note)
+well-Decides note =
+    Decides-by_and (λ line. nat_le line.0 note.lines) (λ line. line.0 ≤ note.lines) (list_all (λ line. nat_le line.0 note.lines)) (λ line. up_to-Decides line.0 note.lines) refl (λ _ _. refl) note.refused
+
+well-same : (notes ordered : List Noted) → SameBag notes ordered → All IsWellNumbered notes → All IsWellNumbered ordered
+well-same notes ordered same well =
+    All-from_recursion IsWellNumbered ordered (all-decided is_well_numbered IsWellNumbered well-Decides ordered notes (λ f. sym (same f)) (recursion_from_All IsWellNumbered notes well))
+
+noted-same : (notes ordered : List Noted) → SameBag notes ordered → lines_noted ordered ≡ lines_noted notes
+noted-same notes ordered same =
+    let count : Noted → ℕ = λ note. note.lines in
+    sym (is_sum_by (weigh count) count refl (λ _ _. refl) ordered) ∙ sym (same count) ∙ is_sum_by (weigh count) count refl (λ _ _. refl) notes
+
+pub lines-within : (notes : List Noted) (found : List (ℕ × LineFault)) → All IsWellNumbered notes → AreLinesOf notes found → All (λ line. line.0 ≤ lines_noted notes) found
+lines-within notes found well are =
+    let sum = noted-same notes are.ordered are.same in
+    All-same (λ line. line.0 ≤ lines_noted notes) found (numbered_from 0 are.ordered) are.numbered
+    (All-weaker (λ line. line.0 ≤ 0 + lines_noted are.ordered) (λ line. line.0 ≤ lines_noted notes) (λ line l. omega (arith, sum, l)) (numbered_from 0 are.ordered)
+    (numbers-within 0 are.ordered (well-same notes are.ordered are.same well)))
+
+pub behind-within : (before : ℕ) (notes : List Noted) (front all : List (ℕ × LineFault)) → All IsWellNumbered notes → All (λ line. line.0 ≤ before) front
+    → AreLinesBehind before notes front all → All (λ line. line.0 ≤ before + lines_noted notes) all
+behind-within before notes front all well low are =
+    All-same (λ line. line.0 ≤ before + lines_noted notes) all (front ++ map (shift before) are.lines) are.behind
+    (All-append (λ line. line.0 ≤ before + lines_noted notes) front (map (shift before) are.lines)
+    (All-weaker (λ line. line.0 ≤ before) (λ line. line.0 ≤ before + lines_noted notes) (λ line l. omega (arith, l)) front low)
+    (All-map (λ line. line.0 ≤ before + lines_noted notes) (shift before) are.lines
+    (All-weaker (λ line. line.0 ≤ lines_noted notes) (λ line. before + line.0 ≤ before + lines_noted notes) (λ line l. omega (arith, l)) are.lines (lines-within notes are.lines well are.of_notes))))
+
+-- ---- the pieces of an input come to what the input comes to
+
+count-lines : (input : List ℕ) (pieces : List IndexedPiece) → IsCutInto input pieces → length (all_lines pieces) ≡ length (lines input)
+count-lines input pieces c = ap length (cut-lines pieces c.feeds ∙ ap lines c.joined)
+
+count-numbered : (fields : List Field) (before : ℕ) (pieces : List IndexedPiece) → length (numbered_from before (map (note_of fields) pieces)) ≡ length (refused_within fields pieces)
+count-numbered fields before [] = refl
+count-numbered fields before (p ∷ more) =
+    let found = refused fields p.bytes in
+    let both = length-append (map (shift before) found) (numbered_from (before + length (lines p.bytes)) (map (note_of fields) more)) in
+    let first = length-map found (shift before) in
+    let rest = count-numbered fields (before + length (lines p.bytes)) more in
+    let all = length-append found (refused_within fields more) in
+    omega (arith, both, first, rest, all)
+
+count-refused : (fields : List Field) (input : List ℕ) (pieces : List IndexedPiece) → IsCutInto input pieces → length (refused_within fields pieces) ≡ length (refused fields input)
+count-refused fields input pieces c = sym (count-numbered fields 0 pieces) ∙ ap length (cut-refused fields input pieces c)
+
+refused-in_order : (fields : List Field) (input : List ℕ) (pieces : List IndexedPiece) (notes : List Noted) (found : List (ℕ × LineFault)) → IsCutInto input pieces
+    → SameBag (map (note_of fields) pieces) notes → AreLinesOf notes found → found ≡ refused fields input
+refused-in_order fields input pieces notes found c same are = lines-in_order fields pieces notes found c.in_order same are ∙ cut-refused fields input pieces c
+
+-- ---- a front that is whole lines, and the rest, are one piece
+
+pub followed-records : (fields : List Field) (front back : List ℕ) (pieces more : List IndexedPiece) → AreWholeLines front → IsCutInto front pieces → IsCutInto back more
+    → records_of fields (whole_piece (front ++ back)) ≡ records_of fields pieces ++ records_of fields more
+followed-records fields front back pieces more whole c d =
+    append-nil (good fields (front ++ back))
+    ∙ good-whole_lines fields front back whole
+    ∙ ap (λ rows. rows ++ good fields back) (sym (cut-records fields front pieces c))
+    ∙ ap (λ rows. records_of fields pieces ++ rows) (sym (cut-records fields back more d))
+
+pub whole-lines : (input : List ℕ) → length (all_lines (whole_piece input)) ≡ length (lines input)
+whole-lines input = ap length (append-nil (lines input))
+
+pub followed-lines : (front back : List ℕ) (pieces more : List IndexedPiece) → AreWholeLines front → IsCutInto front pieces → IsCutInto back more
+    → length (lines (front ++ back)) ≡ length (all_lines pieces) + length (all_lines more)
+followed-lines front back pieces more whole c d =
+    let joined = ap length (lines-whole_lines front back whole) in
+    let both = length-append (lines front) (lines back) in
+    let first = count-lines front pieces c in
+    let rest = count-lines back more d in
+    omega (arith, joined, both, first, rest)
+
+pub followed-count : (fields : List Field) (front back : List ℕ) (pieces more : List IndexedPiece) → AreWholeLines front → IsCutInto front pieces → IsCutInto back more
+    → length (refused_within fields (whole_piece (front ++ back))) ≡ length (refused_within fields pieces) + length (refused_within fields more)
+followed-count fields front back pieces more whole c d =
+    let joined = ap length (append-nil (refused fields (front ++ back)) ∙ refused-whole_lines fields front back whole) in
+    let both = length-append (refused fields front) (map (shift (length (lines front))) (refused fields back)) in
+    let same = length-map (refused fields back) (shift (length (lines front))) in
+    let first = count-refused fields front pieces c in
+    let rest = count-refused fields back more d in
+    omega (arith, joined, both, same, first, rest)
+
+pub followed-refused : (fields : List Field) (front back : List ℕ) (pieces more : List IndexedPiece) (notes others : List Noted) (before : ℕ) (found all : List (ℕ × LineFault))
+    → AreWholeLines front → IsCutInto front pieces → IsCutInto back more → SameBag (map (note_of fields) pieces) notes → SameBag (map (note_of fields) more) others
+    → before ≡ length (all_lines pieces) → AreLinesOf notes found → AreLinesBehind before others found all → all ≡ refused fields (front ++ back)
+followed-refused fields front back pieces more notes others before found all whole c d same also counted are behind =
+    behind.behind
+    ∙ ap (λ ls. ls ++ map (shift before) behind.lines) (refused-in_order fields front pieces notes found c same are)
+    ∙ ap (λ ls. refused fields front ++ map (shift before) ls) (refused-in_order fields back more others behind.lines d also behind.of_notes)
+    ∙ ap (λ n. refused fields front ++ map (shift n) (refused fields back)) (counted ∙ count-lines front pieces c)
+    ∙ sym (refused-whole_lines fields front back whole)

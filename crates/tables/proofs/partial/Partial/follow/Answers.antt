@@ -1,0 +1,101 @@
+use Rattle.std.proofs.Common.{◌≡◌, ◌+◌, ◌<◌, ◌≤◌, ◌^◌, ◌++◌, [], List, All, map, refl, sym, ap, subst, ◌∙◌, arith}
+use Rattle.groups.specs.Bags.{SameBag}
+use Rattle.groups.specs.Rows.{Row}
+use Rattle.query_check.specs.Functions.{functions_of}
+use Rattle.query_check.specs.Sets.{grouping_places}
+use Rattle.query_check.specs.declared.function.ColumnFunction.{ColumnFunction}
+use Rattle.groups.specs.Inside.Table.{AreGroupsWithin, IsTableOf}
+use Rattle.groups.proofs.Meaning.{tables-within, within-can_join}
+use Rattle.tables.specs.Notes.{Noted, note_in, note_of, notes_in}
+use Rattle.tables.specs.Pieces.{records_of}
+use Rattle.tables.specs.Partials.{StandsFor, whole_piece}
+use Rattle.tables.specs.States.{PartialState}
+use Rattle.query_truth.specs.Kept.{kept}
+use Rattle.tables.proofs.Following.{behind-within, followed-count, followed-lines, followed-records, followed-refused, lines-within, whole-lines}
+use Rattle.tables.proofs.Growing.{notes-more}
+use Rattle.tables.proofs.Merging.{one-note}
+use Rattle.tables.proofs.Reading.{kept-append}
+use Rattle.tables.proofs.partial.Partial.follow.Goals as goal
+
+pub absorb-requires : goal.absorb-requires
+absorb-requires c =
+    let a = c.self.inside in
+    let b = c.rest.inside in
+    let functions : a.shape.functions.items ≡ b.shape.functions.items =
+    ap (λ (v : PartialState). v.functions) c.self.view_is ∙ c.requires.one_shape.functions ∙ sym (ap (λ (v : PartialState). v.functions) c.rest.view_is) in
+    let first : a.lines ≡ c.args.self.lines = ap (λ (v : PartialState). v.lines) c.self.view_is in
+    let second : b.lines ≡ c.args.rest.lines = ap (λ (v : PartialState). v.lines) c.rest.view_is in
+    let few : a.lines + b.lines < 2 ^ 63 = omega (arith, first, second, c.requires.few) in
+    within-can_join a.shape.functions.items a.lines b.lines a.table b.table few a.within
+    (subst (λ (fs : List ColumnFunction). AreGroupsWithin b.lines fs b.table) (sym functions) b.within)
+
+pub number-requires-clause-few : goal.number-requires-clause-few
+number-requires-clause-few c = let a = c.self.inside in let counted = a.counted in let few = a.few in omega (arith, counted, few)
+
+pub number-requires-clause-numbered : goal.number-requires-clause-numbered
+number-requires-clause-numbered c = c.self.inside.numbered
+
+pub number_behind-requires-clause-few : goal.number_behind-requires-clause-few
+number_behind-requires-clause-few c =
+    let a = c.self.inside in
+    let b = c.rest.inside in
+    let counted = b.counted in
+    let first : a.lines ≡ c.args.self.lines = ap (λ (v : PartialState). v.lines) c.self.view_is in
+    let second : b.lines ≡ c.args.rest.lines = ap (λ (v : PartialState). v.lines) c.rest.view_is in
+    omega (arith, first, second, counted, c.requires.few)
+
+pub number_behind-requires-clause-numbered : goal.number_behind-requires-clause-numbered
+number_behind-requires-clause-numbered c = c.rest.inside.numbered
+
+pub invariant_of-result : goal.invariant_of-result
+invariant_of-result c =
+    let a = c.self.inside in
+    let b = c.rest.inside in
+    let functions : a.shape.functions.items ≡ b.shape.functions.items =
+    ap (λ (v : PartialState). v.functions) c.self.view_is ∙ c.requires.one_shape.functions ∙ sym (ap (λ (v : PartialState). v.functions) c.rest.view_is) in
+    let first : a.lines ≡ c.args.self.lines = ap (λ (v : PartialState). v.lines) c.self.view_is in
+    let second : b.lines ≡ c.args.rest.lines = ap (λ (v : PartialState). v.lines) c.rest.view_is in
+    let found = c.in_ok-numbered.numbered.items in
+    let low : All (λ line. line.0 ≤ a.lines) found = subst (λ n. All (λ line. line.0 ≤ n) found) a.counted (lines-within (notes_in a.notes) found a.numbered c.in_ok-numbered.ensures) in
+    let all = c.number_behind.new.numbered.items in
+    let within : All (λ line. line.0 ≤ a.lines + b.lines) all = subst (λ n. All (λ line. line.0 ≤ a.lines + n) all) b.counted (behind-within a.lines (notes_in b.notes) found all b.numbered low c.in_ok-number_behind.ensures) in
+    let notes = one-note c.in_ok-notes.notes.items _ c.in_ok-notes.ensures within in (
+      omega (arith, first, second, c.requires.few),
+      (
+        (let x = a.fewer in let y = b.fewer in omega (arith, x, y)),
+        (
+          tables-within a.shape.functions.items a.lines b.lines a.table b.table c.absorb.new.self a.within
+              (subst (λ (fs : List ColumnFunction). AreGroupsWithin b.lines fs b.table) (sym functions) b.within)
+              c.in_ok-absorb.ensures.groups,
+          (
+            notes.0,
+            (notes.1, tt),
+          ),
+        ),
+      ),
+    )
+
+pub returns : goal.returns
+returns c = record {
+  stands = λ fields q front back given other whole.
+      let a = c.self.inside in
+      let b = c.rest.inside in
+      let p = subst (λ (v : PartialState). StandsFor fields q v given.pieces) (sym c.self.view_is) given.stands in
+      let m = subst (λ (v : PartialState). StandsFor fields q v other.pieces) (sym c.rest.view_is) other.stands in
+      let found = c.in_ok-numbered.numbered.items in
+      let all = c.number_behind.new.numbered.items in
+      let count = followed-lines front back given.pieces other.pieces whole given.cut other.cut in
+      let refused = followed-refused fields front back given.pieces other.pieces (notes_in a.notes) (notes_in b.notes) a.lines found all whole given.cut other.cut p.notes m.notes p.lines c.in_ok-numbered.ensures c.in_ok-number_behind.ensures in
+      record {
+        sets = p.sets;
+        functions = p.functions;
+        table = subst (λ (rows : List Row). IsTableOf (grouping_places fields q) (functions_of fields q) c.absorb.new.self rows)
+            (sym (ap (kept fields q) (followed-records fields front back given.pieces other.pieces whole given.cut other.cut) ∙ kept-append fields q (records_of fields given.pieces) (records_of fields other.pieces)))
+            (c.in_ok-absorb.ensures.joined (grouping_places fields q) (functions_of fields q) (kept fields q (records_of fields given.pieces)) (kept fields q (records_of fields other.pieces)) p.table m.table);
+        lines = (let x = p.lines in let y = m.lines in let z = whole-lines (front ++ back) in omega (arith, x, y, z, count));
+        refused = (let x = p.refused in let y = m.refused in let z = followed-count fields front back given.pieces other.pieces whole given.cut other.cut in omega (arith, x, y, z));
+        notes = subst (λ (ns : List Noted). SameBag (map (note_of fields) (whole_piece (front ++ back))) ns)
+            (sym (ap (map note_in) c.in_ok-notes.ensures))
+            (notes-more fields [] [] 0 (front ++ back) (a.lines + b.lines) all (let x = p.lines in let y = m.lines in omega (arith, x, y, count)) refused (λ f. refl));
+      };
+}
