@@ -4,4 +4,5 @@ mod grouping;
 mod reading;
 mod reports;
 mod resolution;
+mod rounds;
 mod schemas;

@@ -1,4 +1,5 @@
-//! Runs over readers and writers that are slow, are interrupted or fail, alone and on threads, and with memory refused.
+//! Runs over readers and writers that are slow, are interrupted or fail, in one round and in several, alone and on
+//! threads, and with memory refused.
 use super::streams::{Pause, Sink, Source};
 use command_line::Options;
 use engine::{Done, RunFault, run, run_alone};
@@ -37,12 +38,12 @@ const COUNT_NONE: &[u8] = b"n\n0\n";
 
 /// An input under a query, and what is written of it.
 #[derive(Clone, Copy)]
-struct Case<'a> {
-    query: &'a str,
-    input: &'a [u8],
-    report: &'a [u8],
-    refused: &'a [u8],
-    done: Done,
+pub struct Case<'a> {
+    pub query: &'a str,
+    pub input: &'a [u8],
+    pub report: &'a [u8],
+    pub refused: &'a [u8],
+    pub done: Done,
 }
 
 /// Good lines in groups.
@@ -81,11 +82,29 @@ const ROLLED_UP: Case<'static> = Case {
     },
 };
 
+/// The least size of a round.
+pub const LEAST_ROUND: usize = 1_048_578;
+
 /// Which call runs: `run_alone`, or `run` with so many workers.
 #[derive(Clone, Copy, Debug, PartialEq, Eq)]
-enum By {
+pub enum By {
     Alone,
     Workers(usize),
+}
+
+impl By {
+    /// The options of a run by this call, in pieces of a size, under a limit of refused lines. It reads in rounds of
+    /// the least size, and so takes little memory.
+    pub fn options(self, rt: &impl Abort, piece: usize, limit: Option<u64>) -> Options {
+        let workers = match self {
+            By::Alone => 4,
+            By::Workers(workers) => workers,
+        };
+        let options = Options::new(workers, piece, limit).expect(rt, "the numbers are in range");
+        options
+            .with_round(LEAST_ROUND)
+            .expect(rt, "a round of the least size")
+    }
 }
 
 /// The plan of a query under the columns, where memory is granted.
@@ -101,27 +120,22 @@ fn plan_if_any(alloc: Global, query: &str) -> Option<Plan> {
 }
 
 /// The plan of a query under the columns.
-fn planned(rt: &impl Abort, alloc: Global, query: &str) -> Plan {
+pub fn planned(rt: &impl Abort, alloc: Global, query: &str) -> Plan {
     plan_if_any(alloc, query).expect(rt, "a plan")
 }
 
 // A query or a plan is given up by a call: a drop in place is proved in place, for each form of a query.
 
-/// The answer of a run by one of the calls, in pieces of a size, under a limit of refused lines.
+/// The answer of a run by one of the calls.
 fn answer<R: Read + Drop, O: Write, E: Write>(
-    rt: &(impl Abort + Threads + Wait + Sync),
+    rt: &(impl Threads + Wait + Sync),
     alloc: Global,
-    (by, piece, limit): (By, usize, Option<u64>),
+    (by, options): (By, Options),
     plan: &Plan,
     reader: R,
     out: &mut O,
     err: &mut E,
 ) -> Result<Done, RunFault> {
-    let workers = match by {
-        By::Alone => 4,
-        By::Workers(workers) => workers,
-    };
-    let options = Options::new(workers, piece, limit).expect(rt, "the numbers are in range");
     match by {
         By::Alone => run_alone(alloc, plan, options, reader, out, err),
         By::Workers(_) => run(rt, alloc, plan, options, reader, out, err),
@@ -129,10 +143,10 @@ fn answer<R: Read + Drop, O: Write, E: Write>(
 }
 
 /// Asserts that a run of a case over a reader is done, and what it has written.
-fn assert_done(
+pub fn assert_done(
     rt: &(impl Abort + Threads + Wait + Sync),
     alloc: Global,
-    asked: (By, usize, Option<u64>),
+    asked: (By, Options),
     (plan, case): (&Plan, &Case<'_>),
     reader: Source<'_>,
 ) {
@@ -178,7 +192,8 @@ fn assert_done_by_all(
                 behind: b"no line\n",
                 at_once,
             };
-            assert_done(rt, alloc, (by, piece, None), (plan, case), reader);
+            let options = by.options(rt, piece, None);
+            assert_done(rt, alloc, (by, options), (plan, case), reader);
         }
     }
 }
@@ -209,7 +224,8 @@ fn assert_not_read(
         behind,
         at_once: 7,
     };
-    let met = answer(rt, alloc, (by, 1, None), plan, reader, &mut out, &mut err);
+    let asked = (by, by.options(rt, 1, None));
+    let met = answer(rt, alloc, asked, plan, reader, &mut out, &mut err);
     let is_met = met == Err(RunFault::Reading);
     assert!(rt; is_met, "{met:?}: {by:?}, {kind:?} behind {count} bytes");
     assert!(rt; out.is_empty() && err.is_empty());
@@ -263,15 +279,8 @@ fn assert_report_cut(
 ) {
     let mut out = sink(alloc, room, pause);
     let mut err = Vec::new(alloc);
-    let met = answer(
-        rt,
-        alloc,
-        (by, 1, None),
-        plan,
-        case.input,
-        &mut out,
-        &mut err,
-    );
+    let asked = (by, by.options(rt, 1, None));
+    let met = answer(rt, alloc, asked, plan, case.input, &mut out, &mut err);
     let is_met = met == Err(RunFault::WritingReport);
     assert!(rt; is_met, "{met:?}: {by:?}, {pause:?} behind {room} bytes");
     assert!(rt; out.taken.as_slice() == &case.report[..room.min(case.report.len())]);
@@ -288,15 +297,8 @@ fn assert_list_cut(
 ) {
     let mut out = Vec::new(alloc);
     let mut err = sink(alloc, room, pause);
-    let met = answer(
-        rt,
-        alloc,
-        (by, 1, None),
-        plan,
-        case.input,
-        &mut out,
-        &mut err,
-    );
+    let asked = (by, by.options(rt, 1, None));
+    let met = answer(rt, alloc, asked, plan, case.input, &mut out, &mut err);
     let is_met = met == Err(RunFault::WritingRefused);
     assert!(rt; is_met, "{met:?}: {by:?}, {pause:?} behind {room} bytes");
     assert!(rt; out.as_slice() == case.report);
@@ -338,18 +340,20 @@ fn writers_that_fail(rt: HostRuntime) {
     }
 }
 
-/// Asserts that under a limit of one line less the four refused lines are too many, and nothing is written.
-fn assert_too_many(
+/// Asserts that more lines are refused than the options allow, and that nothing is written.
+pub fn assert_too_many(
     rt: &(impl Abort + Threads + Wait + Sync),
     alloc: Global,
-    (by, piece): (By, usize),
+    (by, options): (By, Options),
     plan: &Plan,
+    reader: Source<'_>,
 ) {
     let mut out = Vec::new(alloc);
     let mut err = Vec::new(alloc);
-    let asked = (by, piece, Some(3));
-    let met = answer(rt, alloc, asked, plan, REFUSED.input, &mut out, &mut err);
-    let is_met = met == Err(RunFault::TooManyRefused(3));
+    let limit = options.max_refused().expect(rt, "a limit");
+    let asked = (by, options);
+    let met = answer(rt, alloc, asked, plan, reader, &mut out, &mut err);
+    let is_met = met == Err(RunFault::TooManyRefused(limit));
     assert!(rt; is_met, "{met:?}: {asked:?}");
     assert!(rt; out.is_empty() && err.is_empty());
 }
@@ -361,10 +365,13 @@ fn assert_limited(
     (by, piece): (By, usize),
     plan: &Plan,
 ) {
+    let less = (by, by.options(rt, piece, Some(3)));
+    let enough = (by, by.options(rt, piece, Some(4)));
     for _ in 0..50 {
-        assert_too_many(rt, alloc, (by, piece), plan);
         let reader = Source::whole(REFUSED.input, 7);
-        assert_done(rt, alloc, (by, piece, Some(4)), (plan, &REFUSED), reader);
+        assert_too_many(rt, alloc, less, plan, reader);
+        let reader = Source::whole(REFUSED.input, 7);
+        assert_done(rt, alloc, enough, (plan, &REFUSED), reader);
     }
 }
 
@@ -410,20 +417,13 @@ fn is_refusal(by: By, fault: RunFault) -> bool {
 fn assert_answered(
     rt: &(impl Abort + Threads + Wait + Sync),
     alloc: Global,
-    by: By,
+    (by, options): (By, Options),
     (plan, case): (&Plan, &Case<'_>),
 ) {
     let (mut room, mut list) = ([0u8; 128], [0u8; 128]);
     let (mut out, mut err) = (room.as_mut_slice(), list.as_mut_slice());
-    match answer(
-        rt,
-        alloc,
-        (by, 1, None),
-        plan,
-        case.input,
-        &mut out,
-        &mut err,
-    ) {
+    let asked = (by, options);
+    match answer(rt, alloc, asked, plan, case.input, &mut out, &mut err) {
         Ok(done) => {
             assert!(rt; done == case.done);
             assert!(rt; room.starts_with(case.report) && list.starts_with(case.refused));
@@ -437,30 +437,34 @@ fn assert_answered(
     }
 }
 
-fn assert_run_or_refused(
+/// Asserts so of a run that is given a plan, where there is memory for one.
+pub fn assert_run_or_refused(
     rt: &(impl Abort + Threads + Wait + Sync),
     alloc: Global,
-    by: By,
+    asked: (By, Options),
     case: &Case<'_>,
 ) {
     if let Some(plan) = plan_if_any(alloc, case.query) {
-        assert_answered(rt, alloc, by, (&plan, case));
+        assert_answered(rt, alloc, asked, (&plan, case));
         drop(plan);
     }
 }
 
 #[test]
 fn refusal_of_run_alone(rt: HostRuntime) {
+    let asked = (By::Alone, By::Alone.options(&rt, 1, None));
     for case in [GROUPED, REFUSED, ROLLED_UP] {
-        assert_run_or_refused(&rt, rt.alloc(), By::Alone, &case);
+        assert_run_or_refused(&rt, rt.alloc(), asked, &case);
     }
 }
 
 #[test]
 fn refusal_of_run(rt: HostRuntime) {
     for workers in [1, 2, 4] {
+        let by = By::Workers(workers);
+        let asked = (by, by.options(&rt, 1, None));
         for case in [GROUPED, REFUSED, ROLLED_UP] {
-            assert_run_or_refused(&rt, rt.alloc(), By::Workers(workers), &case);
+            assert_run_or_refused(&rt, rt.alloc(), asked, &case);
         }
     }
 }

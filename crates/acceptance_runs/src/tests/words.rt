@@ -1,6 +1,21 @@
 //! The words of the command line, as `settings` reads them.
 use clap::error::ErrorKind;
 use command_line::{Options, WordsFault, settings};
+use std::process::Abort;
+
+/// Checks which sizes of a round these options take, and that they change nothing else.
+fn check_rounds(rt: &impl Abort, options: Options) {
+    for round in [1_048_578, 4_000_000, 67_108_864] {
+        let other = options.with_round(round).expect(rt, "options");
+        assert_eq!(rt; other.round(), round);
+        assert_eq!(rt; other.workers(), options.workers());
+        assert_eq!(rt; other.piece(), options.piece());
+        assert_eq!(rt; other.max_refused(), options.max_refused());
+    }
+    for round in [0, 1_048_577, 67_108_865] {
+        assert!(rt; options.with_round(round).is_none());
+    }
+}
 
 #[test]
 fn options(rt: HostRuntime) {
@@ -9,6 +24,8 @@ fn options(rt: HostRuntime) {
             assert_eq!(rt; options.workers(), 64);
             assert_eq!(rt; options.piece(), 1);
             assert_eq!(rt; options.max_refused(), Some(3));
+            assert_eq!(rt; options.round(), 67_108_864);
+            check_rounds(&rt, options);
         }
         None => panic!(rt; "no options"),
     }
