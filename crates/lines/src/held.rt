@@ -1,5 +1,5 @@
 //! The bytes of an input that are held: whole lines in front, and the bytes behind them.
-ghost use Rattle.std.specs.Prelude.{◌≡◌, ◌+◌, ◌-◌, ◌<◌, ◌≤◌, true, false, IsTrue, IsFalse, ℕ, List, vec_len};
+ghost use Rattle.std.specs.Prelude.{◌≡◌, ◌+◌, ◌-◌, ◌<◌, ◌≤◌, true, false, IsTrue, IsFalse, ℕ, List, vec_capacity, vec_len};
 ghost use Rattle.lines.specs.Holding.{IsHeld, left_with, open_part};
 ghost use Rattle.lines.specs.Pieces.{NoFeedBetween};
 ghost use Rattle.lines.specs.Trim.{trimmed_len};
@@ -43,6 +43,7 @@ pub(crate) fn throw(held: &mut Held)
     ensures held { IsHeld held.new }
     ensures left { (rest : List ℕ) → left_with held.new rest ≡ left_with held.old rest }
     ensures len { vec_len held.new.buffer ≡ vec_len held.old.buffer }
+    ensures room { vec_capacity held.new.buffer ≡ vec_capacity held.old.buffer }
     ensures filled { held.new.filled ≤ held.old.filled }
     ensures within { held.new.cut ≤ held.old.cut + trimmed_len + 1 }
     ensures less { held.new.filled - held.new.cut < held.old.filled - held.old.cut }
@@ -67,6 +68,7 @@ pub(crate) fn settle(held: &mut Held, size: usize)
     ensures held { IsHeld held.new }
     ensures left { (rest : List ℕ) → left_with held.new rest ≡ left_with held.old rest }
     ensures len { vec_len held.new.buffer ≡ vec_len held.old.buffer }
+    ensures room { vec_capacity held.new.buffer ≡ vec_capacity held.old.buffer }
     ensures filled { held.new.filled ≤ held.old.filled }
     ensures within { held.new.cut ≤ size }
     ensures short { held.new.cut + trimmed_len < size → held.new.filled ≤ held.new.cut + trimmed_len }
@@ -85,6 +87,7 @@ pub(crate) fn release(held: &mut Held)
     requires held { IsHeld held.old }
     ensures held { IsHeld held.new }
     ensures len { vec_len held.new.buffer ≡ vec_len held.old.buffer }
+    ensures room { vec_capacity held.new.buffer ≡ vec_capacity held.old.buffer }
     ensures cut { held.new.cut ≡ 0 }
     ensures filled { held.new.filled ≡ held.old.filled - held.old.cut }
     ensures open { open_part held.new ≡ open_part held.old }

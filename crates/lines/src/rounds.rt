@@ -1,5 +1,5 @@
 //! Reading an input in rounds of whole lines.
-ghost use Rattle.std.specs.Prelude.{◌≡◌, [], ◌+◌, ◌-◌, ◌<◌, ◌≤◌, ◌^◌, true, false, zero, IsTrue, IsFalse, IsErr, Ok, Err, None, Some, IfErr, IfOk, IfSome, OnOk, length, option_map, take, drop, vec_len};
+ghost use Rattle.std.specs.Prelude.{◌≡◌, [], ◌+◌, ◌-◌, ◌<◌, ◌≤◌, ◌^◌, max, true, false, zero, IsTrue, IsFalse, IsErr, Ok, Err, None, Some, IfErr, IfOk, IfSome, OnOk, length, option_map, take, drop, vec_capacity, vec_len};
 ghost use Rattle.std.specs.Io.KnownBytes.{Consumes, IsAtEnd, Keeps};
 ghost use Rattle.lines.specs.Holding.{IsBetween, IsHeld, left_behind, left_of, open_part, whole_lines};
 ghost use Rattle.lines.specs.Rounds.{HasMoved};
@@ -19,6 +19,9 @@ const INPUT_LIMIT: usize = 0x8000_0000_0000_0000;
 /// The room for bytes that are read beyond a round, so that no read has to be small.
 const SPARE: usize = 65_536;
 
+/// By how many bytes a buffer gets longer, until it has its length.
+const STEP: usize = 1_048_576;
+
 /// One read into the buffer from place `at` on. It answers how many bytes the reader gave.
 fn read_at<R: Read>(reader: &mut R, buffer: &mut [u8], at: usize) -> Result<usize, ReadFault>
     requires { at < length buffer.old }
@@ -35,17 +38,42 @@ fn read_at<R: Read>(reader: &mut R, buffer: &mut [u8], at: usize) -> Result<usiz
     }
 }
 
-/// One read behind what is held. It answers how many bytes the reader gave.
-fn read_more<R: Read>(reader: &mut R, held: &mut Held) -> Result<usize, ReadFault>
+/// Makes room behind the first `filled` bytes, where there is none: the buffer gets longer, up to `most` bytes, for
+/// which it has the memory already. So memory that no byte comes to is never touched.
+fn make_room(buffer: &mut Vec<u8>, filled: usize, most: usize)
+    requires filled { filled ≤ vec_len buffer.old }
+    requires len { vec_len buffer.old ≤ most }
+    requires room { filled < most }
+    requires capacity { most ≤ vec_capacity buffer.old }
+    ensures front { take filled buffer.new.items ≡ take filled buffer.old.items }
+    ensures filled { filled < vec_len buffer.new }
+    ensures len { vec_len buffer.new ≤ most }
+    ensures capacity { most ≤ vec_capacity buffer.new }
+{
+    if filled < buffer.len() {
+        return;
+    }
+    match buffer.resize(most.min(filled.saturating_add(STEP)), 0) {
+        Ok(()) => {}
+        Err(_) => unreachable!(),
+    }
+}
+
+/// One read behind what is held, into a buffer of at most `most` bytes. It answers how many bytes the reader gave.
+fn read_more<R: Read>(reader: &mut R, held: &mut Held, most: usize) -> Result<usize, ReadFault>
     requires held { IsHeld held.old }
-    requires room { held.old.filled < vec_len held.old.buffer }
+    requires len { vec_len held.old.buffer ≤ most }
+    requires room { held.old.filled < most }
+    requires capacity { most ≤ vec_capacity held.old.buffer }
     ensures held { OnOk result (IsHeld held.new) }
     ensures left { OnOk result (Keeps (left_of held.old (R.remaining reader.old)) (left_of held.new (R.remaining reader.new))) }
-    ensures len { vec_len held.new.buffer ≡ vec_len held.old.buffer }
+    ensures len { vec_len held.new.buffer ≤ most }
+    ensures capacity { most ≤ vec_capacity held.new.buffer }
     ensures cut { held.new.cut ≡ held.old.cut }
     ensures filled { IfOk result (λ n. held.new.filled ≡ held.old.filled + n) }
     ensures end { IfOk result (λ n. n ≡ 0 → IsAtEnd (R.remaining reader.new)) }
 {
+    make_room(&mut held.buffer, held.filled, most);
     let count = read_at(reader, held.buffer.as_mut_slice(), held.filled)?;
     held.filled += count;
     Ok(count)
@@ -61,11 +89,13 @@ fn fill<R: Read>(
 ) -> Result<bool, ReadFault>
     requires held { IsHeld held.old }
     requires within { held.old.cut ≤ size }
-    requires room { size ≤ vec_len held.old.buffer }
+    requires len { vec_len held.old.buffer ≤ size + 65536 }
+    requires room { size + 65536 ≤ vec_capacity held.old.buffer }
     requires limit { taken.old < 2 ^ 63 }
     ensures held { OnOk result (IsHeld held.new) }
     ensures left { OnOk result (Keeps (left_of held.old (R.remaining reader.old)) (left_of held.new (R.remaining reader.new))) }
-    ensures len { vec_len held.new.buffer ≡ vec_len held.old.buffer }
+    ensures len { vec_len held.new.buffer ≤ size + 65536 }
+    ensures room { size + 65536 ≤ vec_capacity held.new.buffer }
     ensures within { OnOk result (held.new.cut ≤ size) }
     ensures taken { OnOk result (held.new.filled + taken.old ≤ held.old.filled + taken.new) }
     ensures limit { OnOk result (taken.new < 2 ^ 63) }
@@ -76,7 +106,7 @@ fn fill<R: Read>(
 {
     settle(held, size);
     while held.cut + TRIMMED_LEN < size {
-        let count = read_more(reader, held)?;
+        let count = read_more(reader, held, size + SPARE)?;
         if count == 0 {
             return Ok(true);
         }
@@ -99,15 +129,18 @@ fn turn<R: Read>(
 ) -> Result<bool, ReadFault>
     requires held { IsHeld held.old }
     requires size { trimmed_len < size }
-    requires room { size ≤ vec_len held.old.buffer }
+    requires len { vec_len held.old.buffer ≤ size + 65536 }
+    requires room { size + 65536 ≤ vec_capacity held.old.buffer }
     requires limit { taken.old < 2 ^ 63 }
     ensures round { OnOk result (Consumes (left_behind held.old (R.remaining reader.old))
         (left_behind held.new (R.remaining reader.new)) (whole_lines held.new)) }
-    ensures len { vec_len held.new.buffer ≡ vec_len held.old.buffer }
+    ensures len { vec_len held.new.buffer ≤ size + 65536 }
+    ensures room { size + 65536 ≤ vec_capacity held.new.buffer }
     ensures held { IfOk result (λ ended. IsFalse ended → IsHeld held.new) }
     ensures some { IfOk result (λ ended. IsFalse ended → 0 < held.new.cut) }
     ensures none { OnOk result (held.new.cut ≡ 0 → IsHeld held.new) }
     ensures within { OnOk result ((held.new.cut ≤ held.new.filled) × (held.new.cut ≤ size)) }
+    ensures filled { OnOk result (held.new.filled ≤ vec_len held.new.buffer) }
     ensures all { IfOk result (λ ended. IsTrue ended → (held.new.cut ≡ held.new.filled) × IsAtEnd (R.remaining reader.new)) }
     ensures taken { OnOk result (held.new.filled + taken.old ≤ held.old.filled - held.old.cut + taken.new) }
     ensures limit { OnOk result (taken.new < 2 ^ 63) }
@@ -123,6 +156,21 @@ fn turn<R: Read>(
     Ok(ended)
 }
 
+/// Makes a buffer `len` bytes long where it is shorter, for which it has the memory already.
+fn make_long(buffer: &mut Vec<u8>, len: usize)
+    requires { len ≤ vec_capacity buffer.old }
+    ensures len { vec_len buffer.new ≡ max len (vec_len buffer.old) }
+    ensures capacity { vec_capacity buffer.old ≤ vec_capacity buffer.new }
+{
+    if len <= buffer.len() {
+        return;
+    }
+    match buffer.resize(len, 0) {
+        Ok(()) => {}
+        Err(_) => unreachable!(),
+    }
+}
+
 /// Copies bytes to the front of a buffer.
 fn copy_front(to: &mut [u8], from: &[u8])
     requires { length from.now ≤ length to.old }
@@ -132,20 +180,25 @@ fn copy_front(to: &mut [u8], from: &[u8])
     to[..from.len()].copy_from_slice(from);
 }
 
-/// Goes on in another buffer with what follows the whole lines, and gives up this one.
-fn trade(held: &mut Held, spare: Vec<u8>) -> Vec<u8>
+/// Goes on in another buffer of at most `most` bytes with what follows the whole lines, and gives up this one.
+fn trade(held: &mut Held, spare: Vec<u8>, most: usize) -> Vec<u8>
     requires cut { held.old.cut ≤ held.old.filled }
     requires filled { held.old.filled ≤ vec_len held.old.buffer }
-    requires len { vec_len spare ≡ vec_len held.old.buffer }
+    requires short { vec_len held.old.buffer ≤ most }
+    requires len { vec_len spare ≤ most }
+    requires capacity { most ≤ vec_capacity spare }
     ensures buffer { result ≡ held.old.buffer }
-    ensures len { vec_len held.new.buffer ≡ vec_len held.old.buffer }
+    ensures filled { held.new.filled ≤ vec_len held.new.buffer }
+    ensures len { vec_len held.new.buffer ≤ most }
+    ensures capacity { most ≤ vec_capacity held.new.buffer }
     ensures cut { held.new.cut ≡ 0 }
-    ensures filled { held.new.filled ≡ held.old.filled - held.old.cut }
+    ensures moved { held.new.filled ≡ held.old.filled - held.old.cut }
     ensures open { open_part held.new ≡ open_part held.old }
     ensures full { held.new.full ≡ false }
 {
     let mut next = spare;
     let len = held.filled - held.cut;
+    make_long(&mut next, len);
     copy_front(next.as_mut_slice(), &held.buffer[held.cut..held.filled]);
     held.cut = 0;
     held.filled = len;
@@ -162,14 +215,14 @@ pub struct Round {
 }
 
 impl Model for Round {
-    ghost use Rattle.std.specs.Prelude.{◌≡◌, ◌+◌, ◌≤◌, take, vec_len};
+    ghost use Rattle.std.specs.Prelude.{◌≡◌, ◌+◌, ◌≤◌, take, vec_capacity, vec_len};
     ghost use Rattle.lines.specs.Rounds.{RoundState};
 
     ghost Value = { RoundState };
 
     ghost view = { λ inside. record { bytes = take inside.len inside.buffer.items; size = inside.size } };
 
-    ghost invariant = { λ inside. (inside.len ≤ vec_len inside.buffer) × (vec_len inside.buffer ≡ inside.size + 65536) };
+    ghost invariant = { λ inside. (inside.len ≤ vec_len inside.buffer) × (vec_len inside.buffer ≤ inside.size + 65536) × (inside.size + 65536 ≤ vec_capacity inside.buffer) };
 }
 
 impl Round {
@@ -198,10 +251,11 @@ impl Round {
 
 /// A buffer for rounds of at most `size` bytes.
 fn buffer_of(alloc: Global, size: usize) -> Result<Vec<u8>, AllocError>
-    ensures { IfOk result (λ v. vec_len v ≡ size + 65536) }
+    ensures empty { IfOk result (λ v. vec_len v ≡ 0) }
+    ensures room { IfOk result (λ v. size + 65536 ≤ vec_capacity v) }
 {
     match size.checked_add(SPARE) {
-        Some(len) => vec![in alloc; 0u8; len],
+        Some(capacity) => Vec::with_capacity(alloc, capacity),
         None => Err(AllocError),
     }
 }
@@ -327,7 +381,7 @@ impl<R: Read + Drop> Rounds<R> {
             len: _,
             size,
         } = spare;
-        let buffer = trade(&mut self.held, buffer);
+        let buffer = trade(&mut self.held, buffer, size + SPARE);
         Round { buffer, len, size }
     }
 }
