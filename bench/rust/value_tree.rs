@@ -4,10 +4,11 @@
 //! `BTreeMap` for an object, numbers parsed, strings owned and checked as UTF-8), and its queues, a
 //! locked `VecDeque` for each worker that others steal from, stand for `crossbeam_deque`.
 //!
-//! Usage: value_tree WORKERS FILE. It answers, over the lines of `bench/generate`,
+//! Usage: value_tree WORKERS FILE [shop]. It answers, over the lines of `bench/generate`,
 //! SELECT shop, kind, COUNT(*) AS events, SUM(cents) AS cents FROM lines GROUP BY ROLLUP (shop, kind)
-//! on standard output, its rows in no order that is said, and writes to standard error the milliseconds
-//! that reading the file and all the rest took, and how many lines are refused.
+//! on standard output, or the same of the shop alone where that word is given, its rows in no order that
+//! is said, and writes to standard error the milliseconds that reading the file and all the rest took,
+//! and how many lines are refused.
 
 use std::collections::{BTreeMap, HashMap, VecDeque};
 use std::io::Write;
@@ -318,14 +319,22 @@ impl Group {
     }
 }
 
-/// What one worker has made of its pieces.
-#[derive(Default)]
+/// What one worker has made of its pieces: groups of shop and kind, or of the shop alone.
 struct Part {
+    shop_alone: bool,
     groups: HashMap<Key, Group>,
     refused: u64,
 }
 
 impl Part {
+    fn new(shop_alone: bool) -> Part {
+        Part {
+            shop_alone,
+            groups: HashMap::new(),
+            refused: 0,
+        }
+    }
+
     fn fold(&mut self, piece: &[u8]) {
         let mut rest = piece;
         while !rest.is_empty() {
@@ -336,10 +345,13 @@ impl Part {
     }
 
     fn take(&mut self, line: &[u8]) {
-        let Some((key, cents)) = record_of(line) else {
+        let Some((mut key, cents)) = record_of(line) else {
             self.refused += 1;
             return;
         };
+        if self.shop_alone {
+            key[1] = None;
+        }
         let group = self.groups.entry(key).or_default();
         group.events += 1;
         if let Some(cents) = cents {
@@ -402,8 +414,8 @@ fn next_piece<'a>(queues: &[Mutex<VecDeque<&'a [u8]>>], worker: usize) -> Option
 }
 
 /// What one worker makes of the pieces that it gets.
-fn work(queues: &[Mutex<VecDeque<&[u8]>>], worker: usize) -> Part {
-    let mut part = Part::default();
+fn work(queues: &[Mutex<VecDeque<&[u8]>>], worker: usize, shop_alone: bool) -> Part {
+    let mut part = Part::new(shop_alone);
     while let Some(piece) = next_piece(queues, worker) {
         part.fold(piece);
     }
@@ -411,7 +423,7 @@ fn work(queues: &[Mutex<VecDeque<&[u8]>>], worker: usize) -> Part {
 }
 
 /// What all workers make of an input.
-fn whole(input: &[u8], workers: usize) -> Part {
+fn whole(input: &[u8], workers: usize, shop_alone: bool) -> Part {
     let pieces = pieces_of(input);
     let share = pieces.len().div_ceil(workers).max(1);
     let queues: Vec<_> = (0..workers)
@@ -424,9 +436,9 @@ fn whole(input: &[u8], workers: usize) -> Part {
     let queues = &queues[..];
     thread::scope(|scope| {
         let others: Vec<_> = (1..workers)
-            .map(|worker| scope.spawn(move || work(queues, worker)))
+            .map(|worker| scope.spawn(move || work(queues, worker, shop_alone)))
             .collect();
-        let mut all = work(queues, 0);
+        let mut all = work(queues, 0, shop_alone);
         for other in others {
             all.absorb(other.join().unwrap());
         }
@@ -446,14 +458,18 @@ fn field(value: &Option<String>) -> String {
 }
 
 /// Writes the rows of one grouping set.
-fn put_rows(out: &mut Vec<u8>, groups: &HashMap<Key, Group>) {
+fn put_rows(out: &mut Vec<u8>, groups: &HashMap<Key, Group>, shop_alone: bool) {
     for (key, group) in groups {
         let cents = match group.numbers {
             0 => "\\N".to_owned(),
             _ => group.cents.to_string(),
         };
         let (shop, kind) = (field(&key[0]), field(&key[1]));
-        writeln!(out, "{shop},{kind},{},{cents}", group.events).unwrap();
+        if shop_alone {
+            writeln!(out, "{shop},{},{cents}", group.events).unwrap();
+        } else {
+            writeln!(out, "{shop},{kind},{},{cents}", group.events).unwrap();
+        }
     }
 }
 
@@ -473,16 +489,27 @@ fn main() {
         .and_then(|word| word.parse().ok())
         .expect("WORKERS");
     let path = words.next().expect("FILE");
+    let shop_alone = words.next().is_some();
     let begin = Instant::now();
     let input = std::fs::read(path).expect("FILE is read");
     let read = begin.elapsed();
-    let part = whole(&input, workers.max(1));
-    let shops = rolled(&part.groups, |key| [key[0].clone(), None]);
-    let mut all = rolled(&shops, |_| [None, None]);
+    let part = whole(&input, workers.max(1), shop_alone);
+    let shops = if shop_alone {
+        HashMap::new()
+    } else {
+        rolled(&part.groups, |key| [key[0].clone(), None])
+    };
+    let finer = if shop_alone { &part.groups } else { &shops };
+    let mut all = rolled(finer, |_| [None, None]);
     all.entry([None, None]).or_default();
-    let mut out = b"shop,kind,events,cents\n".to_vec();
-    for groups in [&part.groups, &shops, &all] {
-        put_rows(&mut out, groups);
+    let (mut out, sets) = if shop_alone {
+        (b"shop,events,cents\n".to_vec(), vec![&part.groups, &all])
+    } else {
+        let sets = vec![&part.groups, &shops, &all];
+        (b"shop,kind,events,cents\n".to_vec(), sets)
+    };
+    for groups in sets {
+        put_rows(&mut out, groups, shop_alone);
     }
     std::io::stdout().write_all(&out).expect("standard output");
     let rest = begin.elapsed() - read;
