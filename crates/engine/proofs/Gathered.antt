@@ -1,5 +1,5 @@
 -- The result over all rounds so far, and what it is after one more.
-use Rattle.std.proofs.Common.{◌≡◌, ◌≢◌, ◌⊎◌, ◌∙◌, ◌+◌, ◌<◌, ◌≤◌, ◌^◌, ℕ, Bool, true, false, List, [], ◌∷◌, ◌++◌, length, map, Option, None, Some, option_map, Result, Ok, Err, inl, inr, refl, sym, ap, subst, arith, append-nil, append_assoc, length-append}
+use Rattle.std.proofs.Common.{◌≡◌, ◌≢◌, ◌⊎◌, ◌∙◌, ◌+◌, ◌-◌, ◌*◌, ◌<◌, cond, ◌≤◌, ◌^◌, ℕ, Bool, true, false, List, [], ◌∷◌, ◌++◌, length, map, Option, None, Some, option_map, Result, Ok, Err, inl, inr, refl, sym, ap, subst, arith, append-nil, append_assoc, length-append}
 use Rattle.std.specs.Prelude.{IfSome, IsErr}
 use Rattle.std.specs.Io.KnownBytes.{Consumes, IsAtEnd}
 use Rattle.std.proofs.KnownBytes.{Consumes-nil, Consumes-trans}
@@ -124,6 +124,19 @@ next-round fields q known limit old new found partial more sum s moved is stands
       ends = ends-after s.bytes new given.feed;
       within = omega (arith, few, refused-after fields q known limit old new found partial more sum s moved is stands follows);
     }
+
+-- whose bytes are handed out, the rounds are the same
+pub handed-out : {R : Type 0} (fields : List Field) (q : TreeForm) (known : Option (List ℕ)) (limit : ℕ) (rounds rest : RoundsState R) (partial : PartialState)
+    → rest ≡ record rounds { round = [] } → StandsForRounds fields q known limit rounds partial → StandsForRounds fields q known limit rest partial
+handed-out {R = R} fields q known limit rounds rest partial e s =
+    subst (λ (r : RoundsState R). StandsForRounds fields q known limit r partial) (sym e)
+    record { bytes = s.bytes; stands = s.stands; left = s.left; count = s.count; ends = s.ends; within = s.within }
+
+-- with each move there is less to give, or none was found
+pub less-left : {R : Type 0} (old new : RoundsState R) (found : Bool) → HasMoved old (Ok found) new
+    → 2 * (9223372036854775808 - new.given) + cond found 1 0 < 2 * (9223372036854775808 - old.given) + 1
+less-left old new true moved = let given = moved.round refl in let g = given.given in let some = given.some in let limit = moved.limit in omega (arith, g, some, limit)
+less-left old new false moved = let g = (moved.none refl).given in omega (arith, g)
 
 -- before the first round
 pub no-round : {R : Type 0} (fields : List Field) (q : TreeForm) (known : Option (List ℕ)) (limit : ℕ) (rounds : RoundsState R) (partial : PartialState)

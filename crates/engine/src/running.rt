@@ -19,7 +19,7 @@ use query::Plan;
 use report::{arrange, arranged_law, refused_text, report_text};
 use std::alloc::{AllocError, Global};
 use std::io::{Read, Write};
-use std::marker::Sync;
+use std::marker::{Send, Sync};
 use std::sync::Wait;
 use std::thread::Threads;
 use tables::{Groups, Partial};
@@ -55,7 +55,7 @@ struct Texts {
 /// `WritingReport` where a write or the flush of the report fails: then a beginning of it was
 /// written, and nothing of the list. `WritingRefused` where a write or the flush of the list fails:
 /// then the report was written, and a beginning of the list.
-pub fn run<R: Read + Drop, O: Write, E: Write, H: Threads + Wait + Sync>(
+pub fn run<R: Read + Drop + Send, O: Write, E: Write, H: Threads + Wait + Sync>(
     rt: &H,
     alloc: Global,
     plan: &Plan,

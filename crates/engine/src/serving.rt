@@ -16,7 +16,7 @@ use command_line::{Settings, WordsFault};
 use query::{Plan, QueryFault, check, parse};
 use std::alloc::{AllocError, Global};
 use std::io::{Read, Write};
-use std::marker::Sync;
+use std::marker::{Send, Sync};
 use std::sync::Wait;
 use std::thread::Threads;
 use thiserror::Error;
@@ -120,7 +120,7 @@ fn run_status(fault: &RunFault) -> u8
 /// `opener` is called once at most, only once the words, the schema and the query are good, and not
 /// where an explanation is asked for.
 pub fn serve<
-    R: Read + Drop,
+    R: Read + Drop + Send,
     O: Write,
     E: Write,
     F: FnMut(&str) -> Option<R>,
@@ -164,7 +164,7 @@ fn plan_of(alloc: Global, settings: Settings<'_>) -> Result<Plan, Ending>
 
 /// Explains the query that is asked for, or answers it over the file that is asked for.
 fn carried_out<
-    R: Read + Drop,
+    R: Read + Drop + Send,
     O: Write,
     E: Write,
     F: FnMut(&str) -> Option<R>,
