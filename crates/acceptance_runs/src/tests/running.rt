@@ -6,7 +6,7 @@ use engine::{Done, RunFault, run, run_alone};
 use query::{Plan, check, parse};
 use std::alloc::Global;
 use std::io::{ErrorKind, Read, Write};
-use std::marker::Sync;
+use std::marker::{Send, Sync};
 use std::process::Abort;
 use std::sync::Wait;
 use std::test::Fail;
@@ -127,7 +127,7 @@ pub fn planned(rt: &impl Abort, alloc: Global, query: &str) -> Plan {
 // A query or a plan is given up by a call: a drop in place is proved in place, for each form of a query.
 
 /// The answer of a run by one of the calls.
-fn answer<R: Read + Drop, O: Write, E: Write>(
+fn answer<R: Read + Drop + Send, O: Write, E: Write>(
     rt: &(impl Threads + Wait + Sync),
     alloc: Global,
     (by, options): (By, Options),
