@@ -44,7 +44,7 @@ pub(crate) fn whole_alone<R: Read + Drop>(
 }
 
 /// The result of a query over what a reader gives, worked on round by round by as many threads as there are workers, the
-/// calling one among them. Where there are several, one thread more reads the next round meanwhile.
+/// calling one among them. Where there are several, one thread more reads the next round meanwhile, if there may be one.
 pub(crate) fn whole_among<R: Read + Drop + Send, H: Threads + Wait + Sync>(
     rt: &H,
     alloc: Global,
@@ -160,7 +160,7 @@ struct Beside<L: Ledger, R: Read + Drop> {
     worked: Result<(Partial, Vec<Share<L>>), RunFault>,
 }
 
-/// Works on a round, and meanwhile reads the next one on a thread of its own.
+/// Works on a round, and meanwhile reads the next one on a thread of its own, where the round may not be the last one.
 fn round_beside<L: Ledger + Send + Sync, R: Read + Drop + Send, H: Threads + Wait + Sync>(
     rt: &H,
     alloc: Global,
@@ -185,6 +185,20 @@ fn round_beside<L: Ledger + Send + Sync, R: Read + Drop + Send, H: Threads + Wai
         ⊎ Refuses fault options.max_refused (before + length (refused (fields_of_plan plan.now) round.now.bytes))) }
     ensures started { vec_len shares ≡ 1 → IfErr result.worked (λ fault. fault ≢ RunFault.ThreadNotStarted) }
 {
+    if rounds.is_over() {
+        let worked = round_among(
+            rt,
+            alloc,
+            plan,
+            options,
+            before,
+            round.bytes(),
+            book,
+            shares,
+        );
+        let (read, kept) = read_on(rounds);
+        return Beside { read, kept, worked };
+    }
     let ((read, kept), worked) = join(
         rt,
         move || read_on(rounds),

@@ -368,6 +368,13 @@ impl<R: Read + Drop> Rounds<R> {
         &self.held.buffer[..self.held.cut]
     }
 
+    /// Whether it is known that the round that was given last is the last one. Then going on reads nothing.
+    pub fn is_over(&self) -> bool
+        ensures { result ≡ self.now.over }
+    {
+        self.over
+    }
+
     /// Hands out the round that was given last, and goes on with the buffer of another one. It takes no memory.
     pub fn hand_out(&mut self, spare: Round) -> Round
         requires { spare.size ≡ self.old.size }

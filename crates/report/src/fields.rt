@@ -1,9 +1,9 @@
 //! The fields of a row.
-ghost use Rattle.std.specs.Prelude.{◌≡◌, ◌++◌, IfOk, codes, decimal, map};
+ghost use Rattle.std.specs.Prelude.{◌≡◌, [], ◌∷◌, ◌++◌, IfOk, OnOk, codes, decimal, map};
 ghost use Rattle.std.specs.Fmt.{signed_decimal};
 ghost use Rattle.values.specs.Datum.{datum_of};
 ghost use Rattle.groups.specs.Cells.{summary_of};
-ghost use Rattle.csv.specs.Records.{fields_of};
+ghost use Rattle.csv.specs.Records.{fields_of, partial_of};
 ghost use Rattle.report.specs.Text.{cell_field, marked, value_field};
 
 use csv::ByteRecord;
@@ -12,54 +12,66 @@ use itoa::Buffer;
 use std::alloc::{AllocError, Global};
 use values::Value;
 
-/// The cells of a row as fields.
-pub(crate) fn cell_fields(alloc: Global, cells: &[Cell]) -> Result<ByteRecord, AllocError>
-    ensures { IfOk result (λ fields. fields_of fields ≡ map cell_field (map summary_of cells.now)) }
+/// Writes the cells of a row as fields over those of another row, whose memory is used again.
+pub(crate) fn write_cells(
+    fields: &mut ByteRecord,
+    alloc: Global,
+    cells: &[Cell],
+) -> Result<(), AllocError>
+    ensures { OnOk result (fields_of fields.new ≡ map cell_field (map summary_of cells.now)) }
 {
-    let mut fields = ByteRecord::new(alloc);
+    fields.clear();
     for cell in cells {
-        let field = cell_field(alloc, cell)?;
-        fields.push_field(field.as_slice())?;
+        push_cell(fields, alloc, cell)?;
     }
-    Ok(fields)
+    Ok(())
 }
 
-/// A cell as a field.
-fn cell_field(alloc: Global, cell: &Cell) -> Result<Vec<u8>, AllocError>
-    ensures { IfOk result (λ field. field.items ≡ cell_field (summary_of cell.now)) }
+/// Puts a cell behind the fields.
+fn push_cell(fields: &mut ByteRecord, alloc: Global, cell: &Cell) -> Result<(), AllocError>
+    requires { partial_of fields.old ≡ [] }
+    ensures field { OnOk result (fields_of fields.new ≡ fields_of fields.old ++ cell_field (summary_of cell.now) ∷ []) }
+    ensures whole { OnOk result (partial_of fields.new ≡ []) }
 {
     match cell {
-        Cell::Plain(value) => value_field(alloc, value),
-        Cell::Ratio(sum, count) => average_field(alloc, *sum, *count),
+        Cell::Plain(value) => push_value(fields, alloc, value),
+        Cell::Ratio(sum, count) => {
+            let average = average_field(alloc, *sum, *count)?;
+            fields.push_field(average.as_slice())
+        }
     }
 }
 
-/// A value as a field.
-fn value_field(alloc: Global, value: &Value) -> Result<Vec<u8>, AllocError>
-    ensures { IfOk result (λ field. field.items ≡ value_field (datum_of value.now)) }
+/// Puts a value behind the fields.
+fn push_value(fields: &mut ByteRecord, alloc: Global, value: &Value) -> Result<(), AllocError>
+    requires { partial_of fields.old ≡ [] }
+    ensures field { OnOk result (fields_of fields.new ≡ fields_of fields.old ++ value_field (datum_of value.now) ∷ []) }
+    ensures whole { OnOk result (partial_of fields.new ≡ []) }
 {
     match value {
-        Value::Bool(true) => Vec::from_slice(alloc, b"true"),
-        Value::Bool(false) => Vec::from_slice(alloc, b"false"),
-        Value::Null => Vec::from_slice(alloc, b"\\N"),
+        Value::Bool(true) => fields.push_field(b"true"),
+        Value::Bool(false) => fields.push_field(b"false"),
+        Value::Null => fields.push_field(b"\\N"),
         Value::Int(number) => {
             let mut buffer = Buffer::new();
-            Vec::from_slice(alloc, buffer.format(*number).as_bytes())
+            fields.push_field(buffer.format(*number).as_bytes())
         }
-        Value::Text(text) => text_field(alloc, text.as_bytes()),
+        Value::Text(text) => push_text(fields, alloc, text.as_bytes()),
     }
 }
 
-/// A text as a field: with one more backslash where it begins with one.
-pub(crate) fn text_field(alloc: Global, text: &[u8]) -> Result<Vec<u8>, AllocError>
-    ensures { IfOk result (λ field. field.items ≡ marked text.now) }
+/// Puts a text behind the fields: with one more backslash where it begins with one.
+fn push_text(fields: &mut ByteRecord, alloc: Global, text: &[u8]) -> Result<(), AllocError>
+    requires { partial_of fields.old ≡ [] }
+    ensures field { OnOk result (fields_of fields.new ≡ fields_of fields.old ++ marked text.now ∷ []) }
+    ensures whole { OnOk result (partial_of fields.new ≡ []) }
 {
     if let [b'\\', ..] = text {
         let mut field = Vec::from_slice(alloc, b"\\")?;
         field.extend_from_slice(text)?;
-        return Ok(field);
+        return fields.push_field(field.as_slice());
     }
-    Vec::from_slice(alloc, text)
+    fields.push_field(text)
 }
 
 /// An average as a field.

@@ -9,7 +9,7 @@ ghost use Rattle.report.specs.Inside.Between.{IsBetweenRows};
 ghost use Rattle.report.specs.Shown.{cells_of};
 ghost use Rattle.report.specs.Text.{cell_field, report_bytes};
 
-use crate::fields::cell_fields;
+use crate::fields::write_cells;
 use crate::row::ReportRow;
 use csv::{ByteRecord, Writer, WriterBuilder};
 use query_plan::{Plan, header};
@@ -30,8 +30,9 @@ pub fn report_text(alloc: Global, rows: &[ReportRow], plan: &Plan) -> Result<Vec
 {
     let mut writer = WriterBuilder::new().from_writer(Vec::new(alloc));
     put_headers(&mut writer, alloc, plan)?;
+    let mut fields = ByteRecord::new(alloc);
     for row in rows {
-        put_row(&mut writer, alloc, row)?;
+        put_row(&mut writer, &mut fields, alloc, row)?;
     }
     match writer.into_inner() {
         Ok(text) => Ok(text),
@@ -62,14 +63,19 @@ fn put_headers(writer: &mut Writer<Vec<u8>>, alloc: Global, plan: &Plan) -> Resu
     put_fields(writer, &fields)
 }
 
-/// Writes the row of some cells.
-fn put_row(writer: &mut Writer<Vec<u8>>, alloc: Global, row: &ReportRow) -> Result<(), AllocError>
+/// Writes the row of some cells, by a record of fields whose memory is used again.
+fn put_row(
+    writer: &mut Writer<Vec<u8>>,
+    fields: &mut ByteRecord,
+    alloc: Global,
+    row: &ReportRow,
+) -> Result<(), AllocError>
     requires { IsBetweenRows writer.old }
     ensures between { OnOk result (IsBetweenRows writer.new) }
     ensures appends { OnOk result (Appends (text_written ⟦<Vec<u8> as Write>⟧.contents writer.old) (text_written ⟦<Vec<u8> as Write>⟧.contents writer.new) (row_text default_writer (map cell_field (cells_of row.now)))) }
 {
-    let fields = cell_fields(alloc, row.cells.as_slice())?;
-    put_fields(writer, &fields)
+    write_cells(fields, alloc, row.cells.as_slice())?;
+    put_fields(writer, fields)
 }
 
 /// Writes a row of fields. The writer goes into memory, so its errors are want of memory.

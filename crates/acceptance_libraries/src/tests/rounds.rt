@@ -189,9 +189,11 @@ fn rounds_that_are_handed_out(rt: HostRuntime) -> Result<(), Fail> {
     let another = Round::new(alloc, LEAST)?;
     assert!(rt; spare.bytes().is_empty());
     assert_eq!(rt; rounds.advance(), Ok(true));
+    assert!(rt; !rounds.is_over());
     let first = rounds.hand_out(spare);
     assert!(rt; rounds.round().is_empty());
     assert_eq!(rt; rounds.advance(), Ok(true));
+    assert!(rt; rounds.is_over());
     let second = rounds.hand_out(another);
     assert_eq!(rt; rounds.advance(), Ok(false));
     assert_eq!(rt; first.bytes().len(), LEAST);
