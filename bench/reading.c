@@ -1,5 +1,5 @@
-/* Loaded before a program, notes how long it is until the read that finds a file at its end: what
-   reading the file costs. It writes the microseconds since it was loaded to the file BENCH_READING. */
+/* Loaded before a program, adds up what the reads take that are made on the thread on which the program began: the
+   reading beside which no work is done. At the end it writes the microseconds to the file BENCH_READING. */
 #define _GNU_SOURCE
 #include <dlfcn.h>
 #include <stdio.h>
@@ -7,30 +7,31 @@
 #include <time.h>
 #include <unistd.h>
 
-static struct timespec loaded;
+static _Thread_local int is_first;
+static long nanoseconds;
 
-__attribute__((constructor)) static void load(void) { clock_gettime(CLOCK_MONOTONIC, &loaded); }
+__attribute__((constructor)) static void load(void) { is_first = 1; }
 
-static void note(void) {
-    static int noted;
+__attribute__((destructor)) static void note(void) {
     const char *path = getenv("BENCH_READING");
-    if (noted || !path) return;
-    noted = 1;
-    struct timespec now;
-    clock_gettime(CLOCK_MONOTONIC, &now);
-    FILE *file = fopen(path, "w");
+    FILE *file = path ? fopen(path, "w") : NULL;
     if (!file) return;
-    fprintf(file, "%ld\n",
-            (now.tv_sec - loaded.tv_sec) * 1000000 + (now.tv_nsec - loaded.tv_nsec) / 1000);
+    fprintf(file, "%ld\n", nanoseconds / 1000);
     fclose(file);
+}
+
+static long now(void) {
+    struct timespec time;
+    clock_gettime(CLOCK_MONOTONIC, &time);
+    return time.tv_sec * 1000000000 + time.tv_nsec;
 }
 
 ssize_t read(int file, void *bytes, size_t len) {
     static ssize_t (*below)(int, void *, size_t);
-    static int begun;
     if (!below) *(void **)&below = dlsym(RTLD_NEXT, "read");
+    if (!is_first) return below(file, bytes, len);
+    long begin = now();
     ssize_t count = below(file, bytes, len);
-    if (count > 0) begun = 1;
-    if (count == 0 && begun) note();
+    nanoseconds += now() - begin;
     return count;
 }
