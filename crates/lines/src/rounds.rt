@@ -22,6 +22,10 @@ const SPARE: usize = 65_536;
 /// By how many bytes a buffer gets longer, until it has its length.
 const STEP: usize = 1_048_576;
 
+/// How many bytes the first round has, about, where more may be held. Each further round has twice as many as the one
+/// before, so that work begins soon and the rounds of a long input are long.
+const FIRST: usize = 8_388_608;
+
 /// One read into the buffer from place `at` on. It answers how many bytes the reader gave.
 fn read_at<R: Read>(reader: &mut R, buffer: &mut [u8], at: usize) -> Result<usize, ReadFault>
     requires { at < length buffer.old }
@@ -79,16 +83,18 @@ fn read_more<R: Read>(reader: &mut R, held: &mut Held, most: usize) -> Result<us
     Ok(count)
 }
 
-/// Reads until the whole lines come near to `size` bytes or the input is at its end, and counts the bytes. It
+/// Reads until the whole lines come near to `aim` bytes or the input is at its end, and counts the bytes. It
 /// answers whether the input is at its end.
 fn fill<R: Read>(
     reader: &mut R,
     held: &mut Held,
+    aim: usize,
     size: usize,
     taken: &mut usize,
 ) -> Result<bool, ReadFault>
     requires held { IsHeld held.old }
-    requires within { held.old.cut ≤ size }
+    requires within { held.old.cut ≤ aim }
+    requires aim { aim ≤ size }
     requires len { vec_len held.old.buffer ≤ size + 65536 }
     requires room { size + 65536 ≤ vec_capacity held.old.buffer }
     requires limit { taken.old < 2 ^ 63 }
@@ -96,16 +102,16 @@ fn fill<R: Read>(
     ensures left { OnOk result (Keeps (left_of held.old (R.remaining reader.old)) (left_of held.new (R.remaining reader.new))) }
     ensures len { vec_len held.new.buffer ≤ size + 65536 }
     ensures room { size + 65536 ≤ vec_capacity held.new.buffer }
-    ensures within { OnOk result (held.new.cut ≤ size) }
+    ensures within { OnOk result (held.new.cut ≤ aim) }
     ensures taken { OnOk result (held.new.filled + taken.old ≤ held.old.filled + taken.new) }
     ensures limit { OnOk result (taken.new < 2 ^ 63) }
     ensures end { IfOk result (λ ended. IsTrue ended → IsAtEnd (R.remaining reader.new)) }
     ensures few { IfOk result (λ ended. IsTrue ended
         → (held.new.filled ≤ held.new.cut + trimmed_len) × (held.new.filled ≤ size)) }
-    ensures whole { IfOk result (λ ended. IsFalse ended → size ≤ held.new.cut + trimmed_len) }
+    ensures whole { IfOk result (λ ended. IsFalse ended → aim ≤ held.new.cut + trimmed_len) }
 {
-    settle(held, size);
-    while held.cut + TRIMMED_LEN < size {
+    settle(held, aim);
+    while held.cut + TRIMMED_LEN < aim {
         let count = read_more(reader, held, size + SPARE)?;
         if count == 0 {
             return Ok(true);
@@ -114,21 +120,23 @@ fn fill<R: Read>(
         if *taken >= INPUT_LIMIT {
             return Err(ReadFault);
         }
-        settle(held, size);
+        settle(held, aim);
     }
     Ok(false)
 }
 
-/// Lets go the round before, and holds the next round in front, of at most `size` bytes. It answers whether it
-/// is the last.
+/// Lets go the round before, and holds the next round in front, of about `aim` bytes and at most `size`. It answers
+/// whether it is the last.
 fn turn<R: Read>(
     reader: &mut R,
     held: &mut Held,
+    aim: usize,
     size: usize,
     taken: &mut usize,
 ) -> Result<bool, ReadFault>
     requires held { IsHeld held.old }
-    requires size { trimmed_len < size }
+    requires long { trimmed_len < aim }
+    requires aim { aim ≤ size }
     requires len { vec_len held.old.buffer ≤ size + 65536 }
     requires room { size + 65536 ≤ vec_capacity held.old.buffer }
     requires limit { taken.old < 2 ^ 63 }
@@ -146,11 +154,11 @@ fn turn<R: Read>(
     ensures limit { OnOk result (taken.new < 2 ^ 63) }
 {
     release(held);
-    let ended = fill(reader, held, size, taken)?;
+    let ended = fill(reader, held, aim, size, taken)?;
     if ended {
         held.cut = held.filled;
     } else if !held.full {
-        let window = held.filled.min(size) - held.cut;
+        let window = held.filled.min(aim) - held.cut;
         pass(held, window);
     }
     Ok(ended)
@@ -266,6 +274,8 @@ fn buffer_of(alloc: Global, size: usize) -> Result<Vec<u8>, AllocError>
 pub struct Rounds<R: Read + Drop> {
     reader: R,
     held: Held,
+    /// How many bytes the next round has, about.
+    aim: usize,
     size: usize,
     taken: usize,
     given: usize,
@@ -290,7 +300,7 @@ impl<R: Read + Drop> Model for Rounds<R> {
     } };
 
     ghost invariant = { λ inside.
-        IsBetween inside.held (R.remaining inside.reader) inside.size inside.taken inside.given inside.over inside.failed };
+        IsBetween inside.held (R.remaining inside.reader) inside.aim inside.size inside.taken inside.given inside.over inside.failed };
 }
 
 impl<R: Read + Drop> Rounds<R> {
@@ -321,6 +331,7 @@ impl<R: Read + Drop> Rounds<R> {
         Ok(Rounds {
             reader,
             held,
+            aim: size.min(FIRST),
             size,
             taken: 0,
             given: 0,
@@ -343,8 +354,10 @@ impl<R: Read + Drop> Rounds<R> {
         if self.over {
             return Ok(false);
         }
-        match turn(&mut self.reader, &mut self.held, self.size, &mut self.taken) {
+        let (aim, size) = (self.aim, self.size);
+        match turn(&mut self.reader, &mut self.held, aim, size, &mut self.taken) {
             Ok(ended) => {
+                self.aim = size.min(aim.saturating_mul(2));
                 if self.held.cut == 0 {
                     return Ok(false);
                 }
