@@ -1,5 +1,5 @@
 -- How many sets there are.
-use Rattle.std.proofs.Common.{◌≡◌, ◌∙◌, ℕ, zero, suc, ◌+◌, ◌*◌, ◌^◌, ◌<◌, ◌≤◌, nat_lt, Bool, not, List, [], ◌∷◌, ◌++◌, map, length, min, refl, ap, sym, arith, inl, inr, length-append}
+use Rattle.std.proofs.Common.{◌≡◌, ◌∙◌, ℕ, zero, suc, ◌+◌, ◌*◌, ◌^◌, ◌<◌, ◌≤◌, nat_lt, Bool, not, List, [], ◌∷◌, ◌++◌, map, length, min, Result, refl, ap, sym, subst, arith, inl, inr, length-append}
 use Rattle.std.specs.Global.{Vec}
 use Rattle.std.proofs.lemmas.Bool.{cases_lt}
 use Rattle.std.proofs.lemmas.Bool.Decides.{nat_tests}
@@ -8,7 +8,8 @@ use Rattle.std.proofs.Math.Nat.{mul_assoc, mul_comm, mul-le-mul_left, pow-suc}
 use Rattle.query_tree.specs.declared.group.GroupingElement.TheVariants as variant
 use Rattle.query_tree.specs.Syntax.{ElementForm, element_form, units_form}
 use Rattle.query_fault.specs.declared.QueryFault.TheVariants.{OverLimit}
-use Rattle.query_check.specs.Faults.{fault_unless, limit_fault}
+use Rattle.query_fault.specs.declared.QueryFault.{QueryFault}
+use Rattle.query_check.specs.Faults.{Answers, fault_unless, limit_fault}
 use Rattle.query_check.specs.Sets.{crossed, cube_sets, group_sets, rollup_sets}
 use Rattle.query_check.proofs.Expansions.{cube_form, rollup_form}
 
@@ -76,10 +77,14 @@ count_turn firsts seconds old found new most counted told =
     ∙ capped_left (length firsts) (length seconds * old) most
     ∙ ap (λ (n : ℕ). min n most) (sym (mul_assoc (length firsts) (length seconds) old) ∙ mul_comm (length firsts * length seconds) old ∙ ap (λ (n : ℕ). old * n) (sym (length_crossed firsts seconds)))
 
--- Whether a capped number is above 64 is whether the number is.
-pub capped_limit : (n m : ℕ) → 64 < m → nat_lt 64 (min n m) ≡ nat_lt 64 n
-capped_limit n m h = grind (arith, nat_tests)
+-- Whether a capped number is above a limit below the cap is whether the number is.
+capped_limit : (most n m : ℕ) → most < m → nat_lt most (min n m) ≡ nat_lt most n
+capped_limit most n m h = grind (arith, nat_tests)
 
--- The limit of a capped number is the limit of the number.
-pub limit_of_capped : (n : ℕ) → limit_fault (min n 18446744073709551615) ≡ limit_fault n
-limit_of_capped n = ap (λ (t : Bool). fault_unless (not t) OverLimit) (capped_limit n 18446744073709551615 (omega arith))
+-- So it is over such a limit where the number is.
+limit_of_capped : (most n : ℕ) → most < 18446744073709551615 → limit_fault most (min n 18446744073709551615) ≡ limit_fault most n
+limit_of_capped most n h = ap (λ (t : Bool). fault_unless (not t) OverLimit) (capped_limit most n 18446744073709551615 h)
+
+-- An answer to a capped number is one to the number.
+pub answers_capped : {X : Type 0} (result : Result X QueryFault) (most count n : ℕ) → most < 18446744073709551615 → count ≡ min n 18446744073709551615 → Answers result (limit_fault most count) → Answers result (limit_fault most n)
+answers_capped result most count n h capped answers = subst (Answers result) (ap (limit_fault most) capped ∙ limit_of_capped most n h) answers

@@ -230,10 +230,10 @@ header_stands done (g ∷ rest) f h =
     h
 
 -- A number over the limit.
-over : (n : ℕ) (f : QueryFault) → limit_fault n ≡ Some f → (64 < n) × (OverLimit ≡ f)
-over n f h =
-    let k = fails (not (nat_lt 64 n)) OverLimit f h in
-    let more = not_false (nat_lt 64 n) k.0 in
+over : (most n : ℕ) (f : QueryFault) → limit_fault most n ≡ Some f → (most < n) × (OverLimit ≡ f)
+over most n f h =
+    let k = fails (not (nat_lt most n)) OverLimit f h in
+    let more = not_false (nat_lt most n) k.0 in
     (grind (arith, nat_tests), k.1)
 
 -- ---- the query
@@ -247,7 +247,7 @@ records_stand fields t f h =
     (λ k. clause_stands fields t clause.Where t.where_condition f (λ a at. at) k)
     (λ _ later. either (first_fault (group_fault fields) t.groups) _ f (Stands fields t f)
     (λ k. let found = first_at (column_fault fields) (grouping_names t) f (sym (all_names fields t.groups) ∙ k) in column_stands fields t found.0 f (inl found.1) found.2)
-    (λ _ last. let k = over (length (expanded t.groups)) f last in subst (Stands fields t) k.1 (inl k.0))
+    (λ _ last. let k = over 256 (length (expanded t.groups)) f last in subst (Stands fields t) k.1 (inl k.0))
     later)
     h
 
@@ -287,7 +287,7 @@ first_stands fields t f h =
     (λ k. records_stand fields t f k)
     (λ _ later. either (rows_fault fields grouped t.items t.having_condition t.keys) _ f (Stands fields t f)
     (λ k. rows_stand fields t f k)
-    (λ _ last. let k = over (length (functions_of fields t)) f last in subst (Stands fields t) k.1 (inr k.0))
+    (λ _ last. let k = over 64 (length (functions_of fields t)) f last in subst (Stands fields t) k.1 (inr k.0))
     later)
     h
 

@@ -90,12 +90,12 @@ none_from_different done (g ∷ rest) all_differ =
 -- ---- limits
 
 -- A number without a fault is within the limit.
-within : (n : ℕ) → limit_fault n ≡ None → n ≤ 64
-within n h = let t = not_true (nat_lt 64 n) (holds (not (nat_lt 64 n)) OverLimit h) in grind (arith, nat_tests)
+within : (most n : ℕ) → limit_fault most n ≡ None → n ≤ most
+within most n h = let t = not_true (nat_lt most n) (holds (not (nat_lt most n)) OverLimit h) in grind (arith, nat_tests)
 
 -- A number within the limit has no fault.
-none_within : (n : ℕ) → n ≤ 64 → limit_fault n ≡ None
-none_within n h = let t : nat_lt 64 n ≡ false = grind (arith, nat_tests) in rw t refl
+none_within : (most n : ℕ) → n ≤ most → limit_fault most n ≡ None
+none_within most n h = let t : nat_lt most n ≡ false = grind (arith, nat_tests) in rw t refl
 
 -- ---- names in GROUP BY
 
@@ -145,12 +145,12 @@ typed_from_none fields t h =
     record {
       where_condition = clause_from_none fields grouped clause.Where t.where_condition i.0;
       groups = all_from_none (column_fault fields) (IsColumn fields) (λ n k. holds (is_some (place_of fields n)) _ k) (grouping_names t) (sym (all_names fields t.groups) ∙ j.0);
-      few_sets = within (length (expanded t.groups)) j.1;
+      few_sets = within 256 (length (expanded t.groups)) j.1;
       items = all_from_none (λ (i : ItemForm). expression_fault fields grouped clause.Select i.expression) (λ i. IsTypedExpression fields grouped clause.Select i.expression) (λ i k. expression_from_none fields grouped clause.Select i.expression k) t.items l.0;
       headers_differ = different_from_none [] (map header_text t.items) (λ i j d l m. absurd (omega (arith, m))) l.1;
       having_condition = clause_from_none fields grouped clause.Having t.having_condition m.0;
       keys = all_from_none (λ (k : KeyForm). expression_fault fields grouped clause.OrderBy (key_expression t.items k.expression)) (λ k. IsTypedExpression fields grouped clause.OrderBy (key_expression t.items k.expression)) (λ k e. expression_from_none fields grouped clause.OrderBy (key_expression t.items k.expression) e) t.keys m.1;
-      few_functions = within (length (functions_of fields t)) late.1;
+      few_functions = within 64 (length (functions_of fields t)) late.1;
     }
 
 -- A typed query has no fault.
@@ -161,14 +161,14 @@ none_from_typed fields t h =
     both_none _ _
     (both_none _ _ (none_from_clause fields grouped clause.Where t.where_condition h.where_condition)
     (both_none _ _ (all_names fields t.groups ∙ none_from_all (column_fault fields) (IsColumn fields) (λ n k. passes (is_some (place_of fields n)) _ k) (grouping_names t) h.groups)
-    (none_within (length (expanded t.groups)) h.few_sets)))
+    (none_within 256 (length (expanded t.groups)) h.few_sets)))
     (both_none _ _
     (both_none _ _
     (both_none _ _ (none_from_all (λ (i : ItemForm). expression_fault fields grouped clause.Select i.expression) (λ i. IsTypedExpression fields grouped clause.Select i.expression) (λ i k. none_from_expression fields grouped clause.Select i.expression k) t.items h.items)
     (none_from_different [] (map header_text t.items) h.headers_differ))
     (both_none _ _ (none_from_clause fields grouped clause.Having t.having_condition h.having_condition)
     (none_from_all (λ (k : KeyForm). expression_fault fields grouped clause.OrderBy (key_expression t.items k.expression)) (λ k. IsTypedExpression fields grouped clause.OrderBy (key_expression t.items k.expression)) (λ k e. none_from_expression fields grouped clause.OrderBy (key_expression t.items k.expression) e) t.keys h.keys)))
-    (none_within (length (functions_of fields t)) h.few_functions))
+    (none_within 64 (length (functions_of fields t)) h.few_functions))
 
 -- A query that is let through is typed.
 pub typed_ok : {X : Type 0} (fields : List Field) (t : TreeForm) (r : Result X QueryFault) → Answers r (query_fault fields t) → OnOk r (IsTyped fields t)

@@ -200,9 +200,9 @@ header_fault earlier h = fault_unless (not (list_any (bytes_eq h) earlier)) (Rep
 abbrev pub headers_fault : List (List ℕ) → Option QueryFault
 headers_fault headers = first_fault (λ p. header_fault (take p.0 headers) p.1) (enumerate_from 0 headers)
 
--- More than 64.
-abbrev pub limit_fault : ℕ → Option QueryFault
-limit_fault n = fault_unless (not (nat_lt 64 n)) OverLimit
+-- More than the most that there may be.
+abbrev pub limit_fault : ℕ → ℕ → Option QueryFault
+limit_fault most n = fault_unless (not (nat_lt most n)) OverLimit
 
 -- The names in a row that are no columns.
 abbrev pub names_fault : List Field → List (List ℕ) → Option QueryFault
@@ -226,7 +226,7 @@ unfoldable pub records_fault : List Field → List ℕ → Option PredicateForm 
 records_fault fields grouped where_condition groups =
     option_or (clause_fault fields grouped clause.Where where_condition)
     (option_or (first_fault (group_fault fields) groups)
-    (limit_fault (length (expanded groups))))
+    (limit_fault 256 (length (expanded groups))))
 
 -- The items of SELECT, then their headers.
 unfoldable pub select_fault : List Field → List ℕ → List ItemForm → Option QueryFault
@@ -246,7 +246,7 @@ unfoldable pub clauses_fault : List Field → List ℕ → TreeForm → Option Q
 clauses_fault fields grouped t =
     option_or (records_fault fields grouped t.where_condition t.groups)
     (option_or (rows_fault fields grouped t.items t.having_condition t.keys)
-    (limit_fault (length (functions_of fields t))))
+    (limit_fault 64 (length (functions_of fields t))))
 
 -- The first fault of a query under a schema.
 abbrev pub query_fault : List Field → TreeForm → Option QueryFault

@@ -118,7 +118,7 @@ StandsTwice h headers = (before : List (List ℕ)) × (behind : List (List ℕ))
 -- in GROUP BY;
 -- types that disagree, where those of an atom do, or where a set function is taken of a column of another type;
 -- a function that is not allowed, where one stands where it may not;
--- too much, where there are more than 64 grouping sets or more than 64 different set functions;
+-- too much, where there are more than 256 grouping sets or more than 64 different set functions;
 -- a repeated header, where two items have it.
 -- A query that was read has no fault of its text. Want of memory says nothing.
 abbrev pub Stands : List Field → TreeForm → QueryFault → Type 0
@@ -126,7 +126,7 @@ Stands fields t (faults.UnknownColumn n) = (Contains (grouping_names t) n ⊎ ((
 Stands fields t (faults.NotGrouped n) = (c : Clause) × (e : ExpressionForm) × StandsIn t c e × (c ≢ clause.Where) × Contains (outer_names e) n × IsColumn fields n × (Contains (grouping_names t) n → ⊥)
 Stands fields t faults.TypesDisagree = ((c : Clause) × (p : PredicateForm) × Contains (atoms_in t c) p × Disagrees fields p) ⊎ ((c : Clause) × (a : Aggregate) × StandsIn t c (function (over_all a)) × IsOfOtherKind fields a)
 Stands fields t faults.FunctionNotAllowed = (c : Clause) × (e : ExpressionForm) × StandsIn t c e × IsMisplaced c e
-Stands fields t faults.OverLimit = (64 < length (expanded t.groups)) ⊎ (64 < length (functions_of fields t))
+Stands fields t faults.OverLimit = (256 < length (expanded t.groups)) ⊎ (64 < length (functions_of fields t))
 Stands fields t (faults.RepeatedHeader h) = StandsTwice h (map header_text t.items)
 Stands fields t (faults.NoToken byte) = ⊥
 Stands fields t (faults.Unexpected byte) = ⊥

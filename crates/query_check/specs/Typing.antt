@@ -161,12 +161,12 @@ IsTypedClause fields grouped c None = ⊤
 IsTypedClause fields grouped c (Some p) = IsTypedPredicate fields grouped c p
 
 -- A query is typed under a schema where each of its clauses is: names are columns, or grouping columns where
--- only these may stand, types agree, and functions stand where they may. It has at most 64 expanded grouping
+-- only these may stand, types agree, and functions stand where they may. It has at most 256 expanded grouping
 -- sets and at most 64 different set functions, and the headers of its items differ.
 pub record IsTyped (fields : List Field) (t : TreeForm) : Type 0 where
   pub where_condition : IsTypedClause fields (grouping_places fields t) clause.Where t.where_condition
   pub groups : All (IsColumn fields) (grouping_names t)
-  pub few_sets : length (expanded t.groups) ≤ 64
+  pub few_sets : length (expanded t.groups) ≤ 256
   pub items : All (λ i. IsTypedExpression fields (grouping_places fields t) clause.Select i.expression) t.items
   pub headers_differ : AllPairs (λ h g. h ≢ g) (map header_text t.items)
   pub having_condition : IsTypedClause fields (grouping_places fields t) clause.Having t.having_condition

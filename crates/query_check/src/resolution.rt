@@ -29,8 +29,11 @@ use std::alloc::{AllocError, Global};
 use std::marker::Model;
 use values::{Column, Schema};
 
-/// The most grouping sets, and the most different set functions.
-const LIMIT: u64 = 64;
+/// The most grouping sets in the expanded list.
+const MOST_GROUPING_SETS: u64 = 256;
+
+/// The most different set functions.
+const MOST_SET_FUNCTIONS: u64 = 64;
 
 /// What a query is resolved to under a schema: places of columns in place of their names.
 #[derive(Debug, Drop)]
@@ -143,11 +146,11 @@ fn check_headers(alloc: Global, items: &[Item]) -> Result<(), QueryFault>
     Ok(())
 }
 
-/// Whether a number is within the limit.
-fn check_limit(count: u64) -> Result<(), QueryFault>
-    ensures fault { Answers result (limit_fault count) }
+/// Whether a number is at most this limit.
+fn check_limit(most: u64, count: u64) -> Result<(), QueryFault>
+    ensures fault { Answers result (limit_fault most count) }
 {
-    if count > LIMIT {
+    if count > most {
         return Err(QueryFault::OverLimit);
     }
     Ok(())
@@ -339,10 +342,11 @@ fn functions_of(
 }
 
 /// Whether GROUP BY stands for few enough sets.
+#[tactic(auto, using(crate::proofs::Counts::answers_capped))]
 fn check_set_count(groups: &[GroupingElement]) -> Result<(), QueryFault>
-    ensures fault { Answers result (limit_fault (length (expanded (map element_form groups.now)))) }
+    ensures fault { Answers result (limit_fault 256 (length (expanded (map element_form groups.now)))) }
 {
-    check_limit(set_count(groups))
+    check_limit(MOST_GROUPING_SETS, set_count(groups))
 }
 
 /// Whether WHERE and GROUP BY are typed.
@@ -407,7 +411,7 @@ fn check_clauses(
     check_records(&scope, tree)?;
     check_rows(alloc, columns, grouping, tree)?;
     let functions = functions_of(alloc, columns, tree)?;
-    check_limit(functions.len() as u64)?;
+    check_limit(MOST_SET_FUNCTIONS, functions.len() as u64)?;
     Ok(functions)
 }
 

@@ -26,8 +26,8 @@ use values::Schema;
 ///
 /// The first fault, in the order WHERE, GROUP BY, SELECT, HAVING, ORDER BY, each from left to right:
 /// a name that is no column, or no grouping column where it has to be one; types that do not agree;
-/// a function where it may not stand; more than 64 expanded grouping sets, or different set
-/// functions; two items with one header. `OutOfMemory` says nothing of the query.
+/// a function where it may not stand; more than 256 expanded grouping sets, or more than 64 different
+/// set functions; two items with one header. `OutOfMemory` says nothing of the query.
 pub fn check(alloc: Global, query: Query, schema: Schema) -> Result<Plan, QueryFault>
     ensures query { IfOk result (λ plan. form_of_plan plan ≡ form_of query) }
     ensures schema { IfOk result (λ plan. fields_of_plan plan ≡ schema) }

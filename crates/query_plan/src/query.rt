@@ -1,9 +1,11 @@
 //! A query that was derived from some text.
 
-ghost use Rattle.std.specs.Prelude.{◌≡◌, ℕ, List};
+ghost use Rattle.std.specs.Prelude.{◌≡◌, ℕ, List, length, min};
 ghost use Rattle.query_tree.specs.Syntax.{tree_form};
+ghost use Rattle.query_check.specs.Sets.{expanded};
 ghost use Rattle.query_derivation.specs.Derivation.{Derives};
 
+use query_check::set_count;
 use query_tree::Tree;
 
 /// A query that some text derives within the limits. Only `parse` makes one.
@@ -30,5 +32,13 @@ impl Query {
         ensures derived { ∥ ((text : List ℕ) × Derives text (form_of self.now)) ∥₁ }
     {
         &self.tree
+    }
+
+    /// How many grouping sets the expanded list has, or the greatest number of 64 bits where they are
+    /// more. None is made, and no memory is taken.
+    pub fn set_count(&self) -> u64
+        ensures count { result ≡ min (length (expanded (form_of self.now).groups)) u64.MAX }
+    {
+        set_count(&self.tree.groups)
     }
 }
