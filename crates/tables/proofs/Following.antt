@@ -1,5 +1,5 @@
 -- A result over the front of an input and one over its rest, put together.
-use Rattle.std.proofs.Common.{◌≡◌, ◌+◌, ◌≤◌, ℕ, Bool, nat_le, Decides, List, [], ◌∷◌, ◌++◌, All, length, map, refl, sym, ap, ◌∙◌, arith, append-nil, length-append}
+use Rattle.std.proofs.Common.{◌≡◌, ◌+◌, ◌≤◌, ℕ, Bool, nat_le, Decides, List, [], ◌∷◌, ◌++◌, All, length, map, refl, sym, ap, subst, ◌∙◌, arith, append-nil, length-append}
 use Rattle.std.proofs.lemmas.Bool.Decides.{Decides-by_and, nat_tests}
 use Rattle.std.proofs.lemmas.List.{map-append, length-map}
 use Rattle.std.proofs.lemmas.List.Elements.{All-append, All-from_recursion, All-head, All-map, All-nil, All-same, All-tail, All-weaker, recursion_from_All}
@@ -13,7 +13,8 @@ use Rattle.lines.specs.Lines.{lines}
 use Rattle.lines.specs.Pieces.{AreWholeLines}
 use Rattle.lines.proofs.Fronts.{good-whole_lines, lines-whole_lines, refused-whole_lines}
 use Rattle.groups.specs.Bags.{SameBag, weigh}
-use Rattle.tables.specs.Notes.{AreLinesBehind, AreLinesOf, IsWellNumbered, Noted, lines_noted, note_of, numbered_from}
+use Rattle.tables.specs.declared.note.Note.{Note}
+use Rattle.tables.specs.Notes.{AreLinesBehind, AreLinesOf, IsWellNumbered, Noted, lines_noted, note_in, note_of, numbered_from}
 use Rattle.tables.specs.Partials.{whole_piece}
 use Rattle.tables.specs.Pieces.{IndexedPiece, IsCutInto, all_lines, records_of, refused_within}
 use Rattle.tables.proofs.Bags.{all-decided}
@@ -93,14 +94,14 @@ lines-within notes found well are =
     (All-weaker (λ line. line.0 ≤ 0 + lines_noted are.ordered) (λ line. line.0 ≤ lines_noted notes) (λ line l. omega (arith, sum, l)) (numbered_from 0 are.ordered)
     (numbers-within 0 are.ordered (well-same notes are.ordered are.same well)))
 
-pub behind-within : (before : ℕ) (notes : List Noted) (front all : List (ℕ × LineFault)) → All IsWellNumbered notes → All (λ line. line.0 ≤ before) front
-    → AreLinesBehind before notes front all → All (λ line. line.0 ≤ before + lines_noted notes) all
-behind-within before notes front all well low are =
-    All-same (λ line. line.0 ≤ before + lines_noted notes) all (front ++ map (shift before) are.lines) are.behind
-    (All-append (λ line. line.0 ≤ before + lines_noted notes) front (map (shift before) are.lines)
-    (All-weaker (λ line. line.0 ≤ before) (λ line. line.0 ≤ before + lines_noted notes) (λ line l. omega (arith, l)) front low)
-    (All-map (λ line. line.0 ≤ before + lines_noted notes) (shift before) are.lines
-    (All-weaker (λ line. line.0 ≤ lines_noted notes) (λ line. before + line.0 ≤ before + lines_noted notes) (λ line l. omega (arith, l)) are.lines (lines-within notes are.lines well are.of_notes))))
+pub behind-within : (most before : ℕ) (notes : List Noted) (front all : List (ℕ × LineFault)) → All IsWellNumbered notes → All (λ line. line.0 ≤ most) front
+    → AreLinesBehind before notes front all → before ≤ most → All (λ line. line.0 ≤ most + lines_noted notes) all
+behind-within most before notes front all well low are few =
+    All-same (λ line. line.0 ≤ most + lines_noted notes) all (front ++ map (shift before) are.lines) are.behind
+    (All-append (λ line. line.0 ≤ most + lines_noted notes) front (map (shift before) are.lines)
+    (All-weaker (λ line. line.0 ≤ most) (λ line. line.0 ≤ most + lines_noted notes) (λ line l. omega (arith, l)) front low)
+    (All-map (λ line. line.0 ≤ most + lines_noted notes) (shift before) are.lines
+    (All-weaker (λ line. line.0 ≤ lines_noted notes) (λ line. before + line.0 ≤ most + lines_noted notes) (λ line l. omega (arith, l, few)) are.lines (lines-within notes are.lines well are.of_notes))))
 
 -- ---- the pieces of an input come to what the input comes to
 
@@ -158,10 +159,22 @@ followed-count fields front back pieces more whole c d =
 
 pub followed-refused : (fields : List Field) (front back : List ℕ) (pieces more : List IndexedPiece) (notes others : List Noted) (before : ℕ) (found all : List (ℕ × LineFault))
     → AreWholeLines front → IsCutInto front pieces → IsCutInto back more → SameBag (map (note_of fields) pieces) notes → SameBag (map (note_of fields) more) others
-    → before ≡ length (all_lines pieces) → AreLinesOf notes found → AreLinesBehind before others found all → all ≡ refused fields (front ++ back)
-followed-refused fields front back pieces more notes others before found all whole c d same also counted are behind =
+    → AreLinesOf notes found → AreLinesBehind before others found all → before ≡ length (all_lines pieces) → all ≡ refused fields (front ++ back)
+followed-refused fields front back pieces more notes others before found all whole c d same also are behind counted =
     behind.behind
     ∙ ap (λ ls. ls ++ map (shift before) behind.lines) (refused-in_order fields front pieces notes found c same are)
     ∙ ap (λ ls. refused fields front ++ map (shift before) ls) (refused-in_order fields back more others behind.lines d also behind.of_notes)
     ∙ ap (λ n. refused fields front ++ map (shift n) (refused fields back)) (counted ∙ count-lines front pieces c)
     ∙ sym (refused-whole_lines fields front back whole)
+
+-- ---- the note of the one piece
+
+abbrev noted : ℕ → ℕ → List (ℕ × LineFault) → Noted
+noted index count found = record { index = index; lines = count; refused = found }
+
+pub followed-note : (fields : List Field) (input : List ℕ) (notes : List Note) (note : Note) → notes ≡ note ∷ [] → note.index ≡ 0 → note.lines ≡ length (lines input)
+    → note.refused.items ≡ refused fields input → SameBag (map (note_of fields) (whole_piece input)) (map note_in notes)
+followed-note fields input notes note is first count found =
+    let same : note_in note ≡ noted 0 (length (lines input)) (refused fields input) =
+    ap (λ index. noted index note.lines note.refused.items) first ∙ ap (λ n. noted 0 n note.refused.items) count ∙ ap (noted 0 (length (lines input))) found in
+    subst (λ (ns : List Noted). SameBag (map (note_of fields) (whole_piece input)) ns) (sym (ap (map note_in) is ∙ ap (λ n. n ∷ []) same)) (λ f. refl)

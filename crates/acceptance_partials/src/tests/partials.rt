@@ -16,7 +16,7 @@ const COLUMNS: &str = "d:text,r:text,q:int";
 
 pub const BY_D: &str = "SELECT d, COUNT(*) AS n, SUM(q) AS s FROM lines GROUP BY d";
 
-const UNGROUPED: &str = "SELECT COUNT(*) AS n, SUM(q) AS s FROM lines";
+pub const UNGROUPED: &str = "SELECT COUNT(*) AS n, SUM(q) AS s FROM lines";
 
 pub const BY_D_AND_R: &str = "SELECT d, r, COUNT(*), SUM(q) FROM lines GROUP BY d, r";
 
@@ -172,7 +172,8 @@ pub fn is_row((set, group): &(usize, Group), wanted: &Row) -> bool {
         && group.cells.as_slice() == wanted.cells.as_slice()
 }
 
-fn assert_groups(rt: &impl Abort, alloc: Global, groups: &Groups, wanted: &Findings) {
+/// Asserts that groups and refused lines are those that are wanted.
+pub fn assert_groups(rt: &impl Abort, alloc: Global, groups: &Groups, wanted: &Findings) {
     assert_eq!(rt; groups.rows().len(), wanted.rows.len());
     assert_eq!(rt; groups.refused(), wanted.refused.as_slice());
     let rows = sorted_rows(rt, alloc, groups);
@@ -525,8 +526,8 @@ fn assert_four_counted(rt: &impl Abort, partial: &Partial) {
     assert!(rt; partial.lines() == 4 && partial.refused() == 1);
 }
 
-/// Whether this is a group of the four lines by `d`. It takes no memory.
-fn is_group_of_four((set, group): &(usize, Group)) -> bool {
+/// Whether this is a group by `d`: two lines of `x` with the sum 7, or one of `y`. It takes no memory.
+fn is_one_of_two((set, group): &(usize, Group)) -> bool {
     let (lines, sum) = match group.key.first() {
         Some(Value::Text(text)) if text.as_str() == "x" => (2, Value::Int(7)),
         Some(Value::Text(text)) if text.as_str() == "y" => (1, Value::Null),
@@ -539,15 +540,14 @@ fn is_group_of_four((set, group): &(usize, Group)) -> bool {
         && group.cells.as_slice() == cells.as_slice()
 }
 
-/// Takes no memory.
-fn assert_four_found(rt: &impl Abort, groups: &Groups) {
+/// Asserts that there are these two groups, and these refused lines. It takes no memory.
+pub fn assert_two_found(rt: &impl Abort, groups: &Groups, refused: &[(u64, LineFault)]) {
     let [first, second] = groups.rows() else {
         panic!(rt; "not two groups");
     };
-    assert!(rt; is_group_of_four(first) && is_group_of_four(second));
+    assert!(rt; is_one_of_two(first) && is_one_of_two(second));
     assert!(rt; first.1.lines != second.1.lines);
-    let refused = [(3, LineFault::NoObject)];
-    assert!(rt; groups.refused() == refused.as_slice());
+    assert!(rt; groups.refused() == refused);
 }
 
 /// What is found of the four lines by a result over them, or want of memory.
@@ -559,7 +559,8 @@ fn assert_four_or_refused(rt: &impl Abort, plan: &Plan, partial: Result<Partial,
     };
     assert_four_counted(rt, &partial);
     if let Ok(groups) = partial.finish(plan) {
-        assert_four_found(rt, &groups);
+        let refused = [(3, LineFault::NoObject)];
+        assert_two_found(rt, &groups, refused.as_slice());
     }
 }
 

@@ -1,18 +1,16 @@
-use Rattle.std.proofs.Common.{◌≡◌, ◌+◌, ◌<◌, ◌≤◌, ◌^◌, ◌++◌, [], List, All, map, refl, sym, ap, subst, ◌∙◌, arith}
-use Rattle.groups.specs.Bags.{SameBag}
+use Rattle.std.proofs.Common.{◌≡◌, ◌+◌, ◌<◌, ◌≤◌, ◌^◌, ◌++◌, List, All, sym, ap, subst, ◌∙◌, arith}
 use Rattle.groups.specs.Rows.{Row}
 use Rattle.query_check.specs.Functions.{functions_of}
 use Rattle.query_check.specs.Sets.{grouping_places}
 use Rattle.query_check.specs.declared.function.ColumnFunction.{ColumnFunction}
 use Rattle.groups.specs.Inside.Table.{AreGroupsWithin, IsTableOf}
 use Rattle.groups.proofs.Meaning.{tables-within, within-can_join}
-use Rattle.tables.specs.Notes.{Noted, note_in, note_of, notes_in}
+use Rattle.tables.specs.Notes.{notes_in}
 use Rattle.tables.specs.Pieces.{records_of}
-use Rattle.tables.specs.Partials.{StandsFor, whole_piece}
+use Rattle.tables.specs.Partials.{StandsFor}
 use Rattle.tables.specs.States.{PartialState}
 use Rattle.query_truth.specs.Kept.{kept}
-use Rattle.tables.proofs.Following.{behind-within, followed-count, followed-lines, followed-records, followed-refused, lines-within, whole-lines}
-use Rattle.tables.proofs.Growing.{notes-more}
+use Rattle.tables.proofs.Following.{behind-within, followed-count, followed-lines, followed-note, followed-records, followed-refused, lines-within, whole-lines}
 use Rattle.tables.proofs.Merging.{one-note}
 use Rattle.tables.proofs.Reading.{kept-append}
 use Rattle.tables.proofs.partial.Partial.follow.Goals as goal
@@ -58,7 +56,7 @@ invariant_of-result c =
     let found = c.in_ok-numbered.numbered.items in
     let low : All (λ line. line.0 ≤ a.lines) found = subst (λ n. All (λ line. line.0 ≤ n) found) a.counted (lines-within (notes_in a.notes) found a.numbered c.in_ok-numbered.ensures) in
     let all = c.number_behind.new.numbered.items in
-    let within : All (λ line. line.0 ≤ a.lines + b.lines) all = subst (λ n. All (λ line. line.0 ≤ a.lines + n) all) b.counted (behind-within a.lines (notes_in b.notes) found all b.numbered low c.in_ok-number_behind.ensures) in
+    let within : All (λ line. line.0 ≤ a.lines + b.lines) all = subst (λ n. All (λ line. line.0 ≤ a.lines + n) all) b.counted (behind-within a.lines _ (notes_in b.notes) found all b.numbered low c.in_ok-number_behind.ensures (omega arith)) in
     let notes = one-note c.in_ok-notes.notes.items _ c.in_ok-notes.ensures within in (
       omega (arith, first, second, c.requires.few),
       (
@@ -85,7 +83,8 @@ returns c = record {
       let found = c.in_ok-numbered.numbered.items in
       let all = c.number_behind.new.numbered.items in
       let count = followed-lines front back given.pieces other.pieces whole given.cut other.cut in
-      let refused = followed-refused fields front back given.pieces other.pieces (notes_in a.notes) (notes_in b.notes) a.lines found all whole given.cut other.cut p.notes m.notes p.lines c.in_ok-numbered.ensures c.in_ok-number_behind.ensures in
+      let refused = followed-refused fields front back given.pieces other.pieces (notes_in a.notes) (notes_in b.notes) _ found all whole given.cut other.cut p.notes m.notes c.in_ok-numbered.ensures c.in_ok-number_behind.ensures
+      (let x = p.lines in omega (arith, x)) in
       record {
         sets = p.sets;
         functions = p.functions;
@@ -94,8 +93,6 @@ returns c = record {
             (c.in_ok-absorb.ensures.joined (grouping_places fields q) (functions_of fields q) (kept fields q (records_of fields given.pieces)) (kept fields q (records_of fields other.pieces)) p.table m.table);
         lines = (let x = p.lines in let y = m.lines in let z = whole-lines (front ++ back) in omega (arith, x, y, z, count));
         refused = (let x = p.refused in let y = m.refused in let z = followed-count fields front back given.pieces other.pieces whole given.cut other.cut in omega (arith, x, y, z));
-        notes = subst (λ (ns : List Noted). SameBag (map (note_of fields) (whole_piece (front ++ back))) ns)
-            (sym (ap (map note_in) c.in_ok-notes.ensures))
-            (notes-more fields [] [] 0 (front ++ back) (a.lines + b.lines) all (let x = p.lines in let y = m.lines in omega (arith, x, y, count)) refused (λ f. refl));
+        notes = followed-note fields (front ++ back) c.in_ok-notes.notes.items _ c.in_ok-notes.ensures (omega arith) (let x = p.lines in let y = m.lines in omega (arith, x, y, count)) refused;
       };
 }
