@@ -35,8 +35,9 @@ decided-requires-clause-outcome g c =
     let pieces = c.in_ok-pieces.pieces in
     let job = c.new-job.result in
     let count : c.len.result ≡ length pieces.items = grind (arith, c.len.ensures, pieces.ok) in
+    let stop = c.limit_of-stop.ensures in
     outcome-of c.args.plan.now job.plan.now c.args.round.now job.input.now pieces.items job.pieces.now c.len.result _ _ c.in-Ok.outcome
-    c.new-job.ensures.plan c.new-job.ensures.input (c.new-job.ensures.pieces ∙ c.as_slice.ensures.value) count (ap (λ n. n - c.args.before) c.limit_of-stop.ensures)
+    c.new-job.ensures.plan c.new-job.ensures.input (c.new-job.ensures.pieces ∙ c.as_slice.ensures.value) count (omega (arith, stop))
     c.job_law.ensures.whole c.job_law.ensures.refused c.in_ok-pieces.ensures.cut c.in-Ok.ensures.decided
 
 pub returns-in-Ok-clause-reported : goal.returns-in-Ok-clause-reported
