@@ -259,43 +259,39 @@ fn is_right(outcome: &Outcome<u64>, weight: u64, limit: u64) -> bool {
     }
 }
 
-/// Whether `fan_out` decides four pieces of weight i rightly.
-fn adds_up<R: Threads + Wait + Sync>(
-    rt: &R,
-    alloc: Global,
-    hands: usize,
-    limit: u64,
-) -> Result<bool, PoolFault>
-    requires { (1 ≤ hands) × (hands ≤ 64) }
-{
-    let outcome = fan_out(rt, alloc, &Numbers, 4, hands, limit)?;
-    Ok(is_right(&outcome, 6, limit))
+/// Whether `fan_out` decides four pieces of weight i rightly, with 1 to 8 hands.
+fn adds_up<R: Threads + Wait + Sync>(rt: &R, alloc: Global, limit: u64) -> Result<bool, PoolFault> {
+    for hands in 1..9 {
+        let outcome = fan_out(rt, alloc, &Numbers, 4, hands, limit)?;
+        if !is_right(&outcome, 6, limit) {
+            return Ok(false);
+        }
+    }
+    Ok(true)
 }
 
 #[test]
 fn pieces_of_their_own_weight(rt: HostRuntime) -> Result<(), Fail> {
-    let alloc = rt.alloc();
     for limit in [6, 5] {
         let outcome = alone(&Numbers, 4, limit)?;
         assert!(rt; is_right(&outcome, 6, limit));
-        assert!(rt; adds_up(&rt, alloc, 1, limit)?);
-        assert!(rt; adds_up(&rt, alloc, 2, limit)?);
-        assert!(rt; adds_up(&rt, alloc, 8, limit)?);
+        assert!(rt; adds_up(&rt, rt.alloc(), limit)?);
     }
-    let nothing = fan_out(&rt, alloc, &Numbers, 0, 8, 0)?;
+    let nothing = fan_out(&rt, rt.alloc(), &Numbers, 0, 8, 0)?;
     assert!(rt; is_right(&nothing, 0, 0));
     Ok(())
 }
 
-/// Whether `fan_out` decides four pieces of weight 1 rightly each time.
+/// Whether `fan_out` takes so many hands, and decides four pieces of weight 1 rightly each time.
 fn counts_up<R: Threads + Wait + Sync>(
     rt: &R,
     alloc: Global,
     hands: usize,
     limit: u64,
-) -> Result<bool, PoolFault>
-    requires { (1 ≤ hands) × (hands ≤ 64) }
-{
+) -> Result<bool, PoolFault> {
+    if hands < 1 || hands > 64 {
+        return Ok(false);
+    }
     for _ in 0..200 {
         let outcome = fan_out(rt, alloc, &Ones, 4, hands, limit)?;
         if !is_right(&outcome, 4, limit) {
@@ -307,11 +303,21 @@ fn counts_up<R: Threads + Wait + Sync>(
 
 #[test]
 fn limits(rt: HostRuntime) -> Result<(), Fail> {
-    for limit in [4, 3, 0] {
-        assert!(rt; counts_up(&rt, rt.alloc(), 1, limit)?);
-        assert!(rt; counts_up(&rt, rt.alloc(), 2, limit)?);
-        assert!(rt; counts_up(&rt, rt.alloc(), 4, limit)?);
-        assert!(rt; counts_up(&rt, rt.alloc(), 64, limit)?);
+    for (hands, limit) in [
+        (1, 4),
+        (1, 3),
+        (1, 0),
+        (2, 4),
+        (2, 3),
+        (2, 0),
+        (4, 4),
+        (4, 3),
+        (4, 0),
+        (64, 4),
+        (64, 3),
+        (64, 0),
+    ] {
+        assert!(rt; counts_up(&rt, rt.alloc(), hands, limit)?);
     }
     Ok(())
 }
@@ -486,6 +492,16 @@ fn ascend(pieces: &[u32]) -> bool {
     true
 }
 
+/// Whether these are the numbers below a thousand, in order.
+fn is_each_once(all: &[u32]) -> bool {
+    for i in 0..all.len() {
+        if all[i] as usize != i {
+            return false;
+        }
+    }
+    all.len() == 1000
+}
+
 /// Whether four threads, each with a hand, got each piece of a thousand once.
 fn get_each_once<R: Threads + Sync>(rt: &R, alloc: Global) -> Result<bool, Fail> {
     let hands = Deal::new(alloc, 1000, 4)?.into_hands();
@@ -498,12 +514,7 @@ fn get_each_once<R: Threads + Sync>(rt: &R, alloc: Global) -> Result<bool, Fail>
         all.append(&mut pieces)?;
     }
     all.sort()?;
-    for i in 0..all.len() {
-        if all[i] as usize != i {
-            return Ok(false);
-        }
-    }
-    Ok(all.len() == 1000)
+    Ok(is_each_once(all.as_slice()))
 }
 
 #[test]
