@@ -7,7 +7,7 @@ use Rattle.std.proofs.lemmas.Grind.{flat_map-append}
 use Rattle.std.proofs.lemmas.List.{append-nil, map-append}
 use Rattle.std.proofs.lemmas.List.Folds.{list_any-append}
 use Rattle.std.proofs.lemmas.Map.Views.{any-filter_same}
-use Rattle.query_check.specs.Sets.{crossed, ordered_set}
+use Rattle.query_check.specs.Sets.{crossed, cube_sets, ordered_set, rollup_sets}
 use Rattle.query_check.proofs.Rows.{or_true}
 
 -- ---- one set
@@ -101,6 +101,33 @@ crossed_right grouping (a ∷ xs) bs =
     ∙ ap (λ (ss : List (List ℕ)). ss ++ map (ordered_set grouping) (crossed xs (map (ordered_set grouping) bs))) (row_right grouping a bs)
     ∙ ap (λ (ss : List (List ℕ)). map (ordered_set grouping) (map (λ b. a ++ b) bs) ++ ss) (crossed_right grouping xs bs)
     ∙ sym (map-append (ordered_set grouping) (map (λ b. a ++ b) bs) (crossed xs bs))
+
+-- An ordered set in front of sets that are the same once they are ordered.
+front_ordered : (grouping a : List ℕ) (bs cs : List (List ℕ)) → map (ordered_set grouping) bs ≡ map (ordered_set grouping) cs → map (ordered_set grouping) (map (λ b. ordered_set grouping a ++ b) bs) ≡ map (ordered_set grouping) (map (λ c. a ++ c) cs)
+front_ordered grouping a bs cs same =
+    row_left grouping a bs
+    ∙ sym (row_right grouping a bs)
+    ∙ ap (λ (ss : List (List ℕ)). map (ordered_set grouping) (map (λ s. a ++ s) ss)) same
+    ∙ row_right grouping a cs
+
+-- It is the same whether the units of a ROLLUP are ordered before.
+pub rollup_ordered : (grouping : List ℕ) (units : List (List ℕ)) → map (ordered_set grouping) (rollup_sets (map (ordered_set grouping) units)) ≡ map (ordered_set grouping) (rollup_sets units)
+rollup_ordered grouping [] = refl
+rollup_ordered grouping (unit ∷ units) =
+    let before = rollup_sets (map (ordered_set grouping) units) in
+    map-append (ordered_set grouping) (map (λ s. ordered_set grouping unit ++ s) before) ([] ∷ [])
+    ∙ ap (λ (ss : List (List ℕ)). ss ++ map (ordered_set grouping) ([] ∷ [])) (front_ordered grouping unit before (rollup_sets units) (rollup_ordered grouping units))
+    ∙ sym (map-append (ordered_set grouping) (map (λ s. unit ++ s) (rollup_sets units)) ([] ∷ []))
+
+-- So it is of a CUBE.
+pub cube_ordered : (grouping : List ℕ) (units : List (List ℕ)) → map (ordered_set grouping) (cube_sets (map (ordered_set grouping) units)) ≡ map (ordered_set grouping) (cube_sets units)
+cube_ordered grouping [] = refl
+cube_ordered grouping (unit ∷ units) =
+    let before = cube_sets (map (ordered_set grouping) units) in
+    map-append (ordered_set grouping) (map (λ s. ordered_set grouping unit ++ s) before) before
+    ∙ ap (λ (ss : List (List ℕ)). ss ++ map (ordered_set grouping) before) (front_ordered grouping unit before (cube_sets units) (cube_ordered grouping units))
+    ∙ ap (λ (ss : List (List ℕ)). map (ordered_set grouping) (map (λ s. unit ++ s) (cube_sets units)) ++ ss) (cube_ordered grouping units)
+    ∙ sym (map-append (ordered_set grouping) (map (λ s. unit ++ s) (cube_sets units)) (cube_sets units))
 
 -- Two sets in front of each.
 twice_prefixed : (a b : List ℕ) (cs : List (List ℕ)) → map (λ s. a ++ s) (map (λ c. b ++ c) cs) ≡ map (λ c. (a ++ b) ++ c) cs

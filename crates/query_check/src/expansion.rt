@@ -7,53 +7,66 @@ ghost use Rattle.query_check.specs.Columns.{places_of};
 ghost use Rattle.query_check.specs.Sets.{expanded, group_sets, ordered_set};
 ghost use Rattle.query_check.specs.Resolution.{contents};
 
-use crate::joining::{cube, one_set, ordered_sets, rollup};
+use crate::joining::{cube, one_set, ordered_set, ordered_sets, rollup};
 use crate::names::push_places;
 use crate::product::Product;
 use query_tree::{GroupingElement, Text};
 use std::alloc::{AllocError, Global};
 use values::Column;
 
-/// The places of the columns of some names.
-fn places(alloc: Global, columns: &[Column], names: &[Text]) -> Result<Vec<usize>, AllocError>
-    ensures { IfOk result (λ v. v.items ≡ places_of (fields_of columns.now) names.now) }
+/// The places of the columns of some names, in the order of the grouping columns.
+fn places(
+    alloc: Global,
+    columns: &[Column],
+    grouping: &[usize],
+    names: &[Text],
+) -> Result<Vec<usize>, AllocError>
+    ensures { IfOk result (λ v. v.items ≡ ordered_set grouping.now (places_of (fields_of columns.now) names.now)) }
 {
     let mut all = Vec::new(alloc);
     push_places(&mut all, columns, names)?;
-    Ok(all)
+    ordered_set(alloc, grouping, &all)
 }
 
-/// The places of the columns of the names of each unit.
+/// The places of the columns of the names of each unit, in the order of the grouping columns.
 fn unit_places(
     alloc: Global,
     columns: &[Column],
+    grouping: &[usize],
     units: &[Vec<Text>],
 ) -> Result<Vec<Vec<usize>>, AllocError>
-    ensures { IfOk result (λ v. contents v.items ≡ map (places_of (fields_of columns.now)) (units_form units.now)) }
+    ensures { IfOk result (λ v. contents v.items ≡ map (ordered_set grouping.now) (map (places_of (fields_of columns.now)) (units_form units.now))) }
 {
     let mut all = Vec::new(alloc);
     for unit in units {
-        all.push(places(alloc, columns, unit)?)?;
+        all.push(places(alloc, columns, grouping, unit)?)?;
     }
     Ok(all)
 }
 
-/// The sets that an element of GROUP BY stands for, by places.
+/// The sets that an element of GROUP BY stands for, each in the order of the grouping columns.
 fn group_sets(
     alloc: Global,
     columns: &[Column],
+    grouping: &[usize],
     group: &GroupingElement,
 ) -> Result<Vec<Vec<usize>>, AllocError>
-    ensures { IfOk result (λ v. contents v.items ≡ map (places_of (fields_of columns.now)) (group_sets (element_form group.now))) }
+    ensures { IfOk result (λ v. contents v.items ≡ map (ordered_set grouping.now) (map (places_of (fields_of columns.now)) (group_sets (element_form group.now)))) }
 {
     match group {
-        GroupingElement::Set(names) => one_set(alloc, places(alloc, columns, names)?),
-        GroupingElement::Rollup(units) => rollup(alloc, &unit_places(alloc, columns, units)?),
-        GroupingElement::Cube(units) => cube(alloc, &unit_places(alloc, columns, units)?),
+        GroupingElement::Set(names) => { one_set(alloc, places(alloc, columns, grouping, names)?) }
+        GroupingElement::Rollup(units) => {
+            let units = unit_places(alloc, columns, grouping, units)?;
+            ordered_sets(alloc, grouping, &rollup(alloc, &units)?)
+        }
+        GroupingElement::Cube(units) => {
+            let units = unit_places(alloc, columns, grouping, units)?;
+            ordered_sets(alloc, grouping, &cube(alloc, &units)?)
+        }
         GroupingElement::Sets(groups) => {
             let mut sets = Vec::new(alloc);
             for group in groups {
-                let mut more = group_sets(alloc, columns, group)?;
+                let mut more = group_sets(alloc, columns, grouping, group)?;
                 sets.append(&mut more)?;
             }
             Ok(sets)
@@ -73,8 +86,7 @@ pub(crate) fn expand(
 {
     let mut product = Product::new(alloc)?;
     for group in groups {
-        let sets = group_sets(alloc, columns, group)?;
-        product.cross(alloc, &ordered_sets(alloc, grouping, &sets)?)?;
+        product.cross(alloc, &group_sets(alloc, columns, grouping, group)?)?;
     }
     product.ordered(alloc, grouping)
 }

@@ -1,5 +1,4 @@
 use Rattle.std.proofs.Common.{◌∙◌, ◌+◌, ◌∷◌, ℕ, List, drop, map, sym, ap}
-use Rattle.std.specs.Global.{Vec}
 use Rattle.std.proofs.lemmas.List.{at_drop_all, at_drop_more}
 use Rattle.values.specs.Schema.{fields_of}
 use Rattle.query_tree.specs.declared.group.GroupingElement.{GroupingElement}
@@ -29,12 +28,9 @@ loop-group-preserved c =
     let of_group = group_sets (element_form c.group-item.result) in
     let of_others = expanded (map element_form (drop (i + 1) groups)) in
     let whole = λ (gs : List GroupingElement). in_order (crossed old (map (places_of fields) (expanded (map element_form gs)))) in
-    crossed_turn grouping old c.cross.new.self (contents c.deref-in-loop-group.result.now) (map (places_of fields) of_group) (map (places_of fields) of_others)
+    crossed_turn grouping old c.cross.new.self (contents c.deref.result.now) (map (places_of fields) of_group) (map (places_of fields) of_others)
     (c.in_ok-cross.ensures grouping)
-    (ap contents c.deref-in-loop-group.ensures.value
-    ∙ c.in_ok-ordered_sets.ensures
-    ∙ ap (λ (vs : List (Vec ℕ)). in_order (contents vs)) c.deref.ensures.value
-    ∙ ap in_order c.in_ok-sets.ensures)
+    (ap contents c.deref.ensures.value ∙ c.in_ok-group_sets.ensures)
     ∙ ap (λ (ss : List (List ℕ)). in_order (crossed old ss)) (sym (crossed_places fields of_group of_others))
     ∙ sym (at_drop_more whole groups i c.group-item.result c.loop-group-test.true ∙ ap (λ (g : GroupingElement). whole (g ∷ drop (i + 1) groups)) (sym c.group-item.is))
     ∙ c.loop-group.invariant
