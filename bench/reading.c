@@ -1,23 +1,25 @@
 /* Loaded before a program, adds up what the reads take that are made on the thread on which the program began: the
-   reading beside which no work is done. At the end it writes the microseconds to the file BENCH_READING. */
+   reading beside which no work is done. The nanoseconds stand in the file BENCH_READING, as a long. */
 #define _GNU_SOURCE
 #include <dlfcn.h>
-#include <stdio.h>
+#include <fcntl.h>
 #include <stdlib.h>
+#include <sys/mman.h>
 #include <time.h>
 #include <unistd.h>
 
 static _Thread_local int is_first;
-static long nanoseconds;
+static long *nanoseconds;
 
-__attribute__((constructor)) static void load(void) { is_first = 1; }
-
-__attribute__((destructor)) static void note(void) {
+__attribute__((constructor)) static void load(void) {
     const char *path = getenv("BENCH_READING");
-    FILE *file = path ? fopen(path, "w") : NULL;
-    if (!file) return;
-    fprintf(file, "%ld\n", nanoseconds / 1000);
-    fclose(file);
+    int file = path ? open(path, O_RDWR | O_CREAT | O_TRUNC, 0644) : -1;
+    if (file < 0 || ftruncate(file, sizeof(long)) < 0) return;
+    void *note = mmap(NULL, sizeof(long), PROT_READ | PROT_WRITE, MAP_SHARED, file, 0);
+    close(file);
+    if (note == MAP_FAILED) return;
+    nanoseconds = note;
+    is_first = 1;
 }
 
 static long now(void) {
@@ -32,6 +34,6 @@ ssize_t read(int file, void *bytes, size_t len) {
     if (!is_first) return below(file, bytes, len);
     long begin = now();
     ssize_t count = below(file, bytes, len);
-    nanoseconds += now() - begin;
+    *nanoseconds += now() - begin;
     return count;
 }
