@@ -268,7 +268,7 @@ fn buffer_of(alloc: Global, size: usize) -> Result<Vec<u8>, AllocError>
     }
 }
 
-/// An input that is read in rounds: whole lines, as many as the buffer holds. Of each line at most 1,048,577
+/// An input that is read in rounds of whole lines, of which no round is longer than is asked. Of each line at most 1,048,577
 /// bytes are given, which is enough to tell that it is too long.
 #[derive(Drop)]
 pub struct Rounds<R: Read + Drop> {
