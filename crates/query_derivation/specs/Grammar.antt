@@ -12,10 +12,10 @@ use Rattle.query_derivation.specs.Predicates.{IsExpression, IsPredicate}
 
 -- ---- the query
 
--- item = expr [ AS name ]
+-- item = expr [ AS name ], with at most 64 levels of brackets in a FILTER, its own among them
 pub data IsItem : List Token → ItemForm → List Token → Type 0 where
-  plain : {ts r : List Token} {e : ExpressionForm} → IsExpression ts e r → IsItem ts record { expression = e; alias = None } r
-  named : {ts r : List Token} {e : ExpressionForm} {n : List ℕ} → IsExpression ts e (tokens.Word w.As ∷ tokens.Name n ∷ r) → IsItem ts record { expression = e; alias = Some n } r
+  plain : {ts r : List Token} {e : ExpressionForm} → IsExpression (IsPredicate 64) ts e r → IsItem ts record { expression = e; alias = None } r
+  named : {ts r : List Token} {e : ExpressionForm} {n : List ℕ} → IsExpression (IsPredicate 64) ts e (tokens.Word w.As ∷ tokens.Name n ∷ r) → IsItem ts record { expression = e; alias = Some n } r
 
 -- [ WHERE pred ], with at most 64 levels of brackets
 pub data IsWhere : List Token → Option PredicateForm → List Token → Type 0 where
@@ -73,9 +73,9 @@ pub data IsNullOrdering (descending : Bool) : List Token → Bool → List Token
   first : {r : List Token} → IsNullOrdering descending (tokens.Word w.Nulls ∷ tokens.Word w.First ∷ r) true r
   last : {r : List Token} → IsNullOrdering descending (tokens.Word w.Nulls ∷ tokens.Word w.Last ∷ r) false r
 
--- key = expr [ ASC | DESC ] [ NULLS FIRST | NULLS LAST ]
+-- key = expr [ ASC | DESC ] [ NULLS FIRST | NULLS LAST ], with at most 64 levels of brackets in a FILTER, its own among them
 pub data IsKey : List Token → KeyForm → List Token → Type 0 where
-  key : {ts u v r : List Token} {e : ExpressionForm} {d n : Bool} → IsExpression ts e u → IsDirection u d v → IsNullOrdering d v n r → IsKey ts record { expression = e; descending = d; nulls_first = n } r
+  key : {ts u v r : List Token} {e : ExpressionForm} {d n : Bool} → IsExpression (IsPredicate 64) ts e u → IsDirection u d v → IsNullOrdering d v n r → IsKey ts record { expression = e; descending = d; nulls_first = n } r
 
 -- [ ORDER BY key { "," key } ]
 pub data IsOrderBy : List Token → List KeyForm → List Token → Type 0 where

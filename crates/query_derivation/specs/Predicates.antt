@@ -10,43 +10,46 @@ use Rattle.query_tokens.specs.declared.token.Sign.TheVariants as s
 use Rattle.query_tree.specs.declared.expression.Aggregate.{Aggregate}
 use Rattle.query_tree.specs.declared.predicate.Literal.{Literal}
 use Rattle.query_derivation.specs.Leaves.{Derivation, IsRepeated, IsName, IsAggregate, IsLiteral, IsOp, IsTruthValue, IsMark}
-use Rattle.query_tree.specs.Syntax.{ExpressionForm, FunctionForm, OperandForm, PredicateForm, over_all, or_of, and_of, not_of, truth_test, predicate_forms}
+use Rattle.query_tree.specs.Syntax.{ExpressionForm, FunctionForm, OperandForm, PredicateForm, over_all, over_filtered, or_of, and_of, not_of, truth_test, predicate_forms}
 
 -- ---- expressions
 
--- setfn
-pub data IsFunction : List Token → FunctionForm → List Token → Type 0 where
-  plain : {ts r : List Token} {f : Aggregate} → IsAggregate ts f r → IsFunction ts (over_all f) r
+-- setfn, which is a set function, and behind it [ FILTER "(" WHERE pred ")" ], where IsInner is what may stand in the
+-- brackets of FILTER
+pub data IsFunction (IsInner : Derivation PredicateForm) : List Token → FunctionForm → List Token → Type 0 where
+  plain : {ts r : List Token} {f : Aggregate} → IsAggregate ts f r → IsFunction IsInner ts (over_all f) r
+  filtered : {ts mid r : List Token} {f : Aggregate} {p : PredicateForm} → IsAggregate ts f (tokens.Word w.Filter ∷ tokens.Sign s.Open ∷ tokens.Word w.Where ∷ mid) → IsInner mid p (tokens.Sign s.Close ∷ r)
+      → IsFunction IsInner ts (over_filtered f p) r
 
 -- expr = name | GROUPING "(" name { "," name } ")" | setfn, with at most 8 names in a GROUPING
-pub data IsExpression : List Token → ExpressionForm → List Token → Type 0 where
-  name : {n : List ℕ} {r : List Token} → IsExpression (tokens.Name n ∷ r) (ExpressionForm.name n) r
-  grouping : {mid r : List Token} {n : List ℕ} {ns : List (List ℕ)} → IsRepeated (tokens.Sign s.Comma) IsName mid ns (tokens.Sign s.Close ∷ r) → length ns < 8 → IsExpression (tokens.Word w.Grouping ∷ tokens.Sign s.Open ∷ tokens.Name n ∷ mid) (ExpressionForm.grouping (n ∷ ns)) r
-  function : {ts r : List Token} {f : FunctionForm} → IsFunction ts f r → IsExpression ts (ExpressionForm.function f) r
+pub data IsExpression (IsInner : Derivation PredicateForm) : List Token → ExpressionForm → List Token → Type 0 where
+  name : {n : List ℕ} {r : List Token} → IsExpression IsInner (tokens.Name n ∷ r) (ExpressionForm.name n) r
+  grouping : {mid r : List Token} {n : List ℕ} {ns : List (List ℕ)} → IsRepeated (tokens.Sign s.Comma) IsName mid ns (tokens.Sign s.Close ∷ r) → length ns < 8 → IsExpression IsInner (tokens.Word w.Grouping ∷ tokens.Sign s.Open ∷ tokens.Name n ∷ mid) (ExpressionForm.grouping (n ∷ ns)) r
+  function : {ts r : List Token} {f : FunctionForm} → IsFunction IsInner ts f r → IsExpression IsInner ts (ExpressionForm.function f) r
 
 -- ---- predicates
 
 -- operand = expr | literal
-pub data IsOperand : List Token → OperandForm → List Token → Type 0 where
-  expression : {ts r : List Token} {e : ExpressionForm} → IsExpression ts e r → IsOperand ts (OperandForm.expression e) r
-  literal : {ts r : List Token} {a : Literal} → IsLiteral ts a r → IsOperand ts (OperandForm.literal a) r
+pub data IsOperand (IsInner : Derivation PredicateForm) : List Token → OperandForm → List Token → Type 0 where
+  expression : {ts r : List Token} {e : ExpressionForm} → IsExpression IsInner ts e r → IsOperand IsInner ts (OperandForm.expression e) r
+  literal : {ts r : List Token} {a : Literal} → IsLiteral ts a r → IsOperand IsInner ts (OperandForm.literal a) r
 
 -- atom = operand cmp operand
 --      | operand [ NOT ] BETWEEN operand AND operand
 --      | operand [ NOT ] IN "(" literal { "," literal } ")", with at most 64 literals
 --      | operand IS [ NOT ] NULL
 --      | name
-pub data IsAtom : List Token → PredicateForm → List Token → Type 0 where
-  compare : {ts u v r : List Token} {x y : OperandForm} {o : Op} → IsOperand ts x u → IsOp u o v → IsOperand v y r → IsAtom ts (PredicateForm.compare x o y) r
-  between : {ts u v mid r : List Token} {x y z : OperandForm} {n : Bool} → IsOperand ts x u → IsMark u n (tokens.Word w.Between ∷ v) → IsOperand v y (tokens.Word w.And ∷ mid) → IsOperand mid z r → IsAtom ts (PredicateForm.between x n y z) r
-  member : {ts u v mid r : List Token} {x : OperandForm} {n : Bool} {a : Literal} {ls : List Literal} → IsOperand ts x u → IsMark u n (tokens.Word w.In ∷ tokens.Sign s.Open ∷ v) → IsLiteral v a mid → IsRepeated (tokens.Sign s.Comma) IsLiteral mid ls (tokens.Sign s.Close ∷ r) → length ls < 64 → IsAtom ts (PredicateForm.member x n (a ∷ ls)) r
-  null_test : {ts u r : List Token} {x : OperandForm} {n : Bool} → IsOperand ts x (tokens.Word w.Is ∷ u) → IsMark u n (tokens.Word w.Null ∷ r) → IsAtom ts (PredicateForm.null_test x n) r
-  column : {n : List ℕ} {r : List Token} → IsAtom (tokens.Name n ∷ r) (PredicateForm.column n) r
+pub data IsAtom (IsInner : Derivation PredicateForm) : List Token → PredicateForm → List Token → Type 0 where
+  compare : {ts u v r : List Token} {x y : OperandForm} {o : Op} → IsOperand IsInner ts x u → IsOp u o v → IsOperand IsInner v y r → IsAtom IsInner ts (PredicateForm.compare x o y) r
+  between : {ts u v mid r : List Token} {x y z : OperandForm} {n : Bool} → IsOperand IsInner ts x u → IsMark u n (tokens.Word w.Between ∷ v) → IsOperand IsInner v y (tokens.Word w.And ∷ mid) → IsOperand IsInner mid z r → IsAtom IsInner ts (PredicateForm.between x n y z) r
+  member : {ts u v mid r : List Token} {x : OperandForm} {n : Bool} {a : Literal} {ls : List Literal} → IsOperand IsInner ts x u → IsMark u n (tokens.Word w.In ∷ tokens.Sign s.Open ∷ v) → IsLiteral v a mid → IsRepeated (tokens.Sign s.Comma) IsLiteral mid ls (tokens.Sign s.Close ∷ r) → length ls < 64 → IsAtom IsInner ts (PredicateForm.member x n (a ∷ ls)) r
+  null_test : {ts u r : List Token} {x : OperandForm} {n : Bool} → IsOperand IsInner ts x (tokens.Word w.Is ∷ u) → IsMark u n (tokens.Word w.Null ∷ r) → IsAtom IsInner ts (PredicateForm.null_test x n) r
+  column : {n : List ℕ} {r : List Token} → IsAtom IsInner (tokens.Name n ∷ r) (PredicateForm.column n) r
 
 -- prim = "(" pred ")" | atom
 pub data IsPrimary (IsInner : Derivation PredicateForm) : List Token → PredicateForm → List Token → Type 0 where
   brackets : {ts r : List Token} {p : PredicateForm} → IsInner ts p (tokens.Sign s.Close ∷ r) → IsPrimary IsInner (tokens.Sign s.Open ∷ ts) p r
-  atom : {ts r : List Token} {p : PredicateForm} → IsAtom ts p r → IsPrimary IsInner ts p r
+  atom : {ts r : List Token} {p : PredicateForm} → IsAtom IsInner ts p r → IsPrimary IsInner ts p r
 
 -- test = prim [ IS [ NOT ] ( TRUE | FALSE | UNKNOWN ) ]
 pub data IsTest (IsInner : Derivation PredicateForm) : List Token → PredicateForm → List Token → Type 0 where

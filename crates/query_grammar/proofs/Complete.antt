@@ -7,28 +7,41 @@ use Rattle.query_tokens.specs.declared.token.Word.TheVariants as w
 use Rattle.query_tokens.specs.declared.token.Sign.TheVariants as s
 use Rattle.query_tokens.proofs.Inversions.{some_is}
 use Rattle.query_tree.specs.declared.tree.Tree.{Tree}
-use Rattle.query_tree.specs.Syntax.{PredicateForm, ElementForm, ItemForm, KeyForm, TreeForm, tree_form}
+use Rattle.query_tree.specs.Syntax.{ExpressionForm, PredicateForm, ElementForm, ItemForm, KeyForm, TreeForm, tree_form}
 use Rattle.query_leaves.specs.declared.fault.GrammarFault.{GrammarFault}
 use Rattle.query_leaves.specs.declared.fault.GrammarFault.TheVariants as faults
 use Rattle.query_leaves.specs.Fronts.{is_word, is_sign, after}
 use Rattle.query_leaves.specs.Steps.{Gives, name_at}
 use Rattle.query_grammar.specs.GroupSteps.{group_at}
 use Rattle.query_grammar.specs.QuerySteps.{alias_at, item_at, items_at, from_at, clause_at, groups_at, select_at, records_at, rows_at, query_at, whole_at}
+use Rattle.query_predicates.specs.ExpressionSteps.{expression_at}
+use Rattle.query_predicates.specs.PredicateSteps.{predicate_at}
+use Rattle.query_derivation.specs.Predicates.{IsExpression, IsPredicate}
 use Rattle.query_derivation.specs.Grammar.{IsItem, IsWhere, IsGroup, IsGroupBy, IsHaving, IsOrderBy, IsQuery, Derives}
 use Rattle.query_leaves.proofs.CompleteLists.{repeated_follow, repeated_c, unlimited_c}
-use Rattle.query_predicates.proofs.CompleteExpressions.{expression_c}
-use Rattle.query_predicates.proofs.CompletePredicates.{EndsPredicate, group_ends, having_ends, order_ends, nil_ends, predicate_c}
+use Rattle.query_predicates.proofs.CompleteExpressions.{EndsFunction, expression_c}
+use Rattle.query_predicates.proofs.CompletePredicates.{EndsPredicate, group_ends, having_ends, order_ends, nil_ends, predicate_c, bracketed_c}
 use Rattle.query_grammar.proofs.CompleteGroups.{group_short, group_c}
 use Rattle.query_grammar.proofs.CompleteKeys.{EndsKeys, keys_c, nil_ends_keys}
 
--- No alias goes on an item that ends here.
-abbrev EndsItem : List Token → Type 0
-EndsItem r = after (is_word w.As) r ≡ None
+-- Neither a FILTER nor an alias goes on an item that ends here.
+record EndsItem (r : List Token) : Type 0 where
+  no_filter : EndsFunction r
+  no_as : after (is_word w.As) r ≡ None
+
+item_expression_c : {ts r : List Token} {e : ExpressionForm} → IsExpression (IsPredicate 64) ts e r → EndsFunction r → expression_at (predicate_at 64) ts ≡ Some (e, r)
+item_expression_c i q = expression_c (IsPredicate 64) (predicate_at 64) (bracketed_c 64) i q
+
+comma_ends_item : (ts : List Token) → EndsItem (tokens.Sign s.Comma ∷ ts)
+comma_ends_item ts = record { no_filter = refl; no_as = refl }
+
+from_ends_item : (ts : List Token) → EndsItem (tokens.Word w.From ∷ ts)
+from_ends_item ts = record { no_filter = refl; no_as = refl }
 
 item_c : (ts r : List Token) (i : ItemForm) → IsItem ts i r → EndsItem r → item_at ts ≡ Some (i, r)
 unfolding item_at alias_at name_at
-item_c _ _ _ (IsItem.plain e) q = rw (expression_c e, q) refl
-item_c _ _ _ (IsItem.named e) q = rw (expression_c e) refl
+item_c _ _ _ (IsItem.plain e) q = rw (item_expression_c e q.no_filter, q.no_as) refl
+item_c _ _ _ (IsItem.named e) q = rw (item_expression_c e refl) refl
 
 from_c : (r : List Token) → from_at (tokens.Word w.From ∷ tokens.Name (codes "lines") ∷ r) ≡ Some r
 unfolding from_at name_at
@@ -95,8 +108,8 @@ query_c (IsQuery.query {ts} {mid} {after_from} {after_where} {after_groups} {aft
     let behind_groups : EndsHaving after_having = keys_begin d_keys q in
     let behind_where : EndsGroups after_groups = having_begins d_having behind_groups in
     rw (
-      item_c ts mid i first (repeated_follow (tokens.Sign s.Comma) IsItem EndsItem (λ _. refl) others refl),
-      repeated_c (tokens.Sign s.Comma) (is_sign s.Comma) IsItem item_at EndsItem refl (λ _. refl) item_c others 63 (omega arith) refl refl,
+      item_c ts mid i first (repeated_follow (tokens.Sign s.Comma) IsItem EndsItem comma_ends_item others (from_ends_item _)),
+      repeated_c (tokens.Sign s.Comma) (is_sign s.Comma) IsItem item_at EndsItem refl comma_ends_item item_c others 63 (omega arith) (from_ends_item _) refl,
       from_c after_from,
       where_c d_where (groups_begin d_groups behind_where),
       groups_c d_groups behind_where,

@@ -7,7 +7,10 @@ use Rattle.query_tokens.specs.declared.token.Sign.TheVariants as s
 use Rattle.query_tree.specs.Syntax.{KeyForm}
 use Rattle.query_leaves.specs.Fronts.{is_word, is_sign, after}
 use Rattle.query_leaves.proofs.CompleteLists.{Shrinks, repeated_follow, unlimited_c}
-use Rattle.query_predicates.proofs.CompleteExpressions.{expression_c, expression_short}
+use Rattle.query_predicates.proofs.CompleteExpressions.{EndsFunction, expression_c, expression_short}
+use Rattle.query_predicates.proofs.CompletePredicates.{predicate_short, bracketed_c}
+use Rattle.query_predicates.specs.PredicateSteps.{predicate_at}
+use Rattle.query_derivation.specs.Predicates.{IsPredicate}
 use Rattle.query_grammar.specs.KeySteps.{direction_at, null_ordering_at, key_at, keys_at}
 use Rattle.query_derivation.specs.Grammar.{IsDirection, IsNullOrdering, IsKey, IsOrderBy}
 
@@ -16,8 +19,9 @@ pub record EndsDirection (r : List Token) : Type 0 where
   pub no_asc : after (is_word w.Asc) r ≡ None
   pub no_desc : after (is_word w.Desc) r ≡ None
 
--- Nothing goes on a key that ends here.
+-- Nothing goes on a key that ends here, and no FILTER on its set function.
 pub record EndsKey (r : List Token) : Type 0 where
+  pub no_filter : EndsFunction r
   pub direction : EndsDirection r
   pub no_nulls : after (is_word w.Nulls) r ≡ None
 
@@ -45,9 +49,20 @@ null_ordering_begins IsNullOrdering.none q = q.direction
 null_ordering_begins IsNullOrdering.first q = record { no_asc = refl; no_desc = refl }
 null_ordering_begins IsNullOrdering.last q = record { no_asc = refl; no_desc = refl }
 
+-- No FILTER begins where the place of NULL is said, written or not, nor where the direction is.
+null_ordering_filter : {ts r : List Token} {d n : Bool} → IsNullOrdering d ts n r → EndsKey r → EndsFunction ts
+null_ordering_filter IsNullOrdering.none q = q.no_filter
+null_ordering_filter IsNullOrdering.first q = refl
+null_ordering_filter IsNullOrdering.last q = refl
+
+direction_filter : {ts r : List Token} {d : Bool} → IsDirection ts d r → EndsFunction r → EndsFunction ts
+direction_filter IsDirection.none q = q
+direction_filter IsDirection.ascending q = refl
+direction_filter IsDirection.descending q = refl
+
 key_c : (ts r : List Token) (k : KeyForm) → IsKey ts k r → EndsKey r → key_at ts ≡ Some (k, r)
 unfolding key_at
-key_c _ _ _ (IsKey.key e d n) q = rw (expression_c e, direction_c d (null_ordering_begins n q), null_ordering_c n q) refl
+key_c _ _ _ (IsKey.key e d n) q = rw (expression_c (IsPredicate 64) (predicate_at 64) (bracketed_c 64) e (direction_filter d (null_ordering_filter n q)), direction_c d (null_ordering_begins n q), null_ordering_c n q) refl
 
 direction_short : {ts r : List Token} {d : Bool} → IsDirection ts d r → length r ≤ length ts
 direction_short IsDirection.none = omega arith
@@ -60,10 +75,10 @@ null_ordering_short IsNullOrdering.first = omega arith
 null_ordering_short IsNullOrdering.last = omega arith
 
 key_short : Shrinks IsKey
-key_short _ _ _ (IsKey.key {ts} {u} {v} {r} {e} p d n) = omega (arith, expression_short ts u e p, direction_short d, null_ordering_short n)
+key_short _ _ _ (IsKey.key {ts} {u} {v} {r} {e} p d n) = omega (arith, expression_short (IsPredicate 64) (predicate_short 64) ts u e p, direction_short d, null_ordering_short n)
 
 comma_ends : (ts : List Token) → EndsKey (tokens.Sign s.Comma ∷ ts)
-comma_ends ts = record { direction = record { no_asc = refl; no_desc = refl }; no_nulls = refl }
+comma_ends ts = record { no_filter = refl; direction = record { no_asc = refl; no_desc = refl }; no_nulls = refl }
 
 pub keys_c : {ts r : List Token} {ks : List KeyForm} → IsOrderBy ts ks r → EndsKeys r → keys_at ts ≡ Some (ks, r)
 unfolding keys_at
@@ -75,4 +90,4 @@ keys_c (IsOrderBy.keys {ts} {mid} {r} {k} {ks} p b) q =
     ) refl
 
 pub nil_ends_keys : EndsKeys []
-nil_ends_keys = record { key = record { direction = record { no_asc = refl; no_desc = refl }; no_nulls = refl }; no_order = refl; no_comma = refl }
+nil_ends_keys = record { key = record { no_filter = refl; direction = record { no_asc = refl; no_desc = refl }; no_nulls = refl }; no_order = refl; no_comma = refl }

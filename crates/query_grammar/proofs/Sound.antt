@@ -35,7 +35,7 @@ use Rattle.query_grammar.proofs.SoundKeys.{keys_s}
 item_of : ExpressionForm → Option (List ℕ) → ItemForm
 item_of e a = record { expression = e; alias = a }
 
-alias_s : (ts mid : List Token) (e : ExpressionForm) (x : Option (List ℕ) × List Token) → IsExpression ts e mid → alias_at mid ≡ Some x → IsItem ts (item_of e x.0) x.1
+alias_s : (ts mid : List Token) (e : ExpressionForm) (x : Option (List ℕ) × List Token) → IsExpression (IsPredicate 64) ts e mid → alias_at mid ≡ Some x → IsItem ts (item_of e x.0) x.1
 unfolding alias_at item_of
 alias_s ts mid e x p d =
     elim (choose_some (after (is_word w.As) mid) (Some (None, mid)) (λ r. name_at r >>= λ n. Some (Some n.0, n.1)) x d) [
@@ -48,9 +48,9 @@ alias_s ts mid e x p d =
 item_s : IsSound IsItem item_at
 unfolding item_at item_of
 item_s ts x e =
-    let a = bind_some (expression_at ts) (λ e. alias_at e.1 >>= λ a. Some (item_of e.0 a.0, a.1)) x e in
+    let a = bind_some (expression_at (predicate_at 64) ts) (λ e. alias_at e.1 >>= λ a. Some (item_of e.0 a.0, a.1)) x e in
     let b = bind_some (alias_at a.0.1) (λ b. Some (item_of a.0.0 b.0, b.1)) x a.2 in
-    read_as IsItem b.2 (alias_s ts a.0.1 a.0.0 b.0 (expression_s ts a.0 a.1) b.1)
+    read_as IsItem b.2 (alias_s ts a.0.1 a.0.0 b.0 (expression_s (IsPredicate 64) (predicate_at 64) (predicate_s 64) ts a.0 a.1) b.1)
 
 items_s : (ts : List Token) (y : List ItemForm × List Token) → items_at ts ≡ Some y → IsListed IsItem 63 ts y
 unfolding items_at

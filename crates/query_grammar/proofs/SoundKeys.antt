@@ -10,9 +10,12 @@ use Rattle.query_tree.specs.Syntax.{ExpressionForm, KeyForm}
 use Rattle.query_leaves.specs.Fronts.{is_word, is_sign, after}
 use Rattle.query_leaves.specs.Steps.{with_front, more}
 use Rattle.query_predicates.specs.ExpressionSteps.{expression_at}
+use Rattle.query_predicates.specs.PredicateSteps.{predicate_at}
+use Rattle.query_derivation.specs.Predicates.{IsPredicate}
 use Rattle.query_leaves.proofs.Heads.{after_word_is}
 use Rattle.query_leaves.proofs.SoundLists.{IsSound, only_some, read_as, begins_as, listed_s}
 use Rattle.query_predicates.proofs.SoundExpressions.{expression_s}
+use Rattle.query_predicates.proofs.SoundPredicates.{predicate_s}
 use Rattle.query_grammar.specs.GroupSteps.{all_at}
 use Rattle.query_grammar.specs.KeySteps.{direction_at, null_ordering_at, key_at, keys_at}
 use Rattle.query_derivation.specs.Grammar.{IsDirection, IsNullOrdering, IsKey, IsOrderBy}
@@ -58,10 +61,10 @@ key_of e d n = record { expression = e; descending = d; nulls_first = n }
 key_s : IsSound IsKey key_at
 unfolding key_at key_of
 key_s ts x e =
-    let a = bind_some (expression_at ts) (λ e. null_ordering_at (direction_at e.1).0 (direction_at e.1).1 >>= λ n. Some (key_of e.0 (direction_at e.1).0 n.0, n.1)) x e in
+    let a = bind_some (expression_at (predicate_at 64) ts) (λ e. null_ordering_at (direction_at e.1).0 (direction_at e.1).1 >>= λ n. Some (key_of e.0 (direction_at e.1).0 n.0, n.1)) x e in
     let d = direction_at a.0.1 in
     let b = bind_some (null_ordering_at d.0 d.1) (λ n. Some (key_of a.0.0 d.0 n.0, n.1)) x a.2 in
-    read_as IsKey b.2 (IsKey.key (expression_s ts a.0 a.1) (direction_s a.0.1) (null_ordering_s d.0 d.1 b.0 b.1))
+    read_as IsKey b.2 (IsKey.key (expression_s (IsPredicate 64) (predicate_at 64) (predicate_s 64) ts a.0 a.1) (direction_s a.0.1) (null_ordering_s d.0 d.1 b.0 b.1))
 
 pub keys_s : IsSound IsOrderBy keys_at
 unfolding keys_at

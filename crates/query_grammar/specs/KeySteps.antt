@@ -8,6 +8,7 @@ use Rattle.query_tree.specs.Syntax.{KeyForm}
 use Rattle.query_leaves.specs.Fronts.{is_word, after}
 use Rattle.query_leaves.specs.Steps.{Reader}
 use Rattle.query_predicates.specs.ExpressionSteps.{expression_at}
+use Rattle.query_predicates.specs.PredicateSteps.{predicate_at}
 use Rattle.query_grammar.specs.GroupSteps.{all_at}
 
 -- Whether DESC is written, and what stands behind it or behind ASC.
@@ -21,7 +22,7 @@ null_ordering_at descending ts = choose (after (is_word w.Nulls) ts) (Some (desc
 
 -- A key.
 unfoldable pub key_at : Reader KeyForm
-key_at ts = expression_at ts >>= λ e. null_ordering_at (direction_at e.1).0 (direction_at e.1).1 >>= λ n.
+key_at ts = expression_at (predicate_at 64) ts >>= λ e. null_ordering_at (direction_at e.1).0 (direction_at e.1).1 >>= λ n.
     Some (record { expression = e.0; descending = (direction_at e.1).0; nulls_first = n.0 }, n.1)
 
 -- The keys of ORDER BY, or none.

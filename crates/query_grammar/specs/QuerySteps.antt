@@ -20,7 +20,7 @@ alias_at ts = choose (after (is_word w.As) ts) (Some (None, ts)) (λ a. name_at 
 
 -- An item.
 unfoldable pub item_at : Reader ItemForm
-item_at ts = expression_at ts >>= λ e. alias_at e.1 >>= λ a. Some (record { expression = e.0; alias = a.0 }, a.1)
+item_at ts = expression_at (predicate_at 64) ts >>= λ e. alias_at e.1 >>= λ a. Some (record { expression = e.0; alias = a.0 }, a.1)
 
 -- The items of SELECT.
 unfoldable pub items_at : Reader (List ItemForm)

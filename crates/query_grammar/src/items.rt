@@ -6,7 +6,7 @@ ghost use Rattle.query_leaves.specs.Steps.{Gives};
 ghost use Rattle.query_grammar.specs.QuerySteps.{alias_at, item_at, items_at};
 
 use query_leaves::{GrammarFault, Listed, after_word, expect_name, keep, more_parts};
-use query_predicates::{begins_expression, expression};
+use query_predicates::{MOST_LEVELS, begins_expression, expression};
 use query_tokens::{Token, Word};
 use query_tree::{Item, Text};
 use std::alloc::Global;
@@ -33,7 +33,7 @@ fn item(alloc: Global, tokens: &[Token]) -> Result<(Item, &[Token]), GrammarFaul
     ensures exact { Gives (λ x. (item_form x.0, x.1.now)) result (item_at tokens.now) }
     ensures shorter { IfOk result (λ x. length x.1.now < length tokens.now) }
 {
-    let (expression, rest) = expression(alloc, tokens)?;
+    let (expression, rest) = expression(alloc, tokens, MOST_LEVELS)?;
     let (expression, (alias, rest)) = keep(expression, alias(rest))?;
     Ok((Item { expression, alias }, rest))
 }

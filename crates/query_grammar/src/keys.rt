@@ -6,7 +6,7 @@ ghost use Rattle.query_leaves.specs.Steps.{Gives};
 ghost use Rattle.query_grammar.specs.KeySteps.{direction_at, null_ordering_at, key_at, keys_at};
 
 use query_leaves::{GrammarFault, Listed, after_word, expect_word, keep, more_parts};
-use query_predicates::{begins_expression, expression};
+use query_predicates::{MOST_LEVELS, begins_expression, expression};
 use query_tokens::{Token, Word};
 use query_tree::Key;
 use std::alloc::Global;
@@ -48,7 +48,7 @@ fn key(alloc: Global, tokens: &[Token]) -> Result<(Key, &[Token]), GrammarFault>
     ensures exact { Gives (λ x. (key_form x.0, x.1.now)) result (key_at tokens.now) }
     ensures shorter { IfOk result (λ x. length x.1.now < length tokens.now) }
 {
-    let (expression, rest) = expression(alloc, tokens)?;
+    let (expression, rest) = expression(alloc, tokens, MOST_LEVELS)?;
     let (descending, rest) = direction(rest);
     let (expression, (nulls_first, rest)) = keep(expression, null_ordering(rest, descending))?;
     let key = Key {

@@ -13,6 +13,7 @@ use Rattle.query_derivation.specs.Leaves.{Derivation}
 use Rattle.query_derivation.specs.Predicates.{IsPrimary, IsTest, IsNegation, IsConjunction, IsDisjunction, IsPredicate}
 use Rattle.query_leaves.proofs.CompleteLists.{Shrinks, repeated_short, repeated_follow, unlimited_c}
 use Rattle.query_leaves.proofs.CompleteLeaves.{truth_short, mark_short}
+use Rattle.query_predicates.proofs.CompleteExpressions.{IsComplete}
 use Rattle.query_predicates.proofs.CompleteAtoms.{EndsTest, atom_begins, atom_c, atom_test_c, test_none, test_some, atom_short}
 
 -- ---- what may stand behind a predicate and its parts
@@ -27,49 +28,45 @@ pub record EndsPredicate (r : List Token) : Type 0 where
 
 and_ends : (ts : List Token) → EndsTest (tokens.Word w.And ∷ ts)
 unfolding op_at
-and_ends ts = record { no_op = refl; no_not = refl; no_in = refl; no_between = refl; no_is = refl }
+and_ends ts = record { no_filter = refl; no_op = refl; no_not = refl; no_in = refl; no_between = refl; no_is = refl }
 
 or_ends : (ts : List Token) → EndsConjunction (tokens.Word w.Or ∷ ts)
 unfolding op_at
-or_ends ts = record { test = record { no_op = refl; no_not = refl; no_in = refl; no_between = refl; no_is = refl }; no_and = refl }
+or_ends ts = record { test = record { no_filter = refl; no_op = refl; no_not = refl; no_in = refl; no_between = refl; no_is = refl }; no_and = refl }
 
 close_ends : (ts : List Token) → EndsPredicate (tokens.Sign s.Close ∷ ts)
 unfolding op_at
-close_ends ts = record { conjunction = record { test = record { no_op = refl; no_not = refl; no_in = refl; no_between = refl; no_is = refl }; no_and = refl }; no_or = refl }
+close_ends ts = record { conjunction = record { test = record { no_filter = refl; no_op = refl; no_not = refl; no_in = refl; no_between = refl; no_is = refl }; no_and = refl }; no_or = refl }
 
 pub group_ends : (ts : List Token) → EndsPredicate (tokens.Word w.Group ∷ ts)
 unfolding op_at
-group_ends ts = record { conjunction = record { test = record { no_op = refl; no_not = refl; no_in = refl; no_between = refl; no_is = refl }; no_and = refl }; no_or = refl }
+group_ends ts = record { conjunction = record { test = record { no_filter = refl; no_op = refl; no_not = refl; no_in = refl; no_between = refl; no_is = refl }; no_and = refl }; no_or = refl }
 
 pub having_ends : (ts : List Token) → EndsPredicate (tokens.Word w.Having ∷ ts)
 unfolding op_at
-having_ends ts = record { conjunction = record { test = record { no_op = refl; no_not = refl; no_in = refl; no_between = refl; no_is = refl }; no_and = refl }; no_or = refl }
+having_ends ts = record { conjunction = record { test = record { no_filter = refl; no_op = refl; no_not = refl; no_in = refl; no_between = refl; no_is = refl }; no_and = refl }; no_or = refl }
 
 pub order_ends : (ts : List Token) → EndsPredicate (tokens.Word w.Order ∷ ts)
 unfolding op_at
-order_ends ts = record { conjunction = record { test = record { no_op = refl; no_not = refl; no_in = refl; no_between = refl; no_is = refl }; no_and = refl }; no_or = refl }
+order_ends ts = record { conjunction = record { test = record { no_filter = refl; no_op = refl; no_not = refl; no_in = refl; no_between = refl; no_is = refl }; no_and = refl }; no_or = refl }
 
 pub nil_ends : EndsPredicate []
 unfolding op_at
-nil_ends = record { conjunction = record { test = record { no_op = refl; no_not = refl; no_in = refl; no_between = refl; no_is = refl }; no_and = refl }; no_or = refl }
+nil_ends = record { conjunction = record { test = record { no_filter = refl; no_op = refl; no_not = refl; no_in = refl; no_between = refl; no_is = refl }; no_and = refl }; no_or = refl }
 
 -- ---- predicates
-
--- A reader that reads what derives before a closing bracket.
-abbrev IsComplete : Derivation PredicateForm → Reader PredicateForm → Type 0
-IsComplete P f = (ts r : List Token) (p : PredicateForm) → P ts p (tokens.Sign s.Close ∷ r) → f ts ≡ Some (p, tokens.Sign s.Close ∷ r)
 
 module _ (IsInner : Derivation PredicateForm) (inner : Reader PredicateForm) (inner_c : IsComplete IsInner inner) where
   test_c : {ts r : List Token} {p : PredicateForm} → IsTest IsInner ts p r → EndsTest r → test_at inner ts ≡ Some (p, r)
   unfolding test_at
-  test_c (IsTest.plain (IsPrimary.brackets {ts} {r} {p} i)) q = rw (inner_c ts r p i, test_none p r q.no_is) refl
-  test_c (IsTest.plain (IsPrimary.atom a)) q = rw ((atom_begins a).no_open, atom_c a q) refl
-  test_c (IsTest.test {u = u} (IsPrimary.brackets {ts} {p = p} i) m t) q = rw (inner_c ts (tokens.Word w.Is ∷ u) p i, test_some p m t) refl
-  test_c (IsTest.test (IsPrimary.atom a) m t) q = rw ((atom_begins a).no_open, atom_test_c a m t) refl
+  test_c (IsTest.plain (IsPrimary.brackets {ts} {r} {p} i)) q = rw (inner_c ts r p i, test_none IsInner inner inner_c p r q.no_is) refl
+  test_c (IsTest.plain (IsPrimary.atom a)) q = rw ((atom_begins IsInner inner inner_c a).no_open, atom_c IsInner inner inner_c a q) refl
+  test_c (IsTest.test {u = u} (IsPrimary.brackets {ts} {p = p} i) m t) q = rw (inner_c ts (tokens.Word w.Is ∷ u) p i, test_some IsInner inner inner_c p m t) refl
+  test_c (IsTest.test (IsPrimary.atom a) m t) q = rw ((atom_begins IsInner inner inner_c a).no_open, atom_test_c IsInner inner inner_c a m t) refl
 
   primary_no_not : {ts r : List Token} {p : PredicateForm} → IsPrimary IsInner ts p r → after (is_word w.Not) ts ≡ None
   primary_no_not (IsPrimary.brackets i) = refl
-  primary_no_not (IsPrimary.atom a) = (atom_begins a).no_not
+  primary_no_not (IsPrimary.atom a) = (atom_begins IsInner inner inner_c a).no_not
 
   test_no_not : {ts r : List Token} {p : PredicateForm} → IsTest IsInner ts p r → after (is_word w.Not) ts ≡ None
   test_no_not (IsTest.plain i) = primary_no_not i
@@ -101,7 +98,7 @@ module _ (IsInner : Derivation PredicateForm) (inner : Reader PredicateForm) (in
 module _ (IsInner : Derivation PredicateForm) (short : Shrinks IsInner) where
   primary_short : Shrinks (IsPrimary IsInner)
   primary_short _ _ _ (IsPrimary.brackets {ts} {r} {p} i) = omega (arith, short ts (tokens.Sign s.Close ∷ r) p i)
-  primary_short _ _ _ (IsPrimary.atom a) = atom_short _ _ _ a
+  primary_short _ _ _ (IsPrimary.atom a) = atom_short IsInner short _ _ _ a
 
   test_short : Shrinks (IsTest IsInner)
   test_short _ _ _ (IsTest.plain i) = primary_short _ _ _ i
@@ -117,7 +114,7 @@ module _ (IsInner : Derivation PredicateForm) (short : Shrinks IsInner) where
   disjunction_short : Shrinks (IsDisjunction IsInner)
   disjunction_short _ _ _ (IsDisjunction.parts i b) = omega (arith, conjunction_short _ _ _ i, repeated_short (tokens.Word w.Or) (IsConjunction IsInner) conjunction_short b)
 
-predicate_short : (n : ℕ) → Shrinks (IsPredicate n)
+pub predicate_short : (n : ℕ) → Shrinks (IsPredicate n)
 unfolding IsPredicate
 predicate_short zero ts r p i = absurd i
 predicate_short (suc n) ts r p i = disjunction_short (IsPredicate n) (predicate_short n) ts r p i
@@ -128,3 +125,7 @@ predicate_c zero ts r p i q = absurd i
 predicate_c (suc n) ts r p i q =
     let inner_c : IsComplete (IsPredicate n) (predicate_at n) = λ us v x j. predicate_c n us (tokens.Sign s.Close ∷ v) x j (close_ends v) in
     disjunction_c (IsPredicate n) (predicate_at n) inner_c (negation_short (IsPredicate n) (predicate_short n)) (conjunction_short (IsPredicate n) (predicate_short n)) i q
+
+-- A predicate that derives before a closing bracket is read, as in the brackets of a FILTER.
+pub bracketed_c : (n : ℕ) → IsComplete (IsPredicate n) (predicate_at n)
+bracketed_c n ts r p i = predicate_c n ts (tokens.Sign s.Close ∷ r) p i (close_ends r)

@@ -20,13 +20,13 @@ module _ (IsInner : Derivation PredicateForm) (inner : Reader PredicateForm) (in
   test_s : IsSound (IsTest IsInner) (test_at inner)
   unfolding test_at
   test_s ts x e =
-      elim (choose_some (after (is_sign s.Open) ts) (tested_atom_at ts) (λ a. inner a >>= λ p. choose (after (is_sign s.Close) p.1) None (λ b. test_after p.0 b)) x e) [
-        | inl h ↦ tested_atom_s IsInner ts x h.1
+      elim (choose_some (after (is_sign s.Open) ts) (tested_atom_at inner ts) (λ a. inner a >>= λ p. choose (after (is_sign s.Close) p.1) None (λ b. test_after p.0 b)) x e) [
+        | inl h ↦ tested_atom_s IsInner inner inner_s ts x h.1
         | inr h ↦ (let a = bind_some (inner h.0) (λ p. choose (after (is_sign s.Close) p.1) None (λ b. test_after p.0 b)) x h.2 in
             let b = only_some (after (is_sign s.Close) a.0.1) (λ b. test_after a.0.0 b) x a.2 in
             let inside = leaves_as IsInner (after_sign_is s.Close a.0.1 b.0 b.1) (inner_s h.0 a.0 a.1) in
             let made : IsPrimary IsInner (tokens.Sign s.Open ∷ h.0) a.0.0 b.0 = IsPrimary.brackets inside in
-            test_after_s IsInner ts b.0 a.0.0 x (begins_as (IsPrimary IsInner) (after_sign_is s.Open ts h.0 h.1) made) b.2)
+            test_after_s IsInner inner inner_s ts b.0 a.0.0 x (begins_as (IsPrimary IsInner) (after_sign_is s.Open ts h.0 h.1) made) b.2)
       ]
 
   negation_s : IsSound (IsNegation IsInner) (negation_at inner)

@@ -13,7 +13,7 @@ use Rattle.query_predicates.specs.AtomSteps.{test_after, tested_atom_at}
 -- A predicate in brackets or an atom, and the truth test behind it, where there is one.
 unfoldable pub test_at : Reader PredicateForm → Reader PredicateForm
 test_at inner ts = choose (after (is_sign s.Open) ts)
-    (tested_atom_at ts)
+    (tested_atom_at inner ts)
     (λ a. inner a >>= λ p. choose (after (is_sign s.Close) p.1) None (λ b. test_after p.0 b))
 
 -- A test with NOT or without.
@@ -24,7 +24,7 @@ negation_at inner ts = choose (after (is_word w.Not) ts) (test_at inner ts) (λ 
 unfoldable pub conjunction_at : Reader PredicateForm → Reader PredicateForm
 conjunction_at inner ts = negation_at inner ts >>= λ p. more (is_word w.And) (negation_at inner) (length p.1) p.1 >>= λ ps. Some (conjunction_of p.0 ps.0, ps.1)
 
--- Parts joined by OR, where inner reads what may stand in brackets.
+-- Parts joined by OR, where inner reads what may stand in brackets, those of a FILTER too.
 unfoldable pub disjunction_at : Reader PredicateForm → Reader PredicateForm
 disjunction_at inner ts = conjunction_at inner ts >>= λ p. more (is_word w.Or) (conjunction_at inner) (length p.1) p.1 >>= λ ps. Some (disjunction_of p.0 ps.0, ps.1)
 

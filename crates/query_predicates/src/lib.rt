@@ -5,5 +5,5 @@ mod atoms;
 mod expressions;
 mod predicates;
 
-pub use expressions::{begins_expression, expression};
-pub use predicates::{MOST_LEVELS, predicate};
+pub use expressions::begins_expression;
+pub use predicates::{MOST_LEVELS, expression, predicate};

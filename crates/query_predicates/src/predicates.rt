@@ -1,18 +1,23 @@
-//! Reads predicates.
+//! Reads expressions and predicates, which hold one another: a FILTER is a predicate.
 
 ghost use Rattle.std.specs.Prelude.{◌≡◌, ◌<◌, ◌≤◌, length, map, IfOk, MatchResult};
 ghost use Rattle.query_tokens.specs.declared.token.Word.TheVariants.{And, Or};
-ghost use Rattle.query_tree.specs.Syntax.{predicate_form};
+ghost use Rattle.query_tree.specs.Syntax.{expression_form, function_form, operand_form, predicate_form};
 ghost use Rattle.query_leaves.specs.declared.fault.GrammarFault.TheVariants.{OutOfMemory};
 ghost use Rattle.query_leaves.specs.Fronts.{is_word};
 ghost use Rattle.query_derivation.specs.Predicates.{conjunction_of, disjunction_of};
 ghost use Rattle.query_leaves.specs.Steps.{Gives, more};
+ghost use Rattle.query_predicates.specs.ExpressionSteps.{filter_at, function_at, expression_at};
+ghost use Rattle.query_predicates.specs.AtomSteps.{operand_at, between_after, negated_after, atom_after, tested_atom_at};
 ghost use Rattle.query_predicates.specs.PredicateSteps.{test_at, negation_at, conjunction_at, predicate_at};
 
-use crate::atoms::{tested, tested_atom};
-use query_leaves::{GrammarFault, after_sign, after_word, expect_sign, keep};
+use crate::atoms::{column, member, null_or_truth_test, tested};
+use query_leaves::{
+    GrammarFault, after_sign, after_word, aggregate, expect_sign, expect_word, grouping_names, keep, literal,
+    name, operator,
+};
 use query_tokens::{Sign, Token, Word};
-use query_tree::Predicate;
+use query_tree::{Expression, Operand, Predicate, SetFunction};
 use std::alloc::Global;
 
 /// The most levels of brackets in a predicate.
@@ -42,6 +47,183 @@ fn or_of(first: Predicate, mut others: Vec<Predicate>) -> Result<Predicate, Gram
     Ok(Predicate::Or(others))
 }
 
+// ---- expressions
+
+/// The bracketed predicate behind FILTER.
+#[cycle(predicate)]
+#[tactic(auto, unfolding(crate::specs::ExpressionSteps::filter_at))]
+fn filter(
+    alloc: Global,
+    tokens: &[Token],
+    levels: u32,
+) -> Result<(Predicate, &[Token]), GrammarFault>
+    ensures exact { Gives (λ x. (predicate_form x.0, x.1.now)) result (filter_at (predicate_at levels) tokens.now) }
+    ensures shorter { IfOk result (λ x. length x.1.now < length tokens.now) }
+{
+    let rest = expect_sign(tokens, Sign::Open)?;
+    let rest = expect_word(rest, Word::Where)?;
+    let (inner, rest) = predicate(alloc, rest, levels)?;
+    keep(inner, expect_sign(rest, Sign::Close))
+}
+
+/// A set function, and the FILTER behind it, where there is one.
+#[cycle(predicate)]
+#[tactic(auto, unfolding(crate::specs::ExpressionSteps::function_at))]
+fn set_function(
+    alloc: Global,
+    tokens: &[Token],
+    levels: u32,
+) -> Result<(SetFunction, &[Token]), GrammarFault>
+    ensures exact { Gives (λ x. (function_form x.0, x.1.now)) result (function_at (predicate_at levels) tokens.now) }
+    ensures shorter { IfOk result (λ x. length x.1.now < length tokens.now) }
+{
+    let (aggregate, rest) = aggregate(tokens)?;
+    let Some(rest) = after_word(rest, Word::Filter) else {
+        let function = SetFunction {
+            aggregate,
+            filter: None,
+        };
+        return Ok((function, rest));
+    };
+    let (aggregate, (condition, rest)) = keep(aggregate, filter(alloc, rest, levels))?;
+    let filter = Some(Box::new(alloc, condition)?);
+    Ok((SetFunction { aggregate, filter }, rest))
+}
+
+/// An expression, with fewer than so many levels of brackets within those of a FILTER.
+#[cycle(predicate)]
+#[tactic(auto, unfolding(crate::specs::ExpressionSteps::expression_at))]
+pub fn expression(
+    alloc: Global,
+    tokens: &[Token],
+    levels: u32,
+) -> Result<(Expression, &[Token]), GrammarFault>
+    ensures exact { Gives (λ x. (expression_form x.0, x.1.now)) result (expression_at (predicate_at levels) tokens.now) }
+    ensures shorter { IfOk result (λ x. length x.1.now < length tokens.now) }
+{
+    if let Some((name, rest)) = name(tokens) {
+        return Ok((Expression::Name(name.try_clone()?), rest));
+    }
+    if let Some(rest) = after_word(tokens, Word::Grouping) {
+        let (names, rest) = grouping_names(alloc, rest)?;
+        return Ok((Expression::Grouping(names), rest));
+    }
+    let (function, rest) = set_function(alloc, tokens, levels)?;
+    Ok((Expression::Function(function), rest))
+}
+// ---- atoms
+
+/// An operand.
+#[cycle(predicate)]
+#[tactic(auto, unfolding(crate::specs::AtomSteps::operand_at))]
+fn operand(
+    alloc: Global,
+    tokens: &[Token],
+    levels: u32,
+) -> Result<(Operand, &[Token]), GrammarFault>
+    ensures exact { Gives (λ x. (operand_form x.0, x.1.now)) result (operand_at (predicate_at levels) tokens.now) }
+    ensures shorter { IfOk result (λ x. length x.1.now < length tokens.now) }
+{
+    if let Some((value, rest)) = literal(tokens)? {
+        return Ok((Operand::Literal(value), rest));
+    }
+    let (expression, rest) = expression(alloc, tokens, levels)?;
+    Ok((Operand::Expression(expression), rest))
+}
+
+/// The atom of a first operand and the two ends behind its BETWEEN.
+#[cycle(predicate)]
+#[tactic(auto, unfolding(crate::specs::AtomSteps::between_after))]
+fn between(
+    alloc: Global,
+    first: Operand,
+    not: bool,
+    tokens: &[Token],
+    levels: u32,
+) -> Result<(Predicate, &[Token]), GrammarFault>
+    ensures exact { Gives (λ x. (predicate_form x.0, x.1.now)) result (between_after (predicate_at levels) (operand_form first) not tokens.now) }
+    ensures shorter { IfOk result (λ x. length x.1.now < length tokens.now) }
+{
+    let (first, (low, rest)) = keep(first, operand(alloc, tokens, levels))?;
+    let ((first, low), rest) = keep((first, low), expect_word(rest, Word::And))?;
+    let ((first, low), (high, rest)) = keep((first, low), operand(alloc, rest, levels))?;
+    let predicate = Predicate::Between {
+        operand: first,
+        not,
+        low,
+        high,
+    };
+    Ok((predicate, rest))
+}
+
+/// The atom of a first operand and what stands behind its NOT.
+#[cycle(predicate)]
+#[tactic(auto, unfolding(crate::specs::AtomSteps::negated_after))]
+fn negated(
+    alloc: Global,
+    first: Operand,
+    tokens: &[Token],
+    levels: u32,
+) -> Result<(Predicate, &[Token]), GrammarFault>
+    ensures exact { Gives (λ x. (predicate_form x.0, x.1.now)) result (negated_after (predicate_at levels) (operand_form first) tokens.now) }
+    ensures shorter { IfOk result (λ x. length x.1.now < length tokens.now) }
+{
+    if let Some(rest) = after_word(tokens, Word::In) {
+        return member(alloc, first, true, rest);
+    }
+    let (first, rest) = keep(first, expect_word(tokens, Word::Between))?;
+    between(alloc, first, true, rest, levels)
+}
+
+/// The atom of a first operand and what stands behind it, unless that is IS.
+#[cycle(predicate)]
+#[tactic(auto, unfolding(crate::specs::AtomSteps::atom_after))]
+fn atom(
+    alloc: Global,
+    first: Operand,
+    tokens: &[Token],
+    levels: u32,
+) -> Result<(Predicate, &[Token]), GrammarFault>
+    ensures exact { Gives (λ x. (predicate_form x.0, x.1.now)) result (atom_after (predicate_at levels) (operand_form first) tokens.now) }
+    ensures shorter { IfOk result (λ x. length x.1.now ≤ length tokens.now) }
+{
+    if let Some((op, rest)) = operator(tokens) {
+        let (left, (right, rest)) = keep(first, operand(alloc, rest, levels))?;
+        return Ok((Predicate::Compare { left, op, right }, rest));
+    }
+    if let Some(rest) = after_word(tokens, Word::Not) {
+        return negated(alloc, first, rest, levels);
+    }
+    if let Some(rest) = after_word(tokens, Word::In) {
+        return member(alloc, first, false, rest);
+    }
+    if let Some(rest) = after_word(tokens, Word::Between) {
+        return between(alloc, first, false, rest, levels);
+    }
+    Ok((column(first, tokens)?, tokens))
+}
+
+/// An atom and the truth test behind it, where there is one.
+#[cycle(predicate)]
+#[tactic(auto, unfolding(crate::specs::AtomSteps::tested_atom_at))]
+fn tested_atom(
+    alloc: Global,
+    tokens: &[Token],
+    levels: u32,
+) -> Result<(Predicate, &[Token]), GrammarFault>
+    ensures exact { Gives (λ x. (predicate_form x.0, x.1.now)) result (tested_atom_at (predicate_at levels) tokens.now) }
+    ensures shorter { IfOk result (λ x. length x.1.now < length tokens.now) }
+{
+    let (first, rest) = operand(alloc, tokens, levels)?;
+    if let Some(rest) = after_word(rest, Word::Is) {
+        return null_or_truth_test(alloc, first, rest);
+    }
+    let (atom, rest) = atom(alloc, first, rest, levels)?;
+    tested(alloc, atom, rest)
+}
+
+// ---- predicates
+
 /// A predicate in brackets or an atom, and the truth test behind it, where there is one.
 #[cycle(predicate)]
 #[tactic(auto, unfolding(crate::specs::PredicateSteps::test_at))]
@@ -50,7 +232,7 @@ fn test(alloc: Global, tokens: &[Token], levels: u32) -> Result<(Predicate, &[To
     ensures shorter { IfOk result (λ x. length x.1.now < length tokens.now) }
 {
     let Some(rest) = after_sign(tokens, Sign::Open) else {
-        return tested_atom(alloc, tokens);
+        return tested_atom(alloc, tokens, levels);
     };
     let (inner, rest) = predicate(alloc, rest, levels)?;
     let (inner, rest) = keep(inner, expect_sign(rest, Sign::Close))?;

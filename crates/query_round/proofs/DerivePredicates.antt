@@ -50,19 +50,10 @@ aggregate_d (aggregates.Min n) r = IsAggregate.min
 aggregate_d (aggregates.Max n) r = IsAggregate.max
 aggregate_d (aggregates.Avg n) r = IsAggregate.avg
 
-function_d : (f : FunctionForm) (r : List Token) → GoodFunction f → IsFunction (function_onto f r) f r
-function_d (over_all f) r g = IsFunction.plain (aggregate_d f r)
-function_d (over_filtered f p) r g = absurd g
-
-grouping_d : (ns : List (List ℕ)) (r : List Token) → Filled 8 GoodName ns → IsExpression (expression_onto (grouping ns) r) (grouping ns) r
-grouping_d [] r g = absurd g
-grouping_d (n ∷ ns) r g =
+grouping_d : (Inner : Derivation PredicateForm) (ns : List (List ℕ)) (r : List Token) → Filled 8 GoodName ns → IsExpression Inner (expression_onto (grouping ns) r) (grouping ns) r
+grouping_d Inner [] r g = absurd g
+grouping_d Inner (n ∷ ns) r g =
     IsExpression.grouping (commas_derive IsName name_onto GoodName name_d ns (tokens.Sign s.Close ∷ r) g.1) g.2
-
-pub expression_d : (e : ExpressionForm) (r : List Token) → GoodExpression e → IsExpression (expression_onto e r) e r
-expression_d (name n) r g = IsExpression.name
-expression_d (grouping ns) r g = grouping_d ns r g
-expression_d (function f) r g = IsExpression.function (function_d f r g)
 
 -- ---- the leaves of predicates
 
@@ -71,10 +62,6 @@ literal_d (literals.Integer i) r g = IsLiteral.integer
 literal_d (literals.Text t) r g = IsLiteral.text
 literal_d (literals.Truth true) r g = IsLiteral.yes
 literal_d (literals.Truth false) r g = IsLiteral.no
-
-operand_d : (x : OperandForm) (r : List Token) → GoodOperand x → IsOperand (operand_onto x r) x r
-operand_d (OperandForm.expression e) r g = IsOperand.expression (expression_d e r g)
-operand_d (OperandForm.literal a) r g = IsOperand.literal (literal_d a r g)
 
 op_d : (o : Op) (r : List Token) → IsOp (tokens.Sign (op_sign o) ∷ r) o r
 op_d op.Eq r = IsOp.eq
@@ -93,12 +80,16 @@ mark_d : (n : Bool) (r : List Token) → IsMark (not_onto n r) n r
 mark_d true r = IsMark.not
 mark_d false r = IsMark.none
 
-member_d : (x : OperandForm) (n : Bool) (ls : List Literal) (r : List Token) → GoodOperand x → Filled 64 GoodLiteral ls
-    → IsAtom (predicate_onto (member x n ls) r) (member x n ls) r
-member_d x n [] r g h = absurd h
-member_d x n (a ∷ ls) r g h =
+-- The tokens of an operand derive it, whatever stands behind them.
+abbrev OperandDerives : Derivation PredicateForm → OperandForm → Type 0
+OperandDerives Inner x = (r : List Token) → IsOperand Inner (operand_onto x r) x r
+
+member_d : (Inner : Derivation PredicateForm) (x : OperandForm) (n : Bool) (ls : List Literal) (r : List Token) → OperandDerives Inner x → Filled 64 GoodLiteral ls
+    → IsAtom Inner (predicate_onto (member x n ls) r) (member x n ls) r
+member_d Inner x n [] r g h = absurd h
+member_d Inner x n (a ∷ ls) r g h =
     let others = commas_derive IsLiteral literal_onto GoodLiteral literal_d ls (tokens.Sign s.Close ∷ r) h.1 in
-    IsAtom.member (operand_d x _ g) (mark_d n _) (literal_d a _ h.0) others h.2
+    IsAtom.member (g _) (mark_d n _) (literal_d a _ h.0) others h.2
 
 -- ---- levels: what a predicate that holds together so tightly is derived as
 
@@ -176,17 +167,38 @@ and_d (part p (part q ps)) n r many g =
     let ts : List Token = predicate_onto (and_of (part p (part q ps))) r in
     subst (λ qs. IsConjunction (IsPredicate n) ts (and_of (part p (part q qs))) r) (listed_again ps) (IsConjunction.parts g.0 g.1)
 
+-- A predicate with at most n levels of brackets is one with fewer than n and one more.
+as_predicate : (l n : ℕ) (ts r : List Token) (p : PredicateForm) → At l n ts p r → IsPredicate (suc n) ts p r
+unfolding IsPredicate
+as_predicate l n ts r p i = lower l 0 n ts r p (omega arith) i
+
 mutual
+  function_d : (f : FunctionForm) (n : ℕ) (r : List Token) → GoodFunction f n → IsFunction (IsPredicate n) (function_onto f r) f r
+  function_d (over_all f) n r g = IsFunction.plain (aggregate_d f r)
+  function_d (over_filtered f p) zero r g = absurd g.1
+  function_d (over_filtered f p) (suc n) r g =
+      let closed : List Token = tokens.Sign s.Close ∷ r in
+      IsFunction.filtered (aggregate_d f _) (as_predicate (tightness p) n (predicate_onto p closed) closed p (good_d p n closed g.1))
+
+  pub expression_d : (e : ExpressionForm) (n : ℕ) (r : List Token) → GoodExpression e n → IsExpression (IsPredicate n) (expression_onto e r) e r
+  expression_d (name m) n r g = IsExpression.name
+  expression_d (grouping ms) n r g = grouping_d (IsPredicate n) ms r g
+  expression_d (function f) n r g = IsExpression.function (function_d f n r g)
+
+  operand_d : (x : OperandForm) (n : ℕ) → GoodOperand x n → OperandDerives (IsPredicate n) x
+  operand_d (OperandForm.expression e) n g r = IsOperand.expression (expression_d e n r g)
+  operand_d (OperandForm.literal a) n g r = IsOperand.literal (literal_d a r g)
+
   pub good_d : (p : PredicateForm) (n : ℕ) (r : List Token) → Good p n → At (tightness p) n (predicate_onto p r) p r
   good_d (or_of ps) n r g = or_d ps n r g.0 (parts_d (tokens.Word w.Or) 1 ps n r (omega arith) g.1)
   good_d (and_of ps) n r g = and_d ps n r g.0 (parts_d (tokens.Word w.And) 2 ps n r (omega arith) g.1)
   good_d (not_of p) n r g = IsNegation.not (fits_d 3 (tightness p) n p (predicate_onto p) (Good p) (good_d p) (omega arith) r g)
   good_d (truth_test p b t) n r g =
       IsTest.test (fits_d 4 (tightness p) n p (predicate_onto p) (Good p) (good_d p) (omega arith) _ g) (mark_d b _) (truth_d t r)
-  good_d (compare x o y) n r g = IsPrimary.atom (IsAtom.compare (operand_d x _ g.0) (op_d o _) (operand_d y r g.1))
-  good_d (between x b y z) n r g = IsPrimary.atom (IsAtom.between (operand_d x _ g.0) (mark_d b _) (operand_d y _ g.1) (operand_d z r g.2))
-  good_d (member x b ls) n r g = IsPrimary.atom (member_d x b ls r g.0 g.1)
-  good_d (null_test x b) n r g = IsPrimary.atom (IsAtom.null_test (operand_d x _ g) (mark_d b _))
+  good_d (compare x o y) n r g = IsPrimary.atom (IsAtom.compare (operand_d x n g.0 _) (op_d o _) (operand_d y n g.1 r))
+  good_d (between x b y z) n r g = IsPrimary.atom (IsAtom.between (operand_d x n g.0 _) (mark_d b _) (operand_d y n g.1 _) (operand_d z n g.2 r))
+  good_d (member x b ls) n r g = IsPrimary.atom (member_d (IsPredicate n) x b ls r (operand_d x n g.0) g.1)
+  good_d (null_test x b) n r g = IsPrimary.atom (IsAtom.null_test (operand_d x n g _) (mark_d b _))
   good_d (column m) n r g = IsPrimary.atom IsAtom.column
 
   parts_d : (sep : Token) (k : ℕ) (ps : PredicateForms) (n : ℕ) (r : List Token) → k ≤ 4 → PartsFit k ps n → PartsDerive k sep ps n r
@@ -202,5 +214,4 @@ mutual
 
 -- The tokens of a good predicate derive it.
 pub predicate_d : (p : PredicateForm) (n : ℕ) (r : List Token) → Good p n → IsPredicate (suc n) (predicate_onto p r) p r
-unfolding IsPredicate
-predicate_d p n r g = lower (tightness p) 0 n (predicate_onto p r) r p (omega arith) (good_d p n r g)
+predicate_d p n r g = as_predicate (tightness p) n (predicate_onto p r) r p (good_d p n r g)

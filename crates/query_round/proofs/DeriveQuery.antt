@@ -8,10 +8,10 @@ use Rattle.query_round.proofs.Onto.{expression_onto, alias_onto, item_onto, grou
 use Rattle.query_round.proofs.DerivePredicates.{commas_derive, expression_d, predicate_d}
 use Rattle.query_round.proofs.DeriveGroups.{group_d}
 
-aliased_d : (e : ExpressionForm) (n : Option (List ℕ)) (r : List Token) → GoodExpression e
+aliased_d : (e : ExpressionForm) (n : Option (List ℕ)) (r : List Token) → GoodExpression e 64
     → IsItem (expression_onto e (alias_onto n r)) record { expression = e; alias = n } r
-aliased_d e None r g = IsItem.plain (expression_d e r g)
-aliased_d e (Some n) r g = IsItem.named (expression_d e _ g)
+aliased_d e None r g = IsItem.plain (expression_d e 64 r g)
+aliased_d e (Some n) r g = IsItem.named (expression_d e 64 _ g)
 
 item_d : (i : ItemForm) (r : List Token) → GoodItem i → IsItem (item_onto i r) i r
 item_d i r g = aliased_d i.expression i.alias r g.0
@@ -39,7 +39,7 @@ nulls_d false true r = IsNullOrdering.first
 nulls_d false false r = IsNullOrdering.none
 
 key_d : (k : KeyForm) (r : List Token) → GoodKey k → IsKey (key_onto k r) k r
-key_d k r g = IsKey.key (expression_d k.expression _ g) (direction_d k.descending _) (nulls_d k.descending k.nulls_first r)
+key_d k r g = IsKey.key (expression_d k.expression 64 _ g) (direction_d k.descending _) (nulls_d k.descending k.nulls_first r)
 
 order_by_d : (ks : List KeyForm) (r : List Token) → Each GoodKey ks → IsOrderBy (order_by_onto ks r) ks r
 order_by_d [] r g = IsOrderBy.none

@@ -1,4 +1,4 @@
--- Names, expressions, literals and items spell their tokens.
+-- Names, literals, set functions and aliases spell their tokens.
 use Rattle.std.proofs.Common.{arith, ◌≡◌, ℕ, Bool, true, false, cond, List, [], ◌∷◌, ◌++◌, map, Option, Some, None, refl}
 use Rattle.std.specs.Prelude.{codes, is_none}
 use Rattle.query_tokens.specs.declared.token.Token.TheVariants as tokens
@@ -12,10 +12,10 @@ use Rattle.query_tree.specs.declared.predicate.Literal.{Literal}
 use Rattle.query_tree.specs.declared.predicate.Literal.TheVariants as literals
 use Rattle.query_tree.specs.declared.expression.Aggregate.{Aggregate}
 use Rattle.query_tree.specs.declared.expression.Aggregate.TheVariants as aggregates
-use Rattle.query_tree.specs.Syntax.{ExpressionForm, FunctionForm, OperandForm, ItemForm, name, grouping, function, over_all, over_filtered}
-use Rattle.query_print.specs.Canonical.{comma_list, aggregate_text, literal_text, expression_text, function_text, operand_text, alias_text, item_text}
-use Rattle.query_round.proofs.Good.{Filled, Within, GoodName, GoodAggregate, GoodFunction, GoodExpression, GoodLiteral, GoodOperand, GoodItem}
-use Rattle.query_round.proofs.Onto.{Onto, commas_onto, name_onto, argument_onto, aggregate_onto, function_onto, expression_onto, literal_onto, operand_onto, alias_onto, item_onto}
+use Rattle.query_tree.specs.Syntax.{grouping}
+use Rattle.query_print.specs.Canonical.{comma_list, aggregate_text, literal_text, expression_text, alias_text}
+use Rattle.query_round.proofs.Good.{Filled, Within, GoodName, GoodAggregate, GoodLiteral}
+use Rattle.query_round.proofs.Onto.{Onto, commas_onto, name_onto, argument_onto, aggregate_onto, filter_onto, expression_onto, literal_onto, alias_onto}
 use Rattle.query_round.proofs.Spelled.{no_word, no_name_quote, no_text_quote, spelled_token, spelled_integer, spelled_star}
 use Rattle.query_round.proofs.Goes.{Free, Goes, Begins, free_free, free_goes, goes_free, goes_goes, goes_of, begins_of, nothing_goes, nothing_begins, word_onto, word_goes, word_free, spaced_free, space_breaks, open_free, open_breaks, close_free, close_breaks, commas_go, each_goes}
 
@@ -60,7 +60,7 @@ opened word text x = goes_free x open_breaks open_free
 star_free : Free (codes "*") (λ ks. tokens.Sign s.Star ∷ ks)
 star_free = record { goes = λ rest ks h. spelled_star h }
 
-aggregate_goes : (f : Aggregate) → GoodAggregate f → Goes (aggregate_text f) (aggregate_onto f)
+pub aggregate_goes : (f : Aggregate) → GoodAggregate f → Goes (aggregate_text f) (aggregate_onto f)
 aggregate_goes aggregates.CountRows g =
     argument_goes w.Count {front = codes "COUNT("} {a = codes "*"} (opened w.Count _ (word_goes w.Count)) (goes_of star_free)
 aggregate_goes (aggregates.Count n) g = argument_goes w.Count (opened w.Count _ (word_goes w.Count)) (name_goes n g)
@@ -72,38 +72,33 @@ aggregate_goes (aggregates.Min n) g = argument_goes w.Min (opened w.Min _ (word_
 aggregate_goes (aggregates.Max n) g = argument_goes w.Max (opened w.Max _ (word_goes w.Max)) (name_goes n g)
 aggregate_goes (aggregates.Avg n) g = argument_goes w.Avg (opened w.Avg _ (word_goes w.Avg)) (name_goes n g)
 
-function_goes : (f : FunctionForm) → GoodFunction f → Goes (function_text f) (function_onto f)
-function_goes (over_all f) g = aggregate_goes f g
-function_goes (over_filtered f p) g = absurd g
-
 -- A list that is not empty, with commas.
 pub filled_go : {A : Type 0} (most : ℕ) (P : A → Type 0) (text : A → List ℕ) (onto : A → Onto)
     → ((x : A) → P x → Goes (text x) (onto x)) → (xs : List A) → Filled most P xs → Goes (comma_list (map text xs)) (commas_onto (map onto xs))
 filled_go most P text onto goes [] g = absurd g
 filled_go most P text onto goes (x ∷ xs) g = commas_go (map text (x ∷ xs)) (map onto (x ∷ xs)) (goes x g.0, each_goes P text onto goes xs g.1)
 
-pub expression_goes : (e : ExpressionForm) → GoodExpression e → Goes (expression_text e) (expression_onto e)
-expression_goes (name n) g = name_goes n g
-expression_goes (grouping ns) g =
+pub grouping_goes : (ns : List (List ℕ)) → Filled 8 GoodName ns → Goes (expression_text (grouping ns)) (expression_onto (grouping ns))
+grouping_goes ns g =
     argument_goes w.Grouping (opened w.Grouping _ (word_goes w.Grouping)) (filled_go 8 GoodName name_text name_onto name_goes ns g)
-expression_goes (function f) g = function_goes f g
 
-pub operand_goes : (x : OperandForm) → GoodOperand x → Goes (operand_text x) (operand_onto x)
-operand_goes (OperandForm.expression e) g = expression_goes e g
-operand_goes (OperandForm.literal a) g = literal_goes a g
+-- A set function and its FILTER, where the predicate spells its tokens.
+filter_free : Free (codes " FILTER (WHERE ") (λ ks. tokens.Word w.Filter ∷ tokens.Sign s.Open ∷ tokens.Word w.Where ∷ ks)
+filter_free = free_free (free_free (spaced_free (word_free w.Filter)) open_free) (word_free w.Where)
 
--- ---- items
+pub filtered_goes : (f : Aggregate) {a : List ℕ} {g : Onto} → GoodAggregate f → Goes a g
+    → Goes (aggregate_text f ++ codes " FILTER (WHERE " ++ a ++ codes ")") (λ ks. aggregate_onto f (filter_onto g ks))
+filtered_goes f good x = goes_goes (aggregate_goes f good) (begins_of (space_breaks _)) (goes_of (goes_free (free_goes filter_free x) close_breaks close_free))
+
+-- ---- aliases
 
 as_free : Free (codes " AS ") (word_onto w.As)
 as_free = spaced_free (word_free w.As)
 
-alias_goes : (n : Option (List ℕ)) → Within GoodName n → Goes (alias_text n) (alias_onto n)
+pub alias_goes : (n : Option (List ℕ)) → Within GoodName n → Goes (alias_text n) (alias_onto n)
 alias_goes None g = nothing_goes
 alias_goes (Some n) g = free_goes as_free (name_goes n g)
 
-alias_begins : (n : Option (List ℕ)) → Begins (alias_text n)
+pub alias_begins : (n : Option (List ℕ)) → Begins (alias_text n)
 alias_begins None = nothing_begins
 alias_begins (Some n) = begins_of (space_breaks _)
-
-pub item_goes : (i : ItemForm) → GoodItem i → Goes (item_text i) (item_onto i)
-item_goes i g = goes_goes (expression_goes i.expression g.0) (alias_begins i.alias) (alias_goes i.alias g.1)

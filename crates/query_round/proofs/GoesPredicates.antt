@@ -1,4 +1,4 @@
--- The canonical text of a good predicate spells its tokens.
+-- The canonical texts of a good expression and of a good predicate spell their tokens.
 use Rattle.std.proofs.Common.{ℕ, zero, suc, Bool, true, false, cond, List, [], ◌∷◌, ◌++◌, refl, append_assoc, inl, inr}
 use Rattle.std.specs.Prelude.{codes, nat_lt}
 use Rattle.values.specs.declared.comparison.Op.{Op}
@@ -13,13 +13,13 @@ use Rattle.query_tokens.specs.declared.token.Sign.TheVariants as s
 use Rattle.query_tokens.specs.Words.{word_text}
 use Rattle.query_tokens.specs.Steps.{token_at, sign_at, order_at, sign_behind_less, sign_behind_greater}
 use Rattle.query_tree.specs.declared.predicate.Literal.{Literal}
-use Rattle.query_tree.specs.Syntax.{OperandForm, PredicateForm, PredicateForms, or_of, and_of, not_of, truth_test, compare, between, member, null_test, column, no_parts, part}
-use Rattle.query_print.specs.Canonical.{op_text, truth_text, not_text, literal_text, operand_text, tightness, bracketed_below, in_brackets, predicate_text, part_texts}
-use Rattle.query_round.proofs.Good.{GoodLiteral, GoodOperand, Fits, Good, PartsFit}
-use Rattle.query_round.proofs.Onto.{Onto, op_sign, truth_word, not_onto, literal_onto, operand_onto, brackets_onto, bracketed_onto, predicate_onto, part_ontos}
+use Rattle.query_tree.specs.Syntax.{ExpressionForm, FunctionForm, OperandForm, PredicateForm, PredicateForms, name, grouping, function, over_all, over_filtered, or_of, and_of, not_of, truth_test, compare, between, member, null_test, column, no_parts, part}
+use Rattle.query_print.specs.Canonical.{op_text, truth_text, not_text, literal_text, function_text, expression_text, operand_text, tightness, bracketed_below, in_brackets, predicate_text, part_texts}
+use Rattle.query_round.proofs.Good.{Filled, GoodLiteral, GoodFunction, GoodExpression, GoodOperand, Deeper, Fits, Good, PartsFit}
+use Rattle.query_round.proofs.Onto.{Onto, op_sign, truth_word, not_onto, literal_onto, function_onto, expression_onto, operand_onto, brackets_onto, bracketed_onto, predicate_onto, part_ontos}
 use Rattle.query_round.proofs.Spelled.{Spelled, spelled_space, spelled_read}
 use Rattle.query_round.proofs.Goes.{Free, Goes, AllGo, free_free, free_goes, goes_free, goes_of, nothing_free, word_onto, word_goes, word_free, spaced_free, space_breaks, space_free, brackets_free, word_separates, list_goes}
-use Rattle.query_round.proofs.GoesExpressions.{name_goes, literal_goes, operand_goes, filled_go}
+use Rattle.query_round.proofs.GoesExpressions.{name_goes, literal_goes, aggregate_goes, grouping_goes, filtered_goes, filled_go}
 
 -- ---- operators and keywords
 
@@ -57,31 +57,35 @@ and_free = spaced_free (word_free w.And)
 
 -- ---- atoms
 
-spaced_operand : (x : OperandForm) → GoodOperand x → Free (operand_text x ++ codes " ") (operand_onto x)
-spaced_operand x g = goes_free (operand_goes x g) (space_breaks []) space_free
+-- An operand spells its tokens.
+abbrev OperandGoes : OperandForm → Type 0
+OperandGoes x = Goes (operand_text x) (operand_onto x)
+
+spaced_operand : (x : OperandForm) → OperandGoes x → Free (operand_text x ++ codes " ") (operand_onto x)
+spaced_operand x g = goes_free g (space_breaks []) space_free
 
 -- An operand, NOT where it is written, and a word.
-marked_free : (x : OperandForm) (n : Bool) (word : Word) → GoodOperand x
+marked_free : (x : OperandForm) (n : Bool) (word : Word) → OperandGoes x
     → Free (operand_text x ++ codes " " ++ not_text n ++ (word_text word ++ 32 ∷ [])) (λ ks. operand_onto x (not_onto n (tokens.Word word ∷ ks)))
 marked_free x n word g = free_free (free_free (spaced_operand x g) (not_free n)) (word_free word)
 
-compare_goes : (x : OperandForm) (o : Op) (y : OperandForm) → Good (compare x o y) 0
+compare_goes : (x : OperandForm) (o : Op) (y : OperandForm) → OperandGoes x → OperandGoes y
     → Goes (predicate_text (compare x o y)) (predicate_onto (compare x o y))
-compare_goes x o y g = free_goes (op_free o (spaced_operand x g.0)) (operand_goes y g.1)
+compare_goes x o y g h = free_goes (op_free o (spaced_operand x g)) h
 
-between_goes : (x : OperandForm) (n : Bool) (y z : OperandForm) → Good (between x n y z) 0
+between_goes : (x : OperandForm) (n : Bool) (y z : OperandForm) → OperandGoes x → OperandGoes y → OperandGoes z
     → Goes (predicate_text (between x n y z)) (predicate_onto (between x n y z))
-between_goes x n y z g =
-    let low = free_goes (marked_free x n w.Between g.0) (operand_goes y g.1) in
-    free_goes (goes_free low (space_breaks _) and_free) (operand_goes z g.2)
+between_goes x n y z g h k =
+    let low = free_goes (marked_free x n w.Between g) h in
+    free_goes (goes_free low (space_breaks _) and_free) k
 
-member_goes : (x : OperandForm) (n : Bool) (ls : List Literal) → Good (member x n ls) 0
+member_goes : (x : OperandForm) (n : Bool) (ls : List Literal) → OperandGoes x → Filled 64 GoodLiteral ls
     → Goes (predicate_text (member x n ls)) (predicate_onto (member x n ls))
-member_goes x n ls g =
-    goes_of (free_free (marked_free x n w.In g.0) (brackets_free (filled_go 64 GoodLiteral literal_text literal_onto literal_goes ls g.1)))
+member_goes x n ls g h =
+    goes_of (free_free (marked_free x n w.In g) (brackets_free (filled_go 64 GoodLiteral literal_text literal_onto literal_goes ls h)))
 
-null_goes : (x : OperandForm) (n : Bool) → GoodOperand x → Goes (predicate_text (null_test x n)) (predicate_onto (null_test x n))
-null_goes x n g = free_goes (free_free (goes_free (operand_goes x g) (space_breaks _) is_free) (not_free n)) (word_goes w.Null)
+null_goes : (x : OperandForm) (n : Bool) → OperandGoes x → Goes (predicate_text (null_test x n)) (predicate_onto (null_test x n))
+null_goes x n g = free_goes (free_free (goes_free g (space_breaks _) is_free) (not_free n)) (word_goes w.Null)
 
 -- ---- parts
 
@@ -103,7 +107,24 @@ test_goes : {a : List ℕ} {f : Onto} (n : Bool) (t : Truth) → Goes a f
     → Goes (a ++ codes " IS " ++ not_text n ++ truth_text t) (λ ks. f (tokens.Word w.Is ∷ not_onto n (tokens.Word (truth_word t) ∷ ks)))
 test_goes n t x = free_goes (free_free (goes_free x (space_breaks _) is_free) (not_free n)) (truth_goes t)
 
+deeper_some : (n : ℕ) (G : ℕ → Type 0) → Deeper G n → (m : ℕ) × G m
+deeper_some zero G d = absurd d
+deeper_some (suc n) G d = (n, d)
+
 mutual
+  function_goes : (f : FunctionForm) (n : ℕ) → GoodFunction f n → Goes (function_text f) (function_onto f)
+  function_goes (over_all f) n g = aggregate_goes f g
+  function_goes (over_filtered f p) n g = let h = deeper_some n (Good p) g.1 in filtered_goes f g.0 (predicate_goes p h.0 h.1)
+
+  pub expression_goes : (e : ExpressionForm) (n : ℕ) → GoodExpression e n → Goes (expression_text e) (expression_onto e)
+  expression_goes (name m) n g = name_goes m g
+  expression_goes (grouping ms) n g = grouping_goes ms g
+  expression_goes (function f) n g = function_goes f n g
+
+  operand_goes : (x : OperandForm) (n : ℕ) → GoodOperand x n → OperandGoes x
+  operand_goes (OperandForm.expression e) n g = expression_goes e n g
+  operand_goes (OperandForm.literal a) n g = literal_goes a g
+
   pub predicate_goes : (p : PredicateForm) (n : ℕ) → Good p n → Goes (predicate_text p) (predicate_onto p)
   predicate_goes (or_of ps) n g =
       list_goes (codes " OR ") (tokens.Word w.Or) (word_separates w.Or) (part_texts 1 ps) (part_ontos 1 ps) (parts_go 1 ps n g.1)
@@ -111,10 +132,10 @@ mutual
       list_goes (codes " AND ") (tokens.Word w.And) (word_separates w.And) (part_texts 2 ps) (part_ontos 2 ps) (parts_go 2 ps n g.1)
   predicate_goes (not_of p) n g = free_goes (word_free w.Not) (part_goes 3 p n (predicate_goes p) g)
   predicate_goes (truth_test p b t) n g = test_goes b t (part_goes 4 p n (predicate_goes p) g)
-  predicate_goes (compare x o y) n g = compare_goes x o y g
-  predicate_goes (between x b y z) n g = between_goes x b y z g
-  predicate_goes (member x b ls) n g = member_goes x b ls g
-  predicate_goes (null_test x b) n g = null_goes x b g
+  predicate_goes (compare x o y) n g = compare_goes x o y (operand_goes x n g.0) (operand_goes y n g.1)
+  predicate_goes (between x b y z) n g = between_goes x b y z (operand_goes x n g.0) (operand_goes y n g.1) (operand_goes z n g.2)
+  predicate_goes (member x b ls) n g = member_goes x b ls (operand_goes x n g.0) g.1
+  predicate_goes (null_test x b) n g = null_goes x b (operand_goes x n g)
   predicate_goes (column m) n g = name_goes m g
 
   parts_go : (least : ℕ) (ps : PredicateForms) (n : ℕ) → PartsFit least ps n → AllGo (part_texts least ps) (part_ontos least ps)

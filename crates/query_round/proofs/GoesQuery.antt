@@ -3,14 +3,14 @@ use Rattle.std.proofs.Common.{Bool, true, false, List, [], ◌∷◌, ◌++◌, 
 use Rattle.std.specs.Prelude.{codes}
 use Rattle.query_tokens.specs.declared.token.Token.TheVariants as tokens
 use Rattle.query_tokens.specs.declared.token.Word.TheVariants as w
-use Rattle.query_tree.specs.Syntax.{PredicateForm, ElementForm, KeyForm, TreeForm, element_forms}
+use Rattle.query_tree.specs.Syntax.{PredicateForm, ElementForm, ItemForm, KeyForm, TreeForm, element_forms}
 use Rattle.query_print.specs.Canonical.{comma_list, item_text, group_texts, nulls_text, direction_text, key_text, predicate_clause, list_clause, canonical_text}
 use Rattle.query_round.proofs.Good.{Each, Within, Good, GoodItem, GoodElement, GoodKey, GoodTree}
 use Rattle.query_round.proofs.Onto.{commas_onto, item_onto, group_onto, from_onto, where_onto, group_by_onto, having_onto, direction_onto, nulls_onto, key_onto, order_by_onto, query_onto}
 use Rattle.query_round.proofs.Spelled.{spelled_lines}
 use Rattle.query_round.proofs.Goes.{Free, Goes, Begins, free_free, free_goes, goes_goes, begins_of, nothing_goes, nothing_begins, word_goes, word_free, spaced_free, space_free, space_breaks, commas_go, each_goes}
-use Rattle.query_round.proofs.GoesExpressions.{expression_goes, item_goes, filled_go}
-use Rattle.query_round.proofs.GoesPredicates.{predicate_goes}
+use Rattle.query_round.proofs.GoesExpressions.{alias_goes, alias_begins, filled_go}
+use Rattle.query_round.proofs.GoesPredicates.{expression_goes, predicate_goes}
 use Rattle.query_round.proofs.GoesGroups.{groups_go}
 
 lines_goes : Goes (codes "lines") (λ ks. tokens.Name (codes "lines") ∷ ks)
@@ -79,9 +79,12 @@ nulls_begin true false = begins_of (space_breaks _)
 nulls_begin false true = begins_of (space_breaks _)
 nulls_begin false false = nothing_begins
 
+item_goes : (i : ItemForm) → GoodItem i → Goes (item_text i) (item_onto i)
+item_goes i g = goes_goes (expression_goes i.expression 64 g.0) (alias_begins i.alias) (alias_goes i.alias g.1)
+
 key_goes : (k : KeyForm) → GoodKey k → Goes (key_text k) (key_onto k)
 key_goes k g =
-    let directed = goes_goes (expression_goes k.expression g) (direction_begins k.descending) (direction_goes k.descending) in
+    let directed = goes_goes (expression_goes k.expression 64 g) (direction_begins k.descending) (direction_goes k.descending) in
     goes_goes directed (nulls_begin k.descending k.nulls_first) (nulls_go k.descending k.nulls_first)
 
 order_by_free : Free (codes " ORDER BY ") (λ ks. tokens.Word w.Order ∷ tokens.Word w.By ∷ ks)

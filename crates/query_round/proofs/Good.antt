@@ -46,16 +46,6 @@ GoodAggregate (aggregates.Min n) = GoodName n
 GoodAggregate (aggregates.Max n) = GoodName n
 GoodAggregate (aggregates.Avg n) = GoodName n
 
--- The grammar has no FILTER.
-abbrev pub GoodFunction : FunctionForm → Type 0
-GoodFunction (over_all f) = GoodAggregate f
-GoodFunction (over_filtered f p) = ⊥
-
-abbrev pub GoodExpression : ExpressionForm → Type 0
-GoodExpression (name n) = GoodName n
-GoodExpression (grouping ns) = Filled 8 GoodName ns
-GoodExpression (function f) = GoodFunction f
-
 -- ---- predicates
 
 -- A whole number fits 64 bits.
@@ -67,10 +57,6 @@ abbrev pub GoodLiteral : Literal → Type 0
 GoodLiteral (literals.Integer i) = InRange i
 GoodLiteral (literals.Text t) = Unit {0}
 GoodLiteral (literals.Truth b) = Unit {0}
-
-abbrev pub GoodOperand : OperandForm → Type 0
-GoodOperand (OperandForm.expression e) = GoodExpression e
-GoodOperand (OperandForm.literal a) = GoodLiteral a
 
 -- OR and AND have two parts or more.
 abbrev pub IsMany : PredicateForms → Type 0
@@ -87,17 +73,30 @@ Deeper G (suc n) = G n
 abbrev pub Fits : ℕ → ℕ → (ℕ → Type 0) → ℕ → Type 0
 Fits least has G n = ((has < least) × Deeper G n) ⊎ ((least ≤ has) × G n)
 
--- The canonical text has at most n levels of brackets.
+-- The canonical text has at most n levels of brackets, of which those of a FILTER are one.
 abbrev mutual
+  pub GoodFunction : FunctionForm → ℕ → Type 0
+  GoodFunction (over_all f) n = GoodAggregate f
+  GoodFunction (over_filtered f p) n = GoodAggregate f × Deeper (Good p) n
+
+  pub GoodExpression : ExpressionForm → ℕ → Type 0
+  GoodExpression (name n) m = GoodName n
+  GoodExpression (grouping ns) m = Filled 8 GoodName ns
+  GoodExpression (function f) m = GoodFunction f m
+
+  pub GoodOperand : OperandForm → ℕ → Type 0
+  GoodOperand (OperandForm.expression e) n = GoodExpression e n
+  GoodOperand (OperandForm.literal a) n = GoodLiteral a
+
   pub Good : PredicateForm → ℕ → Type 0
   Good (or_of ps) n = IsMany ps × PartsFit 1 ps n
   Good (and_of ps) n = IsMany ps × PartsFit 2 ps n
   Good (not_of p) n = Fits 3 (tightness p) (Good p) n
   Good (truth_test p b t) n = Fits 4 (tightness p) (Good p) n
-  Good (compare x o y) n = GoodOperand x × GoodOperand y
-  Good (between x b y z) n = GoodOperand x × GoodOperand y × GoodOperand z
-  Good (member x b ls) n = GoodOperand x × Filled 64 GoodLiteral ls
-  Good (null_test x b) n = GoodOperand x
+  Good (compare x o y) n = GoodOperand x n × GoodOperand y n
+  Good (between x b y z) n = GoodOperand x n × GoodOperand y n × GoodOperand z n
+  Good (member x b ls) n = GoodOperand x n × Filled 64 GoodLiteral ls
+  Good (null_test x b) n = GoodOperand x n
   Good (column m) n = GoodName m
 
   pub PartsFit : ℕ → PredicateForms → ℕ → Type 0
@@ -107,7 +106,7 @@ abbrev mutual
 -- ---- the query
 
 abbrev pub GoodItem : ItemForm → Type 0
-GoodItem i = GoodExpression i.expression × Within GoodName i.alias
+GoodItem i = GoodExpression i.expression 64 × Within GoodName i.alias
 
 -- A unit has one column at least, a set may have none.
 abbrev pub GoodUnit : List (List ℕ) → Type 0
@@ -138,7 +137,7 @@ abbrev pub GoodElement : ElementForm → Type 0
 GoodElement x = GoodGroup x 16
 
 abbrev pub GoodKey : KeyForm → Type 0
-GoodKey k = GoodExpression k.expression
+GoodKey k = GoodExpression k.expression 64
 
 abbrev pub GoodTree : TreeForm → Type 0
 GoodTree q = Filled 64 GoodItem q.items × Within (λ p. Good p 64) q.where_condition × Each GoodElement q.groups × Within (λ p. Good p 64) q.having_condition × Each GoodKey q.keys
@@ -153,16 +152,32 @@ fits_more : (least has : ℕ) (G : ℕ → Type 0) → ((n : ℕ) → G n → G 
 fits_more least has G up n (inl h) = inl (h.0, deeper_more G up n h.1)
 fits_more least has G up n (inr h) = inr (h.0, up n h.1)
 
+deeper_up : (G : ℕ → Type 0) → ((n : ℕ) → G n → G (suc n)) → (n : ℕ) → Deeper G n → Deeper G (suc n)
+deeper_up G up n d = deeper_more G up n d
+
 mutual
+  function_more : (f : FunctionForm) (n : ℕ) → GoodFunction f n → GoodFunction f (suc n)
+  function_more (over_all f) n g = g
+  function_more (over_filtered f p) n g = (g.0, deeper_up (Good p) (good_more p) n g.1)
+
+  expression_more : (e : ExpressionForm) (n : ℕ) → GoodExpression e n → GoodExpression e (suc n)
+  expression_more (name m) n g = g
+  expression_more (grouping ms) n g = g
+  expression_more (function f) n g = function_more f n g
+
+  operand_more : (x : OperandForm) (n : ℕ) → GoodOperand x n → GoodOperand x (suc n)
+  operand_more (OperandForm.expression e) n g = expression_more e n g
+  operand_more (OperandForm.literal a) n g = g
+
   pub good_more : (p : PredicateForm) (n : ℕ) → Good p n → Good p (suc n)
   good_more (or_of ps) n g = (g.0, parts_more 1 ps n g.1)
   good_more (and_of ps) n g = (g.0, parts_more 2 ps n g.1)
   good_more (not_of p) n g = fits_more 3 (tightness p) (Good p) (good_more p) n g
   good_more (truth_test p b t) n g = fits_more 4 (tightness p) (Good p) (good_more p) n g
-  good_more (compare x o y) n g = g
-  good_more (between x b y z) n g = g
-  good_more (member x b ls) n g = g
-  good_more (null_test x b) n g = g
+  good_more (compare x o y) n g = (operand_more x n g.0, operand_more y n g.1)
+  good_more (between x b y z) n g = (operand_more x n g.0, operand_more y n g.1, operand_more z n g.2)
+  good_more (member x b ls) n g = (operand_more x n g.0, g.1)
+  good_more (null_test x b) n g = operand_more x n g
   good_more (column m) n g = g
 
   pub parts_more : (least : ℕ) (ps : PredicateForms) (n : ℕ) → PartsFit least ps n → PartsFit least ps (suc n)

@@ -42,16 +42,6 @@ aggregate_leaves _ _ _ IsAggregate.min h = (h.1.1.0, h.1.1.1.1)
 aggregate_leaves _ _ _ IsAggregate.max h = (h.1.1.0, h.1.1.1.1)
 aggregate_leaves _ _ _ IsAggregate.avg h = (h.1.1.0, h.1.1.1.1)
 
-function_leaves : Leaves FunctionForm IsFunction GoodFunction
-function_leaves ts r _ (IsFunction.plain {f} d) h = aggregate_leaves ts r f d h
-
-pub expression_leaves : Leaves ExpressionForm IsExpression GoodExpression
-expression_leaves _ _ _ IsExpression.name h = h
-expression_leaves _ _ _ (IsExpression.grouping tail few) h =
-    let others = repeated_leaves (List ℕ) (tokens.Sign s.Comma) IsName GoodName name_leaves tail h.1.1.1 in
-    ((h.1.1.0, others.0, few), others.1.1)
-expression_leaves ts r _ (IsExpression.function {f} d) h = function_leaves ts r f d h
-
 -- ---- the leaves of predicates
 
 literal_leaves : Leaves Literal IsLiteral GoodLiteral
@@ -59,10 +49,6 @@ literal_leaves _ _ _ IsLiteral.integer h = h
 literal_leaves _ _ _ IsLiteral.text h = (tt, h.1)
 literal_leaves _ _ _ IsLiteral.yes h = (tt, h.1)
 literal_leaves _ _ _ IsLiteral.no h = (tt, h.1)
-
-operand_leaves : Leaves OperandForm IsOperand GoodOperand
-operand_leaves ts r _ (IsOperand.expression {e} d) h = expression_leaves ts r e d h
-operand_leaves ts r _ (IsOperand.literal {a} d) h = literal_leaves ts r a d h
 
 op_leaves : {ts r : List Token} {o : Op} → IsOp ts o r → AllSane ts → AllSane r
 op_leaves IsOp.eq h = h.1
@@ -98,26 +84,6 @@ tight_less a b n p h t = record { fits = λ k room. t.fits k (omega (arith, h, r
 abbrev Loose : ℕ → Derivation PredicateForm → ℕ → Type 0
 Loose top D n = Leaves PredicateForm D (Tight top n)
 
-atom_leaves : (n : ℕ) → Loose 4 IsAtom n
-atom_leaves n _ _ _ (IsAtom.compare {ts} {u} {v} {r} {x} {y} a o b) h =
-    let f = operand_leaves ts u x a h in
-    let g = operand_leaves v r y b (op_leaves o f.1) in
-    (tight_good 4 n _ (omega arith) (f.0, g.0), g.1)
-atom_leaves n _ _ _ (IsAtom.between {ts} {u} {v} {mid} {r} {x} {y} {z} a m b c) h =
-    let f = operand_leaves ts u x a h in
-    let g = operand_leaves v (tokens.Word w.And ∷ mid) y b (mark_leaves m f.1).1 in
-    let e = operand_leaves mid r z c g.1.1 in
-    (tight_good 4 n _ (omega arith) (f.0, g.0, e.0), e.1)
-atom_leaves n _ _ _ (IsAtom.member {ts} {u} {v} {mid} {r} {x} {a = first} i m f tail few) h =
-    let g = operand_leaves ts u x i h in
-    let k = literal_leaves v mid first f (mark_leaves m g.1).1.1 in
-    let j = repeated_leaves Literal (tokens.Sign s.Comma) IsLiteral GoodLiteral literal_leaves tail k.1 in
-    (tight_good 4 n _ (omega arith) (g.0, (k.0, j.0, few)), j.1.1)
-atom_leaves n _ _ _ (IsAtom.null_test {ts} {u} {r} {x} i m) h =
-    let g = operand_leaves ts (tokens.Word w.Is ∷ u) x i h in
-    (tight_good 4 n _ (omega arith) g.0, (mark_leaves m g.1.1).1)
-atom_leaves n _ _ _ IsAtom.column h = (tight_good 4 n _ (omega arith) h.0, h.1)
-
 -- ---- levels
 
 abbrev FitAt : ℕ → ℕ → PredicateForm → Type 0
@@ -146,9 +112,53 @@ parts_leave top {n} sep D loose =
     repeated_leaves PredicateForm sep D (FitAt top n) (λ ts r p d h. let g = loose ts r p d h in (g.0.fits top (omega arith), g.1))
 
 module _ (n : ℕ) (Inner : Derivation PredicateForm) (inner : Leaves PredicateForm Inner (λ p. Deeper (Good p) n)) where
+  -- ---- expressions
+
+  function_leaves : Leaves FunctionForm (IsFunction Inner) (λ f. GoodFunction f n)
+  function_leaves ts r _ (IsFunction.plain {f} d) h = aggregate_leaves ts r f d h
+  function_leaves ts r _ (IsFunction.filtered {mid} {f} {p} d i) h =
+      let g = aggregate_leaves ts (tokens.Word w.Filter ∷ tokens.Sign s.Open ∷ tokens.Word w.Where ∷ mid) f d h in
+      let k = inner mid (tokens.Sign s.Close ∷ r) p i g.1.1.1.1 in
+      ((g.0, k.0), k.1.1)
+
+  pub expression_leaves : Leaves ExpressionForm (IsExpression Inner) (λ e. GoodExpression e n)
+  expression_leaves _ _ _ IsExpression.name h = h
+  expression_leaves _ _ _ (IsExpression.grouping tail few) h =
+      let others = repeated_leaves (List ℕ) (tokens.Sign s.Comma) IsName GoodName name_leaves tail h.1.1.1 in
+      ((h.1.1.0, others.0, few), others.1.1)
+  expression_leaves ts r _ (IsExpression.function {f} d) h = function_leaves ts r f d h
+
+  operand_leaves : Leaves OperandForm (IsOperand Inner) (λ x. GoodOperand x n)
+  operand_leaves ts r _ (IsOperand.expression {e} d) h = expression_leaves ts r e d h
+  operand_leaves ts r _ (IsOperand.literal {a} d) h = literal_leaves ts r a d h
+
+  -- ---- atoms
+
+  atom_leaves : Loose 4 (IsAtom Inner) n
+  atom_leaves _ _ _ (IsAtom.compare {ts} {u} {v} {r} {x} {y} a o b) h =
+      let f = operand_leaves ts u x a h in
+      let g = operand_leaves v r y b (op_leaves o f.1) in
+      (tight_good 4 n _ (omega arith) (f.0, g.0), g.1)
+  atom_leaves _ _ _ (IsAtom.between {ts} {u} {v} {mid} {r} {x} {y} {z} a m b c) h =
+      let f = operand_leaves ts u x a h in
+      let g = operand_leaves v (tokens.Word w.And ∷ mid) y b (mark_leaves m f.1).1 in
+      let e = operand_leaves mid r z c g.1.1 in
+      (tight_good 4 n _ (omega arith) (f.0, g.0, e.0), e.1)
+  atom_leaves _ _ _ (IsAtom.member {ts} {u} {v} {mid} {r} {x} {a = first} i m f tail few) h =
+      let g = operand_leaves ts u x i h in
+      let k = literal_leaves v mid first f (mark_leaves m g.1).1.1 in
+      let j = repeated_leaves Literal (tokens.Sign s.Comma) IsLiteral GoodLiteral literal_leaves tail k.1 in
+      (tight_good 4 n _ (omega arith) (g.0, (k.0, j.0, few)), j.1.1)
+  atom_leaves _ _ _ (IsAtom.null_test {ts} {u} {r} {x} i m) h =
+      let g = operand_leaves ts (tokens.Word w.Is ∷ u) x i h in
+      (tight_good 4 n _ (omega arith) g.0, (mark_leaves m g.1.1).1)
+  atom_leaves _ _ _ IsAtom.column h = (tight_good 4 n _ (omega arith) h.0, h.1)
+
+  -- ---- predicates
+
   primary_leaves : Loose 4 (IsPrimary Inner) n
   primary_leaves _ _ _ (IsPrimary.brackets {ts} {r} {p} i) h = let g = inner ts (tokens.Sign s.Close ∷ r) p i h.1 in (tight_deeper n p g.0, g.1.1)
-  primary_leaves _ _ _ (IsPrimary.atom {ts} {r} {p} a) h = atom_leaves n ts r p a h
+  primary_leaves _ _ _ (IsPrimary.atom {ts} {r} {p} a) h = atom_leaves ts r p a h
 
   test_leaves : Loose 3 (IsTest Inner) n
   test_leaves _ _ _ (IsTest.plain {ts} {r} {p} i) h = let g = primary_leaves ts r p i h in (tight_less 4 3 n p (omega arith) g.0, g.1)

@@ -4,16 +4,21 @@ use Rattle.query_tokens.specs.declared.token.Token.{Token}
 use Rattle.query_tokens.specs.declared.token.Token.TheVariants as tokens
 use Rattle.query_tokens.specs.declared.token.Word.TheVariants as w
 use Rattle.query_tokens.specs.declared.token.Sign.TheVariants as s
-use Rattle.query_tree.specs.Syntax.{PredicateForm, ElementForm, ItemForm, KeyForm, TreeForm}
+use Rattle.query_tree.specs.Syntax.{ExpressionForm, PredicateForm, ElementForm, ItemForm, KeyForm, TreeForm}
+use Rattle.query_derivation.specs.Predicates.{IsExpression, IsPredicate}
 use Rattle.query_derivation.specs.Grammar.{IsItem, IsWhere, IsGroup, IsGroupBy, IsHaving, IsDirection, IsNullOrdering, IsKey, IsOrderBy, IsQuery}
-use Rattle.query_round.proofs.Good.{Each, Within, Good, GoodItem, GoodElement, GoodKey, GoodTree}
+use Rattle.query_round.proofs.Good.{Each, Within, GoodExpression, Good, GoodItem, GoodElement, GoodKey, GoodTree}
 use Rattle.query_round.proofs.GoodPredicates.{Leaves, repeated_leaves, expression_leaves, predicate_leaves}
 use Rattle.query_round.proofs.GoodGroups.{group_leaves}
 use Rattle.query_round.proofs.Sane.{AllSane}
 
+-- The expression of an item or of a key.
+item_expression_leaves : Leaves ExpressionForm (IsExpression (IsPredicate 64)) (λ e. GoodExpression e 64)
+item_expression_leaves = expression_leaves 64 (IsPredicate 64) (predicate_leaves 64)
+
 item_leaves : Leaves ItemForm IsItem GoodItem
-item_leaves ts r _ (IsItem.plain {e} d) h = let g = expression_leaves ts r e d h in ((g.0, tt), g.1)
-item_leaves ts r _ (IsItem.named {e} {n} d) h = let g = expression_leaves ts (tokens.Word w.As ∷ tokens.Name n ∷ r) e d h in ((g.0, g.1.1.0), g.1.1.1)
+item_leaves ts r _ (IsItem.plain {e} d) h = let g = item_expression_leaves ts r e d h in ((g.0, tt), g.1)
+item_leaves ts r _ (IsItem.named {e} {n} d) h = let g = item_expression_leaves ts (tokens.Word w.As ∷ tokens.Name n ∷ r) e d h in ((g.0, g.1.1.0), g.1.1.1)
 
 where_leaves : Leaves (Option PredicateForm) IsWhere (Within (λ p. Good p 64))
 where_leaves _ _ _ IsWhere.none h = (tt, h)
@@ -42,7 +47,7 @@ null_ordering_leaves IsNullOrdering.last h = h.1.1
 
 key_leaves : Leaves KeyForm IsKey GoodKey
 key_leaves _ _ _ (IsKey.key {ts} {u} {e} d direction nulls) h =
-    let g = expression_leaves ts u e d h in
+    let g = item_expression_leaves ts u e d h in
     (g.0, null_ordering_leaves nulls (direction_leaves direction g.1))
 
 order_by_leaves : Leaves (List KeyForm) IsOrderBy (Each GoodKey)

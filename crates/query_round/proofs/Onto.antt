@@ -55,15 +55,6 @@ aggregate_onto (aggregates.Min n) = argument_onto w.Min (name_onto n)
 aggregate_onto (aggregates.Max n) = argument_onto w.Max (name_onto n)
 aggregate_onto (aggregates.Avg n) = argument_onto w.Avg (name_onto n)
 
-abbrev pub function_onto : FunctionForm → Onto
-function_onto (over_all f) = aggregate_onto f
-function_onto (over_filtered f p) = λ r. r
-
-abbrev pub expression_onto : ExpressionForm → Onto
-expression_onto (name n) = name_onto n
-expression_onto (grouping ns) = argument_onto w.Grouping (commas_onto (map name_onto ns))
-expression_onto (function f) = function_onto f
-
 -- ---- predicates
 
 abbrev pub literal_onto : Literal → Onto
@@ -71,10 +62,6 @@ literal_onto (literals.Integer i) r = tokens.Integer i ∷ r
 literal_onto (literals.Text t) r = tokens.Text t ∷ r
 literal_onto (literals.Truth true) r = tokens.Word w.True ∷ r
 literal_onto (literals.Truth false) r = tokens.Word w.False ∷ r
-
-abbrev pub operand_onto : OperandForm → Onto
-operand_onto (OperandForm.expression e) = expression_onto e
-operand_onto (OperandForm.literal a) = literal_onto a
 
 abbrev pub op_sign : Op → Sign
 op_sign op.Eq = s.Equal
@@ -99,7 +86,24 @@ brackets_onto f r = tokens.Sign s.Open ∷ f (tokens.Sign s.Close ∷ r)
 abbrev pub bracketed_onto : ℕ → ℕ → Onto → Onto
 bracketed_onto least has f = cond (nat_lt has least) (brackets_onto f) f
 
+-- What stands behind a set function of which these records are taken alone.
+abbrev pub filter_onto : Onto → Onto
+filter_onto f r = tokens.Word w.Filter ∷ tokens.Sign s.Open ∷ tokens.Word w.Where ∷ f (tokens.Sign s.Close ∷ r)
+
 abbrev mutual
+  pub function_onto : FunctionForm → Onto
+  function_onto (over_all f) = aggregate_onto f
+  function_onto (over_filtered f p) = λ r. aggregate_onto f (filter_onto (predicate_onto p) r)
+
+  pub expression_onto : ExpressionForm → Onto
+  expression_onto (name n) = name_onto n
+  expression_onto (grouping ns) = argument_onto w.Grouping (commas_onto (map name_onto ns))
+  expression_onto (function f) = function_onto f
+
+  pub operand_onto : OperandForm → Onto
+  operand_onto (OperandForm.expression e) = expression_onto e
+  operand_onto (OperandForm.literal a) = literal_onto a
+
   pub predicate_onto : PredicateForm → Onto
   predicate_onto (or_of ps) = list_onto (tokens.Word w.Or) (part_ontos 1 ps)
   predicate_onto (and_of ps) = list_onto (tokens.Word w.And) (part_ontos 2 ps)

@@ -4,7 +4,7 @@ use Rattle.std.proofs.Math.IntN.{pos, negsuc}
 use Rattle.std.proofs.Math.Bridge.{le_prop}
 use Rattle.query_tree.specs.declared.predicate.Literal.TheVariants as literals
 use Rattle.query_tree.specs.declared.expression.Aggregate.TheVariants as aggregates
-use Rattle.query_tree.specs.Syntax.{OperandForm, PredicateForm, PredicateForms, ElementForm, ElementForms, name, grouping, function, over_all, over_filtered, or_of, and_of, not_of, truth_test, compare, between, member, null_test, column, no_parts, part, set, rollup, cube, sets, no_groups, group}
+use Rattle.query_tree.specs.Syntax.{ExpressionForm, FunctionForm, OperandForm, PredicateForm, PredicateForms, ElementForm, ElementForms, name, grouping, function, over_all, over_filtered, or_of, and_of, not_of, truth_test, compare, between, member, null_test, column, no_parts, part, set, rollup, cube, sets, no_groups, group}
 use Rattle.query_print.specs.Canonical.{tightness}
 use Rattle.query_round.proofs.Good.{Each, Inhabited, Filled, Within, GoodName, GoodAggregate, GoodFunction, GoodExpression, InRange, GoodLiteral, GoodOperand, IsMany, Deeper, Fits, Good, PartsFit, GoodItem, GoodUnit, IsFilled, GoodGroup, GoodGroups, GoodElement, GoodKey, GoodTree}
 
@@ -67,15 +67,6 @@ aggregate_one (aggregates.Min n) = name_one n
 aggregate_one (aggregates.Max n) = name_one n
 aggregate_one (aggregates.Avg n) = name_one n
 
-function_one : AllOne GoodFunction
-function_one (over_all f) = aggregate_one f
-function_one (over_filtered f p) = none_one
-
-expression_one : AllOne GoodExpression
-expression_one (name n) = name_one n
-expression_one (grouping ns) = filled_one 8 GoodName name_one ns
-expression_one (function f) = function_one f
-
 -- ---- predicates
 
 range_one : AllOne InRange
@@ -86,10 +77,6 @@ literal_one : AllOne GoodLiteral
 literal_one (literals.Integer i) = range_one i
 literal_one (literals.Text t) = unit_one
 literal_one (literals.Truth b) = unit_one
-
-operand_one : AllOne GoodOperand
-operand_one (OperandForm.expression e) = expression_one e
-operand_one (OperandForm.literal a) = literal_one a
 
 many_one : AllOne IsMany
 many_one no_parts = none_one
@@ -107,15 +94,28 @@ fits_one least has G one n =
     either_one inside alone (λ x y. let a = x.0 in let b = y.0 in omega arith)
 
 mutual
+  function_one : (f : FunctionForm) (n : ℕ) → IsProp (GoodFunction f n)
+  function_one (over_all f) n = aggregate_one f
+  function_one (over_filtered f p) n = both_one (aggregate_one f) (deeper_one (Good p) (good_one p) n)
+
+  expression_one : (e : ExpressionForm) (n : ℕ) → IsProp (GoodExpression e n)
+  expression_one (name m) n = name_one m
+  expression_one (grouping ms) n = filled_one 8 GoodName name_one ms
+  expression_one (function f) n = function_one f n
+
+  operand_one : (x : OperandForm) (n : ℕ) → IsProp (GoodOperand x n)
+  operand_one (OperandForm.expression e) n = expression_one e n
+  operand_one (OperandForm.literal a) n = literal_one a
+
   good_one : (p : PredicateForm) (n : ℕ) → IsProp (Good p n)
   good_one (or_of ps) n = both_one (many_one ps) (parts_one 1 ps n)
   good_one (and_of ps) n = both_one (many_one ps) (parts_one 2 ps n)
   good_one (not_of p) n = fits_one 3 (tightness p) (Good p) (good_one p) n
   good_one (truth_test p b t) n = fits_one 4 (tightness p) (Good p) (good_one p) n
-  good_one (compare x o y) n = both_one (operand_one x) (operand_one y)
-  good_one (between x b y z) n = three_one (operand_one x) (operand_one y) (operand_one z)
-  good_one (member x b ls) n = both_one (operand_one x) (filled_one 64 GoodLiteral literal_one ls)
-  good_one (null_test x b) n = operand_one x
+  good_one (compare x o y) n = both_one (operand_one x n) (operand_one y n)
+  good_one (between x b y z) n = three_one (operand_one x n) (operand_one y n) (operand_one z n)
+  good_one (member x b ls) n = both_one (operand_one x n) (filled_one 64 GoodLiteral literal_one ls)
+  good_one (null_test x b) n = operand_one x n
   good_one (column m) n = name_one m
 
   parts_one : (least : ℕ) (ps : PredicateForms) (n : ℕ) → IsProp (PartsFit least ps n)
@@ -125,7 +125,7 @@ mutual
 -- ---- the query
 
 item_one : AllOne GoodItem
-item_one i = both_one (expression_one i.expression) (within_one GoodName name_one i.alias)
+item_one i = both_one (expression_one i.expression 64) (within_one GoodName name_one i.alias)
 
 unit_list_one : AllOne (Inhabited GoodUnit)
 unit_list_one = inhabited_one GoodUnit (inhabited_one GoodName name_one)
@@ -152,5 +152,5 @@ tree_one q =
     let where_condition = within_one (λ p. Good p 64) (λ p. good_one p 64) q.where_condition in
     let groups = each_one GoodElement (λ x. group_one x 16) q.groups in
     let having_condition = within_one (λ p. Good p 64) (λ p. good_one p 64) q.having_condition in
-    let keys = each_one GoodKey (λ k. expression_one k.expression) q.keys in
+    let keys = each_one GoodKey (λ k. expression_one k.expression 64) q.keys in
     hlevel (items, where_condition, groups, having_condition, keys)

@@ -10,9 +10,10 @@ use Rattle.query_tree.specs.declared.expression.Aggregate.{Aggregate}
 use Rattle.query_tree.specs.declared.expression.Expression.{Expression}
 use Rattle.query_tree.specs.declared.expression.Operand.{Operand}
 use Rattle.query_tree.specs.declared.expression.Predicate.{Predicate}
+use Rattle.query_tree.specs.declared.expression.SetFunction.{SetFunction}
 use Rattle.query_tree.specs.declared.expression.Expression.TheOpen.{Expression-F, SetFunction-F, Operand-F, Predicate-F}
 use Rattle.query_tree.specs.declared.expression.Expression.TheOpen as layer
-use Rattle.query_tree.specs.declared.expression.Expression.TheFolds.{fold-Expression, fold-Operand, fold-Predicate}
+use Rattle.query_tree.specs.declared.expression.Expression.TheFolds.{fold-Expression, fold-Operand, fold-Predicate, fold-SetFunction}
 use Rattle.query_tree.specs.declared.group.GroupingElement.{GroupingElement}
 use Rattle.query_tree.specs.declared.group.GroupingElement.TheOpen.{GroupingElement-F}
 use Rattle.query_tree.specs.declared.group.GroupingElement.TheOpen as group_layer
@@ -129,6 +130,10 @@ predicate_step (layer.Between a n b c) = between a n b c
 predicate_step (layer.In a n ls) = member a n ls.items
 predicate_step (layer.IsNull a n) = null_test a n
 predicate_step (layer.Column n) = column n
+
+-- The form of a set function.
+abbrev pub function_form : SetFunction → FunctionForm
+function_form = fold-SetFunction ExpressionForm OperandForm PredicateForm FunctionForm expression_step operand_step predicate_step function_step
 
 -- The form of an expression.
 abbrev pub expression_form : Expression → ExpressionForm

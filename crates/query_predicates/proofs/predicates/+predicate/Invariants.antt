@@ -7,23 +7,47 @@ use Rattle.query_predicates.specs.PredicateSteps.{negation_at, conjunction_at, p
 use Rattle.query_leaves.proofs.More.{Unread}
 use Rattle.query_predicates.proofs.predicates.+predicate.Given as goal
 
+abbrev pub decreases-filter : goal.decreases-filter
+decreases-filter l = 16 * l.levels + 1
+
+abbrev pub decreases-set_function : goal.decreases-set_function
+decreases-set_function l = 16 * l.levels + 2
+
+abbrev pub decreases-expression : goal.decreases-expression
+decreases-expression l = 16 * l.levels + 3
+
+abbrev pub decreases-operand : goal.decreases-operand
+decreases-operand l = 16 * l.levels + 4
+
+abbrev pub decreases-between : goal.decreases-between
+decreases-between l = 16 * l.levels + 5
+
+abbrev pub decreases-negated : goal.decreases-negated
+decreases-negated l = 16 * l.levels + 6
+
+abbrev pub decreases-atom : goal.decreases-atom
+decreases-atom l = 16 * l.levels + 7
+
+abbrev pub decreases-tested_atom : goal.decreases-tested_atom
+decreases-tested_atom l = 16 * l.levels + 8
+
 abbrev pub decreases-test : goal.decreases-test
-decreases-test l = 8 * l.levels + 1
+decreases-test l = 16 * l.levels + 9
 
 abbrev pub decreases-negation : goal.decreases-negation
-decreases-negation l = 8 * l.levels + 2
+decreases-negation l = 16 * l.levels + 10
 
 abbrev pub decreases-more_negations : goal.decreases-more_negations
-decreases-more_negations l = 8 * l.levels + 3
+decreases-more_negations l = 16 * l.levels + 11
 
 abbrev pub decreases-conjunction : goal.decreases-conjunction
-decreases-conjunction l = 8 * l.levels + 4
+decreases-conjunction l = 16 * l.levels + 12
 
 abbrev pub decreases-more_conjunctions : goal.decreases-more_conjunctions
-decreases-more_conjunctions l = 8 * l.levels + 5
+decreases-more_conjunctions l = 16 * l.levels + 13
 
 abbrev pub decreases-predicate : goal.decreases-predicate
-decreases-predicate l = 8 * l.levels
+decreases-predicate l = 16 * l.levels
 
 abbrev pub invariant-more_negations-loop-behind : goal.invariant-more_negations-loop-behind
 invariant-more_negations-loop-behind l = record {
