@@ -42,7 +42,7 @@ alias_s ts mid e x p d =
       | inl h ↦ subst (λ (y : Option (List ℕ) × List Token). IsItem ts (item_of e y.0) y.1) (some_is (None, mid) x h.1) (IsItem.plain p)
       | inr h ↦ (let a = bind_some (name_at h.0) (λ n. Some (Some n.0, n.1)) x h.2 in
           let whole = after_word_is w.As mid h.0 h.1 ∙ ap (λ (us : List Token). tokens.Word w.As ∷ us) (name_is h.0 a.0 a.1) in
-          subst (λ (y : Option (List ℕ) × List Token). IsItem ts (item_of e y.0) y.1) (some_is (Some a.0.0, a.0.1) x a.2) (IsItem.named (subst (λ us. IsExpression ts e us) whole p)))
+          subst (λ (y : Option (List ℕ) × List Token). IsItem ts (item_of e y.0) y.1) (some_is (Some a.0.0, a.0.1) x a.2) (IsItem.named (subst (λ us. IsExpression (IsPredicate 64) ts e us) whole p)))
     ]
 
 item_s : IsSound IsItem item_at
