@@ -55,12 +55,13 @@ Query (docs/LANGUAGE.md says all of it):
 
   ITEM   EXPR [AS NAME]
   EXPR   NAME, COUNT(*), COUNT(NAME), COUNT(DISTINCT NAME), SUM(NAME), MIN(NAME), MAX(NAME),
-         AVG(NAME), GROUPING(NAME, ..)
+         AVG(NAME), GROUPING(NAME, ..); all but NAME and GROUPING also with FILTER (WHERE PRED)
   GROUP  NAME, (NAME, ..), (), ROLLUP (NAME, ..), CUBE (NAME, ..), GROUPING SETS (GROUP, ..)
   KEY    EXPR or a NAME after AS, [ASC | DESC], [NULLS FIRST | NULLS LAST]
   PRED   EXPRs, whole numbers, 'texts', TRUE and FALSE, compared by =, <>, <, <=, >, >=, BETWEEN,
          IN and IS NULL; a NAME of type bool; IS TRUE, IS FALSE and IS UNKNOWN; NOT, AND, OR and
-         brackets. WHERE keeps the lines, and HAVING the rows, of which it is true.
+         brackets. WHERE keeps the lines, and HAVING the rows, of which it is true; FILTER takes
+         the lines of a group of which it is true.
 
   Keywords are read in any case. In double quotes a NAME may be any text.
 

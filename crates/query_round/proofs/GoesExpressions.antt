@@ -88,7 +88,7 @@ filter_free = free_free (free_free (spaced_free (word_free w.Filter)) open_free)
 
 pub filtered_goes : (f : Aggregate) {a : List ℕ} {g : Onto} → GoodAggregate f → Goes a g
     → Goes (aggregate_text f ++ codes " FILTER (WHERE " ++ a ++ codes ")") (λ ks. aggregate_onto f (filter_onto g ks))
-filtered_goes f good x = goes_goes (aggregate_goes f good) (begins_of (space_breaks _)) (goes_of (goes_free (free_goes filter_free x) close_breaks close_free))
+filtered_goes f good x = goes_of (goes_free (free_goes (goes_free (aggregate_goes f good) (space_breaks _) filter_free) x) close_breaks close_free)
 
 -- ---- aliases
 
