@@ -1,5 +1,5 @@
-//! Whether a query is typed under a schema, and what it is resolved to: its grouping columns, its expanded list of
-//! grouping sets, and its different set functions.
+//! Whether a query is typed under a schema, and what it is resolved to: its grouping columns, its grouping sets, and its
+//! different set functions.
 #![tactic(auto)]
 
 mod columns;
@@ -10,6 +10,7 @@ mod joining;
 mod laws;
 mod names;
 mod product;
+mod repeats;
 mod resolution;
 mod scope;
 mod typing;
