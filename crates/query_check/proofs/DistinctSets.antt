@@ -18,7 +18,7 @@ use Rattle.query_check.proofs.Rows.{or_true}
 -- ---- two sets
 
 -- Tests are equal where each holds if the other does.
-both_ways : (a b : Bool) → (a ≡ true → b ≡ true) → (b ≡ true → a ≡ true) → a ≡ b
+pub both_ways : (a b : Bool) → (a ≡ true → b ≡ true) → (b ≡ true → a ≡ true) → a ≡ b
 both_ways true b f g = sym (f refl)
 both_ways false true f g = g refl
 both_ways false false f g = refl

@@ -5,6 +5,7 @@ pub mod Distinct
 pub mod Expansions
 pub mod Products
 pub mod DistinctSets
+pub mod DistinctLaw
 pub mod Counts
 pub mod RollupCube
 pub mod Headers

@@ -61,7 +61,7 @@ unfolding groups_at elements_at
 groups_c IsGroupBy.none q = rw q.no_group refl
 groups_c (IsGroupBy.groups {ts} {us} {mid} {r} {d} {g} {gs} quantifier p b) q =
     rw (
-      set_quantifier_c quantifier (group_begins 16 p),
+      set_quantifier_c quantifier (group_begins 16 us mid g p),
       group_c 16 us mid g p,
       unlimited_c (tokens.Sign s.Comma) (is_sign s.Comma) (IsGroup 16) (group_at 16) (λ _. Unit {0}) refl (λ _. tt) (λ us v x j _. group_c 16 us v x j) (group_short 16) b tt q.no_comma,
     ) refl

@@ -93,10 +93,10 @@ element_begins IsInner (IsElement.rollup p b) = refl
 element_begins IsInner (IsElement.cube p b) = refl
 element_begins IsInner (IsElement.sets p b) = refl
 
-pub group_begins : (n : ℕ) {ts r : List Token} {g : ElementForm} → IsGroup n ts g r → after (is_word w.Distinct) ts ≡ None
+pub group_begins : (n : ℕ) (ts r : List Token) (g : ElementForm) → IsGroup n ts g r → after (is_word w.Distinct) ts ≡ None
 unfolding IsGroup
-group_begins zero p = element_begins (λ ts g r. ⊥) p
-group_begins (suc n) p = element_begins (IsGroup n) p
+group_begins zero ts r g p = element_begins (λ ts g r. ⊥) p
+group_begins (suc n) ts r g p = element_begins (IsGroup n) p
 
 element_short : (IsInner : Derivation ElementForm) → Shrinks IsInner → Shrinks (IsElement IsInner)
 element_short IsInner short _ _ _ (IsElement.set {ts} {r} {ns} p) = set_short ts r ns p

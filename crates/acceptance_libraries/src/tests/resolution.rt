@@ -41,6 +41,7 @@ fn counting(alloc: Global) -> Result<Tree, Fail> {
     Ok(Tree {
         items,
         where_condition: None,
+        distinct_sets: false,
         groups,
         having_condition: None,
         keys: Vec::new(alloc),
