@@ -15,6 +15,13 @@ fn has_set(sets: &[Vec<usize>], set: &[usize]) -> bool
     sets.iter().any(|other| other.as_slice() == set)
 }
 
+/// A set once more.
+fn copied(alloc: Global, set: &[usize]) -> Result<Vec<usize>, AllocError>
+    ensures { IfOk result (λ v. v.items ≡ set.now) }
+{
+    set.to_vec(alloc)
+}
+
 /// The sets without repeats, each where it first stands. Sets whose columns stand in another order are different.
 pub(crate) fn without_repeats(
     alloc: Global,
@@ -25,7 +32,7 @@ pub(crate) fn without_repeats(
     let mut found: Vec<Vec<usize>> = Vec::new(alloc);
     for set in sets {
         if !has_set(&found, set) {
-            found.push(set.clone()?)?;
+            found.push(copied(alloc, set)?)?;
         }
     }
     Ok(found)
