@@ -51,12 +51,14 @@ const DETAILS: &str = "Columns:
   first. There are 1 to 32 columns with different names, joined by commas without spaces.
 
 Query (docs/LANGUAGE.md says all of it):
-  SELECT ITEM, .. FROM lines [WHERE PRED] [GROUP BY GROUP, ..] [HAVING PRED] [ORDER BY KEY, ..]
+  SELECT ITEM, .. FROM lines [WHERE PRED] [GROUP BY [DISTINCT] GROUP, ..] [HAVING PRED]
+    [ORDER BY KEY, ..]
 
   ITEM   EXPR [AS NAME]
   EXPR   NAME, COUNT(*), COUNT(NAME), COUNT(DISTINCT NAME), SUM(NAME), MIN(NAME), MAX(NAME),
          AVG(NAME), GROUPING(NAME, ..); all but NAME and GROUPING also with FILTER (WHERE PRED)
-  GROUP  NAME, (NAME, ..), (), ROLLUP (NAME, ..), CUBE (NAME, ..), GROUPING SETS (GROUP, ..)
+  GROUP  NAME, (NAME, ..), (), ROLLUP (NAME, ..), CUBE (NAME, ..), GROUPING SETS (GROUP, ..);
+         with DISTINCT only the first of the grouping sets that have the same columns counts
   KEY    EXPR or a NAME after AS, [ASC | DESC], [NULLS FIRST | NULLS LAST]
   PRED   EXPRs, whole numbers, 'texts', TRUE and FALSE, compared by =, <>, <, <=, >, >=, BETWEEN,
          IN and IS NULL; a NAME of type bool; IS TRUE, IS FALSE and IS UNKNOWN; NOT, AND, OR and

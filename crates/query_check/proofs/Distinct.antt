@@ -35,7 +35,7 @@ distinct_push {A} same (x ∷ xs) z =
     ])
 
 -- A filter that keeps what passes a test keeps whether any passes.
-any_filter : {A : Type 0} (p k : A → Bool) → ((y : A) → p y ≡ true → k y ≡ true) → (ys : List A) → list_any p (filter k ys) ≡ list_any p ys
+pub any_filter : {A : Type 0} (p k : A → Bool) → ((y : A) → p y ≡ true → k y ≡ true) → (ys : List A) → list_any p (filter k ys) ≡ list_any p ys
 any_filter p k kept [] = refl
 any_filter p k kept (y ∷ ys) =
     elim (k y) as (λ (b : Bool). k y ≡ b → list_any p (cond b (y ∷ filter k ys) (filter k ys)) ≡ (p y || list_any p ys)) [

@@ -29,7 +29,7 @@ item e = record { expression = e; alias = None }
 
 -- SELECT .. FROM lines GROUP BY c
 abbrev selected : List ItemForm → TreeForm
-selected items = record { items = items; where_condition = None; groups = set (codes "c" ∷ []) ∷ []; having_condition = None; keys = [] }
+selected items = record { items = items; where_condition = None; distinct_sets = false; groups = set (codes "c" ∷ []) ∷ []; having_condition = None; keys = [] }
 
 -- x = 1, where x is a name
 abbrev is_one : List ℕ → PredicateForm
@@ -37,13 +37,14 @@ is_one x = compare (expression (name x)) Eq (literal (constant.Integer (pos 1)))
 
 -- SELECT c FROM lines WHERE x = 1
 abbrev where_one : List ℕ → TreeForm
-where_one x = record { items = item c ∷ []; where_condition = Some (is_one x); groups = []; having_condition = None; keys = [] }
+where_one x = record { items = item c ∷ []; where_condition = Some (is_one x); distinct_sets = false; groups = []; having_condition = None; keys = [] }
 
 -- SELECT c, AVG(q) AS m FROM lines GROUP BY c ORDER BY m
 abbrev by_average : TreeForm
 by_average = record {
   items = item c ∷ record { expression = average; alias = Some (codes "m") } ∷ [];
   where_condition = None;
+  distinct_sets = false;
   groups = set (codes "c" ∷ []) ∷ [];
   having_condition = None;
   keys = record { expression = name (codes "m"); descending = false; nulls_first = false } ∷ [];

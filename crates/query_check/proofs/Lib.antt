@@ -4,6 +4,8 @@ pub mod Places
 pub mod Distinct
 pub mod Expansions
 pub mod Products
+pub mod DistinctSets
+pub mod DistinctLaw
 pub mod Counts
 pub mod RollupCube
 pub mod Headers

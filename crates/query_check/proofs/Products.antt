@@ -13,11 +13,11 @@ use Rattle.query_check.proofs.Rows.{or_true}
 -- ---- one set
 
 -- Whether a place is in a set.
-abbrev has : ℕ → List ℕ → Bool
+abbrev pub has : ℕ → List ℕ → Bool
 has c set = list_any (λ p. p == c) set
 
 -- A place is in the list that begins with it.
-has_first : (x : ℕ) (xs : List ℕ) → has x (x ∷ xs) ≡ true
+pub has_first : (x : ℕ) (xs : List ℕ) → has x (x ∷ xs) ≡ true
 has_first x xs = let e : (x == x) ≡ true = grind (arith, nat_tests) in rw e refl
 
 -- Of two tests either may be taken first.
@@ -32,7 +32,7 @@ and_true true b e = e
 and_true false b e = refl
 
 -- Tests that agree on all that a list has keep the same of it.
-same_filter : (k l : ℕ → Bool) (xs : List ℕ) → ((x : ℕ) → has x xs ≡ true → k x ≡ l x) → filter k xs ≡ filter l xs
+pub same_filter : (k l : ℕ → Bool) (xs : List ℕ) → ((x : ℕ) → has x xs ≡ true → k x ≡ l x) → filter k xs ≡ filter l xs
 same_filter k l [] agree = refl
 same_filter k l (x ∷ xs) agree =
     ap (λ (b : Bool). cond b (x ∷ filter k xs) (filter k xs)) (agree x (has_first x xs))
@@ -43,7 +43,7 @@ same_there : (set : List ℕ) (c d : ℕ) → (d == c) ≡ true → has d set �
 same_there set c d e = let same : d ≡ c = grind (arith, nat_tests) in ap (λ (x : ℕ). has x set) same
 
 -- Ordered, a set has the same of the grouping columns.
-has_ordered : (grouping set : List ℕ) (c : ℕ) → has c grouping ≡ true → has c (ordered_set grouping set) ≡ has c set
+pub has_ordered : (grouping set : List ℕ) (c : ℕ) → has c grouping ≡ true → has c (ordered_set grouping set) ≡ has c set
 has_ordered grouping set c there =
     any-filter_same (λ p. p == c) (λ d. has d set) (has c set) (same_there set c) grouping
     ∙ and_true (has c set) (has c grouping) there

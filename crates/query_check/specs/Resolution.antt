@@ -11,7 +11,7 @@ use Rattle.query_check.specs.Functions.{functions_of}
 abbrev pub contents : List (Vec ℕ) → List (List ℕ)
 contents sets = map (λ s. s.items) sets
 
--- The grouping columns, the expanded list of sets, and the different set functions, by places of columns.
+-- The grouping columns, the grouping sets, and the different set functions, by places of columns.
 pub record Resolution : Type 0 where
   pub grouping : List ℕ
   pub sets : List (List ℕ)

@@ -1,6 +1,6 @@
--- The expanded list of grouping sets (ISO/IEC 9075-2, <group by clause>).
-use Rattle.std.specs.Prelude.{ℕ, ◌==◌, List, [], ◌∷◌, ◌++◌, map, filter}
-use Rattle.std.specs.List.{flat_map, list_any}
+-- The grouping sets of a query (ISO/IEC 9075-2, <group by clause>).
+use Rattle.std.specs.Prelude.{ℕ, ◌==◌, Bool, ◌&&◌, List, [], ◌∷◌, ◌++◌, map, filter, if◌then◌else◌}
+use Rattle.std.specs.List.{flat_map, list_all, list_any}
 use Rattle.values.specs.Schema.{Field}
 use Rattle.query_tree.specs.Syntax.{ElementForm, ElementForms, TreeForm, set, rollup, cube, sets, no_groups, group}
 use Rattle.query_check.specs.Columns.{distinct, group_names, places_of}
@@ -52,5 +52,14 @@ ordered_set grouping places = filter (λ c. list_any (λ p. p == c) places) grou
 
 -- The expanded list of grouping sets of a query, each as the places of its columns, in the order in which
 -- GROUP BY first names them.
+abbrev pub expanded_sets : List Field → TreeForm → List (List ℕ)
+expanded_sets fields t = map (λ names. ordered_set (grouping_places fields t) (places_of fields names)) (expanded t.groups)
+
+-- Whether two sets have the same columns, in whatever order and however often.
+abbrev pub same_columns : List ℕ → List ℕ → Bool
+same_columns first second = list_all (λ c. list_any (λ p. p == c) second) first && list_all (λ c. list_any (λ p. p == c) first) second
+
+-- The grouping sets of a query: its expanded list, and where GROUP BY DISTINCT is written, that list without each set
+-- that has the same columns as an earlier one.
 abbrev pub sets_of : List Field → TreeForm → List (List ℕ)
-sets_of fields t = map (λ names. ordered_set (grouping_places fields t) (places_of fields names)) (expanded t.groups)
+sets_of fields t = if t.distinct_sets then distinct same_columns (expanded_sets fields t) else expanded_sets fields t

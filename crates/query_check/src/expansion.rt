@@ -1,15 +1,16 @@
-//! The expanded list of grouping sets.
+//! The grouping sets of a query.
 
-ghost use Rattle.std.specs.Prelude.{◌≡◌, map, IfOk};
+ghost use Rattle.std.specs.Prelude.{◌≡◌, map, if◌then◌else◌, IfOk};
 ghost use Rattle.values.specs.Schema.{fields_of};
 ghost use Rattle.query_tree.specs.Syntax.{element_form, units_form};
-ghost use Rattle.query_check.specs.Columns.{places_of};
-ghost use Rattle.query_check.specs.Sets.{expanded, group_sets, ordered_set};
+ghost use Rattle.query_check.specs.Columns.{distinct, places_of};
+ghost use Rattle.query_check.specs.Sets.{expanded, group_sets, ordered_set, same_columns};
 ghost use Rattle.query_check.specs.Resolution.{contents};
 
 use crate::joining::{cube, one_set, ordered_set, ordered_sets, rollup};
 use crate::names::push_places;
 use crate::product::Product;
+use crate::repeats::without_repeats;
 use query_tree::{GroupingElement, Text};
 use std::alloc::{AllocError, Global};
 use values::Column;
@@ -76,7 +77,7 @@ fn group_sets(
 
 /// The expanded list of grouping sets, each set in the order of the grouping columns: the cross product of the elements
 /// of GROUP BY, the leftmost varying slowest.
-pub(crate) fn expand(
+fn expand(
     alloc: Global,
     columns: &[Column],
     grouping: &[usize],
@@ -89,4 +90,22 @@ pub(crate) fn expand(
         product.cross(alloc, &group_sets(alloc, columns, grouping, group)?)?;
     }
     product.ordered(alloc, grouping)
+}
+
+/// The grouping sets, each in the order of the grouping columns: the expanded list, and where they are to be distinct, that
+/// list without each set that has the same columns as an earlier one.
+pub(crate) fn grouping_sets(
+    alloc: Global,
+    columns: &[Column],
+    grouping: &[usize],
+    distinct_sets: bool,
+    groups: &[GroupingElement],
+) -> Result<Vec<Vec<usize>>, AllocError>
+    ensures { let all = map (λ names. ordered_set grouping.now (places_of (fields_of columns.now) names)) (expanded (map element_form groups.now)) in IfOk result (λ v. contents v.items ≡ (if distinct_sets then distinct same_columns all else all)) }
+{
+    let all = expand(alloc, columns, grouping, groups)?;
+    if distinct_sets {
+        return without_repeats(alloc, &all);
+    }
+    Ok(all)
 }

@@ -1,8 +1,10 @@
 //! Laws of grouping sets, with no work to do.
 
-ghost use Rattle.std.specs.Prelude.{ℕ, List};
-ghost use Rattle.query_check.specs.Sets.{cube_sets, rollup_sets};
-ghost use Rattle.query_check.specs.Laws.{IsCube, IsRollup};
+ghost use Rattle.std.specs.Prelude.{◌≡◌, ℕ, List, true};
+ghost use Rattle.values.specs.Schema.{Field};
+ghost use Rattle.query_tree.specs.Syntax.{TreeForm};
+ghost use Rattle.query_check.specs.Sets.{cube_sets, expanded_sets, rollup_sets, sets_of};
+ghost use Rattle.query_check.specs.Laws.{AreDistinct, IsCube, IsRollup};
 
 /// A law: ROLLUP stands for the sets of its first n units, of its first n-1, and so on to the empty set.
 pub fn rollup_law()
@@ -13,4 +15,10 @@ pub fn rollup_law()
 /// first unit.
 pub fn cube_law()
     ensures { (units : List (List (List ℕ))) → IsCube units (cube_sets units) }
+{}
+
+/// A law: GROUP BY DISTINCT keeps of the expanded list each set that has not the columns of an earlier one, in order. So
+/// no two of its sets have the same columns, and each set of the expanded list has its columns in one of them.
+pub fn distinct_law()
+    ensures { (fields : List Field) (t : TreeForm) → t.distinct_sets ≡ true → AreDistinct (expanded_sets fields t) (sets_of fields t) }
 {}

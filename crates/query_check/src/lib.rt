@@ -1,5 +1,5 @@
-//! Whether a query is typed under a schema, and what it is resolved to: its grouping columns, its expanded list of
-//! grouping sets, and its different set functions.
+//! Whether a query is typed under a schema, and what it is resolved to: its grouping columns, its grouping sets, and its
+//! different set functions.
 #![tactic(auto)]
 
 mod columns;
@@ -10,6 +10,7 @@ mod joining;
 mod laws;
 mod names;
 mod product;
+mod repeats;
 mod resolution;
 mod scope;
 mod typing;
@@ -17,6 +18,6 @@ mod typing;
 pub use columns::place_of;
 pub use counting::set_count;
 pub use function::{ColumnFunction, column_function};
-pub use laws::{cube_law, rollup_law};
+pub use laws::{cube_law, distinct_law, rollup_law};
 pub use resolution::{Resolved, check_tree, key_expression};
 pub use scope::Clause;

@@ -17,7 +17,7 @@ ghost use Rattle.query_fault.specs.declared.QueryFault.TheVariants.{OutOfMemory,
 ghost use Rattle.query_check.specs.Resolution.{resolution_of};
 
 use crate::counting::set_count;
-use crate::expansion::expand;
+use crate::expansion::grouping_sets;
 use crate::function::{ColumnFunction, column_function};
 use crate::names::{check_groups, grouping_places};
 use crate::scope::{Clause, Scope};
@@ -61,8 +61,9 @@ impl Resolved {
         self.grouping.as_slice()
     }
 
-    /// The expanded list of grouping sets, each as the places of its columns, in the order in which GROUP BY first
-    /// names them. Without GROUP BY it is the one empty set.
+    /// The grouping sets, each as the places of its columns, in the order in which GROUP BY first names them: the
+    /// expanded list, under GROUP BY DISTINCT without each set that has the same columns as an earlier one. Without
+    /// GROUP BY it is the one empty set.
     pub fn sets(&self) -> &[Vec<usize>]
         ensures { contents result.now ≡ self.now.sets }
     {
@@ -423,7 +424,7 @@ fn resolve(alloc: Global, tree: &Tree, schema: &Schema) -> Result<Resolved, Quer
     let columns = schema.columns();
     let grouping = grouping_places(alloc, columns, &tree.groups)?;
     let functions = check_clauses(alloc, columns, &grouping, tree)?;
-    let sets = expand(alloc, columns, &grouping, &tree.groups)?;
+    let sets = grouping_sets(alloc, columns, &grouping, tree.distinct_sets, &tree.groups)?;
     Ok(Resolved {
         grouping,
         sets,

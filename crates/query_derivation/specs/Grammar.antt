@@ -51,10 +51,17 @@ unfoldable pub IsGroup : ℕ → List Token → ElementForm → List Token → T
 IsGroup zero ts g r = IsElement (λ ts g r. ⊥) ts g r
 IsGroup (suc n) ts g r = IsElement (IsGroup n) ts g r
 
--- [ GROUP BY group { "," group } ], with at most 16 levels of GROUPING SETS in one another
-pub data IsGroupBy : List Token → List ElementForm → List Token → Type 0 where
-  none : {r : List Token} → IsGroupBy r [] r
-  groups : {ts mid r : List Token} {g : ElementForm} {gs : List ElementForm} → IsGroup 16 ts g mid → IsRepeated (tokens.Sign s.Comma) (IsGroup 16) mid gs r → IsGroupBy (tokens.Word w.Group ∷ tokens.Word w.By ∷ ts) (g ∷ gs) r
+-- [ DISTINCT ], and whether it is written
+pub data IsSetQuantifier : List Token → Bool → List Token → Type 0 where
+  none : {r : List Token} → IsSetQuantifier r false r
+  distinct : {r : List Token} → IsSetQuantifier (tokens.Word w.Distinct ∷ r) true r
+
+-- [ GROUP BY [ DISTINCT ] group { "," group } ], whether DISTINCT is written, and the elements, with at most 16 levels of
+-- GROUPING SETS in one another
+pub data IsGroupBy : List Token → Bool → List ElementForm → List Token → Type 0 where
+  none : {r : List Token} → IsGroupBy r false [] r
+  groups : {ts us mid r : List Token} {d : Bool} {g : ElementForm} {gs : List ElementForm} → IsSetQuantifier ts d us → IsGroup 16 us g mid → IsRepeated (tokens.Sign s.Comma) (IsGroup 16) mid gs r
+      → IsGroupBy (tokens.Word w.Group ∷ tokens.Word w.By ∷ ts) d (g ∷ gs) r
 
 -- [ HAVING pred ], with at most 64 levels of brackets
 pub data IsHaving : List Token → Option PredicateForm → List Token → Type 0 where
@@ -83,14 +90,14 @@ pub data IsOrderBy : List Token → List KeyForm → List Token → Type 0 where
   keys : {ts mid r : List Token} {k : KeyForm} {ks : List KeyForm} → IsKey ts k mid → IsRepeated (tokens.Sign s.Comma) IsKey mid ks r → IsOrderBy (tokens.Word w.Order ∷ tokens.Word w.By ∷ ts) (k ∷ ks) r
 
 -- query = SELECT item { "," item } FROM lines
---         [ WHERE pred ] [ GROUP BY group { "," group } ]
+--         [ WHERE pred ] [ GROUP BY [ DISTINCT ] group { "," group } ]
 --         [ HAVING pred ] [ ORDER BY key { "," key } ]
 -- with at most 64 items; `lines` is the name `lines`, compared exactly
 pub data IsQuery : List Token → TreeForm → List Token → Type 0 where
-  query : {ts mid after_from after_where after_groups after_having r : List Token} {i : ItemForm} {is : List ItemForm} {p h : Option PredicateForm} {gs : List ElementForm} {ks : List KeyForm}
+  query : {ts mid after_from after_where after_groups after_having r : List Token} {i : ItemForm} {is : List ItemForm} {p h : Option PredicateForm} {d : Bool} {gs : List ElementForm} {ks : List KeyForm}
       → IsItem ts i mid → IsRepeated (tokens.Sign s.Comma) IsItem mid is (tokens.Word w.From ∷ tokens.Name (codes "lines") ∷ after_from) → length is < 64
-      → IsWhere after_from p after_where → IsGroupBy after_where gs after_groups → IsHaving after_groups h after_having → IsOrderBy after_having ks r
-      → IsQuery (tokens.Word w.Select ∷ ts) record { items = i ∷ is; where_condition = p; groups = gs; having_condition = h; keys = ks } r
+      → IsWhere after_from p after_where → IsGroupBy after_where d gs after_groups → IsHaving after_groups h after_having → IsOrderBy after_having ks r
+      → IsQuery (tokens.Word w.Select ∷ ts) record { items = i ∷ is; where_condition = p; distinct_sets = d; groups = gs; having_condition = h; keys = ks } r
 
 -- All of the tokens derive the query, within the limits.
 abbrev pub Derives : List Token → TreeForm → Type 0

@@ -1,5 +1,5 @@
 -- Queries that derive from tokens are read.
-use Rattle.std.proofs.Common.{arith, ◌≡◌, List, [], ◌∷◌, Option, Some, None, Result, Ok, Err, refl, sym, ◌∙◌}
+use Rattle.std.proofs.Common.{arith, ◌≡◌, Bool, List, [], ◌∷◌, Option, Some, None, Result, Ok, Err, refl, sym, ◌∙◌}
 use Rattle.std.specs.Prelude.{codes, MatchResult}
 use Rattle.query_tokens.specs.declared.token.Token.{Token}
 use Rattle.query_tokens.specs.declared.token.Token.TheVariants as tokens
@@ -13,15 +13,15 @@ use Rattle.query_leaves.specs.declared.fault.GrammarFault.TheVariants as faults
 use Rattle.query_leaves.specs.Fronts.{is_word, is_sign, after}
 use Rattle.query_leaves.specs.Steps.{Gives, name_at}
 use Rattle.query_grammar.specs.GroupSteps.{group_at}
-use Rattle.query_grammar.specs.QuerySteps.{alias_at, item_at, items_at, from_at, clause_at, groups_at, select_at, records_at, rows_at, query_at, whole_at}
+use Rattle.query_grammar.specs.QuerySteps.{alias_at, item_at, items_at, from_at, clause_at, groups_at, select_at, records_at, rows_at, query_at, whole_at, set_quantifier_at, elements_at}
 use Rattle.query_predicates.specs.ExpressionSteps.{expression_at}
 use Rattle.query_predicates.specs.PredicateSteps.{predicate_at}
 use Rattle.query_derivation.specs.Predicates.{IsExpression, IsPredicate}
-use Rattle.query_derivation.specs.Grammar.{IsItem, IsWhere, IsGroup, IsGroupBy, IsHaving, IsOrderBy, IsQuery, Derives}
+use Rattle.query_derivation.specs.Grammar.{IsItem, IsWhere, IsGroup, IsGroupBy, IsHaving, IsOrderBy, IsQuery, Derives, IsSetQuantifier}
 use Rattle.query_leaves.proofs.CompleteLists.{repeated_follow, repeated_c, unlimited_c}
 use Rattle.query_predicates.proofs.CompleteExpressions.{EndsFunction, expression_c}
 use Rattle.query_predicates.proofs.CompletePredicates.{EndsPredicate, group_ends, having_ends, order_ends, nil_ends, predicate_c, bracketed_c}
-use Rattle.query_grammar.proofs.CompleteGroups.{group_short, group_c}
+use Rattle.query_grammar.proofs.CompleteGroups.{group_short, group_c, group_begins}
 use Rattle.query_grammar.proofs.CompleteKeys.{EndsKeys, keys_c, nil_ends_keys}
 
 -- Neither a FILTER nor an alias goes on an item that ends here.
@@ -63,16 +63,26 @@ record EndsGroups (r : List Token) : Type 0 where
   no_group : after (is_word w.Group) r ≡ None
   no_comma : after (is_sign s.Comma) r ≡ None
 
-groups_c : {ts r : List Token} {gs : List ElementForm} → IsGroupBy ts gs r → EndsGroups r → groups_at ts ≡ Some (gs, r)
-unfolding groups_at
+-- A DISTINCT that is not written ends where no DISTINCT stands.
+set_quantifier_c : {ts us : List Token} {d : Bool} → IsSetQuantifier ts d us → after (is_word w.Distinct) us ≡ None → set_quantifier_at ts ≡ (d, us)
+unfolding set_quantifier_at
+set_quantifier_c IsSetQuantifier.none q = rw q refl
+set_quantifier_c IsSetQuantifier.distinct q = refl
+
+groups_c : {ts r : List Token} {d : Bool} {gs : List ElementForm} → IsGroupBy ts d gs r → EndsGroups r → groups_at ts ≡ Some ((d, gs), r)
+unfolding groups_at elements_at
 groups_c IsGroupBy.none q = rw q.no_group refl
-groups_c (IsGroupBy.groups {ts} {mid} {r} {g} {gs} p b) q =
-    rw (group_c 16 ts mid g p, unlimited_c (tokens.Sign s.Comma) (is_sign s.Comma) (IsGroup 16) (group_at 16) (λ _. Unit {0}) refl (λ _. tt) (λ us v x j _. group_c 16 us v x j) (group_short 16) b tt q.no_comma) refl
+groups_c (IsGroupBy.groups {ts} {us} {mid} {r} {d} {g} {gs} quantifier p b) q =
+    rw (
+      set_quantifier_c quantifier (group_begins 16 us mid g p),
+      group_c 16 us mid g p,
+      unlimited_c (tokens.Sign s.Comma) (is_sign s.Comma) (IsGroup 16) (group_at 16) (λ _. Unit {0}) refl (λ _. tt) (λ us v x j _. group_c 16 us v x j) (group_short 16) b tt q.no_comma,
+    ) refl
 
 -- WHERE ends where GROUP BY begins, written or not.
-groups_begin : {ts r : List Token} {gs : List ElementForm} → IsGroupBy ts gs r → EndsGroups r → EndsWhere ts
+groups_begin : {ts r : List Token} {d : Bool} {gs : List ElementForm} → IsGroupBy ts d gs r → EndsGroups r → EndsWhere ts
 groups_begin IsGroupBy.none q = q.ends_where
-groups_begin (IsGroupBy.groups {ts} p b) q = record { predicate = group_ends (tokens.Word w.By ∷ ts); no_where = refl }
+groups_begin (IsGroupBy.groups {ts} quantifier p b) q = record { predicate = group_ends (tokens.Word w.By ∷ ts); no_where = refl }
 
 -- What may stand behind HAVING, written or not.
 record EndsHaving (r : List Token) : Type 0 where
@@ -104,7 +114,7 @@ keys_begin (IsOrderBy.keys {ts} p b) q = record {
 
 query_c : {ts r : List Token} {q : TreeForm} → IsQuery ts q r → EndsQuery r → query_at ts ≡ Some (q, r)
 unfolding query_at select_at records_at rows_at items_at
-query_c (IsQuery.query {ts} {mid} {after_from} {after_where} {after_groups} {after_having} {r} {i} {is} {p} {h} {gs} {ks} first others few d_where d_groups d_having d_keys) q =
+query_c (IsQuery.query {ts} {mid} {after_from} {after_where} {after_groups} {after_having} {r} {i} {is} {p} {h} {d} {gs} {ks} first others few d_where d_groups d_having d_keys) q =
     let behind_groups : EndsHaving after_having = keys_begin d_keys q in
     let behind_where : EndsGroups after_groups = having_begins d_having behind_groups in
     rw (

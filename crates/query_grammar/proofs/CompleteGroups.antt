@@ -84,6 +84,20 @@ element_c IsInner nested reads (IsElement.rollup p b) = rw (units_c p b) refl
 element_c IsInner nested reads (IsElement.cube p b) = rw (units_c p b) refl
 element_c IsInner nested reads (IsElement.sets {ts} {mid} {r} {g} {gs} p b) = rw (reads ts mid r g gs p b) refl
 
+-- No element begins with DISTINCT, since that is no name.
+element_begins : (IsInner : Derivation ElementForm) {ts r : List Token} {g : ElementForm} → IsElement IsInner ts g r → after (is_word w.Distinct) ts ≡ None
+element_begins IsInner (IsElement.set IsSet.none) = refl
+element_begins IsInner (IsElement.set (IsSet.unit IsUnit.column)) = refl
+element_begins IsInner (IsElement.set (IsSet.unit (IsUnit.columns b))) = refl
+element_begins IsInner (IsElement.rollup p b) = refl
+element_begins IsInner (IsElement.cube p b) = refl
+element_begins IsInner (IsElement.sets p b) = refl
+
+pub group_begins : (n : ℕ) (ts r : List Token) (g : ElementForm) → IsGroup n ts g r → after (is_word w.Distinct) ts ≡ None
+unfolding IsGroup
+group_begins zero ts r g p = element_begins (λ ts g r. ⊥) p
+group_begins (suc n) ts r g p = element_begins (IsGroup n) p
+
 element_short : (IsInner : Derivation ElementForm) → Shrinks IsInner → Shrinks (IsElement IsInner)
 element_short IsInner short _ _ _ (IsElement.set {ts} {r} {ns} p) = set_short ts r ns p
 element_short IsInner short _ _ _ (IsElement.rollup {ts} {mid} {r} {u} {us} p b) = omega (arith, unit_short ts mid u p, repeated_short (tokens.Sign s.Comma) IsUnit unit_short b)

@@ -1,5 +1,5 @@
 -- Queries that are read from tokens derive from them.
-use Rattle.std.proofs.Common.{arith, rules, length, ◌<◌, ◌≡◌, ℕ, true, cond, List, [], ◌∷◌, Option, Some, None, Result, Ok, Err, refl, sym, ap, subst, ◌∙◌, inl, inr}
+use Rattle.std.proofs.Common.{arith, rules, length, ◌<◌, ◌≡◌, ℕ, Bool, true, false, cond, List, [], ◌∷◌, Option, Some, None, Result, Ok, Err, refl, sym, ap, subst, ◌∙◌, inl, inr}
 use Rattle.std.specs.Prelude.{codes, IfOk}
 use Rattle.std.specs.Str.{bytes_eq}
 use Rattle.std.proofs.lemmas.Slice.Eq.{bytes_eq-Decides}
@@ -19,17 +19,17 @@ use Rattle.query_predicates.specs.ExpressionSteps.{expression_at}
 use Rattle.query_predicates.specs.PredicateSteps.{predicate_at}
 use Rattle.query_grammar.specs.GroupSteps.{all_at, group_at}
 use Rattle.query_grammar.specs.KeySteps.{keys_at}
-use Rattle.query_grammar.specs.QuerySteps.{alias_at, item_at, items_at, from_at, clause_at, groups_at, select_at, records_at, rows_at, query_at, at_end, whole_at}
+use Rattle.query_grammar.specs.QuerySteps.{alias_at, item_at, items_at, from_at, clause_at, set_quantifier_at, elements_at, groups_at, select_at, records_at, rows_at, query_at, at_end, whole_at}
 use Rattle.query_derivation.specs.Leaves.{Derivation}
 use Rattle.query_derivation.specs.Predicates.{IsExpression, IsPredicate}
-use Rattle.query_derivation.specs.Grammar.{IsItem, IsWhere, IsGroup, IsGroupBy, IsHaving, IsOrderBy, IsQuery, Derives}
+use Rattle.query_derivation.specs.Grammar.{IsItem, IsWhere, IsGroup, IsSetQuantifier, IsGroupBy, IsHaving, IsOrderBy, IsQuery, Derives}
 use Rattle.query_leaves.proofs.Heads.{after_word_is}
 use Rattle.query_leaves.proofs.SoundLists.{IsSound, IsListed, only_some, read_as, begins_as, listed_s}
 use Rattle.query_leaves.proofs.SoundLeaves.{name_is}
 use Rattle.query_predicates.proofs.SoundExpressions.{expression_s}
 use Rattle.query_predicates.proofs.SoundPredicates.{predicate_s}
 use Rattle.query_grammar.proofs.SoundGroups.{group_s}
-use Rattle.query_grammar.proofs.SoundKeys.{keys_s}
+use Rattle.query_grammar.proofs.SoundKeys.{choose_is, keys_s}
 
 -- An item with this expression and this alias.
 item_of : ExpressionForm → Option (List ℕ) → ItemForm
@@ -89,22 +89,45 @@ where_s = clause_s w.Where IsWhere (λ r. IsWhere.none) (λ ts r p d. IsWhere.co
 having_s : IsSound IsHaving (clause_at w.Having)
 having_s = clause_s w.Having IsHaving (λ r. IsHaving.none) (λ ts r p d. IsHaving.condition d)
 
-groups_s : IsSound IsGroupBy groups_at
+set_quantifier_s : (ts : List Token) → IsSetQuantifier ts (set_quantifier_at ts).0 (set_quantifier_at ts).1
+unfolding set_quantifier_at
+set_quantifier_s ts =
+    elim (choose_is {B = Bool × List Token} (after (is_word w.Distinct) ts) (false, ts) (λ r. (true, r))) [
+      | inr h ↦ (let made : IsSetQuantifier ts true h.0 = begins_as IsSetQuantifier (after_word_is w.Distinct ts h.0 h.1) IsSetQuantifier.distinct in
+          subst (λ (z : Bool × List Token). IsSetQuantifier ts z.0 z.1) (sym h.2) made)
+      | inl h ↦ (let made : IsSetQuantifier ts false ts = IsSetQuantifier.none in
+          subst (λ (z : Bool × List Token). IsSetQuantifier ts z.0 z.1) (sym h.1) made)
+    ]
+
+-- GROUP BY, with whether DISTINCT is written beside its elements.
+abbrev GroupsDerive : List Token → Bool × List ElementForm → List Token → Type 0
+GroupsDerive ts x r = IsGroupBy ts x.0 x.1 r
+
+-- What stands behind GROUP BY.
+elements_s : (ts : List Token) (x : (Bool × List ElementForm) × List Token) → elements_at ts ≡ Some x → GroupsDerive (tokens.Word w.Group ∷ tokens.Word w.By ∷ ts) x.0 x.1
+unfolding elements_at
+elements_s ts x e =
+    let d = set_quantifier_at ts in
+    let a = bind_some (all_at (group_at 16) d.1) (λ gs. Some ((d.0, gs.0), gs.1)) x e in
+    let b = bind_some (group_at 16 d.1) (λ first. with_front (first.0 ∷ []) (more (is_sign s.Comma) (group_at 16) (length first.1) first.1)) a.0 a.1 in
+    let l = listed_s (IsGroup 16) (group_at 16) (group_s 16) (length b.0.1) d.1 b.0 a.0 b.1 b.2 in
+    let made : IsGroupBy (tokens.Word w.Group ∷ tokens.Word w.By ∷ ts) d.0 (l.first ∷ l.others) a.0.1 = IsGroupBy.groups (set_quantifier_s ts) l.head l.tail in
+    let named = subst (λ (gs : List ElementForm). IsGroupBy (tokens.Word w.Group ∷ tokens.Word w.By ∷ ts) d.0 gs a.0.1) (sym l.all_is) made in
+    read_as GroupsDerive a.2 named
+
+groups_s : IsSound GroupsDerive groups_at
 unfolding groups_at
 groups_s ts x e =
-    elim (choose_some (after (is_word w.Group) ts) (Some ([], ts)) (λ a. choose (after (is_word w.By) a) None (λ b. all_at (group_at 16) b)) x e) [
-      | inl h ↦ read_as IsGroupBy h.1 IsGroupBy.none
-      | inr h ↦ (let a = only_some (after (is_word w.By) h.0) (λ b. all_at (group_at 16) b) x h.2 in
-          let b = bind_some (group_at 16 a.0) (λ first. with_front (first.0 ∷ []) (more (is_sign s.Comma) (group_at 16) (length first.1) first.1)) x a.2 in
-          let l = listed_s (IsGroup 16) (group_at 16) (group_s 16) (length b.0.1) a.0 b.0 x b.1 b.2 in
+    elim (choose_some (after (is_word w.Group) ts) (Some ((false, []), ts)) (λ a. choose (after (is_word w.By) a) None (λ b. elements_at b)) x e) [
+      | inl h ↦ read_as GroupsDerive h.1 IsGroupBy.none
+      | inr h ↦ (let a = only_some (after (is_word w.By) h.0) (λ b. elements_at b) x h.2 in
           let whole = after_word_is w.Group ts h.0 h.1 ∙ ap (λ (us : List Token). tokens.Word w.Group ∷ us) (after_word_is w.By h.0 a.0 a.1) in
-          let made : IsGroupBy (tokens.Word w.Group ∷ tokens.Word w.By ∷ a.0) (l.first ∷ l.others) x.1 = IsGroupBy.groups l.head l.tail in
-          subst (λ (gs : List ElementForm). IsGroupBy ts gs x.1) (sym l.all_is) (begins_as IsGroupBy whole made))
+          subst (λ (us : List Token). GroupsDerive us x.0 x.1) (sym whole) (elements_s a.0 x a.2))
     ]
 
 -- A query of these clauses.
-tree_of : List ItemForm → Option PredicateForm → List ElementForm → Option PredicateForm → List KeyForm → TreeForm
-tree_of is p gs h ks = record { items = is; where_condition = p; groups = gs; having_condition = h; keys = ks }
+tree_of : List ItemForm → Option PredicateForm → Bool → List ElementForm → Option PredicateForm → List KeyForm → TreeForm
+tree_of is p d gs h ks = record { items = is; where_condition = p; distinct_sets = d; groups = gs; having_condition = h; keys = ks }
 
 -- The items behind SELECT, up to what stands behind FROM.
 record IsSelect (ts : List Token) (y : List ItemForm × List Token) : Type 0 where
@@ -123,18 +146,18 @@ select_s ts y e =
     subst (λ (z : List ItemForm × List Token). IsSelect ts z) (some_is (b.0.0, c.0) y c.2) made
 
 -- WHERE and GROUP BY, one behind the other.
-record IsRecords (ts : List Token) (y : (Option PredicateForm × List ElementForm) × List Token) : Type 0 where
+record IsRecords (ts : List Token) (y : (Option PredicateForm × Bool × List ElementForm) × List Token) : Type 0 where
   mid : List Token
   of_where : IsWhere ts y.0.0 mid
-  of_groups : IsGroupBy mid y.0.1 y.1
+  of_groups : IsGroupBy mid y.0.1 y.0.2 y.1
 
-records_s : (ts : List Token) (y : (Option PredicateForm × List ElementForm) × List Token) → records_at ts ≡ Some y → IsRecords ts y
+records_s : (ts : List Token) (y : (Option PredicateForm × Bool × List ElementForm) × List Token) → records_at ts ≡ Some y → IsRecords ts y
 unfolding records_at
 records_s ts y e =
-    let a = bind_some (clause_at w.Where ts) (λ p. groups_at p.1 >>= λ gs. Some ((p.0, gs.0), gs.1)) y e in
-    let b = bind_some (groups_at a.0.1) (λ gs. Some ((a.0.0, gs.0), gs.1)) y a.2 in
-    let made : IsRecords ts ((a.0.0, b.0.0), b.0.1) = record { mid = a.0.1; of_where = where_s ts a.0 a.1; of_groups = groups_s a.0.1 b.0 b.1 } in
-    subst (λ (z : (Option PredicateForm × List ElementForm) × List Token). IsRecords ts z) (some_is ((a.0.0, b.0.0), b.0.1) y b.2) made
+    let a = bind_some (clause_at w.Where ts) (λ p. groups_at p.1 >>= λ gs. Some ((p.0, gs.0.0, gs.0.1), gs.1)) y e in
+    let b = bind_some (groups_at a.0.1) (λ gs. Some ((a.0.0, gs.0.0, gs.0.1), gs.1)) y a.2 in
+    let made : IsRecords ts ((a.0.0, b.0.0.0, b.0.0.1), b.0.1) = record { mid = a.0.1; of_where = where_s ts a.0 a.1; of_groups = groups_s a.0.1 b.0 b.1 } in
+    subst (λ (z : (Option PredicateForm × Bool × List ElementForm) × List Token). IsRecords ts z) (some_is ((a.0.0, b.0.0.0, b.0.0.1), b.0.1) y b.2) made
 
 -- HAVING and ORDER BY, one behind the other.
 record IsRows (ts : List Token) (y : (Option PredicateForm × List KeyForm) × List Token) : Type 0 where
@@ -153,17 +176,17 @@ rows_s ts y e =
 query_s : IsSound IsQuery query_at
 unfolding query_at tree_of
 query_s ts x e =
-    let a = bind_some (select_at ts) (λ is. records_at is.1 >>= λ p. rows_at p.1 >>= λ h. Some (tree_of is.0 p.0.0 p.0.1 h.0.0 h.0.1, h.1)) x e in
-    let b = bind_some (records_at a.0.1) (λ p. rows_at p.1 >>= λ h. Some (tree_of a.0.0 p.0.0 p.0.1 h.0.0 h.0.1, h.1)) x a.2 in
-    let c = bind_some (rows_at b.0.1) (λ h. Some (tree_of a.0.0 b.0.0.0 b.0.0.1 h.0.0 h.0.1, h.1)) x b.2 in
+    let a = bind_some (select_at ts) (λ is. records_at is.1 >>= λ p. rows_at p.1 >>= λ h. Some (tree_of is.0 p.0.0 p.0.1 p.0.2 h.0.0 h.0.1, h.1)) x e in
+    let b = bind_some (records_at a.0.1) (λ p. rows_at p.1 >>= λ h. Some (tree_of a.0.0 p.0.0 p.0.1 p.0.2 h.0.0 h.0.1, h.1)) x a.2 in
+    let c = bind_some (rows_at b.0.1) (λ h. Some (tree_of a.0.0 b.0.0.0 b.0.0.1 b.0.0.2 h.0.0 h.0.1, h.1)) x b.2 in
     let front = select_s ts a.0 a.1 in
     let l = front.listed in
     let records = records_s a.0.1 b.0 b.1 in
     let rows = rows_s b.0.1 c.0 c.1 in
     let few : length l.others < 64 = omega (arith, l.few) in
-    let made : IsQuery (tokens.Word w.Select ∷ front.behind) (tree_of (l.first ∷ l.others) b.0.0.0 b.0.0.1 c.0.0.0 c.0.0.1) c.0.1 =
+    let made : IsQuery (tokens.Word w.Select ∷ front.behind) (tree_of (l.first ∷ l.others) b.0.0.0 b.0.0.1 b.0.0.2 c.0.0.0 c.0.0.1) c.0.1 =
     IsQuery.query l.head l.tail few records.of_where records.of_groups rows.of_having rows.of_keys in
-    let named = subst (λ (is : List ItemForm). IsQuery (tokens.Word w.Select ∷ front.behind) (tree_of is b.0.0.0 b.0.0.1 c.0.0.0 c.0.0.1) c.0.1) (sym l.all_is) made in
+    let named = subst (λ (is : List ItemForm). IsQuery (tokens.Word w.Select ∷ front.behind) (tree_of is b.0.0.0 b.0.0.1 b.0.0.2 c.0.0.0 c.0.0.1) c.0.1) (sym l.all_is) made in
     read_as IsQuery c.2 (begins_as IsQuery front.begins named)
 
 ends_s : (n : List Token) (p q : TreeForm) → at_end n p ≡ Some q → (n ≡ []) × (p ≡ q)

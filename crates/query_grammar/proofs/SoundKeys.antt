@@ -21,7 +21,7 @@ use Rattle.query_grammar.specs.KeySteps.{direction_at, null_ordering_at, key_at,
 use Rattle.query_derivation.specs.Grammar.{IsDirection, IsNullOrdering, IsKey, IsOrderBy}
 
 -- Which way a choice that always gives a value went.
-choose_is : {A B : Type 0} (o : Option A) (b : B) (f : A → B) → ((o ≡ None) × (choose o b f ≡ b)) ⊎ ((x : A) × (o ≡ Some x) × (choose o b f ≡ f x))
+pub choose_is : {A B : Type 0} (o : Option A) (b : B) (f : A → B) → ((o ≡ None) × (choose o b f ≡ b)) ⊎ ((x : A) × (o ≡ Some x) × (choose o b f ≡ f x))
 choose_is (Some x) b f = inr (x, refl, refl)
 choose_is None b f = inl (refl, refl)
 

@@ -1,6 +1,6 @@
 -- What the functions of items and whole queries read in front of tokens, one definition for each function,
 -- as it computes it. No public contract rests on this file: what tokens derive is said in Grammar.
-use Rattle.std.specs.Prelude.{ℕ, List, [], ◌∷◌, Option, Some, None, cond, codes}
+use Rattle.std.specs.Prelude.{ℕ, Bool, true, false, List, [], ◌∷◌, Option, Some, None, cond, codes}
 use Rattle.std.specs.Str.{bytes_eq}
 use Rattle.query_tokens.specs.declared.token.Token.{Token}
 use Rattle.query_tokens.specs.declared.token.Word.{Word}
@@ -34,17 +34,25 @@ from_at ts = choose (after (is_word w.From) ts) None (λ a. name_at a >>= λ n. 
 unfoldable pub clause_at : Word → Reader (Option PredicateForm)
 clause_at word ts = choose (after (is_word word) ts) (Some (None, ts)) (λ a. predicate_at 65 a >>= λ p. Some (Some p.0, p.1))
 
--- The elements of GROUP BY, or none.
-unfoldable pub groups_at : Reader (List ElementForm)
-groups_at ts = choose (after (is_word w.Group) ts) (Some ([], ts)) (λ a. choose (after (is_word w.By) a) None (λ b. all_at (group_at 16) b))
+-- Whether DISTINCT is written, and what stands behind it.
+unfoldable pub set_quantifier_at : List Token → Bool × List Token
+set_quantifier_at ts = choose (after (is_word w.Distinct) ts) (false, ts) (λ r. (true, r))
+
+-- What stands behind GROUP BY: whether DISTINCT is written, and the elements.
+unfoldable pub elements_at : Reader (Bool × List ElementForm)
+elements_at ts = all_at (group_at 16) (set_quantifier_at ts).1 >>= λ gs. Some (((set_quantifier_at ts).0, gs.0), gs.1)
+
+-- Whether GROUP BY DISTINCT is written, and the elements of GROUP BY, or none.
+unfoldable pub groups_at : Reader (Bool × List ElementForm)
+groups_at ts = choose (after (is_word w.Group) ts) (Some ((false, []), ts)) (λ a. choose (after (is_word w.By) a) None (λ b. elements_at b))
 
 -- The items of SELECT, and what stands behind FROM.
 unfoldable pub select_at : Reader (List ItemForm)
 select_at ts = choose (after (is_word w.Select) ts) None (λ a. items_at a >>= λ is. from_at is.1 >>= λ rest. Some (is.0, rest))
 
 -- WHERE and GROUP BY, which say of the records.
-unfoldable pub records_at : Reader (Option PredicateForm × List ElementForm)
-records_at ts = clause_at w.Where ts >>= λ p. groups_at p.1 >>= λ gs. Some ((p.0, gs.0), gs.1)
+unfoldable pub records_at : Reader (Option PredicateForm × Bool × List ElementForm)
+records_at ts = clause_at w.Where ts >>= λ p. groups_at p.1 >>= λ gs. Some ((p.0, gs.0.0, gs.0.1), gs.1)
 
 -- HAVING and ORDER BY, which say of the rows.
 unfoldable pub rows_at : Reader (Option PredicateForm × List KeyForm)
@@ -53,7 +61,7 @@ rows_at ts = clause_at w.Having ts >>= λ h. keys_at h.1 >>= λ ks. Some ((h.0, 
 -- A query.
 unfoldable pub query_at : Reader TreeForm
 query_at ts = select_at ts >>= λ is. records_at is.1 >>= λ a. rows_at a.1 >>= λ b.
-    Some (record { items = is.0; where_condition = a.0.0; groups = a.0.1; having_condition = b.0.0; keys = b.0.1 }, b.1)
+    Some (record { items = is.0; where_condition = a.0.0; distinct_sets = a.0.1; groups = a.0.2; having_condition = b.0.0; keys = b.0.1 }, b.1)
 
 -- What was read, where nothing is left.
 abbrev pub at_end : List Token → TreeForm → Option TreeForm

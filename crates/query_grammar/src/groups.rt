@@ -1,12 +1,12 @@
 //! Reads the elements of GROUP BY.
 
-ghost use Rattle.std.specs.Prelude.{◌<◌, ◌≤◌, ◌∷◌, [], length, map, IfOk};
+ghost use Rattle.std.specs.Prelude.{◌≡◌, ◌<◌, ◌≤◌, ◌∷◌, [], length, map, IfOk};
 ghost use Rattle.query_tokens.specs.declared.token.Sign.TheVariants.{Comma};
 ghost use Rattle.query_tree.specs.Syntax.{element_form};
 ghost use Rattle.query_leaves.specs.Fronts.{is_sign};
 ghost use Rattle.query_leaves.specs.Steps.{Gives, with_front, more};
 ghost use Rattle.query_grammar.specs.GroupSteps.{sets_at, group_at};
-ghost use Rattle.query_grammar.specs.QuerySteps.{groups_at};
+ghost use Rattle.query_grammar.specs.QuerySteps.{elements_at, groups_at, set_quantifier_at};
 
 use crate::units::{set, units};
 use query_leaves::{GrammarFault, after_sign, after_word, expect_sign, expect_word, keep};
@@ -88,19 +88,46 @@ fn more_groups(
     Ok((all, rest))
 }
 
-/// The elements of GROUP BY, none where it is not written.
+/// Whether DISTINCT is written, and what stands behind it.
+#[tactic(auto, unfolding(crate::specs::QuerySteps::set_quantifier_at))]
+fn set_quantifier(tokens: &[Token]) -> (bool, &[Token])
+    ensures exact { set_quantifier_at tokens.now ≡ (result.0, result.1.now) }
+    ensures shorter { length result.1.now ≤ length tokens.now }
+{
+    match after_word(tokens, Word::Distinct) {
+        Some(rest) => (true, rest),
+        None => (false, tokens),
+    }
+}
+
+/// What stands behind GROUP BY: whether DISTINCT is written, and the elements.
+#[tactic(auto, unfolding(crate::specs::QuerySteps::elements_at))]
+fn elements(
+    alloc: Global,
+    tokens: &[Token],
+) -> Result<((bool, Vec<GroupingElement>), &[Token]), GrammarFault>
+    ensures exact { Gives (λ x. ((x.0.0, map element_form x.0.1.items), x.1.now)) result (elements_at tokens.now) }
+    ensures shorter { IfOk result (λ x. length x.1.now < length tokens.now) }
+{
+    let (distinct, rest) = set_quantifier(tokens);
+    let (first, rest) = group(alloc, rest, MOST_LEVELS)?;
+    let (all, rest) = more_groups(alloc, first, rest, MOST_LEVELS)?;
+    Ok(((distinct, all), rest))
+}
+
+/// Whether GROUP BY DISTINCT is written, and the elements of GROUP BY, none where it is not
+/// written.
 #[tactic(auto, unfolding(crate::specs::QuerySteps::groups_at))]
 pub fn groups(
     alloc: Global,
     tokens: &[Token],
-) -> Result<(Vec<GroupingElement>, &[Token]), GrammarFault>
-    ensures exact { Gives (λ x. (map element_form x.0.items, x.1.now)) result (groups_at tokens.now) }
+) -> Result<((bool, Vec<GroupingElement>), &[Token]), GrammarFault>
+    ensures exact { Gives (λ x. ((x.0.0, map element_form x.0.1.items), x.1.now)) result (groups_at tokens.now) }
     ensures shorter { IfOk result (λ x. length x.1.now ≤ length tokens.now) }
 {
     let Some(rest) = after_word(tokens, Word::Group) else {
-        return Ok((Vec::new(alloc), tokens));
+        return Ok(((false, Vec::new(alloc)), tokens));
     };
     let rest = expect_word(rest, Word::By)?;
-    let (first, rest) = group(alloc, rest, MOST_LEVELS)?;
-    more_groups(alloc, first, rest, MOST_LEVELS)
+    elements(alloc, rest)
 }

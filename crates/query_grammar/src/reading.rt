@@ -63,12 +63,13 @@ fn select(alloc: Global, tokens: &[Token]) -> Result<(Vec<Item>, &[Token]), Gram
 fn records(
     alloc: Global,
     tokens: &[Token],
-) -> Result<((Option<Predicate>, Vec<GroupingElement>), &[Token]), GrammarFault>
-    ensures exact { Gives (λ x. ((option_map predicate_form x.0.0, map element_form x.0.1.items), x.1.now)) result (records_at tokens.now) }
+) -> Result<((Option<Predicate>, bool, Vec<GroupingElement>), &[Token]), GrammarFault>
+    ensures exact { Gives (λ x. ((option_map predicate_form x.0.0, x.0.1, map element_form x.0.2.items), x.1.now)) result (records_at tokens.now) }
 {
     let (where_condition, rest) = clause(alloc, tokens, Word::Where)?;
-    let (where_condition, (groups, rest)) = keep(where_condition, groups(alloc, rest))?;
-    Ok(((where_condition, groups), rest))
+    let (where_condition, (group_by, rest)) = keep(where_condition, groups(alloc, rest))?;
+    let (distinct_sets, groups) = group_by;
+    Ok(((where_condition, distinct_sets, groups), rest))
 }
 
 /// HAVING and ORDER BY, which say of the rows.
@@ -92,11 +93,12 @@ fn query(alloc: Global, tokens: &[Token]) -> Result<(Tree, &[Token]), GrammarFau
     let (items, rest) = select(alloc, tokens)?;
     let (items, (records, rest)) = keep(items, records(alloc, rest))?;
     let ((items, records), (rows, rest)) = keep((items, records), rows(alloc, rest))?;
-    let (where_condition, groups) = records;
+    let (where_condition, distinct_sets, groups) = records;
     let (having_condition, keys) = rows;
     let tree = Tree {
         items,
         where_condition,
+        distinct_sets,
         groups,
         having_condition,
         keys,

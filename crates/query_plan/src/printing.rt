@@ -22,7 +22,7 @@ pub fn header(alloc: Global, plan: &Plan, item: usize) -> Result<String, AllocEr
     query_print::header(alloc, &items[item])
 }
 
-/// The text `(c1, c2)` of a grouping set, counted from 0 in the expanded list: its columns in the
+/// The text `(c1, c2)` of a grouping set, counted from 0 among those of the plan: its columns in the
 /// order in which GROUP BY first names them.
 ///
 /// # Errors

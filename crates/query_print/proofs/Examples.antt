@@ -15,7 +15,7 @@ unfolding reserved digits
 filtered = refl
 
 -- a query of one item, whose alias has quotes in it
-quoted_alias : canonical_text record { items = record { expression = name (codes "d"); alias = Some (codes "say " ++ 34 ∷ codes "s" ++ 34 ∷ []) } ∷ []; where_condition = None; groups = []; having_condition = None; keys = [] }
+quoted_alias : canonical_text record { items = record { expression = name (codes "d"); alias = Some (codes "say " ++ 34 ∷ codes "s" ++ 34 ∷ []) } ∷ []; where_condition = None; distinct_sets = false; groups = []; having_condition = None; keys = [] }
     ≡ codes "SELECT d AS " ++ 34 ∷ codes "say " ++ 34 ∷ 34 ∷ codes "s" ++ 34 ∷ 34 ∷ 34 ∷ codes " FROM lines"
 unfolding reserved
 quoted_alias = refl

@@ -183,12 +183,17 @@ abbrev pub list_clause : List ℕ → List (List ℕ) → List ℕ
 list_clause keywords [] = []
 list_clause keywords (first ∷ others) = keywords ++ comma_list (first ∷ others)
 
+-- The keywords of GROUP BY, and DISTINCT where it is written.
+abbrev pub group_by_text : Bool → List ℕ
+group_by_text true = codes " GROUP BY DISTINCT "
+group_by_text false = codes " GROUP BY "
+
 -- The canonical text of a query.
 abbrev pub canonical_text : TreeForm → List ℕ
 canonical_text t =
     codes "SELECT " ++ comma_list (map item_text t.items) ++ codes " FROM lines"
     ++ predicate_clause (codes " WHERE ") t.where_condition
-    ++ list_clause (codes " GROUP BY ") (group_texts (element_forms t.groups))
+    ++ list_clause (group_by_text t.distinct_sets) (group_texts (element_forms t.groups))
     ++ predicate_clause (codes " HAVING ") t.having_condition
     ++ list_clause (codes " ORDER BY ") (map key_text t.keys)
 

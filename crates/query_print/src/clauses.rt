@@ -3,7 +3,7 @@
 ghost use Rattle.std.specs.Prelude.{◌≡◌, ◌++◌, codes, IfOk, map, OnOk, string_bytes};
 ghost use Rattle.std.specs.Option.{option_map};
 ghost use Rattle.values.specs.Schema.{fields_of};
-ghost use Rattle.query_print.specs.Canonical.{canonical_text, direction_text, group_texts, header_text, item_text, key_text, list_clause, name_at, names_text, nulls_text, predicate_clause, set_text};
+ghost use Rattle.query_print.specs.Canonical.{canonical_text, direction_text, group_by_text, group_texts, header_text, item_text, key_text, list_clause, name_at, names_text, nulls_text, predicate_clause, set_text};
 ghost use Rattle.query_tree.specs.Syntax.{element_form, element_forms, item_form, key_form, predicate_form, tree_form};
 
 use crate::groups::push_groups;
@@ -23,7 +23,7 @@ pub fn print_tree(alloc: Global, tree: &Tree) -> Result<String, AllocError>
     write_list(&mut out, &tree.items)?;
     out.push_str(" FROM lines")?;
     push_predicate_clause(&mut out, " WHERE ", &tree.where_condition)?;
-    push_group_by(&mut out, &tree.groups)?;
+    push_group_by(&mut out, tree.distinct_sets, &tree.groups)?;
     push_predicate_clause(&mut out, " HAVING ", &tree.having_condition)?;
     push_order_by(&mut out, &tree.keys)?;
     Ok(out)
@@ -151,14 +151,29 @@ fn push_predicate_clause(
     }
 }
 
+/// The keywords of GROUP BY, and DISTINCT where it is written.
+fn group_by_text(distinct: bool) -> &'static str
+    ensures { result.now ≡ group_by_text distinct }
+{
+    if distinct {
+        " GROUP BY DISTINCT "
+    } else {
+        " GROUP BY "
+    }
+}
+
 /// Writes GROUP BY at the end, where it has an element.
-fn push_group_by(out: &mut String, groups: &[GroupingElement]) -> Result<(), AllocError>
-    ensures { OnOk result (string_bytes out.new ≡ string_bytes out.old ++ list_clause (codes " GROUP BY ") (group_texts (element_forms (map element_form groups.now)))) }
+fn push_group_by(
+    out: &mut String,
+    distinct: bool,
+    groups: &[GroupingElement],
+) -> Result<(), AllocError>
+    ensures { OnOk result (string_bytes out.new ≡ string_bytes out.old ++ list_clause (group_by_text distinct) (group_texts (element_forms (map element_form groups.now)))) }
 {
     if groups.is_empty() {
         return Ok(());
     }
-    out.push_str(" GROUP BY ")?;
+    out.push_str(group_by_text(distinct))?;
     push_groups(out, groups)
 }
 

@@ -1,10 +1,10 @@
 -- The tokens of a good query derive it.
-use Rattle.std.proofs.Common.{ℕ, Bool, true, false, List, [], ◌∷◌, Option, Some, None}
+use Rattle.std.proofs.Common.{ℕ, Bool, true, false, List, [], ◌∷◌, map, Option, Some, None}
 use Rattle.query_tokens.specs.declared.token.Token.{Token}
 use Rattle.query_tree.specs.Syntax.{ExpressionForm, PredicateForm, ElementForm, ItemForm, KeyForm, TreeForm}
-use Rattle.query_derivation.specs.Grammar.{IsItem, IsWhere, IsGroup, IsGroupBy, IsHaving, IsDirection, IsNullOrdering, IsKey, IsOrderBy, IsQuery}
-use Rattle.query_round.proofs.Good.{Each, Within, GoodExpression, Good, GoodItem, GoodElement, GoodKey, GoodTree}
-use Rattle.query_round.proofs.Onto.{expression_onto, alias_onto, item_onto, group_onto, where_onto, group_by_onto, having_onto, direction_onto, nulls_onto, key_onto, order_by_onto, query_onto}
+use Rattle.query_derivation.specs.Grammar.{IsItem, IsWhere, IsGroup, IsSetQuantifier, IsGroupBy, IsHaving, IsDirection, IsNullOrdering, IsKey, IsOrderBy, IsQuery}
+use Rattle.query_round.proofs.Good.{Each, Within, GoodExpression, Good, GoodItem, GoodElement, GoodGroupBy, GoodKey, GoodTree}
+use Rattle.query_round.proofs.Onto.{expression_onto, alias_onto, item_onto, group_onto, commas_onto, where_onto, distinct_onto, group_by_onto, having_onto, direction_onto, nulls_onto, key_onto, order_by_onto, query_onto}
 use Rattle.query_round.proofs.DerivePredicates.{commas_derive, expression_d, predicate_d}
 use Rattle.query_round.proofs.DeriveGroups.{group_d}
 
@@ -20,9 +20,15 @@ where_d : (p : Option PredicateForm) (r : List Token) → Within (λ p. Good p 6
 where_d None r g = IsWhere.none
 where_d (Some p) r g = IsWhere.condition (predicate_d p 64 r g)
 
-group_by_d : (gs : List ElementForm) (r : List Token) → Each GoodElement gs → IsGroupBy (group_by_onto gs r) gs r
-group_by_d [] r g = IsGroupBy.none
-group_by_d (x ∷ gs) r g = IsGroupBy.groups (group_d x 16 _ g.0) (commas_derive (IsGroup 16) group_onto GoodElement (λ y. group_d y 16) gs r g.1)
+set_quantifier_d : (d : Bool) (r : List Token) → IsSetQuantifier (distinct_onto d r) d r
+set_quantifier_d true r = IsSetQuantifier.distinct
+set_quantifier_d false r = IsSetQuantifier.none
+
+group_by_d : (d : Bool) (gs : List ElementForm) (r : List Token) → GoodGroupBy d gs → IsGroupBy (group_by_onto d gs r) d gs r
+group_by_d true [] r g = absurd g
+group_by_d false [] r g = IsGroupBy.none
+group_by_d d (x ∷ gs) r g =
+    IsGroupBy.groups (set_quantifier_d d (commas_onto (map group_onto (x ∷ gs)) r)) (group_d x 16 _ g.0) (commas_derive (IsGroup 16) group_onto GoodElement (λ y. group_d y 16) gs r g.1)
 
 having_d : (p : Option PredicateForm) (r : List Token) → Within (λ p. Good p 64) p → IsHaving (having_onto p r) p r
 having_d None r g = IsHaving.none
@@ -45,17 +51,17 @@ order_by_d : (ks : List KeyForm) (r : List Token) → Each GoodKey ks → IsOrde
 order_by_d [] r g = IsOrderBy.none
 order_by_d (k ∷ ks) r g = IsOrderBy.keys (key_d k _ g.0) (commas_derive IsKey key_onto GoodKey key_d ks r g.1)
 
-abbrev tree : List ItemForm → Option PredicateForm → List ElementForm → Option PredicateForm → List KeyForm → TreeForm
-tree is p gs h ks = record { items = is; where_condition = p; groups = gs; having_condition = h; keys = ks }
+abbrev tree : List ItemForm → Option PredicateForm → Bool → List ElementForm → Option PredicateForm → List KeyForm → TreeForm
+tree is p d gs h ks = record { items = is; where_condition = p; distinct_sets = d; groups = gs; having_condition = h; keys = ks }
 
-parts_d : (is : List ItemForm) (p : Option PredicateForm) (gs : List ElementForm) (h : Option PredicateForm) (ks : List KeyForm) (r : List Token)
-    → GoodTree (tree is p gs h ks) → IsQuery (query_onto (tree is p gs h ks) r) (tree is p gs h ks) r
-parts_d [] p gs h ks r g = absurd g.0
-parts_d (i ∷ is) p gs h ks r g =
+parts_d : (is : List ItemForm) (p : Option PredicateForm) (d : Bool) (gs : List ElementForm) (h : Option PredicateForm) (ks : List KeyForm) (r : List Token)
+    → GoodTree (tree is p d gs h ks) → IsQuery (query_onto (tree is p d gs h ks) r) (tree is p d gs h ks) r
+parts_d [] p d gs h ks r g = absurd g.0
+parts_d (i ∷ is) p d gs h ks r g =
     let items = g.0 in
     let others = commas_derive IsItem item_onto GoodItem item_d is _ items.1 in
-    IsQuery.query (item_d i _ items.0) others items.2 (where_d p _ g.1) (group_by_d gs _ g.2) (having_d h _ g.3) (order_by_d ks r g.4)
+    IsQuery.query (item_d i _ items.0) others items.2 (where_d p _ g.1) (group_by_d d gs _ g.2) (having_d h _ g.3) (order_by_d ks r g.4)
 
 -- The tokens of a good query derive it.
 pub query_d : (q : TreeForm) (r : List Token) → GoodTree q → IsQuery (query_onto q r) q r
-query_d q r g = parts_d q.items q.where_condition q.groups q.having_condition q.keys r g
+query_d q r g = parts_d q.items q.where_condition q.distinct_sets q.groups q.having_condition q.keys r g

@@ -4,9 +4,9 @@ use Rattle.std.specs.Prelude.{codes}
 use Rattle.query_tokens.specs.declared.token.Token.TheVariants as tokens
 use Rattle.query_tokens.specs.declared.token.Word.TheVariants as w
 use Rattle.query_tree.specs.Syntax.{PredicateForm, ElementForm, ItemForm, KeyForm, TreeForm, element_forms}
-use Rattle.query_print.specs.Canonical.{comma_list, item_text, group_texts, nulls_text, direction_text, key_text, predicate_clause, list_clause, canonical_text}
-use Rattle.query_round.proofs.Good.{Each, Within, Good, GoodItem, GoodElement, GoodKey, GoodTree}
-use Rattle.query_round.proofs.Onto.{commas_onto, item_onto, group_onto, from_onto, where_onto, group_by_onto, having_onto, direction_onto, nulls_onto, key_onto, order_by_onto, query_onto}
+use Rattle.query_print.specs.Canonical.{comma_list, item_text, group_texts, nulls_text, direction_text, key_text, predicate_clause, list_clause, canonical_text, group_by_text}
+use Rattle.query_round.proofs.Good.{Each, Within, Good, GoodItem, GoodElement, GoodKey, GoodTree, GoodGroupBy}
+use Rattle.query_round.proofs.Onto.{commas_onto, item_onto, group_onto, from_onto, where_onto, group_by_onto, having_onto, direction_onto, nulls_onto, key_onto, order_by_onto, query_onto, distinct_onto}
 use Rattle.query_round.proofs.Spelled.{spelled_lines}
 use Rattle.query_round.proofs.Goes.{Free, Goes, Begins, free_free, free_goes, goes_goes, begins_of, nothing_goes, nothing_begins, word_goes, word_free, spaced_free, space_free, space_breaks, commas_go, each_goes}
 use Rattle.query_round.proofs.GoesExpressions.{alias_goes, alias_begins, filled_go}
@@ -32,16 +32,18 @@ where_begins : (p : Option PredicateForm) → Begins (predicate_clause (codes " 
 where_begins None = nothing_begins
 where_begins (Some p) = begins_of (space_breaks _)
 
-group_by_free : Free (codes " GROUP BY ") (λ ks. tokens.Word w.Group ∷ tokens.Word w.By ∷ ks)
-group_by_free = free_free (spaced_free (word_free w.Group)) (word_free w.By)
+group_by_free : (d : Bool) → Free (group_by_text d) (λ ks. tokens.Word w.Group ∷ tokens.Word w.By ∷ distinct_onto d ks)
+group_by_free true = free_free (free_free (spaced_free (word_free w.Group)) (word_free w.By)) (word_free w.Distinct)
+group_by_free false = free_free (spaced_free (word_free w.Group)) (word_free w.By)
 
-group_by_goes : (gs : List ElementForm) → Each GoodElement gs → Goes (list_clause (codes " GROUP BY ") (group_texts (element_forms gs))) (group_by_onto gs)
-group_by_goes [] g = nothing_goes
-group_by_goes (x ∷ gs) g = free_goes group_by_free (commas_go (group_texts (element_forms (x ∷ gs))) (map group_onto (x ∷ gs)) (groups_go (x ∷ gs) g))
+group_by_goes : (d : Bool) (gs : List ElementForm) → GoodGroupBy d gs → Goes (list_clause (group_by_text d) (group_texts (element_forms gs))) (group_by_onto d gs)
+group_by_goes d [] g = nothing_goes
+group_by_goes d (x ∷ gs) g = free_goes (group_by_free d) (commas_go (group_texts (element_forms (x ∷ gs))) (map group_onto (x ∷ gs)) (groups_go (x ∷ gs) g))
 
-group_by_begins : (gs : List ElementForm) → Begins (list_clause (codes " GROUP BY ") (group_texts (element_forms gs)))
-group_by_begins [] = nothing_begins
-group_by_begins (x ∷ gs) = begins_of (space_breaks _)
+group_by_begins : (d : Bool) (gs : List ElementForm) → Begins (list_clause (group_by_text d) (group_texts (element_forms gs)))
+group_by_begins d [] = nothing_begins
+group_by_begins true (x ∷ gs) = begins_of (space_breaks _)
+group_by_begins false (x ∷ gs) = begins_of (space_breaks _)
 
 having_free : Free (codes " HAVING ") (λ ks. tokens.Word w.Having ∷ ks)
 having_free = spaced_free (word_free w.Having)
@@ -109,5 +111,5 @@ items_go q g =
 pub query_goes : (q : TreeForm) → GoodTree q → Goes (canonical_text q) (query_onto q)
 query_goes q g =
     let head = goes_goes (items_go q g) (begins_of (space_breaks _)) from_goes in
-    let body = goes_goes (goes_goes head (where_begins q.where_condition) (where_goes q.where_condition g.1)) (group_by_begins q.groups) (group_by_goes q.groups g.2) in
+    let body = goes_goes (goes_goes head (where_begins q.where_condition) (where_goes q.where_condition g.1)) (group_by_begins q.distinct_sets q.groups) (group_by_goes q.distinct_sets q.groups g.2) in
     goes_goes (goes_goes body (having_begins q.having_condition) (having_goes q.having_condition g.3)) (order_by_begins q.keys) (order_by_goes q.keys g.4)

@@ -1,5 +1,5 @@
 -- The queries that some text says, apart from any text.
-use Rattle.std.proofs.Common.{length, ◌<◌, ◌≤◌, ◌^◌, ℕ, zero, suc, List, [], ◌∷◌, Option, Some, None, ◌⊎◌, inl, inr}
+use Rattle.std.proofs.Common.{length, ◌<◌, ◌≤◌, ◌^◌, ℕ, zero, suc, Bool, true, false, List, [], ◌∷◌, Option, Some, None, ◌⊎◌, inl, inr}
 use Rattle.std.specs.Prelude.{ℤ}
 use Rattle.std.proofs.Math.IntN.{pos, negsuc}
 use Rattle.query_tree.specs.declared.predicate.Literal.{Literal}
@@ -136,11 +136,21 @@ abbrev mutual
 abbrev pub GoodElement : ElementForm → Type 0
 GoodElement x = GoodGroup x 16
 
+-- DISTINCT is not written.
+abbrev pub IsPlain : Bool → Type 0
+IsPlain true = ⊥
+IsPlain false = Unit {0}
+
+-- DISTINCT is written in front of one element at least.
+abbrev pub GoodGroupBy : Bool → List ElementForm → Type 0
+GoodGroupBy d [] = IsPlain d
+GoodGroupBy d (x ∷ gs) = GoodElement x × Each GoodElement gs
+
 abbrev pub GoodKey : KeyForm → Type 0
 GoodKey k = GoodExpression k.expression 64
 
 abbrev pub GoodTree : TreeForm → Type 0
-GoodTree q = Filled 64 GoodItem q.items × Within (λ p. Good p 64) q.where_condition × Each GoodElement q.groups × Within (λ p. Good p 64) q.having_condition × Each GoodKey q.keys
+GoodTree q = Filled 64 GoodItem q.items × Within (λ p. Good p 64) q.where_condition × GoodGroupBy q.distinct_sets q.groups × Within (λ p. Good p 64) q.having_condition × Each GoodKey q.keys
 
 -- ---- more levels of brackets do no harm
 

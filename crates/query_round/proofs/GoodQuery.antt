@@ -6,8 +6,8 @@ use Rattle.query_tokens.specs.declared.token.Word.TheVariants as w
 use Rattle.query_tokens.specs.declared.token.Sign.TheVariants as s
 use Rattle.query_tree.specs.Syntax.{ExpressionForm, PredicateForm, ElementForm, ItemForm, KeyForm, TreeForm}
 use Rattle.query_derivation.specs.Predicates.{IsExpression, IsPredicate}
-use Rattle.query_derivation.specs.Grammar.{IsItem, IsWhere, IsGroup, IsGroupBy, IsHaving, IsDirection, IsNullOrdering, IsKey, IsOrderBy, IsQuery}
-use Rattle.query_round.proofs.Good.{Each, Within, GoodExpression, Good, GoodItem, GoodElement, GoodKey, GoodTree}
+use Rattle.query_derivation.specs.Grammar.{IsItem, IsWhere, IsGroup, IsGroupBy, IsHaving, IsDirection, IsNullOrdering, IsKey, IsOrderBy, IsQuery, IsSetQuantifier}
+use Rattle.query_round.proofs.Good.{Each, Within, GoodExpression, Good, GoodItem, GoodElement, GoodKey, GoodTree, GoodGroupBy}
 use Rattle.query_round.proofs.GoodPredicates.{Leaves, repeated_leaves, expression_leaves, predicate_leaves}
 use Rattle.query_round.proofs.GoodGroups.{group_leaves}
 use Rattle.query_round.proofs.Sane.{AllSane}
@@ -24,10 +24,14 @@ where_leaves : Leaves (Option PredicateForm) IsWhere (Within (λ p. Good p 64))
 where_leaves _ _ _ IsWhere.none h = (tt, h)
 where_leaves _ r _ (IsWhere.condition {ts} {p} d) h = predicate_leaves 65 ts r p d h.1
 
-group_by_leaves : Leaves (List ElementForm) IsGroupBy (Each GoodElement)
-group_by_leaves _ _ _ IsGroupBy.none h = (tt, h)
-group_by_leaves _ _ _ (IsGroupBy.groups {ts} {mid} {g = x} d tail) h =
-    let first = group_leaves 16 ts mid x d h.1.1 in
+set_quantifier_leaves : {ts r : List Token} {d : Bool} → IsSetQuantifier ts d r → AllSane ts → AllSane r
+set_quantifier_leaves IsSetQuantifier.none h = h
+set_quantifier_leaves IsSetQuantifier.distinct h = h.1
+
+group_by_leaves : {ts r : List Token} {d : Bool} {gs : List ElementForm} → IsGroupBy ts d gs r → AllSane ts → GoodGroupBy d gs × AllSane r
+group_by_leaves IsGroupBy.none h = (tt, h)
+group_by_leaves (IsGroupBy.groups {us} {mid} {g = x} quantifier front tail) h =
+    let first = group_leaves 16 us mid x front (set_quantifier_leaves quantifier h.1.1) in
     let others = repeated_leaves ElementForm (tokens.Sign s.Comma) (IsGroup 16) GoodElement (group_leaves 16) tail first.1 in
     ((first.0, others.0), others.1)
 
@@ -63,7 +67,7 @@ query_leaves _ r _ (IsQuery.query {ts} {mid} {after_from} {after_where} {after_g
     let first = item_leaves ts mid i d h.1 in
     let others = repeated_leaves ItemForm (tokens.Sign s.Comma) IsItem GoodItem item_leaves tail first.1 in
     let where_condition = where_leaves after_from after_where p d_where others.1.1.1 in
-    let groups = group_by_leaves after_where after_groups gs d_groups where_condition.1 in
+    let groups = group_by_leaves d_groups where_condition.1 in
     let having_condition = having_leaves after_groups after_having had d_having groups.1 in
     let keys = order_by_leaves after_having r ks d_keys having_condition.1 in
     (((first.0, others.0, few), where_condition.0, groups.0, having_condition.0, keys.0), keys.1)

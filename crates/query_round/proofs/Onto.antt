@@ -157,9 +157,13 @@ abbrev pub where_onto : Option PredicateForm → Onto
 where_onto None r = r
 where_onto (Some p) r = tokens.Word w.Where ∷ predicate_onto p r
 
-abbrev pub group_by_onto : List ElementForm → Onto
-group_by_onto [] r = r
-group_by_onto (g ∷ gs) r = tokens.Word w.Group ∷ tokens.Word w.By ∷ commas_onto (map group_onto (g ∷ gs)) r
+abbrev pub distinct_onto : Bool → Onto
+distinct_onto true r = tokens.Word w.Distinct ∷ r
+distinct_onto false r = r
+
+abbrev pub group_by_onto : Bool → List ElementForm → Onto
+group_by_onto d [] r = r
+group_by_onto d (g ∷ gs) r = tokens.Word w.Group ∷ tokens.Word w.By ∷ distinct_onto d (commas_onto (map group_onto (g ∷ gs)) r)
 
 abbrev pub having_onto : Option PredicateForm → Onto
 having_onto None r = r
@@ -186,4 +190,4 @@ order_by_onto (k ∷ ks) r = tokens.Word w.Order ∷ tokens.Word w.By ∷ commas
 abbrev pub query_onto : TreeForm → Onto
 query_onto q r =
     tokens.Word w.Select ∷ commas_onto (map item_onto q.items)
-    (from_onto (where_onto q.where_condition (group_by_onto q.groups (having_onto q.having_condition (order_by_onto q.keys r)))))
+    (from_onto (where_onto q.where_condition (group_by_onto q.distinct_sets q.groups (having_onto q.having_condition (order_by_onto q.keys r)))))

@@ -1,12 +1,12 @@
 -- A query is good in one way at most.
-use Rattle.std.proofs.Common.{arith, length, ◌<◌, ◌≤◌, ◌^◌, ℕ, zero, suc, [], ◌∷◌, Some, None, ◌⊎◌, inl, inr, ap}
+use Rattle.std.proofs.Common.{arith, length, ◌<◌, ◌≤◌, ◌^◌, ℕ, zero, suc, Bool, true, false, [], ◌∷◌, Some, None, ◌⊎◌, inl, inr, ap}
 use Rattle.std.proofs.Math.IntN.{pos, negsuc}
 use Rattle.std.proofs.Math.Bridge.{le_prop}
 use Rattle.query_tree.specs.declared.predicate.Literal.TheVariants as literals
 use Rattle.query_tree.specs.declared.expression.Aggregate.TheVariants as aggregates
 use Rattle.query_tree.specs.Syntax.{ExpressionForm, FunctionForm, OperandForm, PredicateForm, PredicateForms, ElementForm, ElementForms, name, grouping, function, over_all, over_filtered, or_of, and_of, not_of, truth_test, compare, between, member, null_test, column, no_parts, part, set, rollup, cube, sets, no_groups, group}
 use Rattle.query_print.specs.Canonical.{tightness}
-use Rattle.query_round.proofs.Good.{Each, Inhabited, Filled, Within, GoodName, GoodAggregate, GoodFunction, GoodExpression, InRange, GoodLiteral, GoodOperand, IsMany, Deeper, Fits, Good, PartsFit, GoodItem, GoodUnit, IsFilled, GoodGroup, GoodGroups, GoodElement, GoodKey, GoodTree}
+use Rattle.query_round.proofs.Good.{Each, Inhabited, Filled, Within, GoodName, GoodAggregate, GoodFunction, GoodExpression, InRange, GoodLiteral, GoodOperand, IsMany, Deeper, Fits, Good, PartsFit, GoodItem, GoodUnit, IsFilled, GoodGroup, GoodGroups, GoodElement, IsPlain, GoodGroupBy, GoodKey, GoodTree}
 
 le_one : (a b : ℕ) → IsProp (a ≤ b)
 le_one a b = le_prop
@@ -145,12 +145,20 @@ mutual
   groups_one no_groups n = unit_one
   groups_one (group x gs) n = both_one (group_one x n) (groups_one gs n)
 
+plain_one : AllOne IsPlain
+plain_one true = none_one
+plain_one false = unit_one
+
+group_by_one : (d : Bool) → AllOne (GoodGroupBy d)
+group_by_one d [] = plain_one d
+group_by_one d (x ∷ gs) = both_one (group_one x 16) (each_one GoodElement (λ y. group_one y 16) gs)
+
 -- A query is good in one way at most.
 pub tree_one : AllOne GoodTree
 tree_one q =
     let items = filled_one 64 GoodItem item_one q.items in
     let where_condition = within_one (λ p. Good p 64) (λ p. good_one p 64) q.where_condition in
-    let groups = each_one GoodElement (λ x. group_one x 16) q.groups in
+    let groups = group_by_one q.distinct_sets q.groups in
     let having_condition = within_one (λ p. Good p 64) (λ p. good_one p 64) q.having_condition in
     let keys = each_one GoodKey (λ k. expression_one k.expression 64) q.keys in
     hlevel (items, where_condition, groups, having_condition, keys)

@@ -80,10 +80,11 @@ pub record KeyForm : Type 0 where
   pub descending : Bool
   pub nulls_first : Bool
 
--- A query: the clauses that are not written are None or an empty list.
+-- A query: the clauses that are not written are None or an empty list, and GROUP BY DISTINCT that is not written is false.
 pub record TreeForm : Type 0 where
   pub items : List ItemForm
   pub where_condition : Option PredicateForm
+  pub distinct_sets : Bool
   pub groups : List ElementForm
   pub having_condition : Option PredicateForm
   pub keys : List KeyForm
@@ -171,6 +172,7 @@ abbrev pub tree_form : Tree → TreeForm
 tree_form t = record {
   items = map item_form t.items.items;
   where_condition = option_map predicate_form t.where_condition;
+  distinct_sets = t.distinct_sets;
   groups = map element_form t.groups.items;
   having_condition = option_map predicate_form t.having_condition;
   keys = map key_form t.keys.items;

@@ -31,6 +31,9 @@ pub struct Tree {
     pub items: Vec<Item>,
     /// The predicate of WHERE, where there is one.
     pub where_condition: Option<Predicate>,
+    /// Whether GROUP BY DISTINCT is written, ISO/IEC 9075-2 `<group by clause>` with its
+    /// `<set quantifier>`: of grouping sets with the same columns only the first counts.
+    pub distinct_sets: bool,
     /// The elements of GROUP BY, none where it is not written.
     pub groups: Vec<GroupingElement>,
     /// The predicate of HAVING, where there is one.

@@ -16,7 +16,8 @@ use Rattle.values.specs.Order.{value_order}
 use Rattle.values.specs.Schema.{Field}
 use Rattle.query_tree.specs.Syntax.{KeyForm, TreeForm}
 use Rattle.query_check.specs.Columns.{places_of}
-use Rattle.query_check.specs.Sets.{expanded, grouping_names, grouping_places, ordered_set, sets_of}
+use Rattle.query_check.specs.Sets.{grouping_names, grouping_places, ordered_set, sets_of}
+use Rattle.query_check.proofs.DistinctSets.{names_kept, set_of_names, sets_by_names}
 use Rattle.groups.specs.declared.group.Group.{Group}
 use Rattle.groups.specs.Groups.{key_order}
 use Rattle.groups.specs.Bags.{SameBag}
@@ -44,10 +45,11 @@ IsFit fields t x = (x.0 < length (sets_of fields t)) × (length x.1.key ≡ leng
 abbrev is_in : List Field → List (List ℕ) → ℕ → Bool
 is_in fields names c = list_any (λ p. p == c) (places_of fields names)
 
-set-part : (fields : List Field) (t : TreeForm) (x : Found) → x.0 < length (sets_of fields t) → set_of fields t x ≡ filter (is_in fields (get_or (expanded t.groups) x.0 [])) (grouping_places fields t)
+set-part : (fields : List Field) (t : TreeForm) (x : Found) → x.0 < length (sets_of fields t) → set_of fields t x ≡ filter (is_in fields (get_or (names_kept fields t) x.0 [])) (grouping_places fields t)
 set-part fields t x within =
-    let n = length-map (expanded t.groups) (λ (names : List (List ℕ)). ordered_set (grouping_places fields t) (places_of fields names)) in
-    get_or-map (λ (names : List (List ℕ)). ordered_set (grouping_places fields t) (places_of fields names)) (expanded t.groups) x.0 [] [] (omega (arith, within, n))
+    let n = ap length (sets_by_names fields t) ∙ length-map (names_kept fields t) (set_of_names fields t) in
+    ap (λ (sets : List (List ℕ)). get_or sets x.0 []) (sets_by_names fields t)
+    ∙ get_or-map (set_of_names fields t) (names_kept fields t) x.0 [] [] (omega (arith, within, n))
 
 -- how two rows stand to each other by the index of their grouping set, and in one set by what they show for the grouping columns
 abbrev by_columns : List Field → TreeForm → Found → Found → Ordering
@@ -59,7 +61,7 @@ same-order fields t x y fx fy =
     elim (nat_cmp x.0 y.0) as (λ (o : Ordering). nat_cmp x.0 y.0 ≡ o → ordering_then o (slice_cmp value_order (grouping_values fields t x) (grouping_values fields t y)) ≡ ordering_then o (key_order x.1.key y.1.key)) [
       | Less ↦ λ _. refl
       | Equal ↦ λ e.
-          order-same_set (grouping_places fields t) (set_of fields t x) (set_of fields t y) (is_in fields (get_or (expanded t.groups) x.0 [])) (different-distinct (places_of fields (grouping_names t)))
+          order-same_set (grouping_places fields t) (set_of fields t x) (set_of fields t y) (is_in fields (get_or (names_kept fields t) x.0 [])) (different-distinct (places_of fields (grouping_names t)))
           (set-part fields t x fx.0) (ap (λ (i : ℕ). get_or (sets_of fields t) i []) (sym (exact_unsigned x.0 y.0 e))) x.1.key y.1.key fx.1 fy.1
       | Greater ↦ λ _. refl
     ] refl

@@ -12,7 +12,8 @@ use Rattle.query_tree.specs.Syntax.{TreeForm}
 use Rattle.query_check.specs.declared.function.ColumnFunction.{ColumnFunction}
 use Rattle.query_check.specs.Columns.{places_of}
 use Rattle.query_check.specs.Resolution.{contents}
-use Rattle.query_check.specs.Sets.{expanded, grouping_places, ordered_set, sets_of}
+use Rattle.query_check.specs.Sets.{grouping_places, ordered_set, sets_of}
+use Rattle.query_check.proofs.DistinctSets.{names_kept, set_of_names, sets_by_names}
 use Rattle.groups.specs.declared.group.Group.{Group}
 use Rattle.groups.specs.Rolled.{AreAmong}
 use Rattle.groups.specs.Rows.{Row}
@@ -49,11 +50,11 @@ among-self set = rest-among [] set
 pub sets-among : (fields : List Field) (q : TreeForm) → All (λ set. AreAmong set (grouping_places fields q)) (sets_of fields q)
 sets-among fields q =
     let grouping = grouping_places fields q in
-    let set_of_names : List (List ℕ) → List ℕ = λ names. ordered_set grouping (places_of fields names) in
     All-from_recursion (λ set. AreAmong set grouping) (sets_of fields q)
-    (all-map (λ set. AreAmong set grouping) set_of_names (expanded q.groups)
-    (all-everywhere (λ names. AreAmong (set_of_names names) grouping) (expanded q.groups)
-    (λ names. all-filter (λ place. list_any (λ p. p == place) grouping ≡ true) (λ c. list_any (λ p. p == c) (places_of fields names)) grouping (among-self grouping))))
+    (subst (AllByRecursion (λ set. AreAmong set grouping)) (sym (sets_by_names fields q))
+    (all-map (λ set. AreAmong set grouping) (set_of_names fields q) (names_kept fields q)
+    (all-everywhere (λ names. AreAmong (set_of_names fields q names) grouping) (names_kept fields q)
+    (λ names. all-filter (λ place. list_any (λ p. p == place) grouping ≡ true) (λ c. list_any (λ p. p == c) (places_of fields names)) grouping (among-self grouping)))))
 
 -- ---- sets that are the same
 

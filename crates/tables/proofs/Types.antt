@@ -17,7 +17,8 @@ use Rattle.query_check.specs.declared.function.ColumnFunction.{ColumnFunction}
 use Rattle.query_check.specs.declared.function.ColumnFunction.TheVariants as function
 use Rattle.query_check.specs.Columns.{kind_at, place_of, places_of}
 use Rattle.query_check.specs.Functions.{aggregates, column_function, functions_of, same_function}
-use Rattle.query_check.specs.Sets.{expanded, grouping_names, grouping_places, ordered_set, sets_of}
+use Rattle.query_check.specs.Sets.{grouping_names, grouping_places, ordered_set, sets_of}
+use Rattle.query_check.proofs.DistinctSets.{names_kept, set_of_names, sets_by_names}
 use Rattle.groups.specs.Rows.{Row, column_values, is_present, column_numbers, value_at}
 use Rattle.groups.specs.Functions.{plain, agg, average_of, sum_of}
 use Rattle.groups.specs.Bags.{SameBag}
@@ -53,7 +54,9 @@ set-places fields t names =
 
 -- each grouping set has places of columns
 sets-places : (fields : List Field) (t : TreeForm) → AllByRecursion (ArePlaces fields) (sets_of fields t)
-sets-places fields t = all-map (ArePlaces fields) _ (expanded t.groups) (all-everywhere _ (expanded t.groups) (set-places fields t))
+sets-places fields t =
+    subst (AllByRecursion (ArePlaces fields)) (sym (sets_by_names fields t))
+    (all-map (ArePlaces fields) (set_of_names fields t) (names_kept fields t) (all-everywhere _ (names_kept fields t) (set-places fields t)))
 
 -- the least and the greatest value are those of a column
 abbrev TakesColumn : List Field → ColumnFunction → Type 0

@@ -40,7 +40,7 @@ impl Groups {
         Groups { rows, refused }
     }
 
-    /// The groups, each with the index of its grouping set in the expanded list of sets, in no order
+    /// The groups, each with the index of its grouping set among those of the plan, in no order
     /// that is said.
     pub fn rows(&self) -> &[(usize, Group)]
         ensures rows { map row_of result.now ≡ self.now.found }

@@ -22,8 +22,9 @@ fn units(alloc: Global, texts: &[&str]) -> Result<Vec<Vec<Text>>, Fail> {
     Ok(all)
 }
 
-/// `SELECT COUNT(*) FROM lines GROUP BY GROUPING SETS (ROLLUP (d, r), CUBE (r), (d, d))`
-fn counting(alloc: Global) -> Result<Tree, Fail> {
+/// `SELECT COUNT(*) FROM lines GROUP BY GROUPING SETS (ROLLUP (d, r), CUBE (r), (d, d))`, with DISTINCT behind GROUP BY
+/// or without it.
+fn counting(alloc: Global, distinct_sets: bool) -> Result<Tree, Fail> {
     let mut sets = Vec::new(alloc);
     sets.push(GroupingElement::Rollup(units(alloc, &["d", "r"])?))?;
     sets.push(GroupingElement::Cube(units(alloc, &["r"])?))?;
@@ -41,6 +42,7 @@ fn counting(alloc: Global) -> Result<Tree, Fail> {
     Ok(Tree {
         items,
         where_condition: None,
+        distinct_sets,
         groups,
         having_condition: None,
         keys: Vec::new(alloc),
@@ -50,7 +52,7 @@ fn counting(alloc: Global) -> Result<Tree, Fail> {
 #[test]
 fn resolves_a_query(rt: HostRuntime) -> Result<(), Fail> {
     let alloc = rt.alloc();
-    let tree = counting(alloc)?;
+    let tree = counting(alloc, false)?;
     let schema = Schema::parse(alloc, "q:int,d:text,r:text")?;
     let resolved = check_tree(alloc, &tree, &schema)?;
     assert_eq!(rt; resolved.grouping(), [1, 2].as_slice());
@@ -64,5 +66,20 @@ fn resolves_a_query(rt: HostRuntime) -> Result<(), Fail> {
         resolved.functions(),
         [ColumnFunction::CountRows].as_slice()
     );
+    Ok(())
+}
+
+#[test]
+fn resolves_distinct_sets(rt: HostRuntime) -> Result<(), Fail> {
+    let alloc = rt.alloc();
+    let tree = counting(alloc, true)?;
+    let schema = Schema::parse(alloc, "q:int,d:text,r:text")?;
+    let resolved = check_tree(alloc, &tree, &schema)?;
+    let wanted: [&[usize]; 4] = [&[1, 2], &[1], &[], &[2]];
+    assert_eq!(rt; set_count(&tree.groups), 6);
+    assert_eq!(rt; resolved.sets().len(), wanted.len());
+    for (set, wanted) in resolved.sets().iter().zip(wanted) {
+        assert_eq!(rt; set.as_slice(), wanted);
+    }
     Ok(())
 }

@@ -498,12 +498,13 @@ fn made_up_inputs_are_of_all_kinds(rt: HostRuntime) {
 }
 
 /// Lists of grouping sets, with all set functions.
-const SET_LISTS: [&str; 7] = [
+const SET_LISTS: [&str; 8] = [
     "SELECT COUNT(*), COUNT(DISTINCT q), MIN(d) FROM lines GROUP BY ROLLUP (d, r)",
     "SELECT COUNT(r), AVG(q), MAX(r) FROM lines GROUP BY CUBE (d, r)",
     "SELECT SUM(q), MIN(d), COUNT(DISTINCT d) FROM lines GROUP BY GROUPING SETS ((r), (), (d))",
     "SELECT COUNT(DISTINCT d), MAX(q) FROM lines GROUP BY GROUPING SETS ((r), (d))",
     "SELECT COUNT(*), COUNT(DISTINCT r) FROM lines GROUP BY ROLLUP (d), ROLLUP (d)",
+    "SELECT COUNT(*), MAX(d) FROM lines GROUP BY DISTINCT GROUPING SETS ((d, r), (), (r, d), r), ROLLUP (d)",
     "SELECT COUNT(q), MIN(q) FROM lines GROUP BY r, CUBE (d)",
     "SELECT SUM(q), COUNT(DISTINCT q) FROM lines GROUP BY GROUPING SETS (ROLLUP (d, r), CUBE (r), (d, d))",
 ];

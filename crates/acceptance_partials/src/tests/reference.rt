@@ -9,7 +9,7 @@ use values::{Record, Schema, Value};
 /// A group of a grouping set.
 #[derive(Debug, PartialEq, Eq, Drop)]
 pub struct Row {
-    /// The index of the grouping set in the expanded list.
+    /// The index of the grouping set among those of the plan.
     pub set: usize,
     /// The values in the columns of the set.
     pub key: Vec<Value>,

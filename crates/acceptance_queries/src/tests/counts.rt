@@ -27,6 +27,9 @@ const COUNTS: &[(&str, u64)] = &[
         "GROUPING SETS (a, a, a), GROUPING SETS (GROUPING SETS (a, b), CUBE (a, b))",
         18,
     ),
+    // Before DISTINCT drops any.
+    ("DISTINCT ROLLUP (a), ROLLUP (a)", 4),
+    ("DISTINCT CUBE (a, a, a), ()", 8),
 ];
 
 #[test]

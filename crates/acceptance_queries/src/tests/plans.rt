@@ -40,6 +40,11 @@ const FIRST_TEXTS: &[(&str, &str, &str)] = &[
         "GROUPING(d, r)",
         "(r, d)",
     ),
+    (
+        "SELECT r AS x, COUNT(*) FROM lines GROUP BY DISTINCT GROUPING SETS ((r, d), (d, r), r), ROLLUP (d)",
+        "x",
+        "(r, d)",
+    ),
     ("SELECT COUNT(*) AS \"a b\" FROM lines", "a b", "()"),
 ];
 

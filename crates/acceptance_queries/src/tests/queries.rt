@@ -28,6 +28,10 @@ const QUERIES: &[(&str, &str)] = &[
         "SELECT COUNT(*) FROM lines GROUP BY GROUPING SETS (ROLLUP (d, (r, q)), CUBE (d), ()), d",
     ),
     (
+        "select count(*)from lines group by distinct(d),rollup(d,d)",
+        "SELECT COUNT(*) FROM lines GROUP BY DISTINCT d, ROLLUP (d, d)",
+    ),
+    (
         "select count(*)as n from lines having sum(q)>1 or not(d)order by n desc,min(q)nulls first,d",
         "SELECT COUNT(*) AS n FROM lines HAVING SUM(q) > 1 OR NOT d ORDER BY n DESC, MIN(q) NULLS FIRST, d",
     ),
