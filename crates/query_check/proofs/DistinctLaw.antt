@@ -1,5 +1,5 @@
 -- What GROUP BY DISTINCT keeps of an expanded list of grouping sets.
-use Rattle.std.proofs.Common.{◌≡◌, ◌∙◌, ◌<◌, ◌==◌, ◌||◌, ℕ, zero, suc, Bool, true, false, cond, not, List, [], ◌∷◌, length, refl, sym, ap, subst, arith, All, AllPairs}
+use Rattle.std.proofs.Common.{◌≡◌, ◌∙◌, ◌<◌, ◌==◌, ◌||◌, ℕ, zero, suc, Bool, true, false, cond, not, List, [], ◌∷◌, length, refl, sym, ap, subst, arith, AllPairs}
 use Rattle.std.specs.Prelude.{filter, if◌then◌else◌}
 use Rattle.std.specs.List.{Contains, list_any, slice_index_or}
 use Rattle.std.proofs.lemmas.List.Elements.{filter_passes}
@@ -64,9 +64,6 @@ same_from_columns a b same = same_has a b (λ c. both_ways (has c a) (has c b)
 
 same_itself : (a : List ℕ) → same_columns a a ≡ true
 same_itself a = same_has a a (λ c. refl)
-
-same_turned : (a b : List ℕ) → same_columns a b ≡ true → same_columns b a ≡ true
-same_turned a b e = same_has b a (λ c. sym (has_same a b e c))
 
 same_joined : (a b c : List ℕ) → same_columns a b ≡ true → same_columns b c ≡ true → same_columns a c ≡ true
 same_joined a b c e f = same_has a c (λ x. has_same a b e x ∙ has_same b c f x)

@@ -1,4 +1,5 @@
 pub mod Examples
+pub mod SetExamples
 pub mod Rows
 pub mod Places
 pub mod Distinct

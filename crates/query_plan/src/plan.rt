@@ -82,8 +82,9 @@ impl Plan {
         &self.query
     }
 
-    /// The grouping sets, each as the places of its columns in the schema, in the
-    /// order in which GROUP BY first names them. Without GROUP BY it is the one empty set.
+    /// The grouping sets, each as the places of its columns in the schema, in the order in which
+    /// GROUP BY first names them; under GROUP BY DISTINCT without each set that has the same columns
+    /// as an earlier one. Without GROUP BY it is the one empty set.
     pub fn sets(&self) -> &[Vec<usize>]
         ensures sets { contents result.now ≡ sets_of (fields_of_plan self.now) (form_of_plan self.now) }
     {

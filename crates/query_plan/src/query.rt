@@ -34,8 +34,8 @@ impl Query {
         &self.tree
     }
 
-    /// How many grouping sets the expanded list has, or the greatest number of 64 bits where they are
-    /// more. None is made, and no memory is taken.
+    /// How many grouping sets the expanded list has, before GROUP BY DISTINCT drops any, or the
+    /// greatest number of 64 bits where they are more. None is made, and no memory is taken.
     pub fn set_count(&self) -> u64
         ensures count { result ≡ min (length (expanded (form_of self.now).groups)) u64.MAX }
     {

@@ -54,6 +54,7 @@ query = record {
       ∷ record { expression = grouping (codes "d" ∷ codes "r" ∷ []); alias = Some (codes "g") }
       ∷ record { expression = function (over_all aggregate.CountRows); alias = Some (codes "n") } ∷ [];
   where_condition = None;
+  distinct_sets = false;
   groups = rollup ((codes "d" ∷ []) ∷ (codes "r" ∷ []) ∷ []) ∷ [];
   having_condition = None;
   keys = [];
@@ -80,7 +81,7 @@ report-of-a-rollup = refl
 -- ---- a report with keys
 
 abbrev ordered_by : List KeyForm → TreeForm
-ordered_by keys = record { items = query.items; where_condition = None; groups = query.groups; having_condition = None; keys = keys }
+ordered_by keys = record { items = query.items; where_condition = None; distinct_sets = false; groups = query.groups; having_condition = None; keys = keys }
 
 -- ORDER BY n DESC, r NULLS FIRST: of the rows of one record, those that show NULL for r are first; of these the one of the first set is
 by-a-count : arranged fields (ordered_by (record { expression = name (codes "n"); descending = true; nulls_first = true } ∷ record { expression = name (codes "r"); descending = false; nulls_first = true } ∷ [])) found
@@ -105,7 +106,7 @@ a-lone-field = refl
 
 -- the same query with HAVING
 abbrev query_having : PredicateForm → TreeForm
-query_having p = record { items = query.items; where_condition = query.where_condition; groups = query.groups; having_condition = Some p; keys = query.keys }
+query_having p = record { items = query.items; where_condition = query.where_condition; distinct_sets = false; groups = query.groups; having_condition = Some p; keys = query.keys }
 
 -- GROUPING(d) = 1 OR COUNT(*) > 1
 abbrev rolled_up_or_many : PredicateForm

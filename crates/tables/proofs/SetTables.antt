@@ -12,7 +12,7 @@ use Rattle.query_tree.specs.Syntax.{TreeForm}
 use Rattle.query_check.specs.declared.function.ColumnFunction.{ColumnFunction}
 use Rattle.query_check.specs.Columns.{places_of}
 use Rattle.query_check.specs.Resolution.{contents}
-use Rattle.query_check.specs.Sets.{grouping_places, ordered_set, sets_of}
+use Rattle.query_check.specs.Sets.{grouping_places, sets_of}
 use Rattle.query_check.proofs.DistinctSets.{names_kept, set_of_names, sets_by_names}
 use Rattle.groups.specs.declared.group.Group.{Group}
 use Rattle.groups.specs.Rolled.{AreAmong}
