@@ -48,6 +48,16 @@ impl ColumnFunction {
     }
 }
 
+/// A set function of a plan, ISO/IEC 9075-2 `<aggregate function>`: with the index of its FILTER among the different
+/// filters of the query, from 0, where it has one.
+#[derive(Clone, Copy, Debug, PartialEq, Eq)]
+pub struct FilteredFunction {
+    /// The function, with the place of its column.
+    pub function: ColumnFunction,
+    /// The index of its FILTER; without FILTER it goes over all records of a group.
+    pub filter: Option<usize>,
+}
+
 /// A set function with the place of its column, where it has one.
 pub fn column_function(columns: &[Column], aggregate: &Aggregate) -> Option<ColumnFunction>
     ensures { result ≡ column_function (fields_of columns.now) aggregate.now }

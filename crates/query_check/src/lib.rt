@@ -16,7 +16,7 @@ mod typing;
 
 pub use columns::place_of;
 pub use counting::set_count;
-pub use function::{ColumnFunction, column_function};
+pub use function::{ColumnFunction, FilteredFunction, column_function};
 pub use laws::{cube_law, rollup_law};
 pub use resolution::{Resolved, check_tree, key_expression};
 pub use scope::Clause;
