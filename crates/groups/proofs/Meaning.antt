@@ -260,10 +260,10 @@ table-added set functions marks t v row j filters l m a =
 pub table-empty_set : (set : List ℕ) (functions : List FilteredFunction) (t : Contents) → length set ≡ 0 → ((k : Key) → IsPut fin.empty t [] (no_group functions) k)
     → (filters : List (Row → Bool)) → IsTableOf set (map (bound filters) functions) t []
 table-empty_set [] functions t z h filters k = h k
-    ∙ ap (λ g. cond (same_key k []) (join_options (fin.get fin.empty k) (Some g)) (fin.get fin.empty k)) (no_group-is filters functions)
+    ∙ ap (λ (g : GroupState). cond (same_key k []) (join_options (fin.get (fin.empty {X = GroupState} {R = key_order}) k) (Some g)) (fin.get (fin.empty {X = GroupState} {R = key_order}) k)) (no_group-is filters functions)
     ∙ ap (λ o. cond (same_key k []) (join_options o (Some (group_state (map (bound filters) functions) []))) o) (fin.get-empty key_order k)
     ∙ ap (λ b. cond b (Some (group_state (map (bound filters) functions) [])) None) (or-false (same_key k []))
-table-empty_set (place ∷ places) functions t z h filters = absurd (omega (arith, z))
+table-empty_set (place ∷ places) functions t z h filters k = absurd (omega (arith, z))
 
 -- another set has no group without records
 pub table-no_group : (set : List ℕ) (fs : List AggregateFunction) (t : Contents) → length set ≢ 0 → t ≡ fin.empty → IsTableOf set fs t []
