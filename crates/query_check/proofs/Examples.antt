@@ -51,7 +51,7 @@ by_average = record {
 
 -- WHERE d = 1 names no column: d
 unknown_stands : Stands fields (where_one (codes "d")) (faults.UnknownColumn (codes "d"))
-unknown_stands = (inr (clause.Where, name (codes "d"), (is_one (codes "d"), (0, omega arith, refl), (0, omega arith, refl)), (0, omega arith, refl)), λ is. let clash : ⊥ = cc in clash)
+unknown_stands = (inr (clause.Where, name (codes "d"), (is_one (codes "d"), inl (0, omega arith, refl), (0, omega arith, refl)), (0, omega arith, refl)), λ is. let clash : ⊥ = cc in clash)
 
 -- it never names a column of the schema
 column_is_known : Stands fields (where_one (codes "d")) (faults.UnknownColumn (codes "q")) → ⊥
@@ -62,13 +62,13 @@ types_disagree : Stands fields (where_one (codes "c")) faults.TypesDisagree
 types_disagree = inl (
   clause.Where,
   is_one (codes "c"),
-  (0, omega arith, refl),
+  inl (0, omega arith, refl),
   (expression c, literal (constant.Integer (pos 1)), (0, omega arith, refl), (1, omega arith, refl), (kind.Text, kind.Int, refl, refl, λ e. let clash : ⊥ = cc in clash)),
 )
 
 -- MIN(b) is taken of a truth value
 least_truth : Stands fields (selected (item (function (over_all (aggregate.Min (codes "b")))) ∷ [])) faults.TypesDisagree
-least_truth = inr (clause.Select, aggregate.Min (codes "b"), (0, omega arith, refl), refl)
+least_truth = inr (clause.Select, over_all (aggregate.Min (codes "b")), (0, omega arith, refl), refl)
 
 -- q is none of the names in GROUP BY c
 none_of_group : Contains (codes "c" ∷ []) (codes "q") → ⊥

@@ -2,6 +2,8 @@ pub mod Examples
 pub mod Rows
 pub mod Places
 pub mod Distinct
+pub mod SameTrees
+pub mod FilterLemmas
 pub mod Expansions
 pub mod Products
 pub mod Counts

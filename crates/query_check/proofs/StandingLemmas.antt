@@ -12,7 +12,7 @@ use Rattle.values.specs.declared.schema.Kind.TheVariants as kind
 use Rattle.values.specs.Schema.{Field, names_of}
 use Rattle.query_tree.specs.declared.expression.Aggregate.{Aggregate}
 use Rattle.query_tree.specs.declared.expression.Aggregate.TheVariants as aggregate
-use Rattle.query_tree.specs.Syntax.{ExpressionForm, FunctionForm, TreeForm, name, grouping, function, over_all, over_filtered}
+use Rattle.query_tree.specs.Syntax.{ExpressionForm, FunctionForm, PredicateForm, TreeForm, name, grouping, function, over_all, over_filtered}
 use Rattle.query_fault.specs.declared.QueryFault.{QueryFault}
 use Rattle.query_fault.specs.declared.QueryFault.TheVariants.{UnknownColumn, TypesDisagree, NotGrouped, FunctionNotAllowed}
 use Rattle.query_check.specs.declared.scope.Clause.{Clause}
@@ -20,8 +20,9 @@ use Rattle.query_check.specs.declared.scope.Clause.TheVariants as clause
 use Rattle.query_check.specs.Columns.{column_kind, kind_at, place_of, places_of}
 use Rattle.query_check.specs.Sets.{grouping_names, grouping_places}
 use Rattle.query_check.specs.Typing.{IsColumn}
-use Rattle.query_check.specs.Faults.{first_fault, fault_unless, column_fault, grouped_at_fault, grouped_fault, name_fault, is_integer, is_ordered, is_truth, argument_fault, aggregate_fault, may_stand, function_fault, grouping_fault, expression_fault}
-use Rattle.query_check.specs.Standing.{AreOfTwoKinds, IsOfOtherKind, Stands, StandsIn, names, outer_names}
+use Rattle.query_check.specs.Faults.{first_fault, fault_unless, column_fault, grouped_at_fault, grouped_fault, name_fault, is_integer, is_ordered, is_truth, argument_fault, aggregate_fault, may_stand, function_fault, grouping_fault, expression_fault, predicate_fault}
+use Rattle.query_check.specs.Functions.{aggregate_of}
+use Rattle.query_check.specs.Standing.{AreOfTwoKinds, IsFilterIn, IsOfOtherKind, IsWrittenIn, Stands, StandsIn, argument_names, names, outer_names}
 use Rattle.query_check.proofs.Rows.{or_true}
 use Rattle.query_check.proofs.Distinct.{any_distinct}
 use Rattle.query_check.proofs.TypedLemmas.{holds, test_from_stands}
@@ -195,51 +196,85 @@ kind_fails fields takes x f is h =
     (has.0, has.1, ap takes (sym has.1) ∙ k.0, k.1)
 
 -- The argument of SUM or AVG that is no column, or not of whole numbers.
-integer_stands : (fields : List Field) (t : TreeForm) (c : Clause) (a : Aggregate) (x : List ℕ) (f : QueryFault) → StandsIn t c (function (over_all a)) → Contains (names (function (over_all a))) x → (AreOfTwoKinds (column_kind fields x) (Some kind.Int) → IsOfOtherKind fields a) → argument_fault fields is_integer x ≡ Some f → Stands fields t f
-integer_stands fields t c a x f at among other h =
-    either (column_fault fields x) _ f (Stands fields t f)
-    (λ unknown. column_stands fields t x f (inr (c, function (over_all a), at, among)) unknown)
+integer_stands : (fields : List Field) (t : TreeForm) (x : List ℕ) (f : QueryFault) → (column_fault fields x ≡ Some f → Stands fields t f) → (AreOfTwoKinds (column_kind fields x) (Some kind.Int) → TypesDisagree ≡ f → Stands fields t f) → argument_fault fields is_integer x ≡ Some f → Stands fields t f
+integer_stands fields t x f unknown other h =
+    either (column_fault fields x) _ f (Stands fields t f) unknown
     (λ none later. let k = kind_fails fields is_integer x f (holds (is_some (place_of fields x)) (UnknownColumn x) none) later in
-    subst (Stands fields t) k.3 (inr (c, a, at, other (k.0, kind.Int, k.1, refl, not_integer k.0 k.2))))
+    other (k.0, kind.Int, k.1, refl, not_integer k.0 k.2) k.3)
     h
 
 -- The argument of MIN or MAX that is no column, or one of truth values.
-ordered_stands : (fields : List Field) (t : TreeForm) (c : Clause) (a : Aggregate) (x : List ℕ) (f : QueryFault) → StandsIn t c (function (over_all a)) → Contains (names (function (over_all a))) x → (column_kind fields x ≡ Some kind.Bool → IsOfOtherKind fields a) → argument_fault fields is_ordered x ≡ Some f → Stands fields t f
-ordered_stands fields t c a x f at among other h =
-    either (column_fault fields x) _ f (Stands fields t f)
-    (λ unknown. column_stands fields t x f (inr (c, function (over_all a), at, among)) unknown)
+ordered_stands : (fields : List Field) (t : TreeForm) (x : List ℕ) (f : QueryFault) → (column_fault fields x ≡ Some f → Stands fields t f) → (column_kind fields x ≡ Some kind.Bool → TypesDisagree ≡ f → Stands fields t f) → argument_fault fields is_ordered x ≡ Some f → Stands fields t f
+ordered_stands fields t x f unknown other h =
+    either (column_fault fields x) _ f (Stands fields t f) unknown
     (λ none later. let k = kind_fails fields is_ordered x f (holds (is_some (place_of fields x)) (UnknownColumn x) none) later in
-    subst (Stands fields t) k.3 (inr (c, a, at, other (k.1 ∙ ap Some (not_ordered k.0 k.2)))))
+    other (k.1 ∙ ap Some (not_ordered k.0 k.2)) k.3)
     h
 
--- A set function that does not take its column.
-aggregate_stands : (fields : List Field) (t : TreeForm) (c : Clause) (a : Aggregate) (f : QueryFault) → StandsIn t c (function (over_all a)) → aggregate_fault fields a ≡ Some f → Stands fields t f
-aggregate_stands fields t c aggregate.CountRows f at h = absurd cc
-aggregate_stands fields t c (aggregate.Count x) f at h = column_stands fields t x f (inr (c, function (over_all (aggregate.Count x)), at, (0, omega arith, refl))) h
-aggregate_stands fields t c (aggregate.CountDistinct x) f at h = column_stands fields t x f (inr (c, function (over_all (aggregate.CountDistinct x)), at, (0, omega arith, refl))) h
-aggregate_stands fields t c (aggregate.Sum x) f at h = integer_stands fields t c (aggregate.Sum x) x f at (0, omega arith, refl) (λ k. k) h
-aggregate_stands fields t c (aggregate.Min x) f at h = ordered_stands fields t c (aggregate.Min x) x f at (0, omega arith, refl) (λ k. k) h
-aggregate_stands fields t c (aggregate.Max x) f at h = ordered_stands fields t c (aggregate.Max x) x f at (0, omega arith, refl) (λ k. k) h
-aggregate_stands fields t c (aggregate.Avg x) f at h = integer_stands fields t c (aggregate.Avg x) x f at (0, omega arith, refl) (λ k. k) h
+-- A set function that does not take its column, where a name without a column stands, and a column of another type.
+argument_stands : (fields : List Field) (t : TreeForm) (a : Aggregate) (f : QueryFault) → ((x : List ℕ) → Contains (argument_names a) x → column_fault fields x ≡ Some f → Stands fields t f) → (IsOfOtherKind fields a → TypesDisagree ≡ f → Stands fields t f) → aggregate_fault fields a ≡ Some f → Stands fields t f
+argument_stands fields t aggregate.CountRows f unknown other h = absurd cc
+argument_stands fields t (aggregate.Count x) f unknown other h = unknown x (0, omega arith, refl) h
+argument_stands fields t (aggregate.CountDistinct x) f unknown other h = unknown x (0, omega arith, refl) h
+argument_stands fields t (aggregate.Sum x) f unknown other h = integer_stands fields t x f (unknown x (0, omega arith, refl)) other h
+argument_stands fields t (aggregate.Min x) f unknown other h = ordered_stands fields t x f (unknown x (0, omega arith, refl)) other h
+argument_stands fields t (aggregate.Max x) f unknown other h = ordered_stands fields t x f (unknown x (0, omega arith, refl)) other h
+argument_stands fields t (aggregate.Avg x) f unknown other h = integer_stands fields t x f (unknown x (0, omega arith, refl)) other h
+
+-- A set function that stands in a clause and does not take its column.
+aggregate_stands : (fields : List Field) (t : TreeForm) (c : Clause) (g : FunctionForm) (f : QueryFault) → StandsIn t c (function g) → aggregate_fault fields (aggregate_of g) ≡ Some f → Stands fields t f
+aggregate_stands fields t c g f at h =
+    argument_stands fields t (aggregate_of g) f (λ x among k. column_stands fields t x f (inr (c, function g, at, among)) k)
+    (λ other same. subst (Stands fields t) same (inr (c, g, at, other)))
+    h
 
 -- A choice with a fault: the test holds and its first side has it, or the test fails and the fault is the other one.
 chosen_cases : (t : Bool) (o : Option QueryFault) (x f : QueryFault) → cond t o (Some x) ≡ Some f → ((t ≡ true) × (o ≡ Some f)) ⊎ ((t ≡ false) × (x ≡ f))
 chosen_cases true o x f h = inl (refl, h)
 chosen_cases false o x f h = inr (refl, cc)
 
--- A set function that may not stand in its clause, or does not take its column.
-function_stands : (fields : List Field) (t : TreeForm) (c : Clause) (g : FunctionForm) (f : QueryFault) → StandsIn t c (function g) → function_fault fields c g ≡ Some f → Stands fields t f
-function_stands fields t c (over_all a) f at h =
+-- Where a set function may stand is not WHERE.
+not_where : (c : Clause) (a : Aggregate) → may_stand c a ≡ true → c ≢ clause.Where
+not_where clause.Where a h e = absurd cc
+not_where clause.Select a h e = select_other e
+not_where clause.Having a h e = having_other e
+not_where clause.OrderBy a h e = order_other e
+
+-- A set function that may stand where it stands is written there, outside of each FILTER.
+is_written : (t : TreeForm) (c : Clause) (a : Aggregate) (e : ExpressionForm) → may_stand c a ≡ true → StandsIn t c e → IsWrittenIn t c e
+is_written t clause.Where a e may at = absurd cc
+is_written t clause.Select a e may at = at
+is_written t clause.Having a e may at = at
+is_written t clause.OrderBy a e may at = at
+
+-- The fault of each FILTER in a query stands in the query.
+abbrev pub FiltersStand : List Field → TreeForm → QueryFault → Type 0
+FiltersStand fields t f = (p : PredicateForm) → IsFilterIn t p → predicate_fault fields [] clause.Where p ≡ Some f → Stands fields t f
+
+-- A set function that may not stand.
+misplaced_stands : (fields : List Field) (t : TreeForm) (c : Clause) (g : FunctionForm) (f : QueryFault) → StandsIn t c (function g) → may_stand c (aggregate_of g) ≡ false → FunctionNotAllowed ≡ f → Stands fields t f
+misplaced_stands fields t c g f at may_not same = subst (Stands fields t) same (c, function g, at, λ may. let passes = test_from_stands c (aggregate_of g) may in let clash : ⊥ = cc in clash)
+
+-- A set function that may not stand in its clause, does not take its column, or has a FILTER with a fault.
+function_stands : (fields : List Field) (t : TreeForm) (c : Clause) (g : FunctionForm) (f : QueryFault) → (c ≢ clause.Where → FiltersStand fields t f) → StandsIn t c (function g) → function_fault fields c g ≡ Some f → Stands fields t f
+function_stands fields t c (over_all a) f deeper at h =
     elim (chosen_cases (may_stand c a) (aggregate_fault fields a) FunctionNotAllowed f h) [
-      | inl may ↦ aggregate_stands fields t c a f at may.1
-      | inr may_not ↦ subst (Stands fields t) may_not.1 (c, function (over_all a), at, λ may. let passes = test_from_stands c a may in let fails = may_not.0 in let clash : ⊥ = cc in clash)
+      | inl may ↦ aggregate_stands fields t c (over_all a) f at may.1
+      | inr may_not ↦ misplaced_stands fields t c (over_all a) f at may_not.0 may_not.1
     ]
-function_stands fields t c (over_filtered a p) f at h = let same : FunctionNotAllowed ≡ f = cc in subst (Stands fields t) same (c, function (over_filtered a p), at, tt)
+function_stands fields t c (over_filtered a p) f deeper at h =
+    elim (chosen_cases (may_stand c a) (option_or (aggregate_fault fields a) (predicate_fault fields [] clause.Where p)) FunctionNotAllowed f h) [
+      | inl may ↦ either (aggregate_fault fields a) (predicate_fault fields [] clause.Where p) f (Stands fields t f)
+          (λ k. aggregate_stands fields t c (over_filtered a p) f at k)
+          (λ _ k. deeper (not_where c a may.0) p (c, a, is_written t c a (function (over_filtered a p)) may.0 at) k)
+          may.1
+      | inr may_not ↦ misplaced_stands fields t c (over_filtered a p) f at may_not.0 may_not.1
+    ]
 
 -- ---- expressions
 
 -- An expression with a fault, wherever it stands.
-pub expression_stands : (fields : List Field) (t : TreeForm) (c : Clause) (e : ExpressionForm) (f : QueryFault) → StandsIn t c e → expression_fault fields (grouping_places fields t) c e ≡ Some f → Stands fields t f
-expression_stands fields t c (name n) f at h = name_stands fields t c n f at h
-expression_stands fields t c (grouping ns) f at h = grouping_stands fields t c ns f at h
-expression_stands fields t c (function g) f at h = function_stands fields t c g f at h
+pub expression_stands : (fields : List Field) (t : TreeForm) (c : Clause) (e : ExpressionForm) (f : QueryFault) → (c ≢ clause.Where → FiltersStand fields t f) → StandsIn t c e → expression_fault fields (grouping_places fields t) c e ≡ Some f → Stands fields t f
+expression_stands fields t c (name n) f deeper at h = name_stands fields t c n f at h
+expression_stands fields t c (grouping ns) f deeper at h = grouping_stands fields t c ns f at h
+expression_stands fields t c (function g) f deeper at h = function_stands fields t c g f deeper at h

@@ -12,6 +12,7 @@ use Rattle.std.proofs.Math.Seq.{take-append_seam}
 use Rattle.values.specs.declared.schema.Kind.{Kind}
 use Rattle.values.specs.declared.schema.Kind.TheVariants as kind
 use Rattle.values.specs.Schema.{Field}
+use Rattle.query_tree.specs.declared.expression.Aggregate.{Aggregate}
 use Rattle.query_tree.specs.declared.expression.Aggregate.TheVariants as aggregate
 use Rattle.query_tree.specs.declared.predicate.Literal.{Literal}
 use Rattle.query_tree.specs.Syntax.{ExpressionForm, OperandForm, PredicateForm, PredicateForms, ItemForm, KeyForm, TreeForm, name, grouping, function, over_all, over_filtered, expression, literal, or_of, and_of, not_of, truth_test, compare, between, member, null_test, column, no_parts, part}
@@ -23,29 +24,29 @@ use Rattle.query_check.specs.declared.scope.Clause.TheVariants as clause
 use Rattle.query_check.specs.Columns.{column_kind, place_of}
 use Rattle.query_check.specs.Sets.{expanded, grouping_names, grouping_places}
 use Rattle.query_check.specs.Functions.{functions_of}
-use Rattle.query_check.specs.Typing.{HasKind, IsColumn, IsTypedName, IsTypedOperand, MayStand, key_expression, literal_kind, operand_kind}
-use Rattle.query_check.specs.Faults.{Answers, first_fault, column_fault, name_fault, is_truth, expression_fault, operand_fault, same_kind, agreement_fault, predicate_fault, parts_fault, clause_fault, header_fault, limit_fault, group_fault, records_fault, select_fault, rows_fault, clauses_fault, query_fault}
-use Rattle.query_check.specs.Standing.{AreOfTwoKinds, Disagrees, Stands, StandsIn, StandsTwice, atoms, atoms_in, operands, parts_atoms}
+use Rattle.query_check.specs.Typing.{HasKind, IsColumn, IsTypedAggregate, IsTypedName, IsTypedOperand, MayStand, aggregate_kind, key_expression, literal_kind, operand_kind}
+use Rattle.query_check.specs.Faults.{Answers, first_fault, column_fault, name_fault, is_truth, expression_fault, operand_fault, same_kind, agreement_fault, between_agreement, member_agreement, predicate_fault, parts_fault, clause_fault, header_fault, limit_fault, group_fault, records_fault, select_fault, rows_fault, clauses_fault, query_fault}
+use Rattle.query_check.specs.Standing.{AreOfTwoKinds, Disagrees, IsAtomIn, Stands, StandsIn, StandsTwice, atoms, atoms_in, operands, parts_atoms}
 use Rattle.query_check.proofs.TypedLemmas.{name_from_none, operand_from_none, same_itself}
 use Rattle.query_check.proofs.WholeLemmas.{all_names}
-use Rattle.query_check.proofs.StandingLemmas.{column_has_kind, column_stands, either, expression_stands, fails, first_at, is_there, kind_fails, mapped, name_stands, not_truth}
+use Rattle.query_check.proofs.StandingLemmas.{FiltersStand, column_has_kind, column_stands, either, expression_stands, fails, first_at, is_there, kind_fails, mapped, name_stands, not_truth}
 
 -- ---- operands
 
 -- An expression among the operands of an atom in a clause stands in that clause.
-in_atom : (t : TreeForm) (c : Clause) (p : PredicateForm) (e : ExpressionForm) → Contains (atoms_in t c) p → Contains (operands p) (expression e) → StandsIn t c e
+in_atom : (t : TreeForm) (c : Clause) (p : PredicateForm) (e : ExpressionForm) → IsAtomIn t c p → Contains (operands p) (expression e) → StandsIn t c e
 in_atom t clause.Where p e atom among = (p, atom, among)
 in_atom t clause.Select p e atom among = let below = atom.1 in absurd (omega arith)
 in_atom t clause.Having p e atom among = (p, atom, among)
 in_atom t clause.OrderBy p e atom among = let below = atom.1 in absurd (omega arith)
 
 -- An operand with a fault.
-operand_stands : (fields : List Field) (t : TreeForm) (c : Clause) (p : PredicateForm) (x : OperandForm) (f : QueryFault) → Contains (atoms_in t c) p → Contains (operands p) x → operand_fault fields (grouping_places fields t) c x ≡ Some f → Stands fields t f
-operand_stands fields t c p (expression e) f atom among h = expression_stands fields t c e f (in_atom t c p e atom among) h
-operand_stands fields t c p (literal a) f atom among h = absurd cc
+operand_stands : (fields : List Field) (t : TreeForm) (c : Clause) (p : PredicateForm) (x : OperandForm) (f : QueryFault) → (c ≢ clause.Where → FiltersStand fields t f) → IsAtomIn t c p → Contains (operands p) x → operand_fault fields (grouping_places fields t) c x ≡ Some f → Stands fields t f
+operand_stands fields t c p (expression e) f deeper atom among h = expression_stands fields t c e f deeper (in_atom t c p e atom among) h
+operand_stands fields t c p (literal a) f deeper atom among h = absurd cc
 
 -- Where atoms stand, AVG may not.
-no_average : (t : TreeForm) (c : Clause) (p : PredicateForm) (x : List ℕ) → Contains (atoms_in t c) p → MayStand c (aggregate.Avg x) → ⊥
+no_average : (t : TreeForm) (c : Clause) (p : PredicateForm) (x : List ℕ) → IsAtomIn t c p → MayStand c (aggregate.Avg x) → ⊥
 no_average t clause.Where p x atom may = may
 no_average t clause.Select p x atom may = let below = atom.1 in absurd (omega arith)
 no_average t clause.Having p x atom may = may
@@ -68,22 +69,26 @@ ordered_has_kind : (fields : List Field) (x : List ℕ) → HasKind fields kind.
 ordered_has_kind fields x (inl h) = is_there (column_kind fields x) kind.Int h
 ordered_has_kind fields x (inr h) = is_there (column_kind fields x) kind.Text h
 
+-- A typed set function other than AVG has a type.
+aggregate_has_kind : (fields : List Field) (c : Clause) (a : Aggregate) → ((n : List ℕ) → MayStand c (aggregate.Avg n) → ⊥) → MayStand c a → IsTypedAggregate fields a → IsSome (aggregate_kind fields a)
+aggregate_has_kind fields c aggregate.CountRows never may h = refl
+aggregate_has_kind fields c (aggregate.Count n) never may h = refl
+aggregate_has_kind fields c (aggregate.CountDistinct n) never may h = refl
+aggregate_has_kind fields c (aggregate.Sum n) never may h = refl
+aggregate_has_kind fields c (aggregate.Min n) never may h = ordered_has_kind fields n h
+aggregate_has_kind fields c (aggregate.Max n) never may h = ordered_has_kind fields n h
+aggregate_has_kind fields c (aggregate.Avg n) never may h = absurd (never n may)
+
 -- A typed operand of an atom has a type.
 typed_has_kind : (fields : List Field) (grouped : List ℕ) (c : Clause) (x : OperandForm) → ((n : List ℕ) → MayStand c (aggregate.Avg n) → ⊥) → IsTypedOperand fields grouped c x → IsSome (operand_kind fields x)
 typed_has_kind fields grouped c (expression (name n)) never h = column_has_kind fields n (typed_is_column fields grouped c n h)
 typed_has_kind fields grouped c (expression (grouping ns)) never h = refl
-typed_has_kind fields grouped c (expression (function (over_all aggregate.CountRows))) never h = refl
-typed_has_kind fields grouped c (expression (function (over_all (aggregate.Count n)))) never h = refl
-typed_has_kind fields grouped c (expression (function (over_all (aggregate.CountDistinct n)))) never h = refl
-typed_has_kind fields grouped c (expression (function (over_all (aggregate.Sum n)))) never h = refl
-typed_has_kind fields grouped c (expression (function (over_all (aggregate.Min n)))) never h = ordered_has_kind fields n h.1
-typed_has_kind fields grouped c (expression (function (over_all (aggregate.Max n)))) never h = ordered_has_kind fields n h.1
-typed_has_kind fields grouped c (expression (function (over_all (aggregate.Avg n)))) never h = absurd (never n h.0)
-typed_has_kind fields grouped c (expression (function (over_filtered a p))) never h = absurd h
+typed_has_kind fields grouped c (expression (function (over_all a))) never h = aggregate_has_kind fields c a never h.0 h.1
+typed_has_kind fields grouped c (expression (function (over_filtered a p))) never h = aggregate_has_kind fields c a never h.0 h.1
 typed_has_kind fields grouped c (literal a) never h = refl
 
 -- An operand of an atom without a fault has a type.
-operand_has_kind : (fields : List Field) (t : TreeForm) (c : Clause) (p : PredicateForm) (x : OperandForm) → Contains (atoms_in t c) p → operand_fault fields (grouping_places fields t) c x ≡ None → IsSome (operand_kind fields x)
+operand_has_kind : (fields : List Field) (t : TreeForm) (c : Clause) (p : PredicateForm) (x : OperandForm) → IsAtomIn t c p → operand_fault fields (grouping_places fields t) c x ≡ None → IsSome (operand_kind fields x)
 operand_has_kind fields t c p x atom h = typed_has_kind fields (grouping_places fields t) c x (λ n. no_average t c p n atom) (operand_from_none fields (grouping_places fields t) c x h)
 
 -- ---- types
@@ -99,7 +104,7 @@ two_kinds (Some k) None f some_a some_b h = absurd cc
 two_kinds (Some k) (Some l) f some_a some_b h = let n = fails (same_kind k l) TypesDisagree f h in ((k, l, refl, refl, differ k l n.0), n.1)
 
 -- Two operands of an atom whose types do not agree.
-pair_stands : (fields : List Field) (t : TreeForm) (c : Clause) (p : PredicateForm) (x y : OperandForm) (f : QueryFault) → Contains (atoms_in t c) p → (AreOfTwoKinds (operand_kind fields x) (operand_kind fields y) → Disagrees fields p) → operand_fault fields (grouping_places fields t) c x ≡ None → operand_fault fields (grouping_places fields t) c y ≡ None → agreement_fault (operand_kind fields x) (operand_kind fields y) ≡ Some f → Stands fields t f
+pair_stands : (fields : List Field) (t : TreeForm) (c : Clause) (p : PredicateForm) (x y : OperandForm) (f : QueryFault) → IsAtomIn t c p → (AreOfTwoKinds (operand_kind fields x) (operand_kind fields y) → Disagrees fields p) → operand_fault fields (grouping_places fields t) c x ≡ None → operand_fault fields (grouping_places fields t) c y ≡ None → agreement_fault (operand_kind fields x) (operand_kind fields y) ≡ Some f → Stands fields t f
 pair_stands fields t c p x y f atom disagree fine_x fine_y h =
     let two = two_kinds (operand_kind fields x) (operand_kind fields y) f (operand_has_kind fields t c p x atom fine_x) (operand_has_kind fields t c p y atom fine_y) h in
     subst (Stands fields t) two.1 (inl (c, p, atom, disagree two.0))
@@ -107,29 +112,29 @@ pair_stands fields t c p x y f atom disagree fine_x fine_y h =
 -- ---- atoms
 
 -- A comparison with a fault.
-compare_stands : (fields : List Field) (t : TreeForm) (c : Clause) (p : PredicateForm) (x y : OperandForm) (f : QueryFault) → Contains (atoms_in t c) p → Contains (operands p) x → Contains (operands p) y → (AreOfTwoKinds (operand_kind fields x) (operand_kind fields y) → Disagrees fields p) → option_or (operand_fault fields (grouping_places fields t) c x) (option_or (operand_fault fields (grouping_places fields t) c y) (agreement_fault (operand_kind fields x) (operand_kind fields y))) ≡ Some f → Stands fields t f
-compare_stands fields t c p x y f atom in_x in_y disagree h =
+compare_stands : (fields : List Field) (t : TreeForm) (c : Clause) (p : PredicateForm) (x y : OperandForm) (f : QueryFault) → (c ≢ clause.Where → FiltersStand fields t f) → IsAtomIn t c p → Contains (operands p) x → Contains (operands p) y → (AreOfTwoKinds (operand_kind fields x) (operand_kind fields y) → Disagrees fields p) → option_or (operand_fault fields (grouping_places fields t) c x) (option_or (operand_fault fields (grouping_places fields t) c y) (agreement_fault (operand_kind fields x) (operand_kind fields y))) ≡ Some f → Stands fields t f
+compare_stands fields t c p x y f deeper atom in_x in_y disagree h =
     either (operand_fault fields (grouping_places fields t) c x) _ f (Stands fields t f)
-    (λ k. operand_stands fields t c p x f atom in_x k)
+    (λ k. operand_stands fields t c p x f deeper atom in_x k)
     (λ fine_x later. either (operand_fault fields (grouping_places fields t) c y) _ f (Stands fields t f)
-    (λ k. operand_stands fields t c p y f atom in_y k)
+    (λ k. operand_stands fields t c p y f deeper atom in_y k)
     (λ fine_y last. pair_stands fields t c p x y f atom disagree fine_x fine_y last)
     later)
     h
 
 -- A BETWEEN with a fault.
-between_stands : (fields : List Field) (t : TreeForm) (c : Clause) (x : OperandForm) (n : Bool) (y z : OperandForm) (f : QueryFault) → Contains (atoms_in t c) (between x n y z) → predicate_fault fields (grouping_places fields t) c (between x n y z) ≡ Some f → Stands fields t f
-between_stands fields t c x n y z f atom h =
+between_stands : (fields : List Field) (t : TreeForm) (c : Clause) (x : OperandForm) (n : Bool) (y z : OperandForm) (f : QueryFault) → (c ≢ clause.Where → FiltersStand fields t f) → IsAtomIn t c (between x n y z) → predicate_fault fields (grouping_places fields t) c (between x n y z) ≡ Some f → Stands fields t f
+between_stands fields t c x n y z f deeper atom h =
     let p = between x n y z in
     let in_x : Contains (operands p) x = (0, omega arith, refl) in
     let in_y : Contains (operands p) y = (1, omega arith, refl) in
     let in_z : Contains (operands p) z = (2, omega arith, refl) in
     either (operand_fault fields (grouping_places fields t) c x) _ f (Stands fields t f)
-    (λ k. operand_stands fields t c p x f atom in_x k)
+    (λ k. operand_stands fields t c p x f deeper atom in_x k)
     (λ fine_x h1. either (operand_fault fields (grouping_places fields t) c y) _ f (Stands fields t f)
-    (λ k. operand_stands fields t c p y f atom in_y k)
+    (λ k. operand_stands fields t c p y f deeper atom in_y k)
     (λ fine_y h2. either (operand_fault fields (grouping_places fields t) c z) _ f (Stands fields t f)
-    (λ k. operand_stands fields t c p z f atom in_z k)
+    (λ k. operand_stands fields t c p z f deeper atom in_z k)
     (λ fine_z h3. either (agreement_fault (operand_kind fields x) (operand_kind fields y)) _ f (Stands fields t f)
     (λ k. pair_stands fields t c p x y f atom (λ two. (x, y, in_x, in_y, two)) fine_x fine_y k)
     (λ _ h4. pair_stands fields t c p x z f atom (λ two. (x, z, in_x, in_z, two)) fine_x fine_z h4)
@@ -139,12 +144,12 @@ between_stands fields t c x n y z f atom h =
     h
 
 -- An IN with a fault.
-member_stands : (fields : List Field) (t : TreeForm) (c : Clause) (x : OperandForm) (n : Bool) (ls : List Literal) (f : QueryFault) → Contains (atoms_in t c) (member x n ls) → predicate_fault fields (grouping_places fields t) c (member x n ls) ≡ Some f → Stands fields t f
-member_stands fields t c x n ls f atom h =
+member_stands : (fields : List Field) (t : TreeForm) (c : Clause) (x : OperandForm) (n : Bool) (ls : List Literal) (f : QueryFault) → (c ≢ clause.Where → FiltersStand fields t f) → IsAtomIn t c (member x n ls) → predicate_fault fields (grouping_places fields t) c (member x n ls) ≡ Some f → Stands fields t f
+member_stands fields t c x n ls f deeper atom h =
     let p = member x n ls in
     let in_x : Contains (operands p) x = (0, omega arith, refl) in
     either (operand_fault fields (grouping_places fields t) c x) _ f (Stands fields t f)
-    (λ k. operand_stands fields t c p x f atom in_x k)
+    (λ k. operand_stands fields t c p x f deeper atom in_x k)
     (λ fine_x later.
     let found = first_at (λ a. agreement_fault (operand_kind fields x) (Some (literal_kind a))) ls f later in
     let in_a : Contains (operands p) (literal found.0) = Contains-append_right (x ∷ []) (map literal ls) (literal found.0) (mapped literal ls found.0 found.1) in
@@ -152,7 +157,7 @@ member_stands fields t c x n ls f atom h =
     h
 
 -- A name that stands alone, with a fault.
-truth_stands : (fields : List Field) (t : TreeForm) (c : Clause) (n : List ℕ) (f : QueryFault) → Contains (atoms_in t c) (column n) → predicate_fault fields (grouping_places fields t) c (column n) ≡ Some f → Stands fields t f
+truth_stands : (fields : List Field) (t : TreeForm) (c : Clause) (n : List ℕ) (f : QueryFault) → IsAtomIn t c (column n) → predicate_fault fields (grouping_places fields t) c (column n) ≡ Some f → Stands fields t f
 truth_stands fields t c n f atom h =
     either (name_fault fields (grouping_places fields t) c n) _ f (Stands fields t f)
     (λ k. name_stands fields t c n f (in_atom t c (column n) (name n) atom (0, omega arith, refl)) k)
@@ -165,32 +170,73 @@ truth_stands fields t c n f atom h =
 
 mutual
   -- A predicate with a fault, whose atoms stand in a clause.
-  predicate_stands : (fields : List Field) (t : TreeForm) (c : Clause) (p : PredicateForm) (f : QueryFault) → ((a : PredicateForm) → Contains (atoms p) a → Contains (atoms_in t c) a) → predicate_fault fields (grouping_places fields t) c p ≡ Some f → Stands fields t f
-  predicate_stands fields t c (or_of ps) f inside h = parts_stand fields t c ps f inside h
-  predicate_stands fields t c (and_of ps) f inside h = parts_stand fields t c ps f inside h
-  predicate_stands fields t c (not_of p) f inside h = predicate_stands fields t c p f inside h
-  predicate_stands fields t c (truth_test p n u) f inside h = predicate_stands fields t c p f inside h
-  predicate_stands fields t c (compare x o y) f inside h =
+  predicate_stands : (fields : List Field) (t : TreeForm) (c : Clause) (p : PredicateForm) (f : QueryFault) → (c ≢ clause.Where → FiltersStand fields t f) → ((a : PredicateForm) → Contains (atoms p) a → IsAtomIn t c a) → predicate_fault fields (grouping_places fields t) c p ≡ Some f → Stands fields t f
+  predicate_stands fields t c (or_of ps) f deeper inside h = parts_stand fields t c ps f deeper inside h
+  predicate_stands fields t c (and_of ps) f deeper inside h = parts_stand fields t c ps f deeper inside h
+  predicate_stands fields t c (not_of p) f deeper inside h = predicate_stands fields t c p f deeper inside h
+  predicate_stands fields t c (truth_test p n u) f deeper inside h = predicate_stands fields t c p f deeper inside h
+  predicate_stands fields t c (compare x o y) f deeper inside h =
       let p = compare x o y in
-      compare_stands fields t c p x y f (inside p (0, omega arith, refl)) (0, omega arith, refl) (1, omega arith, refl) (λ two. (x, y, (0, omega arith, refl), (1, omega arith, refl), two)) h
-  predicate_stands fields t c (between x n y z) f inside h = between_stands fields t c x n y z f (inside (between x n y z) (0, omega arith, refl)) h
-  predicate_stands fields t c (member x n ls) f inside h = member_stands fields t c x n ls f (inside (member x n ls) (0, omega arith, refl)) h
-  predicate_stands fields t c (null_test x n) f inside h = operand_stands fields t c (null_test x n) x f (inside (null_test x n) (0, omega arith, refl)) (0, omega arith, refl) h
-  predicate_stands fields t c (column n) f inside h = truth_stands fields t c n f (inside (column n) (0, omega arith, refl)) h
+      compare_stands fields t c p x y f deeper (inside p (0, omega arith, refl)) (0, omega arith, refl) (1, omega arith, refl) (λ two. (x, y, (0, omega arith, refl), (1, omega arith, refl), two)) h
+  predicate_stands fields t c (between x n y z) f deeper inside h = between_stands fields t c x n y z f deeper (inside (between x n y z) (0, omega arith, refl)) h
+  predicate_stands fields t c (member x n ls) f deeper inside h = member_stands fields t c x n ls f deeper (inside (member x n ls) (0, omega arith, refl)) h
+  predicate_stands fields t c (null_test x n) f deeper inside h = operand_stands fields t c (null_test x n) x f deeper (inside (null_test x n) (0, omega arith, refl)) (0, omega arith, refl) h
+  predicate_stands fields t c (column n) f deeper inside h = truth_stands fields t c n f (inside (column n) (0, omega arith, refl)) h
 
   -- Parts with a fault, whose atoms stand in a clause.
-  parts_stand : (fields : List Field) (t : TreeForm) (c : Clause) (ps : PredicateForms) (f : QueryFault) → ((a : PredicateForm) → Contains (parts_atoms ps) a → Contains (atoms_in t c) a) → parts_fault fields (grouping_places fields t) c ps ≡ Some f → Stands fields t f
-  parts_stand fields t c no_parts f inside h = absurd cc
-  parts_stand fields t c (part p ps) f inside h =
+  parts_stand : (fields : List Field) (t : TreeForm) (c : Clause) (ps : PredicateForms) (f : QueryFault) → (c ≢ clause.Where → FiltersStand fields t f) → ((a : PredicateForm) → Contains (parts_atoms ps) a → IsAtomIn t c a) → parts_fault fields (grouping_places fields t) c ps ≡ Some f → Stands fields t f
+  parts_stand fields t c no_parts f deeper inside h = absurd cc
+  parts_stand fields t c (part p ps) f deeper inside h =
       either (predicate_fault fields (grouping_places fields t) c p) (parts_fault fields (grouping_places fields t) c ps) f (Stands fields t f)
-      (λ k. predicate_stands fields t c p f (λ a at. inside a (Contains-append_left (atoms p) (parts_atoms ps) a at)) k)
-      (λ _ k. parts_stand fields t c ps f (λ a at. inside a (Contains-append_right (atoms p) (parts_atoms ps) a at)) k)
+      (λ k. predicate_stands fields t c p f deeper (λ a at. inside a (Contains-append_left (atoms p) (parts_atoms ps) a at)) k)
+      (λ _ k. parts_stand fields t c ps f deeper (λ a at. inside a (Contains-append_right (atoms p) (parts_atoms ps) a at)) k)
       h
 
+-- ---- FILTER
+
+-- In WHERE the fault of an operand does not depend on the grouping columns.
+operand_anywhere : (fields : List Field) (grouped other : List ℕ) (x : OperandForm) → operand_fault fields grouped clause.Where x ≡ operand_fault fields other clause.Where x
+operand_anywhere fields grouped other (expression (name n)) = refl
+operand_anywhere fields grouped other (expression (grouping ns)) = refl
+operand_anywhere fields grouped other (expression (function f)) = refl
+operand_anywhere fields grouped other (literal a) = refl
+
+mutual
+  -- Nor does that of a predicate.
+  predicate_anywhere : (fields : List Field) (grouped other : List ℕ) (p : PredicateForm) → predicate_fault fields grouped clause.Where p ≡ predicate_fault fields other clause.Where p
+  predicate_anywhere fields grouped other (or_of ps) = parts_anywhere fields grouped other ps
+  predicate_anywhere fields grouped other (and_of ps) = parts_anywhere fields grouped other ps
+  predicate_anywhere fields grouped other (not_of p) = predicate_anywhere fields grouped other p
+  predicate_anywhere fields grouped other (truth_test p n u) = predicate_anywhere fields grouped other p
+  predicate_anywhere fields grouped other (compare x o y) =
+      ap (λ k. option_or k (option_or (operand_fault fields grouped clause.Where y) (agreement_fault (operand_kind fields x) (operand_kind fields y)))) (operand_anywhere fields grouped other x)
+      ∙ ap (λ k. option_or (operand_fault fields other clause.Where x) (option_or k (agreement_fault (operand_kind fields x) (operand_kind fields y)))) (operand_anywhere fields grouped other y)
+  predicate_anywhere fields grouped other (between x n y z) =
+      ap (λ k. option_or k (option_or (operand_fault fields grouped clause.Where y) (option_or (operand_fault fields grouped clause.Where z) (between_agreement fields x y z)))) (operand_anywhere fields grouped other x)
+      ∙ ap (λ k. option_or (operand_fault fields other clause.Where x) (option_or k (option_or (operand_fault fields grouped clause.Where z) (between_agreement fields x y z)))) (operand_anywhere fields grouped other y)
+      ∙ ap (λ k. option_or (operand_fault fields other clause.Where x) (option_or (operand_fault fields other clause.Where y) (option_or k (between_agreement fields x y z)))) (operand_anywhere fields grouped other z)
+  predicate_anywhere fields grouped other (member x n ls) = ap (λ k. option_or k (member_agreement fields x ls)) (operand_anywhere fields grouped other x)
+  predicate_anywhere fields grouped other (null_test x n) = operand_anywhere fields grouped other x
+  predicate_anywhere fields grouped other (column n) = refl
+
+  -- Nor does that of parts.
+  parts_anywhere : (fields : List Field) (grouped other : List ℕ) (ps : PredicateForms) → parts_fault fields grouped clause.Where ps ≡ parts_fault fields other clause.Where ps
+  parts_anywhere fields grouped other no_parts = refl
+  parts_anywhere fields grouped other (part p ps) =
+      ap (λ k. option_or k (parts_fault fields grouped clause.Where ps)) (predicate_anywhere fields grouped other p)
+      ∙ ap (λ k. option_or (predicate_fault fields other clause.Where p) k) (parts_anywhere fields grouped other ps)
+
+-- A FILTER with a fault.
+filter_stands : (fields : List Field) (t : TreeForm) (f : QueryFault) → FiltersStand fields t f
+filter_stands fields t f p at h =
+    predicate_stands fields t clause.Where p f (λ other. absurd (other refl)) (λ a among. inr (p, at, among)) (predicate_anywhere fields (grouping_places fields t) [] p ∙ h)
+
+-- ---- clauses
+
 -- A clause of a predicate with a fault.
-clause_stands : (fields : List Field) (t : TreeForm) (c : Clause) (o : Option PredicateForm) (f : QueryFault) → ((a : PredicateForm) → Contains (option_map_or atoms o []) a → Contains (atoms_in t c) a) → clause_fault fields (grouping_places fields t) c o ≡ Some f → Stands fields t f
+clause_stands : (fields : List Field) (t : TreeForm) (c : Clause) (o : Option PredicateForm) (f : QueryFault) → ((a : PredicateForm) → Contains (option_map_or atoms o []) a → IsAtomIn t c a) → clause_fault fields (grouping_places fields t) c o ≡ Some f → Stands fields t f
 clause_stands fields t c None f inside h = absurd cc
-clause_stands fields t c (Some p) f inside h = predicate_stands fields t c p f inside h
+clause_stands fields t c (Some p) f inside h = predicate_stands fields t c p f (λ _. filter_stands fields t f) inside h
 
 -- ---- headers and limits
 
@@ -244,7 +290,7 @@ unfolding records_fault
 records_stand fields t f h =
     let grouped = grouping_places fields t in
     either (clause_fault fields grouped clause.Where t.where_condition) _ f (Stands fields t f)
-    (λ k. clause_stands fields t clause.Where t.where_condition f (λ a at. at) k)
+    (λ k. clause_stands fields t clause.Where t.where_condition f (λ a at. inl at) k)
     (λ _ later. either (first_fault (group_fault fields) t.groups) _ f (Stands fields t f)
     (λ k. let found = first_at (column_fault fields) (grouping_names t) f (sym (all_names fields t.groups) ∙ k) in column_stands fields t found.0 f (inl found.1) found.2)
     (λ _ last. let k = over 256 (length (expanded t.groups)) f last in subst (Stands fields t) k.1 (inl k.0))
@@ -259,7 +305,7 @@ select_stands fields t f h =
     either (first_fault (λ i. expression_fault fields grouped clause.Select i.expression) t.items) _ f (Stands fields t f)
     (λ k.
     let found = first_at (λ (i : ItemForm). expression_fault fields grouped clause.Select i.expression) t.items f k in
-    expression_stands fields t clause.Select found.0.expression f (mapped (λ (i : ItemForm). i.expression) t.items found.0 found.1) found.2)
+    expression_stands fields t clause.Select found.0.expression f (λ _. filter_stands fields t f) (mapped (λ (i : ItemForm). i.expression) t.items found.0 found.1) found.2)
     (λ _ later. let k = header_stands [] (map header_text t.items) f later in subst (Stands fields t) k.2 k.1)
     h
 
@@ -274,7 +320,7 @@ rows_stand fields t f h =
     (λ k. clause_stands fields t clause.Having t.having_condition f (λ a at. at) k)
     (λ _ last.
     let found = first_at (λ (k : KeyForm). expression_fault fields grouped clause.OrderBy (key_expression t.items k.expression)) t.keys f last in
-    expression_stands fields t clause.OrderBy (key_expression t.items found.0.expression) f (mapped (λ (k : KeyForm). key_expression t.items k.expression) t.keys found.0 found.1) found.2)
+    expression_stands fields t clause.OrderBy (key_expression t.items found.0.expression) f (λ _. filter_stands fields t f) (mapped (λ (k : KeyForm). key_expression t.items k.expression) t.keys found.0 found.1) found.2)
     later)
     h
 

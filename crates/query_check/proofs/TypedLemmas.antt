@@ -195,17 +195,7 @@ chosen : {A : Type 0} (t : Bool) (o : Option A) (x : A) → cond t o (Some x) �
 chosen true o x h = (refl, h)
 chosen false o x h = absurd cc
 
--- A set function without a fault is typed.
-function_from_none : (fields : List Field) (c : Clause) (f : FunctionForm) → function_fault fields c f ≡ None → IsTypedFunction fields c f
-function_from_none fields c (over_all a) h = let k = chosen (may_stand c a) (aggregate_fault fields a) FunctionNotAllowed h in (stands_from_test c a k.0, aggregate_from_none fields a k.1)
-function_from_none fields c (over_filtered a p) h = absurd cc
-
--- A typed set function has no fault.
-none_from_function : (fields : List Field) (c : Clause) (f : FunctionForm) → IsTypedFunction fields c f → function_fault fields c f ≡ None
-none_from_function fields c (over_all a) h = rw (test_from_stands c a h.0) (none_from_aggregate fields a h.1)
-none_from_function fields c (over_filtered a p) h = absurd h
-
--- ---- expressions
+-- ---- GROUPING
 
 -- A GROUPING without a fault is typed.
 grouping_from_none : (fields : List Field) (grouped : List ℕ) (c : Clause) (ns : List (List ℕ)) → grouping_fault fields grouped c ns ≡ None → IsTypedGrouping fields grouped c ns
@@ -221,29 +211,7 @@ none_from_grouping fields grouped clause.Select ns h = none_from_all (grouped_fa
 none_from_grouping fields grouped clause.Having ns h = none_from_all (grouped_fault fields grouped) (IsGrouped fields grouped) (λ n k. none_from_grouped grouped n (place_of fields n) k) ns h
 none_from_grouping fields grouped clause.OrderBy ns h = none_from_all (grouped_fault fields grouped) (IsGrouped fields grouped) (λ n k. none_from_grouped grouped n (place_of fields n) k) ns h
 
--- An expression without a fault is typed.
-pub expression_from_none : (fields : List Field) (grouped : List ℕ) (c : Clause) (e : ExpressionForm) → expression_fault fields grouped c e ≡ None → IsTypedExpression fields grouped c e
-expression_from_none fields grouped c (name n) h = name_from_none fields grouped c n h
-expression_from_none fields grouped c (grouping ns) h = grouping_from_none fields grouped c ns h
-expression_from_none fields grouped c (function f) h = function_from_none fields c f h
-
--- A typed expression has no fault.
-pub none_from_expression : (fields : List Field) (grouped : List ℕ) (c : Clause) (e : ExpressionForm) → IsTypedExpression fields grouped c e → expression_fault fields grouped c e ≡ None
-none_from_expression fields grouped c (name n) h = none_from_name fields grouped c n h
-none_from_expression fields grouped c (grouping ns) h = none_from_grouping fields grouped c ns h
-none_from_expression fields grouped c (function f) h = none_from_function fields c f h
-
--- ---- predicates
-
--- An operand without a fault is typed.
-pub operand_from_none : (fields : List Field) (grouped : List ℕ) (c : Clause) (x : OperandForm) → operand_fault fields grouped c x ≡ None → IsTypedOperand fields grouped c x
-operand_from_none fields grouped c (expression e) h = expression_from_none fields grouped c e h
-operand_from_none fields grouped c (literal a) h = tt
-
--- A typed operand has no fault.
-none_from_operand : (fields : List Field) (grouped : List ℕ) (c : Clause) (x : OperandForm) → IsTypedOperand fields grouped c x → operand_fault fields grouped c x ≡ None
-none_from_operand fields grouped c (expression e) h = none_from_expression fields grouped c e h
-none_from_operand fields grouped c (literal a) h = refl
+-- ---- types
 
 -- Types that pass the test are equal.
 same_from_test : (k l : Kind) → same_kind k l ≡ true → k ≡ l
@@ -273,7 +241,28 @@ agreed (Some k) (Some l) h = (l, ap Some (same_from_test k l (holds (same_kind k
 none_from_agreed : (a b : Option Kind) → IsOfOneKind a b → agreement_fault a b ≡ None
 none_from_agreed a b h = rw (h.1, h.2) (passes (same_kind h.0 h.0) _ (same_itself h.0))
 
+-- ---- expressions and predicates
+
 mutual
+  -- An expression without a fault is typed.
+  pub expression_from_none : (fields : List Field) (grouped : List ℕ) (c : Clause) (e : ExpressionForm) → expression_fault fields grouped c e ≡ None → IsTypedExpression fields grouped c e
+  expression_from_none fields grouped c (name n) h = name_from_none fields grouped c n h
+  expression_from_none fields grouped c (grouping ns) h = grouping_from_none fields grouped c ns h
+  expression_from_none fields grouped c (function f) h = function_from_none fields c f h
+
+  -- A set function without a fault is typed.
+  function_from_none : (fields : List Field) (c : Clause) (f : FunctionForm) → function_fault fields c f ≡ None → IsTypedFunction fields c f
+  function_from_none fields c (over_all a) h = let k = chosen (may_stand c a) (aggregate_fault fields a) FunctionNotAllowed h in (stands_from_test c a k.0, aggregate_from_none fields a k.1)
+  function_from_none fields c (over_filtered a p) h =
+      let k = chosen (may_stand c a) (option_or (aggregate_fault fields a) (predicate_fault fields [] clause.Where p)) FunctionNotAllowed h in
+      let l = none_of_both (aggregate_fault fields a) (predicate_fault fields [] clause.Where p) k.1 in
+      (stands_from_test c a k.0, aggregate_from_none fields a l.0, predicate_from_none fields [] clause.Where p l.1)
+
+  -- An operand without a fault is typed.
+  pub operand_from_none : (fields : List Field) (grouped : List ℕ) (c : Clause) (x : OperandForm) → operand_fault fields grouped c x ≡ None → IsTypedOperand fields grouped c x
+  operand_from_none fields grouped c (expression e) h = expression_from_none fields grouped c e h
+  operand_from_none fields grouped c (literal a) h = tt
+
   -- A predicate without a fault is typed.
   pub predicate_from_none : (fields : List Field) (grouped : List ℕ) (c : Clause) (p : PredicateForm) → predicate_fault fields grouped c p ≡ None → IsTypedPredicate fields grouped c p
   predicate_from_none fields grouped c (or_of ps) h = parts_from_none fields grouped c ps h
@@ -306,6 +295,23 @@ mutual
       (predicate_from_none fields grouped c p i.0, parts_from_none fields grouped c ps i.1)
 
 mutual
+  -- A typed expression has no fault.
+  pub none_from_expression : (fields : List Field) (grouped : List ℕ) (c : Clause) (e : ExpressionForm) → IsTypedExpression fields grouped c e → expression_fault fields grouped c e ≡ None
+  none_from_expression fields grouped c (name n) h = none_from_name fields grouped c n h
+  none_from_expression fields grouped c (grouping ns) h = none_from_grouping fields grouped c ns h
+  none_from_expression fields grouped c (function f) h = none_from_function fields c f h
+
+  -- A typed set function has no fault.
+  none_from_function : (fields : List Field) (c : Clause) (f : FunctionForm) → IsTypedFunction fields c f → function_fault fields c f ≡ None
+  none_from_function fields c (over_all a) h = rw (test_from_stands c a h.0) (none_from_aggregate fields a h.1)
+  none_from_function fields c (over_filtered a p) h =
+      rw (test_from_stands c a h.0) (both_none (aggregate_fault fields a) (predicate_fault fields [] clause.Where p) (none_from_aggregate fields a h.1) (none_from_predicate fields [] clause.Where p h.2))
+
+  -- A typed operand has no fault.
+  none_from_operand : (fields : List Field) (grouped : List ℕ) (c : Clause) (x : OperandForm) → IsTypedOperand fields grouped c x → operand_fault fields grouped c x ≡ None
+  none_from_operand fields grouped c (expression e) h = none_from_expression fields grouped c e h
+  none_from_operand fields grouped c (literal a) h = refl
+
   -- A typed predicate has no fault.
   pub none_from_predicate : (fields : List Field) (grouped : List ℕ) (c : Clause) (p : PredicateForm) → IsTypedPredicate fields grouped c p → predicate_fault fields grouped c p ≡ None
   none_from_predicate fields grouped c (or_of ps) h = none_from_parts fields grouped c ps h

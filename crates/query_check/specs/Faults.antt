@@ -101,12 +101,6 @@ may_stand clause.Having a = true
 may_stand clause.OrderBy (aggregate.Avg x) = false
 may_stand clause.OrderBy a = true
 
--- The arguments of a function that may not stand are not looked at. FILTER is not part of the language yet, so a
--- set function with it may not stand.
-abbrev pub function_fault : List Field → Clause → FunctionForm → Option QueryFault
-function_fault fields c (over_all a) = if may_stand c a then aggregate_fault fields a else Some FunctionNotAllowed
-function_fault fields c (over_filtered a p) = Some FunctionNotAllowed
-
 -- ---- expressions and predicates
 
 -- GROUPING may not stand in WHERE, and takes grouping columns.
@@ -115,17 +109,6 @@ grouping_fault fields grouped clause.Where ns = Some FunctionNotAllowed
 grouping_fault fields grouped clause.Select ns = first_fault (grouped_fault fields grouped) ns
 grouping_fault fields grouped clause.Having ns = first_fault (grouped_fault fields grouped) ns
 grouping_fault fields grouped clause.OrderBy ns = first_fault (grouped_fault fields grouped) ns
-
--- The first fault of an expression in a clause.
-abbrev pub expression_fault : List Field → List ℕ → Clause → ExpressionForm → Option QueryFault
-expression_fault fields grouped c (name n) = name_fault fields grouped c n
-expression_fault fields grouped c (grouping ns) = grouping_fault fields grouped c ns
-expression_fault fields grouped c (function f) = function_fault fields c f
-
--- The first fault of an operand; a literal has none.
-abbrev pub operand_fault : List Field → List ℕ → Clause → OperandForm → Option QueryFault
-operand_fault fields grouped c (expression e) = expression_fault fields grouped c e
-operand_fault fields grouped c (literal a) = None
 
 -- Whether two types are one.
 abbrev pub same_kind : Kind → Kind → Bool
@@ -140,27 +123,15 @@ agreement_fault None l = Some TypesDisagree
 agreement_fault (Some k) None = Some TypesDisagree
 agreement_fault (Some k) (Some l) = fault_unless (same_kind k l) TypesDisagree
 
--- In an atom all operands are tested from the left, then their types.
-abbrev pub comparison_fault : List Field → List ℕ → Clause → OperandForm → OperandForm → Option QueryFault
-comparison_fault fields grouped c x y =
-    option_or (operand_fault fields grouped c x)
-    (option_or (operand_fault fields grouped c y)
-    (agreement_fault (operand_kind fields x) (operand_kind fields y)))
+-- In BETWEEN the types of all three operands are one.
+abbrev pub between_agreement : List Field → OperandForm → OperandForm → OperandForm → Option QueryFault
+between_agreement fields x y z =
+    option_or (agreement_fault (operand_kind fields x) (operand_kind fields y))
+    (agreement_fault (operand_kind fields x) (operand_kind fields z))
 
--- In BETWEEN all three operands are of one type.
-abbrev pub between_fault : List Field → List ℕ → Clause → OperandForm → OperandForm → OperandForm → Option QueryFault
-between_fault fields grouped c x y z =
-    option_or (operand_fault fields grouped c x)
-    (option_or (operand_fault fields grouped c y)
-    (option_or (operand_fault fields grouped c z)
-    (option_or (agreement_fault (operand_kind fields x) (operand_kind fields y))
-    (agreement_fault (operand_kind fields x) (operand_kind fields z)))))
-
--- In IN the operand and all literals are of one type.
-abbrev pub member_fault : List Field → List ℕ → Clause → OperandForm → List Literal → Option QueryFault
-member_fault fields grouped c x ls =
-    option_or (operand_fault fields grouped c x)
-    (first_fault (λ a. agreement_fault (operand_kind fields x) (Some (literal_kind a))) ls)
+-- In IN the types of the operand and of all literals are one.
+abbrev pub member_agreement : List Field → OperandForm → List Literal → Option QueryFault
+member_agreement fields x ls = first_fault (λ a. agreement_fault (operand_kind fields x) (Some (literal_kind a))) ls
 
 -- A bare name is a column of truth values.
 abbrev pub truth_fault : List Field → List ℕ → Clause → List ℕ → Option QueryFault
@@ -168,15 +139,40 @@ truth_fault fields grouped c n =
     option_or (name_fault fields grouped c n) (fault_unless (is_truth (column_kind fields n)) TypesDisagree)
 
 abbrev mutual
-  -- The first fault of a predicate in a clause.
+  -- The first fault of an expression in a clause.
+  pub expression_fault : List Field → List ℕ → Clause → ExpressionForm → Option QueryFault
+  expression_fault fields grouped c (name n) = name_fault fields grouped c n
+  expression_fault fields grouped c (grouping ns) = grouping_fault fields grouped c ns
+  expression_fault fields grouped c (function f) = function_fault fields c f
+
+  -- A set function that may not stand is not looked into. Else its argument is tested, and then its FILTER, in which all
+  -- stands as in WHERE.
+  pub function_fault : List Field → Clause → FunctionForm → Option QueryFault
+  function_fault fields c (over_all a) = if may_stand c a then aggregate_fault fields a else Some FunctionNotAllowed
+  function_fault fields c (over_filtered a p) =
+      if may_stand c a then option_or (aggregate_fault fields a) (predicate_fault fields [] clause.Where p) else Some FunctionNotAllowed
+
+  -- The first fault of an operand; a literal has none.
+  pub operand_fault : List Field → List ℕ → Clause → OperandForm → Option QueryFault
+  operand_fault fields grouped c (expression e) = expression_fault fields grouped c e
+  operand_fault fields grouped c (literal a) = None
+
+  -- The first fault of a predicate in a clause. In an atom all operands are tested from the left, then their types.
   pub predicate_fault : List Field → List ℕ → Clause → PredicateForm → Option QueryFault
   predicate_fault fields grouped c (or_of ps) = parts_fault fields grouped c ps
   predicate_fault fields grouped c (and_of ps) = parts_fault fields grouped c ps
   predicate_fault fields grouped c (not_of p) = predicate_fault fields grouped c p
   predicate_fault fields grouped c (truth_test p n t) = predicate_fault fields grouped c p
-  predicate_fault fields grouped c (compare x o y) = comparison_fault fields grouped c x y
-  predicate_fault fields grouped c (between x n y z) = between_fault fields grouped c x y z
-  predicate_fault fields grouped c (member x n ls) = member_fault fields grouped c x ls
+  predicate_fault fields grouped c (compare x o y) =
+      option_or (operand_fault fields grouped c x)
+      (option_or (operand_fault fields grouped c y)
+      (agreement_fault (operand_kind fields x) (operand_kind fields y)))
+  predicate_fault fields grouped c (between x n y z) =
+      option_or (operand_fault fields grouped c x)
+      (option_or (operand_fault fields grouped c y)
+      (option_or (operand_fault fields grouped c z)
+      (between_agreement fields x y z)))
+  predicate_fault fields grouped c (member x n ls) = option_or (operand_fault fields grouped c x) (member_agreement fields x ls)
   predicate_fault fields grouped c (null_test x n) = operand_fault fields grouped c x
   predicate_fault fields grouped c (column n) = truth_fault fields grouped c n
 

@@ -6,7 +6,7 @@ use Rattle.values.specs.declared.schema.Kind.TheVariants as kind
 use Rattle.values.specs.Schema.{Field}
 use Rattle.query_tree.specs.declared.expression.Aggregate.{Aggregate}
 use Rattle.query_tree.specs.declared.expression.Aggregate.TheVariants as aggregate
-use Rattle.query_tree.specs.Syntax.{ExpressionForm, OperandForm, PredicateForm, PredicateForms, TreeForm, name, grouping, function, over_all, over_filtered, expression, literal, or_of, and_of, not_of, truth_test, compare, between, member, null_test, column, no_parts, part}
+use Rattle.query_tree.specs.Syntax.{ExpressionForm, FunctionForm, OperandForm, PredicateForm, PredicateForms, TreeForm, name, grouping, function, over_filtered, expression, literal, or_of, and_of, not_of, truth_test, compare, between, member, null_test, column, no_parts, part}
 use Rattle.query_print.specs.Canonical.{header_text}
 use Rattle.query_fault.specs.declared.QueryFault.{QueryFault}
 use Rattle.query_fault.specs.declared.QueryFault.TheVariants as faults
@@ -42,19 +42,36 @@ operands (null_test x n) = x ∷ []
 operands (column n) = expression (name n) ∷ []
 operands p = []
 
--- The atoms in a clause; only WHERE and HAVING have some.
+-- The atoms of the predicate of a clause; only WHERE and HAVING have one.
 abbrev pub atoms_in : TreeForm → Clause → List PredicateForm
 atoms_in t clause.Where = option_map_or atoms t.where_condition []
 atoms_in t clause.Select = []
 atoms_in t clause.Having = option_map_or atoms t.having_condition []
 atoms_in t clause.OrderBy = []
 
+-- An expression is written in a clause outside of each FILTER: in SELECT it is an item's, in ORDER BY a key's, where an
+-- alias stands for its item, and in WHERE and HAVING it is an operand of an atom.
+abbrev pub IsWrittenIn : TreeForm → Clause → ExpressionForm → Type 0
+IsWrittenIn t clause.Select e = Contains (map (λ i. i.expression) t.items) e
+IsWrittenIn t clause.OrderBy e = Contains (map (λ k. key_expression t.items k.expression) t.keys) e
+IsWrittenIn t c e = (p : PredicateForm) × Contains (atoms_in t c) p × Contains (operands p) (expression e)
+
+-- A predicate is the FILTER of a set function that is written in some clause.
+abbrev pub IsFilterIn : TreeForm → PredicateForm → Type 0
+IsFilterIn t p = (c : Clause) × (a : Aggregate) × IsWrittenIn t c (function (over_filtered a p))
+
+-- An atom stands in a clause where it is one of the clause's predicate. In a FILTER all stands as in WHERE, in whichever
+-- clause the set function is, so the atoms of each FILTER stand there too.
+abbrev pub IsAtomIn : TreeForm → Clause → PredicateForm → Type 0
+IsAtomIn t clause.Where p = Contains (atoms_in t clause.Where) p ⊎ ((q : PredicateForm) × IsFilterIn t q × Contains (atoms q) p)
+IsAtomIn t c p = Contains (atoms_in t c) p
+
 -- An expression stands in a clause: in SELECT it is an item's, in ORDER BY a key's, where an alias stands for its item,
--- and in WHERE and HAVING it is an operand of an atom.
+-- and in WHERE, a FILTER and HAVING it is an operand of an atom.
 abbrev pub StandsIn : TreeForm → Clause → ExpressionForm → Type 0
 StandsIn t clause.Select e = Contains (map (λ i. i.expression) t.items) e
 StandsIn t clause.OrderBy e = Contains (map (λ k. key_expression t.items k.expression) t.keys) e
-StandsIn t c e = (p : PredicateForm) × Contains (atoms_in t c) p × Contains (operands p) (expression e)
+StandsIn t c e = (p : PredicateForm) × IsAtomIn t c p × Contains (operands p) (expression e)
 
 -- The names in an expression outside of a set function: a name itself, or the arguments of GROUPING.
 abbrev pub outer_names : ExpressionForm → List (List ℕ)
@@ -72,7 +89,7 @@ argument_names (aggregate.Min x) = x ∷ []
 argument_names (aggregate.Max x) = x ∷ []
 argument_names (aggregate.Avg x) = x ∷ []
 
--- All names in an expression.
+-- All names in an expression, outside of a FILTER.
 abbrev pub names : ExpressionForm → List (List ℕ)
 names (function f) = argument_names (aggregate_of f)
 names e = outer_names e
@@ -98,13 +115,11 @@ IsOfOtherKind fields (aggregate.Min x) = column_kind fields x ≡ Some kind.Bool
 IsOfOtherKind fields (aggregate.Max x) = column_kind fields x ≡ Some kind.Bool
 IsOfOtherKind fields a = ⊥
 
--- A function stands where it may not: GROUPING in WHERE, a set function in WHERE, AVG outside of SELECT. With FILTER,
--- which is not part of the language yet, it may stand nowhere.
+-- A function stands where it may not: GROUPING in WHERE or a FILTER, a set function there, AVG outside of SELECT.
 abbrev pub IsMisplaced : Clause → ExpressionForm → Type 0
 IsMisplaced c (name n) = ⊥
 IsMisplaced c (grouping ns) = c ≡ clause.Where
-IsMisplaced c (function (over_all a)) = MayStand c a → ⊥
-IsMisplaced c (function (over_filtered a p)) = ⊤
+IsMisplaced c (function f) = MayStand c (aggregate_of f) → ⊥
 
 -- A header stands twice: once, and once more before.
 abbrev pub StandsTwice : List ℕ → List (List ℕ) → Type 0
@@ -124,7 +139,7 @@ StandsTwice h headers = (before : List (List ℕ)) × (behind : List (List ℕ))
 abbrev pub Stands : List Field → TreeForm → QueryFault → Type 0
 Stands fields t (faults.UnknownColumn n) = (Contains (grouping_names t) n ⊎ ((c : Clause) × (e : ExpressionForm) × StandsIn t c e × Contains (names e) n)) × (IsColumn fields n → ⊥)
 Stands fields t (faults.NotGrouped n) = (c : Clause) × (e : ExpressionForm) × StandsIn t c e × (c ≢ clause.Where) × Contains (outer_names e) n × IsColumn fields n × (Contains (grouping_names t) n → ⊥)
-Stands fields t faults.TypesDisagree = ((c : Clause) × (p : PredicateForm) × Contains (atoms_in t c) p × Disagrees fields p) ⊎ ((c : Clause) × (a : Aggregate) × StandsIn t c (function (over_all a)) × IsOfOtherKind fields a)
+Stands fields t faults.TypesDisagree = ((c : Clause) × (p : PredicateForm) × IsAtomIn t c p × Disagrees fields p) ⊎ ((c : Clause) × (f : FunctionForm) × StandsIn t c (function f) × IsOfOtherKind fields (aggregate_of f))
 Stands fields t faults.FunctionNotAllowed = (c : Clause) × (e : ExpressionForm) × StandsIn t c e × IsMisplaced c e
 Stands fields t faults.OverLimit = (256 < length (expanded t.groups)) ⊎ (64 < length (functions_of fields t))
 Stands fields t (faults.RepeatedHeader h) = StandsTwice h (map header_text t.items)

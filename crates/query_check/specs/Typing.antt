@@ -1,5 +1,5 @@
 -- Which queries are typed under a schema (ISO/IEC 9075-2, <query specification>).
-use Rattle.std.specs.Prelude.{◌≡◌, ◌≢◌, ◌≤◌, ℕ, ⊤, ◌⊎◌, false, Option, Some, None, List, map, length, All, AllPairs, Contains, IsSome, IsSomeAnd}
+use Rattle.std.specs.Prelude.{◌≡◌, ◌≢◌, ◌≤◌, ℕ, ⊤, ◌⊎◌, false, Option, Some, None, List, [], map, length, All, AllPairs, Contains, IsSome, IsSomeAnd}
 use Rattle.std.specs.List.{find}
 use Rattle.std.specs.Option.{option_map_or}
 use Rattle.std.specs.Str.{bytes_eq}
@@ -60,11 +60,6 @@ MayStand clause.Having a = ⊤
 MayStand clause.OrderBy (aggregate.Avg x) = ⊥
 MayStand clause.OrderBy a = ⊤
 
--- A set function with FILTER may not stand anywhere: FILTER is not part of the language yet.
-abbrev pub IsTypedFunction : List Field → Clause → FunctionForm → Type 0
-IsTypedFunction fields c (over_all a) = MayStand c a × IsTypedAggregate fields a
-IsTypedFunction fields c (over_filtered a p) = ⊥
-
 -- ---- expressions
 
 -- GROUPING takes grouping columns, and may not stand in WHERE.
@@ -73,12 +68,6 @@ IsTypedGrouping fields grouped clause.Where ns = ⊥
 IsTypedGrouping fields grouped clause.Select ns = All (IsGrouped fields grouped) ns
 IsTypedGrouping fields grouped clause.Having ns = All (IsGrouped fields grouped) ns
 IsTypedGrouping fields grouped clause.OrderBy ns = All (IsGrouped fields grouped) ns
-
--- An expression is typed in a clause where its name, its GROUPING or its set function is.
-abbrev pub IsTypedExpression : List Field → List ℕ → Clause → ExpressionForm → Type 0
-IsTypedExpression fields grouped c (name n) = IsTypedName fields grouped c n
-IsTypedExpression fields grouped c (grouping ns) = IsTypedGrouping fields grouped c ns
-IsTypedExpression fields grouped c (function f) = IsTypedFunction fields c f
 
 -- The type of a set function: a whole number, or for MIN and MAX the type of the argument. AVG has none.
 abbrev pub aggregate_kind : List Field → Aggregate → Option Kind
@@ -103,12 +92,7 @@ literal_kind (constant.Integer i) = kind.Int
 literal_kind (constant.Text s) = kind.Text
 literal_kind (constant.Truth b) = kind.Bool
 
--- ---- predicates
-
--- An operand is typed where its expression is; a literal always is.
-abbrev pub IsTypedOperand : List Field → List ℕ → Clause → OperandForm → Type 0
-IsTypedOperand fields grouped c (expression e) = IsTypedExpression fields grouped c e
-IsTypedOperand fields grouped c (literal a) = ⊤
+-- ---- operands
 
 -- The type of an operand.
 abbrev pub operand_kind : List Field → OperandForm → Option Kind
@@ -119,7 +103,26 @@ operand_kind fields (literal a) = Some (literal_kind a)
 abbrev pub IsOfOneKind : Option Kind → Option Kind → Type 0
 IsOfOneKind k l = (one : Kind) × (k ≡ Some one) × (l ≡ Some one)
 
+-- ---- expressions and predicates
+
 abbrev mutual
+  -- An expression is typed in a clause where its name, its GROUPING or its set function is.
+  pub IsTypedExpression : List Field → List ℕ → Clause → ExpressionForm → Type 0
+  IsTypedExpression fields grouped c (name n) = IsTypedName fields grouped c n
+  IsTypedExpression fields grouped c (grouping ns) = IsTypedGrouping fields grouped c ns
+  IsTypedExpression fields grouped c (function f) = IsTypedFunction fields c f
+
+  -- A set function is typed where it may stand and takes its column. Its FILTER is typed as WHERE is, in whichever clause
+  -- the function stands: names are columns, and no set function and no GROUPING may stand there.
+  pub IsTypedFunction : List Field → Clause → FunctionForm → Type 0
+  IsTypedFunction fields c (over_all a) = MayStand c a × IsTypedAggregate fields a
+  IsTypedFunction fields c (over_filtered a p) = MayStand c a × IsTypedAggregate fields a × IsTypedPredicate fields [] clause.Where p
+
+  -- An operand is typed where its expression is; a literal always is.
+  pub IsTypedOperand : List Field → List ℕ → Clause → OperandForm → Type 0
+  IsTypedOperand fields grouped c (expression e) = IsTypedExpression fields grouped c e
+  IsTypedOperand fields grouped c (literal a) = ⊤
+
   -- In comparisons, BETWEEN and IN all operands and literals are of one type; IS NULL takes any operand;
   -- a bare name is a column of truth values.
   pub IsTypedPredicate : List Field → List ℕ → Clause → PredicateForm → Type 0

@@ -27,6 +27,16 @@ pub enum ColumnFunction {
     Avg(usize),
 }
 
+/// A set function of a plan, ISO/IEC 9075-2 `<aggregate function>`: with the index of its FILTER among the different
+/// filters of the query, from 0, where it has one.
+#[derive(Clone, Copy, Debug, PartialEq, Eq)]
+pub struct FilteredFunction {
+    /// The function, with the place of its column.
+    pub function: ColumnFunction,
+    /// The index of its FILTER; without FILTER it goes over all records of a group.
+    pub filter: Option<usize>,
+}
+
 impl ColumnFunction {
     ghost use Rattle.std.specs.Prelude.{◌≡◌};
     ghost use Rattle.query_check.specs.Functions.{same_function};
@@ -48,17 +58,7 @@ impl ColumnFunction {
     }
 }
 
-/// A set function of a plan, ISO/IEC 9075-2 `<aggregate function>`: with the index of its FILTER among the different
-/// filters of the query, from 0, where it has one.
-#[derive(Clone, Copy, Debug, PartialEq, Eq)]
-pub struct FilteredFunction {
-    /// The function, with the place of its column.
-    pub function: ColumnFunction,
-    /// The index of its FILTER; without FILTER it goes over all records of a group.
-    pub filter: Option<usize>,
-}
-
-/// A set function with the place of its column, where it has one.
+/// A set function with the place of its column, where the schema has that column.
 pub fn column_function(columns: &[Column], aggregate: &Aggregate) -> Option<ColumnFunction>
     ensures { result ≡ column_function (fields_of columns.now) aggregate.now }
 {

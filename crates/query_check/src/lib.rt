@@ -1,5 +1,5 @@
 //! Whether a query is typed under a schema, and what it is resolved to: its grouping columns, its expanded list of
-//! grouping sets, and its different set functions.
+//! grouping sets, and its different set functions and filters.
 #![tactic(auto)]
 
 mod columns;
@@ -9,14 +9,18 @@ mod function;
 mod joining;
 mod laws;
 mod names;
+mod planning;
 mod product;
 mod resolution;
+mod sameness;
 mod scope;
 mod typing;
 
 pub use columns::place_of;
 pub use counting::set_count;
 pub use function::{ColumnFunction, FilteredFunction, column_function};
-pub use laws::{cube_law, rollup_law};
+pub use laws::{cube_law, filters_law, rollup_law, same_predicate_law};
+pub use planning::{filters, function_index};
 pub use resolution::{Resolved, check_tree, key_expression};
+pub use sameness::is_same_predicate;
 pub use scope::Clause;

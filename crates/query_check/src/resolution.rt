@@ -1,14 +1,13 @@
 //! Checking a query, and what it is resolved to.
 
-ghost use Rattle.std.specs.Prelude.{◌≡◌, ◌≢◌, ◌++◌, map, string_bytes, length, IfErr, IfOk, OnOk, Some};
-ghost use Rattle.std.specs.List.{filter_map, flat_map, list_any};
+ghost use Rattle.std.specs.Prelude.{◌≡◌, ◌≢◌, map, string_bytes, length, IfErr, IfOk, OnOk, Some};
+ghost use Rattle.std.specs.List.{list_any};
 ghost use Rattle.std.specs.Str.{bytes_eq};
 ghost use Rattle.std.specs.Option.{option_map};
 ghost use Rattle.values.specs.Schema.{fields_of};
-ghost use Rattle.query_tree.specs.Syntax.{expression_form, element_form, item_form, key_form, operand_form, predicate_form, predicate_forms, tree_form};
+ghost use Rattle.query_tree.specs.Syntax.{expression_form, element_form, item_form, key_form, predicate_form, tree_form};
 ghost use Rattle.query_print.specs.Canonical.{header_text};
-ghost use Rattle.query_check.specs.Columns.{distinct};
-ghost use Rattle.query_check.specs.Functions.{aggregates, column_function, expression_aggregates, functions_of, operand_aggregates, parts_aggregates, predicate_aggregates, same_function};
+ghost use Rattle.query_check.specs.Functions.{indexed_functions};
 ghost use Rattle.query_check.specs.Sets.{expanded};
 ghost use Rattle.query_check.specs.Typing.{IsTyped, key_expression};
 ghost use Rattle.query_check.specs.Faults.{Answers, clause_fault, clauses_fault, expression_fault, first_fault, headers_fault, limit_fault, query_fault, records_fault, rows_fault, select_fault};
@@ -18,13 +17,14 @@ ghost use Rattle.query_check.specs.Resolution.{resolution_of};
 
 use crate::counting::set_count;
 use crate::expansion::expand;
-use crate::function::{ColumnFunction, column_function};
+use crate::function::FilteredFunction;
 use crate::names::{check_groups, grouping_places};
+use crate::planning::indexed_functions;
 use crate::scope::{Clause, Scope};
 use crate::typing::{check_expression, check_predicate};
 use query_fault::QueryFault;
 use query_print::header;
-use query_tree::{Expression, GroupingElement, Item, Key, Operand, Predicate, Text, Tree};
+use query_tree::{Expression, GroupingElement, Item, Key, Predicate, Text, Tree};
 use std::alloc::{AllocError, Global};
 use std::marker::Model;
 use values::{Column, Schema};
@@ -40,7 +40,7 @@ const MOST_SET_FUNCTIONS: u64 = 64;
 pub struct Resolved {
     grouping: Vec<usize>,
     sets: Vec<Vec<usize>>,
-    functions: Vec<ColumnFunction>,
+    functions: Vec<FilteredFunction>,
 }
 
 impl Model for Resolved {
@@ -69,8 +69,9 @@ impl Resolved {
         self.sets.as_slice()
     }
 
-    /// The different set functions, in the order in which they first stand in SELECT, HAVING and ORDER BY.
-    pub fn functions(&self) -> &[ColumnFunction]
+    /// The different set functions, in the order in which they first stand in SELECT, HAVING and ORDER BY, each with the
+    /// index of its FILTER.
+    pub fn functions(&self) -> &[FilteredFunction]
         ensures { result.now ≡ self.now.functions }
     {
         self.functions.as_slice()
@@ -156,191 +157,6 @@ fn check_limit(most: u64, count: u64) -> Result<(), QueryFault>
     Ok(())
 }
 
-/// Adds the set function that an expression is, if it is one.
-fn push_expression_function(
-    functions: &mut Vec<ColumnFunction>,
-    columns: &[Column],
-    expression: &Expression,
-) -> Result<(), AllocError>
-    ensures { OnOk result (functions.new.items ≡ functions.old.items ++ filter_map (column_function (fields_of columns.now)) (expression_aggregates (expression_form expression.now))) }
-{
-    if let Expression::Function(function) = expression
-        && let Some(function) = column_function(columns, &function.aggregate)
-    {
-        functions.push(function)?;
-    }
-    Ok(())
-}
-
-/// Adds the set function that an operand is, if it is one.
-fn push_operand_function(
-    functions: &mut Vec<ColumnFunction>,
-    columns: &[Column],
-    operand: &Operand,
-) -> Result<(), AllocError>
-    ensures { OnOk result (functions.new.items ≡ functions.old.items ++ filter_map (column_function (fields_of columns.now)) (operand_aggregates (operand_form operand.now))) }
-{
-    match operand {
-        Operand::Expression(expression) => push_expression_function(functions, columns, expression),
-        Operand::Literal(_) => Ok(()),
-    }
-}
-
-/// Adds the set functions that two operands are.
-#[tactic(auto, using(crate::proofs::Rows::appended))]
-fn push_pair_functions(
-    functions: &mut Vec<ColumnFunction>,
-    columns: &[Column],
-    left: &Operand,
-    right: &Operand,
-) -> Result<(), AllocError>
-    ensures { OnOk result (functions.new.items ≡ functions.old.items ++ filter_map (column_function (fields_of columns.now)) (operand_aggregates (operand_form left.now) ++ operand_aggregates (operand_form right.now))) }
-{
-    push_operand_function(functions, columns, left)?;
-    push_operand_function(functions, columns, right)
-}
-
-/// Adds the set functions that three operands are.
-#[tactic(auto, using(crate::proofs::Rows::appended))]
-fn push_three_functions(
-    functions: &mut Vec<ColumnFunction>,
-    columns: &[Column],
-    operand: &Operand,
-    low: &Operand,
-    high: &Operand,
-) -> Result<(), AllocError>
-    ensures { OnOk result (functions.new.items ≡ functions.old.items ++ filter_map (column_function (fields_of columns.now)) (operand_aggregates (operand_form operand.now) ++ operand_aggregates (operand_form low.now) ++ operand_aggregates (operand_form high.now))) }
-{
-    push_pair_functions(functions, columns, operand, low)?;
-    push_operand_function(functions, columns, high)
-}
-
-/// Adds the set functions in a predicate, from left to right.
-#[tactic(auto, using(crate::proofs::Rows::appended))]
-#[cycle(push_predicate_functions)]
-fn push_predicate_functions(
-    functions: &mut Vec<ColumnFunction>,
-    columns: &[Column],
-    predicate: &Predicate,
-) -> Result<(), AllocError>
-    ensures { OnOk result (functions.new.items ≡ functions.old.items ++ filter_map (column_function (fields_of columns.now)) (predicate_aggregates (predicate_form predicate.now))) }
-{
-    match predicate {
-        Predicate::Or(parts) | Predicate::And(parts) => {
-            push_parts_functions(functions, columns, parts)
-        }
-        Predicate::Not(part) => push_predicate_functions(functions, columns, part),
-        Predicate::Is { part, .. } => push_predicate_functions(functions, columns, part),
-        Predicate::Compare { left, right, .. } => {
-            push_pair_functions(functions, columns, left, right)
-        }
-        Predicate::Between {
-            operand,
-            low,
-            high,
-            ..
-        } => { push_three_functions(functions, columns, operand, low, high) }
-        Predicate::In { operand, .. } => push_operand_function(functions, columns, operand),
-        Predicate::IsNull { operand, .. } => push_operand_function(functions, columns, operand),
-        Predicate::Column(_) => Ok(()),
-    }
-}
-
-/// Adds the set functions in the parts of an OR or an AND.
-#[cycle(push_predicate_functions)]
-fn push_parts_functions(
-    functions: &mut Vec<ColumnFunction>,
-    columns: &[Column],
-    parts: &[Predicate],
-) -> Result<(), AllocError>
-    ensures { OnOk result (functions.new.items ≡ functions.old.items ++ filter_map (column_function (fields_of columns.now)) (parts_aggregates (predicate_forms (map predicate_form parts.now)))) }
-{
-    for part in parts {
-        push_predicate_functions(functions, columns, part)?;
-    }
-    Ok(())
-}
-
-/// The set functions in SELECT, HAVING and ORDER BY, from left to right.
-#[tactic(auto, using(crate::proofs::Rows::appended))]
-fn all_functions(
-    alloc: Global,
-    columns: &[Column],
-    tree: &Tree,
-) -> Result<Vec<ColumnFunction>, AllocError>
-    ensures { IfOk result (λ v. v.items ≡ filter_map (column_function (fields_of columns.now)) (aggregates (tree_form tree.now))) }
-{
-    let mut functions = Vec::new(alloc);
-    push_item_functions(&mut functions, columns, &tree.items)?;
-    if let Some(predicate) = &tree.having_condition {
-        push_predicate_functions(&mut functions, columns, predicate)?;
-    }
-    push_key_functions(&mut functions, columns, &tree.keys)?;
-    Ok(functions)
-}
-
-/// Adds the set functions of items.
-fn push_item_functions(
-    functions: &mut Vec<ColumnFunction>,
-    columns: &[Column],
-    items: &[Item],
-) -> Result<(), AllocError>
-    ensures { OnOk result (functions.new.items ≡ functions.old.items ++ filter_map (column_function (fields_of columns.now)) (flat_map (λ i. expression_aggregates i.expression) (map item_form items.now))) }
-{
-    for item in items {
-        push_expression_function(functions, columns, &item.expression)?;
-    }
-    Ok(())
-}
-
-/// Adds the set functions of keys.
-fn push_key_functions(
-    functions: &mut Vec<ColumnFunction>,
-    columns: &[Column],
-    keys: &[Key],
-) -> Result<(), AllocError>
-    ensures { OnOk result (functions.new.items ≡ functions.old.items ++ filter_map (column_function (fields_of columns.now)) (flat_map (λ k. expression_aggregates k.expression) (map key_form keys.now))) }
-{
-    for key in keys {
-        push_expression_function(functions, columns, &key.expression)?;
-    }
-    Ok(())
-}
-
-/// Whether a set function is among others.
-fn has_function(functions: &[ColumnFunction], function: ColumnFunction) -> bool
-    ensures { result ≡ list_any (λ f. same_function f function) functions.now }
-{
-    functions.iter().any(|other| other.is_same(function))
-}
-
-/// The set functions without repeats, each where it first stands.
-fn distinct_functions(
-    alloc: Global,
-    functions: &[ColumnFunction],
-) -> Result<Vec<ColumnFunction>, AllocError>
-    ensures { IfOk result (λ v. v.items ≡ distinct same_function functions.now) }
-{
-    let mut found: Vec<ColumnFunction> = Vec::new(alloc);
-    for function in functions {
-        if !has_function(&found, *function) {
-            found.push(*function)?;
-        }
-    }
-    Ok(found)
-}
-
-/// The different set functions of a query, in the order in which they first stand.
-fn functions_of(
-    alloc: Global,
-    columns: &[Column],
-    tree: &Tree,
-) -> Result<Vec<ColumnFunction>, AllocError>
-    ensures { IfOk result (λ v. v.items ≡ functions_of (fields_of columns.now) (tree_form tree.now)) }
-{
-    distinct_functions(alloc, &all_functions(alloc, columns, tree)?)
-}
-
 /// Whether GROUP BY stands for few enough sets.
 #[tactic(auto, using(crate::proofs::Counts::answers_capped))]
 fn check_set_count(groups: &[GroupingElement]) -> Result<(), QueryFault>
@@ -399,8 +215,8 @@ fn check_clauses(
     columns: &[Column],
     grouping: &[usize],
     tree: &Tree,
-) -> Result<Vec<ColumnFunction>, QueryFault>
-    ensures functions { IfOk result (λ v. v.items ≡ functions_of (fields_of columns.now) (tree_form tree.now)) }
+) -> Result<Vec<FilteredFunction>, QueryFault>
+    ensures functions { IfOk result (λ v. v.items ≡ indexed_functions (fields_of columns.now) (tree_form tree.now)) }
     ensures fault { Answers result (clauses_fault (fields_of columns.now) grouping.now (tree_form tree.now)) }
 {
     let scope = Scope {
@@ -410,7 +226,7 @@ fn check_clauses(
     };
     check_records(&scope, tree)?;
     check_rows(alloc, columns, grouping, tree)?;
-    let functions = functions_of(alloc, columns, tree)?;
+    let functions = indexed_functions(alloc, columns, tree)?;
     check_limit(MOST_SET_FUNCTIONS, functions.len() as u64)?;
     Ok(functions)
 }

@@ -1,11 +1,12 @@
 //! Whether expressions and predicates are typed, fault by fault.
 
-ghost use Rattle.std.specs.Prelude.{◌≡◌, ◌≢◌, map, Some};
+ghost use Rattle.std.specs.Prelude.{◌≡◌, ◌≢◌, [], map, Some};
 ghost use Rattle.values.specs.Schema.{fields_of};
 ghost use Rattle.query_fault.specs.declared.QueryFault.TheVariants.{UnknownColumn, NotGrouped, OutOfMemory};
 ghost use Rattle.query_tree.specs.Syntax.{expression_form, operand_form, predicate_form, predicate_forms};
 ghost use Rattle.query_check.specs.Typing.{aggregate_kind, literal_kind, operand_kind};
-ghost use Rattle.query_check.specs.Faults.{agreement_fault, aggregate_fault, Answers, argument_fault, between_fault, column_fault, comparison_fault, expression_fault, first_fault, grouped_fault, grouping_fault, is_integer, is_ordered, may_stand, name_fault, operand_fault, parts_fault, predicate_fault, same_kind, truth_fault};
+ghost use Rattle.query_check.specs.Functions.{function_form};
+ghost use Rattle.query_check.specs.Faults.{agreement_fault, aggregate_fault, Answers, argument_fault, between_agreement, column_fault, expression_fault, first_fault, function_fault, grouped_fault, grouping_fault, is_integer, is_ordered, may_stand, name_fault, operand_fault, parts_fault, predicate_fault, same_kind, truth_fault};
 
 use crate::columns::{column_kind, place_of};
 use crate::scope::{Clause, Scope};
@@ -134,32 +135,6 @@ fn may_stand(clause: Clause, aggregate: &Aggregate) -> bool
     }
 }
 
-/// Whether an expression is typed in the clause. FILTER is not part of the language yet.
-pub(crate) fn check_expression(scope: &Scope, expression: &Expression) -> Result<(), QueryFault>
-    ensures fault { Answers result (expression_fault (fields_of scope.now.columns.now) scope.now.grouping.now scope.now.clause (expression_form expression.now)) }
-{
-    match expression {
-        Expression::Name(name) => check_name(scope, name),
-        Expression::Grouping(names) => check_grouping(scope, names),
-        Expression::Function(SetFunction { aggregate, filter }) => {
-            if filter.is_some() || !may_stand(scope.clause, aggregate) {
-                return Err(QueryFault::FunctionNotAllowed);
-            }
-            check_aggregate(scope.columns, aggregate)
-        }
-    }
-}
-
-/// Whether an operand is typed in the clause.
-fn check_operand(scope: &Scope, operand: &Operand) -> Result<(), QueryFault>
-    ensures fault { Answers result (operand_fault (fields_of scope.now.columns.now) scope.now.grouping.now scope.now.clause (operand_form operand.now)) }
-{
-    match operand {
-        Operand::Expression(expression) => check_expression(scope, expression),
-        Operand::Literal(_) => Ok(()),
-    }
-}
-
 /// The type of a set function. AVG has none.
 fn aggregate_kind(columns: &[Column], aggregate: &Aggregate) -> Option<Kind>
     ensures { result ≡ aggregate_kind (fields_of columns.now) aggregate.now }
@@ -219,6 +194,20 @@ fn check_agreement(left: Option<Kind>, right: Option<Kind>) -> Result<(), QueryF
     }
 }
 
+/// Whether the operands of a BETWEEN are of one type.
+fn check_range(
+    columns: &[Column],
+    operand: &Operand,
+    low: &Operand,
+    high: &Operand,
+) -> Result<(), QueryFault>
+    ensures fault { Answers result (between_agreement (fields_of columns.now) (operand_form operand.now) (operand_form low.now) (operand_form high.now)) }
+{
+    let kind = operand_kind(columns, operand);
+    check_agreement(kind, operand_kind(columns, low))?;
+    check_agreement(kind, operand_kind(columns, high))
+}
+
 /// Whether literals are of this type.
 fn check_literals(kind: Option<Kind>, literals: &[Literal]) -> Result<(), QueryFault>
     ensures fault { Answers result (first_fault (λ a. agreement_fault kind (Some (literal_kind a))) literals.now) }
@@ -227,35 +216,6 @@ fn check_literals(kind: Option<Kind>, literals: &[Literal]) -> Result<(), QueryF
         check_agreement(kind, Some(literal_kind(literal)))?;
     }
     Ok(())
-}
-
-/// Whether a comparison is typed in the clause.
-fn check_comparison(scope: &Scope, left: &Operand, right: &Operand) -> Result<(), QueryFault>
-    ensures fault { Answers result (comparison_fault (fields_of scope.now.columns.now) scope.now.grouping.now scope.now.clause (operand_form left.now) (operand_form right.now)) }
-{
-    check_operand(scope, left)?;
-    check_operand(scope, right)?;
-    check_agreement(
-        operand_kind(scope.columns, left),
-        operand_kind(scope.columns, right),
-    )
-}
-
-/// Whether a BETWEEN is typed in the clause.
-fn check_between(
-    scope: &Scope,
-    operand: &Operand,
-    low: &Operand,
-    high: &Operand,
-) -> Result<(), QueryFault>
-    ensures fault { Answers result (between_fault (fields_of scope.now.columns.now) scope.now.grouping.now scope.now.clause (operand_form operand.now) (operand_form low.now) (operand_form high.now)) }
-{
-    check_operand(scope, operand)?;
-    check_operand(scope, low)?;
-    check_operand(scope, high)?;
-    let kind = operand_kind(scope.columns, operand);
-    check_agreement(kind, operand_kind(scope.columns, low))?;
-    check_agreement(kind, operand_kind(scope.columns, high))
 }
 
 /// Whether a bare name is a column of truth values that may stand in the clause.
@@ -269,7 +229,58 @@ fn check_truth(scope: &Scope, name: &Text) -> Result<(), QueryFault>
     }
 }
 
-/// Whether a predicate is typed in the clause.
+/// Whether an expression is typed in the clause.
+#[cycle(check_predicate)]
+pub(crate) fn check_expression(scope: &Scope, expression: &Expression) -> Result<(), QueryFault>
+    ensures fault { Answers result (expression_fault (fields_of scope.now.columns.now) scope.now.grouping.now scope.now.clause (expression_form expression.now)) }
+{
+    match expression {
+        Expression::Name(name) => check_name(scope, name),
+        Expression::Grouping(names) => check_grouping(scope, names),
+        Expression::Function(function) => check_function(scope, function),
+    }
+}
+
+/// Whether a set function may stand in the clause, takes its column, and has a FILTER that is typed as WHERE is.
+#[cycle(check_predicate)]
+fn check_function(scope: &Scope, function: &SetFunction) -> Result<(), QueryFault>
+    ensures fault { Answers result (function_fault (fields_of scope.now.columns.now) scope.now.clause (function_form function.now)) }
+{
+    if !may_stand(scope.clause, &function.aggregate) {
+        return Err(QueryFault::FunctionNotAllowed);
+    }
+    check_aggregate(scope.columns, &function.aggregate)?;
+    match &function.filter {
+        Some(filter) => check_filter(scope.columns, filter),
+        None => Ok(()),
+    }
+}
+
+/// Whether the predicate of a FILTER is typed as WHERE is.
+#[cycle(check_predicate)]
+fn check_filter(columns: &[Column], filter: &Predicate) -> Result<(), QueryFault>
+    ensures fault { Answers result (predicate_fault (fields_of columns.now) [] Clause.Where (predicate_form filter.now)) }
+{
+    let scope = Scope {
+        columns,
+        grouping: &[],
+        clause: Clause::Where,
+    };
+    check_predicate(&scope, filter)
+}
+
+/// Whether an operand is typed in the clause.
+#[cycle(check_predicate)]
+fn check_operand(scope: &Scope, operand: &Operand) -> Result<(), QueryFault>
+    ensures fault { Answers result (operand_fault (fields_of scope.now.columns.now) scope.now.grouping.now scope.now.clause (operand_form operand.now)) }
+{
+    match operand {
+        Operand::Expression(expression) => check_expression(scope, expression),
+        Operand::Literal(_) => Ok(()),
+    }
+}
+
+/// Whether a predicate is typed in the clause: of an atom its operands from the left, then their types.
 #[cycle(check_predicate)]
 pub(crate) fn check_predicate(scope: &Scope, predicate: &Predicate) -> Result<(), QueryFault>
     ensures fault { Answers result (predicate_fault (fields_of scope.now.columns.now) scope.now.grouping.now scope.now.clause (predicate_form predicate.now)) }
@@ -278,13 +289,25 @@ pub(crate) fn check_predicate(scope: &Scope, predicate: &Predicate) -> Result<()
         Predicate::Or(parts) | Predicate::And(parts) => check_parts(scope, parts),
         Predicate::Not(part) => check_predicate(scope, part),
         Predicate::Is { part, .. } => check_predicate(scope, part),
-        Predicate::Compare { left, right, .. } => check_comparison(scope, left, right),
+        Predicate::Compare { left, right, .. } => {
+            check_operand(scope, left)?;
+            check_operand(scope, right)?;
+            check_agreement(
+                operand_kind(scope.columns, left),
+                operand_kind(scope.columns, right),
+            )
+        }
         Predicate::Between {
             operand,
             low,
             high,
             ..
-        } => check_between(scope, operand, low, high),
+        } => {
+            check_operand(scope, operand)?;
+            check_operand(scope, low)?;
+            check_operand(scope, high)?;
+            check_range(scope.columns, operand, low, high)
+        }
         Predicate::In {
             operand,
             literals,

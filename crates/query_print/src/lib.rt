@@ -8,3 +8,4 @@ mod lists;
 mod predicates;
 
 pub use clauses::{header, print_tree, set_text};
+pub use predicates::predicate_text;

@@ -1,6 +1,6 @@
 //! Expressions and predicates, which hold one another.
 
-ghost use Rattle.std.specs.Prelude.{◌≡◌, ◌++◌, codes, map, OnOk, string_bytes};
+ghost use Rattle.std.specs.Prelude.{◌≡◌, ◌++◌, codes, IfOk, map, OnOk, string_bytes};
 ghost use Rattle.query_print.specs.Canonical.{bracketed_below, expression_text, joined, operand_text, part_texts, predicate_text, tightness};
 ghost use Rattle.query_tree.specs.Syntax.{expression_form, operand_form, predicate_form, predicate_forms};
 
@@ -8,7 +8,7 @@ use crate::leaves::{op_text, push_aggregate, push_marked, truth_text};
 use crate::lists::{Written, write_list};
 use query_tokens::push_name;
 use query_tree::{Expression, Operand, Predicate, SetFunction};
-use std::alloc::AllocError;
+use std::alloc::{AllocError, Global};
 
 /// How tightly a predicate holds together: OR least, then AND, NOT and a truth test, and an atom most.
 fn tightness(predicate: &Predicate) -> u32
@@ -155,4 +155,13 @@ fn push_parts(
         push_part(out, least, part)?;
     }
     Ok(())
+}
+
+/// The canonical text of a predicate.
+pub fn predicate_text(alloc: Global, predicate: &Predicate) -> Result<String, AllocError>
+    ensures { IfOk result (λ text. string_bytes text ≡ predicate_text (predicate_form predicate.now)) }
+{
+    let mut out = String::new(alloc);
+    push_predicate(&mut out, predicate)?;
+    Ok(out)
 }

@@ -3,10 +3,10 @@ use Rattle.std.specs.List.{flat_map}
 use Rattle.values.specs.Schema.{Field, fields_of}
 use Rattle.query_tree.specs.declared.group.GroupingElement.{GroupingElement}
 use Rattle.query_tree.specs.Syntax.{element_form, tree_form}
-use Rattle.query_check.specs.declared.function.ColumnFunction.{ColumnFunction}
+use Rattle.query_check.specs.declared.function.FilteredFunction.{FilteredFunction}
 use Rattle.query_check.specs.Columns.{distinct, group_names, places_of}
 use Rattle.query_check.specs.Sets.{expanded, grouping_places, ordered_set, sets_of}
-use Rattle.query_check.specs.Functions.{functions_of}
+use Rattle.query_check.specs.Functions.{indexed_functions}
 use Rattle.query_check.specs.Resolution.{contents, Resolution}
 use Rattle.query_check.proofs.resolution.resolve.Goals as goal
 
@@ -20,13 +20,13 @@ returns-clause-resolved c =
     c.in_ok-grouping.ensures
     ∙ ap (λ (gs : List GroupingElement). distinct (λ a b. a == b) (places_of read (flat_map group_names (map element_form gs)))) c.deref.ensures.value
     ∙ ap (λ (fs : List Field). grouping_places fs t) same in
-    let functions : c.in_ok-functions.functions.items ≡ functions_of fields t = c.in_ok-functions.ensures.functions ∙ ap (λ (fs : List Field). functions_of fs t) same in
+    let functions : c.in_ok-functions.functions.items ≡ indexed_functions fields t = c.in_ok-functions.ensures.functions ∙ ap (λ (fs : List Field). indexed_functions fs t) same in
     let sets : contents c.in_ok-sets.sets.items ≡ sets_of fields t =
     c.in_ok-sets.ensures
     ∙ ap (λ (g : List ℕ). map (λ names. ordered_set g (places_of read names)) (expanded (map element_form c.deref-4.result.now))) (c.deref-3.ensures.value ∙ grouping)
     ∙ ap (λ (gs : List GroupingElement). map (λ names. ordered_set (grouping_places fields t) (places_of read names)) (expanded (map element_form gs))) c.deref-4.ensures.value
     ∙ ap (λ (fs : List Field). map (λ names. ordered_set (grouping_places fields t) (places_of fs names)) (expanded t.groups)) same in
-    let made : List ℕ → List (List ℕ) → List ColumnFunction → Resolution = λ g s f. record { grouping = g; sets = s; functions = f } in
+    let made : List ℕ → List (List ℕ) → List FilteredFunction → Resolution = λ g s f. record { grouping = g; sets = s; functions = f } in
     ap (λ (g : List ℕ). made g (contents c.in_ok-sets.sets.items) c.in_ok-functions.functions.items) grouping
     ∙ ap (λ (s : List (List ℕ)). made (grouping_places fields t) s c.in_ok-functions.functions.items) sets
-    ∙ ap (λ (f : List ColumnFunction). made (grouping_places fields t) (sets_of fields t) f) functions
+    ∙ ap (λ (f : List FilteredFunction). made (grouping_places fields t) (sets_of fields t) f) functions
