@@ -7,6 +7,7 @@ use Rattle.query_tree.specs.Syntax.{PredicateForm, TreeForm}
 use Rattle.query_check.specs.Filters.{filters_at}
 use Rattle.query_check.specs.Functions.{PlannedFunction, filters_of, functions_of, indexed, indexed_functions}
 use Rattle.query_check.specs.Same.{same_predicate}
+use Rattle.query_check.proofs.FilterLemmas.{indexes_lead_back}
 use Rattle.query_truth.specs.Kept.{passes}
 use Rattle.groups.specs.Functions.{AggregateFunction, bound, filter_at}
 use Rattle.groups.specs.Rows.{Row}
@@ -46,7 +47,7 @@ each-bound fields filters (f ∷ fs) e =
 
 -- where the index of each function leads to its filter, the functions by their indexes are those of the query
 pub bound-functions : (fields : List Field) (q : TreeForm) → map (bound (filters_kept fields q)) (indexed_functions fields q) ≡ aggregate_functions fields q
-bound-functions fields q = each-bound fields (filters_of fields q) (functions_of fields q) ?
+bound-functions fields q = each-bound fields (filters_of fields q) (functions_of fields q) (indexes_lead_back fields q)
 
 -- as many
 pub as-many : (fields : List Field) (q : TreeForm) → length (aggregate_functions fields q) ≡ length (indexed_functions fields q)
