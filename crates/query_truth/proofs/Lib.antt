@@ -3,3 +3,4 @@ pub mod Truths
 mod Parts
 pub mod Safety
 mod Forms
+mod FilterConditions

@@ -150,7 +150,7 @@ operand-of : (fields : List Field) (grouped : List ℕ) (x : OperandForm) (k : K
 operand-of fields grouped (expression (name n)) k values typed has fits = column-of fields n k values has fits
 operand-of fields grouped (expression (grouping ns)) k values typed has fits = absurd typed
 operand-of fields grouped (expression (function (over_all a))) k values typed has fits = absurd typed.0
-operand-of fields grouped (expression (function (over_filtered a p))) k values typed has fits = absurd typed
+operand-of fields grouped (expression (function (over_filtered a p))) k values typed has fits = absurd typed.0
 operand-of fields grouped (literal a) k values typed has fits = subst (λ l. is_of l (literal_value a) ≡ true) (some-is (literal_kind a) k has) (is_of-literal a)
   where
     some-is : (x y : Kind) → Some x ≡ Some y → x ≡ y

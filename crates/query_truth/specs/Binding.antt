@@ -1,6 +1,6 @@
 -- What is made of a predicate whose names are resolved under the columns of a schema. Contracts within the language's
 -- crates alone speak of it.
-use Rattle.std.specs.Prelude.{◌≡◌, ℕ, Bool, true, Option, Some, None, List, map}
+use Rattle.std.specs.Prelude.{◌≡◌, ℕ, ⊤, Bool, true, Option, Some, None, List, [], ◌∷◌, map}
 use Rattle.std.specs.List.{list_all}
 use Rattle.values.specs.declared.truth.Truth.{Truth}
 use Rattle.values.specs.declared.truth.Truth.TheVariants.{True}
@@ -64,3 +64,10 @@ bound_safe (Some c) values = is_safe c values
 pub record IsConditionOf (fields : List Field) (p : Option PredicateForm) (c : Option Condition) : Type 0 where
   pub worth : (values : List Datum) → bound_truth c values ≡ where_truth fields p values
   pub safe : (grouped : List ℕ) → IsTypedClause fields grouped clause.Where p → ForEachRecord fields (λ values. bound_safe c values ≡ true)
+
+-- Conditions are those of filters, one of each: each is worth what its filter is worth, and where that is typed as in
+-- WHERE it can be evaluated for each record.
+abbrev pub AreConditionsOf : List Field → List PredicateForm → List Condition → Type 0
+AreConditionsOf fields [] [] = ⊤
+AreConditionsOf fields (p ∷ ps) (c ∷ cs) = IsConditionOf fields (Some p) (Some c) × AreConditionsOf fields ps cs
+AreConditionsOf fields ps cs = ⊥

@@ -1,4 +1,4 @@
--- The records that WHERE keeps (ISO/IEC 9075-2, <where clause>).
+-- The records that WHERE keeps (ISO/IEC 9075-2, <where clause>), and those that pass a FILTER.
 use Rattle.std.specs.Prelude.{ℕ, Bool, Option, Some, None, List, filter, slice_get, unwrap_or}
 use Rattle.std.specs.Option.{option_and_then}
 use Rattle.values.specs.declared.truth.Truth.{Truth}
@@ -31,3 +31,14 @@ is_kept fields q values = same_truth (where_truth fields q.where_condition value
 -- the records that are kept
 abbrev pub kept : List Field → TreeForm → List (List Datum) → List (List Datum)
 kept fields q records = filter (is_kept fields q) records
+
+-- ---- FILTER (ISO/IEC 9075-2, <filter clause>)
+
+-- the truth value of a FILTER for a record, in which names are as in WHERE; it is True where there is none
+abbrev pub filter_truth : List Field → Option PredicateForm → List Datum → Truth
+filter_truth fields None values = True
+filter_truth fields (Some p) values = truth (record_value fields values) p
+
+-- whether a record passes a FILTER of this predicate: where it is True, not where it is False or Unknown
+abbrev pub passes : List Field → PredicateForm → List Datum → Bool
+passes fields p values = same_truth (truth (record_value fields values) p) True

@@ -1,0 +1,67 @@
+//! The predicates of FILTERs.
+
+ghost use Rattle.std.specs.Prelude.{◌≡◌, map, true, IfOk, OnOk};
+ghost use Rattle.std.specs.List.{list_all};
+ghost use Rattle.values.specs.declared.truth.Truth.TheVariants.{True};
+ghost use Rattle.values.specs.Datum.{data_of};
+ghost use Rattle.values.specs.Schema.{fields_of};
+ghost use Rattle.query_check.specs.Planning.{filter_forms};
+ghost use Rattle.query_truth.specs.Binding.{AreConditionsOf};
+ghost use Rattle.query_truth.specs.Meaning.{condition_truth, is_safe};
+ghost use Rattle.query_truth.specs.Truth.{same_truth};
+
+use crate::binding::bind;
+use crate::condition::Condition;
+use query_tree::Predicate;
+use std::alloc::{AllocError, Global};
+use values::{Column, Truth, Value};
+
+/// The conditions of the predicates of FILTERs, in their order.
+///
+/// # Errors
+///
+/// `AllocError` where there is no memory for them.
+pub fn bind_filters(
+    alloc: Global,
+    columns: &[Column],
+    filters: &[&Predicate],
+) -> Result<Vec<Condition>, AllocError>
+    ensures { IfOk result (λ conditions. AreConditionsOf (fields_of columns.now) (filter_forms filters.now) conditions.items) }
+{
+    let mut conditions = Vec::with_capacity(alloc, filters.len())?;
+    for filter in filters {
+        conditions.push(bind(alloc, columns, filter)?)?;
+    }
+    Ok(conditions)
+}
+
+/// Marks which conditions are True for a record of these values, in place of what the marks were. The memory of the marks
+/// is used again.
+///
+/// # Errors
+///
+/// `AllocError` where there is no memory for them.
+pub fn mark_conditions(
+    conditions: &[Condition],
+    values: &[Value],
+    marks: &mut Vec<bool>,
+) -> Result<(), AllocError>
+    requires { list_all (λ is_safe. is_safe (data_of values.now)) (map is_safe conditions.now) ≡ true }
+    ensures { OnOk result (marks.new.items ≡ map (λ c. same_truth (condition_truth c (data_of values.now)) True) conditions.now) }
+{
+    marks.clear();
+    for condition in conditions {
+        marks.push(is_true(condition.truth(values)))?;
+    }
+    Ok(())
+}
+
+/// Whether a truth value is True.
+fn is_true(truth: Truth) -> bool
+    ensures { result ≡ same_truth truth True }
+{
+    match truth {
+        Truth::True => true,
+        Truth::Unknown | Truth::False => false,
+    }
+}
