@@ -14,9 +14,9 @@ mod printing;
 pub use laws::derives_one;
 pub use parsing::parse;
 pub use printing::print;
-pub use query_check::ColumnFunction;
+pub use query_check::{ColumnFunction, FilteredFunction};
 pub use query_fault::QueryFault;
-pub use query_plan::{Plan, Query, check, header, holds, set_text};
+pub use query_plan::{Plan, Query, check, filter_holds, filter_texts, header, holds, set_text};
 pub use query_tree::{
     Aggregate, Expression, GroupingElement, Item, Key, Literal, Operand, Predicate, SetFunction,
     Text, Tree,

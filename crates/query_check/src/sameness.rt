@@ -132,7 +132,9 @@ pub fn is_same_predicate(predicate: &Predicate, other: &Predicate) -> bool
                 op: sign,
                 right: second,
             },
-        ) => is_same_operand(left, first) && is_same_op(*op, *sign) && is_same_operand(right, second),
+        ) => is_same_operand(left, first)
+            && is_same_op(*op, *sign)
+            && is_same_operand(right, second),
         (
             Predicate::Between {
                 operand,

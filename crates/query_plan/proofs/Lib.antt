@@ -1,2 +1,3 @@
 mod FunctionCodes
 mod TruthCodes
+mod Filtering

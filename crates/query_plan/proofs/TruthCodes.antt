@@ -1,6 +1,6 @@
 -- Truth values as numbers, by which equations of them are propositions.
-use Rattle.std.specs.Prelude.{◌≡◌, ℕ, zero, suc, refl}
-use Rattle.std.specs.Coded.{Coded, Coded-set, code_by, coded_ℕ}
+use Rattle.std.specs.Prelude.{◌≡◌, ℕ, zero, suc, List, refl}
+use Rattle.std.specs.Coded.{Coded, Coded-set, code_by, coded_list, coded_ℕ}
 use Rattle.values.specs.declared.truth.Truth.{Truth}
 use Rattle.values.specs.declared.truth.Truth.TheVariants.{True, Unknown, False}
 
@@ -25,3 +25,7 @@ coded_truth = code_by ℕ coded_ℕ number of_number of_number-number
 -- an equation of two truth values is a proposition
 pub truths-same : (t u : Truth) → IsProp (t ≡ u)
 truths-same t u = Coded-set coded_truth t u
+
+-- so is one of two lists of them
+pub all-truths-same : (ts us : List Truth) → IsProp (ts ≡ us)
+all-truths-same ts us = Coded-set (coded_list coded_truth) ts us

@@ -7,16 +7,17 @@ ghost use Rattle.query_check.specs.Standing.{Stands};
 ghost use Rattle.query_check.specs.Typing.{IsTyped};
 ghost use Rattle.query_fault.specs.declared.QueryFault.TheVariants.{OutOfMemory};
 ghost use Rattle.query_tree.specs.Syntax.{tree_form};
-ghost use Rattle.query_truth.specs.Binding.{IsConditionOf};
+ghost use Rattle.query_check.specs.Functions.{filters_of};
+ghost use Rattle.query_truth.specs.Binding.{AreConditionsOf, IsConditionOf};
 ghost use Rattle.query_plan.specs.Form.{form_of};
 ghost use Rattle.query_plan.specs.Planned.{fields_of_plan, form_of_plan};
 
 use crate::plan::Plan;
 use crate::query::Query;
-use query_check::{Resolved, check_tree};
+use query_check::{Resolved, check_tree, filters};
 use query_fault::QueryFault;
 use query_tree::Tree;
-use query_truth::{Condition, bind_where};
+use query_truth::{Condition, bind_filters, bind_where};
 use std::alloc::Global;
 use values::Schema;
 
@@ -40,7 +41,9 @@ pub fn check(alloc: Global, query: Query, schema: Schema) -> Result<Plan, QueryF
     ensures stands { IfErr result (λ fault. fault ≢ OutOfMemory → Stands schema (form_of query) fault) }
 {
     match resolve(alloc, query.tree(), &schema) {
-        Ok((resolved, condition)) => Ok(Plan::new(query, schema, resolved, condition)),
+        Ok((resolved, condition, filters)) => {
+            Ok(Plan::new(query, schema, resolved, condition, filters))
+        }
         Err(fault) => {
             // By a call: a drop in place is proved in place, for each form of a query, which takes minutes.
             drop(query);
@@ -49,20 +52,24 @@ pub fn check(alloc: Global, query: Query, schema: Schema) -> Result<Plan, QueryF
     }
 }
 
-/// What the names of a typed query stand for, and the condition of its WHERE.
+/// What the names of a typed query stand for, the condition of its WHERE, and those of its different
+/// filters.
 fn resolve(
     alloc: Global,
     tree: &Tree,
     schema: &Schema,
-) -> Result<(Resolved, Option<Condition>), QueryFault>
+) -> Result<(Resolved, Option<Condition>, Vec<Condition>), QueryFault>
     ensures typed { OnOk result (IsTyped schema.now (tree_form tree.now)) }
     ensures resolved { IfOk result (λ r. r.0 ≡ resolution_of schema.now (tree_form tree.now)) }
     ensures condition { IfOk result (λ r. IsConditionOf schema.now (tree_form tree.now).where_condition r.1) }
+    ensures filters { IfOk result (λ r. AreConditionsOf schema.now (filters_of schema.now (tree_form tree.now)) r.2.items) }
     ensures untyped { IfErr result (λ fault. fault ≢ OutOfMemory → IsTyped schema.now (tree_form tree.now) → ⊥) }
     ensures fault { IfErr result (λ fault. fault ≢ OutOfMemory → query_fault schema.now (tree_form tree.now) ≡ Some fault) }
     ensures stands { IfErr result (λ fault. fault ≢ OutOfMemory → Stands schema.now (tree_form tree.now) fault) }
 {
     let resolved = check_tree(alloc, tree, schema)?;
-    let condition = bind_where(alloc, schema.columns(), &tree.where_condition)?;
-    Ok((resolved, condition))
+    let columns = schema.columns();
+    let condition = bind_where(alloc, columns, &tree.where_condition)?;
+    let filters = bind_filters(alloc, columns, &filters(alloc, columns, tree)?)?;
+    Ok((resolved, condition, filters))
 }

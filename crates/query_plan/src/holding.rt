@@ -1,8 +1,9 @@
-//! Whether a record is kept.
+//! Whether a record is kept, and whether it passes a FILTER.
 
-ghost use Rattle.std.specs.Prelude.{◌≡◌};
+ghost use Rattle.std.specs.Prelude.{◌≡◌, ◌<◌, length};
 ghost use Rattle.values.specs.Fit.{Fits};
-ghost use Rattle.query_truth.specs.Kept.{where_truth};
+ghost use Rattle.query_check.specs.Functions.{filter_at, functions_of};
+ghost use Rattle.query_truth.specs.Kept.{filter_truth, where_truth};
 ghost use Rattle.query_plan.specs.Planned.{fields_of_plan, form_of_plan};
 
 use crate::plan::Plan;
@@ -16,4 +17,16 @@ pub fn holds(plan: &Plan, record: &Record) -> Truth
     ensures { result ≡ where_truth (fields_of_plan plan.now) (form_of_plan plan.now).where_condition «record».now }
 {
     plan.where_truth(record.values())
+}
+
+/// The truth value of the FILTER of a set function for a record that fits the schema of the plan
+/// (ISO/IEC 9075-2, `<filter clause>`). The function is named by its place among the different ones,
+/// from 0 and below `Plan::functions`. The function takes a record of a group exactly where it is
+/// True; it is True of each record where the function has no FILTER. It takes no memory.
+pub fn filter_holds(plan: &Plan, f: usize, record: &Record) -> Truth
+    requires place { f < length (functions_of (fields_of_plan plan.now) (form_of_plan plan.now)) }
+    requires fits { Fits (fields_of_plan plan.now) «record».now }
+    ensures { result ≡ filter_truth (fields_of_plan plan.now) (filter_at (fields_of_plan plan.now) (form_of_plan plan.now) f) «record».now }
+{
+    plan.filter_truth(f, record.values())
 }

@@ -9,11 +9,11 @@ mod printing;
 mod query;
 
 pub use checking::check;
-pub use holding::holds;
+pub use holding::{filter_holds, holds};
 pub use plan::Plan;
-pub use printing::{header, set_text};
+pub use printing::{filter_texts, header, set_text};
 pub use query::Query;
-pub use query_check::ColumnFunction;
+pub use query_check::{ColumnFunction, FilteredFunction};
 pub use query_fault::QueryFault;
 pub use query_tree::{
     Aggregate, Expression, GroupingElement, Item, Key, Literal, Operand, Predicate, SetFunction,

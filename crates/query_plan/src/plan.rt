@@ -3,13 +3,16 @@
 ghost use Rattle.std.specs.Prelude.{◌≡◌};
 ghost use Rattle.query_check.specs.Resolution.{resolution_of};
 ghost use Rattle.query_check.specs.Typing.{IsTyped};
-ghost use Rattle.query_truth.specs.Binding.{IsConditionOf};
+ghost use Rattle.query_check.specs.Functions.{filters_of};
+ghost use Rattle.query_truth.specs.Binding.{AreConditionsOf, IsConditionOf};
 ghost use Rattle.query_plan.specs.Form.{form_of};
 
 use crate::query::Query;
-use query_check::{ColumnFunction, Resolved};
-use query_truth::{Condition, bound_truth};
-use values::{Schema, Truth, Value};
+use query_check::{FilteredFunction, Resolved, filters_law};
+use query_tree::SetFunction;
+use query_truth::{Condition, bound_truth, condition_truth_at, mark_conditions};
+use std::alloc::{AllocError, Global};
+use values::{Record, Schema, Truth, Value};
 
 /// A query that is typed under the schema that it holds, with what its names stand for there. Only
 /// `check` makes one.
@@ -19,31 +22,39 @@ pub struct Plan {
     schema: Schema,
     resolved: Resolved,
     condition: Option<Condition>,
+    filters: Vec<Condition>,
     ghost typed: { ∥ IsTyped schema (form_of query) ∥₁ },
     ghost resolution: { ∥ resolved ≡ resolution_of schema (form_of query) ∥₁ },
     ghost condition_is: { ∥ IsConditionOf schema (form_of query).where_condition condition ∥₁ },
+    ghost filters_are: { ∥ AreConditionsOf schema (filters_of schema (form_of query)) filters.items ∥₁ },
 }
 
 impl Plan {
-    ghost use Rattle.values.specs.Datum.{data_of};
+    ghost use Rattle.std.specs.Prelude.{◌<◌, List, length, map, true, IfOk, OnOk};
+    ghost use Rattle.std.specs.List.{list_all};
+    ghost use Rattle.values.specs.Datum.{Datum, data_of};
     ghost use Rattle.values.specs.Fit.{Fits};
     ghost use Rattle.query_check.specs.Resolution.{contents};
     ghost use Rattle.query_check.specs.Sets.{grouping_places, sets_of};
-    ghost use Rattle.query_check.specs.Functions.{functions_of};
-    ghost use Rattle.query_truth.specs.Kept.{where_truth};
+    ghost use Rattle.query_check.specs.Functions.{filter_at, filters_of, function_form, functions_of, indexed_functions, place_among};
+    ghost use Rattle.query_truth.specs.Kept.{filter_truth, passes, record_value, where_truth};
+    ghost use Rattle.query_truth.specs.Meaning.{condition_truth, is_safe};
+    ghost use Rattle.query_truth.specs.Truth.{truth};
     ghost use Rattle.query_plan.specs.Planned.{fields_of_plan, form_of_plan};
 
     /// The plan of a query that is typed under a schema, of what it is resolved to there, and of the
-    /// condition of its WHERE.
+    /// conditions of its WHERE and of its different filters.
     pub(crate) fn new(
         query: Query,
         schema: Schema,
         resolved: Resolved,
         condition: Option<Condition>,
+        filters: Vec<Condition>,
     ) -> Plan
         requires typed { IsTyped schema (form_of query) }
         requires resolution { resolved ≡ resolution_of schema (form_of query) }
         requires condition { IsConditionOf schema (form_of query).where_condition condition }
+        requires filters { AreConditionsOf schema (filters_of schema (form_of query)) filters.items }
         ensures query { form_of_plan result ≡ form_of query }
         ensures schema { fields_of_plan result ≡ schema }
     {
@@ -52,6 +63,7 @@ impl Plan {
             schema,
             resolved,
             condition,
+            filters,
         }
     }
 
@@ -86,12 +98,72 @@ impl Plan {
         self.resolved.grouping()
     }
 
+    /// The number of the different set functions, of which each is named by its place, from 0, in the
+    /// order in which they first stand in SELECT, HAVING and ORDER BY.
+    pub fn functions(&self) -> usize
+        ensures count { result ≡ length (functions_of (fields_of_plan self.now) (form_of_plan self.now)) }
+    {
+        self.set_functions().len()
+    }
+
     /// The different set functions, in the order in which they first stand in SELECT, HAVING and
-    /// ORDER BY.
-    pub fn functions(&self) -> &[ColumnFunction]
-        ensures functions { result.now ≡ functions_of (fields_of_plan self.now) (form_of_plan self.now) }
+    /// ORDER BY, each with the index of its FILTER among the different filters.
+    pub fn set_functions(&self) -> &[FilteredFunction]
+        ensures functions { result.now ≡ indexed_functions (fields_of_plan self.now) (form_of_plan self.now) }
     {
         self.resolved.functions()
+    }
+
+    /// The place of a set function among the different ones, from 0; `None` where the query does not
+    /// have it.
+    ///
+    /// # Errors
+    ///
+    /// `AllocError` where there is no memory to look for it.
+    pub fn function_index(
+        &self,
+        alloc: Global,
+        function: &SetFunction,
+    ) -> Result<Option<usize>, AllocError>
+        ensures place { IfOk result (λ place. place ≡ place_among (fields_of_plan self.now) (form_of_plan self.now) (function_form function.now)) }
+    {
+        query_check::function_index(alloc, self.schema.columns(), self.query.tree(), function)
+    }
+
+    /// Marks which of the different filters are True for a record that fits the schema, in the order in
+    /// which they first stand; what the marks were is forgotten, and their memory is used again.
+    ///
+    /// # Errors
+    ///
+    /// `AllocError` where there is no memory for the marks; without FILTER there are none.
+    pub fn mark_filters(&self, record: &Record, marks: &mut Vec<bool>) -> Result<(), AllocError>
+        requires { Fits (fields_of_plan self.now) «record».now }
+        ensures marks { OnOk result (marks.new.items ≡ map (λ p. passes (fields_of_plan self.now) p «record».now) (filters_of (fields_of_plan self.now) (form_of_plan self.now))) }
+    {
+        mark_conditions(self.conditions(), record.values(), marks)
+    }
+
+    /// The conditions of the different filters, in the order in which they first stand.
+    fn conditions(&self) -> &[Condition]
+        ensures worth { (values : List Datum) → map (λ c. condition_truth c values) result.now ≡ map (truth (record_value (fields_of_plan self.now) values)) (filters_of (fields_of_plan self.now) (form_of_plan self.now)) }
+        ensures safe { (values : List Datum) → Fits (fields_of_plan self.now) values → list_all (λ is_safe. is_safe values) (map is_safe result.now) ≡ true }
+    {
+        filters_law();
+        self.filters.as_slice()
+    }
+
+    /// The truth value of the FILTER of the set function at a place, for the values of a record that
+    /// fits the schema.
+    pub(crate) fn filter_truth(&self, place: usize, values: &[Value]) -> Truth
+        requires place { place < length (functions_of (fields_of_plan self.now) (form_of_plan self.now)) }
+        requires fits { Fits (fields_of_plan self.now) (data_of values.now) }
+        ensures { result ≡ filter_truth (fields_of_plan self.now) (filter_at (fields_of_plan self.now) (form_of_plan self.now) place) (data_of values.now) }
+    {
+        filters_law();
+        match self.set_functions()[place].filter {
+            Some(index) => condition_truth_at(self.conditions(), index, values),
+            None => Truth::True,
+        }
     }
 
     /// The truth value of WHERE for the values of a record that fits the schema.

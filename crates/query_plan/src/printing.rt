@@ -1,11 +1,16 @@
 //! The texts of a plan.
 
-ghost use Rattle.std.specs.Prelude.{◌≡◌, ◌<◌, IfOk, Some, length, option_map, slice_get, string_bytes};
+ghost use Rattle.std.specs.Prelude.{◌≡◌, ◌<◌, IfOk, Some, length, map, option_map, slice_get, string_bytes};
 ghost use Rattle.query_check.specs.Sets.{sets_of};
-ghost use Rattle.query_print.specs.Canonical.{header_text, set_text};
+ghost use Rattle.query_check.specs.Functions.{filters_of};
+ghost use Rattle.query_check.specs.Planning.{filter_forms};
+ghost use Rattle.query_print.specs.Canonical.{header_text, predicate_text, set_text};
 ghost use Rattle.query_plan.specs.Planned.{fields_of_plan, form_of_plan};
 
 use crate::plan::Plan;
+use query_check::filters;
+use query_print::predicate_text;
+use query_tree::Predicate;
 use std::alloc::{AllocError, Global};
 
 /// The header of an item of SELECT, counted from 0: its alias, or its canonical text where it has
@@ -33,4 +38,28 @@ pub fn set_text(alloc: Global, plan: &Plan, set: usize) -> Result<String, AllocE
     ensures text { IfOk result (λ text. Some (string_bytes text) ≡ option_map (set_text (fields_of_plan plan.now)) (slice_get (sets_of (fields_of_plan plan.now) (form_of_plan plan.now)) set)) }
 {
     query_print::set_text(alloc, plan.schema(), &plan.sets()[set])
+}
+
+/// The canonical texts of predicates.
+fn predicate_texts(alloc: Global, predicates: &[&Predicate]) -> Result<Vec<String>, AllocError>
+    ensures { IfOk result (λ texts. map string_bytes texts.items ≡ map predicate_text (filter_forms predicates.now)) }
+{
+    let mut texts = Vec::with_capacity(alloc, predicates.len())?;
+    for predicate in predicates {
+        texts.push(predicate_text(alloc, predicate)?)?;
+    }
+    Ok(texts)
+}
+
+/// The canonical texts of the different filters, in the order in which they first stand in SELECT,
+/// HAVING and ORDER BY.
+///
+/// # Errors
+///
+/// `AllocError` where there is no memory for the texts.
+pub fn filter_texts(alloc: Global, plan: &Plan) -> Result<Vec<String>, AllocError>
+    ensures texts { IfOk result (λ texts. map string_bytes texts.items ≡ map predicate_text (filters_of (fields_of_plan plan.now) (form_of_plan plan.now))) }
+{
+    let filters = filters(alloc, plan.schema().columns(), plan.query().tree())?;
+    predicate_texts(alloc, &filters)
 }

@@ -1,6 +1,6 @@
 //! The predicates of FILTERs.
 
-ghost use Rattle.std.specs.Prelude.{◌≡◌, map, true, IfOk, OnOk};
+ghost use Rattle.std.specs.Prelude.{◌≡◌, ◌<◌, length, map, slice_get, true, IfOk, OnOk, Some};
 ghost use Rattle.std.specs.List.{list_all};
 ghost use Rattle.values.specs.declared.truth.Truth.TheVariants.{True};
 ghost use Rattle.values.specs.Datum.{data_of};
@@ -54,6 +54,15 @@ pub fn mark_conditions(
         marks.push(is_true(condition.truth(values)))?;
     }
     Ok(())
+}
+
+/// What the condition at a place is worth for a record of these values. It takes no memory.
+pub fn condition_truth_at(conditions: &[Condition], place: usize, values: &[Value]) -> Truth
+    requires place { place < length conditions.now }
+    requires safe { list_all (λ is_safe. is_safe (data_of values.now)) (map is_safe conditions.now) ≡ true }
+    ensures { Some result ≡ slice_get (map (λ c. condition_truth c (data_of values.now)) conditions.now) place }
+{
+    conditions[place].truth(values)
 }
 
 /// Whether a truth value is True.

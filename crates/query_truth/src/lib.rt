@@ -10,5 +10,5 @@ pub use binding::{literal_value, literal_values};
 pub use condition::{
     Condition, Source, between_truth, marked, member_truth, null_truth, value_truth,
 };
-pub use filter_clause::{bind_filters, mark_conditions};
+pub use filter_clause::{bind_filters, condition_truth_at, mark_conditions};
 pub use where_clause::{bind_where, bound_truth};

@@ -2,7 +2,7 @@ use Rattle.std.proofs.Common.{◌∙◌, ap}
 use Rattle.std.proofs.Math.Logic.{∥∥₁_elim}
 use Rattle.query_check.specs.Resolution.{Resolution}
 use Rattle.query_plan.proofs.FunctionCodes.{functions-same}
-use Rattle.query_plan.proofs.plan.Plan.functions.Goals as goal
+use Rattle.query_plan.proofs.plan.Plan.set_functions.Goals as goal
 
 pub returns : goal.returns
 returns c = record { functions = ∥∥₁_elim c.args.self.now.resolution (functions-same _ _) (λ e. c.functions.ensures ∙ ap (λ (r : Resolution). r.functions) e) }
