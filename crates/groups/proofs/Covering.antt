@@ -3,7 +3,7 @@ use Rattle.std.proofs.Common.{◌≡◌, ◌+◌, ℕ, Bool, true, false, ◌||�
 use Rattle.std.specs.List.{list_any, flat_map, IsDistinct, AllByRecursion}
 use Rattle.groups.specs.Rows.{Row}
 use Rattle.groups.specs.Groups.{Key, project, same_key, keys, members}
-use Rattle.query_check.specs.declared.function.ColumnFunction.{ColumnFunction}
+use Rattle.groups.specs.Functions.{AggregateFunction}
 use Rattle.groups.specs.GroupSummaries.{group_summary, group_summaries}
 use Rattle.groups.specs.Bags.{SameBag, weigh}
 use Rattle.groups.proofs.Bags.{weigh-append, ones}
@@ -110,7 +110,7 @@ spread-bag set ks d rows h w = covered w set ks d rows h
 pub members-bag : (set : List ℕ) (rows : List Row) → SameBag (flat_map (λ key. members set key rows) (keys set rows)) rows
 members-bag set rows = spread-bag set (keys set rows) (keys-distinct set rows) rows (λ q h. own-key set q rows h)
 
-lines-spread : (set : List ℕ) (fs : List ColumnFunction) (rows : List Row) (ks : List Key)
+lines-spread : (set : List ℕ) (fs : List AggregateFunction) (rows : List Row) (ks : List Key)
     → weigh (λ r. r.lines) (map (λ k. group_summary fs k (members set k rows)) ks) ≡ weigh (λ _. 1) (spread set rows ks)
 lines-spread set fs rows [] = refl
 lines-spread set fs rows (k ∷ ks) =
@@ -120,5 +120,5 @@ lines-spread set fs rows (k ∷ ks) =
     omega (arith, h, x, y)
 
 -- the numbers of members of all groups add up to the number of records
-pub lines-add_up : (set : List ℕ) (fs : List ColumnFunction) (rows : List Row) → weigh (λ r. r.lines) (group_summaries set fs rows) ≡ length rows
+pub lines-add_up : (set : List ℕ) (fs : List AggregateFunction) (rows : List Row) → weigh (λ r. r.lines) (group_summaries set fs rows) ≡ length rows
 lines-add_up set fs rows = lines-spread set fs rows (keys set rows) ∙ members-bag set rows (λ _. 1) ∙ ones rows

@@ -9,10 +9,10 @@ use Rattle.std.specs.Map.{lookup, keys_of, KeepsOthers}
 use Rattle.std.specs.List.{IsDistinct}
 use Rattle.values.specs.Datum.{data_of}
 use Rattle.values.specs.declared.value.Value.{Value}
-use Rattle.query_check.specs.declared.function.ColumnFunction.{ColumnFunction}
+use Rattle.query_check.specs.declared.function.FilteredFunction.{FilteredFunction}
 use Rattle.groups.specs.Groups.{Key, key_order, same_key}
-use Rattle.groups.specs.Inside.Accumulator.{accumulator_state}
-use Rattle.groups.specs.Inside.Group.{GroupState, group_state}
+use Rattle.groups.specs.Inside.Accumulator.{no_state}
+use Rattle.groups.specs.Inside.Group.{GroupState, no_group}
 use Rattle.groups.specs.declared.part.Part.{Part}
 use Rattle.groups.specs.declared.part.Part.TheVariants as taken
 use Rattle.groups.specs.Inside.Table.{Contents, IsPut, IsFitting, IsTaken, IsWithPart, with_part, join_options, entries_by_key, contents_of}
@@ -74,7 +74,7 @@ put_is old new key part w h e k =
       | false ↦ λ i. refl
     ] refl
 
-pub with_part_is : (functions : List ColumnFunction) (old new : Contents) (key : Key) (part : Part) (w : Option GroupState)
+pub with_part_is : (functions : List FilteredFunction) (old new : Contents) (key : Key) (part : Part) (w : Option GroupState)
     → ((q : Key) → get new q ≡ cond (same_key q key) w (get old q))
     → w ≡ Some (with_part functions (get old key) part) → (k : Key) → IsWithPart functions old new key part k
 with_part_is functions old new key part w h e k =
@@ -88,7 +88,7 @@ pub got-by : (es : Entries) (table : Contents) (key : Key) (code : List Value) �
 got-by es table key code view is = ap (λ m. get m key) (sym view) ∙ ap (get (contents_of es)) (sym is) ∙ get-shown code es
 
 -- after one more part was put to what a search by a key of the code finds
-pub with_part-by : (functions : List ColumnFunction) (part : Part) (es fs : Entries) (old : Contents) (key : Key) (code : List Value) (group : GroupState)
+pub with_part-by : (functions : List FilteredFunction) (part : Part) (es fs : Entries) (old : Contents) (key : Key) (code : List Value) (group : GroupState)
     → contents_of es ≡ old → data_of code ≡ key → lookup (λ k. pointwise value_eq code k.items) fs ≡ Some group
     → KeepsOthers (λ x y. pointwise value_eq x.items y.items) (λ k. pointwise value_eq code k.items) es fs
     → group ≡ with_part functions (get old key) part → (k : Key) → IsWithPart functions old (contents_of fs) key part k
@@ -100,9 +100,9 @@ with_part-by functions part es fs old key code group view is at others h =
     (ap Some h)
 
 -- a new group takes a part as one without members does
-pub taken-first : (functions : List ColumnFunction) (part : Part) → IsTaken functions None part → IsTaken functions (Some (group_state functions [])) part
-taken-first functions (taken.Record row) h = (h.0, (omega arith, length-map functions (λ f. accumulator_state f [])))
-taken-first functions (taken.Copies members) h = ((omega (arith, h.1), h.2 ∙ sym (length-map functions (λ f. accumulator_state f []))), h.1, h.2)
+pub taken-first : (functions : List FilteredFunction) (part : Part) → IsTaken functions None part → IsTaken functions (Some (no_group functions)) part
+taken-first functions (taken.Record row marks) h = (h.0, (omega arith, length-map functions (λ f. no_state f.filter f.function)))
+taken-first functions (taken.Copies members) h = ((omega (arith, h.1), h.2 ∙ sym (length-map functions (λ f. no_state f.filter f.function))), h.1, h.2)
 
 -- ---- merging the entries of another table, one after another
 

@@ -1,5 +1,5 @@
 -- The lines of a table's groups are those of its records.
-use Rattle.std.proofs.Common.{◌≡◌, ◌+◌, ℕ, ℤ, pos, true, false, cond, ◌||◌, List, [], ◌∷◌, map, length, Some, None, refl, sym, ap, subst, ◌∙◌, arith}
+use Rattle.std.proofs.Common.{◌≡◌, ◌+◌, ℕ, ℤ, pos, true, false, cond, ◌||◌, List, [], ◌∷◌, map, length, Option, Some, None, filter, Bool, refl, sym, ap, subst, ◌∙◌, arith}
 use Rattle.std.specs.declared.cmp.Ordering.TheVariants.{Less, Equal, Greater}
 use Rattle.std.specs.List.{list_any, IsDistinct, AllByRecursion}
 use Rattle.std.specs.FinMap.Entries.{by_order}
@@ -9,9 +9,9 @@ use Rattle.values.specs.Datum.{whole}
 use Rattle.query_check.specs.declared.function.ColumnFunction.{ColumnFunction}
 use Rattle.query_check.specs.declared.function.ColumnFunction.TheVariants as function
 use Rattle.groups.specs.Rows.{Row, column_numbers, column_values}
-use Rattle.groups.specs.Functions.{plain, agg, total, sum_of, average_of}
+use Rattle.groups.specs.Functions.{AggregateFunction, plain, agg, value_over, filtered, total, sum_of, average_of}
 use Rattle.groups.specs.Groups.{Key, project, key_order, same_key, keys, members}
-use Rattle.groups.specs.Inside.Accumulator.{summary, accumulator_state, summed, averaged}
+use Rattle.groups.specs.Inside.Accumulator.{summary, accumulator_state, state_over, state_counted, state_by, summed, averaged}
 use Rattle.groups.specs.Inside.Group.{GroupState, group_state, state_summary}
 use Rattle.groups.specs.Inside.Table.{Contents, IsTableOf}
 use Rattle.groups.specs.GroupSummaries.{group_summary, group_summaries}
@@ -31,20 +31,34 @@ average-said : (lines : ℕ) (ns : List ℤ) → summary lines (averaged (total 
 average-said lines [] = refl
 average-said lines (n ∷ ns) = refl
 
-summary-accumulator_state : (f : ColumnFunction) (rows : List Row) → summary (length rows) (accumulator_state f rows) ≡ agg f rows
-summary-accumulator_state function.CountRows rows = refl
-summary-accumulator_state (function.Count place) rows = refl
-summary-accumulator_state (function.CountDistinct place) rows = ap (λ n. plain (whole (pos n))) (len-distinct (column_values place rows))
-summary-accumulator_state (function.Sum place) rows = sum-said (length rows) (column_numbers place rows)
-summary-accumulator_state (function.Min place) rows = refl
-summary-accumulator_state (function.Max place) rows = refl
-summary-accumulator_state (function.Avg place) rows = average-said (length rows) (column_numbers place rows)
+summary-over : (f : ColumnFunction) (rows : List Row) → summary (length rows) (state_over f rows) ≡ value_over f rows
+summary-over function.CountRows rows = refl
+summary-over (function.Count place) rows = refl
+summary-over (function.CountDistinct place) rows = ap (λ n. plain (whole (pos n))) (len-distinct (column_values place rows))
+summary-over (function.Sum place) rows = sum-said (length rows) (column_numbers place rows)
+summary-over (function.Min place) rows = refl
+summary-over (function.Max place) rows = refl
+summary-over (function.Avg place) rows = average-said (length rows) (column_numbers place rows)
 
-cells-accumulator_state : (fs : List ColumnFunction) (rows : List Row) → map (summary (length rows)) (map (λ f. accumulator_state f rows) fs) ≡ map (λ f. agg f rows) fs
+-- of the records that a filter keeps, whatever the number of all
+summary-counted : (lines : ℕ) (f : ColumnFunction) (rows : List Row) → summary lines (state_counted f rows) ≡ value_over f rows
+summary-counted lines function.CountRows rows = refl
+summary-counted lines (function.Count place) rows = refl
+summary-counted lines (function.CountDistinct place) rows = ap (λ n. plain (whole (pos n))) (len-distinct (column_values place rows))
+summary-counted lines (function.Sum place) rows = sum-said lines (column_numbers place rows)
+summary-counted lines (function.Min place) rows = refl
+summary-counted lines (function.Max place) rows = refl
+summary-counted lines (function.Avg place) rows = average-said lines (column_numbers place rows)
+
+summary-by : (t : Option (Row → Bool)) (f : ColumnFunction) (rows : List Row) → summary (length rows) (state_by t f rows) ≡ value_over f (filtered t rows)
+summary-by None f rows = summary-over f rows
+summary-by (Some keeps) f rows = summary-counted (length rows) f (filter keeps rows)
+
+cells-accumulator_state : (fs : List AggregateFunction) (rows : List Row) → map (summary (length rows)) (map (λ f. accumulator_state f rows) fs) ≡ map (λ f. agg f rows) fs
 cells-accumulator_state [] rows = refl
-cells-accumulator_state (f ∷ fs) rows = λ i. summary-accumulator_state f rows i ∷ cells-accumulator_state fs rows i
+cells-accumulator_state (f ∷ fs) rows = λ i. summary-by f.filter f.function rows i ∷ cells-accumulator_state fs rows i
 
-group_summary-accumulator_state : (fs : List ColumnFunction) (key : Key) (rows : List Row) → state_summary (key, group_state fs rows) ≡ group_summary fs key rows
+group_summary-accumulator_state : (fs : List AggregateFunction) (key : Key) (rows : List Row) → state_summary (key, group_state fs rows) ≡ group_summary fs key rows
 group_summary-accumulator_state fs key rows = λ i. record { key = key; lines = length rows; cells = cells-accumulator_state fs rows i }
 
 -- ---- the entries of a map as a bag
@@ -89,10 +103,10 @@ found g q (k ∷ ks) = ap (cond (same_key q k) (Some (g k))) (found g q ks)
       | false ↦ λ e. refl
     ] refl
 
-abbrev group : List ℕ → List ColumnFunction → List Row → Key → Key × GroupState
+abbrev group : List ℕ → List AggregateFunction → List Row → Key → Key × GroupState
 group set fs rows k = (k, group_state fs (members set k rows))
 
-table-is : (set : List ℕ) (fs : List ColumnFunction) (t : Contents) (rows : List Row) → IsTableOf set fs t rows → t ≡ fin.from_entries (map (group set fs rows) (keys set rows))
+table-is : (set : List ℕ) (fs : List AggregateFunction) (t : Contents) (rows : List Row) → IsTableOf set fs t rows → t ≡ fin.from_entries (map (group set fs rows) (keys set rows))
 table-is set fs t rows h = fin.same_map key_total key_antisymmetric _ _ (λ q.
     h q ∙ sym (found (λ k. group_state fs (members set k rows)) q (keys set rows))
     ∙ sym (fin.get-from_entries key_total (map (group set fs rows) (keys set rows)) q))
@@ -102,16 +116,16 @@ unfolding IsDistinct
 keys-distinct [] rows = (tt, tt)
 keys-distinct (p ∷ ps) rows = distinct-is same_key (map (project (p ∷ ps)) rows)
 
-firsts : (set : List ℕ) (fs : List ColumnFunction) (rows : List Row) (ks : List Key) → ks ≡ map (λ e. e.0) (map (group set fs rows) ks)
+firsts : (set : List ℕ) (fs : List AggregateFunction) (rows : List Row) (ks : List Key) → ks ≡ map (λ e. e.0) (map (group set fs rows) ks)
 firsts set fs rows [] = refl
 firsts set fs rows (k ∷ ks) = ap (λ xs. k ∷ xs) (firsts set fs rows ks)
 
-group_summaries-accumulator_state : (set : List ℕ) (fs : List ColumnFunction) (rows : List Row) (ks : List Key) → map state_summary (map (group set fs rows) ks) ≡ map (λ k. group_summary fs k (members set k rows)) ks
+group_summaries-accumulator_state : (set : List ℕ) (fs : List AggregateFunction) (rows : List Row) (ks : List Key) → map state_summary (map (group set fs rows) ks) ≡ map (λ k. group_summary fs k (members set k rows)) ks
 group_summaries-accumulator_state set fs rows [] = refl
 group_summaries-accumulator_state set fs rows (k ∷ ks) = λ i. group_summary-accumulator_state fs k (members set k rows) i ∷ group_summaries-accumulator_state set fs rows ks i
 
 -- the lines of distinct entries, whose map is a table of records, are those of the records' groups
-pub lines-bag : (set : List ℕ) (fs : List ColumnFunction) (rows : List Row) (es : List (Key × GroupState)) (t : Contents) → fin.from_entries es ≡ t → IsTableOf set fs t rows
+pub lines-bag : (set : List ℕ) (fs : List AggregateFunction) (rows : List Row) (es : List (Key × GroupState)) (t : Contents) → fin.from_entries es ≡ t → IsTableOf set fs t rows
     → IsDistinct same_key (map (λ e. e.0) es) → SameBag (map state_summary es) (group_summaries set fs rows)
 lines-bag set fs rows es t v h d f =
     let ks = keys set rows in

@@ -1,13 +1,14 @@
 -- Accumulators that take values and are put together.
-use Rattle.std.proofs.Common.{◌≡◌, ◌+◌, ◌<◌, ◌^◌, ℕ, zero, suc, ℤ, pos, ◌+ℤ◌, List, [], ◌∷◌, length, map, refl, sym, ap, ◌∙◌, arith, subst, get_or, set}
+use Rattle.std.proofs.Common.{◌≡◌, ◌+◌, ◌<◌, ◌^◌, ℕ, zero, suc, ℤ, pos, ◌+ℤ◌, Bool, true, false, Option, Some, None, List, [], ◌∷◌, length, map, refl, sym, ap, ◌∙◌, arith, subst, get_or, set}
 use Rattle.std.proofs.lemmas.Int.{ints}
 use Rattle.std.proofs.lemmas.List.{length-map}
 use Rattle.values.specs.Datum.{Datum, boolean, whole, text, null}
 use Rattle.query_check.specs.declared.function.ColumnFunction.{ColumnFunction}
 use Rattle.query_check.specs.declared.function.ColumnFunction.TheVariants as function
+use Rattle.query_check.specs.declared.function.FilteredFunction.{FilteredFunction}
 use Rattle.groups.specs.declared.accumulator.Accumulator.{Accumulator}
 use Rattle.groups.specs.Rows.{Row, value_at, IsNarrow, IsNarrowRow}
-use Rattle.groups.specs.Inside.Accumulator.{AccumulatorState, nothing, counted, summed, averaged, collected, lowest, highest, accumulator_state, with_value, argument, joined, state_in, HasRoom, IsWithin, IsUnbounded}
+use Rattle.groups.specs.Inside.Accumulator.{AccumulatorState, nothing, counted, summed, averaged, collected, lowest, highest, no_state, state_over, with_value, with_count, with_record, with_member, is_marked, joined, state_in, HasRoom, IsWithin, IsUnbounded}
 use Rattle.groups.specs.Inside.Group.{all_with_row, all_joined, IsSound}
 use Rattle.groups.proofs.Firsts.{less-null, greater-null}
 use Rattle.groups.proofs.Sets.{union-empty}
@@ -93,77 +94,106 @@ value_at-narrow place [] n = tt
 value_at-narrow zero (d ∷ row) n = n.0
 value_at-narrow (suc place) (d ∷ row) n = value_at-narrow place row n.1
 
-argument-narrow : (f : ColumnFunction) (row : Row) → IsNarrowRow row → IsNarrow (argument f row)
-argument-narrow function.CountRows row n = tt
-argument-narrow (function.Count place) row n = value_at-narrow place row n
-argument-narrow (function.CountDistinct place) row n = value_at-narrow place row n
-argument-narrow (function.Sum place) row n = value_at-narrow place row n
-argument-narrow (function.Min place) row n = value_at-narrow place row n
-argument-narrow (function.Max place) row n = value_at-narrow place row n
-argument-narrow (function.Avg place) row n = value_at-narrow place row n
+with_count-within : (lines : ℕ) (k : AccumulatorState) → IsWithin lines k → IsWithin (lines + 1) (with_count k)
+with_count-within lines nothing w = tt
+with_count-within lines (counted n) w = omega (arith, w)
+with_count-within lines (summed s n) w = more-within lines 1 (summed s n) w
+with_count-within lines (averaged s n) w = more-within lines 1 (averaged s n) w
+with_count-within lines (collected s) w = tt
+with_count-within lines (lowest k) w = tt
+with_count-within lines (highest k) w = tt
 
-pub all_with_row-sound : (lines : ℕ) (fs : List ColumnFunction) (ks : List AccumulatorState) (row : Row) → IsSound lines ks → IsNarrowRow row → IsSound (lines + 1) (all_with_row fs ks row)
-all_with_row-sound lines [] ks row s n = more-sound lines 1 ks s
-all_with_row-sound lines (f ∷ fs) [] row s n = tt
-all_with_row-sound lines (f ∷ fs) (k ∷ ks) row s n = (with_value-within lines k (argument f row) s.0 (argument-narrow f row n), all_with_row-sound lines fs ks row s.1 n)
+with_record-within : (lines : ℕ) (f : ColumnFunction) (k : AccumulatorState) (row : Row) → IsWithin lines k → IsNarrowRow row → IsWithin (lines + 1) (with_record f k row)
+with_record-within lines function.CountRows k row w n = with_count-within lines k w
+with_record-within lines (function.Count place) k row w n = with_value-within lines k (value_at place row) w (value_at-narrow place row n)
+with_record-within lines (function.CountDistinct place) k row w n = with_value-within lines k (value_at place row) w (value_at-narrow place row n)
+with_record-within lines (function.Sum place) k row w n = with_value-within lines k (value_at place row) w (value_at-narrow place row n)
+with_record-within lines (function.Min place) k row w n = with_value-within lines k (value_at place row) w (value_at-narrow place row n)
+with_record-within lines (function.Max place) k row w n = with_value-within lines k (value_at place row) w (value_at-narrow place row n)
+with_record-within lines (function.Avg place) k row w n = with_value-within lines k (value_at place row) w (value_at-narrow place row n)
+
+with_member-within : (lines : ℕ) (kept : Bool) (f : ColumnFunction) (k : AccumulatorState) (row : Row) → IsWithin lines k → IsNarrowRow row → IsWithin (lines + 1) (with_member kept f k row)
+with_member-within lines true f k row w n = with_record-within lines f k row w n
+with_member-within lines false f k row w n = more-within lines 1 k w
+
+pub all_with_row-sound : (lines : ℕ) (fs : List FilteredFunction) (marks : List Bool) (ks : List AccumulatorState) (row : Row) → IsSound lines ks → IsNarrowRow row
+    → IsSound (lines + 1) (all_with_row fs marks ks row)
+all_with_row-sound lines [] marks ks row s n = more-sound lines 1 ks s
+all_with_row-sound lines (f ∷ fs) marks [] row s n = tt
+all_with_row-sound lines (f ∷ fs) marks (k ∷ ks) row s n = (with_member-within lines (is_marked marks f.filter) f.function k row s.0 n, all_with_row-sound lines fs marks ks row s.1 n)
 
 pub all_joined-sound : (a b : ℕ) (ks ls : List AccumulatorState) → IsSound a ks → IsSound b ls → IsSound (a + b) (all_joined ks ls)
 all_joined-sound a b [] ls s t = tt
 all_joined-sound a b (k ∷ ks) [] s t = more-sound a b (k ∷ ks) s
 all_joined-sound a b (k ∷ ks) (l ∷ ls) s t = (joined-within a b k l s.0 t.0, all_joined-sound a b ks ls s.1 t.1)
 
-none-within : (f : ColumnFunction) → IsWithin 0 (accumulator_state f [])
-none-within function.CountRows = tt
-none-within (function.Count place) = omega arith
-none-within (function.CountDistinct place) = tt
-none-within (function.Sum place) = (omega arith, (omega (arith, ints), omega (arith, ints)))
-none-within (function.Min place) = tt
-none-within (function.Max place) = tt
-none-within (function.Avg place) = (omega arith, (omega (arith, ints), omega (arith, ints)))
+none_over-within : (f : ColumnFunction) → IsWithin 0 (state_over f [])
+none_over-within function.CountRows = tt
+none_over-within (function.Count place) = omega arith
+none_over-within (function.CountDistinct place) = tt
+none_over-within (function.Sum place) = (omega arith, (omega (arith, ints), omega (arith, ints)))
+none_over-within (function.Min place) = tt
+none_over-within (function.Max place) = tt
+none_over-within (function.Avg place) = (omega arith, (omega (arith, ints), omega (arith, ints)))
 
-pub none-sound : (fs : List ColumnFunction) → IsSound 0 (map (λ f. accumulator_state f []) fs)
+none-within : (t : Option ℕ) (f : ColumnFunction) → IsWithin 0 (no_state t f)
+none-within None f = none_over-within f
+none-within (Some index) function.CountRows = omega arith
+none-within (Some index) (function.Count place) = none_over-within (function.Count place)
+none-within (Some index) (function.CountDistinct place) = none_over-within (function.CountDistinct place)
+none-within (Some index) (function.Sum place) = none_over-within (function.Sum place)
+none-within (Some index) (function.Min place) = none_over-within (function.Min place)
+none-within (Some index) (function.Max place) = none_over-within (function.Max place)
+none-within (Some index) (function.Avg place) = none_over-within (function.Avg place)
+
+pub none-sound : (fs : List FilteredFunction) → IsSound 0 (map (λ f. no_state f.filter f.function) fs)
 none-sound [] = tt
-none-sound (f ∷ fs) = (none-within f, none-sound fs)
+none-sound (f ∷ fs) = (none-within f.filter f.function, none-sound fs)
 
 -- ---- one after another: the accumulators from a place on are still to take the record
 
-abbrev pub taken_from : ℕ → List ColumnFunction → List AccumulatorState → Row → List AccumulatorState
-taken_from zero fs ks row = all_with_row fs ks row
-taken_from (suc n) [] ks row = ks
-taken_from (suc n) (f ∷ fs) [] row = []
-taken_from (suc n) (f ∷ fs) (k ∷ ks) row = k ∷ taken_from n fs ks row
+abbrev pub taken_from : ℕ → List FilteredFunction → List Bool → List AccumulatorState → Row → List AccumulatorState
+taken_from zero fs marks ks row = all_with_row fs marks ks row
+taken_from (suc n) [] marks ks row = ks
+taken_from (suc n) (f ∷ fs) marks [] row = []
+taken_from (suc n) (f ∷ fs) marks (k ∷ ks) row = k ∷ taken_from n fs marks ks row
 
-pub taken_from-step : (n : ℕ) (fs : List ColumnFunction) (parts : List Accumulator) (row : Row) (f : ColumnFunction) (a b : Accumulator) → n < length fs → n < length parts
-    → a ≡ get_or parts n a → state_in b ≡ with_value (state_in a) (argument (get_or fs n f) row)
-    → taken_from (suc n) fs (map state_in (set parts n b)) row ≡ taken_from n fs (map state_in parts) row
-taken_from-step zero [] parts row f a b h i e k = absurd (omega arith)
-taken_from-step zero (g ∷ fs) [] row f a b h i e k = absurd (omega arith)
-taken_from-step zero (g ∷ fs) (x ∷ parts) row f a b h i e k = ap (λ z. z ∷ all_with_row fs (map state_in parts) row) (k ∙ ap (λ z. with_value (state_in z) (argument g row)) e)
-taken_from-step (suc n) [] parts row f a b h i e k = absurd (omega arith)
-taken_from-step (suc n) (g ∷ fs) [] row f a b h i e k = absurd (omega arith)
-taken_from-step (suc n) (g ∷ fs) (x ∷ parts) row f a b h i e k = ap (λ js. state_in x ∷ js) (taken_from-step n fs parts row f a b (omega arith) (omega arith) e k)
+-- what one function keeps after one more record
+abbrev pub taken_by : FilteredFunction → List Bool → AccumulatorState → Row → AccumulatorState
+taken_by f marks k row = with_member (is_marked marks f.filter) f.function k row
 
-pub taken_from-end : (fs : List ColumnFunction) (ks : List AccumulatorState) (row : Row) → length ks ≡ length fs → taken_from (length fs) fs ks row ≡ ks
-taken_from-end [] ks row e = refl
-taken_from-end (f ∷ fs) [] row e = refl
-taken_from-end (f ∷ fs) (k ∷ ks) row e = ap (λ js. k ∷ js) (taken_from-end fs ks row (omega (arith, e)))
+pub taken_from-step : (n : ℕ) (fs : List FilteredFunction) (marks : List Bool) (parts : List Accumulator) (row : Row) (f : FilteredFunction) (a b : Accumulator) → n < length fs → n < length parts
+    → a ≡ get_or parts n a → state_in b ≡ taken_by (get_or fs n f) marks (state_in a) row
+    → taken_from (suc n) fs marks (map state_in (set parts n b)) row ≡ taken_from n fs marks (map state_in parts) row
+taken_from-step zero [] marks parts row f a b h i e k = absurd (omega arith)
+taken_from-step zero (g ∷ fs) marks [] row f a b h i e k = absurd (omega arith)
+taken_from-step zero (g ∷ fs) marks (x ∷ parts) row f a b h i e k = ap (λ z. z ∷ all_with_row fs marks (map state_in parts) row) (k ∙ ap (λ z. taken_by g marks (state_in z) row) e)
+taken_from-step (suc n) [] marks parts row f a b h i e k = absurd (omega arith)
+taken_from-step (suc n) (g ∷ fs) marks [] row f a b h i e k = absurd (omega arith)
+taken_from-step (suc n) (g ∷ fs) marks (x ∷ parts) row f a b h i e k = ap (λ js. state_in x ∷ js) (taken_from-step n fs marks parts row f a b (omega arith) (omega arith) e k)
 
-pub taken_from-all : (n : ℕ) (fs : List ColumnFunction) (parts : List Accumulator) (row : Row) (ks : List AccumulatorState) → n ≡ length fs → length parts ≡ length fs
-    → taken_from n fs (map state_in parts) row ≡ ks → map state_in parts ≡ ks
-taken_from-all n fs parts row ks h e i = sym (taken_from-end fs (map state_in parts) row (length-map parts state_in ∙ e)) ∙ ap (λ m. taken_from m fs (map state_in parts) row) (sym h) ∙ i
+pub taken_from-end : (fs : List FilteredFunction) (marks : List Bool) (ks : List AccumulatorState) (row : Row) → length ks ≡ length fs → taken_from (length fs) fs marks ks row ≡ ks
+taken_from-end [] marks ks row e = refl
+taken_from-end (f ∷ fs) marks [] row e = refl
+taken_from-end (f ∷ fs) marks (k ∷ ks) row e = ap (λ js. k ∷ js) (taken_from-end fs marks ks row (omega (arith, e)))
 
-pub taken_from-within : (lines n : ℕ) (fs : List ColumnFunction) (parts : List Accumulator) (row : Row) (f : ColumnFunction) (a : Accumulator) → n < length fs → n < length parts
-    → a ≡ get_or parts n a → IsSound lines (taken_from n fs (map state_in parts) row) → IsWithin lines (with_value (state_in a) (argument (get_or fs n f) row))
-taken_from-within lines zero [] parts row f a h i e s = absurd (omega arith)
-taken_from-within lines zero (g ∷ fs) [] row f a h i e s = absurd (omega arith)
-taken_from-within lines zero (g ∷ fs) (x ∷ parts) row f a h i e s = subst (λ z. IsWithin lines (with_value (state_in z) (argument g row))) (sym e) s.0
-taken_from-within lines (suc n) [] parts row f a h i e s = absurd (omega arith)
-taken_from-within lines (suc n) (g ∷ fs) [] row f a h i e s = absurd (omega arith)
-taken_from-within lines (suc n) (g ∷ fs) (x ∷ parts) row f a h i e s = taken_from-within lines n fs parts row f a (omega arith) (omega arith) e s.1
+pub taken_from-all : (n : ℕ) (fs : List FilteredFunction) (marks : List Bool) (parts : List Accumulator) (row : Row) (ks : List AccumulatorState) → n ≡ length fs → length parts ≡ length fs
+    → taken_from n fs marks (map state_in parts) row ≡ ks → map state_in parts ≡ ks
+taken_from-all n fs marks parts row ks h e i =
+    sym (taken_from-end fs marks (map state_in parts) row (length-map parts state_in ∙ e)) ∙ ap (λ m. taken_from m fs marks (map state_in parts) row) (sym h) ∙ i
 
-pub taken_from-room : (lines n : ℕ) (fs : List ColumnFunction) (parts : List Accumulator) (row : Row) (f : ColumnFunction) (a : Accumulator) → n < length fs → n < length parts
-    → a ≡ get_or parts n a → lines < 2 ^ 63 → IsSound lines (taken_from n fs (map state_in parts) row) → HasRoom (with_value (state_in a) (argument (get_or fs n f) row))
-taken_from-room lines n fs parts row f a h i e few s = within-room lines _ few (taken_from-within lines n fs parts row f a h i e s)
+pub taken_from-within : (lines n : ℕ) (fs : List FilteredFunction) (marks : List Bool) (parts : List Accumulator) (row : Row) (f : FilteredFunction) (a : Accumulator) → n < length fs → n < length parts
+    → a ≡ get_or parts n a → IsSound lines (taken_from n fs marks (map state_in parts) row) → IsWithin lines (taken_by (get_or fs n f) marks (state_in a) row)
+taken_from-within lines zero [] marks parts row f a h i e s = absurd (omega arith)
+taken_from-within lines zero (g ∷ fs) marks [] row f a h i e s = absurd (omega arith)
+taken_from-within lines zero (g ∷ fs) marks (x ∷ parts) row f a h i e s = subst (λ z. IsWithin lines (taken_by g marks (state_in z) row)) (sym e) s.0
+taken_from-within lines (suc n) [] marks parts row f a h i e s = absurd (omega arith)
+taken_from-within lines (suc n) (g ∷ fs) marks [] row f a h i e s = absurd (omega arith)
+taken_from-within lines (suc n) (g ∷ fs) marks (x ∷ parts) row f a h i e s = taken_from-within lines n fs marks parts row f a (omega arith) (omega arith) e s.1
+
+pub taken_from-room : (lines n : ℕ) (fs : List FilteredFunction) (marks : List Bool) (parts : List Accumulator) (row : Row) (f : FilteredFunction) (a : Accumulator) → n < length fs → n < length parts
+    → a ≡ get_or parts n a → lines < 2 ^ 63 → IsSound lines (taken_from n fs marks (map state_in parts) row) → HasRoom (taken_by (get_or fs n f) marks (state_in a) row)
+taken_from-room lines n fs marks parts row f a h i e few s = within-room lines _ few (taken_from-within lines n fs marks parts row f a h i e s)
 
 -- one accumulator is replaced by one that is within
 pub sound-set : (lines n : ℕ) (parts : List Accumulator) (b : Accumulator) → IsSound lines (map state_in parts) → IsWithin lines (state_in b) → IsSound lines (map state_in (set parts n b))

@@ -1,5 +1,5 @@
 -- A key that is written over another one, place by place.
-use Rattle.std.proofs.Common.{◌≡◌, ◌<◌, ◌≤◌, ℕ, zero, suc, List, [], ◌∷◌, ◌++◌, set, length, get_or, refl, ap, arith}
+use Rattle.std.proofs.Common.{◌≡◌, ◌<◌, ℕ, zero, suc, List, [], ◌∷◌, ◌++◌, set, length, get_or, refl, ap, arith}
 use Rattle.values.specs.Datum.{Datum, datum_of, data_of}
 use Rattle.values.specs.declared.value.Value.{Value}
 use Rattle.groups.specs.Rows.{Row, value_at}

@@ -7,18 +7,19 @@ use Rattle.std.specs.Map.{keys_of}
 use Rattle.std.specs.FinMap as fin
 use Rattle.values.specs.Datum.{data_of}
 use Rattle.values.specs.declared.value.Value.{Value}
-use Rattle.query_check.specs.declared.function.ColumnFunction.{ColumnFunction}
+use Rattle.query_check.specs.declared.function.FilteredFunction.{FilteredFunction}
 use Rattle.groups.specs.Rows.{Row}
+use Rattle.groups.specs.Functions.{AggregateFunction, bound}
 use Rattle.groups.specs.Groups.{Key, project, key_order, same_key, members}
 use Rattle.groups.specs.Inside.Accumulator.{accumulator_state}
-use Rattle.groups.specs.Inside.Group.{GroupState, group_state, join}
+use Rattle.groups.specs.Inside.Group.{GroupState, group_state, no_group, join}
 use Rattle.groups.specs.Bags.{SameBag}
 use Rattle.groups.specs.Rolled.{rolled, AreAmong, finer_keys, finer_members}
 use Rattle.groups.specs.Inside.Table.{Contents, IsTableOf, IsEnlarged, IsFittingNew, enlarged, join_options, joined_states, entries_by_key, contents_of}
 use Rattle.groups.proofs.Order.{key_total, same_key-Decides, key_eq-ties}
 use Rattle.groups.proofs.Entries.{Entries, key_eq, find-first}
 use Rattle.groups.proofs.Distinct.{distinct-shown}
-use Rattle.groups.proofs.Meaning.{has_key, group_at, group_at-append, group_state-at, group_state-append, no_members, filter-le, append-nil, any-key}
+use Rattle.groups.proofs.Meaning.{has_key, group_at, group_at-append, group_state-at, group_state-append, no_group-is, no_members, filter-le, append-nil, any-key}
 use Rattle.groups.proofs.AnyOrder.{group_at-bag, table-same}
 use Rattle.groups.proofs.Bags.{length-bag}
 use Rattle.groups.proofs.Covering.{spread, spread-bag, own-key}
@@ -62,11 +63,11 @@ has_key-rolled (f ∷ fs) (s ∷ ss) k q rows a h =
     ∙ ap (λ b. same_key k (rolled (f ∷ fs) (s ∷ ss) q) && b) (sym (any-key q (map (project (f ∷ fs)) rows)) ∙ h)
     ∙ and-true (same_key k (rolled (f ∷ fs) (s ∷ ss) q))
 
-cond-both : (fs : List ColumnFunction) (c : Bool) (m : List Row) → cond c (Some (group_state fs (cond c m []))) None ≡ cond c (Some (group_state fs m)) None
+cond-both : (fs : List AggregateFunction) (c : Bool) (m : List Row) → cond c (Some (group_state fs (cond c m []))) None ≡ cond c (Some (group_state fs m)) None
 cond-both fs true m = refl
 cond-both fs false m = refl
 
-group_at-rolled : (finer set : List ℕ) (fs : List ColumnFunction) (k q : Key) (rows : List Row) → AreAmong set finer → has_key finer q rows ≡ true
+group_at-rolled : (finer set : List ℕ) (fs : List AggregateFunction) (k q : Key) (rows : List Row) → AreAmong set finer → has_key finer q rows ≡ true
     → group_at set fs k (members finer q rows) ≡ cond (same_key k (rolled finer set q)) (Some (group_state fs (members finer q rows))) None
 group_at-rolled finer set fs k q rows a h =
     (λ i. cond (has_key-rolled finer set k q rows a h i) (Some (group_state fs (members-rolled finer set k q rows a i))) None)
@@ -79,47 +80,50 @@ group-there true x h e = (refl, ap (λ o. unwrap_or o x) e)
 group-there false x h e = cc
 
 -- a group of a table is that of the members of its key
-group-of : (set : List ℕ) (fs : List ColumnFunction) (t : Contents) (rows : List Row) (q : Key) (h : GroupState) → IsTableOf set fs t rows → fin.get t q ≡ Some h
+group-of : (set : List ℕ) (fs : List AggregateFunction) (t : Contents) (rows : List Row) (q : Key) (h : GroupState) → IsTableOf set fs t rows → fin.get t q ≡ Some h
     → (has_key set q rows ≡ true) × (group_state fs (members set q rows) ≡ h)
 group-of set fs t rows q h a e = group-there (has_key set q rows) (group_state fs (members set q rows)) h (sym (a q) ∙ e)
 
-enlarged-at : (fs : List ColumnFunction) (c : Bool) (o : Option GroupState) (m : List Row)
-    → cond c (Some (enlarged fs o (group_state fs m))) o ≡ join_options o (cond c (Some (group_state fs m)) None)
-enlarged-at fs true None m = ap Some (sym (group_state-append fs [] m))
-enlarged-at fs true (Some g) m = refl
-enlarged-at fs false None m = refl
-enlarged-at fs false (Some g) m = refl
+enlarged-at : (functions : List FilteredFunction) (fs : List AggregateFunction) (c : Bool) (o : Option GroupState) (m : List Row) → no_group functions ≡ group_state fs []
+    → cond c (Some (enlarged functions o (group_state fs m))) o ≡ join_options o (cond c (Some (group_state fs m)) None)
+enlarged-at functions fs true None m e = ap (λ g. Some (join g (group_state fs m))) e ∙ ap Some (sym (group_state-append fs [] m))
+enlarged-at functions fs true (Some g) m e = refl
+enlarged-at functions fs false None m e = refl
+enlarged-at functions fs false (Some g) m e = refl
 
-pub table-enlarged : (finer set : List ℕ) (fs : List ColumnFunction) (t old new : Contents) (rows done : List Row) (q : Key) (h : GroupState) → AreAmong set finer
-    → IsTableOf finer fs t rows → fin.get t q ≡ Some h → IsTableOf set fs old done → ((k : Key) → IsEnlarged fs old new (rolled finer set q) h k)
-    → IsTableOf set fs new (done ++ members finer q rows)
-table-enlarged finer set fs t old new rows done q h a is e b j k =
+pub table-enlarged : (finer set : List ℕ) (functions : List FilteredFunction) (filters : List (Row → Bool)) (t old new : Contents) (rows done : List Row) (q : Key) (h : GroupState)
+    → AreAmong set finer → IsTableOf finer (map (bound filters) functions) t rows → fin.get t q ≡ Some h → IsTableOf set (map (bound filters) functions) old done
+    → ((k : Key) → IsEnlarged functions old new (rolled finer set q) h k) → IsTableOf set (map (bound filters) functions) new (done ++ members finer q rows)
+table-enlarged finer set functions filters t old new rows done q h a is e b j k =
+    let fs = map (bound filters) functions in
     let g = group-of finer fs t rows q h is e in
     let m = members finer q rows in
     let c = same_key k (rolled finer set q) in
     j k
-    ∙ ap (λ x. cond c (Some (enlarged fs (fin.get old k) x)) (fin.get old k)) (sym g.1)
-    ∙ ap (λ o. cond c (Some (enlarged fs o (group_state fs m))) o) (b k)
-    ∙ enlarged-at fs c (group_at set fs k done) m
+    ∙ ap (λ x. cond c (Some (enlarged functions (fin.get old k) x)) (fin.get old k)) (sym g.1)
+    ∙ ap (λ o. cond c (Some (enlarged functions o (group_state fs m))) o) (b k)
+    ∙ enlarged-at functions fs c (group_at set fs k done) m (no_group-is filters functions)
     ∙ ap (join_options (group_at set fs k done)) (sym (group_at-rolled finer set fs k q rows a g.0))
     ∙ sym (group_at-append set fs k done m)
 
-fitting-at : (fs : List ColumnFunction) (b : Bool) (x m : List Row) → length x + length m < 2 ^ 63 → IsFittingNew fs (group_state fs m) (cond b (Some (group_state fs x)) None)
-fitting-at fs true x m few = ((few, length-map fs (λ f. accumulator_state f m) ∙ sym (length-map fs (λ f. accumulator_state f x))), omega (arith, few), length-map fs (λ f. accumulator_state f m))
-fitting-at fs false x m few = (tt, omega (arith, few), length-map fs (λ f. accumulator_state f m))
+fitting-at : (functions : List FilteredFunction) (fs : List AggregateFunction) (b : Bool) (x m : List Row) → length fs ≡ length functions → length x + length m < 2 ^ 63
+    → IsFittingNew functions (group_state fs m) (cond b (Some (group_state fs x)) None)
+fitting-at functions fs true x m e few = ((few, length-map fs (λ f. accumulator_state f m) ∙ sym (length-map fs (λ f. accumulator_state f x))), omega (arith, few), length-map fs (λ f. accumulator_state f m) ∙ e)
+fitting-at functions fs false x m e few = (tt, omega (arith, few), length-map fs (λ f. accumulator_state f m) ∙ e)
 
-pub fitting-prop : (fs : List ColumnFunction) (part : GroupState) (g : Option GroupState) → IsProp (IsFittingNew fs part g)
+pub fitting-prop : (fs : List FilteredFunction) (part : GroupState) (g : Option GroupState) → IsProp (IsFittingNew fs part g)
 fitting-prop fs part g = Prim.hlevel props
 
 -- it fits, since all records are few
-pub table-fitting : (finer set : List ℕ) (fs : List ColumnFunction) (t old : Contents) (rows done : List Row) (q p : Key) (h : GroupState)
-    → IsTableOf finer fs t rows → fin.get t q ≡ Some h → IsTableOf set fs old done → length done + length (members finer q rows) < 2 ^ 63
-    → IsFittingNew fs h (fin.get old p)
-table-fitting finer set fs t old rows done q p h is e b few =
+pub table-fitting : (finer set : List ℕ) (functions : List FilteredFunction) (filters : List (Row → Bool)) (t old : Contents) (rows done : List Row) (q p : Key) (h : GroupState)
+    → IsTableOf finer (map (bound filters) functions) t rows → fin.get t q ≡ Some h → IsTableOf set (map (bound filters) functions) old done
+    → length done + length (members finer q rows) < 2 ^ 63 → IsFittingNew functions h (fin.get old p)
+table-fitting finer set functions filters t old rows done q p h is e b few =
+    let fs = map (bound filters) functions in
     let g = group-of finer fs t rows q h is e in
-    subst (λ (x : GroupState). IsFittingNew fs x (fin.get old p)) g.1
-    (subst (λ (o : Option GroupState). IsFittingNew fs (group_state fs (members finer q rows)) o) (sym (b p))
-    (fitting-at fs (has_key set p done) (members set p done) (members finer q rows)
+    subst (λ (x : GroupState). IsFittingNew functions x (fin.get old p)) g.1
+    (subst (λ (o : Option GroupState). IsFittingNew functions (group_state fs (members finer q rows)) o) (sym (b p))
+    (fitting-at functions fs (has_key set p done) (members set p done) (members finer q rows) (length-map functions (bound filters))
     (omega (arith, few, filter-le (λ r. same_key p (project set r)) done))))
 
 -- ---- the entries of the finer table
@@ -136,14 +140,14 @@ find-any q (x ∷ es) h e =
     ] e
 
 -- all keys of the records are among those of the entries
-entries-cover : (set : List ℕ) (fs : List ColumnFunction) (es : Entries) (t : Contents) (rows : List Row) → contents_of es ≡ t → IsTableOf set fs t rows
+entries-cover : (set : List ℕ) (fs : List AggregateFunction) (es : Entries) (t : Contents) (rows : List Row) → contents_of es ≡ t → IsTableOf set fs t rows
     → (q : Key) → list_any (same_key q) (map (project set) rows) ≡ true → list_any (same_key q) (firsts es) ≡ true
 entries-cover set fs es t rows v is q h =
     find-any q es (group_state fs (members set q rows))
     (sym (fin.get-from_entries key_total (entries_by_key es) q) ∙ ap (λ m. fin.get m q) v ∙ is q
     ∙ ap (λ b. cond b (Some (group_state fs (members set q rows))) None) (own-key set q rows h))
 
-pub spread-entries : (set : List ℕ) (fs : List ColumnFunction) (es : Entries) (t : Contents) (rows : List Row) → contents_of es ≡ t → IsDistinct key_eq (keys_of es)
+pub spread-entries : (set : List ℕ) (fs : List AggregateFunction) (es : Entries) (t : Contents) (rows : List Row) → contents_of es ≡ t → IsDistinct key_eq (keys_of es)
     → IsTableOf set fs t rows → SameBag (spread set rows (firsts es)) rows
 spread-entries set fs es t rows v d is = spread-bag set (firsts es) (distinct-shown es d) rows (entries-cover set fs es t rows v is)
 
@@ -181,31 +185,32 @@ get-each es t v d = all-got es es t v (find-each es d)
 -- ---- the walk over them
 
 -- the table is that of some records, which with the members of the keys that are left are those of all keys
-pub record IsRolled (finer set : List ℕ) (fs : List ColumnFunction) (table : Contents) (left all : Entries) (rows : List Row) : Type 0 where
+pub record IsRolled (finer set : List ℕ) (fs : List AggregateFunction) (table : Contents) (left all : Entries) (rows : List Row) : Type 0 where
   pub done : List Row
   pub is_table : IsTableOf set fs table done
   pub whole : done ++ spread finer rows (firsts left) ≡ spread finer rows (firsts all)
 
-pub rolled-step : (finer set : List ℕ) (fs : List ColumnFunction) (t old new : Contents) (e : Vec Value Global × GroupState) (left all : Entries) (rows : List Row) → AreAmong set finer
-    → IsTableOf finer fs t rows → fin.get t (data_of e.0.items) ≡ Some e.1 → ((k : Key) → IsEnlarged fs old new (rolled finer set (data_of e.0.items)) e.1 k)
-    → IsRolled finer set fs old (e ∷ left) all rows → IsRolled finer set fs new left all rows
-rolled-step finer set fs t old new e left all rows a is g j r = record {
+pub rolled-step : (finer set : List ℕ) (functions : List FilteredFunction) (filters : List (Row → Bool)) (t old new : Contents) (e : Vec Value Global × GroupState) (left all : Entries) (rows : List Row)
+    → AreAmong set finer → IsTableOf finer (map (bound filters) functions) t rows → fin.get t (data_of e.0.items) ≡ Some e.1
+    → ((k : Key) → IsEnlarged functions old new (rolled finer set (data_of e.0.items)) e.1 k)
+    → IsRolled finer set (map (bound filters) functions) old (e ∷ left) all rows → IsRolled finer set (map (bound filters) functions) new left all rows
+rolled-step finer set functions filters t old new e left all rows a is g j r = record {
   done = r.done ++ members finer (data_of e.0.items) rows;
-  is_table = table-enlarged finer set fs t old new rows r.done (data_of e.0.items) e.1 a is g r.is_table j;
+  is_table = table-enlarged finer set functions filters t old new rows r.done (data_of e.0.items) e.1 a is g r.is_table j;
   whole = append_assoc r.done (members finer (data_of e.0.items) rows) (spread finer rows (firsts left)) ∙ r.whole;
 }
 
-pub rolled-fitting : (finer set : List ℕ) (fs : List ColumnFunction) (t old : Contents) (e : Vec Value Global × GroupState) (left all : Entries) (rows : List Row) (p : Key)
-    → contents_of all ≡ t → IsDistinct key_eq (keys_of all) → length rows < 2 ^ 63
-    → IsTableOf finer fs t rows → fin.get t (data_of e.0.items) ≡ Some e.1 → IsRolled finer set fs old (e ∷ left) all rows → IsFittingNew fs e.1 (fin.get old p)
-rolled-fitting finer set fs t old e left all rows p v d few is g r =
+pub rolled-fitting : (finer set : List ℕ) (functions : List FilteredFunction) (filters : List (Row → Bool)) (t old : Contents) (e : Vec Value Global × GroupState) (left all : Entries) (rows : List Row) (p : Key)
+    → contents_of all ≡ t → IsDistinct key_eq (keys_of all) → length rows < 2 ^ 63 → IsTableOf finer (map (bound filters) functions) t rows
+    → fin.get t (data_of e.0.items) ≡ Some e.1 → IsRolled finer set (map (bound filters) functions) old (e ∷ left) all rows → IsFittingNew functions e.1 (fin.get old p)
+rolled-fitting finer set functions filters t old e left all rows p v d few is g r =
     let m = members finer (data_of e.0.items) rows in
     let rest = spread finer rows (firsts left) in
-    let whole : length (r.done ++ (m ++ rest)) ≡ length rows = ap length r.whole ∙ length-bag (spread finer rows (firsts all)) rows (spread-entries finer fs all t rows v d is) in
-    table-fitting finer set fs t old rows r.done (data_of e.0.items) p e.1 is g r.is_table
+    let whole : length (r.done ++ (m ++ rest)) ≡ length rows = ap length r.whole ∙ length-bag (spread finer rows (firsts all)) rows (spread-entries finer (map (bound filters) functions) all t rows v d is) in
+    table-fitting finer set functions filters t old rows r.done (data_of e.0.items) p e.1 is g r.is_table
     (omega (arith, few, whole, length-append r.done (m ++ rest), length-append m rest))
 
-pub rolled-all : (finer set : List ℕ) (fs : List ColumnFunction) (t table : Contents) (left all : Entries) (rows : List Row) → contents_of all ≡ t → IsDistinct key_eq (keys_of all) → left ≡ []
+pub rolled-all : (finer set : List ℕ) (fs : List AggregateFunction) (t table : Contents) (left all : Entries) (rows : List Row) → contents_of all ≡ t → IsDistinct key_eq (keys_of all) → left ≡ []
     → IsTableOf finer fs t rows → IsRolled finer set fs table left all rows → IsTableOf set fs table rows
 rolled-all finer set fs t table left all rows v d none is r =
     table-same set fs table (spread finer rows (firsts all)) rows (spread-entries finer fs all t rows v d is)
@@ -218,23 +223,23 @@ members-all : (rows : List Row) → members [] [] rows ≡ rows
 members-all [] = refl
 members-all (row ∷ rows) = ap (λ xs. row ∷ xs) (members-all rows)
 
-group_state-bag : (fs : List ColumnFunction) (l m : List Row) → SameBag l m → group_state fs l ≡ group_state fs m
+group_state-bag : (fs : List AggregateFunction) (l m : List Row) → SameBag l m → group_state fs l ≡ group_state fs m
 group_state-bag fs l m s =
     ap (group_state fs) (sym (members-all l))
     ∙ ap (λ (o : Option GroupState). unwrap_or o (group_state fs [])) (group_at-bag [] fs [] l m s)
     ∙ ap (group_state fs) (members-all m)
 
-kept-at : (set : List ℕ) (fs : List ColumnFunction) (t : Contents) (rows : List Row) (q : Key) → IsTableOf set fs t rows → group_state fs (members set q rows) ≡ unwrap_or (fin.get t q) (group_state fs [])
+kept-at : (set : List ℕ) (fs : List AggregateFunction) (t : Contents) (rows : List Row) (q : Key) → IsTableOf set fs t rows → group_state fs (members set q rows) ≡ unwrap_or (fin.get t q) (group_state fs [])
 kept-at set fs t rows q is = sym (ap (λ (o : Option GroupState). unwrap_or o (group_state fs [])) (is q) ∙ group_state-at fs (has_key set q rows) (members set q rows) (no_members set q rows))
 
-states-spread : (set : List ℕ) (fs : List ColumnFunction) (t : Contents) (rows : List Row) (qs : List Key) → IsTableOf set fs t rows
+states-spread : (set : List ℕ) (fs : List AggregateFunction) (t : Contents) (rows : List Row) (qs : List Key) → IsTableOf set fs t rows
     → group_state fs (spread set rows qs) ≡ joined_states fs t qs
 states-spread set fs t rows [] is = refl
 states-spread set fs t rows (q ∷ qs) is =
     group_state-append fs (members set q rows) (spread set rows qs) ∙ (λ i. join (kept-at set fs t rows q is i) (states-spread set fs t rows qs is i))
 
 -- what is kept of the group of a key is what the finer table keeps of the keys that are rolled to it, put together
-pub group-rolled : (finer set : List ℕ) (fs : List ColumnFunction) (t table : Contents) (key : Key) (group : GroupState) (rows : List Row) → AreAmong set finer
+pub group-rolled : (finer set : List ℕ) (fs : List AggregateFunction) (t table : Contents) (key : Key) (group : GroupState) (rows : List Row) → AreAmong set finer
     → IsTableOf finer fs t rows → IsTableOf set fs table rows → fin.get table key ≡ Some group → group ≡ joined_states fs t (finer_keys finer set key rows)
 group-rolled finer set fs t table key group rows a is b e =
     sym ((group-of set fs table rows key group b e).1)

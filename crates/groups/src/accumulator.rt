@@ -1,23 +1,23 @@
 //! What is kept of the members of a group for one set function.
-ghost use Rattle.std.specs.Prelude.{◌≡◌, MatchOption};
+ghost use Rattle.std.specs.Prelude.{◌≡◌, MatchOption, false, slice_index_or};
 ghost use Rattle.values.specs.Datum.{datum_of, data_of, null};
-ghost use Rattle.groups.specs.Inside.Accumulator.{argument, argument_place};
-ghost use Rattle.groups.specs.Rows.{is_present};
+ghost use Rattle.groups.specs.Inside.Accumulator.{argument_place, is_marked};
+ghost use Rattle.groups.specs.Rows.{is_present, value_at};
 
 use crate::cell::Cell;
 use crate::distinct_values::DistinctValues;
 use crate::extreme::{is_greater, is_less};
 use crate::total::Total;
-use query_check::ColumnFunction;
+use query_check::{ColumnFunction, FilteredFunction};
 use std::alloc::{AllocError, Global};
 use values::Value;
 
 /// What is kept of the members of a group for one set function.
 #[derive(Debug, Drop)]
 pub(crate) enum Accumulator {
-    /// `COUNT(*)`: the number of records is kept beside.
+    /// `COUNT(*)` without FILTER: the number of records is kept beside.
     Rows,
-    /// `COUNT(x)`
+    /// `COUNT(x)`, and `COUNT(*)` with FILTER
     Count(u64),
     /// `COUNT(DISTINCT x)`
     Distinct(DistinctValues),
@@ -33,12 +33,38 @@ pub(crate) enum Accumulator {
 
 impl Accumulator {
     ghost use Rattle.std.specs.Prelude.{[], IfOk, OnOk, OnErr};
-    ghost use Rattle.groups.specs.Inside.Accumulator.{accumulator_state, state_in, with_value, joined, summary, HasRoom, IsUnbounded};
+    ghost use Rattle.groups.specs.Inside.Accumulator.{is_marked, no_state, state_in, state_counted, state_over, with_count, with_member, with_record, with_value, joined, summary, HasRoom, IsUnbounded};
+    ghost use Rattle.groups.specs.Rows.{value_at};
     ghost use Rattle.groups.specs.Cells.{summary_of};
 
     /// What is kept of no record.
-    pub(crate) fn new(alloc: Global, function: ColumnFunction) -> Result<Accumulator, AllocError>
-        ensures { IfOk result (λ accumulator. state_in accumulator ≡ accumulator_state function []) }
+    pub(crate) fn new(alloc: Global, function: FilteredFunction) -> Result<Accumulator, AllocError>
+        ensures { IfOk result (λ accumulator. state_in accumulator ≡ no_state function.filter function.function) }
+    {
+        match function.filter {
+            None => Accumulator::of_all(alloc, function.function),
+            Some(_) => Accumulator::of_some(alloc, function.function),
+        }
+    }
+
+    /// What is kept of no record for a set function with FILTER.
+    fn of_some(alloc: Global, function: ColumnFunction) -> Result<Accumulator, AllocError>
+        ensures { IfOk result (λ accumulator. state_in accumulator ≡ state_counted function []) }
+    {
+        match function {
+            ColumnFunction::CountRows => Ok(Accumulator::Count(0)),
+            ColumnFunction::Count(_)
+            | ColumnFunction::CountDistinct(_)
+            | ColumnFunction::Sum(_)
+            | ColumnFunction::Min(_)
+            | ColumnFunction::Max(_)
+            | ColumnFunction::Avg(_) => Accumulator::of_all(alloc, function),
+        }
+    }
+
+    /// What is kept of no record for a set function without FILTER.
+    fn of_all(alloc: Global, function: ColumnFunction) -> Result<Accumulator, AllocError>
+        ensures { IfOk result (λ accumulator. state_in accumulator ≡ state_over function []) }
     {
         match function {
             ColumnFunction::CountRows => Ok(Accumulator::Rows),
@@ -53,13 +79,62 @@ impl Accumulator {
         }
     }
 
-    /// Takes one more record. After an error what is kept is of no use.
-    pub(crate) fn add(&mut self, function: ColumnFunction, row: &[Value]) -> Result<(), AllocError>
-        requires { HasRoom (with_value (state_in self.old) (argument function (data_of row.now))) }
-        ensures added { OnOk result (state_in self.new ≡ with_value (state_in self.old) (argument function (data_of row.now))) }
+    /// Takes one more record, where the marks say that the FILTER of the function keeps it. After an error what is kept
+    /// is of no use.
+    pub(crate) fn add(
+        &mut self,
+        function: FilteredFunction,
+        marks: &[bool],
+        row: &[Value],
+    ) -> Result<(), AllocError>
+        requires { HasRoom (with_member (is_marked marks.now function.filter) function.function (state_in self.old) (data_of row.now)) }
+        ensures added { OnOk result (state_in self.new ≡ with_member (is_marked marks.now function.filter) function.function (state_in self.old) (data_of row.now)) }
         ensures unbounded { OnErr result (IsUnbounded (state_in self.new)) }
     {
-        match argument(function, row) {
+        if !is_marked(marks, function.filter) {
+            return Ok(());
+        }
+        self.add_record(function.function, row)
+    }
+
+    /// Takes one more record.
+    fn add_record(&mut self, function: ColumnFunction, row: &[Value]) -> Result<(), AllocError>
+        requires { HasRoom (with_record function (state_in self.old) (data_of row.now)) }
+        ensures added { OnOk result (state_in self.new ≡ with_record function (state_in self.old) (data_of row.now)) }
+        ensures unbounded { OnErr result (IsUnbounded (state_in self.new)) }
+    {
+        match argument_place(function) {
+            Some(place) => self.add_value_at(row, place),
+            None => {
+                self.add_count();
+                Ok(())
+            }
+        }
+    }
+
+    /// Counts one more record, where the number of records is kept.
+    fn add_count(&mut self)
+        requires { HasRoom (with_count (state_in self.old)) }
+        ensures { state_in self.new ≡ with_count (state_in self.old) }
+    {
+        match self {
+            Accumulator::Count(count) => *count += 1,
+            Accumulator::Rows
+            | Accumulator::Distinct(_)
+            | Accumulator::Sum(_)
+            | Accumulator::Min(_)
+            | Accumulator::Max(_)
+            | Accumulator::Average(_) => {}
+        }
+    }
+
+    /// Takes the value of a record in the column at a place.
+    fn add_value_at(&mut self, row: &[Value], place: usize) -> Result<(), AllocError>
+        requires { HasRoom (with_value (state_in self.old) (value_at place (data_of row.now))) }
+        ensures added { OnOk result (state_in self.new ≡ with_value (state_in self.old) (value_at place (data_of row.now))) }
+        ensures unbounded { OnErr result (IsUnbounded (state_in self.new)) }
+    {
+        match value_at(row, place) {
             Some(value) => self.add_value(value),
             None => Ok(()),
         }
@@ -209,10 +284,29 @@ fn argument_place(function: ColumnFunction) -> Option<usize>
     }
 }
 
-/// The value of a record that a set function takes, where it takes one.
-fn argument(function: ColumnFunction, row: &[Value]) -> Option<&Value>
-    ensures { MatchOption result (argument function (data_of row.now) ≡ null) (λ value. datum_of value.now ≡ argument function (data_of row.now)) }
+/// The value of a record in the column at a place, where there is such a column.
+fn value_at(row: &[Value], place: usize) -> Option<&Value>
+    ensures { MatchOption result (value_at place (data_of row.now) ≡ null) (λ value. datum_of value.now ≡ value_at place (data_of row.now)) }
 {
-    let place = argument_place(function)?;
     row.get(place)
+}
+
+/// Whether the filter with this index keeps a record, by the marks of all filters; without FILTER each is kept.
+fn is_marked(marks: &[bool], filter: Option<usize>) -> bool
+    ensures { result ≡ is_marked marks.now filter }
+{
+    match filter {
+        Some(index) => mark_at(marks, index),
+        None => true,
+    }
+}
+
+/// The mark with an index, and false past the last one.
+fn mark_at(marks: &[bool], index: usize) -> bool
+    ensures { result ≡ slice_index_or marks.now index false }
+{
+    match marks.get(index) {
+        Some(mark) => *mark,
+        None => false,
+    }
 }

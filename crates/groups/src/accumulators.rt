@@ -5,7 +5,7 @@ ghost use Rattle.groups.specs.Cells.{summary_of};
 
 use crate::accumulator::Accumulator;
 use crate::cell::Cell;
-use query_check::ColumnFunction;
+use query_check::FilteredFunction;
 use std::alloc::{AllocError, Global};
 use std::marker::Model;
 use values::Value;
@@ -32,19 +32,19 @@ impl Model for Accumulators {
 }
 
 impl Accumulators {
-    ghost use Rattle.std.specs.Prelude.{◌≡◌, ◌+◌, ◌<◌, ◌^◌, [], IfOk, OnOk, length, map};
+    ghost use Rattle.std.specs.Prelude.{◌≡◌, ◌+◌, ◌<◌, ◌^◌, IfOk, OnOk, length, map};
     ghost use Rattle.values.specs.Datum.{data_of};
     ghost use Rattle.groups.specs.Inside.Accumulator.{summary};
-    ghost use Rattle.groups.specs.Inside.Group.{group_state, with_row, join};
+    ghost use Rattle.groups.specs.Inside.Group.{no_group, with_row, join};
     ghost use Rattle.groups.specs.Rows.{IsNarrowRow};
     ghost use Rattle.groups.specs.Cells.{summary_of};
 
     /// What is kept of a group without members.
     pub(crate) fn new(
         alloc: Global,
-        functions: &[ColumnFunction],
+        functions: &[FilteredFunction],
     ) -> Result<Accumulators, AllocError>
-        ensures { IfOk result (λ group. group ≡ group_state functions.now []) }
+        ensures { IfOk result (λ group. group ≡ no_group functions.now) }
     {
         let mut parts = Vec::with_capacity(alloc, functions.len())?;
         for function in functions {
@@ -53,20 +53,22 @@ impl Accumulators {
         Ok(Accumulators { lines: 0, parts })
     }
 
-    /// Takes one more member, by its values. After an error the group is of no use.
+    /// Takes one more member, by its values, of which the marks say which filters keep it. After an error the group is
+    /// of no use.
     pub(crate) fn add(
         &mut self,
-        functions: &[ColumnFunction],
+        functions: &[FilteredFunction],
+        marks: &[bool],
         row: &[Value],
     ) -> Result<(), AllocError>
         requires narrow { IsNarrowRow (data_of row.now) }
         requires room { self.old.lines + 1 < 2 ^ 63 }
         requires one_each { length self.old.parts ≡ length functions.now }
-        ensures { OnOk result (self.new ≡ with_row functions.now self.old (data_of row.now)) }
+        ensures { OnOk result (self.new ≡ with_row functions.now marks.now self.old (data_of row.now)) }
     {
         self.lines += 1;
         for (place, function) in functions.iter().enumerate() {
-            self.parts[place].add(*function, row)?;
+            self.parts[place].add(*function, marks, row)?;
         }
         Ok(())
     }

@@ -7,20 +7,20 @@ ghost use Rattle.groups.specs.Rolled.{AreAmong, finer_keys, finer_members};
 ghost use Rattle.groups.specs.Inside.Group.{GroupState};
 ghost use Rattle.groups.specs.GroupSummaries.{group_summaries};
 ghost use Rattle.groups.specs.Bags.{SameBag, weigh};
-ghost use Rattle.query_check.specs.declared.function.ColumnFunction.{ColumnFunction};
+ghost use Rattle.groups.specs.Functions.{AggregateFunction};
 ghost use Rattle.groups.specs.Rows.{Row};
 ghost use Rattle.groups.specs.Inside.Table.{Contents, IsTableOf, joined_states};
 
 /// A table of records is that of the same records in any other order.
 pub fn order_law()
-    ensures { (set : List ℕ) (functions : List ColumnFunction) (table : Contents) (rows others : List Row)
+    ensures { (set : List ℕ) (functions : List AggregateFunction) (table : Contents) (rows others : List Row)
         → SameBag rows others → IsTableOf set functions table rows → IsTableOf set functions table others }
 {}
 
 /// Under each grouping set a record is a member of exactly one group.
 pub fn members_law()
     ensures members { (set : List ℕ) (rows : List Row) → SameBag (flat_map (λ key. members set key rows) (keys set rows)) rows }
-    ensures lines { (set : List ℕ) (functions : List ColumnFunction) (rows : List Row)
+    ensures lines { (set : List ℕ) (functions : List AggregateFunction) (rows : List Row)
         → weigh (λ group. group.lines) (group_summaries set functions rows) ≡ length rows }
 {}
 
@@ -29,7 +29,7 @@ pub fn members_law()
 pub fn roll_law()
     ensures members { (finer set : List ℕ) (key : Key) (rows : List Row)
         → AreAmong set finer → SameBag (finer_members finer set key rows) (members set key rows) }
-    ensures groups { (finer set : List ℕ) (functions : List ColumnFunction) (table rolled : Contents) (key : Key) (group : GroupState) (rows : List Row)
+    ensures groups { (finer set : List ℕ) (functions : List AggregateFunction) (table rolled : Contents) (key : Key) (group : GroupState) (rows : List Row)
         → AreAmong set finer → IsTableOf finer functions table rows → IsTableOf set functions rolled rows
         → fin.get rolled key ≡ Some group → group ≡ joined_states functions table (finer_keys finer set key rows) }
 {}

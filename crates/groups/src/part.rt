@@ -3,15 +3,15 @@ ghost use Rattle.std.specs.Prelude.{◌≡◌, Some, OnOk};
 ghost use Rattle.groups.specs.Inside.Table.{IsTaken, with_part};
 
 use crate::accumulators::Accumulators;
-use query_check::ColumnFunction;
+use query_check::FilteredFunction;
 use std::alloc::AllocError;
 use values::Value;
 
 /// A part of a group, which a group takes.
 #[derive(Clone, Copy, Debug)]
 pub(crate) enum Part<'a> {
-    /// One member, by its values.
-    Record(&'a [Value]),
+    /// One member, by its values, and the marks that say which filters keep it.
+    Record(&'a [Value], &'a [bool]),
     /// What is kept of some members, of which copies are taken.
     Copies(&'a Accumulators),
 }
@@ -21,13 +21,13 @@ impl Part<'_> {
     pub(crate) fn put_to(
         self,
         group: &mut Accumulators,
-        functions: &[ColumnFunction],
+        functions: &[FilteredFunction],
     ) -> Result<(), AllocError>
         requires { IsTaken functions.now (Some group.old) self }
         ensures { OnOk result (group.new ≡ with_part functions.now (Some group.old) self.entry) }
     {
         match self {
-            Part::Record(row) => group.add(functions, row),
+            Part::Record(row, marks) => group.add(functions, marks, row),
             Part::Copies(members) => group.absorb_copies(members),
         }
     }

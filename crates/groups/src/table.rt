@@ -3,7 +3,7 @@ use crate::accumulators::Accumulators;
 use crate::group::{Group, groups_of};
 use crate::key::{indices_in, key_of, write_key};
 use crate::part::Part;
-use query_check::ColumnFunction;
+use query_check::FilteredFunction;
 use std::alloc::{AllocError, Global};
 use std::collections::HashMap;
 use std::marker::Model;
@@ -31,25 +31,25 @@ impl Model for Table {
 }
 
 impl Table {
-    ghost use Rattle.std.specs.Prelude.{◌≡◌, ℕ, [], ◌∷◌, ◌++◌, OnOk, IfOk, List, map};
+    ghost use Rattle.std.specs.Prelude.{◌≡◌, Bool, ℕ, [], ◌∷◌, ◌++◌, OnOk, IfOk, List, map};
     ghost use Rattle.groups.specs.Rows.{Row, IsNarrowRow};
-    ghost use Rattle.query_check.specs.declared.function.ColumnFunction.{ColumnFunction};
+    ghost use Rattle.groups.specs.Functions.{AggregateFunction, bound};
     ghost use Rattle.std.specs.FinMap as fin;
     ghost use Rattle.values.specs.Datum.{data_of};
     ghost use Rattle.groups.specs.Groups.{Key, project};
-    ghost use Rattle.groups.specs.Inside.Group.{group_state};
+    ghost use Rattle.groups.specs.Inside.Group.{no_group};
     ghost use Rattle.groups.specs.GroupSummaries.{group_summary_in, group_summaries};
     ghost use Rattle.groups.specs.Bags.{SameBag};
     ghost use Rattle.groups.specs.Inside.Table.{CanJoin, IsPut, IsFitting, IsJoined, IsOfFew, IsTableOf, IsTaken, IsWithPart, TakesOne};
     ghost use Rattle.groups.specs.Rolled.{AreAmong};
 
-    /// The table of no records under a grouping set, for these set functions.
+    /// The table of no records under a grouping set, for these set functions, whatever their filters keep.
     pub fn new(
         alloc: Global,
         set: &[usize],
-        functions: &[ColumnFunction],
+        functions: &[FilteredFunction],
     ) -> Result<Table, AllocError>
-        ensures empty { IfOk result (λ table. IsTableOf set.now functions.now table []) }
+        ensures empty { IfOk result (λ table. (filters : List (Row → Bool)) → IsTableOf set.now (map (bound filters) functions.now) table []) }
     {
         if set.is_empty() {
             return Table::with_empty_key(alloc, functions);
@@ -69,8 +69,8 @@ impl Table {
     }
 
     /// The table of no records under the empty set, whose one key is there from the start.
-    fn with_empty_key(alloc: Global, functions: &[ColumnFunction]) -> Result<Table, AllocError>
-        ensures { IfOk result (λ table. (k : Key) → IsPut fin.empty table [] (group_state functions.now []) k) }
+    fn with_empty_key(alloc: Global, functions: &[FilteredFunction]) -> Result<Table, AllocError>
+        ensures { IfOk result (λ table. (k : Key) → IsPut fin.empty table [] (no_group functions.now) k) }
     {
         let mut table = Table::without_groups(alloc);
         let group = Accumulators::new(alloc, functions)?;
@@ -78,26 +78,29 @@ impl Table {
         Ok(table)
     }
 
-    /// Takes one more record, by its values. After an error the table is of no use.
+    /// Takes one more record, by its values, and marks that say of each filter whether it keeps the record: the mark of a
+    /// set function is that with the index of its FILTER. After an error the table is of no use.
     pub fn add(
         &mut self,
         set: &[usize],
-        functions: &[ColumnFunction],
+        functions: &[FilteredFunction],
         row: &[Value],
+        marks: &[bool],
     ) -> Result<(), AllocError>
         requires narrow { IsNarrowRow (data_of row.now) }
         requires room { ∥ TakesOne set.now functions.now self.old ∥₁ }
-        ensures added { OnOk result ((rows : List Row) → IsTableOf set.now functions.now self.old rows
-            → IsTableOf set.now functions.now self.new (rows ++ data_of row.now ∷ [])) }
+        ensures added { OnOk result ((filters : List (Row → Bool)) (rows : List Row) → marks.now ≡ map (λ keeps. keeps (data_of row.now)) filters
+            → IsTableOf set.now (map (bound filters) functions.now) self.old rows
+            → IsTableOf set.now (map (bound filters) functions.now) self.new (rows ++ data_of row.now ∷ [])) }
     {
-        self.put(set, functions, row, Part::Record(row))
+        self.put(set, functions, row, Part::Record(row, marks))
     }
 
     /// Takes the records of another table, whose groups move into this one. After an error the table is of no use.
     pub fn absorb(&mut self, other: Table) -> Result<(), AllocError>
         requires { CanJoin self.old other }
         ensures groups { OnOk result ((k : Key) → IsJoined self.old other self.new k) }
-        ensures joined { OnOk result ((set : List ℕ) (functions : List ColumnFunction) (rows more : List Row)
+        ensures joined { OnOk result ((set : List ℕ) (functions : List AggregateFunction) (rows more : List Row)
             → IsTableOf set functions self.old rows → IsTableOf set functions other more → IsTableOf set functions self.new (rows ++ more)) }
     {
         self.put_all(other)
@@ -109,12 +112,12 @@ impl Table {
         &self,
         finer: &[usize],
         set: &[usize],
-        functions: &[ColumnFunction],
+        functions: &[FilteredFunction],
     ) -> Result<Table, AllocError>
         requires among { AreAmong set.now finer.now }
         requires few { ∥ IsOfFew finer.now functions.now self.now ∥₁ }
-        ensures rolled { IfOk result (λ table. (rows : List Row) → IsTableOf finer.now functions.now self.now rows
-            → IsTableOf set.now functions.now table rows) }
+        ensures rolled { IfOk result (λ table. (filters : List (Row → Bool)) (rows : List Row)
+            → IsTableOf finer.now (map (bound filters) functions.now) self.now rows → IsTableOf set.now (map (bound filters) functions.now) table rows) }
     {
         let indices = indices_in(self.alloc, finer, set)?;
         let mut rolled = Table::new(self.alloc, set, functions)?;
@@ -138,7 +141,7 @@ impl Table {
 
     /// One group for each key of the records, in no order that is said.
     pub fn finish(self) -> Result<Vec<Group>, AllocError>
-        ensures groups { IfOk result (λ groups. (set : List ℕ) (functions : List ColumnFunction) (rows : List Row)
+        ensures groups { IfOk result (λ groups. (set : List ℕ) (functions : List AggregateFunction) (rows : List Row)
             → IsTableOf set functions self rows → SameBag (map group_summary_in groups.items) (group_summaries set functions rows)) }
     {
         let Table {
@@ -153,7 +156,7 @@ impl Table {
     fn put(
         &mut self,
         set: &[usize],
-        functions: &[ColumnFunction],
+        functions: &[FilteredFunction],
         row: &[Value],
         part: Part<'_>,
     ) -> Result<(), AllocError>

@@ -2,7 +2,7 @@
 use Rattle.std.proofs.Common.{◌≡◌, ◌+◌, ℕ, List, [], ◌∷◌, map, Vec, Global, refl, sym, ap, ◌∙◌, arith}
 use Rattle.std.proofs.lemmas.List.{map-append}
 use Rattle.std.specs.List.{enumerate_from, flat_map}
-use Rattle.query_check.specs.declared.function.ColumnFunction.{ColumnFunction}
+use Rattle.groups.specs.Functions.{AggregateFunction}
 use Rattle.groups.specs.declared.group.Group.{Group}
 use Rattle.groups.specs.Rows.{Row}
 use Rattle.groups.specs.Groups.{SetGroup, keys, members}
@@ -17,7 +17,7 @@ use Rattle.tables.specs.Sets.{AreGroupsOf}
 abbrev pub set_groups : List Row → ℕ × List ℕ → List SetGroup
 set_groups rows s = map (λ key. record { index = s.0; key = key; members = members s.1 key rows }) (keys s.1 rows)
 
-one-set : (f : Found → ℕ) (n : ℕ) (set : List ℕ) (fs : List ColumnFunction) (gs : List Group) (rows : List Row) → SameBag (map group_summary_in gs) (group_summaries set fs rows)
+one-set : (f : Found → ℕ) (n : ℕ) (set : List ℕ) (fs : List AggregateFunction) (gs : List Group) (rows : List Row) → SameBag (map group_summary_in gs) (group_summaries set fs rows)
     → weigh f (map (λ g. (n, group_summary_in g)) gs) ≡ weigh f (map (found fs) (set_groups rows (n, set)))
 one-set f n set fs gs rows same =
     weigh-map f (λ g. (n, group_summary_in g)) gs
@@ -27,7 +27,7 @@ one-set f n set fs gs rows same =
     ∙ sym (weigh-map (λ g. f (found fs g)) (λ key. record { index = n; key = key; members = members set key rows }) (keys set rows))
     ∙ sym (weigh-map f (found fs) (set_groups rows (n, set)))
 
-found-from : (f : Found → ℕ) (n : ℕ) (sets : List (List ℕ)) (fs : List ColumnFunction) (groups : List (Vec Group Global)) (rows : List Row) → AreGroupsOf sets fs groups rows
+found-from : (f : Found → ℕ) (n : ℕ) (sets : List (List ℕ)) (fs : List AggregateFunction) (groups : List (Vec Group Global)) (rows : List Row) → AreGroupsOf sets fs groups rows
     → weigh f (rows_from n groups) ≡ weigh f (map (found fs) (flat_map (set_groups rows) (enumerate_from n sets)))
 found-from f n [] fs [] rows h = refl
 found-from f n [] fs (g ∷ groups) rows h = absurd h
@@ -42,6 +42,6 @@ found-from f n (s ∷ sets) fs (g ∷ groups) rows h =
     omega (arith, a, b, c, d)
 
 -- the rows of the groups of each set are those of all groups
-pub all-found : (sets : List (List ℕ)) (fs : List ColumnFunction) (groups : List (Vec Group Global)) (rows : List Row) → AreGroupsOf sets fs groups rows
+pub all-found : (sets : List (List ℕ)) (fs : List AggregateFunction) (groups : List (Vec Group Global)) (rows : List Row) → AreGroupsOf sets fs groups rows
     → SameBag (rows_from 0 groups) (all_found sets fs rows)
 all-found sets fs groups rows h = λ f. found-from f 0 sets fs groups rows h

@@ -5,11 +5,11 @@ use Rattle.std.proofs.lemmas.List.{get_or-map, length-map, map-append}
 use Rattle.std.proofs.lemmas.List.Elements.{All-from_recursion}
 use Rattle.std.proofs.lemmas.Map.Made.{AllPairs-from_IsDistinct}
 use Rattle.std.specs.Bool.{Decides}
-use Rattle.std.specs.List.{AllByRecursion, AllPairs, IsDistinct, enumerate_from, flat_map, slice_index_or}
+use Rattle.std.specs.List.{AllByRecursion, AllPairs, AllZip, IsDistinct, enumerate_from, flat_map, slice_index_or}
 use Rattle.values.specs.Schema.{Field}
 use Rattle.query_tree.specs.Syntax.{TreeForm}
-use Rattle.query_check.specs.declared.function.ColumnFunction.{ColumnFunction}
-use Rattle.query_check.specs.Functions.{functions_of}
+use Rattle.groups.specs.Functions.{AggregateFunction, Summary}
+use Rattle.query_check.specs.Functions.{PlannedFunction, functions_of}
 use Rattle.query_check.specs.Sets.{sets_of}
 use Rattle.groups.specs.Rows.{Row}
 use Rattle.groups.specs.Groups.{Key, keys, members, project, same_key}
@@ -17,14 +17,15 @@ use Rattle.groups.specs.Bags.{SameBag, weigh}
 use Rattle.groups.proofs.GroupsLaw.{keys-distinct}
 use Rattle.groups.proofs.Order.{same_key-Decides}
 use Rattle.tables.specs.Found.{Found}
-use Rattle.tables.specs.Fitting.{AreFitting}
+use Rattle.tables.specs.Fitting.{AreFitting, HasType}
+use Rattle.tables.specs.Functions.{aggregate_function, aggregate_functions}
 use Rattle.tables.specs.Results.{all_found, found}
 use Rattle.tables.proofs.Bags.{all-append, all-distinct, all-same, weigh-map}
 use Rattle.tables.proofs.Finding.{set_groups}
-use Rattle.tables.proofs.Types.{AllFit, IsTyped, found-typed}
+use Rattle.tables.proofs.Types.{AllFit, HasTypeOf, IsTyped, found-typed}
 
 -- a row fits grouping sets and set functions: its index is that of a set, its key has a value for each column of the set, and it has a cell for each function
-record IsFitting (sets : List (List ℕ)) (functions : List ColumnFunction) (row : Found) : Type 0 where
+record IsFitting (sets : List (List ℕ)) (functions : List AggregateFunction) (row : Found) : Type 0 where
   within : row.0 < length sets
   one_each : length row.1.key ≡ length (slice_index_or sets row.0 [])
   cells : length row.1.cells ≡ length functions
@@ -116,17 +117,17 @@ place row = (row.0, row.1.key)
 
 -- ---- the rows of all groups fit
 
-fits : List (List ℕ) → List ColumnFunction → Found → Bool
+fits : List (List ℕ) → List AggregateFunction → Found → Bool
 fits sets fs row = nat_lt row.0 (length sets) && ((length row.1.key == length (slice_index_or sets row.0 [])) && (length row.1.cells == length fs))
 
-fitting-from : (sets : List (List ℕ)) (fs : List ColumnFunction) (row : Found) → fits sets fs row ≡ true → IsFitting sets fs row
+fitting-from : (sets : List (List ℕ)) (fs : List AggregateFunction) (row : Found) → fits sets fs row ≡ true → IsFitting sets fs row
 unfolding fits
 fitting-from sets fs row t =
     let a = both (nat_lt row.0 (length sets)) ((length row.1.key == length (slice_index_or sets row.0 [])) && (length row.1.cells == length fs)) t in
     let b = both (length row.1.key == length (slice_index_or sets row.0 [])) (length row.1.cells == length fs) a.1 in
     record { within = (let x = a.0 in grind (arith, nat_tests, x)); one_each = true-eq _ _ b.0; cells = true-eq _ _ b.1 }
 
-fits-from : (sets : List (List ℕ)) (fs : List ColumnFunction) (row : Found) → row.0 < length sets → length row.1.key ≡ length (slice_index_or sets row.0 []) → length row.1.cells ≡ length fs → fits sets fs row ≡ true
+fits-from : (sets : List (List ℕ)) (fs : List AggregateFunction) (row : Found) → row.0 < length sets → length row.1.key ≡ length (slice_index_or sets row.0 []) → length row.1.cells ≡ length fs → fits sets fs row ≡ true
 unfolding fits
 fits-from sets fs row a b c = together _ _ (grind (arith, nat_tests, a)) (together _ _ (eq-true _ _ b) (eq-true _ _ c))
 
@@ -138,13 +139,13 @@ keys-length : (set : List ℕ) (rows : List Row) → AllByRecursion (λ k. lengt
 keys-length [] rows = (refl, tt)
 keys-length (p ∷ ps) rows = all-distinct (λ k. length k ≡ length (p ∷ ps)) same_key (map (project (p ∷ ps)) rows) (projected-length (p ∷ ps) rows)
 
-set-fits : (sets : List (List ℕ)) (fs : List ColumnFunction) (rows : List Row) (n : ℕ) (s : List ℕ) (ks : List Key) → n < length sets → slice_index_or sets n [] ≡ s → AllByRecursion (λ k. length k ≡ length s) ks
+set-fits : (sets : List (List ℕ)) (fs : List AggregateFunction) (rows : List Row) (n : ℕ) (s : List ℕ) (ks : List Key) → n < length sets → slice_index_or sets n [] ≡ s → AllByRecursion (λ k. length k ≡ length s) ks
     → AllByRecursion (λ r. fits sets fs r ≡ true) (map (found fs) (map (λ key. record { index = n; key = key; members = members s key rows }) ks))
 set-fits sets fs rows n s [] l e h = tt
 set-fits sets fs rows n s (k ∷ ks) l e h =
     (fits-from sets fs (found fs (record { index = n; key = k; members = members s k rows })) l (h.0 ∙ sym (ap length e)) (length-map fs _), set-fits sets fs rows n s ks l e h.1)
 
-rows-fit : (whole : List (List ℕ)) (fs : List ColumnFunction) (rows : List Row) (n : ℕ) (sets : List (List ℕ)) → n + length sets ≡ length whole
+rows-fit : (whole : List (List ℕ)) (fs : List AggregateFunction) (rows : List Row) (n : ℕ) (sets : List (List ℕ)) → n + length sets ≡ length whole
     → ((i : ℕ) → i < length sets → slice_index_or whole (n + i) [] ≡ slice_index_or sets i [])
     → AllByRecursion (λ r. fits whole fs r ≡ true) (map (found fs) (flat_map (set_groups rows) (enumerate_from n sets)))
 rows-fit whole fs rows n [] l at = tt
@@ -158,15 +159,15 @@ rows-fit whole fs rows n (s ∷ sets) l at =
 
 -- ---- no two of them are of one group
 
-abbrev places_from : List Row → ℕ → List (List ℕ) → List ColumnFunction → List (ℕ × Key)
+abbrev places_from : List Row → ℕ → List (List ℕ) → List AggregateFunction → List (ℕ × Key)
 places_from rows n sets fs = map place (map (found fs) (flat_map (set_groups rows) (enumerate_from n sets)))
 
-set-places : (fs : List ColumnFunction) (rows : List Row) (n : ℕ) (s : List ℕ) (ks : List Key)
+set-places : (fs : List AggregateFunction) (rows : List Row) (n : ℕ) (s : List ℕ) (ks : List Key)
     → map place (map (found fs) (map (λ key. record { index = n; key = key; members = members s key rows }) ks)) ≡ map (λ k. (n, k)) ks
 set-places fs rows n s [] = refl
 set-places fs rows n s (k ∷ ks) = ap (λ ps. (n, k) ∷ ps) (set-places fs rows n s ks)
 
-places-more : (rows : List Row) (n : ℕ) (s : List ℕ) (sets : List (List ℕ)) (fs : List ColumnFunction)
+places-more : (rows : List Row) (n : ℕ) (s : List ℕ) (sets : List (List ℕ)) (fs : List AggregateFunction)
     → places_from rows n (s ∷ sets) fs ≡ map (λ k. (n, k)) (keys s rows) ++ places_from rows (n + 1) sets fs
 places-more rows n s sets fs =
     ap (map place) (map-append (found fs) (set_groups rows (n, s)) (flat_map (set_groups rows) (enumerate_from (n + 1) sets)))
@@ -177,7 +178,7 @@ at-index : (m n : ℕ) (ks : List Key) → m < n → AllByRecursion (λ (p : ℕ
 at-index m n [] l = tt
 at-index m n (k ∷ ks) l = (l, at-index m n ks l)
 
-above : (rows : List Row) (m n : ℕ) (sets : List (List ℕ)) (fs : List ColumnFunction) → m < n → AllByRecursion (λ (p : ℕ × Key). m < p.0) (places_from rows n sets fs)
+above : (rows : List Row) (m n : ℕ) (sets : List (List ℕ)) (fs : List AggregateFunction) → m < n → AllByRecursion (λ (p : ℕ × Key). m < p.0) (places_from rows n sets fs)
 above rows m n [] fs l = tt
 above rows m n (s ∷ sets) fs l = subst (λ ps. AllByRecursion (λ (p : ℕ × Key). m < p.0) ps) (sym (places-more rows n s sets fs))
     (all-append (λ (p : ℕ × Key). m < p.0) (map (λ k. (n, k)) (keys s rows)) (places_from rows (n + 1) sets fs) (at-index m n (keys s rows) l) (above rows m (n + 1) sets fs (omega (arith, l))))
@@ -196,7 +197,7 @@ set-distinct n [] ps d a r = r
 set-distinct n (k ∷ ks) ps d a r =
     (all-append (λ p. same_group (n, k) p ≡ false) (map (λ l. (n, l)) ks) ps (other-keys n k ks d.0) (apart-from n k ps a), set-distinct n ks ps d.1 a r)
 
-places-distinct : (rows : List Row) (n : ℕ) (sets : List (List ℕ)) (fs : List ColumnFunction) → IsDistinct same_group (places_from rows n sets fs)
+places-distinct : (rows : List Row) (n : ℕ) (sets : List (List ℕ)) (fs : List AggregateFunction) → IsDistinct same_group (places_from rows n sets fs)
 unfolding IsDistinct
 places-distinct rows n [] fs = tt
 places-distinct rows n (s ∷ sets) fs = subst (λ ps. IsDistinct same_group ps) (sym (places-more rows n s sets fs))
@@ -205,7 +206,7 @@ places-distinct rows n (s ∷ sets) fs = subst (λ ps. IsDistinct same_group ps)
 -- ---- rows that are the same bag as those of the groups fit
 
 -- each thing of the list is as the test says
-indexes : (sets : List (List ℕ)) (fs : List ColumnFunction) (xs : List Found) → AllByRecursion (λ r. fits sets fs r ≡ true) xs → AllByRecursion (IsFitting sets fs) xs
+indexes : (sets : List (List ℕ)) (fs : List AggregateFunction) (xs : List Found) → AllByRecursion (λ r. fits sets fs r ≡ true) xs → AllByRecursion (IsFitting sets fs) xs
 indexes sets fs [] h = tt
 indexes sets fs (x ∷ xs) h = (fitting-from sets fs x h.0, indexes sets fs xs h.1)
 
@@ -217,19 +218,27 @@ places-apart xs d = λ i j e l m same keys.
     let both : place (get_or xs i e) ≡ place (get_or xs j e) = λ k. (same k, keys k) in
     AllPairs-from_IsDistinct same_group-Decides (map place xs) d i j (place e) l (omega (arith, m, long)) (a ∙ both ∙ sym b)
 
+-- each cell has the type of its set function, apart from the filter
+cells-of : (fields : List Field) (fs : List PlannedFunction) (cells : List Summary) → AllZip (HasTypeOf fields) (map (aggregate_function fields) fs) cells
+    → AllZip (λ f cell. HasType fields f.function cell) fs cells
+cells-of fields [] [] h = h
+cells-of fields [] (cell ∷ cells) h = h
+cells-of fields (f ∷ fs) [] h = h
+cells-of fields (f ∷ fs) (cell ∷ cells) h = (h.0, cells-of fields fs cells h.1)
+
 pub found-fit : (fields : List Field) (t : TreeForm) (rows : List Row) (xs : List Found)
-    → SameBag xs (all_found (sets_of fields t) (functions_of fields t) rows) → AllFit fields rows → AreFitting fields t xs
+    → SameBag xs (all_found (sets_of fields t) (aggregate_functions fields t) rows) → AllFit fields rows → AreFitting fields t xs
 found-fit fields t rows xs same fit =
     let sets = sets_of fields t in
-    let fs = functions_of fields t in
+    let fs = aggregate_functions fields t in
     let each = All-from_recursion (IsFitting sets fs) xs (indexes sets fs xs (all-same (fits sets fs) xs (all_found sets fs rows) same (rows-fit sets fs rows 0 sets (omega arith) (λ i h. ap (λ m. slice_index_or sets m []) (let e : 0 + i ≡ i = omega arith in e))))) in
     let typed = All-from_recursion (IsTyped fields sets fs) xs (found-typed fields t rows xs same fit) in
     record {
       indexes = λ k d l. (each k d l).within;
       keys = λ k d l. (each k d l).one_each;
       key_types = λ k d l. (typed k d l).0;
-      cells = λ k d l. (each k d l).cells;
-      cell_types = λ k d l. (typed k d l).1;
+      cells = λ k d l. (each k d l).cells ∙ length-map (functions_of fields t) (aggregate_function fields);
+      cell_types = λ k d l. cells-of fields (functions_of fields t) (get_or xs k d).1.cells (typed k d l).1;
       distinct = places-apart xs (distinct-same same_group same_group-Decides (map place xs) (map place (all_found sets fs rows))
           (λ f. weigh-map f place xs ∙ same (λ r. f (place r)) ∙ sym (weigh-map f place (all_found sets fs rows)))
           (places-distinct rows 0 sets fs));

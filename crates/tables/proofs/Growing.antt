@@ -8,7 +8,7 @@ use Rattle.lines.specs.declared.fault.LineFault.{LineFault}
 use Rattle.lines.specs.Input.{good, refused}
 use Rattle.lines.specs.Lines.{lines}
 use Rattle.query_tree.specs.Syntax.{TreeForm}
-use Rattle.query_check.specs.Functions.{functions_of}
+use Rattle.tables.specs.Functions.{aggregate_functions}
 use Rattle.query_check.specs.Sets.{grouping_places}
 use Rattle.query_truth.specs.Kept.{kept}
 use Rattle.groups.specs.Bags.{SameBag}
@@ -44,11 +44,11 @@ few-kept fields q pieces lines e few =
 
 -- behind the pieces no line has been read
 pub begun : (fields : List Field) (q : TreeForm) (pieces : List IndexedPiece) (table : Contents) (folding : Folding)
-    → IsTableOf (grouping_places fields q) (functions_of fields q) table (kept fields q (records_of fields pieces))
+    → IsTableOf (grouping_places fields q) (aggregate_functions fields q) table (kept fields q (records_of fields pieces))
     → folding.table ≡ table → folding.lines ≡ 0 → folding.refused.items ≡ [] → HasRead fields q (records_of fields pieces) folding []
 begun fields q pieces table folding held same none nothing = record {
-  table = subst (λ (t : Contents). IsTableOf (grouping_places fields q) (functions_of fields q) t (kept fields q (records_of fields pieces ++ []))) (sym same)
-      (subst (λ (rows : List Row). IsTableOf (grouping_places fields q) (functions_of fields q) table (kept fields q rows)) (sym (append-nil (records_of fields pieces))) held);
+  table = subst (λ (t : Contents). IsTableOf (grouping_places fields q) (aggregate_functions fields q) t (kept fields q (records_of fields pieces ++ []))) (sym same)
+      (subst (λ (rows : List Row). IsTableOf (grouping_places fields q) (aggregate_functions fields q) table (kept fields q rows)) (sym (append-nil (records_of fields pieces))) held);
   lines = none;
   refused = nothing;
 }

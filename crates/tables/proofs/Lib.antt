@@ -12,6 +12,7 @@ pub mod SameBags
 pub mod Numbered
 pub mod Shapes
 pub mod Bags
+pub mod Bound
 pub mod Taken
 pub mod Following
 pub mod Types

@@ -8,8 +8,6 @@ use Rattle.std.specs.List.{enumerate_from, slice_index_or}
 use Rattle.values.specs.Schema.{Field}
 use Rattle.lines.specs.declared.pieces.Piece.{Piece}
 use Rattle.query_tree.specs.Syntax.{TreeForm}
-use Rattle.query_check.specs.declared.function.ColumnFunction.{ColumnFunction}
-use Rattle.query_check.specs.Functions.{functions_of}
 use Rattle.query_check.specs.Sets.{sets_of}
 use Rattle.query_truth.specs.Kept.{kept}
 use Rattle.groups.specs.Groups.{Key}
@@ -31,6 +29,7 @@ mean-from_stands fields q partial pieces p =
     λ i. record {
       sets = p.sets i;
       functions = p.functions i;
+      filters = p.filters i;
       table = λ key. p.table key i;
       lines = p.lines i;
       refused = p.refused i;
@@ -41,6 +40,7 @@ pub stands-from_mean : (fields : List Field) (q : TreeForm) (partial : PartialSt
 stands-from_mean fields q partial pieces e = record {
   sets = ap (λ (m : Mean). m.sets) e;
   functions = ap (λ (m : Mean). m.functions) e;
+  filters = ap (λ (m : Mean). m.filters) e;
   table = λ key. ap (λ (m : Mean). m.table key) e;
   lines = ap (λ (m : Mean). m.lines) e;
   refused = ap (λ (m : Mean). m.refused) e;

@@ -6,8 +6,8 @@ use Rattle.std.proofs.lemmas.List.{map-append}
 use Rattle.std.specs.List.{enumerate_from, flat_map}
 use Rattle.values.specs.Schema.{Field}
 use Rattle.query_tree.specs.Syntax.{TreeForm}
-use Rattle.query_check.specs.declared.function.ColumnFunction.{ColumnFunction}
-use Rattle.query_check.specs.Functions.{functions_of}
+use Rattle.groups.specs.Functions.{AggregateFunction}
+use Rattle.tables.specs.Functions.{aggregate_functions}
 use Rattle.query_check.specs.Sets.{sets_of}
 use Rattle.query_truth.specs.Kept.{kept}
 use Rattle.groups.specs.Rows.{Row}
@@ -40,10 +40,10 @@ abbrev of_set : ℕ → (Found → ℕ) → Found → ℕ
 of_set index f row = cond (row.0 == index) (f row) 0
 
 -- the rows of a set, by some of its keys
-abbrev rows_of : List ColumnFunction → List Row → ℕ → List ℕ → List Key → List Found
+abbrev rows_of : List AggregateFunction → List Row → ℕ → List ℕ → List Key → List Found
 rows_of fs rows n set ks = map (found fs) (map (λ key. record { index = n; key = key; members = members set key rows }) ks)
 
-one-set : (index : ℕ) (f : Found → ℕ) (fs : List ColumnFunction) (rows : List Row) (n : ℕ) (set : List ℕ) (ks : List Key)
+one-set : (index : ℕ) (f : Found → ℕ) (fs : List AggregateFunction) (rows : List Row) (n : ℕ) (set : List ℕ) (ks : List Key)
     → weigh (of_set index f) (rows_of fs rows n set ks) ≡ cond (n == index) (weigh (λ key. f (n, group_summary fs key (members set key rows))) ks) 0
 one-set index f fs rows n set [] = neither (n == index)
 one-set index f fs rows n set (k ∷ ks) =
@@ -51,10 +51,10 @@ one-set index f fs rows n set (k ∷ ks) =
     ∙ both (n == index) (f (n, group_summary fs k (members set k rows))) (weigh (λ key. f (n, group_summary fs key (members set key rows))) ks)
 
 -- the weight of the rows of all sets, of which the first has the index n
-abbrev weight_from : ℕ → (Found → ℕ) → List ColumnFunction → List Row → ℕ → List (List ℕ) → ℕ
+abbrev weight_from : ℕ → (Found → ℕ) → List AggregateFunction → List Row → ℕ → List (List ℕ) → ℕ
 weight_from index f fs rows n sets = weigh (of_set index f) (map (found fs) (flat_map (set_groups rows) (enumerate_from n sets)))
 
-first-set : (index : ℕ) (f : Found → ℕ) (fs : List ColumnFunction) (rows : List Row) (n : ℕ) (set : List ℕ) (sets : List (List ℕ))
+first-set : (index : ℕ) (f : Found → ℕ) (fs : List AggregateFunction) (rows : List Row) (n : ℕ) (set : List ℕ) (sets : List (List ℕ))
     → weight_from index f fs rows n (set ∷ sets)
     ≡ cond (n == index) (weigh (λ key. f (n, group_summary fs key (members set key rows))) (keys set rows)) 0 + weight_from index f fs rows (n + 1) sets
 first-set index f fs rows n set sets =
@@ -64,20 +64,20 @@ first-set index f fs rows n set sets =
     ∙ weigh-append (of_set index f) front rest
     ∙ ap (λ m. m + weigh (of_set index f) rest) (one-set index f fs rows n set (keys set rows))
 
-other-set : (index : ℕ) (f : Found → ℕ) (fs : List ColumnFunction) (rows : List Row) (n : ℕ) (set : List ℕ) (sets : List (List ℕ)) → (n == index) ≡ false
+other-set : (index : ℕ) (f : Found → ℕ) (fs : List AggregateFunction) (rows : List Row) (n : ℕ) (set : List ℕ) (sets : List (List ℕ)) → (n == index) ≡ false
     → weight_from index f fs rows n (set ∷ sets) ≡ 0 + weight_from index f fs rows (n + 1) sets
 other-set index f fs rows n set sets other =
     first-set index f fs rows n set sets
     ∙ ap (λ b. cond b (weigh (λ key. f (n, group_summary fs key (members set key rows))) (keys set rows)) 0 + weight_from index f fs rows (n + 1) sets) other
 
-this-set : (index : ℕ) (f : Found → ℕ) (fs : List ColumnFunction) (rows : List Row) (n : ℕ) (set : List ℕ) (sets : List (List ℕ)) → (n == index) ≡ true
+this-set : (index : ℕ) (f : Found → ℕ) (fs : List AggregateFunction) (rows : List Row) (n : ℕ) (set : List ℕ) (sets : List (List ℕ)) → (n == index) ≡ true
     → weight_from index f fs rows n (set ∷ sets) ≡ weigh (λ key. f (n, group_summary fs key (members set key rows))) (keys set rows) + weight_from index f fs rows (n + 1) sets
 this-set index f fs rows n set sets this =
     first-set index f fs rows n set sets
     ∙ ap (λ b. cond b (weigh (λ key. f (n, group_summary fs key (members set key rows))) (keys set rows)) 0 + weight_from index f fs rows (n + 1) sets) this
 
 -- behind its set there are no rows of it
-behind : (index : ℕ) (f : Found → ℕ) (fs : List ColumnFunction) (rows : List Row) (n : ℕ) (sets : List (List ℕ)) → index < n → weight_from index f fs rows n sets ≡ 0
+behind : (index : ℕ) (f : Found → ℕ) (fs : List AggregateFunction) (rows : List Row) (n : ℕ) (sets : List (List ℕ)) → index < n → weight_from index f fs rows n sets ≡ 0
 behind index f fs rows n [] h = refl
 behind index f fs rows n (set ∷ sets) h =
     let first = other-set index f fs rows n set sets (ne_eqb n index (λ e. omega (arith, e, h))) in
@@ -88,7 +88,7 @@ behind index f fs rows n (set ∷ sets) h =
 abbrev set_at : List (List ℕ) → ℕ → List ℕ
 set_at sets place = slice_index_or sets place []
 
-weight-at : (index : ℕ) (f : Found → ℕ) (fs : List ColumnFunction) (rows : List Row) (n : ℕ) (sets : List (List ℕ)) (place : ℕ) → place < length sets → index ≡ n + place
+weight-at : (index : ℕ) (f : Found → ℕ) (fs : List AggregateFunction) (rows : List Row) (n : ℕ) (sets : List (List ℕ)) (place : ℕ) → place < length sets → index ≡ n + place
     → weight_from index f fs rows n sets ≡ weigh (λ key. f (index, group_summary fs key (members (set_at sets place) key rows))) (keys (set_at sets place) rows)
 weight-at index f fs rows n [] place few e = absurd (omega (arith, few))
 weight-at index f fs rows n (set ∷ sets) zero few e =
@@ -106,13 +106,13 @@ weight-at index f fs rows n (set ∷ sets) (suc place) few e =
 -- Each record is a member of one group of a set, and the numbers of members of its groups add up to that of the records.
 pub record AreParted : Type 0 where
   pub members : (set : List ℕ) (rows : List Row) → SameBag (flat_map (λ key. members set key rows) (keys set rows)) rows
-  pub lines : (set : List ℕ) (fs : List ColumnFunction) (rows : List Row) → weigh (λ group. group.lines) (group_summaries set fs rows) ≡ length rows
+  pub lines : (set : List ℕ) (fs : List AggregateFunction) (rows : List Row) → weigh (λ group. group.lines) (group_summaries set fs rows) ≡ length rows
 
 pub each-record-once : AreParted → (fields : List Field) (q : TreeForm) (rows : List Row) (given : List Found) → SameBag given (query_found fields q rows)
     → HasEachRecordOnce fields q given rows
 each-record-once parted fields q rows given same =
     let all = kept fields q rows in
-    let fs = functions_of fields q in
+    let fs = aggregate_functions fields q in
     let sets = sets_of fields q in
     let of_rows : (f : Found → ℕ) (index : ℕ) → index < length sets
     → weigh f (rows_of_set index given) ≡ weigh (λ key. f (index, group_summary fs key (members (set_at sets index) key all))) (keys (set_at sets index) all)

@@ -12,7 +12,7 @@ use Rattle.lines.specs.declared.fault.LineFault.{LineFault}
 use Rattle.lines.specs.Lines.{line_feed, lines, without_empty_last}
 use Rattle.lines.specs.Taken.{taken}
 use Rattle.query_tree.specs.Syntax.{TreeForm}
-use Rattle.query_check.specs.Functions.{functions_of}
+use Rattle.tables.specs.Functions.{aggregate_functions}
 use Rattle.query_check.specs.Sets.{grouping_places}
 use Rattle.query_truth.specs.Kept.{is_kept, kept}
 use Rattle.groups.specs.Rows.{Row}
@@ -140,11 +140,11 @@ pub record HasReadSome (fields : List Field) (q : TreeForm) (before : List Row) 
 -- ---- a line that has been read
 
 pub read-ok : (fields : List Field) (q : TreeForm) (before : List Row) (old new : Folding) (seen : List (List ℕ)) (line : List ℕ) (row : List Datum) → taken fields line ≡ Ok row → HasRead fields q before old seen
-    → ((rows : List (List Datum)) → IsTableOf (grouping_places fields q) (functions_of fields q) old.table (kept fields q rows) → IsTableOf (grouping_places fields q) (functions_of fields q) new.table (kept fields q (rows ++ row ∷ [])))
+    → ((rows : List (List Datum)) → IsTableOf (grouping_places fields q) (aggregate_functions fields q) old.table (kept fields q rows) → IsTableOf (grouping_places fields q) (aggregate_functions fields q) new.table (kept fields q (rows ++ row ∷ [])))
     → new.lines ≡ old.lines → new.refused.items ≡ old.refused.items
-    → HasRead fields q before (record { table = new.table; lines = new.lines + 1; refused = new.refused }) (seen ++ line ∷ [])
+    → HasRead fields q before (record { table = new.table; lines = new.lines + 1; refused = new.refused; marks = new.marks }) (seen ++ line ∷ [])
 read-ok fields q before old new seen line row e h added same stay = record {
-  table = subst (λ (rows : List (List Datum)). IsTableOf (grouping_places fields q) (functions_of fields q) new.table (kept fields q rows))
+  table = subst (λ (rows : List (List Datum)). IsTableOf (grouping_places fields q) (aggregate_functions fields q) new.table (kept fields q rows))
       (append_assoc before (good_of fields seen) (row ∷ []) ∙ ap (λ rows. before ++ rows) (sym (good-ok fields seen line row e)))
       (added (before ++ good_of fields seen) h.table);
   lines = (let a = h.lines in let b = length-append seen (line ∷ []) in omega (arith, same, a, b));
@@ -153,10 +153,10 @@ read-ok fields q before old new seen line row e h added same stay = record {
 
 pub read-err : (fields : List Field) (q : TreeForm) (before : List Row) (old new : Folding) (seen : List (List ℕ)) (line : List ℕ) (fault : LineFault) → taken fields line ≡ Err fault → HasRead fields q before old seen
     → new.table ≡ old.table → new.lines ≡ old.lines → new.refused.items ≡ old.refused.items ++ (old.lines + 1, fault) ∷ []
-    → HasRead fields q before (record { table = new.table; lines = new.lines + 1; refused = new.refused }) (seen ++ line ∷ [])
+    → HasRead fields q before (record { table = new.table; lines = new.lines + 1; refused = new.refused; marks = new.marks }) (seen ++ line ∷ [])
 read-err fields q before old new seen line fault e h stay same more = record {
-  table = subst (λ (t : Contents). IsTableOf (grouping_places fields q) (functions_of fields q) t (kept fields q (before ++ good_of fields (seen ++ line ∷ [])))) (sym stay)
-      (subst (λ (rows : List (List Datum)). IsTableOf (grouping_places fields q) (functions_of fields q) old.table (kept fields q (before ++ rows))) (sym (good-err fields seen line fault e)) h.table);
+  table = subst (λ (t : Contents). IsTableOf (grouping_places fields q) (aggregate_functions fields q) t (kept fields q (before ++ good_of fields (seen ++ line ∷ [])))) (sym stay)
+      (subst (λ (rows : List (List Datum)). IsTableOf (grouping_places fields q) (aggregate_functions fields q) old.table (kept fields q (before ++ rows))) (sym (good-err fields seen line fault e)) h.table);
   lines = (let a = h.lines in let b = length-append seen (line ∷ []) in omega (arith, same, a, b));
   refused = more ∙ ap (λ rs. rs ++ (old.lines + 1, fault) ∷ []) h.refused ∙ ap (λ n. refused_of fields seen ++ (n + 1, fault) ∷ []) h.lines ∙ sym (refused-err fields seen line fault e);
 }

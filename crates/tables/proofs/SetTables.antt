@@ -9,7 +9,7 @@ use Rattle.std.specs.List.{AllByRecursion, list_any, remove}
 use Rattle.std.specs.List.Sorted.{IsPermutation}
 use Rattle.values.specs.Schema.{Field}
 use Rattle.query_tree.specs.Syntax.{TreeForm}
-use Rattle.query_check.specs.declared.function.ColumnFunction.{ColumnFunction}
+use Rattle.groups.specs.Functions.{AggregateFunction}
 use Rattle.query_check.specs.Columns.{places_of}
 use Rattle.query_check.specs.Resolution.{contents}
 use Rattle.query_check.specs.Sets.{grouping_places, sets_of}
@@ -152,7 +152,7 @@ others-left P (x ∷ xs) zero h = h.1
 others-left P (x ∷ xs) (suc i) h = (h.0, others-left P xs i h.1)
 
 -- tables of the records, but for one, are such tables
-pub tables-left : (fs : List ColumnFunction) (tables : List SetTable) (i : ℕ) (rows : List Row) → AreTablesOf fs tables rows → AreTablesOf fs (remove tables i) rows
+pub tables-left : (fs : List AggregateFunction) (tables : List SetTable) (i : ℕ) (rows : List Row) → AreTablesOf fs tables rows → AreTablesOf fs (remove tables i) rows
 tables-left fs tables i rows h =
     let P : SetTable → Type 0 = λ table. IsTableOf table.set.items fs table.table rows in
     All-from_recursion P (remove tables i) (others-left P tables i (recursion_from_All P tables h))
@@ -165,7 +165,7 @@ finer-there set grouping tables among made h = made (λ k d l e. h k d l (subst 
 
 -- ---- the groups of the sets so far
 
-pub groups-more : (sets : List (List ℕ)) (fs : List ColumnFunction) (groups : List (Vec Group Global)) (rows : List Row) (set : List ℕ) (more : Vec Group Global)
+pub groups-more : (sets : List (List ℕ)) (fs : List AggregateFunction) (groups : List (Vec Group Global)) (rows : List Row) (set : List ℕ) (more : Vec Group Global)
     → AreGroupsOf sets fs groups rows → AreGroupsOfSet set fs more.items rows → AreGroupsOf (sets ++ set ∷ []) fs (groups ++ more ∷ []) rows
 groups-more [] fs [] rows set more h g = (g, tt)
 groups-more [] fs (x ∷ groups) rows set more h g = absurd h
@@ -184,12 +184,12 @@ placed-at set tables found place e within there none made =
     subst (λ (ts : List SetTable). (place < length ts) × ((d : SetTable) → (slice_index_or ts place d).set.items ≡ set)) e (lt, there lt)
 
 -- a table of the records, by its own set
-pub table-at : (fs : List ColumnFunction) (tables : List SetTable) (place : ℕ) (item : SetTable) (rows : List Row) → place < length tables → item ≡ get_or tables place item
+pub table-at : (fs : List AggregateFunction) (tables : List SetTable) (place : ℕ) (item : SetTable) (rows : List Row) → place < length tables → item ≡ get_or tables place item
     → AreTablesOf fs tables rows → IsTableOf item.set.items fs item.table rows
 table-at fs tables place item rows lt is h = subst (λ (t : SetTable). IsTableOf t.set.items fs t.table rows) (sym is) (h place item lt)
 
 -- the same by the set for which it stands there
-pub table-of : (fs : List ColumnFunction) (tables : List SetTable) (place : ℕ) (item : SetTable) (set : List ℕ) (rows : List Row) → place < length tables → item ≡ get_or tables place item
+pub table-of : (fs : List AggregateFunction) (tables : List SetTable) (place : ℕ) (item : SetTable) (set : List ℕ) (rows : List Row) → place < length tables → item ≡ get_or tables place item
     → ((d : SetTable) → (slice_index_or tables place d).set.items ≡ set) → AreTablesOf fs tables rows → IsTableOf set fs item.table rows
 table-of fs tables place item set rows lt is at h =
     subst (λ (s : List ℕ). IsTableOf s fs item.table rows) (ap (λ (t : SetTable). t.set.items) is ∙ at item) (table-at fs tables place item rows lt is h)

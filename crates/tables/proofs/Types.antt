@@ -12,19 +12,20 @@ use Rattle.values.specs.Fit.{Fits}
 use Rattle.values.specs.Schema.{Field, names_of}
 use Rattle.query_tree.specs.declared.expression.Aggregate.{Aggregate}
 use Rattle.query_tree.specs.declared.expression.Aggregate.TheVariants as aggregate
-use Rattle.query_tree.specs.Syntax.{TreeForm}
+use Rattle.query_tree.specs.Syntax.{FunctionForm, PredicateForm, TreeForm}
 use Rattle.query_check.specs.declared.function.ColumnFunction.{ColumnFunction}
 use Rattle.query_check.specs.declared.function.ColumnFunction.TheVariants as function
 use Rattle.query_check.specs.Columns.{kind_at, place_of, places_of}
-use Rattle.query_check.specs.Functions.{aggregates, column_function, functions_of, same_function}
+use Rattle.query_check.specs.Functions.{PlannedFunction, aggregate_of, column_function, filter_of, functions_of, planned_function, same_planned, set_functions}
 use Rattle.query_check.specs.Sets.{grouping_names, grouping_places, ordered_set, sets_of}
 use Rattle.query_check.proofs.DistinctSets.{names_kept, set_of_names, sets_by_names}
 use Rattle.groups.specs.Rows.{Row, column_values, is_present, column_numbers, value_at}
-use Rattle.groups.specs.Functions.{plain, agg, average_of, sum_of}
+use Rattle.groups.specs.Functions.{AggregateFunction, Summary, plain, agg, average_of, filtered, sum_of, value_over}
 use Rattle.groups.specs.Bags.{SameBag}
 use Rattle.groups.specs.Groups.{Key, keys, members, project, same_key}
 use Rattle.tables.specs.Fitting.{IsHeld, HasType}
 use Rattle.tables.specs.Found.{Found}
+use Rattle.tables.specs.Functions.{aggregate_function, aggregate_functions}
 use Rattle.tables.specs.Results.{all_found, found}
 use Rattle.tables.proofs.Bags.{all-append, all-decided, all-distinct, all-everywhere, all-filter, all-filter_map, all-map, find-such}
 use Rattle.tables.proofs.Finding.{set_groups}
@@ -85,11 +86,29 @@ of_column fields (aggregate.Min x) f e = placed (TakesColumn fields) function.Mi
 of_column fields (aggregate.Max x) f e = placed (TakesColumn fields) function.Max (place_of fields x) f e (place-within fields x)
 of_column fields (aggregate.Avg x) f e = placed (TakesColumn fields) function.Avg (place_of fields x) f e (λ place is. tt)
 
-functions-columns : (fields : List Field) (t : TreeForm) → AllByRecursion (TakesColumn fields) (functions_of fields t)
+same_planned_of : (f g : PlannedFunction) → Some f ≡ Some g → f ≡ g
+same_planned_of f g e = cc
+
+planned : (fields : List Field) (o : Option ColumnFunction) (t : Option PredicateForm) (f : PlannedFunction) → option_map (λ g. record { function = g; filter = t }) o ≡ Some f
+    → ((g : ColumnFunction) → o ≡ Some g → TakesColumn fields g) → TakesColumn fields f.function
+planned fields None t f e h = cc
+planned fields (Some g) t f e h = subst (λ (p : PlannedFunction). TakesColumn fields p.function) (same_planned_of (record { function = g; filter = t }) f e) (h g refl)
+
+of_function : (fields : List Field) (g : FunctionForm) (f : PlannedFunction) → planned_function fields g ≡ Some f → TakesColumn fields f.function
+of_function fields g f e = planned fields (column_function fields (aggregate_of g)) (filter_of g) f e (of_column fields (aggregate_of g))
+
+abbrev Takes : List Field → PlannedFunction → Type 0
+Takes fields f = TakesColumn fields f.function
+
+abbrev TakesOf : List Field → AggregateFunction → Type 0
+TakesOf fields f = TakesColumn fields f.function
+
+functions-columns : (fields : List Field) (t : TreeForm) → AllByRecursion (TakesOf fields) (aggregate_functions fields t)
 functions-columns fields t =
-    all-distinct (TakesColumn fields) same_function (filter_map (column_function fields) (aggregates t))
-    (all-filter_map (TakesColumn fields) (column_function fields) (aggregates t)
-    (all-everywhere _ (aggregates t) (of_column fields)))
+    all-map (TakesOf fields) (aggregate_function fields) (functions_of fields t)
+    (all-distinct (Takes fields) same_planned (filter_map (planned_function fields) (set_functions t))
+    (all-filter_map (Takes fields) (planned_function fields) (set_functions t)
+    (all-everywhere _ (set_functions t) (of_function fields))))
 
 -- ---- values of records that fit
 
@@ -129,7 +148,7 @@ average-typed : (fields : List Field) (place : ℕ) (ns : List ℤ) → HasType 
 average-typed fields place [] = tt
 average-typed fields place (n ∷ ns) = omega arith
 
-cell-typed : (fields : List Field) (rows : List Row) (f : ColumnFunction) → AllFit fields rows → TakesColumn fields f → HasType fields f (agg f rows)
+cell-typed : (fields : List Field) (rows : List Row) (f : ColumnFunction) → AllFit fields rows → TakesColumn fields f → HasType fields f (value_over f rows)
 cell-typed fields rows function.CountRows h l = tt
 cell-typed fields rows (function.Count place) h l = tt
 cell-typed fields rows (function.CountDistinct place) h l = tt
@@ -140,10 +159,18 @@ cell-typed fields rows (function.Max place) h l =
     find-such (Held fields place) _ (column_values place rows) null (null-held fields place l) (column-held fields place rows h l)
 cell-typed fields rows (function.Avg place) h l = average-typed fields place (column_numbers place rows)
 
-cells-typed : (fields : List Field) (rows : List Row) (fs : List ColumnFunction) → AllFit fields rows → AllByRecursion (TakesColumn fields) fs
-    → AllZip (HasType fields) fs (map (λ f. agg f rows) fs)
+filtered-fit : (fields : List Field) (t : Option (Row → Bool)) (rows : List Row) → AllFit fields rows → AllFit fields (filtered t rows)
+filtered-fit fields None rows h = h
+filtered-fit fields (Some keeps) rows h = all-filter (Fits fields) keeps rows h
+
+-- a cell has the type of its set function, whatever its filter
+abbrev pub HasTypeOf : List Field → AggregateFunction → Summary → Type 0
+HasTypeOf fields f cell = HasType fields f.function cell
+
+cells-typed : (fields : List Field) (rows : List Row) (fs : List AggregateFunction) → AllFit fields rows → AllByRecursion (TakesOf fields) fs
+    → AllZip (HasTypeOf fields) fs (map (λ f. agg f rows) fs)
 cells-typed fields rows [] h l = tt
-cells-typed fields rows (f ∷ fs) h l = (cell-typed fields rows f h l.0, cells-typed fields rows fs h l.1)
+cells-typed fields rows (f ∷ fs) h l = (cell-typed fields (filtered f.filter rows) f.function (filtered-fit fields f.filter rows h) l.0, cells-typed fields rows fs h l.1)
 
 -- ---- keys
 
@@ -168,22 +195,25 @@ keys-typed fields (place ∷ set) rows h l =
 -- ---- rows
 
 -- the key and the cells of a row have the types of its grouping set and of the set functions
-abbrev pub IsTyped : List Field → List (List ℕ) → List ColumnFunction → Found → Type 0
-IsTyped fields sets fs row = IsKeyOf fields (slice_index_or sets row.0 []) row.1.key × AllZip (HasType fields) fs row.1.cells
+abbrev pub IsTyped : List Field → List (List ℕ) → List AggregateFunction → Found → Type 0
+IsTyped fields sets fs row = IsKeyOf fields (slice_index_or sets row.0 []) row.1.key × AllZip (HasTypeOf fields) fs row.1.cells
 
-abbrev is_typed : List Field → List (List ℕ) → List ColumnFunction → Found → Bool
+abbrev has_type_of : List Field → AggregateFunction → Summary → Bool
+has_type_of fields f cell = has_type fields f.function cell
+
+abbrev is_typed : List Field → List (List ℕ) → List AggregateFunction → Found → Bool
 is_typed fields sets fs row =
-    zip_all (λ place d. is_held (kind_at fields place) d) (slice_index_or sets row.0 []) row.1.key && zip_all (has_type fields) fs row.1.cells
+    zip_all (λ place d. is_held (kind_at fields place) d) (slice_index_or sets row.0 []) row.1.key && zip_all (has_type_of fields) fs row.1.cells
 
-typed-Decides : (fields : List Field) (sets : List (List ℕ)) (fs : List ColumnFunction) (row : Found)
+typed-Decides : (fields : List Field) (sets : List (List ℕ)) (fs : List AggregateFunction) (row : Found)
     → Decides (is_typed fields sets fs row) (IsTyped fields sets fs row)
 typed-Decides fields sets fs row =
     both-Decides _ _
     (zip-Decides _ _ (λ place d. held-Decides (kind_at fields place) d) (slice_index_or sets row.0 []) row.1.key)
-    (zip-Decides (has_type fields) (HasType fields) (type-Decides fields) fs row.1.cells)
+    (zip-Decides (has_type_of fields) (HasTypeOf fields) (λ f cell. type-Decides fields f.function cell) fs row.1.cells)
 
-module _ (fields : List Field) (whole : List (List ℕ)) (fs : List ColumnFunction) (rows : List Row) (fit : AllFit fields rows)
-    (columns : AllByRecursion (TakesColumn fields) fs) where
+module _ (fields : List Field) (whole : List (List ℕ)) (fs : List AggregateFunction) (rows : List Row) (fit : AllFit fields rows)
+    (columns : AllByRecursion (TakesOf fields) fs) where
   set-typed : (n : ℕ) (s : List ℕ) (ks : List Key) → slice_index_or whole n [] ≡ s → AllByRecursion (IsKeyOf fields s) ks
       → AllByRecursion (IsTyped fields whole fs) (map (found fs) (map (λ key. record { index = n; key = key; members = members s key rows }) ks))
   set-typed n s [] e h = tt
@@ -207,11 +237,11 @@ module _ (fields : List Field) (whole : List (List ℕ)) (fs : List ColumnFuncti
 
 -- rows that are the same bag as those of the groups of records that fit are typed
 pub found-typed : (fields : List Field) (t : TreeForm) (rows : List Row) (xs : List Found)
-    → SameBag xs (all_found (sets_of fields t) (functions_of fields t) rows) → AllFit fields rows
-    → AllByRecursion (IsTyped fields (sets_of fields t) (functions_of fields t)) xs
+    → SameBag xs (all_found (sets_of fields t) (aggregate_functions fields t) rows) → AllFit fields rows
+    → AllByRecursion (IsTyped fields (sets_of fields t) (aggregate_functions fields t)) xs
 found-typed fields t rows xs same fit =
     let sets = sets_of fields t in
-    let fs = functions_of fields t in
+    let fs = aggregate_functions fields t in
     all-decided (is_typed fields sets fs) (IsTyped fields sets fs) (typed-Decides fields sets fs) xs (all_found sets fs rows) same
     (rows-typed fields sets fs rows fit (functions-columns fields t) 0 sets
     (λ i h. ap (λ m. slice_index_or sets m []) (let e : 0 + i ≡ i = omega arith in e)) (sets-places fields t))

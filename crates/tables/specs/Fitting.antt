@@ -68,7 +68,7 @@ pub record AreFitting (fields : List Field) (t : TreeForm) (found : List Found) 
   pub keys : All (λ row. length row.1.key ≡ length (set_of fields t row)) found
   pub key_types : All (λ row. AllZip (λ place d. IsHeld (kind_at fields place) d) (set_of fields t row) row.1.key) found
   pub cells : All (λ row. length row.1.cells ≡ length (functions_of fields t)) found
-  pub cell_types : All (λ row. AllZip (HasType fields) (functions_of fields t) row.1.cells) found
+  pub cell_types : All (λ row. AllZip (λ f cell. HasType fields f.function cell) (functions_of fields t) row.1.cells) found
   pub distinct : AllPairs (λ x y. x.0 ≡ y.0 → x.1.key ≢ y.1.key) found
 
 -- groups that fit the query of some plan

@@ -7,12 +7,13 @@ use Rattle.lines.specs.declared.fault.LineFault.{LineFault}
 use Rattle.lines.specs.Taken.{taken}
 use Rattle.query_tree.specs.Syntax.{TreeForm}
 use Rattle.query_check.specs.Sets.{grouping_places}
-use Rattle.query_check.specs.Functions.{functions_of}
+use Rattle.query_check.specs.Functions.{indexed_functions}
 use Rattle.query_truth.specs.Kept.{kept}
 use Rattle.groups.specs.Rows.{Row}
 use Rattle.groups.specs.Inside.Table.{Contents, IsOfFew, IsTableOf, TakesOne}
 use Rattle.query_plan.specs.declared.plan.Plan.{Plan}
 use Rattle.query_plan.specs.Planned.{fields_of_plan, form_of_plan}
+use Rattle.tables.specs.Functions.{aggregate_functions}
 use Rattle.tables.specs.declared.folding.Folding.{Folding}
 
 -- the good records of these lines
@@ -25,7 +26,7 @@ refused_of fields ls = filter_map (λ p. option_map (λ fault. (p.0, fault)) (re
 
 -- behind the records of earlier pieces these lines have been read
 pub record HasRead (fields : List Field) (q : TreeForm) (before : List Row) (folding : Folding) (ls : List (List ℕ)) : Type 0 where
-  pub table : IsTableOf (grouping_places fields q) (functions_of fields q) folding.table (kept fields q (before ++ good_of fields ls))
+  pub table : IsTableOf (grouping_places fields q) (aggregate_functions fields q) folding.table (kept fields q (before ++ good_of fields ls))
   pub lines : folding.lines ≡ length ls
   pub refused : folding.refused.items ≡ refused_of fields ls
 
@@ -41,7 +42,7 @@ pub record ReadsMore (fields : List Field) (q : TreeForm) (folding : Folding) (m
 -- the table is that of the records that WHERE keeps of these, under all grouping columns
 abbrev pub IsTableUnder : Plan → Contents → List Row → Type 0
 IsTableUnder plan table rows =
-    IsTableOf (grouping_places (fields_of_plan plan) (form_of_plan plan)) (functions_of (fields_of_plan plan) (form_of_plan plan)) table
+    IsTableOf (grouping_places (fields_of_plan plan) (form_of_plan plan)) (aggregate_functions (fields_of_plan plan) (form_of_plan plan)) table
     (kept (fields_of_plan plan) (form_of_plan plan) rows)
 
 abbrev pub HasReadUnder : Plan → List Row → Folding → List (List ℕ) → Type 0
@@ -54,8 +55,8 @@ ReadsMoreUnder plan folding more = ∥ ReadsMore (fields_of_plan plan) (form_of_
 -- the table is that of some records, fewer than 2^63 with one more
 abbrev pub TakesRecordUnder : Plan → Folding → Type 0
 TakesRecordUnder plan folding =
-    ∥ TakesOne (grouping_places (fields_of_plan plan) (form_of_plan plan)) (functions_of (fields_of_plan plan) (form_of_plan plan)) folding.table ∥₁
+    ∥ TakesOne (grouping_places (fields_of_plan plan) (form_of_plan plan)) (indexed_functions (fields_of_plan plan) (form_of_plan plan)) folding.table ∥₁
 
 -- the table is that of some list of fewer than 2^63 records
 abbrev pub IsOfFewUnder : Plan → Contents → Type 0
-IsOfFewUnder plan table = ∥ IsOfFew (grouping_places (fields_of_plan plan) (form_of_plan plan)) (functions_of (fields_of_plan plan) (form_of_plan plan)) table ∥₁
+IsOfFewUnder plan table = ∥ IsOfFew (grouping_places (fields_of_plan plan) (form_of_plan plan)) (indexed_functions (fields_of_plan plan) (form_of_plan plan)) table ∥₁

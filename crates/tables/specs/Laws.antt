@@ -13,8 +13,7 @@ use Rattle.lines.specs.Input.{answers, good, refused}
 use Rattle.lines.specs.Lines.{lines}
 use Rattle.lines.specs.Taken.{taken}
 use Rattle.query_tree.specs.Syntax.{TreeForm}
-use Rattle.query_check.specs.declared.function.ColumnFunction.{ColumnFunction}
-use Rattle.query_check.specs.Functions.{functions_of}
+use Rattle.query_check.specs.Functions.{indexed_functions}
 use Rattle.query_check.specs.Sets.{grouping_places, sets_of}
 use Rattle.query_truth.specs.Kept.{is_kept, kept}
 use Rattle.groups.specs.Bags.{weigh}
@@ -24,6 +23,7 @@ use Rattle.groups.proofs.Bags.{weigh-append}
 use Rattle.groups.proofs.Meaning.{has_key, group_at-append}
 use Rattle.groups.proofs.AnyOrder.{options-flip}
 use Rattle.pool.specs.Lawful.{Lawful}
+use Rattle.tables.specs.Functions.{aggregate_functions, filter_texts}
 use Rattle.tables.specs.Means.{IsMean, both, group_of, mean, mean_at, piece_at}
 use Rattle.tables.specs.Notes.{note_of}
 use Rattle.tables.specs.Pieces.{IndexedPiece, all_lines, records_of, refused_within}
@@ -54,7 +54,7 @@ few-faults n (Err fault ∷ rs) = let h = few-faults (n + 1) rs in omega (arith,
 
 pub mean-append : (fields : List Field) (q : TreeForm) (xs ys : List IndexedPiece) → mean fields q (xs ++ ys) ≡ both (mean fields q xs) (mean fields q ys)
 mean-append fields q xs ys =
-    let fs = functions_of fields q in
+    let fs = aggregate_functions fields q in
     let grouping = grouping_places fields q in
     let rows : kept fields q (records_of fields (xs ++ ys)) ≡ kept fields q (records_of fields xs) ++ kept fields q (records_of fields ys) =
     ap (kept fields q) (records-append fields xs ys) ∙ kept-append fields q (records_of fields xs) (records_of fields ys) in
@@ -65,7 +65,8 @@ mean-append fields q xs ys =
     let refused = refused-append fields xs ys in
     λ i. record {
       sets = sets_of fields q;
-      functions = fs;
+      functions = indexed_functions fields q;
+      filters = filter_texts fields q;
       table = table i;
       lines = lines i;
       refused = refused i;
@@ -80,12 +81,13 @@ plus-flip m n = omega arith
 mean-flip : (fields : List Field) (q : TreeForm) (xs ys : List IndexedPiece) → both (mean fields q xs) (mean fields q ys) ≡ both (mean fields q ys) (mean fields q xs)
 mean-flip fields q xs ys =
     let grouping = grouping_places fields q in
-    let fs = functions_of fields q in
+    let fs = aggregate_functions fields q in
     let first = kept fields q (records_of fields xs) in
     let second = kept fields q (records_of fields ys) in
     λ i. record {
       sets = sets_of fields q;
-      functions = fs;
+      functions = indexed_functions fields q;
+      filters = filter_texts fields q;
       table = λ key. options-flip fs (has_key grouping key first) (has_key grouping key second) (members grouping key first) (members grouping key second) i;
       lines = plus-flip (length (all_lines xs)) (length (all_lines ys)) i;
       refused = plus-flip (length (refused_within fields xs)) (length (refused_within fields ys)) i;

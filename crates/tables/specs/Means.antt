@@ -6,24 +6,27 @@ use Rattle.values.specs.Schema.{Field}
 use Rattle.lines.specs.declared.pieces.Piece.{Piece}
 use Rattle.lines.specs.Pieces.{bytes_of}
 use Rattle.query_tree.specs.Syntax.{TreeForm}
-use Rattle.query_check.specs.declared.function.ColumnFunction.{ColumnFunction}
-use Rattle.query_check.specs.Functions.{functions_of}
+use Rattle.query_check.specs.declared.function.FilteredFunction.{FilteredFunction}
+use Rattle.query_check.specs.Functions.{indexed_functions}
 use Rattle.query_check.specs.Sets.{grouping_places, sets_of}
 use Rattle.query_truth.specs.Kept.{kept}
 use Rattle.groups.specs.Bags.{weigh}
+use Rattle.groups.specs.Functions.{AggregateFunction}
 use Rattle.groups.specs.Groups.{Key, keys, members, same_key}
 use Rattle.groups.specs.Inside.Group.{GroupState, group_state}
 use Rattle.groups.specs.Rows.{Row}
 use Rattle.groups.specs.Inside.Table.{join_options}
+use Rattle.tables.specs.Functions.{aggregate_functions, filter_texts}
 use Rattle.tables.specs.Notes.{Noted, note_of}
 use Rattle.tables.specs.Pieces.{IndexedPiece, all_lines, records_of, refused_within}
 use Rattle.tables.specs.States.{PartialState}
 
--- the grouping sets and the set functions; under all grouping columns what is kept of each key's group; how many lines and refused lines there are; and of
+-- the grouping sets, the set functions and the canonical texts of their filters; under all grouping columns what is kept of each key's group; how many lines and refused lines there are; and of
 -- the notes of the pieces what they weigh together, whatever each weighs
 pub record Mean : Type 0 where
   pub sets : List (List ℕ)
-  pub functions : List ColumnFunction
+  pub functions : List FilteredFunction
+  pub filters : List (List ℕ)
   pub table : Key → Option GroupState
   pub lines : ℕ
   pub refused : ℕ
@@ -32,15 +35,16 @@ pub record Mean : Type 0 where
 -- ---- of pieces
 
 -- what is kept of the group of a key under a grouping set: of a key that is one of the records', what is kept of its members
-abbrev pub group_of : List ℕ → List ColumnFunction → List Row → Key → Option GroupState
+abbrev pub group_of : List ℕ → List AggregateFunction → List Row → Key → Option GroupState
 group_of set functions rows key = if list_any (same_key key) (keys set rows) then Some (group_state functions (members set key rows)) else None
 
 -- what pieces come to under a schema and a query
 abbrev pub mean : List Field → TreeForm → List IndexedPiece → Mean
 mean fields q pieces = record {
   sets = sets_of fields q;
-  functions = functions_of fields q;
-  table = group_of (grouping_places fields q) (functions_of fields q) (kept fields q (records_of fields pieces));
+  functions = indexed_functions fields q;
+  filters = filter_texts fields q;
+  table = group_of (grouping_places fields q) (aggregate_functions fields q) (kept fields q (records_of fields pieces));
   lines = length (all_lines pieces);
   refused = length (refused_within fields pieces);
   notes = λ weight. weigh weight (map (note_of fields) pieces);
@@ -57,6 +61,7 @@ abbrev pub both : Mean → Mean → Mean
 both a b = record {
   sets = a.sets;
   functions = a.functions;
+  filters = a.filters;
   table = λ key. join_options (a.table key) (b.table key);
   lines = a.lines + b.lines;
   refused = a.refused + b.refused;
@@ -92,6 +97,7 @@ abbrev pub meaning : PartialState → Mean
 meaning partial = record {
   sets = partial.sets;
   functions = partial.functions;
+  filters = partial.filters;
   table = λ key. fin.get partial.table key;
   lines = partial.lines;
   refused = partial.refused;

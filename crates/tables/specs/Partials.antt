@@ -4,22 +4,24 @@ use Rattle.values.specs.Schema.{Field}
 use Rattle.lines.specs.Input.{good, refused}
 use Rattle.query_tree.specs.Syntax.{TreeForm}
 use Rattle.query_check.specs.Sets.{grouping_places, sets_of}
-use Rattle.query_check.specs.Functions.{functions_of}
+use Rattle.query_check.specs.Functions.{indexed_functions}
 use Rattle.query_truth.specs.Kept.{kept}
 use Rattle.groups.specs.Rows.{Row}
 use Rattle.groups.specs.Bags.{SameBag}
 use Rattle.groups.specs.Inside.Table.{IsTableOf}
+use Rattle.tables.specs.Functions.{aggregate_functions, filter_texts}
 use Rattle.tables.specs.Results.{query_found}
 use Rattle.tables.specs.Notes.{note_of}
 use Rattle.tables.specs.Pieces.{IndexedPiece, IsCutInto, all_lines, records_of, refused_within}
 use Rattle.tables.specs.States.{GroupsState, PartialState}
 
--- Under a schema and a query a partial result stands for pieces, in whatever order: it has the query's grouping sets and set functions, the table of all
+-- Under a schema and a query a partial result stands for pieces, in whatever order: it has the query's grouping sets, set functions and filters, the table of all
 -- grouping columns over the good records of all lines of the pieces that are kept, the numbers of all lines and of all refused lines, and of each piece its note.
 pub record StandsFor (fields : List Field) (q : TreeForm) (partial : PartialState) (pieces : List IndexedPiece) : Type 0 where
   pub sets : partial.sets ≡ sets_of fields q
-  pub functions : partial.functions ≡ functions_of fields q
-  pub table : IsTableOf (grouping_places fields q) (functions_of fields q) partial.table (kept fields q (records_of fields pieces))
+  pub functions : partial.functions ≡ indexed_functions fields q
+  pub filters : partial.filters ≡ filter_texts fields q
+  pub table : IsTableOf (grouping_places fields q) (aggregate_functions fields q) partial.table (kept fields q (records_of fields pieces))
   pub lines : partial.lines ≡ length (all_lines pieces)
   pub refused : partial.refused ≡ length (refused_within fields pieces)
   pub notes : SameBag (map (note_of fields) pieces) partial.notes
@@ -38,10 +40,11 @@ pub record StandsForInput (fields : List Field) (q : TreeForm) (partial : Partia
 abbrev pub whole_piece : List ℕ → List IndexedPiece
 whole_piece input = record { index = 0; bytes = input } ∷ []
 
--- partial results have one shape where their grouping sets and set functions are the same
+-- partial results have one shape where their grouping sets, set functions and filters are the same
 pub record HaveOneShape (partial other : PartialState) : Type 0 where
   pub sets : partial.sets ≡ other.sets
   pub functions : partial.functions ≡ other.functions
+  pub filters : partial.filters ≡ other.filters
 
 -- the rows are those of the groups that the query finds in a list of records
 abbrev pub GivesGroups : List Field → TreeForm → GroupsState → List Row → Type 0

@@ -1,6 +1,5 @@
 -- What partial results and groups are under a plan: under its columns and its query.
 use Rattle.std.specs.Prelude.{List, map, ℕ}
-use Rattle.query_check.specs.Functions.{functions_of}
 use Rattle.query_check.specs.Sets.{grouping_places}
 use Rattle.query_truth.specs.Kept.{kept}
 use Rattle.groups.specs.declared.group.Group.{Group}
@@ -13,6 +12,7 @@ use Rattle.query_plan.specs.declared.plan.Plan.{Plan}
 use Rattle.query_plan.specs.Planned.{fields_of_plan, form_of_plan}
 use Rattle.tables.specs.Fitting.{AreFitting}
 use Rattle.tables.specs.Found.{Found}
+use Rattle.tables.specs.Functions.{aggregate_functions}
 use Rattle.tables.specs.Members.{HasEachRecordOnce}
 use Rattle.tables.specs.Partials.{GivesGroups, IsPartialOf, IsResultOf, StandsFor}
 use Rattle.tables.specs.Pieces.{IndexedPiece}
@@ -44,7 +44,7 @@ AreGroupingColumns plan set = AreAmong set (grouping_places (fields_of_plan plan
 abbrev pub GivesGroupsOfSet : Plan → List ℕ → List Group → List Row → Type 0
 GivesGroupsOfSet plan set groups rows =
     SameBag (map group_summary_in groups)
-    (group_summaries set (functions_of (fields_of_plan plan) (form_of_plan plan)) (kept (fields_of_plan plan) (form_of_plan plan) rows))
+    (group_summaries set (aggregate_functions (fields_of_plan plan) (form_of_plan plan)) (kept (fields_of_plan plan) (form_of_plan plan) rows))
 
 -- the members of a key under a set of columns are those of all keys of the grouping columns that have its values, joined
 abbrev pub HasMembersOfFiner : Plan → List ℕ → Key → List Row → Type 0

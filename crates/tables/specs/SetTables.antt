@@ -1,19 +1,21 @@
 -- Tables of grouping sets, rolled out of one another. Private calls alone speak of them.
-use Rattle.std.specs.Prelude.{◌≡◌, ◌≢◌, ◌<◌, ◌^◌, ℕ, List, All, length}
-use Rattle.query_check.specs.declared.function.ColumnFunction.{ColumnFunction}
+use Rattle.std.specs.Prelude.{◌≡◌, ◌≢◌, ◌<◌, ◌^◌, Bool, ℕ, List, All, length, map}
+use Rattle.query_check.specs.declared.function.FilteredFunction.{FilteredFunction}
+use Rattle.groups.specs.Functions.{AggregateFunction, bound}
 use Rattle.groups.specs.Rolled.{AreAmong}
 use Rattle.groups.specs.Rows.{Row}
 use Rattle.groups.specs.Inside.Table.{IsTableOf}
 use Rattle.tables.specs.declared.rolling.SetTable.{SetTable}
 
 -- each table is that of the records under its set
-abbrev pub AreTablesOf : List ColumnFunction → List SetTable → List Row → Type 0
+abbrev pub AreTablesOf : List AggregateFunction → List SetTable → List Row → Type 0
 AreTablesOf functions tables rows = All (λ (table : SetTable). IsTableOf table.set.items functions table.table rows) tables
 
--- the tables are those of some list of fewer than 2^63 records
-pub record AreOfFew (functions : List ColumnFunction) (tables : List SetTable) : Type 0 where
+-- the tables are those of some list of fewer than 2^63 records, whatever the filters keep
+pub record AreOfFew (functions : List FilteredFunction) (tables : List SetTable) : Type 0 where
+  pub filters : List (Row → Bool)
   pub rows : List Row
-  pub are_tables : AreTablesOf functions tables rows
+  pub are_tables : AreTablesOf (map (bound filters) functions) tables rows
   pub few : length rows < 2 ^ 63
 
 -- one of the tables is that of the set

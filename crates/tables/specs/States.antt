@@ -1,15 +1,16 @@
 -- What a partial result and the groups of an input hold, apart from where it lies in memory.
 use Rattle.std.specs.Prelude.{ℕ, List}
 use Rattle.lines.specs.declared.fault.LineFault.{LineFault}
-use Rattle.query_check.specs.declared.function.ColumnFunction.{ColumnFunction}
+use Rattle.query_check.specs.declared.function.FilteredFunction.{FilteredFunction}
 use Rattle.groups.specs.Inside.Table.{Contents}
 use Rattle.tables.specs.Found.{Found}
 use Rattle.tables.specs.Notes.{Noted}
 
--- A partial result: its grouping sets and set functions, the groups of its table, how many lines and refused lines it counts, and of each piece its note.
+-- A partial result: its grouping sets, its set functions, the canonical texts of their filters, the groups of its table, how many lines and refused lines it counts, and of each piece its note.
 pub record PartialState : Type 0 where
   pub sets : List (List ℕ)
-  pub functions : List ColumnFunction
+  pub functions : List FilteredFunction
+  pub filters : List (List ℕ)
   pub table : Contents
   pub lines : ℕ
   pub refused : ℕ

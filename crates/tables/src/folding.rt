@@ -19,6 +19,8 @@ pub(crate) struct Folding {
     pub(crate) lines: u64,
     /// The refused lines by their numbers, from 1.
     pub(crate) refused: Vec<(u64, LineFault)>,
+    /// Of the record that was kept last, which filters of the query keep it. It is written over for each.
+    marks: Vec<bool>,
 }
 
 impl Folding {
@@ -32,7 +34,7 @@ impl Folding {
     pub(crate) fn new(alloc: Global, plan: &Plan) -> Result<Folding, AllocError>
         ensures { IfOk result (λ folding. HasReadUnder plan.now [] folding []) }
     {
-        let table = Table::new(alloc, plan.grouping(), plan.functions())?;
+        let table = Table::new(alloc, plan.grouping(), plan.set_functions())?;
         Ok(Folding::onto(alloc, table))
     }
 
@@ -46,6 +48,7 @@ impl Folding {
             table,
             lines: 0,
             refused: Vec::new(alloc),
+            marks: Vec::new(alloc),
         }
     }
 
@@ -82,8 +85,13 @@ impl Folding {
         ensures refused { self.new.refused.items ≡ self.old.refused.items }
     {
         if holds(plan, taken).is(Truth::True) {
-            self.table
-                .add(plan.grouping(), plan.functions(), taken.values())?;
+            plan.mark_filters(taken, &mut self.marks)?;
+            self.table.add(
+                plan.grouping(),
+                plan.set_functions(),
+                taken.values(),
+                self.marks.as_slice(),
+            )?;
         }
         Ok(())
     }

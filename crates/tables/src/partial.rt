@@ -37,8 +37,9 @@ pub struct Partial {
 
 impl Model for Partial {
     ghost use Rattle.std.specs.Coded.{codes};
+    ghost use Rattle.std.specs.Prelude.{map, string_bytes};
     ghost use Rattle.lines.specs.contracts.fault.LineFault as line_fault;
-    ghost use Rattle.query_check.specs.contracts.function.ColumnFunction as column_function;
+    ghost use Rattle.query_check.specs.contracts.function.FilteredFunction as filtered_function;
     ghost use Rattle.query_check.specs.Resolution.{contents};
     ghost use Rattle.groups.specs.Inside.Table.{coded_contents};
     ghost use Rattle.tables.specs.Notes.{notes_in};
@@ -46,9 +47,9 @@ impl Model for Partial {
 
     ghost Value = { PartialState };
 
-    ghost coded = { Prim.hlevel (codes, coded_contents, column_function.the_row.coded, line_fault.the_row.coded) };
+    ghost coded = { Prim.hlevel (codes, coded_contents, filtered_function.the_row.coded, line_fault.the_row.coded) };
 
-    ghost view = { λ p. record { sets = contents p.shape.sets.items; functions = p.shape.functions.items; table = p.table; lines = p.lines; refused = p.refused; notes = notes_in p.notes } };
+    ghost view = { λ p. record { sets = contents p.shape.sets.items; functions = p.shape.functions.items; filters = map string_bytes p.shape.filters.items; table = p.table; lines = p.lines; refused = p.refused; notes = notes_in p.notes } };
 }
 
 impl Partial {
@@ -105,6 +106,7 @@ impl Partial {
             table,
             lines,
             refused,
+            ..
         } = read_lines(alloc, plan, folding, piece)?;
         let count = refused.len() as u64;
         let notes = one_note(
@@ -182,7 +184,7 @@ impl Partial {
         self.refused
     }
 
-    /// Whether two results are of the same grouping sets and set functions, and so can be merged.
+    /// Whether two results are of the same grouping sets, set functions and filters, and so can be merged.
     pub fn same_shape(&self, other: &Partial) -> bool
         ensures same { IsTrue result ↔ HaveOneShape self.now other.now }
         ensures of_one_query { (fields : List Field) (q : TreeForm) (pieces more : List IndexedPiece)
@@ -320,7 +322,7 @@ impl Partial {
         // The members of a key are those of all keys of the grouping columns that have its values, joined.
         ensures members { OnOk result ((rows : List Row) (key : Key) → HasMembersOfFiner plan.now set.now key rows) }
     {
-        let table = self.table.roll(plan.grouping(), set, plan.functions())?;
+        let table = self.table.roll(plan.grouping(), set, plan.set_functions())?;
         roll_law();
         table.finish()
     }

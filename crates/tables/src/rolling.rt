@@ -1,10 +1,10 @@
 //! The groups of each grouping set, rolled out of the table of all grouping columns.
-ghost use Rattle.std.specs.Prelude.{◌≡◌, ◌≢◌, ◌≤◌, ◌<◌, ◌↔◌, true, false, ℕ, nat_eq, All, IfOk, OnOk, IsTrue, List, length, slice_index_or};
+ghost use Rattle.std.specs.Prelude.{◌≡◌, ◌≢◌, ◌≤◌, ◌<◌, ◌↔◌, Bool, true, false, ℕ, nat_eq, All, IfOk, OnOk, IsTrue, List, length, map, slice_index_or};
 ghost use Rattle.std.specs.Cmp.Lexicographic.{pointwise};
 ghost use Rattle.std.specs.List.{list_any};
 ghost use Rattle.std.specs.List.Sorted.{IsPermutation};
-ghost use Rattle.query_check.specs.declared.function.ColumnFunction.{ColumnFunction};
 ghost use Rattle.query_check.specs.Resolution.{contents};
+ghost use Rattle.groups.specs.Functions.{AggregateFunction, bound};
 ghost use Rattle.groups.specs.Rows.{Row};
 ghost use Rattle.groups.specs.Rolled.{AreAmong};
 ghost use Rattle.groups.specs.Inside.Table.{IsOfFew, IsTableOf};
@@ -13,7 +13,7 @@ ghost use Rattle.tables.specs.Sets.{AreGroupsOf};
 
 use crate::shape::copied_sets;
 use groups::{Group, Table};
-use query_plan::ColumnFunction;
+use query_plan::FilteredFunction;
 use std::alloc::{AllocError, Global};
 
 /// The table of a grouping set.
@@ -31,13 +31,13 @@ pub(crate) fn groups_of_sets(
     alloc: Global,
     grouping: &[usize],
     sets: &[Vec<usize>],
-    functions: &[ColumnFunction],
+    functions: &[FilteredFunction],
     finest: Table,
 ) -> Result<Vec<Vec<Group>>, AllocError>
     requires among { All (λ set. AreAmong set grouping.now) (contents sets.now) }
     requires few { ∥ IsOfFew grouping.now functions.now finest ∥₁ }
-    ensures { IfOk result (λ groups. (rows : List Row) → IsTableOf grouping.now functions.now finest rows
-        → AreGroupsOf (contents sets.now) functions.now groups.items rows) }
+    ensures { IfOk result (λ groups. (filters : List (Row → Bool)) (rows : List Row) → IsTableOf grouping.now (map (bound filters) functions.now) finest rows
+        → AreGroupsOf (contents sets.now) (map (bound filters) functions.now) groups.items rows) }
 {
     let order = longest_first(alloc, sets)?;
     let tables = tables_of_sets(alloc, grouping, order.as_slice(), functions, finest)?;
@@ -49,13 +49,13 @@ fn tables_of_sets(
     alloc: Global,
     grouping: &[usize],
     sets: &[Vec<usize>],
-    functions: &[ColumnFunction],
+    functions: &[FilteredFunction],
     finest: Table,
 ) -> Result<Vec<SetTable>, AllocError>
     requires among { All (λ set. AreAmong set.items grouping.now) sets.now }
     requires few { ∥ IsOfFew grouping.now functions.now finest ∥₁ }
-    ensures tables { IfOk result (λ tables. (rows : List Row) → IsTableOf grouping.now functions.now finest rows
-        → AreTablesOf functions.now tables.items rows) }
+    ensures tables { IfOk result (λ tables. (filters : List (Row → Bool)) (rows : List Row) → IsTableOf grouping.now (map (bound filters) functions.now) finest rows
+        → AreTablesOf (map (bound filters) functions.now) tables.items rows) }
     ensures sets { IfOk result (λ tables. All (λ set. IsMade set.items tables.items) sets.now) }
 {
     let mut tables = first_table(alloc, grouping, finest)?;
@@ -72,7 +72,7 @@ fn first_table(
     finest: Table,
 ) -> Result<Vec<SetTable>, AllocError>
     ensures made { IfOk result (λ tables. IsMade grouping.now tables.items) }
-    ensures tables { IfOk result (λ tables. (functions : List ColumnFunction) (rows : List Row)
+    ensures tables { IfOk result (λ tables. (functions : List AggregateFunction) (rows : List Row)
         → IsTableOf grouping.now functions finest rows → AreTablesOf functions tables.items rows) }
 {
     let set = Vec::from_slice(alloc, grouping)?;
@@ -96,11 +96,12 @@ fn roll_set(
     alloc: Global,
     tables: &mut Vec<SetTable>,
     set: &[usize],
-    functions: &[ColumnFunction],
+    functions: &[FilteredFunction],
 ) -> Result<(), AllocError>
     requires few { ∥ AreOfFew functions.now tables.old.items ∥₁ }
     requires finer { HasFiner set.now tables.old.items }
-    ensures tables { OnOk result ((rows : List Row) → AreTablesOf functions.now tables.old.items rows → AreTablesOf functions.now tables.new.items rows) }
+    ensures tables { OnOk result ((filters : List (Row → Bool)) (rows : List Row)
+        → AreTablesOf (map (bound filters) functions.now) tables.old.items rows → AreTablesOf (map (bound filters) functions.now) tables.new.items rows) }
     ensures made { OnOk result (IsMade set.now tables.new.items) }
     ensures others { OnOk result ((other : List ℕ) → IsMade other tables.old.items → IsMade other tables.new.items) }
 {
@@ -172,13 +173,13 @@ fn is_same(set: &[usize], other: &[usize]) -> bool
 fn finish_sets(
     alloc: Global,
     sets: &[Vec<usize>],
-    functions: &[ColumnFunction],
+    functions: &[FilteredFunction],
     tables: Vec<SetTable>,
 ) -> Result<Vec<Vec<Group>>, AllocError>
     requires few { ∥ AreOfFew functions.now tables.items ∥₁ }
     requires made { All (λ set. IsMade set.items tables.items) sets.now }
-    ensures { IfOk result (λ groups. (rows : List Row) → AreTablesOf functions.now tables.items rows
-        → AreGroupsOf (contents sets.now) functions.now groups.items rows) }
+    ensures { IfOk result (λ groups. (filters : List (Row → Bool)) (rows : List Row) → AreTablesOf (map (bound filters) functions.now) tables.items rows
+        → AreGroupsOf (contents sets.now) (map (bound filters) functions.now) groups.items rows) }
 {
     let mut tables = tables;
     let mut groups = Vec::with_capacity(alloc, sets.len())?;
@@ -203,13 +204,15 @@ fn stands_in(sets: &[Vec<usize>], set: &[usize]) -> bool
 fn take_table(
     tables: &mut Vec<SetTable>,
     set: &[usize],
-    functions: &[ColumnFunction],
+    functions: &[FilteredFunction],
     is_last: bool,
 ) -> Result<Table, AllocError>
     requires few { ∥ AreOfFew functions.now tables.old.items ∥₁ }
     requires made { IsMade set.now tables.old.items }
-    ensures table { IfOk result (λ table. (rows : List Row) → AreTablesOf functions.now tables.old.items rows → IsTableOf set.now functions.now table rows) }
-    ensures tables { OnOk result ((rows : List Row) → AreTablesOf functions.now tables.old.items rows → AreTablesOf functions.now tables.new.items rows) }
+    ensures table { IfOk result (λ table. (filters : List (Row → Bool)) (rows : List Row)
+        → AreTablesOf (map (bound filters) functions.now) tables.old.items rows → IsTableOf set.now (map (bound filters) functions.now) table rows) }
+    ensures tables { OnOk result ((filters : List (Row → Bool)) (rows : List Row)
+        → AreTablesOf (map (bound filters) functions.now) tables.old.items rows → AreTablesOf (map (bound filters) functions.now) tables.new.items rows) }
     ensures others { OnOk result ((other : List ℕ) → (is_last ≡ true → other ≢ set.now) → IsMade other tables.old.items → IsMade other tables.new.items) }
 {
     let place = place_of(tables.as_slice(), set);

@@ -27,7 +27,7 @@ pub(crate) fn rows_of(
         alloc,
         plan.grouping(),
         plan.sets(),
-        plan.functions(),
+        plan.set_functions(),
         finest,
     )?;
     flattened(alloc, groups)

@@ -1,38 +1,48 @@
 //! What two partial results have the same that can be merged.
-ghost use Rattle.std.specs.Prelude.{◌≡◌, IfOk, IsTrue, ◌↔◌};
+ghost use Rattle.std.specs.Prelude.{◌≡◌, IfOk, IsTrue, ◌↔◌, map, string_bytes};
 ghost use Rattle.query_check.specs.Resolution.{contents};
 
-use query_plan::{ColumnFunction, Plan};
+use query_plan::{FilteredFunction, Plan, filter_texts};
 use std::alloc::{AllocError, Global};
 
-/// The grouping sets of a query, and its different set functions.
+/// The grouping sets of a query, its different set functions, and the canonical texts of their different filters.
 #[derive(Debug, Drop)]
 pub(crate) struct Shape {
     pub(crate) sets: Vec<Vec<usize>>,
-    pub(crate) functions: Vec<ColumnFunction>,
+    pub(crate) functions: Vec<FilteredFunction>,
+    pub(crate) filters: Vec<String>,
 }
 
 impl Shape {
     ghost use Rattle.query_plan.specs.Planned.{fields_of_plan, form_of_plan};
     ghost use Rattle.query_check.specs.Sets.{sets_of};
-    ghost use Rattle.query_check.specs.Functions.{functions_of};
+    ghost use Rattle.query_check.specs.Functions.{indexed_functions};
+    ghost use Rattle.tables.specs.Functions.{filter_texts};
 
     /// The shape of a plan.
     pub(crate) fn of(alloc: Global, plan: &Plan) -> Result<Shape, AllocError>
         ensures sets { IfOk result (λ shape. contents shape.sets.items ≡ sets_of (fields_of_plan plan.now) (form_of_plan plan.now)) }
-        ensures functions { IfOk result (λ shape. shape.functions.items ≡ functions_of (fields_of_plan plan.now) (form_of_plan plan.now)) }
+        ensures functions { IfOk result (λ shape. shape.functions.items ≡ indexed_functions (fields_of_plan plan.now) (form_of_plan plan.now)) }
+        ensures filters { IfOk result (λ shape. map string_bytes shape.filters.items ≡ filter_texts (fields_of_plan plan.now) (form_of_plan plan.now)) }
     {
         let sets = copied_sets(alloc, plan.sets())?;
-        let functions = copied_functions(alloc, plan.functions())?;
-        Ok(Shape { sets, functions })
+        let functions = copied_functions(alloc, plan.set_functions())?;
+        let filters = filter_texts(alloc, plan)?;
+        Ok(Shape {
+            sets,
+            functions,
+            filters,
+        })
     }
 
     /// Whether two shapes are the same.
     pub(crate) fn is_same(&self, other: &Shape) -> bool
-        ensures { IsTrue result ↔ (contents self.now.sets.items ≡ contents other.now.sets.items) × (self.now.functions.items ≡ other.now.functions.items) }
+        ensures { IsTrue result ↔ (contents self.now.sets.items ≡ contents other.now.sets.items) × (self.now.functions.items ≡ other.now.functions.items)
+            × (map string_bytes self.now.filters.items ≡ map string_bytes other.now.filters.items) }
     {
         same_sets(self.sets.as_slice(), other.sets.as_slice())
             && same_functions(self.functions.as_slice(), other.functions.as_slice())
+            && same_texts(self.filters.as_slice(), other.filters.as_slice())
     }
 }
 
@@ -50,8 +60,8 @@ pub(crate) fn copied_sets(alloc: Global, sets: &[Vec<usize>]) -> Result<Vec<Vec<
 /// A copy of set functions.
 fn copied_functions(
     alloc: Global,
-    functions: &[ColumnFunction],
-) -> Result<Vec<ColumnFunction>, AllocError>
+    functions: &[FilteredFunction],
+) -> Result<Vec<FilteredFunction>, AllocError>
     ensures { IfOk result (λ copies. copies.items ≡ functions.now) }
 {
     Vec::from_slice(alloc, functions)
@@ -65,8 +75,15 @@ fn same_sets(sets: &[Vec<usize>], others: &[Vec<usize>]) -> bool
 }
 
 /// Whether two lists of set functions are the same.
-fn same_functions(functions: &[ColumnFunction], others: &[ColumnFunction]) -> bool
+fn same_functions(functions: &[FilteredFunction], others: &[FilteredFunction]) -> bool
     ensures { IsTrue result ↔ (functions.now ≡ others.now) }
 {
     functions == others
+}
+
+/// Whether two lists of texts are the same.
+fn same_texts(texts: &[String], others: &[String]) -> bool
+    ensures { IsTrue result ↔ (map string_bytes texts.now ≡ map string_bytes others.now) }
+{
+    texts == others
 }

@@ -1,11 +1,12 @@
-//! Records are grouped in two parts, and the parts are put together; groups are rolled up.
-ghost use Rattle.std.specs.Prelude.{◌<◌, ◌^◌, IfOk, length, List};
+//! Records are grouped in two parts, and the parts are put together; groups are rolled up. Two set functions have a FILTER.
+ghost use Rattle.std.specs.Prelude.{◌≡◌, ◌<◌, ◌^◌, ◌∷◌, [], IfOk, length, List, map};
 ghost use Rattle.values.specs.Datum.{data_of, datum_of};
-ghost use Rattle.groups.specs.Rows.{Row, IsNarrow, IsNarrowRow};
+ghost use Rattle.groups.specs.Functions.{bound};
+ghost use Rattle.groups.specs.Rows.{Row, IsNarrow, IsNarrowRow, is_present, value_at};
 ghost use Rattle.groups.specs.Inside.Table.{IsTableOf};
 
 use groups::{Cell, Group, Table};
-use query_check::ColumnFunction;
+use query_check::{ColumnFunction, FilteredFunction};
 use std::alloc::{AllocError, Global};
 use std::test::Fail;
 use values::Value;
@@ -38,20 +39,31 @@ fn row_of(alloc: Global, fields: &[Field]) -> Result<Vec<Value>, AllocError>
     Ok(row)
 }
 
+/// Whether the one filter keeps a record: where its second column is not NULL.
+fn keeps(row: &[Value]) -> bool
+    ensures { result ≡ is_present (value_at 1 (data_of row.now)) }
+{
+    match row.get(1) {
+        Some(Value::Bool(_) | Value::Int(_) | Value::Text(_)) => true,
+        Some(Value::Null) | None => false,
+    }
+}
+
 /// The table of some records.
 fn table_of(
     alloc: Global,
     set: &[usize],
-    functions: &[ColumnFunction],
+    functions: &[FilteredFunction],
     records: &[&[Field]],
 ) -> Result<Table, AllocError>
     requires { length records.now < 2 ^ 62 }
-    ensures { IfOk result (λ table. (rows : List Row) × (IsTableOf set.now functions.now table rows × (length rows < 2 ^ 62))) }
+    ensures { IfOk result (λ table. (rows : List Row) × (IsTableOf set.now (map (bound ((λ row. is_present (value_at 1 row)) ∷ [])) functions.now) table rows × (length rows < 2 ^ 62))) }
 {
     let mut table = Table::new(alloc, set, functions)?;
     for fields in records {
         let row = row_of(alloc, fields)?;
-        table.add(set, functions, row.as_slice())?;
+        let marks = [keeps(row.as_slice())];
+        table.add(set, functions, row.as_slice(), &marks)?;
     }
     Ok(table)
 }
@@ -60,7 +72,7 @@ fn table_of(
 fn joined_groups(
     alloc: Global,
     set: &[usize],
-    functions: &[ColumnFunction],
+    functions: &[FilteredFunction],
     left: &[&[Field]],
     right: &[&[Field]],
 ) -> Result<Vec<Group>, AllocError>
@@ -77,10 +89,14 @@ fn number(number: i128) -> Cell {
     Cell::Plain(Value::Int(number))
 }
 
+fn null() -> Cell {
+    Cell::Plain(Value::Null)
+}
+
 /// Whether there are the two groups of the records of `parted_groups`.
 fn are_two_groups(groups: &[Group]) -> bool {
-    let ones = [number(2), number(1), Cell::Plain(Value::Int(5))];
-    let nulls = [number(1), number(0), Cell::Plain(Value::Null)];
+    let ones = [number(2), number(1), number(5), number(2), number(5)];
+    let nulls = [number(1), number(0), null(), number(0), null()];
     groups.len() == 2
         && groups.iter().all(|group| match group.key.as_slice() {
             [Value::Text(key)] => key.as_str() == "x"
@@ -91,10 +107,27 @@ fn are_two_groups(groups: &[Group]) -> bool {
         })
 }
 
-const FUNCTIONS: [ColumnFunction; 3] = [
-    ColumnFunction::CountRows,
-    ColumnFunction::CountDistinct(1),
-    ColumnFunction::Min(1),
+const FUNCTIONS: [FilteredFunction; 5] = [
+    FilteredFunction {
+        function: ColumnFunction::CountRows,
+        filter: None,
+    },
+    FilteredFunction {
+        function: ColumnFunction::CountDistinct(1),
+        filter: None,
+    },
+    FilteredFunction {
+        function: ColumnFunction::Min(1),
+        filter: None,
+    },
+    FilteredFunction {
+        function: ColumnFunction::CountRows,
+        filter: Some(0),
+    },
+    FilteredFunction {
+        function: ColumnFunction::Max(1),
+        filter: Some(0),
+    },
 ];
 
 /// The groups of three records, of which one is in another part.
@@ -131,7 +164,7 @@ fn rolled_of_none(alloc: Global) -> Result<Vec<Group>, AllocError> {
 
 /// Whether there is the one group of no records.
 fn is_empty_group(groups: &[Group]) -> bool {
-    let zeros = [number(0), number(0), Cell::Plain(Value::Null)];
+    let zeros = [number(0), number(0), null(), number(0), null()];
     match groups {
         [group] => {
             group.key.is_empty() && group.lines == 0 && group.cells.as_slice() == zeros.as_slice()

@@ -1,5 +1,5 @@
--- What an accumulator keeps of the members of a group: of COUNT(*) nothing, since the number of records is kept beside, and else counts, sums, the different values, the least or the greatest one.
-use Rattle.std.specs.Prelude.{◌≡◌, ℕ, ◌+◌, ◌*◌, ◌^◌, ◌<◌, ◌≤◌, zero, suc, ℤ, pos, ◌+ℤ◌, ◌-ℤ◌, ◌≤ℤ◌, ⊤, Option, Some, None, FitsSigned, List, [], ◌∷◌, length, refl}
+-- What an accumulator keeps of the members of a group: of COUNT(*) without FILTER nothing, since the number of records is kept beside, and else counts, sums, the different values, the least or the greatest one.
+use Rattle.std.specs.Prelude.{◌≡◌, ℕ, ◌+◌, ◌*◌, ◌^◌, ◌<◌, ◌≤◌, zero, suc, ℤ, pos, ◌+ℤ◌, ◌-ℤ◌, ◌≤ℤ◌, Bool, true, false, ⊤, Option, Some, None, FitsSigned, List, [], ◌∷◌, length, filter, slice_index_or, if◌then◌else◌, refl}
 use Rattle.std.specs.FinSet as set
 use Rattle.std.specs.Int.{w128}
 use Rattle.std.specs.Option.{option_map_or}
@@ -9,7 +9,7 @@ use Rattle.values.specs.Order.{value_order}
 use Rattle.query_check.specs.declared.function.ColumnFunction.{ColumnFunction}
 use Rattle.query_check.specs.declared.function.ColumnFunction.TheVariants as function
 use Rattle.groups.specs.Rows.{Row, value_at, present, numbers, column_values, column_numbers}
-use Rattle.groups.specs.Functions.{Summary, plain, ratio, total, least, greatest}
+use Rattle.groups.specs.Functions.{AggregateFunction, Summary, plain, ratio, total, least, greatest}
 use Rattle.groups.specs.Inside.Coding.{coded_datum}
 use Rattle.groups.specs.Inside.Values.{Values, set_of, falling, first_by}
 use Rattle.groups.specs.declared.accumulator.Accumulator.{Accumulator}
@@ -25,15 +25,34 @@ pub data AccumulatorState : Type 0 where
   lowest : Datum → AccumulatorState
   highest : Datum → AccumulatorState
 
+-- what is kept for a set function without FILTER of a list of records
+abbrev pub state_over : ColumnFunction → List Row → AccumulatorState
+state_over function.CountRows rows = nothing
+state_over (function.Count place) rows = counted (length (column_values place rows))
+state_over (function.CountDistinct place) rows = collected (set_of (column_values place rows))
+state_over (function.Sum place) rows = summed (total (column_numbers place rows)) (length (column_numbers place rows))
+state_over (function.Min place) rows = lowest (least (column_values place rows))
+state_over (function.Max place) rows = highest (greatest (column_values place rows))
+state_over (function.Avg place) rows = averaged (total (column_numbers place rows)) (length (column_numbers place rows))
+
+-- what is kept for a set function with FILTER of the records that it keeps: the same, but their number for COUNT(*), as it is not that of all records
+abbrev pub state_counted : ColumnFunction → List Row → AccumulatorState
+state_counted function.CountRows rows = counted (length rows)
+state_counted f rows = state_over f rows
+
+-- what is kept of a list of records for a set function with this FILTER, or with none
+abbrev pub state_by : Option (Row → Bool) → ColumnFunction → List Row → AccumulatorState
+state_by None f rows = state_over f rows
+state_by (Some keeps) f rows = state_counted f (filter keeps rows)
+
 -- what is kept for a set function of a list of records
-abbrev pub accumulator_state : ColumnFunction → List Row → AccumulatorState
-accumulator_state function.CountRows rows = nothing
-accumulator_state (function.Count place) rows = counted (length (column_values place rows))
-accumulator_state (function.CountDistinct place) rows = collected (set_of (column_values place rows))
-accumulator_state (function.Sum place) rows = summed (total (column_numbers place rows)) (length (column_numbers place rows))
-accumulator_state (function.Min place) rows = lowest (least (column_values place rows))
-accumulator_state (function.Max place) rows = highest (greatest (column_values place rows))
-accumulator_state (function.Avg place) rows = averaged (total (column_numbers place rows)) (length (column_numbers place rows))
+abbrev pub accumulator_state : AggregateFunction → List Row → AccumulatorState
+accumulator_state f rows = state_by f.filter f.function rows
+
+-- what is kept of no record for a set function with a FILTER, whichever it is, or with none
+abbrev pub no_state : Option ℕ → ColumnFunction → AccumulatorState
+no_state None f = state_over f []
+no_state (Some index) f = state_counted f []
 
 -- the place of the column that a set function takes; COUNT(*) takes none
 abbrev pub argument_place : ColumnFunction → Option ℕ
@@ -45,10 +64,6 @@ argument_place (function.Min place) = Some place
 argument_place (function.Max place) = Some place
 argument_place (function.Avg place) = Some place
 
--- the value of a record that a set function takes, and NULL where it takes none
-abbrev pub argument : ColumnFunction → Row → Datum
-argument f row = option_map_or (λ place. value_at place row) (argument_place f) null
-
 -- what is kept after one more value
 abbrev pub with_value : AccumulatorState → Datum → AccumulatorState
 with_value nothing d = nothing
@@ -58,6 +73,24 @@ with_value (averaged s n) d = averaged (s +ℤ total (numbers (d ∷ []))) (n + 
 with_value (collected s) d = collected (set.union s (set_of (present (d ∷ []))))
 with_value (lowest k) d = lowest (first_by value_order k d)
 with_value (highest k) d = highest (first_by falling k d)
+
+-- what is kept after one more record, where the number of records is kept
+abbrev pub with_count : AccumulatorState → AccumulatorState
+with_count (counted n) = counted (n + 1)
+with_count k = k
+
+-- what is kept for a set function after one more record that it takes
+abbrev pub with_record : ColumnFunction → AccumulatorState → Row → AccumulatorState
+with_record f k row = option_map_or (λ place. with_value k (value_at place row)) (argument_place f) (with_count k)
+
+-- whether a record is kept by the filter with this index, by the marks of all filters: true where the filter keeps it; without FILTER each is
+abbrev pub is_marked : List Bool → Option ℕ → Bool
+is_marked marks None = true
+is_marked marks (Some index) = slice_index_or marks index false
+
+-- what is kept for a set function after one more record, which its FILTER keeps or not
+abbrev pub with_member : Bool → ColumnFunction → AccumulatorState → Row → AccumulatorState
+with_member kept f k row = if kept then with_record f k row else k
 
 -- what is kept of two parts of a group for one function; of different functions the first stays as it is
 abbrev pub joined : AccumulatorState → AccumulatorState → AccumulatorState

@@ -1,12 +1,13 @@
 -- What is kept of a group: the number of its records, and for each set function what its accumulator keeps.
-use Rattle.std.specs.Prelude.{ℕ, ◌+◌, List, [], ◌∷◌, length, map, refl}
+use Rattle.std.specs.Prelude.{Bool, ℕ, ◌+◌, List, [], ◌∷◌, length, map, refl}
 use Rattle.std.specs.List.{AllByRecursion}
 use Rattle.std.specs.Coded.{Coded, code_by, coded×, coded_ℕ, coded_list}
-use Rattle.query_check.specs.declared.function.ColumnFunction.{ColumnFunction}
+use Rattle.query_check.specs.declared.function.FilteredFunction.{FilteredFunction}
 use Rattle.groups.specs.Rows.{Row}
+use Rattle.groups.specs.Functions.{AggregateFunction}
 use Rattle.groups.specs.Groups.{Key}
 use Rattle.groups.specs.GroupSummaries.{GroupSummary}
-use Rattle.groups.specs.Inside.Accumulator.{AccumulatorState, accumulator_state, with_value, argument, joined, summary, IsWithin, coded_accumulator}
+use Rattle.groups.specs.Inside.Accumulator.{AccumulatorState, accumulator_state, no_state, is_marked, with_member, joined, summary, IsWithin, coded_accumulator}
 
 pub record GroupState : Type 0 where
   pub lines : ℕ
@@ -16,14 +17,18 @@ abbrev pub coded_group : Coded GroupState
 coded_group = code_by (ℕ × List AccumulatorState) (coded× coded_ℕ (coded_list coded_accumulator)) (λ h. (h.lines, h.parts)) (λ p. record { lines = p.0; parts = p.1 }) (λ _. refl)
 
 -- what is kept of a group with these members
-abbrev pub group_state : List ColumnFunction → List Row → GroupState
+abbrev pub group_state : List AggregateFunction → List Row → GroupState
 group_state functions rows = record { lines = length rows; parts = map (λ f. accumulator_state f rows) functions }
 
--- each accumulator after one more record
-abbrev pub all_with_row : List ColumnFunction → List AccumulatorState → Row → List AccumulatorState
-all_with_row [] ks row = ks
-all_with_row (f ∷ fs) [] row = []
-all_with_row (f ∷ fs) (k ∷ ks) row = with_value k (argument f row) ∷ all_with_row fs ks row
+-- what is kept of a group without members
+abbrev pub no_group : List FilteredFunction → GroupState
+no_group functions = record { lines = 0; parts = map (λ f. no_state f.filter f.function) functions }
+
+-- each accumulator after one more record, of which the marks say which filters keep it
+abbrev pub all_with_row : List FilteredFunction → List Bool → List AccumulatorState → Row → List AccumulatorState
+all_with_row [] marks ks row = ks
+all_with_row (f ∷ fs) marks [] row = []
+all_with_row (f ∷ fs) marks (k ∷ ks) row = with_member (is_marked marks f.filter) f.function k row ∷ all_with_row fs marks ks row
 
 -- the accumulators of two parts of a group, put together one by one
 abbrev pub all_joined : List AccumulatorState → List AccumulatorState → List AccumulatorState
@@ -31,9 +36,9 @@ all_joined [] ls = []
 all_joined (k ∷ ks) [] = k ∷ ks
 all_joined (k ∷ ks) (l ∷ ls) = joined k l ∷ all_joined ks ls
 
--- what is kept after one more record
-abbrev pub with_row : List ColumnFunction → GroupState → Row → GroupState
-with_row functions h row = record { lines = h.lines + 1; parts = all_with_row functions h.parts row }
+-- what is kept after one more record, of which the marks say which filters keep it
+abbrev pub with_row : List FilteredFunction → List Bool → GroupState → Row → GroupState
+with_row functions marks h row = record { lines = h.lines + 1; parts = all_with_row functions marks h.parts row }
 
 -- what is kept of two parts of a group
 abbrev pub join : GroupState → GroupState → GroupState

@@ -1,4 +1,4 @@
-use Rattle.std.proofs.Common.{◌≡◌, ◌<◌, ◌+◌, ◌++◌, ◌∷◌, [], suc, set, length, sym, ap, ◌∙◌, arith, add-one, length-set, length-append}
+use Rattle.std.proofs.Common.{◌≡◌, ◌<◌, ◌+◌, ◌++◌, ◌∷◌, [], set, length, ap, ◌∙◌, arith, add-one, length-set, length-append}
 use Rattle.std.specs.Option.{is_some}
 use Rattle.values.specs.Datum.{data_of}
 use Rattle.groups.proofs.Keys.{written_from, written_from-over, written_from-behind, written_from-all}

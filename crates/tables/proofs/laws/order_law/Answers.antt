@@ -1,9 +1,9 @@
 use Rattle.std.proofs.Common.{◌∙◌, sym}
 use Rattle.lines.specs.Input.{good, refused}
 use Rattle.lines.specs.Lines.{lines}
-use Rattle.query_check.specs.Functions.{functions_of}
 use Rattle.query_check.specs.Sets.{grouping_places}
 use Rattle.query_truth.specs.Kept.{is_kept, kept}
+use Rattle.tables.specs.Functions.{aggregate_functions}
 use Rattle.tables.specs.Notes.{note_of}
 use Rattle.tables.specs.Pieces.{all_lines, records_of, refused_within}
 use Rattle.groups.proofs.Bags.{bag-filter, length-bag}
@@ -16,7 +16,8 @@ pub returns : goal.returns
 returns c = λ fields q partial pieces others s p. record {
   sets = p.sets;
   functions = p.functions;
-  table = table-same (grouping_places fields q) (functions_of fields q) partial.table (kept fields q (records_of fields pieces)) (kept fields q (records_of fields others))
+  filters = p.filters;
+  table = table-same (grouping_places fields q) (aggregate_functions fields q) partial.table (kept fields q (records_of fields pieces)) (kept fields q (records_of fields others))
       (bag-filter (is_kept fields q) (records_of fields pieces) (records_of fields others) (bag-flat_map (λ piece. good fields piece.bytes) pieces others s)) p.table;
   lines = p.lines ∙ length-bag (all_lines pieces) (all_lines others) (bag-flat_map (λ piece. lines piece.bytes) pieces others s);
   refused = p.refused ∙ length-bag (refused_within fields pieces) (refused_within fields others) (bag-flat_map (λ piece. refused fields piece.bytes) pieces others s);

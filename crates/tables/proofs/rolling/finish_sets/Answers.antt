@@ -1,8 +1,9 @@
-use Rattle.std.proofs.Common.{All, ◌≡◌, ◌+◌, ◌++◌, ◌∷◌, [], drop, take, slice_index_or, length, ◌-◌, ◌≢◌, List, Vec, Global, ℕ, sym, ap, subst, ◌∙◌, arith}
+use Rattle.std.proofs.Common.{All, ◌≡◌, ◌+◌, ◌++◌, ◌∷◌, [], drop, take, slice_index_or, length, map, ◌-◌, ◌≢◌, List, Vec, Global, ℕ, sym, ap, subst, ◌∙◌, arith}
 use Rattle.std.proofs.Math.Logic.{∥∥₁_map}
 use Rattle.std.proofs.lemmas.List.{drop_more, length-drop, map-append, take_all, take_more}
 use Rattle.std.proofs.lemmas.List.Elements.{All-head, All-tail}
 use Rattle.groups.specs.declared.group.Group.{Group}
+use Rattle.groups.specs.Functions.{bound}
 use Rattle.groups.specs.Inside.Table.{IsTableOf}
 use Rattle.query_check.specs.Resolution.{contents}
 use Rattle.tables.specs.Sets.{AreGroupsOf}
@@ -11,7 +12,7 @@ use Rattle.tables.proofs.SetTables.{groups-more, none-same, not-true}
 use Rattle.tables.proofs.rolling.finish_sets.Goals as goal
 
 pub take_table-requires-clause-few : goal.take_table-requires-clause-few
-take_table-requires-clause-few c = ∥∥₁_map c.requires.few (λ p. record { rows = p.rows; are_tables = c.loop-index.invariant.tables p.rows p.are_tables; few = p.few })
+take_table-requires-clause-few c = ∥∥₁_map c.requires.few (λ p. record { filters = p.filters; rows = p.rows; are_tables = c.loop-index.invariant.tables p.filters p.rows p.are_tables; few = p.few })
 
 pub take_table-requires-clause-made : goal.take_table-requires-clause-made
 take_table-requires-clause-made c =
@@ -26,7 +27,6 @@ take_table-requires-clause-made c =
 pub loop-index-preserved : goal.loop-index-preserved
 loop-index-preserved c =
     let sets = c.args.sets.now in
-    let fs = c.args.functions.now in
     let i = c.loop-index.index in
     let item = c.index-sets-index.result in
     let old = c.loop-index.tables.items in
@@ -39,12 +39,13 @@ loop-index-preserved c =
     let slice : take (length sets - (i + 1)) (drop (i + 1) sets) ≡ drop (i + 1) sets = take_all (length sets - (i + 1)) (drop (i + 1) sets) (omega (arith, length-drop (i + 1) sets)) in
     let rest = All-tail P item (drop (i + 1) sets) (subst (All P) left c.loop-index.invariant.made) in
     record {
-      tables = λ rows h. c.in_ok-table.ensures.tables rows (c.loop-index.invariant.tables rows h);
-      groups = λ rows h.
-          let table = c.in_ok-table.ensures.table rows (c.loop-index.invariant.tables rows h) in
+      tables = λ filters rows h. c.in_ok-table.ensures.tables filters rows (c.loop-index.invariant.tables filters rows h);
+      groups = λ filters rows h.
+          let fs = map (bound filters) c.args.functions.now in
+          let table = c.in_ok-table.ensures.table filters rows (c.loop-index.invariant.tables filters rows h) in
           subst (λ sets. AreGroupsOf sets fs c.push.new.self.items rows) (sym seen)
           (subst (λ (gs : List (Vec Group Global)). AreGroupsOf (contents (take i sets) ++ item.items ∷ []) fs gs rows) (sym c.in_ok-push.ensures.items)
-          (groups-more (contents (take i sets)) fs groups rows item.items c.in_ok-finish.field-0 (c.loop-index.invariant.groups rows h)
+          (groups-more (contents (take i sets)) fs groups rows item.items c.in_ok-finish.field-0 (c.loop-index.invariant.groups filters rows h)
           (c.in_ok-finish.ensures.groups item.items fs rows (subst (λ set. IsTableOf set fs c.in_ok-table.table rows) c.as_slice-set.ensures.value table))));
       made = λ k d l. c.in_ok-table.ensures.others (slice_index_or (drop (i + 1) sets) k d).items
           (λ last. subst (All (λ (other : Vec ℕ Global). other.items ≢ c.as_slice-set.result.now)) slice

@@ -15,7 +15,7 @@ tables_of_sets-requires-clause-among c =
     (all-from_contents P c.in_ok-order.order.items (All-permutation P _ _ c.in_ok-order.ensures c.requires.among))
 
 pub finish_sets-requires-clause-few : goal.finish_sets-requires-clause-few
-finish_sets-requires-clause-few c = ∥∥₁_map c.requires.few (λ p. record { rows = p.rows; are_tables = c.in_ok-tables.ensures.tables p.rows p.is_table; few = p.few })
+finish_sets-requires-clause-few c = ∥∥₁_map c.requires.few (λ p. record { filters = p.filters; rows = p.rows; are_tables = c.in_ok-tables.ensures.tables p.filters p.rows p.is_table; few = p.few })
 
 pub finish_sets-requires-clause-made : goal.finish_sets-requires-clause-made
 finish_sets-requires-clause-made c =
@@ -25,4 +25,4 @@ finish_sets-requires-clause-made c =
     (all-contents P c.in_ok-order.order.items (subst (All (λ (set : Vec ℕ Global). P set.items)) c.as_slice.ensures.value c.in_ok-tables.ensures.sets)))
 
 pub returns : goal.returns
-returns c = IfOk-weaker c.finish_sets.result _ _ (λ groups given rows table. given rows (c.in_ok-tables.ensures.tables rows table)) c.finish_sets.ensures
+returns c = IfOk-weaker c.finish_sets.result _ _ (λ groups given filters rows table. given filters rows (c.in_ok-tables.ensures.tables filters rows table)) c.finish_sets.ensures

@@ -1,6 +1,7 @@
-use Rattle.std.proofs.Common.{◌<◌, ◌++◌, ◌∷◌, [], ℕ, List, get_or, length, sym, subst}
+use Rattle.std.proofs.Common.{◌<◌, ◌++◌, ◌∷◌, [], ℕ, List, get_or, length, map, sym, subst}
 use Rattle.std.proofs.Math.Logic.{∥∥₁_map}
 use Rattle.std.proofs.lemmas.List.Elements.{All-push}
+use Rattle.groups.specs.Functions.{bound}
 use Rattle.groups.specs.Inside.Table.{IsTableOf}
 use Rattle.groups.specs.Rolled.{AreAmong}
 use Rattle.groups.specs.Rows.{Row}
@@ -22,19 +23,19 @@ roll-requires-clause-among c =
 
 pub roll-requires-clause-few : goal.roll-requires-clause-few
 roll-requires-clause-few c =
-    let fs = c.args.functions.now in
     let item = c.index-finer.result.now in
     let place = c.place_of_finer.result in
     let within : place < length c.args.tables.now.items = subst (λ (ts : List SetTable). place < length ts) c.as_slice-2.ensures.value c.place_of_finer.ensures.within in
     ∥∥₁_map c.requires.few (λ p. record {
+      filters = p.filters;
       rows = p.rows;
-      is_table = subst (λ (s : List ℕ). IsTableOf s fs item.table p.rows) (sym c.as_slice-3.ensures.value) (table-at fs c.args.tables.now.items place item p.rows within c.index-finer.ensures p.are_tables);
+      is_table = subst (λ (s : List ℕ). IsTableOf s (map (bound p.filters) c.args.functions.now) item.table p.rows) (sym c.as_slice-3.ensures.value) (table-at (map (bound p.filters) c.args.functions.now) c.args.tables.now.items place item p.rows within c.index-finer.ensures p.are_tables);
       few = p.few;
     })
 
 pub returns-clause-tables : goal.returns-clause-tables
-returns-clause-tables c = λ rows h.
-    let fs = c.args.functions.now in
+returns-clause-tables c = λ filters rows h.
+    let fs = map (bound filters) c.args.functions.now in
     let item = c.index-finer.result.now in
     let place = c.place_of_finer.result in
     let within : place < length c.args.tables.now.items = subst (λ (ts : List SetTable). place < length ts) c.as_slice-2.ensures.value c.place_of_finer.ensures.within in
@@ -44,4 +45,4 @@ returns-clause-tables c = λ rows h.
     let new : SetTable = record { set = c.in_ok-set.set; table = table } in
     subst (λ (ts : List SetTable). AreTablesOf fs ts rows) (sym c.in_ok-push.ensures.items)
     (All-push (λ (t : SetTable). IsTableOf t.set.items fs t.table rows) c.args.tables.now.items new h
-    (subst (λ (s : List ℕ). IsTableOf s fs table rows) (sym c.in_ok-set.ensures.items) (c.in_ok-table.ensures.rolled rows finer)))
+    (subst (λ (s : List ℕ). IsTableOf s fs table rows) (sym c.in_ok-set.ensures.items) (c.in_ok-table.ensures.rolled filters rows finer)))

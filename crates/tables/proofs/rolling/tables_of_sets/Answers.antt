@@ -8,7 +8,7 @@ use Rattle.tables.proofs.SetTables.{finer-there}
 use Rattle.tables.proofs.rolling.tables_of_sets.Goals as goal
 
 pub roll_set-requires-clause-few : goal.roll_set-requires-clause-few
-roll_set-requires-clause-few c = ∥∥₁_map c.requires.few (λ p. record { rows = p.rows; are_tables = c.loop-set.invariant.tables p.rows p.is_table; few = p.few })
+roll_set-requires-clause-few c = ∥∥₁_map c.requires.few (λ p. record { filters = p.filters; rows = p.rows; are_tables = c.loop-set.invariant.tables p.filters p.rows p.is_table; few = p.few })
 
 pub roll_set-requires-clause-finer : goal.roll_set-requires-clause-finer
 roll_set-requires-clause-finer c =
@@ -23,7 +23,7 @@ loop-set-preserved c =
     let new = c.roll_set.new.tables.items in
     let made : IsMade item.items new = subst (λ set. IsMade set new) c.as_slice.ensures.value c.in_ok-roll_set.ensures.made in
     record {
-      tables = λ rows table. c.in_ok-roll_set.ensures.tables rows (c.loop-set.invariant.tables rows table);
+      tables = λ filters rows table. c.in_ok-roll_set.ensures.tables filters rows (c.loop-set.invariant.tables filters rows table);
       finest = c.in_ok-roll_set.ensures.others c.args.grouping.now c.loop-set.invariant.finest;
       made = All-more (λ (set : Vec ℕ Global). IsMade set.items new) c.args.sets.now i item c.loop-set-test.true
           (All-weaker (λ (set : Vec ℕ Global). IsMade set.items c.loop-set.tables.items) (λ (set : Vec ℕ Global). IsMade set.items new) (λ set. c.in_ok-roll_set.ensures.others set.items) _ c.loop-set.invariant.made)

@@ -1,4 +1,6 @@
-use Rattle.std.proofs.Common.{length, arith}
+use Rattle.std.proofs.Common.{length, map, arith}
+use Rattle.std.proofs.lemmas.List.{length-map}
+use Rattle.groups.specs.Functions.{bound}
 use Rattle.groups.proofs.Meaning.{table-within, within-can_join}
 use Rattle.acceptance_libraries.proofs.tests.grouping.joined_groups.Goals as goal
 
@@ -9,4 +11,4 @@ absorb-requires c =
     let set = c.args.set.now in
     let fs = c.args.functions.now in
     within-can_join fs (length a.0) (length b.0) _ _ (omega (arith, a.1.1, b.1.1))
-    (table-within set fs _ a.0 (length a.0) a.1.0 (omega arith)) (table-within set fs _ b.0 (length b.0) b.1.0 (omega arith))
+    (table-within set fs _ _ a.0 (length a.0) (length-map fs (bound _)) a.1.0 (omega arith)) (table-within set fs _ _ b.0 (length b.0) (length-map fs (bound _)) b.1.0 (omega arith))

@@ -4,10 +4,10 @@ use Rattle.acceptance_libraries.proofs.tests.grouping.rolled_groups.Goals as goa
 pub roll-requires-clause-few : goal.roll-requires-clause-few
 roll-requires-clause-few c =
     let t = c.in_ok-finest.ensures in
-    ∣ record { rows = t.0; is_table = t.1.0; few = omega (arith, t.1.1) } ∣₁
+    ∣ record { filters = _; rows = t.0; is_table = t.1.0; few = omega (arith, t.1.1) } ∣₁
 
 -- the table that was rolled is that of the same records
 pub roll-requires-2-clause-few : goal.roll-requires-2-clause-few
 roll-requires-2-clause-few c =
     let t = c.in_ok-finest.ensures in
-    ∣ record { rows = t.0; is_table = c.in_ok-finer.ensures.rolled t.0 t.1.0; few = omega (arith, t.1.1) } ∣₁
+    ∣ record { filters = _; rows = t.0; is_table = c.in_ok-finer.ensures.rolled _ t.0 t.1.0; few = omega (arith, t.1.1) } ∣₁

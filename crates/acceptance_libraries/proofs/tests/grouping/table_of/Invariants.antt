@@ -1,8 +1,9 @@
-use Rattle.std.proofs.Common.{◌≡◌, List, length}
-use Rattle.groups.specs.Rows.{Row}
+use Rattle.std.proofs.Common.{◌≡◌, ◌∷◌, [], List, length, map}
+use Rattle.groups.specs.Functions.{bound}
+use Rattle.groups.specs.Rows.{Row, is_present, value_at}
 use Rattle.groups.specs.Inside.Table.{IsTableOf}
 use Rattle.acceptance_libraries.proofs.tests.grouping.table_of.Given as goal
 
 -- the table of as many records as were taken
 abbrev pub invariant-loop-fields : goal.invariant-loop-fields
-invariant-loop-fields l = (rows : List Row) × (IsTableOf l.set l.functions l.table rows × (length rows ≡ l.fields-index))
+invariant-loop-fields l = (rows : List Row) × (IsTableOf l.set (map (bound ((λ row. is_present (value_at 1 row)) ∷ [])) l.functions) l.table rows × (length rows ≡ l.fields-index))

@@ -8,7 +8,7 @@ use Rattle.groups.proofs.accumulators.Accumulators.add.Given as goal
 -- once the rest has taken the record, all have taken it
 abbrev pub invariant-loop-place : goal.invariant-loop-place
 invariant-loop-place l = record {
-  rest : taken_from l.place l.functions (map state_in l.self-inside.parts.items) (data_of l.row) ≡ all_with_row l.functions l.fn.self.parts (data_of l.row);
+  rest : taken_from l.place l.functions l.marks (map state_in l.self-inside.parts.items) (data_of l.row) ≡ all_with_row l.functions l.marks l.fn.self.parts (data_of l.row);
   one_each : length l.self-inside.parts.items ≡ length l.functions;
   lines : l.self-inside.lines ≡ l.fn.self.lines + 1;
   sound : IsSound (l.fn.self.lines + 1) (map state_in l.self-inside.parts.items);

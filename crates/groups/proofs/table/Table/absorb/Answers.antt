@@ -1,6 +1,6 @@
 use Rattle.std.proofs.Common.{ℕ, List}
 use Rattle.std.proofs.lemmas.Result.{on_ok_weaker}
-use Rattle.query_check.specs.declared.function.ColumnFunction.{ColumnFunction}
+use Rattle.groups.specs.Functions.{AggregateFunction}
 use Rattle.groups.specs.Rows.{Row}
 use Rattle.groups.specs.Groups.{Key}
 use Rattle.groups.specs.Inside.Table.{IsJoined, IsTableOf}
@@ -16,7 +16,7 @@ returns c =
       groups = c.put_all.ensures;
       joined = on_ok_weaker c.put_all.result
           (λ (h : (k : Key) → IsJoined old other new k).
-          λ (set : List ℕ) (fs : List ColumnFunction) (rows more : List Row) (t : IsTableOf set fs old rows) (u : IsTableOf set fs other more).
+          λ (set : List ℕ) (fs : List AggregateFunction) (rows more : List Row) (t : IsTableOf set fs old rows) (u : IsTableOf set fs other more).
           table-joined set fs old other new rows more t u h)
           c.put_all.ensures;
     }

@@ -1,9 +1,7 @@
-use Rattle.std.proofs.Common.{List}
 use Rattle.std.proofs.lemmas.Result.{on_ok_weaker}
 use Rattle.values.specs.Datum.{data_of}
-use Rattle.groups.specs.Rows.{Row}
 use Rattle.groups.specs.Groups.{Key, project}
-use Rattle.groups.specs.Inside.Table.{IsAdded, IsTableOf}
+use Rattle.groups.specs.Inside.Table.{IsAdded}
 use Rattle.groups.proofs.Meaning.{table-added, table-takes}
 use Rattle.groups.proofs.table.Table.add.Goals as goal
 
@@ -19,9 +17,9 @@ returns c =
     let row = data_of c.args.row.now in
     let old = c.args.self.now in
     let new = c.put.new.self in
+    let marks = c.args.marks.now in
     record {
       added = on_ok_weaker c.put.result
-          (λ (h : (k : Key) → IsAdded fs old new (project set row) row k).
-          λ (rows : List Row) (t : IsTableOf set fs old rows). table-added set fs old new rows row t h)
+          (λ (h : (k : Key) → IsAdded fs marks old new (project set row) row k). table-added set fs marks old new row h)
           c.put.ensures;
     }

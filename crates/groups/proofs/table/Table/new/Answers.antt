@@ -1,8 +1,10 @@
-use Rattle.std.proofs.Common.{◌≡◌, ◌≢◌, ◌==◌, true, ℕ, List, [], length, Result, Ok, Err, IfOk, arith, eq-eqb}
-use Rattle.query_check.specs.declared.function.ColumnFunction.{ColumnFunction}
+use Rattle.std.proofs.Common.{◌≡◌, ◌≢◌, ◌==◌, true, Bool, ℕ, List, [], length, map, Result, Ok, Err, IfOk, arith, eq-eqb}
+use Rattle.query_check.specs.declared.function.FilteredFunction.{FilteredFunction}
 use Rattle.std.specs.FinMap as fin
+use Rattle.groups.specs.Functions.{bound}
 use Rattle.groups.specs.Groups.{Key}
-use Rattle.groups.specs.Inside.Group.{group_state}
+use Rattle.groups.specs.Rows.{Row}
+use Rattle.groups.specs.Inside.Group.{no_group}
 use Rattle.groups.specs.Inside.Table.{Contents, IsPut, IsTableOf}
 use Rattle.groups.proofs.Meaning.{table-empty_set, table-no_group}
 use Rattle.groups.proofs.table.Table.new.Goals as goal
@@ -11,11 +13,12 @@ pub returns : goal.returns
 returns c =
     let set = c.args.set.now in
     let some : length set ≢ 0 = λ h. let t : (length set == 0) ≡ true = eq-eqb (length set) 0 h in let f = c.if-is_empty.ensures in cc in
-    record { empty = table-no_group set c.args.functions.now c.without_groups.result some c.without_groups.ensures }
+    record { empty = λ filters. table-no_group set (map (bound filters) c.args.functions.now) c.without_groups.result some c.without_groups.ensures }
 
-by_key : {E : Type 0} (set : List ℕ) (fs : List ColumnFunction) (r : Result Contents E) → length set ≡ 0 → IfOk r (λ t. (k : Key) → IsPut fin.empty t [] (group_state fs []) k) → IfOk r (λ t. IsTableOf set fs t [])
-by_key set fs (Ok t) z h = table-empty_set set fs t z h
-by_key set fs (Err e) z h = tt
+by_key : {E : Type 0} (set : List ℕ) (functions : List FilteredFunction) (r : Result Contents E) → length set ≡ 0 → IfOk r (λ t. (k : Key) → IsPut fin.empty t [] (no_group functions) k)
+    → IfOk r (λ t. (filters : List (Row → Bool)) → IsTableOf set (map (bound filters) functions) t [])
+by_key set functions (Ok t) z h = table-empty_set set functions t z h
+by_key set functions (Err e) z h = tt
 
 pub returns-then-is_empty : goal.returns-then-is_empty
 returns-then-is_empty c =

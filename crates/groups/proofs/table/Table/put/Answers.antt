@@ -6,7 +6,7 @@ use Rattle.std.specs.Map.{lookup}
 use Rattle.std.specs.Cmp.Lexicographic.{pointwise}
 use Rattle.values.specs.Datum.{data_of}
 use Rattle.groups.specs.Groups.{project}
-use Rattle.groups.specs.Inside.Group.{GroupState, group_state}
+use Rattle.groups.specs.Inside.Group.{GroupState}
 use Rattle.groups.specs.Inside.Table.{IsTaken, with_part}
 use Rattle.groups.proofs.Order.{value_eq}
 use Rattle.groups.proofs.Entries.{got-by, with_part-by, taken-first}

@@ -1,8 +1,9 @@
-use Rattle.std.proofs.Common.{◌≡◌, List, Some}
+use Rattle.std.proofs.Common.{◌≡◌, Bool, List, Some, map}
 use Rattle.std.specs.List.{AllByRecursion}
 use Rattle.std.specs.FinMap as fin
 use Rattle.values.specs.Datum.{data_of}
 use Rattle.groups.specs.Rows.{Row}
+use Rattle.groups.specs.Functions.{bound}
 use Rattle.groups.specs.Inside.Table.{IsTableOf}
 use Rattle.groups.proofs.Rolling.{IsRolled}
 use Rattle.groups.proofs.table.Table.roll.Given as goal
@@ -10,6 +11,7 @@ use Rattle.groups.proofs.table.Table.roll.Given as goal
 -- the groups so far are those of the members of the keys so far, and those that are left are groups of this table
 abbrev pub invariant-loop-key : goal.invariant-loop-key
 invariant-loop-key l = record {
-  rolled : (rows : List Row) → IsTableOf l.finer l.functions l.self rows → IsRolled l.finer l.set l.functions l.rolled l.key-iterator l.initial.key-iterator rows;
+  rolled : (filters : List (Row → Bool)) (rows : List Row) → IsTableOf l.finer (map (bound filters) l.functions) l.self rows
+      → IsRolled l.finer l.set (map (bound filters) l.functions) l.rolled l.key-iterator l.initial.key-iterator rows;
   each : AllByRecursion (λ e. fin.get l.self (data_of e.0.items) ≡ Some e.1) l.key-iterator;
 }

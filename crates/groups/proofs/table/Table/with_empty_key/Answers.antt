@@ -3,7 +3,7 @@ use Rattle.std.specs.FinMap as fin
 use Rattle.values.specs.declared.value.Value.{Value}
 use Rattle.values.specs.Datum.{data_of}
 use Rattle.groups.specs.Groups.{Key, key_order}
-use Rattle.groups.specs.Inside.Group.{GroupState, group_state}
+use Rattle.groups.specs.Inside.Group.{GroupState, no_group}
 use Rattle.groups.specs.Inside.Table.{Contents, IsFitting, IsPut}
 use Rattle.groups.proofs.table.Table.with_empty_key.Goals as goal
 
@@ -18,7 +18,7 @@ pub returns : goal.returns
 returns c =
     let old = c.without_groups-table.result in
     let new = c.put_to_group.new.self in
-    let none = group_state c.args.functions.now [] in
+    let none = no_group c.args.functions.now in
     let p = c.in_ok-put_to_group.ensures in
     let a : (k : Key) → IsPut old new [] c.in_ok-group.group k = subst (λ (vs : List Value). (k : Key) → IsPut old new (data_of vs) c.in_ok-group.group k) c.new-2.ensures.items p in
     let b : (k : Key) → IsPut old new [] none k = subst (λ (g : GroupState). (k : Key) → IsPut old new [] g k) c.in_ok-group.ensures a in

@@ -1,4 +1,4 @@
-use Rattle.std.proofs.Common.{◌+◌, ◌++◌, ◌∷◌, [], sym, ap, subst, ◌∙◌, arith}
+use Rattle.std.proofs.Common.{◌+◌, ◌++◌, ◌∷◌, [], List, sym, ap, subst, ◌∙◌, arith}
 use Rattle.std.proofs.Math.Logic.{∥∥₁_map}
 use Rattle.query_plan.specs.Planned.{fields_of_plan, form_of_plan}
 use Rattle.lines.specs.declared.fault.LineRefusal.{LineRefusal}
@@ -7,6 +7,11 @@ use Rattle.lines.specs.Taken.{taken}
 use Rattle.tables.specs.declared.folding.Folding.{Folding}
 use Rattle.tables.specs.Folding.{HasRead, good_of}
 use Rattle.query_truth.specs.Kept.{kept}
+use Rattle.query_check.specs.Sets.{grouping_places}
+use Rattle.groups.specs.Functions.{AggregateFunction}
+use Rattle.groups.specs.Inside.Table.{IsTableOf}
+use Rattle.tables.specs.Functions.{filters_kept}
+use Rattle.tables.proofs.Bound.{bound-functions}
 use Rattle.tables.proofs.Reading.{length-kept_behind, read-err, read-ok}
 use Rattle.tables.proofs.folding.Folding.read.Goals as goal
 use Rattle.tables.proofs.folding.Folding.read.Goals.{in-Ok+in_ok-take-in-Ok, in-Err-Fault+in_ok-push-in-Err-Fault}
@@ -16,8 +21,9 @@ take-requires-clause-room c =
     let fields = fields_of_plan c.args.plan.now in
     let q = form_of_plan c.args.plan.now in
     ∥∥₁_map c.requires (λ r. record {
+      filters = filters_kept fields q;
       rows = kept fields q (r.before ++ good_of fields r.seen);
-      is_table = r.has_read.table;
+      is_table = subst (λ (fs : List AggregateFunction). IsTableOf (grouping_places fields q) fs c.args.self.now.table (kept fields q (r.before ++ good_of fields r.seen))) (sym (bound-functions fields q)) r.has_read.table;
       few = (let h = length-kept_behind fields q r.before r.seen in omega (arith, h, r.few));
     })
 
@@ -28,7 +34,7 @@ returns c = λ before seen h.
     let line = c.args.line.now in
     elim c.match-read.branch [
       | in-Ok+in_ok-take-in-Ok w ↦
-          subst (λ (f : Folding). HasRead fields q before (record { table = f.table; lines = f.lines + 1; refused = f.refused }) (seen ++ line ∷ [])) (sym w.self-is)
+          subst (λ (f : Folding). HasRead fields q before (record { table = f.table; lines = f.lines + 1; refused = f.refused; marks = f.marks }) (seen ++ line ∷ [])) (sym w.self-is)
           (read-ok fields q before c.args.self.now w.take.new.self seen line w.in-Ok.taken
           (ap (λ fs. taken fs line) (sym c.schema.ensures.schema) ∙ w.in-Ok.ensures.ok) h
           w.in_ok-take-in-Ok.ensures.table w.in_ok-take-in-Ok.ensures.lines w.in_ok-take-in-Ok.ensures.refused)

@@ -1,12 +1,14 @@
-use Rattle.std.proofs.Common.{◌≡◌, ◌++◌, ◌∷◌, [], true, List, cond, rules, sym, ap, subst, ◌∙◌}
+use Rattle.std.proofs.Common.{◌≡◌, ◌++◌, ◌∷◌, [], Bool, true, List, cond, map, rules, sym, ap, subst, ◌∙◌}
+use Rattle.groups.specs.Functions.{AggregateFunction, bound}
 use Rattle.groups.specs.Rows.{IsNarrowRow, Row}
 use Rattle.groups.specs.Inside.Table.{IsTableOf}
 use Rattle.values.specs.Datum.{data_of}
-use Rattle.query_check.specs.declared.function.ColumnFunction.{ColumnFunction}
-use Rattle.query_check.specs.Functions.{functions_of}
+use Rattle.query_check.specs.Functions.{filters_of}
 use Rattle.query_check.specs.Sets.{grouping_places}
 use Rattle.query_plan.specs.Planned.{fields_of_plan, form_of_plan}
 use Rattle.query_truth.specs.Kept.{is_kept, kept}
+use Rattle.tables.specs.Functions.{aggregate_functions, filters_kept}
+use Rattle.tables.proofs.Bound.{bound-functions, marks-kept}
 use Rattle.tables.proofs.Narrow.{narrow-from_fits}
 use Rattle.tables.proofs.Reading.{kept-append}
 use Rattle.tables.proofs.folding.Folding.take.Goals as goal
@@ -19,17 +21,22 @@ returns-in_ok-add-clause-table c = λ rows given.
     let fields = fields_of_plan c.args.plan.now in
     let q = form_of_plan c.args.plan.now in
     let grouping = grouping_places fields q in
-    let fs = functions_of fields q in
+    let fs = aggregate_functions fields q in
+    let filters = filters_kept fields q in
     let row = c.args.taken.now in
     let before = kept fields q rows in
     let new = c.add.new.self in
     let is : is_kept fields q row ≡ true = search rules in
     let all : kept fields q (rows ++ row ∷ []) ≡ before ++ row ∷ [] = kept-append fields q rows (row ∷ []) ∙ ap (λ b. before ++ cond b (row ∷ []) []) is in
-    let old : IsTableOf c.grouping.result.now c.functions.result.now c.args.self.now.table before =
-    subst (λ set. IsTableOf set c.functions.result.now c.args.self.now.table before) (sym c.grouping.ensures.grouping)
-    (subst (λ (gs : List ColumnFunction). IsTableOf grouping gs c.args.self.now.table before) (sym c.functions.ensures.functions) given) in
-    let added = c.in_ok-add.ensures.added before old in
+    let marks : c.as_slice.result.now ≡ map (λ keeps. keeps (data_of c.values.result.now)) filters =
+    c.as_slice.ensures.value ∙ c.in_ok-mark_filters.ensures ∙ marks-kept fields (filters_of fields q) row
+    ∙ ap (λ (r : Row). map (λ keeps. keeps r) filters) (sym c.values.ensures.values) in
+    let bound_are : map (bound filters) c.set_functions.result.now ≡ fs = ap (map (bound filters)) c.set_functions.ensures.functions ∙ bound-functions fields q in
+    let old : IsTableOf c.grouping.result.now (map (bound filters) c.set_functions.result.now) c.args.self.now.table before =
+    subst (λ set. IsTableOf set (map (bound filters) c.set_functions.result.now) c.args.self.now.table before) (sym c.grouping.ensures.grouping)
+    (subst (λ (gs : List AggregateFunction). IsTableOf grouping gs c.args.self.now.table before) (sym bound_are) given) in
+    let added = c.in_ok-add.ensures.added filters before marks old in
     subst (λ (rs : List Row). IsTableOf grouping fs new rs) (sym all)
     (subst (λ r. IsTableOf grouping fs new (before ++ r ∷ [])) c.values.ensures.values
-    (subst (λ (gs : List ColumnFunction). IsTableOf grouping gs new (before ++ data_of c.values.result.now ∷ [])) c.functions.ensures.functions
-    (subst (λ set. IsTableOf set c.functions.result.now new (before ++ data_of c.values.result.now ∷ [])) c.grouping.ensures.grouping added)))
+    (subst (λ (gs : List AggregateFunction). IsTableOf grouping gs new (before ++ data_of c.values.result.now ∷ [])) bound_are
+    (subst (λ set. IsTableOf set (map (bound filters) c.set_functions.result.now) new (before ++ data_of c.values.result.now ∷ [])) c.grouping.ensures.grouping added)))

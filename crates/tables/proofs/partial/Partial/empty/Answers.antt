@@ -1,10 +1,12 @@
 use Rattle.std.proofs.Common.{List, [], sym, subst, arith}
 use Rattle.query_plan.specs.Planned.{fields_of_plan, form_of_plan}
-use Rattle.query_check.specs.Functions.{functions_of}
+use Rattle.query_check.specs.Functions.{indexed_functions}
 use Rattle.query_check.specs.Sets.{grouping_places}
-use Rattle.query_check.specs.declared.function.ColumnFunction.{ColumnFunction}
+use Rattle.query_check.specs.declared.function.FilteredFunction.{FilteredFunction}
 use Rattle.groups.specs.Inside.Table.{AreGroupsWithin}
 use Rattle.groups.proofs.Meaning.{table-within}
+use Rattle.tables.specs.Functions.{aggregate_functions}
+use Rattle.tables.proofs.Bound.{as-many}
 use Rattle.tables.proofs.Merging.{no-notes}
 use Rattle.tables.proofs.partial.Partial.empty.Goals as goal
 
@@ -19,8 +21,8 @@ invariant_of-result c =
       (
         omega arith,
         (
-          subst (λ (fs : List ColumnFunction). AreGroupsWithin 0 fs table) (sym c.in_ok-shape.ensures.functions)
-              (table-within (grouping_places fields q) (functions_of fields q) table [] 0 c.in_ok-folding.ensures.table (omega arith)),
+          subst (λ (fs : List FilteredFunction). AreGroupsWithin 0 fs table) (sym c.in_ok-shape.ensures.functions)
+              (table-within (grouping_places fields q) (indexed_functions fields q) (aggregate_functions fields q) table [] 0 (as-many fields q) c.in_ok-folding.ensures.table (omega arith)),
           (
             none.0,
             (none.1, tt),

@@ -2,16 +2,19 @@ use Rattle.std.proofs.Common.{◌∙◌, List, map, sym, subst}
 use Rattle.std.proofs.Math.Logic.{∥∥₁_map}
 use Rattle.groups.specs.Bags.{SameBag}
 use Rattle.groups.specs.Rows.{Row}
+use Rattle.groups.specs.Functions.{AggregateFunction}
+use Rattle.groups.specs.Inside.Table.{IsTableOf}
 use Rattle.query_plan.specs.Planned.{fields_of_plan, form_of_plan}
-use Rattle.query_check.specs.Functions.{functions_of}
-use Rattle.query_check.specs.Sets.{sets_of}
+use Rattle.query_check.specs.Sets.{grouping_places, sets_of}
 use Rattle.query_truth.specs.Kept.{kept}
 use Rattle.tables.specs.Found.{Found, row_of}
+use Rattle.tables.specs.Functions.{aggregate_functions, filters_kept}
 use Rattle.tables.specs.Notes.{notes_in}
 use Rattle.tables.specs.Partials.{StandsFor}
 use Rattle.tables.specs.Pieces.{AreNumbered, records_of}
 use Rattle.tables.specs.Results.{all_found, query_found}
 use Rattle.tables.specs.States.{PartialState}
+use Rattle.tables.proofs.Bound.{bound-functions}
 use Rattle.tables.proofs.Cutting.{cut-records, cut-refused}
 use Rattle.tables.proofs.Fitting.{found-fit}
 use Rattle.tables.proofs.Growing.{few-kept}
@@ -26,8 +29,9 @@ rows_of-requires c =
     ∥∥₁_map c.requires.of_plan (λ s.
     let p = subst (λ (v : PartialState). StandsFor fields q v s.0) (sym c.self.view_is) s.1 in
     record {
+      filters = filters_kept fields q;
       rows = kept fields q (records_of fields s.0);
-      is_table = p.table;
+      is_table = subst (λ (fs : List AggregateFunction). IsTableOf (grouping_places fields q) fs c.self.inside.table (kept fields q (records_of fields s.0))) (sym (bound-functions fields q)) p.table;
       few = few-kept fields q s.0 c.self.inside.lines p.lines c.self.inside.few;
     })
 
@@ -58,7 +62,7 @@ returns-clause-fit c = λ pieces given.
     let q = form_of_plan c.args.plan.now in
     let p = subst (λ (v : PartialState). StandsFor fields q v pieces) (sym c.self.view_is) given in
     let rows = kept fields q (records_of fields pieces) in
-    let found = all_found (sets_of fields q) (functions_of fields q) rows in
+    let found = all_found (sets_of fields q) (aggregate_functions fields q) rows in
     found-fit fields q rows c.new.result.found
     (subst (λ (fs : List Found). SameBag fs found) (sym c.new.ensures.rows) (c.in_ok-rows.ensures (records_of fields pieces) p.table))
     (kept-fits fields q pieces)

@@ -8,9 +8,9 @@ use Rattle.groups.specs.Bags.{SameBag}
 use Rattle.groups.specs.Rows.{Row}
 use Rattle.groups.specs.Inside.Table.{AreGroupsWithin, IsTableOf}
 use Rattle.groups.proofs.Meaning.{table-within}
-use Rattle.query_check.specs.declared.function.ColumnFunction.{ColumnFunction}
+use Rattle.query_check.specs.declared.function.FilteredFunction.{FilteredFunction}
 use Rattle.query_plan.specs.Planned.{fields_of_plan, form_of_plan}
-use Rattle.query_check.specs.Functions.{functions_of}
+use Rattle.query_check.specs.Functions.{indexed_functions}
 use Rattle.query_check.specs.Sets.{grouping_places}
 use Rattle.query_truth.specs.Kept.{kept}
 use Rattle.tables.specs.declared.note.Note.{Note}
@@ -19,6 +19,8 @@ use Rattle.tables.specs.Notes.{IsWellNumbered, Noted, note_in, note_of}
 use Rattle.tables.specs.Partials.{StandsFor}
 use Rattle.tables.specs.Pieces.{IndexedPiece, records_of}
 use Rattle.tables.specs.States.{PartialState}
+use Rattle.tables.specs.Functions.{aggregate_functions}
+use Rattle.tables.proofs.Bound.{as-many}
 use Rattle.tables.proofs.Growing.{begun, few-records, lines-more, notes-more, one-noted_more, records-more, refused-more}
 use Rattle.tables.proofs.Reading.{length-kept_behind, length-refused_of, well-numbered}
 use Rattle.tables.proofs.partial.Partial.fold_onto.Goals as goal
@@ -82,8 +84,8 @@ invariant_of-result c =
           ∥∥₁_elim c.requires.of_plan (hlevel props) (λ s.
               let p = subst (λ (v : PartialState). StandsFor fields q v s.0) (sym c.self.view_is) s.1 in
               let r = read s in
-              subst (λ (fs : List ColumnFunction). AreGroupsWithin (self.lines + folding.lines) fs folding.table) (sym p.functions)
-              (table-within (grouping_places fields q) (functions_of fields q) folding.table (kept fields q (records_of fields s.0 ++ good_of fields ls)) (self.lines + folding.lines) r.table
+              subst (λ (fs : List FilteredFunction). AreGroupsWithin (self.lines + folding.lines) fs folding.table) (sym p.functions)
+              (table-within (grouping_places fields q) (indexed_functions fields q) (aggregate_functions fields q) folding.table (kept fields q (records_of fields s.0 ++ good_of fields ls)) (self.lines + folding.lines) (as-many fields q) r.table
               (let few = length-kept_behind fields q (records_of fields s.0) ls in let records = few-records fields s.0 in let before = p.lines in omega (arith, few, records, before, count)))),
           (
             noted.0,
@@ -106,7 +108,8 @@ returns-clause-stands c = λ pieces given.
     record {
       sets = p.sets;
       functions = p.functions;
-      table = subst (λ (rows : List Row). IsTableOf (grouping_places fields q) (functions_of fields q) folding.table (kept fields q rows)) (sym (records-more fields pieces c.args.index bytes)) read.table;
+      filters = p.filters;
+      table = subst (λ (rows : List Row). IsTableOf (grouping_places fields q) (aggregate_functions fields q) folding.table (kept fields q rows)) (sym (records-more fields pieces c.args.index bytes)) read.table;
       lines = (let x = p.lines in let y = read.lines in let z = lines-more pieces c.args.index bytes in omega (arith, x, y, z));
       refused = (let x = p.refused in let n = c.len-more.ensures in let y = ap length read.refused in let z = refused-more fields pieces c.args.index bytes in omega (arith, x, n, y, z));
       notes = subst (λ (ns : List Noted). SameBag (map (note_of fields) (pieces ++ record { index = c.args.index; bytes = bytes } ∷ [])) ns)

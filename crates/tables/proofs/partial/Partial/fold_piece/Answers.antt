@@ -1,7 +1,7 @@
 use Rattle.std.proofs.Common.{◌∷◌, [], List, length, map, refl, sym, ap, subst, arith}
 use Rattle.lines.specs.Lines.{lines}
 use Rattle.query_plan.specs.Planned.{fields_of_plan, form_of_plan}
-use Rattle.query_check.specs.Functions.{functions_of}
+use Rattle.query_check.specs.Functions.{indexed_functions}
 use Rattle.query_check.specs.Sets.{grouping_places}
 use Rattle.query_truth.specs.Kept.{kept}
 use Rattle.tables.specs.Folding.{good_of}
@@ -9,8 +9,10 @@ use Rattle.groups.specs.Bags.{SameBag}
 use Rattle.groups.specs.Rows.{Row}
 use Rattle.groups.specs.Inside.Table.{AreGroupsWithin, IsTableOf}
 use Rattle.groups.proofs.Meaning.{table-within}
-use Rattle.query_check.specs.declared.function.ColumnFunction.{ColumnFunction}
+use Rattle.query_check.specs.declared.function.FilteredFunction.{FilteredFunction}
 use Rattle.tables.specs.Notes.{Noted, note_in, note_of}
+use Rattle.tables.specs.Functions.{aggregate_functions}
+use Rattle.tables.proofs.Bound.{as-many}
 use Rattle.tables.proofs.Growing.{lines-more, notes-more, records-more, refused-more}
 use Rattle.tables.proofs.Merging.{one-note}
 use Rattle.tables.proofs.Reading.{length-good_of, length-kept, length-lines, length-refused_of, well-numbered}
@@ -41,8 +43,8 @@ invariant_of-result c =
       (
         (let n = c.len-count.ensures in let r = ap length read.refused in let m = length-refused_of fields ls in let ok = folding.refused.ok in grind (arith, n, r, m, count, ok)),
         (
-          subst (λ (fs : List ColumnFunction). AreGroupsWithin folding.lines fs folding.table) (sym c.in_ok-shape.ensures.functions)
-              (table-within (grouping_places fields q) (functions_of fields q) folding.table (kept fields q (good_of fields ls)) folding.lines read.table (omega (arith, good, few, count))),
+          subst (λ (fs : List FilteredFunction). AreGroupsWithin folding.lines fs folding.table) (sym c.in_ok-shape.ensures.functions)
+              (table-within (grouping_places fields q) (indexed_functions fields q) (aggregate_functions fields q) folding.table (kept fields q (good_of fields ls)) folding.lines (as-many fields q) read.table (omega (arith, good, few, count))),
           (
             notes.0,
             (notes.1, tt),
@@ -62,7 +64,8 @@ returns c =
       stands = record {
         sets = c.in_ok-shape.ensures.sets;
         functions = c.in_ok-shape.ensures.functions;
-        table = subst (λ (rows : List Row). IsTableOf (grouping_places fields q) (functions_of fields q) folding.table (kept fields q rows)) (sym (records-more fields [] c.args.index bytes)) read.table;
+        filters = c.in_ok-shape.ensures.filters;
+        table = subst (λ (rows : List Row). IsTableOf (grouping_places fields q) (aggregate_functions fields q) folding.table (kept fields q rows)) (sym (records-more fields [] c.args.index bytes)) read.table;
         lines = (let y = read.lines in let z = lines-more [] c.args.index bytes in omega (arith, y, z));
         refused = (let n = c.len-count.ensures in let y = ap length read.refused in let z = refused-more fields [] c.args.index bytes in omega (arith, n, y, z));
         notes = subst (λ (ns : List Noted). SameBag (map (note_of fields) (record { index = c.args.index; bytes = bytes } ∷ [])) ns)

@@ -1,10 +1,10 @@
 use Rattle.std.proofs.Common.{◌≡◌, ◌+◌, ◌<◌, ◌≤◌, ◌^◌, ◌++◌, List, All, sym, ap, subst, ◌∙◌, arith}
 use Rattle.groups.specs.Rows.{Row}
-use Rattle.query_check.specs.Functions.{functions_of}
 use Rattle.query_check.specs.Sets.{grouping_places}
-use Rattle.query_check.specs.declared.function.ColumnFunction.{ColumnFunction}
+use Rattle.query_check.specs.declared.function.FilteredFunction.{FilteredFunction}
 use Rattle.groups.specs.Inside.Table.{AreGroupsWithin, IsTableOf}
 use Rattle.groups.proofs.Meaning.{tables-within, within-can_join}
+use Rattle.tables.specs.Functions.{aggregate_functions}
 use Rattle.tables.specs.Notes.{notes_in}
 use Rattle.tables.specs.Pieces.{records_of}
 use Rattle.tables.specs.Partials.{StandsFor}
@@ -25,7 +25,7 @@ absorb-requires c =
     let second : b.lines ≡ c.args.rest.lines = ap (λ (v : PartialState). v.lines) c.rest.view_is in
     let few : a.lines + b.lines < 2 ^ 63 = omega (arith, first, second, c.requires.few) in
     within-can_join a.shape.functions.items a.lines b.lines a.table b.table few a.within
-    (subst (λ (fs : List ColumnFunction). AreGroupsWithin b.lines fs b.table) (sym functions) b.within)
+    (subst (λ (fs : List FilteredFunction). AreGroupsWithin b.lines fs b.table) (sym functions) b.within)
 
 pub number-requires-clause-few : goal.number-requires-clause-few
 number-requires-clause-few c = let a = c.self.inside in let counted = a.counted in let few = a.few in omega (arith, counted, few)
@@ -63,7 +63,7 @@ invariant_of-result c =
         (let x = a.fewer in let y = b.fewer in omega (arith, x, y)),
         (
           tables-within a.shape.functions.items a.lines b.lines a.table b.table c.absorb.new.self a.within
-              (subst (λ (fs : List ColumnFunction). AreGroupsWithin b.lines fs b.table) (sym functions) b.within)
+              (subst (λ (fs : List FilteredFunction). AreGroupsWithin b.lines fs b.table) (sym functions) b.within)
               c.in_ok-absorb.ensures.groups,
           (
             notes.0,
@@ -88,9 +88,10 @@ returns c = record {
       record {
         sets = p.sets;
         functions = p.functions;
-        table = subst (λ (rows : List Row). IsTableOf (grouping_places fields q) (functions_of fields q) c.absorb.new.self rows)
+        filters = p.filters;
+        table = subst (λ (rows : List Row). IsTableOf (grouping_places fields q) (aggregate_functions fields q) c.absorb.new.self rows)
             (sym (ap (kept fields q) (followed-records fields front back given.pieces other.pieces whole given.cut other.cut) ∙ kept-append fields q (records_of fields given.pieces) (records_of fields other.pieces)))
-            (c.in_ok-absorb.ensures.joined (grouping_places fields q) (functions_of fields q) (kept fields q (records_of fields given.pieces)) (kept fields q (records_of fields other.pieces)) p.table m.table);
+            (c.in_ok-absorb.ensures.joined (grouping_places fields q) (aggregate_functions fields q) (kept fields q (records_of fields given.pieces)) (kept fields q (records_of fields other.pieces)) p.table m.table);
         lines = (let x = p.lines in let y = m.lines in let z = whole-lines (front ++ back) in omega (arith, x, y, z, count));
         refused = (let x = p.refused in let y = m.refused in let z = followed-count fields front back given.pieces other.pieces whole given.cut other.cut in omega (arith, x, y, z));
         notes = followed-note fields (front ++ back) c.in_ok-notes.notes.items _ c.in_ok-notes.ensures (omega arith) (let x = p.lines in let y = m.lines in omega (arith, x, y, count)) refused;

@@ -4,11 +4,11 @@ use Rattle.std.proofs.lemmas.List.{map-append}
 use Rattle.std.proofs.lemmas.List.Elements.{All-append}
 use Rattle.groups.specs.Bags.{SameBag}
 use Rattle.groups.specs.Rows.{Row}
-use Rattle.query_check.specs.Functions.{functions_of}
 use Rattle.query_check.specs.Sets.{grouping_places}
-use Rattle.query_check.specs.declared.function.ColumnFunction.{ColumnFunction}
+use Rattle.query_check.specs.declared.function.FilteredFunction.{FilteredFunction}
 use Rattle.groups.specs.Inside.Table.{AreGroupsWithin, IsTableOf}
 use Rattle.groups.proofs.Meaning.{tables-within, within-can_join}
+use Rattle.tables.specs.Functions.{aggregate_functions}
 use Rattle.tables.specs.Notes.{IsWellNumbered, Noted, lines_noted, note_in, note_of, notes_in}
 use Rattle.tables.specs.Pieces.{records_of}
 use Rattle.tables.specs.Partials.{StandsFor}
@@ -28,7 +28,7 @@ absorb-requires c =
     let second : b.lines ≡ c.args.other.lines = ap (λ (v : PartialState). v.lines) c.other.view_is in
     let few : a.lines + b.lines < 2 ^ 63 = omega (arith, first, second, c.requires.few) in
     within-can_join a.shape.functions.items a.lines b.lines a.table b.table few a.within
-    (subst (λ (fs : List ColumnFunction). AreGroupsWithin b.lines fs b.table) (sym functions) b.within)
+    (subst (λ (fs : List FilteredFunction). AreGroupsWithin b.lines fs b.table) (sym functions) b.within)
 
 pub invariant_of-result : goal.invariant_of-result
 invariant_of-result c =
@@ -44,7 +44,7 @@ invariant_of-result c =
         (let x = a.fewer in let y = b.fewer in omega (arith, x, y)),
         (
           tables-within a.shape.functions.items a.lines b.lines a.table b.table c.absorb.new.self a.within
-              (subst (λ (fs : List ColumnFunction). AreGroupsWithin b.lines fs b.table) (sym functions) b.within)
+              (subst (λ (fs : List FilteredFunction). AreGroupsWithin b.lines fs b.table) (sym functions) b.within)
               c.in_ok-absorb.ensures.groups,
           (
             ap lines_noted joined ∙ counted-append (notes_in a.notes) (notes_in b.notes) a.lines b.lines a.counted b.counted,
@@ -64,8 +64,9 @@ returns-clause-stands c = λ fields q pieces more given other.
     record {
       sets = p.sets;
       functions = p.functions;
-      table = subst (λ (rows : List Row). IsTableOf (grouping_places fields q) (functions_of fields q) c.absorb.new.self rows) (sym (ap (kept fields q) (records-append fields pieces more) ∙ kept-append fields q (records_of fields pieces) (records_of fields more)))
-          (c.in_ok-absorb.ensures.joined (grouping_places fields q) (functions_of fields q) (kept fields q (records_of fields pieces)) (kept fields q (records_of fields more)) p.table m.table);
+      filters = p.filters;
+      table = subst (λ (rows : List Row). IsTableOf (grouping_places fields q) (aggregate_functions fields q) c.absorb.new.self rows) (sym (ap (kept fields q) (records-append fields pieces more) ∙ kept-append fields q (records_of fields pieces) (records_of fields more)))
+          (c.in_ok-absorb.ensures.joined (grouping_places fields q) (aggregate_functions fields q) (kept fields q (records_of fields pieces)) (kept fields q (records_of fields more)) p.table m.table);
       lines = (let x = p.lines in let y = m.lines in let z = lines-append pieces more in omega (arith, x, y, z));
       refused = (let x = p.refused in let y = m.refused in let z = refused-append fields pieces more in omega (arith, x, y, z));
       notes = subst (λ (ns : List Noted). SameBag (map (note_of fields) (pieces ++ more)) ns) (sym joined) (notes-append fields pieces more (notes_in a.notes) (notes_in b.notes) p.notes m.notes);

@@ -1,0 +1,59 @@
+-- The set functions of a query, by the indexes of their filters.
+use Rattle.std.proofs.Common.{◌≡◌, Bool, false, ℕ, zero, suc, List, [], ◌∷◌, length, map, Option, Some, None, option_map, position, slice_get, slice_index_or, refl, sym, ap, ◌∙◌}
+use Rattle.std.proofs.lemmas.List.{length-map}
+use Rattle.std.specs.Option.{option_and_then}
+use Rattle.values.specs.Schema.{Field}
+use Rattle.query_tree.specs.Syntax.{PredicateForm, TreeForm}
+use Rattle.query_check.specs.Filters.{filters_at}
+use Rattle.query_check.specs.Functions.{PlannedFunction, filters_of, functions_of, indexed, indexed_functions}
+use Rattle.query_check.specs.Same.{same_predicate}
+use Rattle.query_check.proofs.FilterLemmas.{indexes_lead_back}
+use Rattle.query_truth.specs.Kept.{passes}
+use Rattle.groups.specs.Functions.{AggregateFunction, bound, filter_at}
+use Rattle.groups.specs.Rows.{Row}
+use Rattle.tables.specs.Functions.{aggregate_function, aggregate_functions, filters_kept}
+
+-- what the filter with an index keeps, where there is such a filter
+got : (fields : List Field) (filters : List PredicateForm) (index : ℕ) (p : PredicateForm) → slice_get filters index ≡ Some p
+    → filter_at (map (passes fields) filters) index ≡ passes fields p
+got fields [] index p e = cc
+got fields (q ∷ filters) zero p e = let same : q ≡ p = cc in ap (passes fields) same
+got fields (q ∷ filters) (suc index) p e = got fields filters index p e
+
+found : (fields : List Field) (filters : List PredicateForm) (o : Option ℕ) (p : PredicateForm) → option_and_then (slice_get filters) o ≡ Some p
+    → option_map (filter_at (map (passes fields) filters)) o ≡ Some (passes fields p)
+found fields filters None p e = cc
+found fields filters (Some index) p e = ap Some (got fields filters index p e)
+
+filter-bound : (fields : List Field) (filters : List PredicateForm) (t : Option PredicateForm)
+    → option_and_then (slice_get filters) (option_and_then (λ p. position (same_predicate p) filters) t) ≡ t
+    → option_map (filter_at (map (passes fields) filters)) (option_and_then (λ p. position (same_predicate p) filters) t) ≡ option_map (passes fields) t
+filter-bound fields filters None e = refl
+filter-bound fields filters (Some p) e = found fields filters (position (same_predicate p) filters) p e
+
+first : {X : Type 0} (x y : X) (xs ys : List X) → x ∷ xs ≡ y ∷ ys → x ≡ y
+first x y xs ys e = cc
+
+rest : {X : Type 0} (x y : X) (xs ys : List X) → x ∷ xs ≡ y ∷ ys → xs ≡ ys
+rest x y xs ys e = cc
+
+each-bound : (fields : List Field) (filters : List PredicateForm) (fs : List PlannedFunction) → filters_at filters (map (indexed filters) fs) ≡ map (λ f. f.filter) fs
+    → map (bound (map (passes fields) filters)) (map (indexed filters) fs) ≡ map (aggregate_function fields) fs
+each-bound fields filters [] e = refl
+each-bound fields filters (f ∷ fs) e =
+    let this = filter-bound fields filters f.filter (first _ _ _ _ e) in
+    let more = each-bound fields filters fs (rest _ _ _ _ e) in
+    λ i. record { function = f.function; filter = this i } ∷ more i
+
+-- where the index of each function leads to its filter, the functions by their indexes are those of the query
+pub bound-functions : (fields : List Field) (q : TreeForm) → map (bound (filters_kept fields q)) (indexed_functions fields q) ≡ aggregate_functions fields q
+bound-functions fields q = each-bound fields (filters_of fields q) (functions_of fields q) (indexes_lead_back fields q)
+
+-- as many
+pub as-many : (fields : List Field) (q : TreeForm) → length (aggregate_functions fields q) ≡ length (indexed_functions fields q)
+as-many fields q = length-map (functions_of fields q) (aggregate_function fields) ∙ sym (length-map (functions_of fields q) (indexed (filters_of fields q)))
+
+-- the marks of a record by the filters of a query
+pub marks-kept : (fields : List Field) (filters : List PredicateForm) (row : Row) → map (λ p. passes fields p row) filters ≡ map (λ keeps. keeps row) (map (passes fields) filters)
+marks-kept fields [] row = refl
+marks-kept fields (p ∷ filters) row = ap (λ ms. passes fields p row ∷ ms) (marks-kept fields filters row)
