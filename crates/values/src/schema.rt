@@ -35,7 +35,9 @@ impl Kind {
             (_, Value::Null) => true,
             (Kind::Int, Value::Int(number)) => i64::try_from(*number).is_ok(),
             (Kind::Text, Value::Text(_)) | (Kind::Bool, Value::Bool(_)) => true,
-            _ => false,
+            (Kind::Int, Value::Text(_) | Value::Bool(_))
+            | (Kind::Text, Value::Int(_) | Value::Bool(_))
+            | (Kind::Bool, Value::Int(_) | Value::Text(_)) => false,
         }
     }
 }

@@ -20,7 +20,7 @@ impl Truth {
         match (self, other) {
             (Truth::False, _) | (_, Truth::False) => Truth::False,
             (Truth::True, Truth::True) => Truth::True,
-            _ => Truth::Unknown,
+            (Truth::Unknown, _) | (_, Truth::Unknown) => Truth::Unknown,
         }
     }
 
@@ -31,7 +31,7 @@ impl Truth {
         match (self, other) {
             (Truth::True, _) | (_, Truth::True) => Truth::True,
             (Truth::False, Truth::False) => Truth::False,
-            _ => Truth::Unknown,
+            (Truth::Unknown, _) | (_, Truth::Unknown) => Truth::Unknown,
         }
     }
 
