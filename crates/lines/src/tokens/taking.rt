@@ -31,7 +31,7 @@ pub(crate) fn take_members(
     // Members mostly come in the order of the columns.
     let mut next = 0;
     'members: while let Some(name) = reader.next_key().ok()? {
-        match place_of(columns, name, next) {
+        match place_found_from(columns, name, next) {
             Some(place) => {
                 let value = take_value(columns[place].kind, reader, spare)?;
                 put_at(&mut values, place, value);
@@ -65,7 +65,7 @@ fn missing_values(columns: &[Column], spare: &mut Spare) -> Option<Vec<Value>>
 }
 
 /// The place of the column of a name, which is looked for from `first` on, and then before `first`.
-fn place_of(columns: &[Column], name: &str, first: usize) -> Option<usize>
+fn place_found_from(columns: &[Column], name: &str, first: usize) -> Option<usize>
     requires { first ≤ length columns.now }
     ensures { MatchOption result (All (λ f. f.name ≢ name.now) (fields_of columns.now))
         (λ place. (place < length columns.now) × ((d : Field) → (get_or (fields_of columns.now) place d).name ≡ name.now)) }

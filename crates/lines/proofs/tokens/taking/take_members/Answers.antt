@@ -27,28 +27,28 @@ put_at-requires c =
     let columns = c.args.columns.now in
     let found = c.members.invariant.found in
     let same : length (somes (data_of values)) ≡ length (data_taken (fields_of columns) found) = ap length c.members.invariant.taken in
-    omega (arith, c.in-Some-place_of.ensures.0, same, length-map values datum_of, length-map (data_of values) (λ d. Some d), length-map columns field_of, length-map (fields_of columns) (λ f. datum_taken f.kind (member_of found f.name)))
+    omega (arith, c.in-Some-place_found_from.ensures.0, same, length-map values datum_of, length-map (data_of values) (λ d. Some d), length-map columns field_of, length-map (fields_of columns) (λ f. datum_taken f.kind (member_of found f.name)))
 
-pub members-preserved-in-Some-place_of : goal.members-preserved-in-Some-place_of
-members-preserved-in-Some-place_of c =
+pub members-preserved-in-Some-place_found_from : goal.members-preserved-in-Some-place_found_from
+members-preserved-in-Some-place_found_from c =
     let p = value 126 in
     let l = c.members in
     let so_far = l.invariant in
     let k = c.in-Some.name.now in
     let s = c.next_key.new.self in
     let named : read_key l.reader ≡ Some (Some k, s) = grind arith in
-    let done = c.in_ok-value-in-Some-place_of.ensures in
+    let done = c.in_ok-value-in-Some-place_found_from.ensures in
     let d = done.taken.0 in
     let r = c.take_value.new.reader in
     let less = read_key-shorter l.reader (Some k) s named in
     let lesser = done.shorter in
-    let found = c.in-Some-place_of.ensures in
+    let found = c.in-Some-place_found_from.ensures in
     record {
       turns = so_far.turns - 1;
       found = put k d so_far.found;
       enough = omega (arith, so_far.enough);
       read = so_far.read ∙ member_read p so_far.found so_far.turns k l.reader s r d (omega (arith, so_far.enough)) named done.taken.1;
-      taken = rw (c.put_at.ensures) (taken-place c.args.columns.now l.values.items so_far.found k d so_far.taken c.in-Some-place_of.place c.index-columns-place.result c.in_ok-value-in-Some-place_of.value c.requires.names_differ found.0 c.index-columns-place.is found.1 (ap (λ column. datum_taken column.kind d) c.index-columns-place.is ∙ done.taken.2));
+      taken = rw (c.put_at.ensures) (taken-place c.args.columns.now l.values.items so_far.found k d so_far.taken c.in-Some-place_found_from.place c.index-columns-place.result c.in_ok-value-in-Some-place_found_from.value c.requires.names_differ found.0 c.index-columns-place.is found.1 (ap (λ column. datum_taken column.kind d) c.index-columns-place.is ∙ done.taken.2));
       next_within = omega (arith, found.0);
     }
 
