@@ -104,9 +104,16 @@ distinct_agrees same other f agree xs =
     ∙ sym (distinct_of_map other f xs)
 
 -- Of sets in the order of the grouping columns the lists without repeats are the sets without repeats.
-pub sets_without_repeats : {X : Type 0} (grouping : List ℕ) (places : X → List ℕ) (xs : List X)
+sets_without_repeats : {X : Type 0} (grouping : List ℕ) (places : X → List ℕ) (xs : List X)
     → distinct bytes_eq (map (λ x. ordered_set grouping (places x)) xs) ≡ distinct same_columns (map (λ x. ordered_set grouping (places x)) xs)
 sets_without_repeats grouping places xs = distinct_agrees bytes_eq same_columns (λ x. ordered_set grouping (places x)) (λ a b. equal_ordered grouping (places a) (places b)) xs
+
+-- So it is where repeats are dropped or kept.
+pub kept_sets : {X : Type 0} (drop : Bool) (grouping : List ℕ) (places : X → List ℕ) (xs : List X) (all : List (List ℕ)) → all ≡ map (λ x. ordered_set grouping (places x)) xs
+    → (if drop then distinct bytes_eq all else all)
+    ≡ (if drop then distinct same_columns (map (λ x. ordered_set grouping (places x)) xs) else map (λ x. ordered_set grouping (places x)) xs)
+kept_sets true grouping places xs all is = ap (distinct bytes_eq) is ∙ sets_without_repeats grouping places xs
+kept_sets false grouping places xs all is = is
 
 -- ---- the sets of a query
 

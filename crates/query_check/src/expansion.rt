@@ -10,7 +10,7 @@ ghost use Rattle.query_check.specs.Resolution.{contents};
 use crate::joining::{cube, one_set, ordered_set, ordered_sets, rollup};
 use crate::names::push_places;
 use crate::product::Product;
-use crate::repeats::without_repeats;
+use crate::repeats::kept;
 use query_tree::{GroupingElement, Text};
 use std::alloc::{AllocError, Global};
 use values::Column;
@@ -104,8 +104,5 @@ pub(crate) fn grouping_sets(
     ensures { let all = map (λ names. ordered_set grouping.now (places_of (fields_of columns.now) names)) (expanded (map element_form groups.now)) in IfOk result (λ v. contents v.items ≡ (if distinct_sets then distinct same_columns all else all)) }
 {
     let all = expand(alloc, columns, grouping, groups)?;
-    if distinct_sets {
-        return without_repeats(alloc, &all);
-    }
-    Ok(all)
+    kept(alloc, distinct_sets, all)
 }

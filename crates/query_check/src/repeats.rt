@@ -1,6 +1,6 @@
 //! Sets of places of columns, without repeats.
 
-ghost use Rattle.std.specs.Prelude.{◌≡◌, IfOk};
+ghost use Rattle.std.specs.Prelude.{◌≡◌, if◌then◌else◌, IfOk};
 ghost use Rattle.std.specs.List.{list_any};
 ghost use Rattle.std.specs.Str.{bytes_eq};
 ghost use Rattle.query_check.specs.Columns.{distinct};
@@ -23,10 +23,7 @@ fn copied(alloc: Global, set: &[usize]) -> Result<Vec<usize>, AllocError>
 }
 
 /// The sets without repeats, each where it first stands. Sets whose columns stand in another order are different.
-pub(crate) fn without_repeats(
-    alloc: Global,
-    sets: &[Vec<usize>],
-) -> Result<Vec<Vec<usize>>, AllocError>
+fn without_repeats(alloc: Global, sets: &[Vec<usize>]) -> Result<Vec<Vec<usize>>, AllocError>
     ensures { IfOk result (λ v. contents v.items ≡ distinct bytes_eq (contents sets.now)) }
 {
     let mut found: Vec<Vec<usize>> = Vec::new(alloc);
@@ -36,4 +33,18 @@ pub(crate) fn without_repeats(
         }
     }
     Ok(found)
+}
+
+/// The sets, without repeats where they are to be distinct.
+pub(crate) fn kept(
+    alloc: Global,
+    distinct_sets: bool,
+    sets: Vec<Vec<usize>>,
+) -> Result<Vec<Vec<usize>>, AllocError>
+    ensures { IfOk result (λ v. contents v.items ≡ (if distinct_sets then distinct bytes_eq (contents sets.items) else contents sets.items)) }
+{
+    if distinct_sets {
+        return without_repeats(alloc, &sets);
+    }
+    Ok(sets)
 }
