@@ -5,7 +5,8 @@ use Rattle.std.proofs.lemmas.Slice.Eq.{slice_eq-Decides}
 use Rattle.std.specs.Bool.{Decides}
 use Rattle.std.specs.Cmp.Lexicographic.{pointwise}
 use Rattle.std.specs.Option.{option_eq}
-use Rattle.std.specs.String.{String, string_eq}
+use Rattle.std.specs.Prelude.{String}
+use Rattle.std.specs.String.{string_eq}
 use Rattle.query_check.specs.contracts.function.ColumnFunctionPartialEq.TheImpl.{eq-value}
 use Rattle.query_check.specs.contracts.function.FilteredFunctionPartialEq.TheImpl as filtered
 use Rattle.query_check.specs.declared.function.ColumnFunction.{ColumnFunction}
