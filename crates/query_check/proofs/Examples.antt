@@ -1,4 +1,4 @@
--- The faults that stand in a query, computed on examples.
+-- The faults that stand in a query, its set functions and its filters, computed on examples.
 use Rattle.std.proofs.Common.{◌≡◌, zero, suc, true, false, ℕ, List, [], ◌∷◌, Some, None, Contains, pos, refl, ap, inl, inr, arith, codes}
 use Rattle.std.specs.Str.{bytes_eq}
 use Rattle.values.specs.declared.comparison.Op.TheVariants.{Eq}
@@ -6,9 +6,13 @@ use Rattle.values.specs.declared.schema.Kind.TheVariants as kind
 use Rattle.values.specs.Schema.{Field}
 use Rattle.query_tree.specs.declared.expression.Aggregate.TheVariants as aggregate
 use Rattle.query_tree.specs.declared.predicate.Literal.TheVariants as constant
-use Rattle.query_tree.specs.Syntax.{ExpressionForm, ItemForm, PredicateForm, TreeForm, name, function, over_all, expression, literal, compare, set}
+use Rattle.query_tree.specs.Syntax.{ExpressionForm, ItemForm, PredicateForm, TreeForm, name, function, over_all, over_filtered, expression, literal, compare, column, set}
 use Rattle.query_fault.specs.declared.QueryFault.TheVariants as faults
 use Rattle.query_check.specs.declared.scope.Clause.TheVariants as clause
+use Rattle.query_check.specs.declared.function.ColumnFunction.TheVariants as at
+use Rattle.query_check.specs.declared.function.FilteredFunction.{FilteredFunction}
+use Rattle.query_check.specs.Faults.{clauses_fault, query_fault, records_fault, rows_fault, select_fault}
+use Rattle.query_check.specs.Functions.{filters_of, indexed_functions}
 use Rattle.query_check.specs.Standing.{Stands}
 
 -- a text, a whole number and a truth value
@@ -94,3 +98,67 @@ average_ordered = (clause.OrderBy, average, (0, omega arith, refl), λ may. may)
 -- no fault of a text stands in a query that was read
 of_a_text : Stands fields by_average (faults.NoToken 0) → ⊥
 of_a_text h = h
+
+-- ---- FILTER
+
+-- COUNT(*) FILTER (WHERE p)
+abbrev counted : PredicateForm → ExpressionForm
+counted p = function (over_filtered aggregate.CountRows p)
+
+-- SELECT COUNT(*) FILTER (WHERE d = 1) names no column: d
+unknown_in_filter : Stands fields (selected (item (counted (is_one (codes "d"))) ∷ [])) (faults.UnknownColumn (codes "d"))
+unknown_in_filter = (
+  inr (
+    clause.Where,
+    name (codes "d"),
+    (is_one (codes "d"), inr (is_one (codes "d"), (clause.Select, aggregate.CountRows, (0, omega arith, refl)), (0, omega arith, refl)), (0, omega arith, refl)),
+    (0, omega arith, refl),
+  ),
+  λ is. let clash : ⊥ = cc in clash,
+)
+
+-- SELECT COUNT(*) FILTER (WHERE c): c is a text, no truth value
+types_in_filter : Stands fields (selected (item (counted (column (codes "c"))) ∷ [])) faults.TypesDisagree
+types_in_filter = inl (
+  clause.Where,
+  column (codes "c"),
+  inr (column (codes "c"), (clause.Select, aggregate.CountRows, (0, omega arith, refl)), (0, omega arith, refl)),
+  (kind.Text, kind.Bool, refl, refl, λ e. let clash : ⊥ = cc in clash),
+)
+
+-- COUNT(*) = 1
+abbrev counts_one : PredicateForm
+counts_one = compare (expression (function (over_all aggregate.CountRows))) Eq (literal (constant.Integer (pos 1)))
+
+-- SELECT COUNT(*) FILTER (WHERE COUNT(*) = 1): a set function in a FILTER
+function_in_filter : Stands fields (selected (item (counted counts_one) ∷ [])) faults.FunctionNotAllowed
+function_in_filter = (
+  clause.Where,
+  function (over_all aggregate.CountRows),
+  (counts_one, inr (counts_one, (clause.Select, aggregate.CountRows, (0, omega arith, refl)), (0, omega arith, refl)), (0, omega arith, refl)),
+  λ may. may,
+)
+
+-- SELECT COUNT(*) FILTER (WHERE q = 1) .. GROUP BY c is typed: within FILTER q need not be grouped
+filter_of_any_column : query_fault fields (selected (item (counted (is_one (codes "q"))) ∷ [])) ≡ None
+unfolding clauses_fault records_fault select_fault rows_fault
+filter_of_any_column = refl
+
+-- SELECT COUNT(*), COUNT(*) FILTER (WHERE b), SUM(q) FILTER (WHERE b), COUNT(*) FILTER (WHERE q = 1), COUNT(*) FILTER (WHERE b)
+abbrev filtered_query : TreeForm
+filtered_query = selected (
+  item (function (over_all aggregate.CountRows))
+  ∷ item (counted (column (codes "b")))
+  ∷ item (function (over_filtered (aggregate.Sum (codes "q")) (column (codes "b"))))
+  ∷ item (counted (is_one (codes "q")))
+  ∷ item (counted (column (codes "b")))
+  ∷ []
+)
+
+-- it has two different filters, and four different set functions
+filters : filters_of fields filtered_query ≡ column (codes "b") ∷ is_one (codes "q") ∷ []
+filters = refl
+
+functions : indexed_functions fields filtered_query
+    ≡ record { function = at.CountRows; filter = None } ∷ record { function = at.CountRows; filter = Some 0 } ∷ record { function = at.Sum 1; filter = Some 0 } ∷ record { function = at.CountRows; filter = Some 1 } ∷ []
+functions = refl

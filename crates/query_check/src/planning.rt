@@ -1,6 +1,6 @@
 //! The different set functions of a query, and their different filters.
 
-ghost use Rattle.std.specs.Prelude.{◌≡◌, ◌++◌, map, option_map, position, IfOk, OnOk};
+ghost use Rattle.std.specs.Prelude.{◌≡◌, ◌++◌, map, option_and_then, option_map, position, IfOk, OnOk};
 ghost use Rattle.std.specs.List.{filter_map, flat_map, list_any};
 ghost use Rattle.values.specs.Schema.{fields_of};
 ghost use Rattle.query_tree.specs.Syntax.{expression_form, item_form, key_form, operand_form, predicate_form, predicate_forms, tree_form};
@@ -374,6 +374,16 @@ fn function_place(functions: &[Planned], function: &Planned) -> Option<usize>
         .position(|other| is_same_planned(function, other))
 }
 
+/// The place of a set function among others, from 0; `None` where it is not among them.
+fn planned_place(columns: &[Column], functions: &[Planned], function: &SetFunction) -> Option<usize>
+    ensures { result ≡ option_and_then (λ f. position (same_planned f) (planned_forms functions.now)) (planned_function (fields_of columns.now) (function_form function.now)) }
+{
+    match planned_function(columns, function) {
+        Some(function) => function_place(functions, &function),
+        None => None,
+    }
+}
+
 /// The place of a set function among the different ones of a query, from 0; `None` where the query does not have it.
 ///
 /// # Errors
@@ -387,11 +397,40 @@ pub fn function_index(
 ) -> Result<Option<usize>, AllocError>
     ensures place { IfOk result (λ place. place ≡ place_among (fields_of columns.now) (tree_form tree.now) (function_form function.now)) }
 {
-    match planned_function(columns, function) {
-        Some(function) => {
-            let functions = planned_functions(alloc, columns, tree)?;
-            Ok(function_place(&functions, &function))
-        }
-        None => Ok(None),
+    let planned = planned_functions(alloc, columns, tree)?;
+    Ok(planned_place(columns, &planned, function))
+}
+
+/// The places of set functions among some that are planned.
+fn planned_places(
+    alloc: Global,
+    columns: &[Column],
+    planned: &[Planned],
+    functions: &[&SetFunction],
+) -> Result<Vec<Option<usize>>, AllocError>
+    ensures { IfOk result (λ v. v.items ≡ map (λ g. option_and_then (λ f. position (same_planned f) (planned_forms planned.now)) (planned_function (fields_of columns.now) (function_form g.now))) functions.now) }
+{
+    let mut places = Vec::with_capacity(alloc, functions.len())?;
+    for function in functions {
+        places.push(planned_place(columns, planned, function))?;
     }
+    Ok(places)
+}
+
+/// The places of set functions among the different ones of a query, as `function_index` has each. Those of the query are
+/// looked up once for all.
+///
+/// # Errors
+///
+/// `AllocError` where there is no memory for them.
+pub fn function_indexes(
+    alloc: Global,
+    columns: &[Column],
+    tree: &Tree,
+    functions: &[&SetFunction],
+) -> Result<Vec<Option<usize>>, AllocError>
+    ensures places { IfOk result (λ v. v.items ≡ map (λ g. place_among (fields_of columns.now) (tree_form tree.now) (function_form g.now)) functions.now) }
+{
+    let planned = planned_functions(alloc, columns, tree)?;
+    planned_places(alloc, columns, &planned, functions)
 }

@@ -1,7 +1,7 @@
 //! Predicates that are the same, by the structure of their trees.
 
 ghost use Rattle.std.specs.Prelude.{◌≡◌, map};
-ghost use Rattle.query_tree.specs.Syntax.{expression_form, operand_form, predicate_form, predicate_forms};
+ghost use Rattle.query_tree.specs.Syntax.{expression_form, member, null_test, operand_form, predicate_form, predicate_forms, truth_test};
 ghost use Rattle.query_check.specs.Functions.{function_form};
 ghost use Rattle.query_check.specs.Same.{same_aggregate, same_expression, same_literal, same_literals, same_mark, same_names, same_op, same_operand, same_parts, same_predicate, same_set_function, same_truth_value};
 
@@ -113,18 +113,7 @@ pub fn is_same_predicate(predicate: &Predicate, other: &Predicate) -> bool
         (Predicate::Or(parts), Predicate::Or(others))
         | (Predicate::And(parts), Predicate::And(others)) => are_same_parts(parts, others),
         (Predicate::Not(part), Predicate::Not(other)) => is_same_predicate(part, other),
-        (
-            Predicate::Is { part, not, truth },
-            Predicate::Is {
-                part: other,
-                not: mark,
-                truth: word,
-            },
-        ) => {
-            is_same_predicate(part, other)
-                && is_same_mark(*not, *mark)
-                && is_same_truth_value(*truth, *word)
-        }
+        (Predicate::Is { part, not, truth }, other) => is_same_test(part, *not, *truth, other),
         (
             Predicate::Compare { left, op, right },
             Predicate::Compare {
@@ -132,9 +121,9 @@ pub fn is_same_predicate(predicate: &Predicate, other: &Predicate) -> bool
                 op: sign,
                 right: second,
             },
-        ) => is_same_operand(left, first)
-            && is_same_op(*op, *sign)
-            && is_same_operand(right, second),
+        ) => {
+            is_same_operand(left, first) && is_same_op(*op, *sign) && is_same_operand(right, second)
+        }
         (
             Predicate::Between {
                 operand,
@@ -160,26 +149,66 @@ pub fn is_same_predicate(predicate: &Predicate, other: &Predicate) -> bool
                 not,
                 literals,
             },
-            Predicate::In {
-                operand: other,
-                not: mark,
-                literals: others,
-            },
-        ) => {
-            is_same_operand(operand, other)
-                && is_same_mark(*not, *mark)
-                && are_same_literals(literals, others)
-        }
-        (
-            Predicate::IsNull { operand, not },
-            Predicate::IsNull {
-                operand: other,
-                not: mark,
-            },
-        ) => is_same_operand(operand, other) && is_same_mark(*not, *mark),
+            other,
+        ) => { is_same_membership(operand, *not, literals, other) }
+        (Predicate::IsNull { operand, not }, other) => is_same_null_test(operand, *not, other),
         (Predicate::Column(name), Predicate::Column(other)) => name.as_str() == other.as_str(),
         _ => false,
     }
+}
+
+/// Whether a predicate is this truth test.
+#[cycle(is_same_predicate)]
+fn is_same_test(part: &Predicate, not: bool, truth: Truth, predicate: &Predicate) -> bool
+    ensures { result ≡ same_predicate (truth_test (predicate_form part.now) not truth) (predicate_form predicate.now) }
+{
+    let Predicate::Is {
+        part: other,
+        not: mark,
+        truth: value,
+    } = predicate
+    else {
+        return false;
+    };
+    is_same_predicate(part, other) && is_same_mark(not, *mark) && is_same_truth_value(truth, *value)
+}
+
+/// Whether a predicate is this IN.
+#[cycle(is_same_predicate)]
+fn is_same_membership(
+    operand: &Operand,
+    not: bool,
+    literals: &[Literal],
+    predicate: &Predicate,
+) -> bool
+    ensures { result ≡ same_predicate (member (operand_form operand.now) not literals.now) (predicate_form predicate.now) }
+{
+    let Predicate::In {
+        operand: other,
+        not: mark,
+        literals: others,
+    } = predicate
+    else {
+        return false;
+    };
+    is_same_operand(operand, other)
+        && is_same_mark(not, *mark)
+        && are_same_literals(literals, others)
+}
+
+/// Whether a predicate is this IS NULL.
+#[cycle(is_same_predicate)]
+fn is_same_null_test(operand: &Operand, not: bool, predicate: &Predicate) -> bool
+    ensures { result ≡ same_predicate (null_test (operand_form operand.now) not) (predicate_form predicate.now) }
+{
+    let Predicate::IsNull {
+        operand: other,
+        not: mark,
+    } = predicate
+    else {
+        return false;
+    };
+    is_same_operand(operand, other) && is_same_mark(not, *mark)
 }
 
 /// Whether the parts of two ORs or ANDs are the same.

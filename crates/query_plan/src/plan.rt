@@ -130,6 +130,22 @@ impl Plan {
         query_check::function_index(alloc, self.schema.columns(), self.query.tree(), function)
     }
 
+    /// The places of set functions among the different ones, as `function_index` has each; what the
+    /// query has is looked up once for all.
+    ///
+    /// # Errors
+    ///
+    /// `AllocError` where there is no memory for them.
+    pub fn function_indexes(
+        &self,
+        alloc: Global,
+        functions: &[&SetFunction],
+    ) -> Result<Vec<Option<usize>>, AllocError>
+        ensures places { IfOk result (λ v. v.items ≡ map (λ g. place_among (fields_of_plan self.now) (form_of_plan self.now) (function_form g.now)) functions.now) }
+    {
+        query_check::function_indexes(alloc, self.schema.columns(), self.query.tree(), functions)
+    }
+
     /// Marks which of the different filters are True for a record that fits the schema, in the order in
     /// which they first stand; what the marks were is forgotten, and their memory is used again.
     ///

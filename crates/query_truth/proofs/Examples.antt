@@ -8,7 +8,7 @@ use Rattle.values.specs.Datum.{Datum, boolean, whole, null}
 use Rattle.values.specs.Schema.{Field}
 use Rattle.query_tree.specs.declared.predicate.Literal.TheVariants as constant
 use Rattle.query_tree.specs.Syntax.{OperandForm, PredicateForm, name, expression, literal, or_of, and_of, not_of, truth_test, compare, between, member, column, no_parts, part}
-use Rattle.query_truth.specs.Kept.{where_truth}
+use Rattle.query_truth.specs.Kept.{passes, where_truth}
 
 abbrev fields : List Field
 fields = record { name = codes "a"; kind = kind.Bool } ∷ record { name = codes "q"; kind = kind.Int } ∷ []
@@ -63,3 +63,7 @@ not_in = refl
 compared : worth (or_of (part (compare value_of_a Eq (literal (constant.Truth false))) (part (compare value_of_a Gt (literal (constant.Truth false))) no_parts)))
     ≡ True ∷ True ∷ Unknown ∷ True ∷ []
 compared = refl
+
+-- FILTER (WHERE a): what is unknown does not pass
+passed : map (passes fields a) records ≡ true ∷ false ∷ false ∷ true ∷ []
+passed = refl
