@@ -148,13 +148,13 @@ filter_of_any_column = refl
 -- SELECT COUNT(*), COUNT(*) FILTER (WHERE b), SUM(q) FILTER (WHERE b), COUNT(*) FILTER (WHERE q = 1), COUNT(*) FILTER (WHERE b)
 abbrev filtered_query : TreeForm
 filtered_query = selected (
-  item (function (over_all aggregate.CountRows))
-  ∷ item (counted (column (codes "b")))
-  ∷ item (function (over_filtered (aggregate.Sum (codes "q")) (column (codes "b"))))
-  ∷ item (counted (is_one (codes "q")))
-  ∷ item (counted (column (codes "b")))
-  ∷ []
-)
+    item (function (over_all aggregate.CountRows))
+    ∷ item (counted (column (codes "b")))
+    ∷ item (function (over_filtered (aggregate.Sum (codes "q")) (column (codes "b"))))
+    ∷ item (counted (is_one (codes "q")))
+    ∷ item (counted (column (codes "b")))
+    ∷ []
+    )
 
 -- it has two different filters, and four different set functions
 filters : filters_of fields filtered_query ≡ column (codes "b") ∷ is_one (codes "q") ∷ []

@@ -17,11 +17,11 @@ use values::Column;
 
 /// A set function of a query, with the place of its column, and the predicate of its FILTER where it has one.
 #[derive(Clone, Copy)]
-pub(crate) struct Planned<'a> {
+pub struct Planned<'a> {
     /// The function, with the place of its column.
-    pub(crate) function: ColumnFunction,
+    pub function: ColumnFunction,
     /// The predicate of its FILTER.
-    pub(crate) filter: Option<&'a Predicate>,
+    pub filter: Option<&'a Predicate>,
 }
 
 /// A set function with the place of its column, where the schema has that column.
@@ -234,8 +234,12 @@ fn distinct_functions<'a>(
     Ok(found)
 }
 
-/// The different set functions of a query, in the order in which they first stand.
-fn planned_functions<'a>(
+/// The different set functions of a query, in the order in which they first stand in SELECT, HAVING and ORDER BY.
+///
+/// # Errors
+///
+/// `AllocError` where there is no memory for the list.
+pub fn planned_functions<'a>(
     alloc: Global,
     columns: &[Column],
     tree: &'a Tree,
@@ -374,8 +378,12 @@ fn function_place(functions: &[Planned], function: &Planned) -> Option<usize>
         .position(|other| is_same_planned(function, other))
 }
 
-/// The place of a set function among others, from 0; `None` where it is not among them.
-fn planned_place(columns: &[Column], functions: &[Planned], function: &SetFunction) -> Option<usize>
+/// The place of a set function among others, from 0; `None` where it is not among them. It takes no memory.
+pub fn planned_place(
+    columns: &[Column],
+    functions: &[Planned],
+    function: &SetFunction,
+) -> Option<usize>
     ensures { result ≡ option_and_then (λ f. position (same_planned f) (planned_forms functions.now)) (planned_function (fields_of columns.now) (function_form function.now)) }
 {
     match planned_function(columns, function) {

@@ -1,13 +1,19 @@
--- Grouping sets and set functions that are the same.
-use Rattle.std.proofs.Common.{◌≡◌, Bool, false, ◌&&◌, List, [], ◌∷◌, Vec, Global, ℕ, nat_eq, refl, ap, ◌∙◌, arith}
+-- Grouping sets, set functions and texts that are the same.
+use Rattle.std.proofs.Common.{◌≡◌, Bool, true, false, ◌&&◌, List, [], ◌∷◌, map, Option, Some, None, Vec, Global, ℕ, nat_eq, string_bytes, refl, ap, ◌∙◌, arith}
 use Rattle.std.proofs.lemmas.Bool.Decides.{Decides-eqb}
 use Rattle.std.proofs.lemmas.Slice.Eq.{slice_eq-Decides}
 use Rattle.std.specs.Bool.{Decides}
 use Rattle.std.specs.Cmp.Lexicographic.{pointwise}
+use Rattle.std.specs.Option.{option_eq}
+use Rattle.std.specs.Prelude.{String}
+use Rattle.std.specs.String.{string_eq}
 use Rattle.query_check.specs.contracts.function.ColumnFunctionPartialEq.TheImpl.{eq-value}
+use Rattle.query_check.specs.contracts.function.FilteredFunctionPartialEq.TheImpl as filtered
 use Rattle.query_check.specs.declared.function.ColumnFunction.{ColumnFunction}
 use Rattle.query_check.specs.declared.function.ColumnFunction.TheVariants as at
+use Rattle.query_check.specs.declared.function.FilteredFunction.{FilteredFunction}
 use Rattle.query_check.specs.Resolution.{contents}
+use Rattle.tables.proofs.TypeTests.{both-Decides}
 
 pointwise-contents : (test : List ℕ → List ℕ → Bool) (xs ys : List (Vec ℕ Global)) → pointwise (λ x y. test x.items y.items) xs ys ≡ pointwise test (contents xs) (contents ys)
 pointwise-contents test [] [] = refl
@@ -95,6 +101,30 @@ function-Decides (at.Avg a) (at.Min b) = differ (at.Avg a) (at.Min b) (λ e. ome
 function-Decides (at.Avg a) (at.Max b) = differ (at.Avg a) (at.Max b) (λ e. omega (arith, e))
 function-Decides (at.Avg a) (at.Avg b) = (λ h. ap at.Avg ((Decides-eqb a b).0 h), λ h. (Decides-eqb a b).1 (ap place h))
 
+index-Decides : (o r : Option ℕ) → Decides (option_eq nat_eq o r) (o ≡ r)
+index-Decides None None = (λ h. refl, λ h. refl)
+index-Decides None (Some n) = (λ h. cc, λ h. cc)
+index-Decides (Some m) None = (λ h. cc, λ h. cc)
+index-Decides (Some m) (Some n) = (λ h. ap Some ((Decides-eqb m n).0 h), λ h. (Decides-eqb m n).1 cc)
+
+-- `==` of two set functions with the indexes of their filters is true exactly where they are the same
+filtered-Decides : (f g : FilteredFunction) → Decides (filtered.eq-value.it f g) (f ≡ g)
+filtered-Decides f g =
+    let h = both-Decides _ _ (function-Decides f.function g.function) (index-Decides f.filter g.filter) in
+    (λ e. let p = h.0 e in λ i. record { function = p.0 i; filter = p.1 i }, λ e. h.1 (ap (λ (x : FilteredFunction). x.function) e, ap (λ (x : FilteredFunction). x.filter) e))
+
 -- what `==` says of two lists of set functions
-pub functions-Decides : (fs gs : List ColumnFunction) (r : Bool) → r ≡ pointwise eq-value.it fs gs → Decides r (fs ≡ gs)
-functions-Decides fs gs r e = slice_eq-Decides function-Decides fs gs r e
+pub functions-Decides : (fs gs : List FilteredFunction) (r : Bool) → r ≡ pointwise filtered.eq-value.it fs gs → Decides r (fs ≡ gs)
+functions-Decides fs gs r e = slice_eq-Decides filtered-Decides fs gs r e
+
+-- ---- texts
+
+pointwise-texts : (xs ys : List (String Global)) → pointwise string_eq xs ys ≡ pointwise (pointwise nat_eq) (map string_bytes xs) (map string_bytes ys)
+pointwise-texts [] [] = refl
+pointwise-texts [] (y ∷ ys) = refl
+pointwise-texts (x ∷ xs) [] = refl
+pointwise-texts (x ∷ xs) (y ∷ ys) = ap (λ b. pointwise nat_eq (string_bytes x) (string_bytes y) && b) (pointwise-texts xs ys)
+
+-- what `==` says of two lists of texts
+pub texts-Decides : (xs ys : List (String Global)) (r : Bool) → r ≡ pointwise string_eq xs ys → Decides r (map string_bytes xs ≡ map string_bytes ys)
+texts-Decides xs ys r e = slice_eq-Decides (λ a b. slice_eq-Decides Decides-eqb a b (pointwise nat_eq a b) refl) (map string_bytes xs) (map string_bytes ys) r (e ∙ pointwise-texts xs ys)

@@ -52,3 +52,8 @@ loop-index-preserved c =
           (none-same (take (length sets - (i + 1)) (drop (i + 1) sets)) c.as_slice-set.result.now c.stands_in-is_last.result c.stands_in-is_last.ensures (not-true c.stands_in-is_last.result last)) k d l)
           (rest k d l);
     }
+
+pub returns : goal.returns
+returns c = λ filters rows h.
+    subst (λ (sets : List (Vec ℕ Global)). AreGroupsOf (contents sets) (map (bound filters) c.args.functions.now) c.loop-index.groups.items rows)
+    (take_all c.loop-index.index c.args.sets.now (omega (arith, c.loop-index-test.false))) (c.loop-index.invariant.groups filters rows h)

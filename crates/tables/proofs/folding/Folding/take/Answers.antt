@@ -29,7 +29,7 @@ returns-in_ok-add-clause-table c = λ rows given.
     let is : is_kept fields q row ≡ true = search rules in
     let all : kept fields q (rows ++ row ∷ []) ≡ before ++ row ∷ [] = kept-append fields q rows (row ∷ []) ∙ ap (λ b. before ++ cond b (row ∷ []) []) is in
     let marks : c.as_slice.result.now ≡ map (λ keeps. keeps (data_of c.values.result.now)) filters =
-    c.as_slice.ensures.value ∙ c.in_ok-mark_filters.ensures ∙ marks-kept fields (filters_of fields q) row
+    c.as_slice.ensures.value ∙ c.in_ok-mark_filters.ensures.marks ∙ marks-kept fields (filters_of fields q) row
     ∙ ap (λ (r : Row). map (λ keeps. keeps r) filters) (sym c.values.ensures.values) in
     let bound_are : map (bound filters) c.set_functions.result.now ≡ fs = ap (map (bound filters)) c.set_functions.ensures.functions ∙ bound-functions fields q in
     let old : IsTableOf c.grouping.result.now (map (bound filters) c.set_functions.result.now) c.args.self.now.table before =
