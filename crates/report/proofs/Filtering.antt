@@ -22,7 +22,7 @@ fit-having_true fields t found fit =
       keys = All-filter p (λ (row : Found). length row.1.key ≡ length (set_of fields t row)) found fit.keys;
       key_types = All-filter p (λ (row : Found). AllZip (λ place d. IsHeld (kind_at fields place) d) (set_of fields t row) row.1.key) found fit.key_types;
       cells = All-filter p (λ (row : Found). length row.1.cells ≡ length (functions_of fields t)) found fit.cells;
-      cell_types = All-filter p (λ (row : Found). AllZip (HasType fields) (functions_of fields t) row.1.cells) found fit.cell_types;
+      cell_types = All-filter p (λ (row : Found). AllZip (λ f cell. HasType fields f.function cell) (functions_of fields t) row.1.cells) found fit.cell_types;
       distinct = AllPairs-filter (λ (x y : Found). x.0 ≡ y.0 → x.1.key ≢ y.1.key) p found fit.distinct;
     }
 

@@ -50,7 +50,7 @@ fits-alone fields t found i x lt is fit = record {
   keys = all-alone (λ (row : Found). length row.1.key ≡ length (set_of fields t row)) found i x lt is fit.keys;
   key_types = all-alone (λ (row : Found). AllZip (λ place d. IsHeld (kind_at fields place) d) (set_of fields t row) row.1.key) found i x lt is fit.key_types;
   cells = all-alone (λ (row : Found). length row.1.cells ≡ length (functions_of fields t)) found i x lt is fit.cells;
-  cell_types = all-alone (λ (row : Found). AllZip (HasType fields) (functions_of fields t) row.1.cells) found i x lt is fit.cell_types;
+  cell_types = all-alone (λ (row : Found). AllZip (λ f cell. HasType fields f.function cell) (functions_of fields t) row.1.cells) found i x lt is fit.cell_types;
   distinct = none-below;
 }
   where

@@ -1,5 +1,5 @@
 -- The value that a row shows for an expression that is typed in HAVING is of the type of the expression, or NULL.
-use Rattle.std.proofs.Common.{◌≡◌, ◌∙◌, ◌<◌, inl, inr, ℕ, zero, suc, pos, negsuc, ◌==◌, Bool, true, false, cond, Option, Some, None, List, [], ◌∷◌, get_or, length, map, nat_lt, position, refl, sym, ap, subst, arith, All}
+use Rattle.std.proofs.Common.{◌≡◌, ◌∙◌, ◌<◌, inl, inr, ℕ, zero, suc, pos, negsuc, ◌==◌, ◌&&◌, Bool, true, false, cond, Option, Some, None, List, [], ◌∷◌, get_or, length, map, nat_lt, position, refl, sym, ap, subst, arith, All}
 use Rattle.std.proofs.lemmas.Bool.Decides.{nat_tests}
 use Rattle.std.proofs.lemmas.List.Elements.{recursion_from_All}
 use Rattle.std.proofs.lemmas.List.Quantifiers.{position-Some}
@@ -25,9 +25,9 @@ use Rattle.query_check.specs.declared.function.ColumnFunction.{ColumnFunction}
 use Rattle.query_check.specs.declared.function.ColumnFunction.TheVariants as at
 use Rattle.query_check.specs.declared.scope.Clause.TheVariants as clause
 use Rattle.query_check.specs.Columns.{column_kind, kind_at, place_of}
-use Rattle.query_check.specs.Functions.{functions_of, same_function}
+use Rattle.query_check.specs.Functions.{PlannedFunction, column_function, functions_of, same_function, same_planned}
 use Rattle.query_check.specs.Sets.{sets_of}
-use Rattle.query_check.specs.Typing.{IsOfOneKind, IsTypedExpression, IsTypedOperand, IsTypedPredicate, aggregate_kind, expression_kind, literal_kind, operand_kind}
+use Rattle.query_check.specs.Typing.{IsOfOneKind, IsTypedExpression, IsTypedOperand, IsTypedPredicate, MayStand, aggregate_kind, expression_kind, literal_kind, operand_kind}
 use Rattle.query_truth.specs.Meaning.{comparable, is_truth_value}
 use Rattle.query_truth.specs.Truth.{literal_value, operand_value}
 use Rattle.query_truth.proofs.Safety.{both-true, cases, comparable-of, is_of, is_of-held, is_of-literal, truth-of}
@@ -37,7 +37,7 @@ use Rattle.groups.specs.Groups.{Key}
 use Rattle.tables.specs.Fitting.{AreFitting, HasType, IsHeld, set_of}
 use Rattle.tables.specs.Found.{Found}
 use Rattle.report.specs.Having.{cell_value, row_value}
-use Rattle.report.specs.Shown.{function_shown, grouping_number, grouping_shown, name_shown, value_in}
+use Rattle.report.specs.Shown.{grouping_number, grouping_shown, name_shown, value_in}
 use Rattle.report.proofs.Places.{value_in-first, value_in-missing, value_in-other}
 
 -- the index of a row that fits is that of a grouping set
@@ -101,8 +101,20 @@ same_function-is (at.Max a) (at.Max b) e = ap at.Max (same-place a b e)
 same_function-is (at.Avg a) (at.Avg b) e = ap at.Avg (same-place a b e)
 same_function-is f g e = absurd cc
 
-typed-at : (fields : List Field) (fs : List ColumnFunction) (cells : List Summary) (i : ℕ) → AllZip (HasType fields) fs cells → i < length fs
-    → HasType fields (get_or fs i at.CountRows) (unwrap_or (slice_get cells i) (plain null))
+first-true : (a b : Bool) → (a && b) ≡ true → a ≡ true
+first-true true b e = refl
+first-true false b e = e
+
+-- a cell has the type of its set function, apart from the filter
+abbrev HasTypeOf : List Field → PlannedFunction → Summary → Type 0
+HasTypeOf fields f cell = HasType fields f.function cell
+
+-- the function that stands for one past the last
+abbrev no_function : PlannedFunction
+no_function = record { function = at.CountRows; filter = None }
+
+typed-at : (fields : List Field) (fs : List PlannedFunction) (cells : List Summary) (i : ℕ) → AllZip (HasTypeOf fields) fs cells → i < length fs
+    → HasType fields (get_or fs i no_function).function (unwrap_or (slice_get cells i) (plain null))
 typed-at fields [] cells i h lt = absurd (omega (arith, lt))
 typed-at fields (f ∷ fs) [] i h lt = absurd h
 typed-at fields (f ∷ fs) (c ∷ cells) zero h lt = h.0
@@ -154,38 +166,39 @@ cell-of fields k (at.Max p) cell e h = extreme-of fields k p cell e h
 cell-of fields k (at.Avg p) cell e h = absurd cc
 
 -- the cell at the place of a set function
-placed-of : (fields : List Field) (k : Kind) (f : ColumnFunction) (fs : List ColumnFunction) (cells : List Summary) → AllZip (HasType fields) fs cells → function_kind fields f ≡ Some k
-    → is_of k (cell_value (unwrap_or (option_and_then (slice_get cells) (position (same_function f) fs)) (plain null))) ≡ true
+placed-of : (fields : List Field) (k : Kind) (f : PlannedFunction) (fs : List PlannedFunction) (cells : List Summary) → AllZip (HasTypeOf fields) fs cells → function_kind fields f.function ≡ Some k
+    → is_of k (cell_value (unwrap_or (option_and_then (slice_get cells) (position (same_planned f) fs)) (plain null))) ≡ true
 placed-of fields k f fs cells h has =
-    elim (cases (position (same_function f) fs)) [
+    elim (cases (position (same_planned f) fs)) [
       | inl e ↦ ap (λ (o : Option ℕ). is_of k (cell_value (unwrap_or (option_and_then (slice_get cells) o) (plain null)))) e ∙ null-of k
       | inr found ↦ (
           let i = found.0 in
-          let there = position-Some (same_function f) fs i at.CountRows found.1 in
-          let same : f ≡ get_or fs i at.CountRows = same_function-is f (get_or fs i at.CountRows) there.1 in
+          let there = position-Some (same_planned f) fs i no_function found.1 in
+          let same : f.function ≡ (get_or fs i no_function).function = same_function-is f.function (get_or fs i no_function).function (first-true _ _ there.1) in
           ap (λ (o : Option ℕ). is_of k (cell_value (unwrap_or (option_and_then (slice_get cells) o) (plain null)))) found.1
-          ∙ cell-of fields k (get_or fs i at.CountRows) (unwrap_or (slice_get cells i) (plain null)) (ap (function_kind fields) (sym same) ∙ has) (typed-at fields fs cells i h there.0))
+          ∙ cell-of fields k (get_or fs i no_function).function (unwrap_or (slice_get cells i) (plain null)) (ap (function_kind fields) (sym same) ∙ has) (typed-at fields fs cells i h there.0))
     ]
 
 -- a set function of the column of a name, if there is one
-column-of : (fields : List Field) (k : Kind) (make : ℕ → ColumnFunction) (fs : List ColumnFunction) (cells : List Summary) (o : Option ℕ) → AllZip (HasType fields) fs cells
+column-of : (fields : List Field) (k : Kind) (make : ℕ → ColumnFunction) (filter : Option PredicateForm) (fs : List PlannedFunction) (cells : List Summary) (o : Option ℕ) → AllZip (HasTypeOf fields) fs cells
     → ((p : ℕ) → o ≡ Some p → function_kind fields (make p) ≡ Some k)
-    → is_of k (cell_value (unwrap_or (option_and_then (slice_get cells) (option_and_then (λ f. position (same_function f) fs) (option_map make o))) (plain null))) ≡ true
-column-of fields k make fs cells None h has = null-of k
-column-of fields k make fs cells (Some p) h has = placed-of fields k (make p) fs cells h (has p refl)
+    → is_of k (cell_value (unwrap_or (option_and_then (slice_get cells) (option_and_then (λ f. position (same_planned f) fs) (option_map (λ g. record { function = g; filter = filter }) (option_map make o)))) (plain null))) ≡ true
+column-of fields k make filter fs cells None h has = null-of k
+column-of fields k make filter fs cells (Some p) h has = placed-of fields k (record { function = make p; filter = filter }) fs cells h (has p refl)
 
-function-of : (fields : List Field) (t : TreeForm) (grouped : List ℕ) (k : Kind) (cells : List Summary) (a : Aggregate) → AllZip (HasType fields) (functions_of fields t) cells
-    → IsTypedExpression fields grouped clause.Having (function (over_all a)) → aggregate_kind fields a ≡ Some k → is_of k (cell_value (function_shown fields t cells a)) ≡ true
+function-of : (fields : List Field) (t : TreeForm) (k : Kind) (cells : List Summary) (a : Aggregate) (filter : Option PredicateForm) → AllZip (HasTypeOf fields) (functions_of fields t) cells
+    → MayStand clause.Having a → aggregate_kind fields a ≡ Some k
+    → is_of k (cell_value (unwrap_or (option_and_then (slice_get cells) (option_and_then (λ f. position (same_planned f) (functions_of fields t)) (option_map (λ g. record { function = g; filter = filter }) (column_function fields a)))) (plain null))) ≡ true
 unfolding function_kind
-function-of fields t grouped k cells aggregate.CountRows h typed has = placed-of fields k at.CountRows (functions_of fields t) cells h has
-function-of fields t grouped k cells (aggregate.Count x) h typed has = column-of fields k at.Count (functions_of fields t) cells (place_of fields x) h (λ p e. has)
-function-of fields t grouped k cells (aggregate.CountDistinct x) h typed has = column-of fields k at.CountDistinct (functions_of fields t) cells (place_of fields x) h (λ p e. has)
-function-of fields t grouped k cells (aggregate.Sum x) h typed has = column-of fields k at.Sum (functions_of fields t) cells (place_of fields x) h (λ p e. has)
-function-of fields t grouped k cells (aggregate.Min x) h typed has =
-    column-of fields k at.Min (functions_of fields t) cells (place_of fields x) h (λ p e. sym (ap (option_and_then (kind_at fields)) e) ∙ has)
-function-of fields t grouped k cells (aggregate.Max x) h typed has =
-    column-of fields k at.Max (functions_of fields t) cells (place_of fields x) h (λ p e. sym (ap (option_and_then (kind_at fields)) e) ∙ has)
-function-of fields t grouped k cells (aggregate.Avg x) h typed has = absurd typed.0
+function-of fields t k cells aggregate.CountRows filter h may has = placed-of fields k (record { function = at.CountRows; filter = filter }) (functions_of fields t) cells h has
+function-of fields t k cells (aggregate.Count x) filter h may has = column-of fields k at.Count filter (functions_of fields t) cells (place_of fields x) h (λ p e. has)
+function-of fields t k cells (aggregate.CountDistinct x) filter h may has = column-of fields k at.CountDistinct filter (functions_of fields t) cells (place_of fields x) h (λ p e. has)
+function-of fields t k cells (aggregate.Sum x) filter h may has = column-of fields k at.Sum filter (functions_of fields t) cells (place_of fields x) h (λ p e. has)
+function-of fields t k cells (aggregate.Min x) filter h may has =
+    column-of fields k at.Min filter (functions_of fields t) cells (place_of fields x) h (λ p e. sym (ap (option_and_then (kind_at fields)) e) ∙ has)
+function-of fields t k cells (aggregate.Max x) filter h may has =
+    column-of fields k at.Max filter (functions_of fields t) cells (place_of fields x) h (λ p e. sym (ap (option_and_then (kind_at fields)) e) ∙ has)
+function-of fields t k cells (aggregate.Avg x) filter h may has = absurd may
 
 -- ---- operands
 
@@ -195,8 +208,9 @@ shown-of fields t row grouped k (name n) fit typed has =
     name-of fields k (set_of fields t row) row.1.key n (recursion_from_All (λ (r : Found). AllZip (λ place d. IsHeld (kind_at fields place) d) (set_of fields t r) r.1.key) (row ∷ []) fit.key_types).0 has
 shown-of fields t row grouped k (grouping ns) fit typed has = grouping-of fields k (set_of fields t row) ns has
 shown-of fields t row grouped k (function (over_all a)) fit typed has =
-    function-of fields t grouped k row.1.cells a (recursion_from_All (λ (r : Found). AllZip (HasType fields) (functions_of fields t) r.1.cells) (row ∷ []) fit.cell_types).0 typed has
-shown-of fields t row grouped k (function (over_filtered a p)) fit typed has = absurd typed
+    function-of fields t k row.1.cells a None (recursion_from_All (λ (r : Found). AllZip (HasTypeOf fields) (functions_of fields t) r.1.cells) (row ∷ []) fit.cell_types).0 typed.0 has
+shown-of fields t row grouped k (function (over_filtered a p)) fit typed has =
+    function-of fields t k row.1.cells a (Some p) (recursion_from_All (λ (r : Found). AllZip (HasTypeOf fields) (functions_of fields t) r.1.cells) (row ∷ []) fit.cell_types).0 typed.0 has
 
 operand-of : (fields : List Field) (t : TreeForm) (row : Found) (grouped : List ℕ) (k : Kind) (x : OperandForm) → AreFitting fields t (row ∷ [])
     → IsTypedOperand fields grouped clause.Having x → operand_kind fields x ≡ Some k → is_of k (operand_value (row_value fields t row) x) ≡ true

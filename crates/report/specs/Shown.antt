@@ -1,13 +1,12 @@
 -- What a row of a report shows for each item of SELECT.
-use Rattle.std.specs.Prelude.{ℕ, ◌+◌, ◌*◌, ◌==◌, nat_lt, pos, Bool, false, not, List, [], ◌∷◌, length, map, reverse, position, slice_get, slice_index_or, Option, unwrap_or, if◌then◌else◌}
+use Rattle.std.specs.Prelude.{ℕ, ◌+◌, ◌*◌, ◌==◌, nat_lt, pos, Bool, false, not, List, [], ◌∷◌, length, map, reverse, position, slice_get, slice_index_or, unwrap_or, if◌then◌else◌}
 use Rattle.std.specs.List.{list_any}
 use Rattle.std.specs.Option.{option_map_or, option_and_then}
 use Rattle.values.specs.Datum.{Datum, whole, null}
 use Rattle.values.specs.Schema.{Field}
-use Rattle.query_tree.specs.declared.expression.Aggregate.{Aggregate}
-use Rattle.query_tree.specs.Syntax.{ExpressionForm, TreeForm, name, grouping, function}
+use Rattle.query_tree.specs.Syntax.{ExpressionForm, FunctionForm, TreeForm, name, grouping, function}
 use Rattle.query_check.specs.Columns.{place_of}
-use Rattle.query_check.specs.Functions.{aggregate_of, column_function, functions_of, same_function}
+use Rattle.query_check.specs.Functions.{place_among}
 use Rattle.groups.specs.Functions.{Summary, plain}
 use Rattle.groups.specs.Groups.{Key}
 use Rattle.tables.specs.Found.{Found}
@@ -25,13 +24,9 @@ value_in set key place = option_map_or (λ at. slice_index_or key at null) (posi
 abbrev pub name_shown : List Field → List ℕ → Key → List ℕ → Datum
 name_shown fields set key n = option_map_or (value_in set key) (place_of fields n) null
 
--- the place of a set function among those of the query
-abbrev pub function_place : List Field → TreeForm → Aggregate → Option ℕ
-function_place fields t a = option_and_then (λ f. position (same_function f) (functions_of fields t)) (column_function fields a)
-
--- what a row with these cells shows for a set function: the cell at the function's place
-abbrev pub function_shown : List Field → TreeForm → List Summary → Aggregate → Summary
-function_shown fields t cells a = unwrap_or (option_and_then (slice_get cells) (function_place fields t a)) (plain null)
+-- what a row with these cells shows for a set function: the cell at the place of the function, by its FILTER too, among those of the query
+abbrev pub function_shown : List Field → TreeForm → List Summary → FunctionForm → Summary
+function_shown fields t cells f = unwrap_or (option_and_then (slice_get cells) (place_among fields t f)) (plain null)
 
 -- ---- GROUPING
 
@@ -58,7 +53,7 @@ grouping_shown fields set names = if nat_lt 8 (length names) then null else whol
 abbrev pub expression_shown : List Field → TreeForm → List ℕ → Key → List Summary → ExpressionForm → Summary
 expression_shown fields t set key cells (name n) = plain (name_shown fields set key n)
 expression_shown fields t set key cells (grouping names) = plain (grouping_shown fields set names)
-expression_shown fields t set key cells (function f) = function_shown fields t cells (aggregate_of f)
+expression_shown fields t set key cells (function f) = function_shown fields t cells f
 
 -- what a row shows, item by item
 abbrev pub row_shown : List Field → TreeForm → Found → List Summary

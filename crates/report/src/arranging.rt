@@ -11,6 +11,7 @@ use crate::cells::expression_cell;
 use crate::having::rows_having_true;
 use crate::ordering::in_order;
 use crate::row::ReportRow;
+use crate::view::PlanView;
 use groups::Group;
 use query_plan::Plan;
 use std::alloc::{AllocError, Global};
@@ -33,6 +34,20 @@ pub fn arrange(alloc: Global, groups: &Groups, plan: &Plan) -> Result<Vec<Report
     ensures cells { IfOk result (λ rows. map cells_of rows.items ≡ rows_shown (fields_of_plan plan.now) (form_of_plan plan.now) groups.now.found) }
     ensures wide { IfOk result (λ rows. All (λ row. length row.cells.items ≡ length (form_of_plan plan.now).items) rows.items) }
 {
+    let view = PlanView::new(alloc, plan)?;
+    arranged_rows(alloc, groups, &view)
+}
+
+/// The rows of a report, in their order, under a plan whose set functions have been looked up.
+fn arranged_rows(
+    alloc: Global,
+    groups: &Groups,
+    plan: &PlanView<'_>,
+) -> Result<Vec<ReportRow>, AllocError>
+    requires { AreFittingUnder plan.now groups.now.found }
+    ensures cells { IfOk result (λ rows. map cells_of rows.items ≡ rows_shown (fields_of_plan plan.now) (form_of_plan plan.now) groups.now.found) }
+    ensures wide { IfOk result (λ rows. All (λ row. length row.cells.items ≡ length (form_of_plan plan.now).items) rows.items) }
+{
     let unordered = rows_having_true(alloc, plan, groups.rows())?;
     let ordered = in_order(alloc, plan, unordered)?;
     let mut rows = Vec::with_capacity(alloc, ordered.len())?;
@@ -43,7 +58,11 @@ pub fn arrange(alloc: Global, groups: &Groups, plan: &Plan) -> Result<Vec<Report
 }
 
 /// The row of a group, which stands beside the index of its grouping set.
-fn row_for(alloc: Global, plan: &Plan, found: &(usize, Group)) -> Result<ReportRow, AllocError>
+fn row_for(
+    alloc: Global,
+    plan: &PlanView<'_>,
+    found: &(usize, Group),
+) -> Result<ReportRow, AllocError>
     requires { HasSetUnder plan.now (row_of found.now) }
     ensures { IfOk result (λ row. cells_of row ≡ row_shown (fields_of_plan plan.now) (form_of_plan plan.now) (row_of found.now)) }
 {

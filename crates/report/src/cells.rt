@@ -8,11 +8,13 @@ ghost use Rattle.groups.specs.Functions.{plain};
 ghost use Rattle.groups.specs.Cells.{summary_of};
 ghost use Rattle.report.specs.Having.{cell_value};
 ghost use Rattle.report.specs.Inside.Planned.{shown_under};
-ghost use Rattle.report.specs.Shown.{value_in, function_place, function_shown, grouping_number, grouping_shown, is_rolled_up, name_shown};
+ghost use Rattle.query_check.specs.Functions.{function_form};
+ghost use Rattle.report.specs.Shown.{value_in, function_shown, grouping_number, grouping_shown, is_rolled_up, name_shown};
 
+use crate::view::PlanView;
 use groups::{Cell, Group};
-use query_check::{column_function, place_of};
-use query_plan::{Aggregate, Expression, Plan, Text};
+use query_check::place_of;
+use query_plan::{Expression, SetFunction, Text};
 use std::alloc::AllocError;
 use values::{Column, Value};
 
@@ -21,7 +23,7 @@ const MOST_COLUMNS: usize = 8;
 
 /// What a group of a grouping set shows for an expression.
 pub(crate) fn expression_cell(
-    plan: &Plan,
+    plan: &PlanView<'_>,
     set: &[usize],
     group: &Group,
     expression: &Expression,
@@ -35,16 +37,14 @@ pub(crate) fn expression_cell(
             Ok(Cell::Plain(value))
         }
         Expression::Grouping(names) => Ok(Cell::Plain(grouping_value(columns, set, names))),
-        Expression::Function(function) => {
-            function_cell(plan, group.cells.as_slice(), &function.aggregate)
-        }
+        Expression::Function(function) => { function_cell(plan, group.cells.as_slice(), function) }
     }
 }
 
 /// The value that a group of a grouping set shows for an expression. An average is no single value, and none may stand
 /// where the value is asked for.
 pub(crate) fn expression_value(
-    plan: &Plan,
+    plan: &PlanView<'_>,
     set: &[usize],
     group: &Group,
     expression: &Expression,
@@ -131,24 +131,15 @@ fn grouping_value(columns: &[Column], set: &[usize], names: &[Text]) -> Value
 
 // ---- set functions
 
-/// The place of a set function among those of the plan.
-fn function_place(plan: &Plan, aggregate: &Aggregate) -> Option<usize>
-    ensures { result ≡ function_place (fields_of_plan plan.now) (form_of_plan plan.now) aggregate.now }
-{
-    match column_function(plan.schema().columns(), aggregate) {
-        Some(function) => plan
-            .functions()
-            .iter()
-            .position(|other| function.is_same(*other)),
-        None => None,
-    }
-}
-
 /// What a row with these cells shows for a set function.
-fn function_cell(plan: &Plan, cells: &[Cell], aggregate: &Aggregate) -> Result<Cell, AllocError>
-    ensures { IfOk result (λ cell. summary_of cell ≡ function_shown (fields_of_plan plan.now) (form_of_plan plan.now) (map summary_of cells.now) aggregate.now) }
+fn function_cell(
+    plan: &PlanView<'_>,
+    cells: &[Cell],
+    function: &SetFunction,
+) -> Result<Cell, AllocError>
+    ensures { IfOk result (λ cell. summary_of cell ≡ function_shown (fields_of_plan plan.now) (form_of_plan plan.now) (map summary_of cells.now) (function_form function.now)) }
 {
-    match function_place(plan, aggregate) {
+    match plan.place_of(function) {
         Some(place) => cell_at(cells, place),
         None => Ok(Cell::Plain(Value::Null)),
     }

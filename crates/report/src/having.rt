@@ -10,8 +10,9 @@ ghost use Rattle.report.specs.Having.{rows_having_true};
 ghost use Rattle.report.specs.Inside.Planned.{AreTypedUnder, FitsUnder, HasSetUnder, IsTypedUnder, value_under};
 
 use crate::cells::{expression_value, name_value};
+use crate::view::PlanView;
 use groups::Group;
-use query_plan::{Expression, Literal, Operand, Plan, Predicate, Text};
+use query_plan::{Expression, Literal, Operand, Predicate, Text};
 use query_truth::{
     between_truth, literal_value, literal_values, marked, member_truth, null_truth, value_truth,
 };
@@ -21,7 +22,7 @@ use values::{Op, Truth, Value, compare};
 /// The groups of whose rows the predicate of HAVING is True. Without HAVING they are all groups.
 pub(crate) fn rows_having_true<'a>(
     alloc: Global,
-    plan: &Plan,
+    plan: &PlanView<'_>,
     rows: &'a [(usize, Group)],
 ) -> Result<Vec<&'a (usize, Group)>, AllocError>
     requires { AreFittingUnder plan.now (map row_of rows.now) }
@@ -43,7 +44,7 @@ pub(crate) fn rows_having_true<'a>(
 #[cycle(row_truth)]
 fn row_truth(
     alloc: Global,
-    plan: &Plan,
+    plan: &PlanView<'_>,
     found: &(usize, Group),
     predicate: &Predicate,
 ) -> Result<Truth, AllocError>
@@ -91,7 +92,7 @@ fn row_truth(
 #[cycle(row_truth)]
 fn any_truth(
     alloc: Global,
-    plan: &Plan,
+    plan: &PlanView<'_>,
     found: &(usize, Group),
     parts: &[Predicate],
 ) -> Result<Truth, AllocError>
@@ -113,7 +114,7 @@ fn any_truth(
 #[cycle(row_truth)]
 fn all_truth(
     alloc: Global,
-    plan: &Plan,
+    plan: &PlanView<'_>,
     found: &(usize, Group),
     parts: &[Predicate],
 ) -> Result<Truth, AllocError>
@@ -136,7 +137,7 @@ fn all_truth(
 /// The truth value of a comparison for the row of a group.
 fn comparison_truth(
     alloc: Global,
-    plan: &Plan,
+    plan: &PlanView<'_>,
     found: &(usize, Group),
     left: &Operand,
     op: Op,
@@ -154,7 +155,7 @@ fn comparison_truth(
 /// The truth value of a BETWEEN for the row of a group.
 fn range_truth(
     alloc: Global,
-    plan: &Plan,
+    plan: &PlanView<'_>,
     found: &(usize, Group),
     operand: &Operand,
     low: &Operand,
@@ -173,7 +174,7 @@ fn range_truth(
 /// The truth value of an IN for the row of a group.
 fn list_truth(
     alloc: Global,
-    plan: &Plan,
+    plan: &PlanView<'_>,
     found: &(usize, Group),
     operand: &Operand,
     literals: &[Literal],
@@ -192,7 +193,7 @@ fn list_truth(
 /// The value of an operand for the row of a group.
 fn operand_value(
     alloc: Global,
-    plan: &Plan,
+    plan: &PlanView<'_>,
     found: &(usize, Group),
     operand: &Operand,
 ) -> Result<Value, AllocError>
@@ -207,7 +208,7 @@ fn operand_value(
 
 /// The value that the row of a group shows for an expression.
 fn shown_value(
-    plan: &Plan,
+    plan: &PlanView<'_>,
     found: &(usize, Group),
     expression: &Expression,
 ) -> Result<Value, AllocError>
@@ -220,7 +221,11 @@ fn shown_value(
 }
 
 /// The value that the row of a group shows for the column of a name.
-fn column_value(plan: &Plan, found: &(usize, Group), column: &Text) -> Result<Value, AllocError>
+fn column_value(
+    plan: &PlanView<'_>,
+    found: &(usize, Group),
+    column: &Text,
+) -> Result<Value, AllocError>
     requires { HasSetUnder plan.now (row_of found.now) }
     ensures { IfOk result (λ value. datum_of value ≡ value_under plan.now (row_of found.now) (name column.now)) }
 {

@@ -11,9 +11,10 @@ ghost use Rattle.report.specs.Inside.Planned.{HasSetUnder, shown_under};
 ghost use Rattle.report.specs.Inside.Ranked.{key_values, under_values};
 
 use crate::cells::expression_value;
+use crate::view::PlanView;
 use groups::Group;
 use query_check::key_expression;
-use query_plan::{Key, Plan};
+use query_plan::Key;
 use std::alloc::{AllocError, Global};
 use std::cmp::Ordering;
 use values::Value;
@@ -23,7 +24,7 @@ use values::Value;
 /// The values of the keys for a group, which stands beside the index of its grouping set.
 pub(crate) fn key_values(
     alloc: Global,
-    plan: &Plan,
+    plan: &PlanView<'_>,
     found: &(usize, Group),
 ) -> Result<Vec<Value>, AllocError>
     requires { HasSetUnder plan.now (row_of found.now) }
@@ -40,7 +41,12 @@ pub(crate) fn key_values(
 }
 
 /// The value of a key for a group of a grouping set.
-fn key_value(plan: &Plan, set: &[usize], group: &Group, key: &Key) -> Result<Value, AllocError>
+fn key_value(
+    plan: &PlanView<'_>,
+    set: &[usize],
+    group: &Group,
+    key: &Key,
+) -> Result<Value, AllocError>
     ensures { IfOk result (λ value. datum_of value ≡ cell_value (shown_under plan.now set.now group.now (key_expression (form_of_plan plan.now).items (key_form key.now).expression))) }
 {
     let items = plan.query().tree().items.as_slice();

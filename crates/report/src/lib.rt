@@ -14,6 +14,7 @@ mod ordering;
 mod refused;
 mod row;
 mod text;
+mod view;
 
 pub use arranging::arrange;
 pub use laws::{arranged_law, order_law};

@@ -11,8 +11,9 @@ ghost use Rattle.report.specs.Inside.Planned.{HasSetUnder};
 ghost use Rattle.report.specs.Inside.Ranked.{by_key, by_rank, ranked, ranked_in};
 
 use crate::keys::{key_values, under_values};
+use crate::view::PlanView;
 use groups::Group;
-use query_plan::{Key, Plan};
+use query_plan::Key;
 use std::alloc::{AllocError, Global};
 use std::cmp::Ordering;
 use values::Value;
@@ -48,7 +49,7 @@ fn compare_ranked(keys: &[Key], a: &RankedRow, b: &RankedRow) -> Ordering
 /// The groups in the order of their rows, under the keys of ORDER BY.
 pub(crate) fn in_order<'a>(
     alloc: Global,
-    plan: &Plan,
+    plan: &PlanView<'_>,
     rows: Vec<&'a (usize, Group)>,
 ) -> Result<Vec<&'a (usize, Group)>, AllocError>
     requires { AreFittingUnder plan.now (map (λ r. row_of r.now) rows.items) }
@@ -75,7 +76,7 @@ fn in_order_of_sets<'a>(
 /// The groups in the order of their rows, each of which is first put beside the values of the keys for it.
 fn in_order_of_keys<'a>(
     alloc: Global,
-    plan: &Plan,
+    plan: &PlanView<'_>,
     rows: Vec<&'a (usize, Group)>,
 ) -> Result<Vec<&'a (usize, Group)>, AllocError>
     requires { AreFittingUnder plan.now (map (λ r. row_of r.now) rows.items) }
@@ -94,7 +95,7 @@ fn in_order_of_keys<'a>(
 /// The groups beside the values of the keys for their rows.
 fn rank<'a>(
     alloc: Global,
-    plan: &Plan,
+    plan: &PlanView<'_>,
     rows: Vec<&'a (usize, Group)>,
 ) -> Result<Vec<RankedRow<'a>>, AllocError>
     requires { All (λ row. HasSetUnder plan.now row) (map (λ r. row_of r.now) rows.items) }

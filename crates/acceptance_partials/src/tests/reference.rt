@@ -1,10 +1,14 @@
 //! What a query finds in an input, by the definitions' plain program: slow, over lists, without tables.
+ghost use Rattle.std.specs.Prelude.{◌<◌, length};
+ghost use Rattle.query_check.specs.Functions.{functions_of};
+ghost use Rattle.query_plan.specs.Planned.{fields_of_plan, form_of_plan};
+
 use lines::{LineFault, LineRefusal, lines_of, read_record};
-use query::{ColumnFunction, Plan};
+use query::{ColumnFunction, Plan, filter_holds};
 use std::alloc::Global;
 use std::process::Abort;
 use tables::Cell;
-use values::{Record, Schema, Value};
+use values::{Record, Schema, Truth, Value};
 
 /// A group of a grouping set.
 #[derive(Debug, PartialEq, Eq, Drop)]
@@ -124,7 +128,7 @@ fn row_of(
     good: &[Record],
 ) -> Row {
     let members = members_of(rt, alloc, set, key.as_slice(), good);
-    let cells = cells_of(rt, alloc, plan.functions(), members.as_slice());
+    let cells = cells_of(rt, alloc, plan, members.as_slice());
     Row {
         set: index,
         key,
@@ -177,18 +181,37 @@ fn members_of<'a>(
     members
 }
 
-fn cells_of(
-    rt: &impl Abort,
-    alloc: Global,
-    functions: &[ColumnFunction],
-    members: &[&Record],
-) -> Vec<Cell> {
+fn cells_of(rt: &impl Abort, alloc: Global, plan: &Plan, members: &[&Record]) -> Vec<Cell> {
     let mut cells = Vec::new(alloc);
-    for function in functions {
-        let cell = cell_of(rt, alloc, *function, members);
+    for place in 0..plan.functions() {
+        let function = plan.set_functions().get(place).expect(rt, "a set function");
+        let kept = kept_by_filter(rt, alloc, plan, place, members);
+        let cell = cell_of(rt, alloc, function.function, kept.as_slice());
         cells.push(cell).expect(rt, "memory");
     }
     cells
+}
+
+/// The records that the FILTER of the set function at a place keeps.
+fn kept_by_filter<'a>(
+    rt: &impl Abort,
+    alloc: Global,
+    plan: &Plan,
+    place: usize,
+    members: &[&'a Record],
+) -> Vec<&'a Record>
+    requires { place < length (functions_of (fields_of_plan plan.now) (form_of_plan plan.now)) }
+{
+    let mut kept = Vec::new(alloc);
+    for record in members {
+        if !plan.schema().fits(record) {
+            panic!(rt; "a record that does not fit");
+        }
+        if filter_holds(plan, place, record).is(Truth::True) {
+            kept.push(*record).expect(rt, "memory");
+        }
+    }
+    kept
 }
 
 /// The value of a set function over records.

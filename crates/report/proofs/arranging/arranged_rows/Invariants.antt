@@ -6,7 +6,7 @@ use Rattle.groups.specs.declared.group.Group.{Group}
 use Rattle.tables.specs.Found.{row_of}
 use Rattle.report.specs.Report.{rows_shown}
 use Rattle.report.specs.Shown.{cells_of, row_shown}
-use Rattle.report.proofs.arranging.arrange.Given as goal
+use Rattle.report.proofs.arranging.arranged_rows.Given as goal
 
 -- the rows so far, and then those of the groups that are left, whose indexes are those of sets
 abbrev pub invariant-loop-group : goal.invariant-loop-group
