@@ -21,9 +21,7 @@ pub use columns::place_of;
 pub use counting::set_count;
 pub use function::{ColumnFunction, FilteredFunction, column_function};
 pub use laws::{cube_law, distinct_law, filters_law, rollup_law, same_predicate_law};
-pub use planning::{
-    Planned, filters, function_index, function_indexes, planned_functions, planned_place,
-};
+pub use planning::{Planned, filters, planned_functions, planned_place};
 pub use resolution::{Resolved, check_tree, key_expression};
 pub use sameness::is_same_predicate;
 pub use scope::Clause;

@@ -6,7 +6,7 @@ ghost use Rattle.values.specs.Schema.{fields_of};
 ghost use Rattle.query_tree.specs.Syntax.{expression_form, item_form, key_form, operand_form, predicate_form, predicate_forms, tree_form};
 ghost use Rattle.query_check.specs.Columns.{distinct};
 ghost use Rattle.query_check.specs.Same.{same_predicate};
-ghost use Rattle.query_check.specs.Functions.{different_filters, expression_functions, filters_of, function_form, functions_of, indexed, indexed_functions, operand_functions, parts_functions, place_among, planned_function, predicate_functions, same_planned, set_functions};
+ghost use Rattle.query_check.specs.Functions.{different_filters, expression_functions, filters_of, function_form, functions_of, indexed, indexed_functions, operand_functions, parts_functions, planned_function, predicate_functions, same_planned, set_functions};
 ghost use Rattle.query_check.specs.Planning.{filter_forms, planned_form, planned_forms};
 
 use crate::function::{ColumnFunction, FilteredFunction, column_function};
@@ -390,55 +390,4 @@ pub fn planned_place(
         Some(function) => function_place(functions, &function),
         None => None,
     }
-}
-
-/// The place of a set function among the different ones of a query, from 0; `None` where the query does not have it.
-///
-/// # Errors
-///
-/// `AllocError` where there is no memory to look for it.
-pub fn function_index(
-    alloc: Global,
-    columns: &[Column],
-    tree: &Tree,
-    function: &SetFunction,
-) -> Result<Option<usize>, AllocError>
-    ensures place { IfOk result (λ place. place ≡ place_among (fields_of columns.now) (tree_form tree.now) (function_form function.now)) }
-{
-    let planned = planned_functions(alloc, columns, tree)?;
-    Ok(planned_place(columns, &planned, function))
-}
-
-/// The places of set functions among some that are planned.
-fn planned_places(
-    alloc: Global,
-    columns: &[Column],
-    planned: &[Planned],
-    functions: &[&SetFunction],
-) -> Result<Vec<Option<usize>>, AllocError>
-    ensures { IfOk result (λ v. v.items ≡ map (λ g. option_and_then (λ f. position (same_planned f) (planned_forms planned.now)) (planned_function (fields_of columns.now) (function_form g.now))) functions.now) }
-{
-    let mut places = Vec::with_capacity(alloc, functions.len())?;
-    for function in functions {
-        places.push(planned_place(columns, planned, function))?;
-    }
-    Ok(places)
-}
-
-/// The places of set functions among the different ones of a query, as `function_index` has each. Those of the query are
-/// looked up once for all.
-///
-/// # Errors
-///
-/// `AllocError` where there is no memory for them.
-pub fn function_indexes(
-    alloc: Global,
-    columns: &[Column],
-    tree: &Tree,
-    functions: &[&SetFunction],
-) -> Result<Vec<Option<usize>>, AllocError>
-    ensures places { IfOk result (λ v. v.items ≡ map (λ g. place_among (fields_of columns.now) (tree_form tree.now) (function_form g.now)) functions.now) }
-{
-    let planned = planned_functions(alloc, columns, tree)?;
-    planned_places(alloc, columns, &planned, functions)
 }

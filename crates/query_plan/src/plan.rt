@@ -9,9 +9,8 @@ ghost use Rattle.query_plan.specs.Form.{form_of};
 
 use crate::query::Query;
 use query_check::{FilteredFunction, Resolved, filters_law};
-use query_tree::SetFunction;
 use query_truth::{Condition, bound_truth, condition_truth_at, mark_conditions};
-use std::alloc::{AllocError, Global};
+use std::alloc::AllocError;
 use values::{Record, Schema, Truth, Value};
 
 /// A query that is typed under the schema that it holds, with what its names stand for there. Only
@@ -36,7 +35,7 @@ impl Plan {
     ghost use Rattle.values.specs.Fit.{Fits};
     ghost use Rattle.query_check.specs.Resolution.{contents};
     ghost use Rattle.query_check.specs.Sets.{grouping_places, sets_of};
-    ghost use Rattle.query_check.specs.Functions.{filter_at, filters_of, function_form, functions_of, indexed_functions, place_among};
+    ghost use Rattle.query_check.specs.Functions.{filter_at, filters_of, functions_of, indexed_functions};
     ghost use Rattle.query_truth.specs.Kept.{filter_truth, passes, record_value, where_truth};
     ghost use Rattle.query_truth.specs.Meaning.{condition_truth, is_safe};
     ghost use Rattle.query_truth.specs.Truth.{truth};
@@ -113,38 +112,6 @@ impl Plan {
         ensures functions { result.now ≡ indexed_functions (fields_of_plan self.now) (form_of_plan self.now) }
     {
         self.resolved.functions()
-    }
-
-    /// The place of a set function among the different ones, from 0; `None` where the query does not
-    /// have it.
-    ///
-    /// # Errors
-    ///
-    /// `AllocError` where there is no memory to look for it.
-    pub fn function_index(
-        &self,
-        alloc: Global,
-        function: &SetFunction,
-    ) -> Result<Option<usize>, AllocError>
-        ensures place { IfOk result (λ place. place ≡ place_among (fields_of_plan self.now) (form_of_plan self.now) (function_form function.now)) }
-    {
-        query_check::function_index(alloc, self.schema.columns(), self.query.tree(), function)
-    }
-
-    /// The places of set functions among the different ones, as `function_index` has each; what the
-    /// query has is looked up once for all.
-    ///
-    /// # Errors
-    ///
-    /// `AllocError` where there is no memory for them.
-    pub fn function_indexes(
-        &self,
-        alloc: Global,
-        functions: &[&SetFunction],
-    ) -> Result<Vec<Option<usize>>, AllocError>
-        ensures places { IfOk result (λ v. v.items ≡ map (λ g. place_among (fields_of_plan self.now) (form_of_plan self.now) (function_form g.now)) functions.now) }
-    {
-        query_check::function_indexes(alloc, self.schema.columns(), self.query.tree(), functions)
     }
 
     /// Marks which of the different filters are True for a record that fits the schema, in the order in
