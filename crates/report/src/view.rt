@@ -18,10 +18,13 @@ pub(crate) struct PlanView<'a> {
     ghost functions_are: { ∥ planned_forms functions.items ≡ functions_of (fields_of_plan plan.now) (form_of_plan plan.now) ∥₁ },
 }
 
-impl Model for PlanView<'_> {
+impl<'a> Model for PlanView<'a> {
+    ghost use Rattle.query_plan.specs.contracts.plan.Plan as plan_contract;
     ghost use Rattle.query_plan.specs.declared.plan.Plan.{Plan};
 
     ghost Value = { Plan };
+
+    ghost coded = { plan_contract.the_row.coded };
 
     ghost view = { λ v. v.plan.now };
 }
