@@ -5,18 +5,12 @@ use Rattle.std.specs.Option.{option_and_then, option_map, option_map_or}
 use Rattle.values.specs.Schema.{Field}
 use Rattle.query_tree.specs.declared.expression.Aggregate.{Aggregate}
 use Rattle.query_tree.specs.declared.expression.Aggregate.TheVariants as aggregate
-use Rattle.query_tree.specs.declared.expression.SetFunction.{SetFunction}
-use Rattle.query_tree.specs.declared.expression.Expression.TheFolds.{fold-SetFunction}
-use Rattle.query_tree.specs.Syntax.{ExpressionForm, FunctionForm, OperandForm, PredicateForm, PredicateForms, TreeForm, name, grouping, function, over_all, over_filtered, expression, literal, or_of, and_of, not_of, truth_test, compare, between, member, null_test, column, no_parts, part, expression_step, operand_step, predicate_step, function_step}
+use Rattle.query_tree.specs.Syntax.{ExpressionForm, FunctionForm, OperandForm, PredicateForm, PredicateForms, TreeForm, name, grouping, function, over_all, over_filtered, expression, literal, or_of, and_of, not_of, truth_test, compare, between, member, null_test, column, no_parts, part}
 use Rattle.query_check.specs.declared.function.ColumnFunction.{ColumnFunction}
 use Rattle.query_check.specs.declared.function.ColumnFunction.TheVariants as at
 use Rattle.query_check.specs.declared.function.FilteredFunction.{FilteredFunction}
 use Rattle.query_check.specs.Columns.{distinct, place_of}
 use Rattle.query_check.specs.Same.{same_predicate}
-
--- The form of a set function.
-abbrev pub function_form : SetFunction → FunctionForm
-function_form = fold-SetFunction ExpressionForm OperandForm PredicateForm FunctionForm expression_step operand_step predicate_step function_step
 
 -- The set function without its FILTER.
 abbrev pub aggregate_of : FunctionForm → Aggregate

@@ -3,10 +3,10 @@
 ghost use Rattle.std.specs.Prelude.{◌≡◌, ◌++◌, map, option_and_then, option_map, position, IfOk, OnOk};
 ghost use Rattle.std.specs.List.{filter_map, flat_map, list_any};
 ghost use Rattle.values.specs.Schema.{fields_of};
-ghost use Rattle.query_tree.specs.Syntax.{expression_form, item_form, key_form, operand_form, predicate_form, predicate_forms, tree_form};
+ghost use Rattle.query_tree.specs.Syntax.{expression_form, function_form, item_form, key_form, operand_form, predicate_form, predicate_forms, tree_form};
 ghost use Rattle.query_check.specs.Columns.{distinct};
 ghost use Rattle.query_check.specs.Same.{same_predicate};
-ghost use Rattle.query_check.specs.Functions.{different_filters, expression_functions, filters_of, function_form, functions_of, indexed, indexed_functions, operand_functions, parts_functions, planned_function, predicate_functions, same_planned, set_functions};
+ghost use Rattle.query_check.specs.Functions.{different_filters, expression_functions, filters_of, functions_of, indexed, indexed_functions, operand_functions, parts_functions, planned_function, predicate_functions, same_planned, set_functions};
 ghost use Rattle.query_check.specs.Planning.{filter_forms, planned_form, planned_forms};
 
 use crate::function::{ColumnFunction, FilteredFunction, column_function};

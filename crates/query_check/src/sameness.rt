@@ -1,8 +1,7 @@
 //! Predicates that are the same, by the structure of their trees.
 
 ghost use Rattle.std.specs.Prelude.{◌≡◌, map};
-ghost use Rattle.query_tree.specs.Syntax.{expression_form, member, null_test, operand_form, predicate_form, predicate_forms, truth_test};
-ghost use Rattle.query_check.specs.Functions.{function_form};
+ghost use Rattle.query_tree.specs.Syntax.{expression_form, function_form, member, null_test, operand_form, predicate_form, predicate_forms, truth_test};
 ghost use Rattle.query_check.specs.Same.{same_aggregate, same_expression, same_literal, same_literals, same_mark, same_names, same_op, same_operand, same_parts, same_predicate, same_set_function, same_truth_value};
 
 use query_tree::{Aggregate, Expression, Literal, Operand, Predicate, SetFunction, Text};

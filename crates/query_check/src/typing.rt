@@ -3,9 +3,8 @@
 ghost use Rattle.std.specs.Prelude.{◌≡◌, ◌≢◌, [], map, Some};
 ghost use Rattle.values.specs.Schema.{fields_of};
 ghost use Rattle.query_fault.specs.declared.QueryFault.TheVariants.{UnknownColumn, NotGrouped, OutOfMemory};
-ghost use Rattle.query_tree.specs.Syntax.{expression_form, operand_form, predicate_form, predicate_forms};
+ghost use Rattle.query_tree.specs.Syntax.{expression_form, function_form, operand_form, predicate_form, predicate_forms};
 ghost use Rattle.query_check.specs.Typing.{aggregate_kind, literal_kind, operand_kind};
-ghost use Rattle.query_check.specs.Functions.{function_form};
 ghost use Rattle.query_check.specs.Faults.{agreement_fault, aggregate_fault, Answers, argument_fault, between_agreement, column_fault, expression_fault, first_fault, function_fault, grouped_fault, grouping_fault, is_integer, is_ordered, may_stand, name_fault, operand_fault, parts_fault, predicate_fault, same_kind, truth_fault};
 
 use crate::columns::{column_kind, place_of};
@@ -180,7 +179,9 @@ fn same_kind(left: Kind, right: Kind) -> bool
 {
     match (left, right) {
         (Kind::Int, Kind::Int) | (Kind::Text, Kind::Text) | (Kind::Bool, Kind::Bool) => true,
-        _ => false,
+        (Kind::Int, Kind::Text | Kind::Bool)
+        | (Kind::Text, Kind::Int | Kind::Bool)
+        | (Kind::Bool, Kind::Int | Kind::Text) => false,
     }
 }
 

@@ -36,7 +36,7 @@ module _ (IsInner : Derivation PredicateForm) (inner : Reader PredicateForm) (in
       let d = only_some (after (is_sign s.Close) c.0.1) (λ rest. Some (c.0.0, rest)) x c.2 in
       let inside : IsInner b.0 c.0.0 (tokens.Sign s.Close ∷ d.0) = leaves_as IsInner (after_sign_is s.Close c.0.1 d.0 d.1) (inner_s b.0 c.0 c.1) in
       let front : ts ≡ tokens.Sign s.Open ∷ tokens.Word w.Where ∷ b.0 =
-          after_sign_is s.Open ts a.0 a.1 ∙ ap (λ (us : List Token). tokens.Sign s.Open ∷ us) (after_word_is w.Where a.0 b.0 b.1) in
+      after_sign_is s.Open ts a.0 a.1 ∙ ap (λ (us : List Token). tokens.Sign s.Open ∷ us) (after_word_is w.Where a.0 b.0 b.1) in
       let made : IsFilter ts (c.0.0, d.0) = record { behind = b.0; begins = front; within = inside } in
       subst (λ (y : PredicateForm × List Token). IsFilter ts y) (some_is (c.0.0, d.0) x d.2) made
 

@@ -5,9 +5,7 @@ ghost use Rattle.query_tree.specs.Syntax.{operand_form, predicate_form};
 ghost use Rattle.query_leaves.specs.Steps.{Gives};
 ghost use Rattle.query_predicates.specs.AtomSteps.{member_after, column_of, test_after, is_after};
 
-use query_leaves::{
-    GrammarFault, after_word, in_list, keep, mark, truth_value, unexpected,
-};
+use query_leaves::{GrammarFault, after_word, in_list, keep, mark, truth_value, unexpected};
 use query_tokens::{Token, Word};
 use query_tree::{Expression, Operand, Predicate};
 use std::alloc::Global;
@@ -85,4 +83,3 @@ pub(crate) fn null_or_truth_test(
     let part = Box::new(alloc, column)?;
     Ok((Predicate::Is { part, not, truth }, rest))
 }
-

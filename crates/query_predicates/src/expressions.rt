@@ -15,4 +15,3 @@ pub fn begins_expression(tokens: &[Token]) -> bool {
             | [Token::Word(Word::Avg), ..]
     )
 }
-

@@ -13,8 +13,8 @@ ghost use Rattle.query_predicates.specs.PredicateSteps.{test_at, negation_at, co
 
 use crate::atoms::{column, member, null_or_truth_test, tested};
 use query_leaves::{
-    GrammarFault, after_sign, after_word, aggregate, expect_sign, expect_word, grouping_names, keep, literal,
-    name, operator,
+    GrammarFault, after_sign, after_word, aggregate, expect_sign, expect_word, grouping_names,
+    keep, literal, name, operator,
 };
 use query_tokens::{Sign, Token, Word};
 use query_tree::{Expression, Operand, Predicate, SetFunction};

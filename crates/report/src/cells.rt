@@ -2,13 +2,12 @@
 ghost use Rattle.std.specs.Prelude.{◌≡◌, ◌≤◌, IfOk, map, length, slice_get, slice_index_or, unwrap_or};
 ghost use Rattle.values.specs.Datum.{data_of, datum_of, null};
 ghost use Rattle.values.specs.Schema.{fields_of};
-ghost use Rattle.query_tree.specs.Syntax.{expression_form};
+ghost use Rattle.query_tree.specs.Syntax.{expression_form, function_form};
 ghost use Rattle.query_plan.specs.Planned.{fields_of_plan, form_of_plan};
 ghost use Rattle.groups.specs.Functions.{plain};
 ghost use Rattle.groups.specs.Cells.{summary_of};
 ghost use Rattle.report.specs.Having.{cell_value};
 ghost use Rattle.report.specs.Inside.Planned.{shown_under};
-ghost use Rattle.query_check.specs.Functions.{function_form};
 ghost use Rattle.report.specs.Shown.{value_in, function_shown, grouping_number, grouping_shown, is_rolled_up, name_shown};
 
 use crate::view::PlanView;

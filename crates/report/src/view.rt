@@ -31,7 +31,8 @@ impl<'a> Model for PlanView<'a> {
 
 impl<'a> PlanView<'a> {
     ghost use Rattle.std.specs.Prelude.{◌≡◌, IfOk};
-    ghost use Rattle.query_check.specs.Functions.{function_form, place_among};
+    ghost use Rattle.query_check.specs.Functions.{place_among};
+    ghost use Rattle.query_tree.specs.Syntax.{function_form};
     ghost use Rattle.query_check.specs.Resolution.{contents};
     ghost use Rattle.query_check.specs.Sets.{sets_of};
     ghost use Rattle.query_check.specs.Typing.{IsTyped};

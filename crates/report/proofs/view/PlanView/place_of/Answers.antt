@@ -4,7 +4,8 @@ use Rattle.std.specs.Coded.{Coded-set, coded_option, coded_ℕ}
 use Rattle.std.specs.Option.{option_and_then}
 use Rattle.values.specs.Schema.{Field, fields_of}
 use Rattle.query_check.specs.declared.planning.Planned.{Planned}
-use Rattle.query_check.specs.Functions.{PlannedFunction, function_form, functions_of, place_among, planned_function, same_planned}
+use Rattle.query_tree.specs.Syntax.{function_form}
+use Rattle.query_check.specs.Functions.{PlannedFunction, functions_of, place_among, planned_function, same_planned}
 use Rattle.query_check.specs.Planning.{planned_forms}
 use Rattle.query_plan.specs.declared.plan.Plan.{Plan}
 use Rattle.query_plan.specs.Planned.{fields_of_plan, form_of_plan}
