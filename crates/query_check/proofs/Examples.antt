@@ -10,7 +10,6 @@ use Rattle.query_tree.specs.Syntax.{ExpressionForm, ItemForm, PredicateForm, Tre
 use Rattle.query_fault.specs.declared.QueryFault.TheVariants as faults
 use Rattle.query_check.specs.declared.scope.Clause.TheVariants as clause
 use Rattle.query_check.specs.declared.function.ColumnFunction.TheVariants as at
-use Rattle.query_check.specs.declared.function.FilteredFunction.{FilteredFunction}
 use Rattle.query_check.specs.Faults.{clauses_fault, query_fault, records_fault, rows_fault, select_fault}
 use Rattle.query_check.specs.Functions.{filters_of, indexed_functions}
 use Rattle.query_check.specs.Standing.{Stands}
@@ -147,13 +146,13 @@ filter_of_any_column = refl
 -- SELECT COUNT(*), COUNT(*) FILTER (WHERE b), SUM(q) FILTER (WHERE b), COUNT(*) FILTER (WHERE q = 1), COUNT(*) FILTER (WHERE b)
 abbrev filtered_query : TreeForm
 filtered_query = selected (
-  item (function (over_all aggregate.CountRows))
-  ∷ item (counted (column (codes "b")))
-  ∷ item (function (over_filtered (aggregate.Sum (codes "q")) (column (codes "b"))))
-  ∷ item (counted (is_one (codes "q")))
-  ∷ item (counted (column (codes "b")))
-  ∷ []
-)
+    item (function (over_all aggregate.CountRows))
+    ∷ item (counted (column (codes "b")))
+    ∷ item (function (over_filtered (aggregate.Sum (codes "q")) (column (codes "b"))))
+    ∷ item (counted (is_one (codes "q")))
+    ∷ item (counted (column (codes "b")))
+    ∷ []
+    )
 
 -- it has two different filters, and four different set functions
 filters : filters_of fields filtered_query ≡ column (codes "b") ∷ is_one (codes "q") ∷ []
