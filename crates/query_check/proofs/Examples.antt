@@ -10,7 +10,6 @@ use Rattle.query_tree.specs.Syntax.{ExpressionForm, ItemForm, PredicateForm, Tre
 use Rattle.query_fault.specs.declared.QueryFault.TheVariants as faults
 use Rattle.query_check.specs.declared.scope.Clause.TheVariants as clause
 use Rattle.query_check.specs.declared.function.ColumnFunction.TheVariants as at
-use Rattle.query_check.specs.declared.function.FilteredFunction.{FilteredFunction}
 use Rattle.query_check.specs.Faults.{clauses_fault, query_fault, records_fault, rows_fault, select_fault}
 use Rattle.query_check.specs.Functions.{filters_of, indexed_functions}
 use Rattle.query_check.specs.Standing.{Stands}

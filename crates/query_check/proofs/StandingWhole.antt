@@ -26,7 +26,7 @@ use Rattle.query_check.specs.Sets.{expanded, grouping_names, grouping_places}
 use Rattle.query_check.specs.Functions.{functions_of}
 use Rattle.query_check.specs.Typing.{HasKind, IsColumn, IsTypedAggregate, IsTypedName, IsTypedOperand, MayStand, aggregate_kind, key_expression, literal_kind, operand_kind}
 use Rattle.query_check.specs.Faults.{Answers, first_fault, column_fault, name_fault, is_truth, expression_fault, operand_fault, same_kind, agreement_fault, between_agreement, member_agreement, predicate_fault, parts_fault, clause_fault, header_fault, limit_fault, group_fault, records_fault, select_fault, rows_fault, clauses_fault, query_fault}
-use Rattle.query_check.specs.Standing.{AreOfTwoKinds, Disagrees, IsAtomIn, Stands, StandsIn, StandsTwice, atoms, atoms_in, operands, parts_atoms}
+use Rattle.query_check.specs.Standing.{AreOfTwoKinds, Disagrees, IsAtomIn, Stands, StandsIn, StandsTwice, atoms, operands, parts_atoms}
 use Rattle.query_check.proofs.TypedLemmas.{name_from_none, operand_from_none, same_itself}
 use Rattle.query_check.proofs.WholeLemmas.{all_names}
 use Rattle.query_check.proofs.StandingLemmas.{FiltersStand, column_has_kind, column_stands, either, expression_stands, fails, first_at, is_there, kind_fails, mapped, name_stands, not_truth}

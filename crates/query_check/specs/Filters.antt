@@ -6,7 +6,7 @@ use Rattle.query_tree.specs.Syntax.{PredicateForm, TreeForm}
 use Rattle.query_check.specs.declared.function.FilteredFunction.{FilteredFunction}
 use Rattle.query_check.specs.declared.scope.Clause.TheVariants as clause
 use Rattle.query_check.specs.Functions.{filters_of, functions_of, indexed_functions}
-use Rattle.query_check.specs.Typing.{IsTyped, IsTypedPredicate}
+use Rattle.query_check.specs.Typing.{IsTypedPredicate}
 
 -- The filters to which set functions lead by their indexes among some filters.
 abbrev pub filters_at : List PredicateForm → List FilteredFunction → List (Option PredicateForm)

@@ -1,4 +1,4 @@
-use Rattle.std.proofs.Common.{◌≡◌, ◌∙◌, ◌==◌, List, length, map, sym, ap}
+use Rattle.std.proofs.Common.{◌∙◌, List, map, sym}
 use Rattle.std.proofs.lemmas.List.{at_drop_all}
 use Rattle.query_tree.specs.declared.expression.Predicate.{Predicate}
 use Rattle.query_tree.specs.Syntax.{predicate_form, predicate_forms}

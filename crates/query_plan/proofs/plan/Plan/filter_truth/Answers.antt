@@ -1,4 +1,4 @@
-use Rattle.std.proofs.Common.{◌≡◌, ◌∙◌, ℕ, List, Option, Some, None, [], get_or, slice_get, length, sym, ap, arith}
+use Rattle.std.proofs.Common.{◌∙◌, List, None, [], get_or, slice_get, sym, ap, arith}
 use Rattle.std.specs.Option.{option_and_then}
 use Rattle.values.specs.Datum.{data_of}
 use Rattle.values.specs.declared.truth.Truth.{Truth}
