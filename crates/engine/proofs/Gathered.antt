@@ -170,7 +170,7 @@ short-round fields q known limit old new found partial s moved is few =
 pub one-shape : {R : Type 0} (fields : List Field) (q : TreeForm) (known : Option (List ℕ)) (limit : ℕ) (old : RoundsState R) (partial more : PartialState) (round : List ℕ)
     → StandsForRounds fields q known limit old partial → StandsForInput fields q more round → HaveOneShape partial more
 one-shape fields q known limit old partial more round s stands =
-    record { sets = s.stands.stands.sets ∙ sym stands.stands.sets; functions = s.stands.stands.functions ∙ sym stands.stands.functions }
+    record { sets = s.stands.stands.sets ∙ sym stands.stands.sets; functions = s.stands.stands.functions ∙ sym stands.stands.functions; filters = s.stands.stands.filters ∙ sym stands.stands.filters }
 
 pub few-lines : {R : Type 0} (fields : List Field) (q : TreeForm) (known : Option (List ℕ)) (limit : ℕ) (old new : RoundsState R) (found : Result Bool ReadFault) (partial more : PartialState)
     → StandsForRounds fields q known limit old partial → HasMoved old found new → found ≡ Ok true → StandsForInput fields q more new.round → partial.lines + more.lines < 2 ^ 63
