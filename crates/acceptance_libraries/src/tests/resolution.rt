@@ -1,6 +1,6 @@
 //! What no clause says: that a query is checked and resolved where memory is ample.
 
-use query_check::{ColumnFunction, check_tree, set_count};
+use query_check::{ColumnFunction, FilteredFunction, check_tree, set_count};
 use query_tree::{Aggregate, Expression, GroupingElement, Item, SetFunction, Text, Tree};
 use std::alloc::Global;
 use std::test::Fail;
@@ -64,7 +64,11 @@ fn resolves_a_query(rt: HostRuntime) -> Result<(), Fail> {
     }
     assert_eq!(rt;
         resolved.functions(),
-        [ColumnFunction::CountRows].as_slice()
+        [FilteredFunction {
+            function: ColumnFunction::CountRows,
+            filter: None
+        }]
+        .as_slice()
     );
     Ok(())
 }
