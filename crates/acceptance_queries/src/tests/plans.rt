@@ -1,9 +1,11 @@
 //! The plans of queries under columns.
 use super::queries::is_out_of_memory;
-use query::{ColumnFunction, Plan, QueryFault, check, header, parse, set_text};
-use std::alloc::Global;
+use query::{
+    ColumnFunction, Plan, QueryFault, check, filter_holds, filter_texts, header, parse, set_text,
+};
+use std::alloc::{AllocError, Global};
 use std::process::Abort;
-use values::Schema;
+use values::{Record, Schema, Truth, Value};
 
 const COLUMNS: &str = "d:text,r:text,q:int";
 
@@ -46,6 +48,11 @@ const FIRST_TEXTS: &[(&str, &str, &str)] = &[
         "(r, d)",
     ),
     ("SELECT COUNT(*) AS \"a b\" FROM lines", "a b", "()"),
+    (
+        "SELECT COUNT(*) FILTER (WHERE q > 1 OR d IS NULL), SUM(q) FILTER (WHERE NOT r IN ('x')) AS s FROM lines",
+        "COUNT(*) FILTER (WHERE q > 1 OR d IS NULL)",
+        "()",
+    ),
 ];
 
 /// Where memory is refused the answer is want of memory, else the texts.
@@ -64,10 +71,10 @@ fn refusal_of_check(rt: HostRuntime) {
 
 /// Asserts that the set functions of a plan are COUNT(*) and the sum of column 2.
 fn assert_functions(rt: &impl Abort, plan: &Plan) {
-    let functions = plan.functions();
+    let functions = plan.set_functions();
     assert_eq!(rt; functions.len(), 2);
-    assert!(rt; functions[0].is_same(ColumnFunction::CountRows));
-    assert!(rt; functions[1].is_same(ColumnFunction::Sum(2)));
+    assert!(rt; functions[0].function.is_same(ColumnFunction::CountRows));
+    assert!(rt; functions[1].function.is_same(ColumnFunction::Sum(2)));
 }
 
 /// Asserts that a plan of three columns has one set, of columns 1 and 0.
@@ -87,4 +94,77 @@ fn keeps_functions_and_places(rt: HostRuntime) {
     assert_places(&rt, &plan);
     // By a call: a drop in place is proved for each form of a query.
     drop(plan);
+}
+
+/// Set functions with three different FILTERs, one of them written twice, and one without.
+const FILTERED: &str =
+    "SELECT COUNT(*) FILTER (WHERE q > 1) AS a, SUM(q) FILTER (WHERE q > 2) AS b, \
+    MAX(q) FILTER (WHERE (q > 1)) AS c, COUNT(*) FILTER (WHERE d = 'x') AS e, COUNT(*) AS n FROM lines";
+
+/// The texts of the different filters of a plan, which of them are True for a record, and the truth value of the FILTER
+/// of each set function for it.
+struct Marked {
+    texts: Vec<String>,
+    marks: Vec<bool>,
+    truths: Vec<Truth>,
+}
+
+/// The truth value of the FILTER of each set function for a record.
+fn truths_of(alloc: Global, plan: &Plan, record: &Record) -> Result<Vec<Truth>, AllocError> {
+    let mut truths = Vec::new(alloc);
+    if !plan.schema().fits(record) {
+        return Ok(truths);
+    }
+    for place in 0..plan.functions() {
+        truths.push(filter_holds(plan, place, record))?;
+    }
+    Ok(truths)
+}
+
+/// What the filters of a plan are for a record without texts and with this number.
+fn marked(alloc: Global, plan: &Plan, number: i128) -> Result<Marked, AllocError> {
+    let record = Record::new(vec![in alloc; Value::Null, Value::Null, Value::Int(number)]?);
+    let mut marks = vec![in alloc; true, true]?;
+    if plan.schema().fits(&record) {
+        plan.mark_filters(&record, &mut marks)?;
+    }
+    Ok(Marked {
+        texts: filter_texts(alloc, plan)?,
+        marks,
+        truths: truths_of(alloc, plan, &record)?,
+    })
+}
+
+/// What the filters of a query are for a record without texts and with this number.
+fn marked_by(alloc: Global, text: &str, number: i128) -> Result<Marked, QueryFault> {
+    let plan = planned(alloc, text)?;
+    let found = marked(alloc, &plan, number);
+    drop(plan);
+    Ok(found?)
+}
+
+/// Asserts what the three filters, and those of the five set functions, are for a record with the number 2.
+fn assert_marked(rt: &impl Abort, found: &Marked) {
+    assert_eq!(rt; found.texts.len(), 3);
+    assert_eq!(rt; found.texts[0].as_str(), "q > 1");
+    assert_eq!(rt; found.texts[1].as_str(), "q > 2");
+    assert_eq!(rt; found.texts[2].as_str(), "d = 'x'");
+    assert_eq!(rt; found.marks.as_slice(), [true, false, false].as_slice());
+    let truths = [
+        Truth::True,
+        Truth::False,
+        Truth::True,
+        Truth::Unknown,
+        Truth::True,
+    ];
+    assert_eq!(rt; found.truths.as_slice(), truths.as_slice());
+}
+
+/// Where memory is refused the answer is want of memory, else the filters and what they are for a record.
+#[test]
+fn refusal_of_filters(rt: HostRuntime) {
+    match marked_by(rt.alloc(), FILTERED, 2) {
+        Ok(found) => assert_marked(&rt, &found),
+        Err(fault) => assert!(rt; is_out_of_memory(&fault), "{fault:?}"),
+    }
 }
