@@ -103,7 +103,8 @@ const FILTERED: &str =
 
 /// The texts of the different filters of a plan, which of them are True for a record, and the truth value of the FILTER
 /// of each set function for it.
-struct Marked {
+#[derive(Drop)]
+struct FiltersFound {
     texts: Vec<String>,
     marks: Vec<bool>,
     truths: Vec<Truth>,
@@ -122,13 +123,13 @@ fn truths_of(alloc: Global, plan: &Plan, record: &Record) -> Result<Vec<Truth>, 
 }
 
 /// What the filters of a plan are for a record without texts and with this number.
-fn marked(alloc: Global, plan: &Plan, number: i128) -> Result<Marked, AllocError> {
+fn marked(alloc: Global, plan: &Plan, number: i128) -> Result<FiltersFound, AllocError> {
     let record = Record::new(vec![in alloc; Value::Null, Value::Null, Value::Int(number)]?);
     let mut marks = vec![in alloc; true, true]?;
     if plan.schema().fits(&record) {
         plan.mark_filters(&record, &mut marks)?;
     }
-    Ok(Marked {
+    Ok(FiltersFound {
         texts: filter_texts(alloc, plan)?,
         marks,
         truths: truths_of(alloc, plan, &record)?,
@@ -136,7 +137,7 @@ fn marked(alloc: Global, plan: &Plan, number: i128) -> Result<Marked, AllocError
 }
 
 /// What the filters of a query are for a record without texts and with this number.
-fn marked_by(alloc: Global, text: &str, number: i128) -> Result<Marked, QueryFault> {
+fn marked_by(alloc: Global, text: &str, number: i128) -> Result<FiltersFound, QueryFault> {
     let plan = planned(alloc, text)?;
     let found = marked(alloc, &plan, number);
     drop(plan);
@@ -144,7 +145,7 @@ fn marked_by(alloc: Global, text: &str, number: i128) -> Result<Marked, QueryFau
 }
 
 /// Asserts what the three filters, and those of the five set functions, are for a record with the number 2.
-fn assert_marked(rt: &impl Abort, found: &Marked) {
+fn assert_marked(rt: &impl Abort, found: &FiltersFound) {
     assert_eq!(rt; found.texts.len(), 3);
     assert_eq!(rt; found.texts[0].as_str(), "q > 1");
     assert_eq!(rt; found.texts[1].as_str(), "q > 2");
