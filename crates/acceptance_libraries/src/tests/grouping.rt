@@ -62,8 +62,9 @@ fn table_of(
     let mut table = Table::new(alloc, set, functions)?;
     for fields in records {
         let row = row_of(alloc, fields)?;
-        let marks = [keeps(row.as_slice())];
-        table.add(set, functions, row.as_slice(), &marks)?;
+        let values = row.as_slice();
+        let marks = [keeps(values)];
+        table.add(set, functions, values, &marks)?;
     }
     Ok(table)
 }

@@ -1,6 +1,5 @@
-use Rattle.std.proofs.Common.{Bool, List, [], ◌∷◌, ◌++◌, refl, sym, ap, ◌∙◌, arith, length-append}
+use Rattle.std.proofs.Common.{Bool, List, [], ◌∷◌, ◌++◌, refl, ap, arith, length-append}
 use Rattle.values.specs.Datum.{data_of}
-use Rattle.values.specs.declared.value.Value.{Value}
 use Rattle.groups.specs.Rows.{Row, is_present, value_at}
 use Rattle.acceptance_libraries.proofs.tests.grouping.table_of.Goals as goal
 
@@ -18,9 +17,9 @@ add-requires-clause-room c =
 pub loop-fields-preserved : goal.loop-fields-preserved
 loop-fields-preserved c =
     let i = c.loop-fields.invariant in
-    let row = data_of c.as_slice-2.result.now in
+    let row = data_of c.as_slice-values.result.now in
     let l = length-append i.0 (row ∷ []) in
-    let marks = ap (λ (b : Bool). b ∷ []) (c.keeps.ensures ∙ ap (λ (vs : List Value). is_present (value_at 1 (data_of vs))) (c.as_slice.ensures.value ∙ sym c.as_slice-2.ensures.value)) in
+    let marks = ap (λ (b : Bool). b ∷ []) c.keeps.ensures in
     (i.0 ++ row ∷ [], (c.in_ok-add.ensures.added filters i.0 marks i.1.0, omega (arith, l, i.1.1)))
 
 pub returns : goal.returns
