@@ -53,7 +53,16 @@ impl ColumnFunction {
             | (ColumnFunction::Min(a), ColumnFunction::Min(b))
             | (ColumnFunction::Max(a), ColumnFunction::Max(b))
             | (ColumnFunction::Avg(a), ColumnFunction::Avg(b)) => a == b,
-            _ => false,
+            (
+                ColumnFunction::CountRows
+                | ColumnFunction::Count(_)
+                | ColumnFunction::CountDistinct(_)
+                | ColumnFunction::Sum(_)
+                | ColumnFunction::Min(_)
+                | ColumnFunction::Max(_)
+                | ColumnFunction::Avg(_),
+                _,
+            ) => false,
         }
     }
 }

@@ -25,7 +25,7 @@ fn is_same_op(op: Op, other: Op) -> bool
         | (Op::Le, Op::Le)
         | (Op::Gt, Op::Gt)
         | (Op::Ge, Op::Ge) => true,
-        _ => false,
+        (Op::Eq | Op::Ne | Op::Lt | Op::Le | Op::Gt | Op::Ge, _) => false,
     }
 }
 
@@ -37,7 +37,7 @@ fn is_same_truth_value(truth: Truth, other: Truth) -> bool
         (Truth::True, Truth::True)
         | (Truth::Unknown, Truth::Unknown)
         | (Truth::False, Truth::False) => true,
-        _ => false,
+        (Truth::True | Truth::Unknown | Truth::False, _) => false,
     }
 }
 
@@ -49,7 +49,7 @@ fn is_same_literal(literal: &Literal, other: &Literal) -> bool
         (Literal::Integer(number), Literal::Integer(other)) => number == other,
         (Literal::Text(text), Literal::Text(other)) => text.as_str() == other.as_str(),
         (Literal::Truth(holds), Literal::Truth(other)) => is_same_mark(*holds, *other),
-        _ => false,
+        (Literal::Integer(_) | Literal::Text(_) | Literal::Truth(_), _) => false,
     }
 }
 
@@ -99,7 +99,16 @@ fn is_same_aggregate(aggregate: &Aggregate, other: &Aggregate) -> bool
         | (Aggregate::Min(x), Aggregate::Min(y))
         | (Aggregate::Max(x), Aggregate::Max(y))
         | (Aggregate::Avg(x), Aggregate::Avg(y)) => x.as_str() == y.as_str(),
-        _ => false,
+        (
+            Aggregate::CountRows
+            | Aggregate::Count(_)
+            | Aggregate::CountDistinct(_)
+            | Aggregate::Sum(_)
+            | Aggregate::Min(_)
+            | Aggregate::Max(_)
+            | Aggregate::Avg(_),
+            _,
+        ) => false,
     }
 }
 
@@ -152,7 +161,15 @@ pub fn is_same_predicate(predicate: &Predicate, other: &Predicate) -> bool
         ) => { is_same_membership(operand, *not, literals, other) }
         (Predicate::IsNull { operand, not }, other) => is_same_null_test(operand, *not, other),
         (Predicate::Column(name), Predicate::Column(other)) => name.as_str() == other.as_str(),
-        _ => false,
+        (
+            Predicate::Or(_)
+            | Predicate::And(_)
+            | Predicate::Not(_)
+            | Predicate::Compare { .. }
+            | Predicate::Between { .. }
+            | Predicate::Column(_),
+            _,
+        ) => false,
     }
 }
 
@@ -238,7 +255,7 @@ fn is_same_operand(operand: &Operand, other: &Operand) -> bool
             is_same_expression(expression, other)
         }
         (Operand::Literal(literal), Operand::Literal(other)) => is_same_literal(literal, other),
-        _ => false,
+        (Operand::Expression(_) | Operand::Literal(_), _) => false,
     }
 }
 
@@ -255,7 +272,7 @@ fn is_same_expression(expression: &Expression, other: &Expression) -> bool
         (Expression::Function(function), Expression::Function(other)) => {
             is_same_set_function(function, other)
         }
-        _ => false,
+        (Expression::Name(_) | Expression::Grouping(_) | Expression::Function(_), _) => false,
     }
 }
 

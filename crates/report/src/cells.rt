@@ -138,7 +138,7 @@ fn function_cell(
 ) -> Result<Cell, AllocError>
     ensures { IfOk result (λ cell. summary_of cell ≡ function_shown (fields_of_plan plan.now) (form_of_plan plan.now) (map summary_of cells.now) (function_form function.now)) }
 {
-    match plan.place_of(function) {
+    match plan.function_place(function) {
         Some(place) => cell_at(cells, place),
         None => Ok(Cell::Plain(Value::Null)),
     }

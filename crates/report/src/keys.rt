@@ -74,9 +74,13 @@ fn under_key(key: &Key, a: &Value, b: &Value) -> Ordering
     match (a, b) {
         (Value::Null, Value::Null) => Ordering::Equal,
         (Value::Null, _) => null_order(key.nulls_first),
-        (_, Value::Null) => null_order(key.nulls_first).reverse(),
-        _ if key.descending => a.order(b).reverse(),
-        _ => a.order(b),
+        (Value::Bool(_) | Value::Int(_) | Value::Text(_), Value::Null) => {
+            null_order(key.nulls_first).reverse()
+        }
+        (Value::Bool(_) | Value::Int(_) | Value::Text(_), _) if key.descending => {
+            a.order(b).reverse()
+        }
+        (Value::Bool(_) | Value::Int(_) | Value::Text(_), _) => a.order(b),
     }
 }
 

@@ -70,7 +70,7 @@ impl<'a> PlanView<'a> {
     }
 
     /// The place of a set function among those of the plan; `None` where it has no such function. It takes no memory.
-    pub(crate) fn place_of(&self, function: &SetFunction) -> Option<usize>
+    pub(crate) fn function_place(&self, function: &SetFunction) -> Option<usize>
         ensures { result ≡ place_among (fields_of_plan self.now) (form_of_plan self.now) (function_form function.now) }
     {
         planned_place(

@@ -105,7 +105,7 @@ fn roll_set(
     ensures made { OnOk result (IsMade set.now tables.new.items) }
     ensures others { OnOk result ((other : List ℕ) → IsMade other tables.old.items → IsMade other tables.new.items) }
 {
-    if place_of(tables.as_slice(), set) < tables.len() {
+    if place_of_table(tables.as_slice(), set) < tables.len() {
         return Ok(());
     }
     let finer = &tables[place_of_finer(tables.as_slice(), set)];
@@ -116,7 +116,7 @@ fn roll_set(
 }
 
 /// Where the table of a set stands, and the number of the tables where there is none.
-fn place_of(tables: &[SetTable], set: &[usize]) -> usize
+fn place_of_table(tables: &[SetTable], set: &[usize]) -> usize
     ensures within { result ≤ length tables.now }
     ensures there { result < length tables.now → (other : SetTable) → (slice_index_or tables.now result other).set.items ≡ set.now }
     ensures none { result ≡ length tables.now → All (λ (table : SetTable). table.set.items ≢ set.now) tables.now }
@@ -215,7 +215,7 @@ fn take_table(
         → AreTablesOf (map (bound filters) functions.now) tables.old.items rows → AreTablesOf (map (bound filters) functions.now) tables.new.items rows) }
     ensures others { OnOk result ((other : List ℕ) → (is_last ≡ true → other ≢ set.now) → IsMade other tables.old.items → IsMade other tables.new.items) }
 {
-    let place = place_of(tables.as_slice(), set);
+    let place = place_of_table(tables.as_slice(), set);
     if is_last {
         let SetTable { table, .. } = tables.remove(place);
         return Ok(table);

@@ -1,6 +1,6 @@
 use Rattle.std.proofs.Common.{All, ◌≢◌, take}
 use Rattle.tables.specs.declared.rolling.SetTable.{SetTable}
-use Rattle.tables.proofs.rolling.place_of.Given as goal
+use Rattle.tables.proofs.rolling.place_of_table.Given as goal
 
 -- none of the tables so far is that of the set
 abbrev pub invariant-loop-place : goal.invariant-loop-place

@@ -9,7 +9,7 @@ use Rattle.query_check.specs.Functions.{PlannedFunction, functions_of, place_amo
 use Rattle.query_check.specs.Planning.{planned_forms}
 use Rattle.query_plan.specs.declared.plan.Plan.{Plan}
 use Rattle.query_plan.specs.Planned.{fields_of_plan, form_of_plan}
-use Rattle.report.proofs.view.PlanView.place_of.Goals as goal
+use Rattle.report.proofs.view.PlanView.function_place.Goals as goal
 
 pub returns : goal.returns
 returns c =
