@@ -1,6 +1,9 @@
 -- Beginnings that grow.
-use Rattle.std.proofs.Common.{◌≡◌, ◌++◌, ◌-◌, ◌∙◌, ℕ, List, length, take, drop, sym, ap, append_assoc, arith, length-drop}
+use Rattle.std.proofs.Common.{◌≡◌, ◌++◌, ◌-◌, ◌∙◌, true, ℕ, List, Option, Result, Ok, Err, length, take, drop, sym, ap, append_assoc, arith, length-drop}
 use Rattle.std.proofs.lemmas.List.{take_all, take-append-drop}
+use Rattle.std.specs.Prelude.{IfErr, is_err}
+use Rattle.std.specs.Io.KnownBytes.{Appends}
+use Rattle.engine.specs.Written.{AppendsBeginning}
 
 -- the first n of the rest may be counted to the front
 pub append-moved : (front rest : List ℕ) (n : ℕ)
@@ -10,3 +13,9 @@ append-moved front rest n =
     sym (take_all (length rest - n) (drop n rest) (omega (arith, length-drop n rest))) in
     ap (λ xs. front ++ xs) (sym (take-append-drop n rest) ∙ ap (λ xs. take n rest ++ xs) left)
     ∙ sym (append_assoc front (take n rest) (take (length rest - n) (drop n rest)))
+
+-- the first n of a text are a beginning of it
+pub begun : {X : Type 0} (r : Result X ℕ) (old new : Option (List ℕ)) (text : List ℕ) → is_err r ≡ true
+    → IfErr r (λ n. Appends old new (take n text)) → AppendsBeginning old new text
+begun (Ok done) old new text is h = let wrong = is in absurd cc
+begun (Err n) old new text is h = (take n text, drop n text, sym (take-append-drop n text), h)

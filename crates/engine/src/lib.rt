@@ -13,3 +13,4 @@ mod writing;
 pub use fault::RunFault;
 pub use running::{Done, run, run_alone};
 pub use serving::serve;
+pub use writing::put;

@@ -10,7 +10,7 @@ ghost use Rattle.engine.specs.Explanation.{Explains, IsAnswerable, explanation};
 use crate::explaining::explanation;
 use crate::fault::RunFault;
 use crate::running::run;
-use crate::writing::put;
+use crate::writing::put_and_flush;
 use clap::error::ErrorKind;
 use command_line::{Settings, WordsFault};
 use query::{Plan, QueryFault, check, parse};
@@ -201,7 +201,7 @@ fn explained<O: Write>(alloc: Global, plan: &Plan, out: &mut O) -> Result<u8, En
     let Ok(text) = explanation(alloc, plan) else {
         return Err(Ending::OUT_OF_MEMORY);
     };
-    match put(out, text.as_bytes()) {
+    match put_and_flush(out, text.as_bytes()) {
         Ok(()) => Ok(0),
         Err(_) => Err(Ending::Run(RunFault::WritingReport)),
     }
@@ -213,11 +213,11 @@ fn ended<E: Write>(alloc: Global, ending: &Ending, err: &mut E) -> u8
 {
     match ending.line(alloc) {
         Ok(line) => {
-            let _ = put(err, line.as_bytes());
+            let _ = put_and_flush(err, line.as_bytes());
             ending.status()
         }
         Err(_) => {
-            let _ = put(err, b"jlreport: out of memory\n");
+            let _ = put_and_flush(err, b"jlreport: out of memory\n");
             Ending::OUT_OF_MEMORY.status()
         }
     }
@@ -238,10 +238,10 @@ fn answered<O: Write, E: Write>(
         return ended(alloc, &Ending::OUT_OF_MEMORY, err);
     };
     if error.use_stderr() {
-        let _ = put(err, text.as_bytes());
+        let _ = put_and_flush(err, text.as_bytes());
         return 2;
     }
-    match put(out, text.as_bytes()) {
+    match put_and_flush(out, text.as_bytes()) {
         Ok(()) => 0,
         Err(_) => ended(alloc, &Ending::Run(RunFault::WritingReport), err),
     }

@@ -1,5 +1,5 @@
 //! Writing texts whole.
-ghost use Rattle.std.specs.Prelude.{IfErr, OnErr, OnOk};
+ghost use Rattle.std.specs.Prelude.{◌<◌, IfErr, OnErr, OnOk, length, take};
 ghost use Rattle.std.specs.Io.KnownBytes.{Appends};
 ghost use Rattle.engine.specs.Written.{AppendsBeginning, LeavesWritten};
 
@@ -10,18 +10,38 @@ use std::io::Write;
 #[derive(Clone, Copy, Debug, PartialEq, Eq)]
 pub(crate) struct WriteFault;
 
-/// Writes a text whole, and flushes it.
-pub(crate) fn put<W: Write>(writer: &mut W, text: &[u8]) -> Result<(), WriteFault>
-    ensures ok { OnOk result (Appends (W.contents writer.old) (W.contents writer.new) text.now) }
-    ensures err { OnErr result
-        (AppendsBeginning (W.contents writer.old) (W.contents writer.new) text.now) }
+/// Writes a text, by as many single writes as it takes, and does not flush it. An empty text is not
+/// written at all. It takes no memory of its own.
+///
+/// # Errors
+///
+/// Where a write fails, is interrupted or takes no byte: the number of bytes that were written
+/// before, which is less than the length of the text. They are the first bytes of the text, and no
+/// write is tried again.
+pub fn put<W: Write>(writer: &mut W, text: &[u8]) -> Result<(), usize>
+    ensures whole { OnOk result (Appends (W.contents writer.old) (W.contents writer.new) text.now) }
+    ensures count { IfErr result (λ written. written < length text.now) }
+    ensures beginning { IfErr result (λ written.
+        Appends (W.contents writer.old) (W.contents writer.new) (take written text.now)) }
 {
     let mut rest = text;
     while !rest.is_empty() {
         match writer.write(rest) {
-            Ok(0) | Err(_) => return Err(WriteFault),
+            Ok(0) | Err(_) => return Err(text.len() - rest.len()),
             Ok(taken) => rest = &rest[taken..],
         }
+    }
+    Ok(())
+}
+
+/// Writes a text whole, and flushes it.
+pub(crate) fn put_and_flush<W: Write>(writer: &mut W, text: &[u8]) -> Result<(), WriteFault>
+    ensures ok { OnOk result (Appends (W.contents writer.old) (W.contents writer.new) text.now) }
+    ensures err { OnErr result
+        (AppendsBeginning (W.contents writer.old) (W.contents writer.new) text.now) }
+{
+    if put(writer, text).is_err() {
+        return Err(WriteFault);
     }
     match writer.flush() {
         Ok(()) => Ok(()),
@@ -41,10 +61,10 @@ pub(crate) fn put_both<O: Write, E: Write>(
     ensures fault { IfErr result (λ fault. LeavesWritten fault report.now list.now
         (O.contents out.old) (O.contents out.new) (E.contents err.old) (E.contents err.new)) }
 {
-    if put(out, report).is_err() {
+    if put_and_flush(out, report).is_err() {
         return Err(RunFault::WritingReport);
     }
-    match put(err, list) {
+    match put_and_flush(err, list) {
         Ok(()) => Ok(()),
         Err(_) => Err(RunFault::WritingRefused),
     }
