@@ -1,7 +1,7 @@
 //! Times dealing alone: 1,048,576 pieces are dealt to hands, and these, each on a thread of its own, take
-//! them all and do nothing with them. Its words are `ruled` or `plain`, and the number of hands: by a deal,
-//! or by the same loop over plain deques, which have no rule and no end marks. It prints how many pieces
-//! were taken, and on standard error the nanoseconds of dealing and of taking.
+//! them all and do nothing with them. Its words are `ruled`, `endmarked` or `plain`, and the number of hands: by
+//! a deal, or by the same loop over deques without a rule, with the end marks and the gaps of a deal or with
+//! neither. It prints how many pieces were taken, and on standard error the nanoseconds of dealing and of taking.
 #![tactic(auto)]
 
 ghost use Rattle.std.specs.Prelude.{◌≡◌, ◌<◌};
@@ -31,11 +31,16 @@ impl Taker for Hand {
     }
 }
 
+/// The number that stands for the end of a deque with end marks.
+const END: u32 = PIECES;
+
 /// One worker's end of plain deques: its own, and its way into the others, from the next one on and round.
 #[derive(Drop)]
 struct Member {
     own: Worker<u32>,
     others: Vec<Stealer<u32>>,
+    /// Memory between this deque and the one before it, so that they share no line of the cache.
+    gap: Vec<u8>,
 }
 
 impl Taker for Member {
@@ -52,17 +57,59 @@ impl Taker for Member {
     }
 }
 
-/// Members with empty deques.
-fn members(alloc: Global, count: usize) -> Result<Vec<Member>, AllocError>
+/// A member of deques with end marks, who passes over these.
+#[derive(Drop)]
+struct MarkedMember {
+    member: Member,
+}
+
+impl Taker for MarkedMember {
+    fn take(&mut self) -> Option<u32> {
+        if let Some(piece) = self.member.own.pop() {
+            if piece != END {
+                return Some(piece);
+            }
+        }
+        for other in self.member.others.iter() {
+            if let Steal::Success(piece) = other.steal() {
+                if piece != END {
+                    return Some(piece);
+                }
+            }
+        }
+        None
+    }
+}
+
+/// Members with empty deques, each with room for so many marks behind its share of the pieces, and with so many
+/// bytes before it.
+fn members(alloc: Global, count: usize, marks: usize, gap: usize) -> Result<Vec<Member>, AllocError>
     requires { 0 < count }
 {
     let mut members = Vec::new(alloc);
     for _ in 0..count {
-        let own = Worker::new_fifo(alloc, (PIECES as usize).div_ceil(count))?;
+        let gap = Vec::with_capacity(alloc, gap)?;
+        let room = (PIECES as usize).div_ceil(count).saturating_add(marks);
+        let own = Worker::new_fifo(alloc, room)?;
         let others = Vec::new(alloc);
-        members.push(Member { own, others })?;
+        members.push(Member { own, others, gap })?;
     }
     Ok(members)
+}
+
+/// Puts an end mark for each member behind the pieces of each deque.
+fn mark_ends(members: Vec<Member>, alloc: Global) -> Result<Vec<MarkedMember>, AllocError> {
+    let count = members.len();
+    let mut marked = Vec::with_capacity(alloc, count)?;
+    for mut member in members {
+        for _ in 0..count {
+            if member.own.push(END).is_err() {
+                return Err(AllocError);
+            }
+        }
+        marked.push(MarkedMember { member })?;
+    }
+    Ok(marked)
 }
 
 /// Deals the pieces, in turn, and gives each member its way into the others' deques.
@@ -133,7 +180,13 @@ fn main(rt: HostRuntime) -> io::Result<()> {
         let mut hands = Deal::new(rt.alloc(), PIECES, hands)?.into_hands();
         return race(&rt, start, hands.as_mut_slice());
     }
-    let mut members = members(rt.alloc(), hands)?;
+    let is_marked = way.as_str() == "endmarked";
+    let (marks, gap) = if is_marked { (hands, 64) } else { (0, 0) };
+    let mut members = members(rt.alloc(), hands, marks, gap)?;
     deal_plainly(&mut members)?;
-    race(&rt, start, members.as_mut_slice())
+    if !is_marked {
+        return race(&rt, start, members.as_mut_slice());
+    }
+    let mut marked = mark_ends(members, rt.alloc())?;
+    race(&rt, start, marked.as_mut_slice())
 }
