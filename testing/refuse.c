@@ -1,9 +1,16 @@
-/* Loaded before a program, refuses its allocation number REFUSE_AT, counted from 1, and makes the
-   file REFUSE_MET where it did. Every other allocation is the C library's own. */
+/* Loaded before a program, refuses its allocation number REFUSE_AT and its start of a thread number REFUSE_START, counted
+   from 1, and makes the file REFUSE_MET where it did. Where the program ends it writes into the file REFUSE_COUNTS how many
+   allocations were asked for, how many threads were started, and how many of them were joined. Every other call is the C
+   library's own. */
+#define _GNU_SOURCE
+#include <dlfcn.h>
 #include <errno.h>
 #include <fcntl.h>
+#include <pthread.h>
 #include <stdatomic.h>
+#include <stdio.h>
 #include <stdlib.h>
+#include <sys/syscall.h>
 #include <unistd.h>
 
 extern void *__libc_malloc(size_t);
@@ -11,13 +18,20 @@ extern void *__libc_calloc(size_t, size_t);
 extern void *__libc_realloc(void *, size_t);
 extern void *__libc_memalign(size_t, size_t);
 
-static int is_refused(void) {
-    static atomic_long calls;
-    const char *at = getenv("REFUSE_AT");
-    if (!at || atomic_fetch_add(&calls, 1) + 1 != atol(at)) return 0;
+static atomic_long allocations, starts, started, joined;
+
+static int is_its_turn(atomic_long *calls, const char *name) {
+    long number = atomic_fetch_add(calls, 1) + 1;
+    const char *at = getenv(name);
+    if (!at || number != atol(at)) return 0;
     const char *met = getenv("REFUSE_MET");
     int file = met ? open(met, O_CREAT | O_WRONLY | O_TRUNC, 0644) : -1;
     if (file >= 0) close(file);
+    return 1;
+}
+
+static int is_refused(void) {
+    if (!is_its_turn(&allocations, "REFUSE_AT")) return 0;
     errno = ENOMEM;
     return 1;
 }
@@ -36,4 +50,35 @@ int posix_memalign(void **made, size_t align, size_t size) {
     if (is_refused()) return ENOMEM;
     *made = __libc_memalign(align, size);
     return *made ? 0 : ENOMEM;
+}
+
+int pthread_create(pthread_t *thread, const pthread_attr_t *how, void *(*work)(void *), void *with) {
+    int (*create)(pthread_t *, const pthread_attr_t *, void *(*)(void *), void *) = dlsym(RTLD_NEXT, "pthread_create");
+    if (is_its_turn(&starts, "REFUSE_START")) return EAGAIN;
+    int status = create(thread, how, work, with);
+    if (status == 0) atomic_fetch_add(&started, 1);
+    return status;
+}
+
+int pthread_join(pthread_t thread, void **result) {
+    int (*join)(pthread_t, void **) = dlsym(RTLD_NEXT, "pthread_join");
+    int status = join(thread, result);
+    if (status == 0) atomic_fetch_add(&joined, 1);
+    return status;
+}
+
+static void tell(void) {
+    const char *counts = getenv("REFUSE_COUNTS");
+    int file = counts ? open(counts, O_CREAT | O_WRONLY | O_TRUNC, 0644) : -1;
+    if (file < 0) return;
+    dprintf(file, "%ld %ld %ld\n", (long)allocations, (long)started, (long)joined);
+    close(file);
+}
+
+__attribute__((destructor)) static void end(void) { tell(); }
+
+void _exit(int status) {
+    tell();
+    syscall(SYS_exit_group, status);
+    __builtin_unreachable();
 }
