@@ -17,14 +17,19 @@ use std::alloc::Global;
 /// The most bytes of a query.
 const MOST_BYTES: usize = 65_536;
 
-/// Reads a query.
+/// Reads a query: the one that the text derives, ISO/IEC 9075-2 `<query specification>` with its
+/// `<order by clause>`, in the profile of `docs/LANGUAGE.md`.
+///
+/// Example: `parse(alloc, "SELECT COUNT(*) FROM table1")` answers `Unexpected(21)`, and
+/// `parse(alloc, "SELECT COUNT(*) AS n FROM lines;")` answers `NoToken(31)`.
 ///
 /// # Errors
 ///
-/// `OverLimit` for a text of more than 65,536 bytes, before anything else. Then the whole text has
-/// to spell tokens: `NoToken` names the byte where none begins. Then `Unexpected` names the byte of
-/// the first token that does not continue a query, or the length of the text where its end does not,
-/// and `OverLimit` comes at the first token that is too much. `OutOfMemory` says nothing of the text.
+/// `OverLimit` for a text of more than 65,536 bytes, before anything else. Then the whole text has to
+/// spell tokens: `NoToken` names the byte where none begins, from 0. Then `Unexpected` names the byte
+/// of the first token that does not continue a query, or the length of the text where its end does
+/// not, and `OverLimit` comes at the first token that is too much. `OutOfMemory` says nothing of the
+/// text.
 pub fn parse(alloc: Global, text: &str) -> Result<Query, QueryFault>
     // What is read is derived.
     ensures derived { IfOk result (λ query. Derives text.now (form_of query)) }

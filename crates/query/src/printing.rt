@@ -10,8 +10,13 @@ use query_print::print_tree;
 use query_round::reads_again;
 use std::alloc::{AllocError, Global};
 
-/// The canonical text of a query: keywords in capitals, one space where there is any, brackets only
-/// where they are needed.
+/// The canonical text of a query: keywords in capitals, one space where there is any, double quotes
+/// round the names that need them, brackets only where they are needed, no ASC, and NULLS FIRST or
+/// NULLS LAST only where it is not the default of its key. Where the text has at most 65,536 bytes,
+/// `parse` reads it as this query again, memory aside.
+///
+/// Example: of `select "select", count(*) from "lines" group by "select"` it answers
+/// `SELECT "select", COUNT(*) FROM lines GROUP BY "select"`.
 ///
 /// # Errors
 ///

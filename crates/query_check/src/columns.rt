@@ -6,7 +6,9 @@ ghost use Rattle.query_check.specs.Columns.{column_kind, kind_at, place_of};
 
 use values::{Column, Kind};
 
-/// The place of the column of a name, from 0. Names are compared exactly.
+/// The place of the column of a name, from 0; `None` where no column has it. Names are compared exactly.
+///
+/// Example: among the columns of `shop:text,cents:int` `cents` has the place 1, and `Cents` has none.
 pub fn place_of(columns: &[Column], name: &str) -> Option<usize>
     ensures { result ≡ place_of (fields_of columns.now) name.now }
 {

@@ -8,27 +8,33 @@ use crate::columns::place_of;
 use query_tree::Aggregate;
 use values::Column;
 
-/// A set function with the place of its column in the schema, from 0.
+/// A set function, apart from its FILTER, with the place of its column in the schema, from 0, ISO/IEC 9075-2
+/// `<set function specification>`.
+///
+/// Example: under the columns `shop:text,cents:int` `SUM(cents)` is `Sum(1)`.
 #[derive(Clone, Copy, Debug, PartialEq, Eq)]
 pub enum ColumnFunction {
-    /// `COUNT(*)`
+    /// `COUNT(*)`: the number of records.
     CountRows,
-    /// `COUNT(x)`
+    /// `COUNT(x)`: the number of records in which x is not NULL.
     Count(usize),
-    /// `COUNT(DISTINCT x)`
+    /// `COUNT(DISTINCT x)`: the number of different values of x that are not NULL.
     CountDistinct(usize),
-    /// `SUM(x)`
+    /// `SUM(x)`: the exact sum of whole numbers, in 128 bits; NULL where each is NULL.
     Sum(usize),
-    /// `MIN(x)`
+    /// `MIN(x)`: the least whole number or text; NULL where each is NULL.
     Min(usize),
-    /// `MAX(x)`
+    /// `MAX(x)`: the greatest whole number or text; NULL where each is NULL.
     Max(usize),
-    /// `AVG(x)`
+    /// `AVG(x)`: the sum of whole numbers and their number; NULL where each is NULL.
     Avg(usize),
 }
 
 /// A set function of a plan, ISO/IEC 9075-2 `<aggregate function>`: with the index of its FILTER among the different
 /// filters of the query, from 0, where it has one.
+///
+/// Example: of `SELECT COUNT(*), SUM(q) FILTER (WHERE b) FROM lines` under the columns `q:int,b:bool` the first has
+/// the function `CountRows` and the filter `None`, the second `Sum(0)` and `Some(0)`.
 #[derive(Clone, Copy, Debug, PartialEq, Eq)]
 pub struct FilteredFunction {
     /// The function, with the place of its column.
@@ -42,6 +48,9 @@ impl ColumnFunction {
     ghost use Rattle.query_check.specs.Functions.{same_function};
 
     /// Whether the function, DISTINCT and the column are the same.
+    ///
+    /// Example: `Sum(1)` is the same as `Sum(1)`, and not as `Sum(0)` or `Min(1)`; `Count(1)` is not the same as
+    /// `CountDistinct(1)`.
     pub fn is_same(self, other: ColumnFunction) -> bool
         ensures same { result ≡ same_function self other }
     {
@@ -67,7 +76,11 @@ impl ColumnFunction {
     }
 }
 
-/// A set function with the place of its column, where the schema has that column.
+/// A set function with the place of its column, where the schema has that column; `None` where it has not. The type
+/// of the column is not asked.
+///
+/// Example: under the columns `shop:text,cents:int` `MIN(cents)` is `Min(1)`, `MIN(day)` is `None`, and `COUNT(*)` is
+/// `CountRows`.
 pub fn column_function(columns: &[Column], aggregate: &Aggregate) -> Option<ColumnFunction>
     ensures { result ≡ column_function (fields_of columns.now) aggregate.now }
 {

@@ -16,11 +16,13 @@ use std::alloc::{AllocError, Global};
 use values::Column;
 
 /// A set function of a query, with the place of its column, and the predicate of its FILTER where it has one.
+///
+/// Example: under the columns `q:int,b:bool` `SUM(q) FILTER (WHERE b)` has the function `Sum(0)` and the filter `b`.
 #[derive(Clone, Copy)]
 pub struct Planned<'a> {
-    /// The function, with the place of its column.
+    /// The function, with the place of its column, from 0.
     pub function: ColumnFunction,
-    /// The predicate of its FILTER.
+    /// The predicate of its FILTER, as it stands in the tree; `None` where it has no FILTER.
     pub filter: Option<&'a Predicate>,
 }
 
@@ -234,7 +236,13 @@ fn distinct_functions<'a>(
     Ok(found)
 }
 
-/// The different set functions of a query, in the order in which they first stand in SELECT, HAVING and ORDER BY.
+/// The different set functions of a query, in the order in which they first stand in SELECT, HAVING and ORDER BY. Two
+/// are the same where the function, DISTINCT, the column and the FILTER are. One whose column is not in the schema is
+/// left out.
+///
+/// Example: under the columns `q:int,b:bool`
+/// `SELECT COUNT(*), SUM(q) FROM lines ORDER BY COUNT(*), SUM(q) FILTER (WHERE b)` has three: `COUNT(*)`, `SUM(q)`,
+/// and `SUM(q)` with its FILTER.
 ///
 /// # Errors
 ///
@@ -303,7 +311,12 @@ fn different_filters<'a>(
     distinct_filters(alloc, &all_filters(alloc, functions)?)
 }
 
-/// The different filters of a query, in the order in which they first stand in SELECT, HAVING and ORDER BY.
+/// The different filters of a query, in the order in which they first stand in SELECT, HAVING and ORDER BY. Two are
+/// the same where their trees are, as `is_same_predicate` tells.
+///
+/// Example: under the columns `q:int,b:bool` those of
+/// `SELECT COUNT(*) FILTER (WHERE b), COUNT(*) FILTER (WHERE q = 1), SUM(q) FILTER (WHERE (b)) FROM lines` are `b`
+/// and `q = 1`.
 ///
 /// # Errors
 ///
@@ -378,7 +391,11 @@ fn function_place(functions: &[Planned], function: &Planned) -> Option<usize>
         .position(|other| is_same_planned(function, other))
 }
 
-/// The place of a set function among others, from 0; `None` where it is not among them. It takes no memory.
+/// The place of a set function among others, from 0; `None` where it is not among them, or its column not in the
+/// schema. It takes no memory.
+///
+/// Example: among `COUNT(*)` and `SUM(q)` the function `SUM(q)` has the place 1, and `SUM(q) FILTER (WHERE b)` has
+/// none.
 pub fn planned_place(
     columns: &[Column],
     functions: &[Planned],

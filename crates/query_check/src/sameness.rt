@@ -113,6 +113,8 @@ fn is_same_aggregate(aggregate: &Aggregate, other: &Aggregate) -> bool
 }
 
 /// Whether two predicates are the same, part by part: by the structure of their trees, not by what they are worth.
+///
+/// Example: `q = 1` and `(q = 1)` are the same, `q = 1` and `1 = q` are not.
 #[cycle(is_same_predicate)]
 pub fn is_same_predicate(predicate: &Predicate, other: &Predicate) -> bool
     ensures same { result ≡ same_predicate (predicate_form predicate.now) (predicate_form other.now) }

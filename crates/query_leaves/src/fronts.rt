@@ -10,7 +10,10 @@ use crate::fault::GrammarFault;
 use query_tokens::{Sign, Token, Word};
 use query_tree::Text;
 
-/// What stands behind a reserved word in front.
+/// What stands behind a reserved word in front; `None` where another token or none stands there.
+///
+/// Example: of the tokens of `FROM lines` and `Word::From` it answers those of `lines`; with `Word::Where` it answers
+/// `None`.
 pub fn after_word(tokens: &[Token], word: Word) -> Option<&[Token]>
     ensures exact { Tells (λ x. x.now) result (after (is_word word) tokens.now) }
     ensures shorter { IfSome result (λ x. length x.now < length tokens.now) }
@@ -21,7 +24,10 @@ pub fn after_word(tokens: &[Token], word: Word) -> Option<&[Token]>
     }
 }
 
-/// What stands behind a sign in front.
+/// What stands behind a sign in front; `None` where another token or none stands there.
+///
+/// Example: of the tokens of `, cents` and `Sign::Comma` it answers those of `cents`; with `Sign::Close` it answers
+/// `None`.
 pub fn after_sign(tokens: &[Token], sign: Sign) -> Option<&[Token]>
     ensures exact { Tells (λ x. x.now) result (after (is_sign sign) tokens.now) }
     ensures shorter { IfSome result (λ x. length x.now < length tokens.now) }
@@ -32,7 +38,11 @@ pub fn after_sign(tokens: &[Token], sign: Sign) -> Option<&[Token]>
     }
 }
 
-/// A name in front, and what stands behind it.
+/// A name in front, and what stands behind it; `None` where another token or none stands there. A reserved word is no
+/// name.
+///
+/// Example: of the tokens of `shop, cents` it answers `shop` and the tokens of `, cents`; of those of `FROM lines`,
+/// `None`.
 #[tactic(auto, unfolding(crate::specs::Steps::name_at))]
 pub fn name(tokens: &[Token]) -> Option<(&Text, &[Token])>
     ensures exact { Tells (λ x. (x.0.now, x.1.now)) result (name_at tokens.now) }
@@ -44,7 +54,10 @@ pub fn name(tokens: &[Token]) -> Option<(&Text, &[Token])>
     }
 }
 
-/// The fault of the first of these tokens.
+/// The fault that the first of these tokens does not continue a query, or that the end does not: `Unexpected` with
+/// their number.
+///
+/// Example: of the tokens of `FROM lines` it answers `Unexpected(2)`, and of none `Unexpected(0)`.
 pub fn unexpected(tokens: &[Token]) -> GrammarFault
     ensures { result ≡ Unexpected (length tokens.now) }
 {
@@ -52,6 +65,13 @@ pub fn unexpected(tokens: &[Token]) -> GrammarFault
 }
 
 /// What stands behind a reserved word that has to stand in front.
+///
+/// Example: of the tokens of `BY shop` and `Word::By` it answers those of `shop`; with `Word::Sets` it answers
+/// `Unexpected(2)`.
+///
+/// # Errors
+///
+/// `Unexpected` with the number of the tokens, where another token or none stands in front.
 pub fn expect_word(tokens: &[Token], word: Word) -> Result<&[Token], GrammarFault>
     ensures exact { Gives (λ x. x.now) result (after (is_word word) tokens.now) }
     ensures shorter { IfOk result (λ x. length x.now < length tokens.now) }
@@ -63,6 +83,13 @@ pub fn expect_word(tokens: &[Token], word: Word) -> Result<&[Token], GrammarFaul
 }
 
 /// What stands behind a sign that has to stand in front.
+///
+/// Example: of the tokens of `(shop)` and `Sign::Open` it answers those of `shop)`; with `Sign::Comma` it answers
+/// `Unexpected(3)`.
+///
+/// # Errors
+///
+/// `Unexpected` with the number of the tokens, where another token or none stands in front.
 pub fn expect_sign(tokens: &[Token], sign: Sign) -> Result<&[Token], GrammarFault>
     ensures exact { Gives (λ x. x.now) result (after (is_sign sign) tokens.now) }
     ensures shorter { IfOk result (λ x. length x.now < length tokens.now) }
@@ -74,6 +101,13 @@ pub fn expect_sign(tokens: &[Token], sign: Sign) -> Result<&[Token], GrammarFaul
 }
 
 /// A name that has to stand in front, and what stands behind it.
+///
+/// Example: of the tokens of `lines WHERE member` it answers `lines` and the tokens of `WHERE member`; of those of
+/// `WHERE member` it answers `Unexpected(2)`.
+///
+/// # Errors
+///
+/// `Unexpected` with the number of the tokens, where another token or none stands in front.
 pub fn expect_name(tokens: &[Token]) -> Result<(&Text, &[Token]), GrammarFault>
     ensures exact { Gives (λ x. (x.0.now, x.1.now)) result (name_at tokens.now) }
     ensures shorter { IfOk result (λ x. length x.1.now < length tokens.now) }

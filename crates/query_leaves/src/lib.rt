@@ -1,5 +1,7 @@
-//! The readers of the leaves of the grammar, which hold no expression and no predicate: names, the names of GROUPING, set
-//! functions apart from their FILTER, literals, operators and truth values.
+//! The readers of the leaves of the grammar, which hold no expression and no predicate: names, the names of GROUPING,
+//! set functions apart from their FILTER, literals, operators and truth values.
+//!
+//! A reader answers what stands in front of tokens, and the tokens behind it.
 //!
 //! The readers of expressions, predicates and queries stand on this crate, and take its readers of single tokens too.
 #![tactic(auto)]

@@ -15,7 +15,14 @@ use std::alloc::{AllocError, Global};
 /// The most literals of an IN list.
 const MOST_LITERALS: usize = 64;
 
-/// A literal in front, and what stands behind it.
+/// A literal in front, and what stands behind it, ISO/IEC 9075-2 `<literal>`; `None` where another token or none
+/// stands there. NULL and UNKNOWN are none.
+///
+/// Example: of the tokens of `TRUE AND member` it answers `Literal::Truth(true)` and the tokens of `AND member`.
+///
+/// # Errors
+///
+/// `AllocError` where there is no memory for a text; other literals take none.
 #[tactic(auto, unfolding(crate::specs::LeafSteps::literal_at))]
 pub fn literal(tokens: &[Token]) -> Result<Option<(Literal, &[Token])>, AllocError>
     ensures exact { IfOk result (λ found. Tells (λ x. (x.0, x.1.now)) found (literal_at tokens.now)) }
@@ -30,7 +37,10 @@ pub fn literal(tokens: &[Token]) -> Result<Option<(Literal, &[Token])>, AllocErr
     }
 }
 
-/// Literals.
+/// Literals, as a kind of list.
+///
+/// Example: `Literals::begins` is true of the tokens of `'x', 'y'`, and false of those of `x, 'y'`, in front of which
+/// a name stands.
 pub struct Literals;
 
 impl Listed for Literals {
@@ -63,7 +73,16 @@ impl Listed for Literals {
     }
 }
 
-/// The bracketed literals behind IN.
+/// The literals in brackets behind IN, 1 to 64 of them, and what stands behind the brackets, ISO/IEC 9075-2
+/// `<in predicate value>`.
+///
+/// Example: of the tokens of `(1, 2) AND member` it answers the literals 1 and 2, and the tokens of `AND member`; of
+/// those of `()` it answers `Unexpected(1)`.
+///
+/// # Errors
+///
+/// `OverLimit` for a 65th literal; `Unexpected` at the first token that continues no such list; `OutOfMemory` where
+/// there is no memory for the literals.
 #[tactic(auto, unfolding(crate::specs::LeafSteps::literals_at))]
 pub fn in_list(alloc: Global, tokens: &[Token]) -> Result<(Vec<Literal>, &[Token]), GrammarFault>
     ensures exact { Gives (λ x. (x.0.items, x.1.now)) result (literals_at tokens.now) }

@@ -10,7 +10,10 @@ use crate::fronts::{after_word, unexpected};
 use query_tokens::{Sign, Token, Word};
 use values::{Op, Truth};
 
-/// An operator in front, and what stands behind it.
+/// An operator of a comparison in front, and what stands behind it, ISO/IEC 9075-2 `<comp op>`; `None` where another
+/// token or none stands there.
+///
+/// Example: of the tokens of `<= 5` it answers `Op::Le` and the tokens of `5`; of those of `IN (5)`, `None`.
 #[tactic(auto, unfolding(crate::specs::LeafSteps::op_at))]
 pub fn operator(tokens: &[Token]) -> Option<(Op, &[Token])>
     ensures exact { Tells (λ x. (x.0, x.1.now)) result (op_at tokens.now) }
@@ -27,7 +30,14 @@ pub fn operator(tokens: &[Token]) -> Option<(Op, &[Token])>
     }
 }
 
-/// A truth value that has to stand in front, and what stands behind it.
+/// A truth value that has to stand in front, and what stands behind it, ISO/IEC 9075-2 `<truth value>`.
+///
+/// Example: of the tokens of `UNKNOWN OR member` it answers `Truth::Unknown` and the tokens of `OR member`; of those
+/// of `NULL` it answers `Unexpected(1)`.
+///
+/// # Errors
+///
+/// `Unexpected` with the number of the tokens, where another token or none stands in front.
 #[tactic(auto, unfolding(crate::specs::LeafSteps::truth_at))]
 pub fn truth_value(tokens: &[Token]) -> Result<(Truth, &[Token]), GrammarFault>
     ensures exact { Gives (λ x. (x.0, x.1.now)) result (truth_at tokens.now) }
@@ -41,7 +51,10 @@ pub fn truth_value(tokens: &[Token]) -> Result<(Truth, &[Token]), GrammarFault>
     }
 }
 
-/// Whether NOT stands in front, and what stands behind it.
+/// Whether NOT stands in front, and what stands behind it; all tokens where it does not.
+///
+/// Example: of the tokens of `NOT NULL` it answers `true` and the tokens of `NULL`; of those of `NULL`, `false` and
+/// these.
 #[tactic(auto, unfolding(crate::specs::LeafSteps::mark_at))]
 pub fn mark(tokens: &[Token]) -> (bool, &[Token])
     ensures exact { mark_at tokens.now ≡ (result.0, result.1.now) }

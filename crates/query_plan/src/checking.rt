@@ -21,14 +21,20 @@ use query_truth::{Condition, bind_filters, bind_where};
 use std::alloc::Global;
 use values::Schema;
 
-/// Checks a query under a schema, and plans it. A refused query and its schema are given up.
+/// Checks a query under a schema, and plans it. It takes both; where the query is refused, they are
+/// given up.
+///
+/// Example: of `SELECT shop, SUM(cents) AS s FROM lines` and `shop:text,cents:int` it answers
+/// `NotGrouped` with `shop`; with `GROUP BY shop` behind it, a plan.
 ///
 /// # Errors
 ///
 /// The first fault, in the order WHERE, GROUP BY, SELECT, HAVING, ORDER BY, each from left to right:
-/// a name that is no column, or no grouping column where it has to be one; types that do not agree;
-/// a function where it may not stand; more than 256 expanded grouping sets, or more than 64 different
-/// set functions; two items with one header. `OutOfMemory` says nothing of the query.
+/// a name that is no column (`UnknownColumn`), or no grouping column where it has to be one
+/// (`NotGrouped`); types that do not agree (`TypesDisagree`); a function where it may not stand
+/// (`FunctionNotAllowed`); more than 256 expanded grouping sets, or, behind all else, more than 64
+/// different set functions (`OverLimit`); two items with one header (`RepeatedHeader`). `OutOfMemory`
+/// says nothing of the query.
 pub fn check(alloc: Global, query: Query, schema: Schema) -> Result<Plan, QueryFault>
     ensures query { IfOk result (λ plan. form_of_plan plan ≡ form_of query) }
     ensures schema { IfOk result (λ plan. fields_of_plan plan ≡ schema) }

@@ -9,9 +9,12 @@ ghost use Rattle.query_plan.specs.Planned.{fields_of_plan, form_of_plan};
 use crate::plan::Plan;
 use values::{Record, Truth};
 
-/// The truth value of the predicate of WHERE for a record that fits the schema of the plan (ISO/IEC
-/// 9075-2, `<search condition>`). A record is kept exactly where it is True; it is True of each
-/// record where WHERE is not written. It takes no memory.
+/// The truth value of the predicate of WHERE for a record (ISO/IEC 9075-2, `<search condition>`). A
+/// record is kept exactly where it is True; it is True of each record where WHERE is not written. It
+/// takes no memory. It asks that the record fits the schema of the plan.
+///
+/// Example: under the columns `q:int` `WHERE q > 2` is True for the record of the line `{"q":5}`, and
+/// Unknown for that of `{}`.
 pub fn holds(plan: &Plan, record: &Record) -> Truth
     requires { Fits (fields_of_plan plan.now) «record».now }
     ensures { result ≡ where_truth (fields_of_plan plan.now) (form_of_plan plan.now).where_condition «record».now }
@@ -19,10 +22,14 @@ pub fn holds(plan: &Plan, record: &Record) -> Truth
     plan.where_truth(record.values())
 }
 
-/// The truth value of the FILTER of a set function for a record that fits the schema of the plan
-/// (ISO/IEC 9075-2, `<filter clause>`). The function is named by its place among the different ones,
-/// from 0 and below `Plan::functions`. The function takes a record of a group exactly where it is
-/// True; it is True of each record where the function has no FILTER. It takes no memory.
+/// The truth value of the FILTER of a set function for a record (ISO/IEC 9075-2, `<filter clause>`).
+/// The function is named by its place among the different ones, from 0. It takes a record of a group
+/// exactly where this is True; it is True of each record where the function has no FILTER. No memory
+/// is taken. It asks that the record fits the schema of the plan, and that the place is below
+/// `Plan::functions`.
+///
+/// Example: of `SELECT COUNT(*), COUNT(*) FILTER (WHERE q > 2) FROM lines` and the record of the line
+/// `{"q":1}` it is True for the function 0, and False for the function 1.
 pub fn filter_holds(plan: &Plan, f: usize, record: &Record) -> Truth
     requires place { f < length (functions_of (fields_of_plan plan.now) (form_of_plan plan.now)) }
     requires fits { Fits (fields_of_plan plan.now) «record».now }

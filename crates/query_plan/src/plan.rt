@@ -15,6 +15,9 @@ use values::{Record, Schema, Truth, Value};
 
 /// A query that is typed under the schema that it holds, with what its names stand for there. Only
 /// `check` makes one.
+///
+/// Example: the plan of `SELECT shop, COUNT(*) FROM lines GROUP BY shop` under the columns
+/// `shop:text,cents:int` has the one grouping set of the place 0, and one set function.
 #[derive(Debug, Drop)]
 pub struct Plan {
     query: Query,
@@ -66,14 +69,14 @@ impl Plan {
         }
     }
 
-    /// The schema.
+    /// The schema that the plan was made under.
     pub fn schema(&self) -> &Schema
         ensures schema { result.now ≡ fields_of_plan self.now }
     {
         &self.schema
     }
 
-    /// The query.
+    /// The query that the plan was made of. It is typed under the schema.
     pub fn query(&self) -> &Query
         ensures query { form_of result.now ≡ form_of_plan self.now }
         ensures typed { ∥ IsTyped (fields_of_plan self.now) (form_of_plan self.now) ∥₁ }
@@ -81,25 +84,33 @@ impl Plan {
         &self.query
     }
 
-    /// The grouping sets, each as the places of its columns in the schema, in the order in which
-    /// GROUP BY first names them; under GROUP BY DISTINCT without each set that has the same columns
-    /// as an earlier one. Without GROUP BY it is the one empty set.
+    /// The grouping sets, each as the places of its columns in the schema, from 0, in the order in
+    /// which GROUP BY first names them; under GROUP BY DISTINCT without each set that has the same
+    /// columns as an earlier one. Without GROUP BY it is the one empty set. ISO/IEC 9075-2
+    /// `<group by clause>`.
+    ///
+    /// Example: under the columns `d:text,r:text` `GROUP BY CUBE (d, r)` has four: that of the places
+    /// 0 and 1, that of 0, that of 1, and the empty one.
     pub fn sets(&self) -> &[Vec<usize>]
         ensures sets { contents result.now ≡ sets_of (fields_of_plan self.now) (form_of_plan self.now) }
     {
         self.resolved.sets()
     }
 
-    /// The grouping columns, by their places in the schema, in the order in which GROUP BY first names
-    /// them.
+    /// The grouping columns, by their places in the schema, from 0, in the order in which GROUP BY
+    /// first names them.
+    ///
+    /// Example: under the columns `d:text,r:text` they are 1 and 0 for `GROUP BY r, CUBE (d)`.
     pub fn grouping(&self) -> &[usize]
         ensures grouping { result.now ≡ grouping_places (fields_of_plan self.now) (form_of_plan self.now) }
     {
         self.resolved.grouping()
     }
 
-    /// The number of the different set functions, of which each is named by its place, from 0, in the
-    /// order in which they first stand in SELECT, HAVING and ORDER BY.
+    /// The number of the different set functions, 0 to 64, of which each is named by its place, from
+    /// 0, in the order in which they first stand in SELECT, HAVING and ORDER BY.
+    ///
+    /// Example: it is 2 for `SELECT COUNT(*), SUM(q) FROM lines HAVING COUNT(*) > 1`.
     pub fn functions(&self) -> usize
         ensures count { result ≡ length (functions_of (fields_of_plan self.now) (form_of_plan self.now)) }
     {
@@ -107,15 +118,24 @@ impl Plan {
     }
 
     /// The different set functions, in the order in which they first stand in SELECT, HAVING and
-    /// ORDER BY, each with the index of its FILTER among the different filters.
+    /// ORDER BY, each with the index of its FILTER among the different filters, ISO/IEC 9075-2
+    /// `<aggregate function>`.
+    ///
+    /// Example: under the columns `q:int` that of `SELECT SUM(q) FILTER (WHERE q > 2) FROM lines` is
+    /// the function `Sum(0)` with the filter `Some(0)`.
     pub fn set_functions(&self) -> &[FilteredFunction]
         ensures functions { result.now ≡ indexed_functions (fields_of_plan self.now) (form_of_plan self.now) }
     {
         self.resolved.functions()
     }
 
-    /// Marks which of the different filters are True for a record that fits the schema, in the order in
-    /// which they first stand; what the marks were is forgotten, and their memory is used again.
+    /// Marks which of the different filters are True for a record, in the order in which they first
+    /// stand; what the marks were is forgotten, and their memory is used again. It asks that the
+    /// record fits the schema.
+    ///
+    /// Example: of
+    /// `SELECT COUNT(*) FILTER (WHERE q > 2), COUNT(*) FILTER (WHERE NOT q > 2) FROM lines` the marks
+    /// are `true` and `false` where q is 5, and both are `false` where q is NULL.
     ///
     /// # Errors
     ///

@@ -14,7 +14,10 @@ use query_tree::Predicate;
 use std::alloc::{AllocError, Global};
 
 /// The header of an item of SELECT, counted from 0: its alias, or its canonical text where it has
-/// none.
+/// none. It asks that there is such an item.
+///
+/// Example: of `SELECT shop, count(*) AS n, sum(cents) FROM lines GROUP BY shop` the headers are
+/// `shop`, `n` and `SUM(cents)`.
 ///
 /// # Errors
 ///
@@ -28,7 +31,9 @@ pub fn header(alloc: Global, plan: &Plan, item: usize) -> Result<String, AllocEr
 }
 
 /// The text `(c1, c2)` of a grouping set, counted from 0 among those of the plan: its columns in the
-/// order in which GROUP BY first names them.
+/// order in which GROUP BY first names them. It asks that there is such a set.
+///
+/// Example: of `GROUP BY CUBE (d, r)` the texts of the sets are `(d, r)`, `(d)`, `(r)` and `()`.
 ///
 /// # Errors
 ///
@@ -53,6 +58,9 @@ fn predicate_texts(alloc: Global, predicates: &[&Predicate]) -> Result<Vec<Strin
 
 /// The canonical texts of the different filters, in the order in which they first stand in SELECT,
 /// HAVING and ORDER BY.
+///
+/// Example: of `SELECT COUNT(*), COUNT(*) FILTER (where (q > 2)) FROM lines` it answers the one text
+/// `q > 2`.
 ///
 /// # Errors
 ///

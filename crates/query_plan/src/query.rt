@@ -8,7 +8,9 @@ ghost use Rattle.query_derivation.specs.Derivation.{Derives};
 use query_check::set_count;
 use query_tree::Tree;
 
-/// A query that some text derives within the limits. Only `parse` makes one.
+/// A query that some text derives within the limits. `parse` makes one of a text.
+///
+/// Example: `parse(alloc, "SELECT COUNT(*) FROM lines")` answers one, with a tree of one item.
 #[derive(Debug, Drop)]
 pub struct Query {
     tree: Tree,
@@ -18,7 +20,10 @@ pub struct Query {
 impl Query {
     ghost use Rattle.query_plan.specs.Form.{form_of};
 
-    /// The query of a tree that some text derives.
+    /// The query of a tree. It asks that some text derives the tree within the limits.
+    ///
+    /// Example: of the tree of one item `COUNT(*)` and no other clause it makes the query of the text
+    /// `SELECT COUNT(*) FROM lines`.
     pub fn new(tree: Tree) -> Query
         requires { ∥ ((text : List ℕ) × Derives text (tree_form tree)) ∥₁ }
         ensures { form_of result ≡ tree_form tree }
@@ -26,7 +31,7 @@ impl Query {
         Query { tree }
     }
 
-    /// The syntax tree.
+    /// The syntax tree, which some text derives.
     pub fn tree(&self) -> &Tree
         ensures form { tree_form result.now ≡ form_of self.now }
         ensures derived { ∥ ((text : List ℕ) × Derives text (form_of self.now)) ∥₁ }
@@ -36,6 +41,9 @@ impl Query {
 
     /// How many grouping sets the expanded list has, before GROUP BY DISTINCT drops any, or the
     /// greatest number of 64 bits where they are more. None is made, and no memory is taken.
+    /// ISO/IEC 9075-2 `<group by clause>`.
+    ///
+    /// Example: it is 4 for `GROUP BY CUBE (d, r)`, and 1 without GROUP BY.
     pub fn set_count(&self) -> u64
         ensures count { result ≡ min (length (expanded (form_of self.now).groups)) u64.MAX }
     {

@@ -20,7 +20,8 @@ use query_tokens::{Sign, Token, Word};
 use query_tree::{Expression, Operand, Predicate, SetFunction};
 use std::alloc::Global;
 
-/// The most levels of brackets in a predicate.
+/// The most levels of brackets round a predicate, those of FILTER among them. An expression is read
+/// with this number, a predicate of WHERE or HAVING with one more.
 pub const MOST_LEVELS: u32 = 64;
 
 /// The AND of a first part and the others, or the first part alone.
@@ -90,7 +91,17 @@ fn set_function(
     Ok((SetFunction { aggregate, filter }, rest))
 }
 
-/// An expression, with fewer than so many levels of brackets within those of a FILTER.
+/// An expression in front, and what stands behind it: a name, GROUPING with its names, or a set
+/// function, with its FILTER where it has one. In the brackets of a FILTER there are fewer than
+/// `levels` levels of brackets; with 0 there may be no FILTER.
+///
+/// Example: of the tokens of `SUM(cents) FILTER (WHERE member) AS s` and 1 it answers the set
+/// function with its FILTER, and the tokens of `AS s`; with 0 it answers `OverLimit`.
+///
+/// # Errors
+///
+/// `Unexpected` at the first token that continues no expression; `OverLimit` for a level too many, a
+/// ninth name of GROUPING or a 65th literal behind IN; `OutOfMemory` where there is no memory for it.
 #[cycle(predicate)]
 #[tactic(auto, unfolding(crate::specs::ExpressionSteps::expression_at))]
 pub fn expression(
@@ -313,7 +324,17 @@ fn more_conjunctions(
     Ok((parts, rest))
 }
 
-/// A predicate with fewer than so many levels of brackets.
+/// A predicate in front with fewer than so many levels of brackets, and what stands behind it,
+/// ISO/IEC 9075-2 `<search condition>`.
+///
+/// Example: of the tokens of `a AND b OR c GROUP BY d` and 1 it answers the OR of `a AND b` and `c`,
+/// and the tokens of `GROUP BY d`; of those of `(a)` it answers `OverLimit` with 1, and the bare name
+/// `a` with 2.
+///
+/// # Errors
+///
+/// `Unexpected` at the first token that continues no predicate; `OverLimit` for a level too many, a
+/// ninth name of GROUPING or a 65th literal behind IN; `OutOfMemory` where there is no memory for it.
 #[cycle(predicate)]
 #[tactic(auto, unfolding(crate::specs::PredicateSteps::predicate_at, crate::specs::PredicateSteps::disjunction_at))]
 pub fn predicate(

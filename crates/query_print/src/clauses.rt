@@ -14,7 +14,16 @@ use query_tree::{GroupingElement, Item, Key, Predicate, Tree};
 use std::alloc::{AllocError, Global};
 use values::{Column, Schema};
 
-/// The canonical text of a query.
+/// The canonical text of a query: keywords in capitals, one space where there is any, double quotes
+/// round the names that need them, brackets only where they are needed, no ASC, and NULLS FIRST or
+/// NULLS LAST only where it is not the default of its key.
+///
+/// Example: of the tree of `select shop, count(*) as n from lines group by shop` it answers
+/// `SELECT shop, COUNT(*) AS n FROM lines GROUP BY shop`.
+///
+/// # Errors
+///
+/// `AllocError` where there is no memory for the text.
 pub fn print_tree(alloc: Global, tree: &Tree) -> Result<String, AllocError>
     ensures { IfOk result (λ text. string_bytes text ≡ canonical_text (tree_form tree.now)) }
 {
@@ -29,7 +38,15 @@ pub fn print_tree(alloc: Global, tree: &Tree) -> Result<String, AllocError>
     Ok(out)
 }
 
-/// The header of an item: its alias, or the canonical text of its expression where it has none.
+/// The header of an item: its alias, or the canonical text of its expression where it has none. An
+/// alias stands without the double quotes of the query.
+///
+/// Example: the header of `count(*) AS "my count"` is `my count`, and that of `count(*)` is
+/// `COUNT(*)`.
+///
+/// # Errors
+///
+/// `AllocError` where there is no memory for the text.
 pub fn header(alloc: Global, item: &Item) -> Result<String, AllocError>
     ensures { IfOk result (λ text. string_bytes text ≡ header_text (item_form item.now)) }
 {
@@ -41,7 +58,16 @@ pub fn header(alloc: Global, item: &Item) -> Result<String, AllocError>
     Ok(out)
 }
 
-/// The text `(c1, c2)` of a grouping set, given by the places of its columns in the schema.
+/// The text `(c1, c2)` of a grouping set, given by the places of its columns in the schema, from 0.
+/// Its columns stand in the order of the places. A place that is beyond the schema has the empty
+/// name.
+///
+/// Example: under the columns `shop:text,cents:int` the places 1 and 0 give `(cents, shop)`, and no
+/// places give `()`.
+///
+/// # Errors
+///
+/// `AllocError` where there is no memory for the text.
 pub fn set_text(alloc: Global, schema: &Schema, set: &[usize]) -> Result<String, AllocError>
     ensures { IfOk result (λ text. string_bytes text ≡ set_text schema.now set.now) }
 {

@@ -157,7 +157,13 @@ fn push_parts(
     Ok(())
 }
 
-/// The canonical text of a predicate.
+/// The canonical text of a predicate, with brackets only where they are needed.
+///
+/// Example: of the predicate of `(a) and not (q = 1)` it answers `a AND NOT q = 1`.
+///
+/// # Errors
+///
+/// `AllocError` where there is no memory for the text.
 pub fn predicate_text(alloc: Global, predicate: &Predicate) -> Result<String, AllocError>
     ensures { IfOk result (λ text. string_bytes text ≡ predicate_text (predicate_form predicate.now)) }
 {

@@ -6,7 +6,8 @@ ghost use Rattle.query_print.specs.Canonical.{canonical_text};
 ghost use Rattle.query_round.specs.Texts.{IsTextOf};
 ghost use Rattle.query_tree.specs.Syntax.{TreeForm};
 
-/// A law, with no work to do: the canonical text of a query that has any text is a text of that query.
+/// A law, with no work to do: the canonical text of a query that has any text is a text of that
+/// query, whatever the length of either.
 pub fn reads_again()
     ensures { (q : TreeForm) → ∥ ((text : List ℕ) × IsTextOf text q) ∥₁ → IsTextOf (canonical_text q) q }
 {}

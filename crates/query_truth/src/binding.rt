@@ -15,7 +15,10 @@ use query_tree::{Expression, Literal, Operand, Predicate, Text};
 use std::alloc::{AllocError, Global};
 use values::{Column, Op, Value};
 
-/// The value that a literal writes.
+/// The value that a literal writes. A text takes memory, a number and a truth value take none.
+///
+/// Example: of `Literal::Integer(5)` it answers `Value::Int(5)`, of `Literal::Truth(true)`
+/// `Value::Bool(true)`.
 ///
 /// # Errors
 ///
@@ -30,7 +33,9 @@ pub fn literal_value(alloc: Global, literal: &Literal) -> Result<Value, AllocErr
     })
 }
 
-/// The values that literals write.
+/// The values that literals write, in their order.
+///
+/// Example: of the literals 1 and 2 it answers `Value::Int(1)` and `Value::Int(2)`.
 ///
 /// # Errors
 ///

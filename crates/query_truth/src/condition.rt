@@ -9,6 +9,9 @@ ghost use Rattle.query_truth.specs.Meaning.{comparable, condition_truth, is_safe
 use values::{Op, Truth, Value, compare};
 
 /// Where the value of an operand comes from.
+///
+/// Example: under the columns `a:bool,q:int` the operand `q` is `Source::Value(1)`, and the operand 5
+/// is `Source::Literal(Value::Int(5))`.
 #[derive(Debug, Drop)]
 pub enum Source {
     /// The value at this place, from 0.
@@ -19,6 +22,8 @@ pub enum Source {
 
 /// A predicate whose operands are places of values, and literals. It is made of a predicate once, so
 /// that no name is looked up for each record.
+///
+/// Example: under the columns `a:bool,q:int` the predicate `a` is `Holds(Source::Value(0))`.
 #[derive(Debug, Drop)]
 pub enum Condition {
     /// `p OR q OR ..`
@@ -27,7 +32,7 @@ pub enum Condition {
     And(Vec<Condition>),
     /// `NOT p`
     Not(Box<Condition>),
-    /// `p IS TRUE`
+    /// `p IS TRUE`, ISO/IEC 9075-2 `<boolean test>`.
     Is {
         /// What is tested.
         part: Box<Condition>,
@@ -36,7 +41,7 @@ pub enum Condition {
         /// The truth value that is asked for.
         truth: Truth,
     },
-    /// `x = y`
+    /// `x = y`, ISO/IEC 9075-2 `<comparison predicate>`.
     Compare {
         /// The operand on the left.
         left: Source,
@@ -45,7 +50,7 @@ pub enum Condition {
         /// The operand on the right.
         right: Source,
     },
-    /// `x BETWEEN y AND z`
+    /// `x BETWEEN y AND z`, ISO/IEC 9075-2 `<between predicate>`.
     Between {
         /// What is tested.
         operand: Source,
@@ -56,7 +61,7 @@ pub enum Condition {
         /// The upper end, included.
         high: Source,
     },
-    /// `x IN (1, 2)`
+    /// `x IN (1, 2)`, ISO/IEC 9075-2 `<in predicate>`.
     In {
         /// What is tested.
         operand: Source,
@@ -65,14 +70,14 @@ pub enum Condition {
         /// The values.
         values: Vec<Value>,
     },
-    /// `x IS NULL`
+    /// `x IS NULL`, ISO/IEC 9075-2 `<null predicate>`.
     IsNull {
         /// What is tested.
         operand: Source,
         /// Whether it is `IS NOT NULL`.
         not: bool,
     },
-    /// A value that is itself a truth value.
+    /// A value that is itself a truth value, or NULL, which is Unknown.
     Holds(Source),
 }
 
@@ -94,20 +99,29 @@ impl Source {
 }
 
 /// A truth value, or with NOT its negation.
+///
+/// Example: `marked(true, Truth::False)` is True, and `marked(true, Truth::Unknown)` is Unknown.
 pub fn marked(not: bool, truth: Truth) -> Truth
     ensures { result ≡ marked not truth }
 {
     if not { truth.not() } else { truth }
 }
 
-/// The truth value of `value IS NULL`.
+/// The truth value of `value IS NULL`, which is never Unknown, ISO/IEC 9075-2 `<null predicate>`.
+///
+/// Example: `null_truth(&Value::Null)` is True, and `null_truth(&Value::Int(0))` is False.
 pub fn null_truth(value: &Value) -> Truth
     ensures { result ≡ null_truth (datum_of value.now) }
 {
     Truth::from(matches!(value, Value::Null))
 }
 
-/// The truth value of `value BETWEEN low AND high`.
+/// The truth value of `value BETWEEN low AND high`, which is that of
+/// `value >= low AND value <= high`, ISO/IEC 9075-2 `<between predicate>`. It asks that the value and
+/// each end are of one type, or one of the two is NULL.
+///
+/// Example: `2 BETWEEN 1 AND 3` is True, and with NULL in place of 3 Unknown; `0 BETWEEN 1 AND 3` is
+/// False, also with NULL in place of 3.
 pub fn between_truth(value: &Value, low: &Value, high: &Value) -> Truth
     requires low { comparable (datum_of value.now) (datum_of low.now) ≡ true }
     requires high { comparable (datum_of value.now) (datum_of high.now) ≡ true }
@@ -116,7 +130,11 @@ pub fn between_truth(value: &Value, low: &Value, high: &Value) -> Truth
     compare(Op::Ge, value, low).and(compare(Op::Le, value, high))
 }
 
-/// The truth value of `value IN (..)`.
+/// The truth value of `value IN (..)`: True where one of the values is equal to it, else Unknown
+/// where a comparison with one is, else False, ISO/IEC 9075-2 `<in predicate>`. It asks that the
+/// value and each of the others are of one type, or one of the two is NULL.
+///
+/// Example: `2 IN (1, 2)` is True, `3 IN (1, 2)` is False, and with NULL in place of 3 it is Unknown.
 pub fn member_truth(value: &Value, values: &[Value]) -> Truth
     requires { list_all (comparable (datum_of value.now)) (map datum_of values.now) ≡ true }
     ensures { result ≡ member_truth (datum_of value.now) (map datum_of values.now) }
@@ -131,7 +149,9 @@ pub fn member_truth(value: &Value, values: &[Value]) -> Truth
     found
 }
 
-/// The truth value that a value is; NULL is unknown.
+/// The truth value that a value is; NULL is Unknown. It asks that the value is a truth value or NULL.
+///
+/// Example: `value_truth(&Value::Bool(false))` is False, and `value_truth(&Value::Null)` is Unknown.
 pub fn value_truth(value: &Value) -> Truth
     requires { is_truth_value (datum_of value.now) ≡ true }
     ensures { result ≡ value_truth (datum_of value.now) }
@@ -148,7 +168,12 @@ impl Condition {
     ghost use Rattle.values.specs.Datum.{data_of};
     ghost use Rattle.query_truth.specs.Meaning.{condition_truth, is_safe};
 
-    /// What the condition is worth under these values. It takes no memory.
+    /// What the condition is worth under these values. It takes no memory. It asks that there is a
+    /// value at each of its places, that values which are compared are of one type, or one of the two
+    /// is NULL, and that a value which stands alone is a truth value or NULL.
+    ///
+    /// Example: under the columns `a:bool,q:int` the condition of `a AND q > 2` is False for the
+    /// values true and 1, and Unknown for true and NULL.
     #[cycle(truth)]
     pub fn truth(&self, values: &[Value]) -> Truth
         requires { is_safe self.now (data_of values.now) ≡ true }

@@ -16,7 +16,10 @@ use query_tree::Predicate;
 use std::alloc::{AllocError, Global};
 use values::{Column, Truth, Value};
 
-/// The conditions of the predicates of FILTERs, in their order.
+/// The conditions of the predicates of FILTERs, in their order, under these columns. Where a predicate is typed as
+/// WHERE is, its condition can be evaluated for each record that fits the columns.
+///
+/// Example: under the columns `a:bool,q:int` the predicate `a` gives `Holds(Source::Value(0))`.
 ///
 /// # Errors
 ///
@@ -35,8 +38,11 @@ pub fn bind_filters(
     Ok(conditions)
 }
 
-/// Marks which conditions are True for a record of these values, in place of what the marks were. The memory of the marks
-/// is used again.
+/// Marks which conditions are True for a record of these values, in place of what the marks were. The memory of the
+/// marks is used again. It asks of each condition what `Condition::truth` asks.
+///
+/// Example: of the conditions of `q > 2` and `NOT q > 2` the marks are `true` and `false` where q is 5, and both are
+/// `false` where q is NULL.
 ///
 /// # Errors
 ///
@@ -56,7 +62,10 @@ pub fn mark_conditions(
     Ok(())
 }
 
-/// What the condition at a place is worth for a record of these values. It takes no memory.
+/// What the condition at a place, from 0, is worth for a record of these values. It takes no memory. It asks that the
+/// place is below the number of the conditions, and of each condition what `Condition::truth` asks.
+///
+/// Example: of the conditions of `q > 2` and `NOT q > 2` the one at the place 1 is False where q is 5.
 pub fn condition_truth_at(conditions: &[Condition], place: usize, values: &[Value]) -> Truth
     requires place { place < length conditions.now }
     requires safe { list_all (λ is_safe. is_safe (data_of values.now)) (map is_safe conditions.now) ≡ true }

@@ -13,7 +13,11 @@ use query_tree::Predicate;
 use std::alloc::{AllocError, Global};
 use values::{Column, Truth, Value};
 
-/// The condition of the predicate of WHERE, where it is written.
+/// The condition of the predicate of WHERE under these columns, where it is written. Where the
+/// predicate is typed, the condition can be evaluated for each record that fits the columns.
+///
+/// Example: without WHERE it answers `None`; of `WHERE a` under the columns `a:bool,q:int` it answers
+/// `Some` of `Holds(Source::Value(0))`.
 ///
 /// # Errors
 ///
@@ -32,7 +36,9 @@ pub fn bind_where(
 }
 
 /// What the condition of WHERE is worth for a record of these values; without it, True. It takes no
-/// memory.
+/// memory. It asks of the condition what `Condition::truth` asks.
+///
+/// Example: the condition of `WHERE q > 2` is True where q is 5, and Unknown where q is NULL.
 pub fn bound_truth(condition: &Option<Condition>, values: &[Value]) -> Truth
     requires { bound_safe condition.now (data_of values.now) ≡ true }
     ensures { result ≡ bound_truth condition.now (data_of values.now) }
