@@ -145,13 +145,22 @@ fn options_of(matches: &ArgMatches<'_>) -> Option<Options>
     )
 }
 
-/// What the words ask for, of which the first is the program's name.
+/// What the words ask for, of which the first is the program's name: the values that `clap`
+/// publishes for them under the command of `jlreport`. The columns and the query are not read here,
+/// and the file is not opened.
+///
+/// Where no numbers are given there are 4 workers, the size of a piece is 1,048,576 bytes, and any
+/// number of lines may be refused.
+///
+/// Example: of the words `jlreport`, `in.jsonl`, `--columns=q:int`, `--query` and `SELECT q`, the
+/// columns are `q:int`, the query is `SELECT q` and the file is `in.jsonl`. Without a query they
+/// are refused, with the kind `MissingRequiredArgument`.
 ///
 /// # Errors
 ///
-/// `WordsFault::Clap` where the words have a fault under the command, where they ask for help,
-/// and where memory runs out; `WordsFault::Range` where they have none, and a number is out of its
-/// range.
+/// `WordsFault::Clap` where the words have a fault under the command, where they ask for help, and
+/// where memory runs out; `WordsFault::Range` where they have none, and a number is out of its
+/// range. `WordsFault::NotUtf8` is never answered.
 pub fn settings<'a>(alloc: Global, words: &'a [&'a str]) -> Result<Settings<'a>, WordsFault>
     ensures columns { IfOk result (λ s.
         value_of (codes "columns") (texts words.now) ≡ Some s.columns.now) }

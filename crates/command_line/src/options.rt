@@ -5,7 +5,10 @@ ghost use Rattle.command_line.specs.Ranges.{AreInRange, IsRoundLength};
 /// The most bytes that a round may have.
 const LONGEST_ROUND: usize = 67_108_864;
 
-/// How a run is done: its numbers, each in its range.
+/// How a run is done: its numbers, each in its range. None of them changes what a run writes, but
+/// that the limit of refused lines may end it without a report.
+///
+/// Example: `Options::new(4, 1_048_576, None)` has what the program takes where no number is given.
 #[derive(Clone, Copy, Debug, PartialEq, Eq)]
 pub struct Options {
     workers: usize,
@@ -23,8 +26,11 @@ pub struct Options {
 impl Options {
     /// The options of these numbers: how many workers there are, 1 to 64; how many bytes of the
     /// input are worked on at once, 1 to 67,108,864; and how many lines may be refused, where that
-    /// is limited. The input is read in rounds of at most 67,108,864 bytes. None where a number is out
-    /// of its range.
+    /// is limited. The input is read in rounds of at most 67,108,864 bytes. `None` where a number
+    /// is out of its range.
+    ///
+    /// Example: `Options::new(1, 1, Some(0))` answers options under which one refused line is too
+    /// many; `Options::new(65, 1, None)` answers `None`.
     pub fn new(workers: usize, piece: usize, max_refused: Option<u64>) -> Option<Options>
         ensures inside { AreInRange workers piece → IsSome result }
         ensures outside { IsSome result → AreInRange workers piece }
@@ -45,8 +51,12 @@ impl Options {
         }
     }
 
-    /// The same options, but that the input is read in rounds of at most so many bytes, 1,048,578 to
-    /// 67,108,864. None where the number is out of its range.
+    /// The same options, but that the input is read in rounds of at most so many bytes, 1,048,578
+    /// to 67,108,864. `None` where the number is out of its range. The least round has room for a
+    /// line that is one byte too long, and its line feed.
+    ///
+    /// Example: `options.with_round(1_048_578)` answers options whose `round()` is that number;
+    /// `options.with_round(1_048_577)` answers `None`.
     pub fn with_round(self, bytes: usize) -> Option<Options>
         ensures inside { IsRoundLength bytes → IsSome result }
         ensures outside { IsSome result → IsRoundLength bytes }
@@ -84,15 +94,15 @@ impl Options {
         self.piece
     }
 
-    /// How many lines may be refused, where that is limited.
+    /// How many lines may be refused at most; `None` where that is not limited.
     pub fn max_refused(&self) -> Option<u64>
         ensures { result ≡ self.now.max_refused }
     {
         self.max_refused
     }
 
-    /// How many bytes of the input are held at once and worked on together, at most: 1,048,578 to
-    /// 67,108,864.
+    /// How many bytes of the input are read and then worked on together, at most: 1,048,578 to
+    /// 67,108,864. Where there are several workers, up to as many more are read meanwhile.
     pub fn round(&self) -> usize
         ensures value { result ≡ self.now.round }
         ensures long_round { 1048578 ≤ result }

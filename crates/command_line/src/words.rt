@@ -6,12 +6,16 @@ use crate::options::Options;
 use clap::Error;
 use std::convert::From;
 
-/// What a run of the program is asked for. The texts are those of the words.
+/// What a run of the program is asked for. The texts are those of the words, and are not copied.
+///
+/// Example: of `jlreport --columns q:int --query 'SELECT SUM(q) FROM lines' lines.jsonl`, `columns`
+/// is `q:int`, `query` is `SELECT SUM(q) FROM lines`, `file` is `lines.jsonl` and `explain` is
+/// `false`.
 #[derive(Clone, Copy, Debug, PartialEq, Eq)]
 pub struct Settings<'a> {
-    /// The columns: `name:type` parts that are joined by commas.
+    /// The text of the columns, not read yet: `name:type` parts joined by commas, where it is good.
     pub columns: &'a str,
-    /// The text of the query.
+    /// The text of the query, not read yet.
     pub query: &'a str,
     /// The path of the file to read.
     pub file: &'a str,
@@ -22,11 +26,14 @@ pub struct Settings<'a> {
 }
 
 /// Why there are no settings.
+///
+/// Example: `--workers 65` among words that are good otherwise is `Range`; `--piece x` among them
+/// is `Clap`.
 #[derive(Debug, Drop)]
 pub enum WordsFault {
     /// What `clap` answers in place of settings. Its kind tells a refusal, help and want of memory.
     Clap(Error),
-    /// A number is none that `Options::new` takes.
+    /// The number of workers or the size of a piece is none that `Options::new` takes.
     Range,
     /// A word is not UTF-8. Only the program itself meets it, before the words are read.
     NotUtf8,

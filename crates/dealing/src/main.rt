@@ -1,7 +1,10 @@
-//! Times dealing alone: 1,048,576 pieces are dealt to hands, and these, each on a thread of its own, take
-//! them all and do nothing with them. Its words are `ruled`, `endmarked` or `plain`, and the number of hands: by
-//! a deal, or by the same loop over deques without a rule, with the end marks and the gaps of a deal or with
-//! neither. It prints how many pieces were taken, and on standard error the nanoseconds of dealing and of taking.
+//! Times dealing alone: 1,048,576 pieces are dealt to hands, and these, each on a thread of its own, take them all and
+//! do nothing with them. Its words are `ruled`, `endmarked` or `plain`, and the number of hands: by a deal, or by the
+//! same loop over deques without a rule, with the end marks and the gaps of a deal or with neither. It prints how many
+//! pieces were taken, and on standard error the nanoseconds of dealing and of taking. There are 1 to 64 hands, and 1
+//! where the second word is no number; where a word is missing, it prints nothing.
+//!
+//! Example: the words `ruled 2` make it print `1048576`.
 #![tactic(auto)]
 
 ghost use Rattle.std.specs.Prelude.{◌≡◌, ◌<◌};

@@ -25,9 +25,12 @@ use std::thread::Threads;
 use tables::{Groups, Partial};
 
 /// The counts of an input.
+///
+/// Example: of the input of the line `{}` and an empty line, each ended by a line feed, `lines` is
+/// 2 and `refused` is 1.
 #[derive(Clone, Copy, Debug, PartialEq, Eq)]
 pub struct Done {
-    /// How many lines the input has.
+    /// How many lines the input has, refused ones among them.
     pub lines: u64,
     /// How many of them are refused.
     pub refused: u64,
@@ -42,10 +45,19 @@ struct Texts {
     refused: Vec<u8>,
 }
 
-/// Answers the query of a plan over what a reader gives, by as many threads as there are workers, the
-/// calling one among them: writes the report to `out` and flushes it, and then the list of refused
-/// lines to `err` and flushes it. What is written does not depend on the number of workers, on the
-/// size of a piece or on which thread works on which piece.
+/// Answers the query of a plan over what a reader gives, by as many threads as there are workers,
+/// the calling one among them: writes the report to `out` and flushes it, and then the list of
+/// refused lines to `err` and flushes it. What is written does not depend on the number of workers,
+/// on the size of a piece or on which thread works on which piece. It answers how many lines and
+/// how many refused lines there are. Nothing is written before all of the input was read.
+///
+/// Where there are several workers, one thread more may read on meanwhile. With one worker no
+/// thread is started.
+///
+/// Example: with the plan of `SELECT SUM(q) AS s FROM lines` under `q:int`, and the one line
+/// `{"q":5}` as the input, `run(&rt, alloc, &plan, options, input, &mut out, &mut err)`, where it
+/// is done, answers `Done { lines: 1, refused: 0 }`; the lines `s` and `5` were written to `out`,
+/// and nothing to `err`.
 ///
 /// # Errors
 ///
@@ -89,6 +101,11 @@ pub fn run<R: Read + Drop + Send, O: Write, E: Write, H: Threads + Wait + Sync>(
 
 /// Does what `run` does on the calling thread, without a thread of its own. The number of workers is
 /// not looked at.
+///
+/// Example: with the plan of `SELECT COUNT(*) AS n FROM lines`, and an input without a byte,
+/// `run_alone(alloc, &plan, options, input, &mut out, &mut err)`, where it is done, answers
+/// `Done { lines: 0, refused: 0 }`; the lines `n` and `0` were written to `out`, and nothing to
+/// `err`.
 ///
 /// # Errors
 ///

@@ -111,14 +111,20 @@ fn run_status(fault: &RunFault) -> u8
 }
 
 /// Does what the words ask for, and answers the status that the program ends with: 0 where no line
-/// is refused or where help or an explanation is asked for, 1 where some are, 2 where the words, the
-/// schema or the query are refused, 3 where the file cannot be opened or read or a text cannot be
-/// written, 4 where memory runs out or a thread cannot be started, 5 where more lines are refused than
-/// may be. The report, the explanation and help go to `out`; the refused lines and what went wrong go
-/// to `err`.
+/// is refused or where help or an explanation is asked for, 1 where some are, 2 where the words,
+/// the schema or the query are refused, 3 where the file cannot be opened or read or a text cannot
+/// be written, 4 where memory runs out or a thread cannot be started, 5 where more lines are
+/// refused than may be. The report, the explanation and help go to `out`; the refused lines and
+/// what went wrong go to `err`. Where what went wrong cannot be written there, the status alone
+/// tells it.
 ///
-/// `opener` is called once at most, only once the words, the schema and the query are good, and not
-/// where an explanation is asked for.
+/// `opener` answers the reader of the file of a path, or `None` where it cannot be opened. It has
+/// to be such that it can always be called; it is called once at most, only once the words, the
+/// schema and the query are good, and not where an explanation is asked for.
+///
+/// Example: where `asked` is `Err(WordsFault::Range)`, it writes
+/// `jlreport: a number is out of range` and a line feed to `err`, and answers 2, unless memory runs
+/// out.
 pub fn serve<
     R: Read + Drop + Send,
     O: Write,

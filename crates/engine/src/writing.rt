@@ -13,6 +13,9 @@ pub(crate) struct WriteFault;
 /// Writes a text, by as many single writes as it takes, and does not flush it. An empty text is not
 /// written at all. It takes no memory of its own.
 ///
+/// Example: `put(&mut out, b"done\n")` answers `Ok(())` where all 5 bytes were written; where the
+/// first write takes 2 of them and the second one fails, it answers `Err(2)`.
+///
 /// # Errors
 ///
 /// Where a write fails, is interrupted or takes no byte: the number of bytes that were written

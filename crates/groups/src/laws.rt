@@ -17,7 +17,8 @@ pub fn order_law()
         → SameBag rows others → IsTableOf set functions table rows → IsTableOf set functions table others }
 {}
 
-/// Under each grouping set a record is a member of exactly one group.
+/// Under each grouping set a record is a member of exactly one group, and the numbers of members add up to that of the
+/// records.
 pub fn members_law()
     ensures members { (set : List ℕ) (rows : List Row) → SameBag (flat_map (λ key. members set key rows) (keys set rows)) rows }
     ensures lines { (set : List ℕ) (functions : List AggregateFunction) (rows : List Row)

@@ -9,7 +9,14 @@ use std::collections::HashMap;
 use std::marker::Model;
 use values::Value;
 
-/// The groups of one grouping set, each by its key.
+/// The groups of one grouping set over the records that were taken so far, each by its key.
+///
+/// It keeps neither its grouping set nor its set functions: each call that needs them is given the same ones. Of a
+/// group it keeps the number of its members, and for each set function what its value comes of: COUNT DISTINCT keeps
+/// each different value.
+///
+/// Example: the table that has taken the records `'x'`, `'y'` and `'x'`, grouped by their one column with `COUNT(*)`,
+/// has two groups: that of `'x'` with 2 members, and that of `'y'` with 1.
 #[derive(Debug, Drop)]
 pub struct Table {
     alloc: Global,
@@ -43,7 +50,14 @@ impl Table {
     ghost use Rattle.groups.specs.Inside.Table.{CanJoin, IsPut, IsFitting, IsJoined, IsOfFew, IsTableOf, IsTaken, IsWithPart, TakesOne};
     ghost use Rattle.groups.specs.Rolled.{AreAmong};
 
-    /// The table of no records under a grouping set, for these set functions, whatever their filters keep.
+    /// The table of no records under a grouping set, for these set functions, whatever their filters keep. The set has
+    /// the places of its columns, from 0. The empty set has its one group from the start, with the empty key.
+    ///
+    /// Example: `Table::new(alloc, &[], functions)` answers a table whose `len()` is 1; with `&[0]` it is 0.
+    ///
+    /// # Errors
+    ///
+    /// `AllocError` where there is no memory for it.
     pub fn new(
         alloc: Global,
         set: &[usize],
@@ -78,8 +92,18 @@ impl Table {
         Ok(table)
     }
 
-    /// Takes one more record, by its values, and marks that say of each filter whether it keeps the record: the mark of a
-    /// set function is that with the index of its FILTER. After an error the table is of no use.
+    /// Takes one more record into the group of its key. `row` has the values of the record, and `marks` says of each
+    /// filter, by its index from 0, whether it keeps the record: the mark of a set function is that with the index of
+    /// its FILTER. A value in a column that the record does not have counts as NULL.
+    ///
+    /// This is a table under this set for these functions, of fewer than 2^63 - 1 records, and no whole number of the
+    /// record is below -2^63 or above 2^63.
+    ///
+    /// Example: a record whose key has no group yet makes `len()` one more; the next one with that key leaves it so.
+    ///
+    /// # Errors
+    ///
+    /// `AllocError` where there is no memory for it; the table is of no use then.
     pub fn add(
         &mut self,
         set: &[usize],
@@ -96,7 +120,17 @@ impl Table {
         self.put(set, functions, row, Part::Record(row, marks))
     }
 
-    /// Takes the records of another table, whose groups move into this one. After an error the table is of no use.
+    /// Takes the records of another table under the same set for the same functions, whose groups move into this one.
+    ///
+    /// Where both have a group of one key, the two have fewer than 2^63 members together, and are for as many
+    /// functions.
+    ///
+    /// Example: a table with 2 members of the key `'x'` that takes one with 1 of `'x'` and 1 of `'y'` has 3 of `'x'`
+    /// and 1 of `'y'`.
+    ///
+    /// # Errors
+    ///
+    /// `AllocError` where there is no memory for it; the table is of no use then.
     pub fn absorb(&mut self, other: Table) -> Result<(), AllocError>
         requires { CanJoin self.old other }
         ensures groups { OnOk result ((k : Key) → IsJoined self.old other self.new k) }
@@ -106,8 +140,18 @@ impl Table {
         self.put_all(other)
     }
 
-    /// The table of the same records under another set, made of the groups of this one, whose set has all columns of the
-    /// other one. So it may be made of a table that was rolled before.
+    /// The table of the same records under another set, made of the groups of this one, which stays as it is. So it may
+    /// be made of a table that was rolled before.
+    ///
+    /// This is a table under the set `finer` for these functions, of fewer than 2^63 records, and each column of `set`
+    /// is one of `finer`, in whatever order.
+    ///
+    /// Example: a table with 2 members of the key `('Quay', 'sale')` and 1 of `('Quay', 'refund')` gives, rolled to its
+    /// first column, one with 3 members of `'Quay'`.
+    ///
+    /// # Errors
+    ///
+    /// `AllocError` where there is no memory for it.
     pub fn roll(
         &self,
         finer: &[usize],
@@ -132,14 +176,22 @@ impl Table {
         Ok(rolled)
     }
 
-    /// The number of its groups.
+    /// The number of its groups: of the different keys of its records, and 1 under the empty set.
     pub fn len(&self) -> usize
         ensures { result ≡ fin.len self.now }
     {
         self.groups.len()
     }
 
-    /// One group for each key of the records, in no order that is said.
+    /// One group for each key of the records, in no order that is said: with the number of its members, and the value
+    /// of each set function over those that its FILTER keeps, or over all where it has none.
+    ///
+    /// Example: under the empty set over no records it gives one group, with the empty key and 0 members, where each
+    /// COUNT is 0 and each other set function NULL.
+    ///
+    /// # Errors
+    ///
+    /// `AllocError` where there is no memory for the groups; the table is given up then.
     pub fn finish(self) -> Result<Vec<Group>, AllocError>
         ensures groups { IfOk result (λ groups. (set : List ℕ) (functions : List AggregateFunction) (rows : List Row)
             → IsTableOf set functions self rows → SameBag (map group_summary_in groups.items) (group_summaries set functions rows)) }

@@ -1,4 +1,5 @@
-//! The program `jlreport`: hands its words, the file and the standard streams to the engine.
+//! The program `jlreport`: hands its words, the file and the standard streams to the engine, and
+//! ends with the status that `engine::serve` answers.
 #![tactic(auto)]
 
 use command_line::{Settings, WordsFault, settings};

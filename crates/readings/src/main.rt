@@ -1,6 +1,9 @@
-//! Reads each line of a file as a record in both ways, by its tokens and by its JSON tree, and prints how
-//! many lines there are, how many are records, how many the tokens alone answered, and how many the two
-//! ways read differently. Its words are the columns and the file.
+//! Reads each line of a file as a record in both ways, by its tokens and by its JSON tree, and prints how many lines
+//! there are, how many are records, how many the tokens alone answered, and how many the two ways read differently. Its
+//! words are the columns and the file; where one is missing or the columns are refused, it prints nothing.
+//!
+//! Example: under `d:text,q:int`, of a file of the lines `{"d":"x","r":"n","q":5}` and `[1]`, it prints
+//! `2 lines, 1 records, 1 by their tokens alone, 0 different`.
 #![tactic(auto)]
 
 use lines::{LineRefusal, RecordReader, lines_of, read_by_tree};

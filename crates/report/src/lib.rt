@@ -1,7 +1,7 @@
 //! The rows of a report in their order, the bytes of the report, and those of the list of refused lines.
 //!
-//! The definitions are in `specs/`: the rows of which HAVING is True, their order, what a row shows for each item of SELECT,
-//! and the two texts (CSV as the crate `csv` writes it).
+//! The definitions are in `specs/`: the rows of which HAVING is True, their order, what a row shows for each item of
+//! SELECT, and the two texts (CSV as the crate `csv` writes it).
 #![tactic(auto)]
 
 mod arranging;

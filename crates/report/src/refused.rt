@@ -10,8 +10,13 @@ use std::alloc::{AllocError, Global};
 use tables::Groups;
 use values::Schema;
 
-/// The bytes of the list of refused lines: for each, in the order given, `line N: ` and what is wrong with it, ended
-/// by a line feed. The columns that faults name by their places are in the schema.
+/// The bytes of the list of refused lines: for each, in the order given, `line N: ` and what is wrong with it, ended by
+/// a line feed. There are none where no line is refused. N is the number of the line in the input, from 1.
+///
+/// Each fault that names a column by its place names one of the schema.
+///
+/// Example: under the columns `shop:text,cents:int`, line 2 with `NoJson` and line 5 with `BadValue(1)` give
+/// `line 2: not JSON` and `line 5: bad value in column cents`, each ended by a line feed.
 ///
 /// # Errors
 ///

@@ -16,10 +16,15 @@ use query_plan::{Plan, header};
 use std::alloc::{AllocError, Global};
 use std::io::Write;
 
-/// The bytes of a report: CSV with commas, line feeds, and quotes where they are needed. The first row holds the
-/// header of each item of SELECT. NULL is `\N`, and a text that begins with `\` has one more in front; truth values
-/// are `true` and `false`, whole numbers plain decimal, and an average is its sum and its count with `/` between.
-/// Each row has one cell for each item.
+/// The bytes of a report: CSV (RFC 4180, section 2) with commas, line feeds, and quotes where they are needed. The
+/// first row holds the header of each item of SELECT. NULL is `\N`, and a text that begins with `\` has one more in
+/// front; truth values are `true` and `false`, whole numbers plain decimal, and an average is its sum and its count
+/// with `/` between. Each row ends with one line feed, the last one too, where the RFC has CRLF.
+///
+/// Each row has one cell for each item of SELECT, as those that `arrange` gives have.
+///
+/// Example: for `SELECT d, AVG(q) FROM lines GROUP BY d` and the rows `'x'`, `Ratio(7, 2)` and `'y'`, NULL, it has the
+/// lines `d,AVG(q)`, `x,7/2` and `y,\N`.
 ///
 /// # Errors
 ///

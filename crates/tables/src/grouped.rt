@@ -13,6 +13,9 @@ use std::marker::Model;
 /// The groups fit the plan of some query: the index of each is that of a grouping set, its key has a value for each
 /// column of the set, of the column's type or NULL, it has a cell for each set function, of the function's type, and
 /// no index and key stand twice together. Only `Partial::finish` makes one.
+///
+/// Example: under `GROUP BY ROLLUP (shop)`, over one record of the shop `'Quay'`, there are the group with the key
+/// `'Quay'` beside the index 0, and that with the empty key beside the index 1.
 #[derive(Debug, Drop)]
 pub struct Groups {
     rows: Vec<(usize, Group)>,
@@ -40,8 +43,7 @@ impl Groups {
         Groups { rows, refused }
     }
 
-    /// The groups, each with the index of its grouping set among those of the plan, in no order
-    /// that is said.
+    /// The groups, each with the index of its grouping set among those of the plan, from 0, in no order that is said.
     pub fn rows(&self) -> &[(usize, Group)]
         ensures rows { map row_of result.now ≡ self.now.found }
         ensures fit { FitSomePlan self.now.found }
@@ -49,7 +51,8 @@ impl Groups {
         self.rows.as_slice()
     }
 
-    /// The refused lines, each by its number in the input, from 1, with its fault, ascending.
+    /// The refused lines, each by its number in the input, from 1, with its fault; ascending where no two pieces had
+    /// one index.
     pub fn refused(&self) -> &[(u64, LineFault)]
         ensures { result.now ≡ self.now.refused }
     {

@@ -13,6 +13,9 @@ use std::alloc::{AllocError, Global};
 ///
 /// A piece past the last one has no bytes. The weight of a result is the number of its refused lines, and its load
 /// the number of its lines.
+///
+/// Example: of a job over two pieces, `pool::alone(&job, 2, 0)` answers `Ok(Outcome::Whole(partial))` where no line of
+/// theirs is refused, and `Ok(Outcome::Over)` where one is, unless memory runs out.
 #[derive(Drop)]
 pub struct Job<'a> {
     alloc: Global,
@@ -25,7 +28,14 @@ pub struct Job<'a> {
 }
 
 impl<'a> Job<'a> {
-    /// The job of a plan over the pieces of an input.
+    /// The job of a plan over the pieces of an input, whose starts and stops are counted in bytes, from 0. It takes no
+    /// memory; the results take theirs from `alloc`.
+    ///
+    /// The input has fewer than 2^63 bytes. No piece starts behind its stop, and none stops behind the end of the
+    /// input; so it is with the pieces that `cut` gives.
+    ///
+    /// Example: where `pieces` are those of `cut(alloc, input, 1_048_576)?`,
+    /// `Job::new(alloc, &plan, input, pieces.as_slice())` is the job over the whole input.
     pub fn new(alloc: Global, plan: &'a Plan, input: &'a [u8], pieces: &'a [Piece]) -> Job<'a>
         requires short { length input.now < 2 ^ 63 }
         requires ordered { All (λ piece. piece.start ≤ piece.stop) pieces.now }

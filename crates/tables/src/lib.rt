@@ -1,4 +1,6 @@
 //! Partial results over pieces of an input, and the groups of the whole.
+//!
+//! A result is made of each piece apart, in any order and on any thread; results are merged in any order, and finished.
 #![tactic(auto)]
 
 mod folding;

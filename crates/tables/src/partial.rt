@@ -20,6 +20,9 @@ use std::marker::Model;
 /// of their lines, and their refused lines.
 ///
 /// Partial results of all pieces, merged in any order, give the result of the whole input.
+///
+/// Example: an input is cut behind its third line, and a result made of each of the two pieces, with the indexes 0 and
+/// 1; merged either way round and finished, they give the groups and the refused lines of the input.
 #[derive(Debug, Drop)]
 pub struct Partial {
     alloc: Global,
@@ -65,7 +68,9 @@ impl Partial {
     ghost use Rattle.tables.specs.Planned.{AreFittingUnder, AreGroupingColumns, GivesGroupsOfSet, GivesGroupsUnder, HasEachRecordOnceUnder, HasMembersOfFiner, IsPartialUnder, IsResultUnder, StandsForUnder};
     ghost use Rattle.tables.specs.Pieces.{AreInOrder, AreNumbered, HaveOwnIndexes, IndexedPiece, IsCutInto, all_lines, records_of, refused_numbered, refused_within};
 
-    /// The result over no pieces.
+    /// The result over no pieces, so of no lines: merged with another one of the plan, it adds nothing to that.
+    ///
+    /// Example: `lines()` and `refused()` of `Partial::empty(alloc, &plan)?` are 0.
     ///
     /// # Errors
     ///
@@ -85,7 +90,11 @@ impl Partial {
         })
     }
 
-    /// The result over one piece, which has this index among the pieces of its input.
+    /// The result over one piece, which has this index among the pieces of its input, and these bytes, fewer than 2^63.
+    /// Pieces of an input are parted just behind line feeds: what a piece has behind its last one is a line of its own.
+    ///
+    /// Example: under the column `q:int`, the piece of the lines `{"q":1}` and `[]`, each ended by a line feed, gives a
+    /// result whose `lines()` is 2 and whose `refused()` is 1.
     ///
     /// # Errors
     ///
@@ -127,8 +136,13 @@ impl Partial {
         })
     }
 
-    /// The result over the pieces of this one and one piece more, which has this index among the
-    /// pieces of its input. Its records go into the table that is there.
+    /// The result over the pieces of this one and one piece more, which has this index among the pieces of its input.
+    /// Its records go into the table that is there.
+    ///
+    /// This is a result of the plan, over some pieces, and has fewer than 2^63 lines together with the piece.
+    ///
+    /// Example: `partial.fold_onto(&plan, 1, piece)?` stands for the same pieces as `partial` merged with
+    /// `Partial::fold_piece(alloc, &plan, 1, piece)?`.
     ///
     /// # Errors
     ///
@@ -166,7 +180,7 @@ impl Partial {
         })
     }
 
-    /// The number of all lines of the pieces.
+    /// The number of all lines of the pieces, refused ones among them, below 2^63.
     pub fn lines(&self) -> u64
         ensures lines { result ≡ self.now.lines }
         ensures of_pieces { (fields : List Field) (q : TreeForm) (pieces : List IndexedPiece) → StandsFor fields q self.now pieces → result ≡ length (all_lines pieces) }
@@ -175,7 +189,7 @@ impl Partial {
         self.lines
     }
 
-    /// The number of all refused lines of the pieces.
+    /// The number of all refused lines of the pieces, at most that of all lines.
     pub fn refused(&self) -> u64
         ensures refused { result ≡ self.now.refused }
         ensures of_pieces { (fields : List Field) (q : TreeForm) (pieces : List IndexedPiece) → StandsFor fields q self.now pieces → result ≡ length (refused_within fields pieces) }
@@ -184,7 +198,11 @@ impl Partial {
         self.refused
     }
 
-    /// Whether two results are of the same grouping sets, set functions and filters, and so can be merged.
+    /// Whether two results are of the same grouping sets, set functions and filters, and so can be merged. It is true
+    /// of any two results of one query under one schema. It takes no memory.
+    ///
+    /// Example: under one schema it is true of two results of `SELECT COUNT(*) FROM lines GROUP BY shop`, and false of
+    /// one of that and one of `SELECT COUNT(*) FROM lines GROUP BY kind`.
     pub fn same_shape(&self, other: &Partial) -> bool
         ensures same { IsTrue result ↔ HaveOneShape self.now other.now }
         ensures of_one_query { (fields : List Field) (q : TreeForm) (pieces more : List IndexedPiece)
@@ -193,7 +211,11 @@ impl Partial {
         self.shape.is_same(&other.shape)
     }
 
-    /// The result over the pieces of both.
+    /// The result over the pieces of both, whichever is merged with the other. `same_shape` is true of the two, and
+    /// they have fewer than 2^63 lines together.
+    ///
+    /// Example: a result over 3 lines, 1 of them refused, merged with one over 2 good lines of another piece, is one
+    /// over 5 lines, 1 of them refused.
     ///
     /// # Errors
     ///
@@ -227,9 +249,14 @@ impl Partial {
         })
     }
 
-    /// The result over an input whose front this one is the result of and whose rest the other one is the result of,
-    /// where the front is whole lines: over all of it as one piece of index 0, so that the refused lines of the rest are
-    /// numbered behind the lines of the front. Which pieces the two were cut into is forgotten.
+    /// The result over an input of which this one is the result of the front, and the other one that of the rest behind
+    /// it. The front is whole lines: it is empty, or ends in a line feed. The answer stands for the input as one piece
+    /// of index 0, so that the refused lines of the rest are numbered behind the lines of the front. Which pieces the
+    /// two were cut into is forgotten.
+    ///
+    /// `same_shape` is true of the two, and they have fewer than 2^63 lines together.
+    ///
+    /// Example: where the front has 3 lines and the first line of the rest is refused, that is line 4 of the input.
     ///
     /// # Errors
     ///
@@ -271,12 +298,21 @@ impl Partial {
         })
     }
 
-    /// The groups of the good records of all lines of the pieces, and the refused lines by their
-    /// numbers in the input, where no two pieces have one index. The result is one of this plan.
+    /// The groups and the refused lines of the pieces. For each grouping set of the plan, and each key of the good
+    /// records that WHERE keeps, there is one group, with the number of its members and the value of each set function
+    /// (ISO/IEC 9075-2, `<group by clause>`); the empty set has its one group also over no records. Where no two pieces
+    /// have one index, each refused line is there once, by its number in the input, from 1: the lines of the pieces
+    /// with a smaller index stand before its own.
+    ///
+    /// This is a result of the plan, over some pieces.
+    ///
+    /// Example: of the lines `{"shop":"Quay","cents":250}` and `{"shop":"Quay","cents":50}`, the plan of
+    /// `SELECT shop, SUM(cents) FROM lines GROUP BY shop` finds one group: the key `'Quay'`, 2 members and the cell
+    /// 300.
     ///
     /// # Errors
     ///
-    /// `AllocError` where there is no memory for them.
+    /// `AllocError` where there is no memory for them; the result is given up then.
     pub fn finish(self, plan: &Plan) -> Result<Groups, AllocError>
         requires of_plan { IsPartialUnder plan.now self }
         ensures rows { IfOk result (λ groups. (pieces : List IndexedPiece) → StandsForUnder plan.now self pieces
@@ -308,8 +344,15 @@ impl Partial {
         Ok(Groups::new(rows, refused))
     }
 
-    /// The groups under any set of grouping columns, whether or not it is one of the query's grouping sets: one for each
-    /// key of the kept records and no other, its values in the order of the set. They come in no order that is said.
+    /// The groups under any set of grouping columns, whether or not it is one of the query's grouping sets: one for
+    /// each key of the records that WHERE keeps and no other, its values in the order of the set. They come in no order
+    /// that is said, and this result stays as it is.
+    ///
+    /// This is a result of the plan, over some pieces. The set has places of columns, from 0, all among those of
+    /// `Plan::grouping`.
+    ///
+    /// Example: `partial.roll(&plan, &[])?` is one group with the empty key, whose members are all records that WHERE
+    /// keeps, also where there are none.
     ///
     /// # Errors
     ///
