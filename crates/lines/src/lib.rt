@@ -1,5 +1,5 @@
-//! An input of JSON lines: read in rounds of whole lines, cut into pieces that end with lines, split into lines, and read as
-//! records.
+//! An input of JSON lines: read in rounds of whole lines, cut into pieces that end with lines, split into lines, and
+//! read as records.
 #![tactic(auto)]
 
 mod cutting;

@@ -215,6 +215,9 @@ fn trade(held: &mut Held, spare: Vec<u8>, most: usize) -> Vec<u8>
 }
 
 /// A round that was handed out, or a spare buffer for one.
+///
+/// Example: one thread works on a round that [`Rounds::hand_out`] gave it, while another reads on in the buffer of
+/// a second one.
 #[derive(Drop)]
 pub struct Round {
     buffer: Vec<u8>,
@@ -234,11 +237,13 @@ impl Model for Round {
 }
 
 impl Round {
-    /// A spare buffer for rounds of at most `size` bytes.
+    /// A spare buffer for rounds of at most `size` bytes. It takes memory for 65,536 bytes more than that.
     ///
     /// # Errors
     ///
     /// `AllocError` where there is no memory for it.
+    ///
+    /// Example: `Round::new(alloc, 8_388_608)` answers a round without a byte.
     pub fn new(alloc: Global, size: usize) -> Result<Self, AllocError>
         ensures { IfOk result (λ round. round ≡ record { bytes = []; size = size }) }
     {
@@ -249,7 +254,7 @@ impl Round {
         })
     }
 
-    /// Its bytes.
+    /// Its bytes: those of the round that was handed out, and none of a spare buffer.
     pub fn bytes(&self) -> &[u8]
         ensures { result.now ≡ self.now.bytes }
     {
@@ -268,8 +273,14 @@ fn buffer_of(alloc: Global, size: usize) -> Result<Vec<u8>, AllocError>
     }
 }
 
-/// An input that is read in rounds of whole lines, of which no round is longer than is asked. Of each line at most 1,048,577
-/// bytes are given, which is enough to tell that it is too long.
+/// An input that is read in rounds of whole lines, of which no round is longer than is asked. Of each line at most
+/// 1,048,577 bytes are given, which is enough to tell that it is too long.
+///
+/// The rounds, joined, are the input with each line cut so; its line feeds stay. No round is empty, and each ends in
+/// a line feed but perhaps the last.
+///
+/// Example: of a line of 3,000,000 bytes and the line `ab` behind it, the rounds joined are the first 1,048,577 bytes
+/// of the long line, its line feed, and `ab` with its line feed, where it has one.
 #[derive(Drop)]
 pub struct Rounds<R: Read + Drop> {
     reader: R,
@@ -304,11 +315,14 @@ impl<R: Read + Drop> Model for Rounds<R> {
 }
 
 impl<R: Read + Drop> Rounds<R> {
-    /// An input whose rounds have at most `size` bytes. It takes the buffer, and reads nothing.
+    /// An input whose rounds have at most `size` bytes. It takes the buffer, of 65,536 bytes more than that, and
+    /// reads nothing. It asks that `size` is 1,048,578 bytes or more.
     ///
     /// # Errors
     ///
     /// `AllocError` where there is no memory for the buffer.
+    ///
+    /// Example: of `Rounds::new(alloc, reader, 8_388_608)` no round has more than 8,388,608 bytes.
     pub fn new(alloc: Global, reader: R, size: usize) -> Result<Self, AllocError>
         requires { trimmed_len < size }
         ensures { IfOk result (λ rounds. rounds ≡ record {
@@ -345,6 +359,8 @@ impl<R: Read + Drop> Rounds<R> {
     /// # Errors
     ///
     /// `ReadFault` where a read failed or the input has 2^63 bytes or more, and from then on.
+    ///
+    /// Example: over an input without a byte the first call answers `Ok(false)`.
     pub fn advance(&mut self) -> Result<bool, ReadFault>
         ensures { HasMoved self.old result self.new }
     {
@@ -374,7 +390,7 @@ impl<R: Read + Drop> Rounds<R> {
         }
     }
 
-    /// The round that was given last.
+    /// The round that was given last; empty before the first one, and once it was handed out.
     pub fn round(&self) -> &[u8]
         ensures { result.now ≡ self.now.round }
     {
@@ -382,13 +398,19 @@ impl<R: Read + Drop> Rounds<R> {
     }
 
     /// Whether it is known that the round that was given last is the last one. Then going on reads nothing.
+    ///
+    /// Example: before the first round it answers `false`; once it answers `true`, `advance()` answers `Ok(false)`.
     pub fn is_over(&self) -> bool
         ensures { result ≡ self.now.over }
     {
         self.over
     }
 
-    /// Hands out the round that was given last, and goes on with the buffer of another one. It takes no memory.
+    /// Hands out the round that was given last, and goes on with the buffer of another one, whose bytes are lost.
+    /// It asks that the spare round was made for rounds of the same size. It takes no memory.
+    ///
+    /// Example: after `let round = rounds.hand_out(spare)`, `round.bytes()` is what `rounds.round()` was, and
+    /// `rounds.round()` is empty.
     pub fn hand_out(&mut self, spare: Round) -> Round
         requires { spare.size ≡ self.old.size }
         ensures round { result.bytes ≡ self.old.round }
@@ -415,6 +437,9 @@ impl<R: Read + Drop> Rounds<R> {
     /// # Errors
     ///
     /// `ReadFault` where a read failed or the input has 2^63 bytes or more, and from then on.
+    ///
+    /// Example: over the bytes `ab\ncd` the rounds that it answers, joined, are these bytes, and then it answers
+    /// `Ok(None)`.
     pub fn next(&mut self) -> Result<Option<&[u8]>, ReadFault>
         ensures* moves { sem 𝓛 (EndsAs R.row R.Read self.entry result) }
     {

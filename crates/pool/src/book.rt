@@ -13,15 +13,20 @@ struct Tally<L: Ledger> {
     ghost is_total: { number ≡ min reported.total (2 ^ 128 - 1) },
 }
 
-/// The sum of what all workers reported. L says which shares are of this book.
+/// The sum of what all workers reported, held at the greatest number of 128 bits. L says which shares are of this book.
+///
+/// Example: once two workers have reported 3 and 4, the book's number is 7.
 #[derive(Drop)]
 pub struct Book<L: Ledger> {
     tally: Mutex<Tally<L>>,
 }
 
-/// What one worker reported.
+/// What one worker reported to the book of the ledger L.
+///
+/// Example: a share by which 3 and then 5 were reported has the sum 8.
 #[derive(Drop)]
 pub struct Share<L: Ledger> {
+    /// The sum of the weights that were reported by this share.
     pub sum: u64,
     token: ledger::Share<L>,
     ghost one_part: { token.parts ≡ 1 },
@@ -60,7 +65,7 @@ impl<L: Ledger> Tally<L> {
 }
 
 impl<L: Ledger> Share<L> {
-    /// What this share reported.
+    /// The sum of the weights that were reported by this share, 0 of a new one.
     pub fn sum(&self) -> u64
         ensures { result ≡ self.now.sum }
     {
@@ -77,7 +82,14 @@ impl<L: Ledger> Share<L> {
 }
 
 impl<L: Ledger> Book<L> {
-    /// A book at 0, and a share for each of 1 to 64 hands. The blank is of L, with as many parts. The error is want of memory.
+    /// A book at 0, and a share for each hand, with the sum 0. It asks for 1 to 64 hands, and for a blank of L with as
+    /// many parts.
+    ///
+    /// # Errors
+    ///
+    /// `AllocError` where there is no memory for the list of shares.
+    ///
+    /// Example: `Book::<L>::new(alloc, blank, 4)` answers a book and four shares, of a blank with four parts.
     pub fn new(
         alloc: Global,
         blank: Blank,
@@ -104,7 +116,11 @@ impl<L: Ledger> Book<L> {
         Ok((Book { tally }, shares))
     }
 
-    /// Adds a weight to the share and to the book, and answers the book's number after it, which others may have added to. It may wait for the lock.
+    /// Adds a weight to the share and to the book, and answers the book's number after it, which others may have added
+    /// to. The number is not below the share's sum, and is that sum where the book has one share. It may wait for the
+    /// lock. It asks that the share's sum stays below 2^63.
+    ///
+    /// Example: where the only share of a book has the sum 3, `book.report(rt, &mut share, 4)` answers 7.
     pub fn report<R: Wait>(&self, rt: &R, share: &mut Share<L>, weight: u64) -> u128
         requires { share.old.sum + weight < 2 ^ 63 }
         ensures sum { share.new.sum ≡ share.old.sum + weight }
@@ -116,7 +132,10 @@ impl<L: Ledger> Book<L> {
         self.tally.lock(rt).add(token, weight)
     }
 
-    /// The sum of all shares, which are those that were made with the book.
+    /// The sum of all shares. It asks for those that were made with the book, each of them, in any order. It waits for
+    /// nobody.
+    ///
+    /// Example: where a book has two shares, of the sums 8 and 4, `book.close(shares)` answers 12.
     pub fn close(self, shares: Vec<Share<L>>) -> u128
         requires all { vec_len shares ≡ L.parts }
         requires few { vec_len shares ≤ 64 }

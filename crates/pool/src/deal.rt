@@ -98,9 +98,11 @@ impl Reach {
 }
 
 /// What a hand answers when it is asked for a piece.
+///
+/// Example: a hand of a deal without a piece answers `Spent`.
 #[derive(Clone, Copy, Debug, PartialEq, Eq)]
 pub enum Next {
-    /// This piece is the hand's, and no other hand gets it.
+    /// The piece with this number is the hand's, and no other hand gets it.
     Piece(u32),
     /// The hand's own deque is empty for good, and one try at each other deque gave nothing.
     Spent,
@@ -110,6 +112,9 @@ pub enum Next {
 
 /// One worker's end of a deal: its own deque, and its way into the deques of the other hands.
 /// Contracts see what the hand was given from each, in order.
+///
+/// Example: where 4 pieces were dealt to 2 hands and hand 0 alone is asked, it answers the pieces 0 and 2, which are
+/// its own, and then 1, which it steals.
 #[derive(Drop)]
 pub struct Hand {
     number: usize,
@@ -157,6 +162,8 @@ fn own_first(own: &mut Own) -> Option<u32>
 impl Hand {
     /// A piece: the first of the hand's own deque, or, once that is empty, the first of another's. It tries each other
     /// deque once, from the next hand's on and round. It takes no lock, waits for nobody, and returns.
+    ///
+    /// Example: where 8 pieces were dealt to 4 hands and hand 1 is the first that is asked, it answers `Piece(1)`.
     pub fn next(&mut self) -> Next
         ensures answer { Answers self.old self.new result }
         ensures holding { IsHolding self.new }
@@ -196,7 +203,7 @@ impl Hand {
         self.spent
     }
 
-    /// How many pieces its deal has.
+    /// How many pieces its deal has, whether they were given already or not.
     pub fn pieces(&self) -> u32
         ensures { result ≡ self.now.pieces }
     {
@@ -255,7 +262,9 @@ fn all_spent(hands: &[Hand]) -> bool
 }
 
 /// Whether each hand of the deal has answered Spent. Then what they were given, joined, is each piece exactly once.
-/// It takes no memory, and leaves the hands as they were.
+/// It takes no memory, and leaves the hands as they were. It asks for all hands of one deal, from hand 0 on.
+///
+/// Example: of a new deal it answers `false`; of one without a piece it answers `true` once each hand was asked.
 pub fn settled(hands: &mut [Hand]) -> bool
     requires deal { AreAll hands.old }
     ensures same { hands.new ≡ hands.old }

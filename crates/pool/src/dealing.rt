@@ -163,6 +163,8 @@ fn made_hands(
 }
 
 /// Numbered pieces, dealt to hands.
+///
+/// Example: of 5 pieces that are dealt to 2 hands, hand 0 owns the pieces 0, 2 and 4, and hand 1 owns 1 and 3.
 #[derive(Drop)]
 pub struct Deal {
     hands: Vec<Hand>,
@@ -179,8 +181,14 @@ impl Model for Deal {
 
 impl Deal {
     /// Deals the pieces below this number to as many deques as there are hands. Hand h owns the deque of the pieces
-    /// that are congruent to h modulo the number of hands, in ascending order. No piece is added later. The error is
-    /// want of memory.
+    /// that are congruent to h modulo the number of hands, in ascending order. No piece is added later. It asks for at
+    /// most 1,048,576 pieces, which may be none, and 1 to 64 hands.
+    ///
+    /// # Errors
+    ///
+    /// `AllocError` where there is no memory for the deques and the hands.
+    ///
+    /// Example: `Deal::new(alloc, 4, 2)` deals the pieces 0 and 2 to hand 0, and 1 and 3 to hand 1.
     pub fn new(alloc: Global, pieces: u32, hands: usize) -> Result<Deal, AllocError>
         requires pieces { pieces ≤ 1048576 }
         requires hands { (1 ≤ hands) × (hands ≤ 64) }
@@ -195,7 +203,9 @@ impl Deal {
         Ok(Deal { hands })
     }
 
-    /// The hands, from hand 0 on.
+    /// The hands, from hand 0 on. It takes no memory.
+    ///
+    /// Example: `Deal::new(alloc, 4, 2)?.into_hands()` has two hands.
     pub fn into_hands(self) -> Vec<Hand>
         ensures { result.items ≡ self }
     {

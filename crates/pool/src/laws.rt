@@ -4,16 +4,20 @@ ghost use Rattle.pool.specs.Lawful.{Lawful};
 
 use std::alloc::AllocError;
 
-/// What all pieces of a work come to.
+/// What all pieces of a work come to, under a limit of their weights.
+///
+/// Example: four pieces of the weight 1 come to `Whole` under the limit 4, and to `Over` under the limit 3.
 #[derive(Drop)]
 pub enum Outcome<P> {
-    /// All pieces combined.
+    /// All pieces combined. Their weights add up to at most the limit.
     Whole(P),
     /// The weights add up to more than the limit.
     Over,
 }
 
 /// Why pieces were not done.
+///
+/// Example: with one hand, or no piece, it is never `ThreadNotStarted`.
 #[derive(Debug, Clone, Copy, PartialEq, Eq)]
 pub enum PoolFault {
     /// Memory ran out, and no thread was refused.
@@ -27,7 +31,11 @@ pub enum PoolFault {
 /// Each part means something, and what holds of parts is said of their meanings. A part has a weight, which a limit
 /// counts, and a load, which bounds its weight. Both add up when parts combine, and no sum of loads is to reach 2^63.
 /// An implementation says what its meanings are, and proves that they keep the laws of `Lawful`.
+///
+/// Example: a work whose piece i is the number i, and whose parts are numbers that are added. Its pieces below 4 come
+/// to 6.
 pub trait Work {
+    /// What a piece gives, and what parts combine to.
     type Part: Send + Drop;
 
     /// What a part means.
@@ -47,25 +55,52 @@ pub trait Work {
     /// What two parts come to together.
     ghost combined: { Self → Self.Meaning → Self.Meaning → Self.Meaning };
 
+    /// What a part of this meaning counts against a limit.
     ghost weight_of: { Self → Self.Meaning → ℕ };
 
+    /// The load of a part of this meaning, which is never less than its weight.
     ghost load_of: { Self → Self.Meaning → ℕ };
 
-    /// The part of no piece. The error is want of memory, here and below.
+    /// The part of no piece, which has no weight and no load.
+    ///
+    /// # Errors
+    ///
+    /// `AllocError` where memory was refused.
+    ///
+    /// Example: where parts are numbers that are added, `work.unit()` answers 0.
     fn unit(&self) -> Result<Self::Part, AllocError>
         ensures { IfOk result (λ p. Self.meaning p ≡ Self.unit_meaning self.now) };
 
-    /// The part of one piece.
+    /// The part of one piece, by the piece's number, from 0.
+    ///
+    /// # Errors
+    ///
+    /// `AllocError` where memory was refused.
+    ///
+    /// Example: where piece i is the number i, `work.piece(3)` answers 3.
     fn piece(&self, i: u32) -> Result<Self::Part, AllocError>
         ensures { IfOk result (λ p. Self.meaning p ≡ Self.piece_meaning self.now i) };
 
-    /// Two parts as one. Both are parts of this work.
+    /// Two parts as one. It asks that both are parts of this work, and that their loads add up to less than 2^63.
+    ///
+    /// # Errors
+    ///
+    /// `AllocError` where memory was refused. Both parts are then given up.
+    ///
+    /// Example: where parts are numbers that are added, `work.combine(2, 3)` answers 5.
     fn combine(&self, a: Self::Part, b: Self::Part) -> Result<Self::Part, AllocError>
         requires parts { Self.fits self.now (Self.meaning a) × Self.fits self.now (Self.meaning b) }
         requires room { Self.load_of self.now (Self.meaning a) + Self.load_of self.now (Self.meaning b) < 2 ^ 63 }
         ensures { IfOk result (λ p. Self.meaning p ≡ Self.combined self.now (Self.meaning a) (Self.meaning b)) };
 
     /// A part with one piece more. It may be written anew where a piece can go onto a part without a part of its own.
+    /// It asks that the part is one of this work, and that its load and the piece's add up to less than 2^63.
+    ///
+    /// # Errors
+    ///
+    /// `AllocError` where memory was refused. The part is then given up.
+    ///
+    /// Example: where piece i is the number i, and parts are added, `work.add(2, 3)` answers 5.
     fn add(&self, part: Self::Part, i: u32) -> Result<Self::Part, AllocError>
         requires part { Self.fits self.now (Self.meaning part) }
         requires more { Self.load_of self.now (Self.meaning part) + Self.load_of self.now (Self.piece_meaning self.now i) < 2 ^ 63 }
@@ -75,12 +110,16 @@ pub trait Work {
         self.combine(part, piece)
     }
 
-    /// What the part counts against a limit.
+    /// What the part counts against a limit. It asks that the part is one of this work, of a load below 2^63.
+    ///
+    /// Example: where a part stands for lines of a file, the number of those that are refused.
     fn weight(&self, p: &Self::Part) -> u64
         requires { Self.fits self.now (Self.meaning p.now) × (Self.load_of self.now (Self.meaning p.now) < 2 ^ 63) }
         ensures { result ≡ Self.weight_of self.now (Self.meaning p.now) };
 
-    /// The part's load. No weight is above it.
+    /// The part's load. No weight is above it. It asks that the part is one of this work, of a load below 2^63.
+    ///
+    /// Example: where a part stands for lines of a file, the number of all of them.
     fn load(&self, p: &Self::Part) -> u64
         requires { Self.fits self.now (Self.meaning p.now) × (Self.load_of self.now (Self.meaning p.now) < 2 ^ 63) }
         ensures { result ≡ Self.load_of self.now (Self.meaning p.now) };

@@ -252,8 +252,16 @@ fn conclude<W: Work, L: Ledger>(
 /// what they did weighs more than `limit`, the answer is `Over`. Else the calling thread does what is left.
 /// The hands and shares come back in their order.
 ///
-/// All threads have ended when it answers. The errors are want of memory, and that a thread could not be started, which
-/// comes first. Hands and shares are then given up.
+/// It asks for all hands of a new deal, from hand 0 on, for as many shares, and that the loads of all pieces, with the
+/// sum of any share, add up to less than 2^63. All threads have ended when it answers.
+///
+/// # Errors
+///
+/// `ThreadNotStarted` where a thread could not be started, and else `OutOfMemory`. Hands and shares are then given up.
+///
+/// Example: where the hands are those of a new deal of 100 pieces, each of the weight 1,
+/// `fan_on(rt, alloc, &work, hands, 100, &book, 100, shares)` answers `Whole`, the hands, which are settled, and the
+/// shares, whose sums add up to 100 more than before.
 pub fn fan_on<W: Work + Sync, L: Ledger + Send + Sync, R: Threads + Wait + Sync>(
     rt: &R,
     alloc: Global,
@@ -308,10 +316,17 @@ pub fn fan_on<W: Work + Sync, L: Ledger + Send + Sync, R: Threads + Wait + Sync>
 /// own. So one book serves several deals, one after the other. With one hand, or no piece, no thread is started.
 ///
 /// A worker may stop once the book's number is above `stop`. It answers the combination of all parts, or `Over` where
-/// they weigh more than `limit`, and the shares in their order.
+/// they weigh more than `limit`, and the shares in their order. No share grows by more than the weights of all pieces.
 ///
-/// All threads have ended when it answers. The errors are want of memory, and that a thread could not be started, which
-/// comes first. The shares are then given up.
+/// It asks for 1 to 64 shares, and that the loads of all pieces, with the sum of any share, add up to less than 2^63.
+/// All threads have ended when it answers.
+///
+/// # Errors
+///
+/// `ThreadNotStarted` where a thread could not be started, and else `OutOfMemory`. The shares are then given up.
+///
+/// Example: with 100 pieces of the weight 1, `fan_deal(rt, alloc, &work, 100, 100, &book, 200, shares)` answers
+/// `Whole` and the shares; `fan_deal(rt, alloc, &work, 100, 99, &book, 200, shares)` answers `Over` and the shares.
 pub fn fan_deal<W: Work + Sync, L: Ledger + Send + Sync, R: Threads + Wait + Sync>(
     rt: &R,
     alloc: Global,
@@ -390,10 +405,17 @@ fn with_book<L: Ledger + Send + Sync, W: Work + Sync, R: Threads + Wait + Sync>(
 }
 
 /// Does the pieces below a number, at most 1,048,576, on 1 to 64 threads, the calling one among them. With one hand, or
-/// no piece, no thread is started. It answers the combination of all parts, or `Over` where they weigh more than `limit`.
+/// no piece, no thread is started. It answers the combination of all parts, or `Over` where they weigh more than
+/// `limit`.
 ///
-/// All threads have ended when it answers. The errors are want of memory, and that a thread could not be started, which
-/// comes first.
+/// It asks that the loads of all pieces add up to less than 2^63. All threads have ended when it answers.
+///
+/// # Errors
+///
+/// `ThreadNotStarted` where a thread could not be started, and else `OutOfMemory`.
+///
+/// Example: where piece i is the number i, which is its weight too, and parts are added,
+/// `fan_out(rt, alloc, &work, 4, 2, 6)` answers `Whole(6)`, and `fan_out(rt, alloc, &work, 4, 2, 5)` answers `Over`.
 pub fn fan_out<W: Work + Sync, R: Threads + Wait + Sync>(
     rt: &R,
     alloc: Global,

@@ -6,11 +6,14 @@ ghost use Rattle.query_tokens.specs.declared.fault.TokenFault.TheVariants.{OutOf
 use std::alloc::{AllocError, AllocFailed};
 
 /// Why a text spells no tokens.
+///
+/// Example: of `SELECT ;` it is `NoToken(7)`.
 #[derive(Debug, Drop)]
 pub enum TokenFault {
-    /// At this byte, from 0, no token begins.
+    /// At this byte, from 0, no token begins: as at `;`, at a text without its last quote, or at a number
+    /// that 64 bits do not hold.
     NoToken(usize),
-    /// A growth was refused.
+    /// Memory was refused. This says nothing of the text.
     OutOfMemory,
 }
 

@@ -7,13 +7,23 @@ use crate::words::{is_word, reserved_word};
 use std::alloc::AllocError;
 
 /// Whether a name may be written without quotes: it is a word, and not a reserved one.
+///
+/// A word is an ASCII letter or `_`, and then ASCII letters, digits and `_`.
+///
+/// Example: `is_plain_name("shop")` answers `true`; of `"select"`, `"my column"` and `""` it answers `false`.
 pub fn is_plain_name(name: &str) -> bool
     ensures { result ≡ is_plain_name name.now }
 {
     is_word(name) && reserved_word(name).is_none()
 }
 
-/// Writes the text at the end, between quotes and with each quote in it twice. The quote is ASCII.
+/// Writes the text at the end, between quotes and with each quote in it twice. It asks that the quote is ASCII.
+///
+/// # Errors
+///
+/// `AllocError` where memory was refused. Then nothing is promised of what stands in `out`.
+///
+/// Example: `push_quoted(&mut out, "it's", '\'')` writes `'it''s'` at the end of `out`.
 pub fn push_quoted(out: &mut String, text: &str, quote: char) -> Result<(), AllocError>
     requires { quote < 128 }
     ensures { OnOk result (string_bytes out.new ≡ string_bytes out.old ++ quoted quote text.now) }
@@ -31,7 +41,13 @@ pub fn push_quoted(out: &mut String, text: &str, quote: char) -> Result<(), Allo
     Ok(())
 }
 
-/// Writes the name at the end: plain where it can be, else in double quotes.
+/// Writes the name at the end, as canonical texts have it: plain where it can be, else in double quotes.
+///
+/// # Errors
+///
+/// `AllocError` where memory was refused. Then nothing is promised of what stands in `out`.
+///
+/// Example: `push_name(&mut out, "shop")` writes `shop`, and `push_name(&mut out, "select")` writes `"select"`.
 pub fn push_name(out: &mut String, name: &str) -> Result<(), AllocError>
     ensures { OnOk result (string_bytes out.new ≡ string_bytes out.old ++ name_text name.now) }
 {

@@ -60,7 +60,9 @@ fn word_among(words: &[Word], text: &str) -> Option<Word>
         .find(|word| text.eq_ignore_ascii_case(word_text(*word)))
 }
 
-/// The reserved word that the text is without regard to ASCII case, if it is one.
+/// The reserved word that the text is without regard to ASCII case, if it is one. It takes no memory.
+///
+/// Example: `reserved_word("select")` answers `Some(Word::Select)`, and `reserved_word("shop")` answers `None`.
 #[tactic(auto, unfolding(crate::specs::Words::reserved))]
 pub fn reserved_word(text: &str) -> Option<Word>
     ensures { result ≡ reserved text.now }

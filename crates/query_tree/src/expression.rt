@@ -5,48 +5,57 @@ use crate::text::Text;
 use values::{Op, Truth};
 
 /// A set function apart from its FILTER, ISO/IEC 9075-2 `<set function specification>`.
+///
+/// Example: `SUM(cents)` is `Sum` of the name `cents`.
 #[derive(Debug, Drop)]
 pub enum Aggregate {
-    /// `COUNT(*)`
+    /// `COUNT(*)`: the number of records.
     CountRows,
-    /// `COUNT(x)`
+    /// `COUNT(x)`: the number of records in which x is not NULL.
     Count(Text),
-    /// `COUNT(DISTINCT x)`
+    /// `COUNT(DISTINCT x)`: the number of different values of x that are not NULL.
     CountDistinct(Text),
-    /// `SUM(x)`
+    /// `SUM(x)`: the exact sum of x, NULL where each is NULL.
     Sum(Text),
-    /// `MIN(x)`
+    /// `MIN(x)`: the least x, NULL where each is NULL.
     Min(Text),
-    /// `MAX(x)`
+    /// `MAX(x)`: the greatest x, NULL where each is NULL.
     Max(Text),
-    /// `AVG(x)`
+    /// `AVG(x)`: the sum of x and how many are not NULL, as a pair; NULL where each is NULL.
     Avg(Text),
 }
 
 /// A set function over all records of a group, or over those that its FILTER keeps,
 /// ISO/IEC 9075-2 `<aggregate function>`.
+///
+/// Example: `COUNT(*) FILTER (WHERE cents > 5)` is `CountRows` with the filter `cents > 5`.
 #[cycle(expression)]
 #[derive(Debug, Drop)]
 pub struct SetFunction {
     /// The function and its argument.
     pub aggregate: Aggregate,
-    /// The predicate of FILTER, where there is one.
+    /// The predicate of FILTER, where there is one, ISO/IEC 9075-2 `<filter clause>`.
     pub filter: Option<Box<Predicate>>,
 }
 
 /// What an item, a key or an operand computes.
+///
+/// Example: in `SELECT shop, COUNT(*) FROM lines GROUP BY shop` the items compute a `Name` and a `Function`.
 #[cycle(expression)]
 #[derive(Debug, Drop)]
 pub enum Expression {
     /// A column, or in ORDER BY an alias.
     Name(Text),
-    /// `GROUPING(x, y)`
+    /// `GROUPING(x, y)`, by its columns, ISO/IEC 9075-2 `<grouping operation>`: a number with a binary
+    /// digit for each, the last one's lowest, 0 where the row's grouping set has the column, else 1.
     Grouping(Vec<Text>),
     /// A set function.
     Function(SetFunction),
 }
 
 /// An operand of a predicate.
+///
+/// Example: in `cents > 5` they are the expression `cents` and the literal 5.
 #[cycle(expression)]
 #[derive(Debug, Drop)]
 pub enum Operand {
@@ -58,6 +67,8 @@ pub enum Operand {
 
 /// A predicate, ISO/IEC 9075-2 `<search condition>`. A mark `not` says that NOT stands before
 /// BETWEEN or IN, or after IS.
+///
+/// Example: `a AND b OR c` is `Or` of two parts: `And` of the columns `a` and `b`, and the column `c`.
 #[cycle(expression)]
 #[derive(Debug, Drop)]
 pub enum Predicate {
@@ -67,7 +78,7 @@ pub enum Predicate {
     And(Vec<Predicate>),
     /// `NOT p`
     Not(Box<Predicate>),
-    /// `p IS TRUE`, ISO/IEC 9075-2 `<boolean test>`.
+    /// `p IS TRUE` and its like, which are never unknown, ISO/IEC 9075-2 `<boolean test>`.
     Is {
         /// What is tested.
         part: Box<Predicate>,
@@ -76,7 +87,7 @@ pub enum Predicate {
         /// The truth value that is asked for.
         truth: Truth,
     },
-    /// `x = y`, ISO/IEC 9075-2 `<comparison predicate>`.
+    /// `x = y` and its like, unknown where x or y is NULL, ISO/IEC 9075-2 `<comparison predicate>`.
     Compare {
         /// The operand on the left.
         left: Operand,
@@ -85,7 +96,7 @@ pub enum Predicate {
         /// The operand on the right.
         right: Operand,
     },
-    /// `x BETWEEN y AND z`, ISO/IEC 9075-2 `<between predicate>`.
+    /// `x BETWEEN y AND z`, which is `x >= y AND x <= z`, ISO/IEC 9075-2 `<between predicate>`.
     Between {
         /// What is tested.
         operand: Operand,
@@ -96,7 +107,7 @@ pub enum Predicate {
         /// The upper end, included.
         high: Operand,
     },
-    /// `x IN (1, 2)`, ISO/IEC 9075-2 `<in predicate>`.
+    /// `x IN (1, 2)`, which is `x = 1 OR x = 2`, ISO/IEC 9075-2 `<in predicate>`.
     In {
         /// What is tested.
         operand: Operand,
@@ -105,13 +116,13 @@ pub enum Predicate {
         /// The values, one or more.
         literals: Vec<Literal>,
     },
-    /// `x IS NULL`, ISO/IEC 9075-2 `<null predicate>`.
+    /// `x IS NULL`, which is never unknown, ISO/IEC 9075-2 `<null predicate>`.
     IsNull {
         /// What is tested.
         operand: Operand,
         /// Whether it is `IS NOT NULL`.
         not: bool,
     },
-    /// A bare name: the column of truth values itself.
+    /// A bare name: the column of truth values itself, unknown where it is NULL.
     Column(Text),
 }

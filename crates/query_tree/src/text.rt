@@ -6,6 +6,8 @@ use std::alloc::AllocError;
 use std::marker::Model;
 
 /// A name or a text, which contracts see as its bytes in UTF-8.
+///
+/// Example: the name `"my column"` of a query is the text `my column`, without its quotes.
 #[derive(Debug, Drop)]
 pub struct Text {
     text: String,
@@ -21,6 +23,8 @@ impl Model for Text {
 
 impl Text {
     /// The text of a string. It takes no memory.
+    ///
+    /// Example: `Text::from_string(name).as_str()` has the characters of `name`.
     pub fn from_string(text: String) -> Text
         ensures { result ≡ string_bytes text }
     {
@@ -34,7 +38,13 @@ impl Text {
         self.text.as_str()
     }
 
-    /// The same text again.
+    /// The same text again, in memory of its own.
+    ///
+    /// # Errors
+    ///
+    /// `AllocError` where there is no memory for it.
+    ///
+    /// Example: `text.try_clone()?.as_str()` has the characters of `text.as_str()`.
     pub fn try_clone(&self) -> Result<Text, AllocError>
         ensures { IfOk result (λ t. t ≡ self.now) }
     {
@@ -44,6 +54,8 @@ impl Text {
     }
 
     /// The string of a text. It takes no memory.
+    ///
+    /// Example: `Text::from_string(name).into_string()` has the characters that `name` had.
     pub fn into_string(self) -> String
         ensures { string_bytes result ≡ self }
     {

@@ -10,13 +10,21 @@ use std::cmp::Ordering;
 
 /// An operator of a comparison: `=`, `<>`, `<`, `<=`, `>`, `>=` (ISO/IEC 9075-2,
 /// `<comparison predicate>`).
+///
+/// Example: of 2 on the left and 2 on the right `Le` holds, and `Lt` does not.
 #[derive(Clone, Copy, Debug, PartialEq, Eq, Hash)]
 pub enum Op {
+    /// `=`: both are equal.
     Eq,
+    /// `<>`: they are not equal.
     Ne,
+    /// `<`: the left one is less.
     Lt,
+    /// `<=`: the left one is less, or both are equal.
     Le,
+    /// `>`: the left one is greater.
     Gt,
+    /// `>=`: the left one is greater, or both are equal.
     Ge,
 }
 
@@ -38,10 +46,14 @@ impl Op {
     }
 }
 
-/// `left op right` (ISO/IEC 9075-2, `<comparison predicate>`): unknown where an operand is NULL.
+/// The truth value of `left op right` (ISO/IEC 9075-2, `<comparison predicate>`): Unknown where an
+/// operand is NULL.
 ///
-/// Both operands are of one type, or one of them is NULL. Whole numbers compare as numbers, texts by
-/// their UTF-8 bytes, and False is less than True. It takes no memory.
+/// It asks that both operands are of one type, or that one of them is NULL. Whole numbers compare as
+/// numbers, texts by their UTF-8 bytes, and False is less than True. It takes no memory.
+///
+/// Example: `compare(Op::Lt, &Value::Int(2), &Value::Int(10))` answers `True`, and
+/// `compare(Op::Eq, &Value::Null, &Value::Null)` answers `Unknown`.
 pub fn compare(op: Op, left: &Value, right: &Value) -> Truth
     requires { AreComparable (datum_of left.now) (datum_of right.now) }
     ensures value { result ≡ comparison op (datum_of left.now) (datum_of right.now) }

@@ -12,14 +12,16 @@ use crate::value::Value;
 use std::alloc::Global;
 use std::marker::Model;
 
-/// The type of a column.
+/// The type of a column. A column of each type may also hold NULL.
+///
+/// Example: the schema text `shop:text,cents:int` has a column of the type `Text` and one of `Int`.
 #[derive(Clone, Copy, Debug, PartialEq, Eq, Hash)]
 pub enum Kind {
-    /// Whole numbers from -2^63 to 2^63-1.
+    /// `int`: whole numbers from -2^63 to 2^63-1.
     Int,
-    /// Texts.
+    /// `text`: texts, of any length.
     Text,
-    /// Truth values.
+    /// `bool`: truth values.
     Bool,
 }
 
@@ -42,15 +44,22 @@ impl Kind {
     }
 }
 
-/// A column of a schema.
+/// A column of a schema: the member of its name is taken, as its type says.
+///
+/// Example: the part `cents:int` of a schema text is the column of the name `cents` and the type `Int`.
 #[derive(Debug, PartialEq, Eq, Drop)]
 pub struct Column {
-    /// One or more ASCII letters, digits and `_`, not beginning with a digit.
+    /// In a schema, one or more ASCII letters, digits and `_`, not beginning with a digit.
     pub name: String,
+    /// The type of the values that the column holds.
     pub kind: Kind,
 }
 
 /// The columns that a line is read under: 1 to 32, with different names.
+///
+/// Names are compared exactly: `Shop` and `shop` are two.
+///
+/// Example: `shop:text,cents:int` is the text of a schema with two columns, `shop` the first of them.
 #[derive(Debug, Drop)]
 pub struct Schema {
     columns: Vec<Column>,
@@ -72,8 +81,16 @@ impl Schema {
     ghost use Rattle.values.specs.Fit.{Fits};
 
     /// Reads a schema text: parts `name:type` joined by commas, without white space, the type `int`,
-    /// `text` or `bool`, as in `day:text,cents:int`. The first part with a fault is the one named,
-    /// and of its faults the first of `TooManyColumns`, `BadName`, `UnknownType`, `RepeatedName`.
+    /// `text` or `bool`, as in `day:text,cents:int`.
+    ///
+    /// # Errors
+    ///
+    /// `Empty` where the text is empty. Else the first part with a fault is the one named, by its
+    /// number from 1, and of its faults the first of `TooManyColumns`, `BadName`, `UnknownType`,
+    /// `RepeatedName`. `OutOfMemory` where memory was refused, which says nothing of the text.
+    ///
+    /// Example: `Schema::parse(alloc, "shop:text,cents:int")` answers a schema of two columns; of
+    /// `"shop"` it answers `UnknownType(1)`.
     pub fn parse(alloc: Global, text: &str) -> Result<Schema, SchemaFault>
         ensures columns { IfOk result (λ schema. schema_of text.now ≡ Ok schema) }
         ensures fault { IfErr result (λ fault. fault ≢ SchemaFault.OutOfMemory → schema_of text.now ≡ Err fault) }
@@ -89,7 +106,7 @@ impl Schema {
         Ok(Schema { columns })
     }
 
-    /// The columns, in order.
+    /// The columns, in order: 1 to 32, with different names.
     pub fn columns(&self) -> &[Column]
         ensures columns { fields_of result.now ≡ self.now }
         ensures schema { IsSchema self.now }
@@ -99,6 +116,9 @@ impl Schema {
 
     /// Whether a record has one value for each column, each NULL or of the column's type, with whole
     /// numbers of 64 bits.
+    ///
+    /// Example: the records that fit the schema `cents:int` have one value, a whole number from -2^63
+    /// to 2^63-1 or NULL.
     pub fn fits(&self, record: &Record) -> bool
         ensures fits { IsTrue result ↔ Fits self.now «record».now }
     {

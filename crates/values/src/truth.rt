@@ -3,17 +3,25 @@
 ghost use Rattle.std.specs.Prelude.{◌≡◌, ◌↔◌, IsTrue, if◌then◌else◌};
 
 /// A truth value of three-valued logic (ISO/IEC 9075-2, `<search condition>`).
+///
+/// Example: of a record in which `cents` is NULL, `cents > 5` is Unknown.
 #[derive(Clone, Copy, Debug, PartialEq, Eq, Hash)]
 pub enum Truth {
+    /// A predicate does not hold.
     False,
+    /// It is not known whether a predicate holds, as where a value is compared with NULL.
     Unknown,
+    /// A predicate holds.
     True,
 }
 
 impl Truth {
     ghost use Rattle.values.specs.Truth.{conjunction, disjunction, negation};
 
-    /// `self AND other`, by the truth table of AND.
+    /// `self AND other`, by the truth table of AND (ISO/IEC 9075-2, `<search condition>`): False where
+    /// either is False, True where both are True, and else Unknown.
+    ///
+    /// Example: `Truth::True.and(Truth::Unknown)` answers `Unknown`.
     pub fn and(self, other: Truth) -> Truth
         ensures table { result ≡ conjunction self other }
     {
@@ -24,7 +32,10 @@ impl Truth {
         }
     }
 
-    /// `self OR other`, by the truth table of OR.
+    /// `self OR other`, by the truth table of OR (ISO/IEC 9075-2, `<search condition>`): True where
+    /// either is True, False where both are False, and else Unknown.
+    ///
+    /// Example: `Truth::True.or(Truth::Unknown)` answers `True`.
     pub fn or(self, other: Truth) -> Truth
         ensures table { result ≡ disjunction self other }
     {
@@ -35,7 +46,10 @@ impl Truth {
         }
     }
 
-    /// `NOT self`, by the truth table of NOT.
+    /// `NOT self`, by the truth table of NOT (ISO/IEC 9075-2, `<search condition>`): True and False are
+    /// exchanged, and Unknown stays.
+    ///
+    /// Example: `Truth::Unknown.not()` answers `Unknown`.
     pub fn not(self) -> Truth
         ensures table { result ≡ negation self }
     {
@@ -46,7 +60,9 @@ impl Truth {
         }
     }
 
-    /// `self IS truth`, which is never unknown (ISO/IEC 9075-2, `<boolean test>`).
+    /// Whether `self IS truth`, which is never unknown (ISO/IEC 9075-2, `<boolean test>`).
+    ///
+    /// Example: `Truth::Unknown.is(Truth::False)` answers `false`.
     pub fn is(self, truth: Truth) -> bool
         ensures same { IsTrue result ↔ (self ≡ truth) }
     {
@@ -60,6 +76,8 @@ impl From<bool> for Truth {
     ghost from_gives = { λ holds truth. truth ≡ (if holds then True else False) };
 
     /// The truth value of a test that is not unknown.
+    ///
+    /// Example: `Truth::from(false)` answers `False`.
     fn from(holds: bool) -> Truth {
         if holds { Truth::True } else { Truth::False }
     }
