@@ -239,11 +239,11 @@ impl Model for Round {
 impl Round {
     /// A spare buffer for rounds of at most `size` bytes. It takes memory for 65,536 bytes more than that.
     ///
+    /// Example: `Round::new(alloc, 8_388_608)` answers a round without a byte.
+    ///
     /// # Errors
     ///
     /// `AllocError` where there is no memory for it.
-    ///
-    /// Example: `Round::new(alloc, 8_388_608)` answers a round without a byte.
     pub fn new(alloc: Global, size: usize) -> Result<Self, AllocError>
         ensures { IfOk result (λ round. round ≡ record { bytes = []; size = size }) }
     {
@@ -318,11 +318,11 @@ impl<R: Read + Drop> Rounds<R> {
     /// An input whose rounds have at most `size` bytes. It takes the buffer, of 65,536 bytes more than that, and
     /// reads nothing. It asks that `size` is 1,048,578 bytes or more.
     ///
+    /// Example: of `Rounds::new(alloc, reader, 8_388_608)` no round has more than 8,388,608 bytes.
+    ///
     /// # Errors
     ///
     /// `AllocError` where there is no memory for the buffer.
-    ///
-    /// Example: of `Rounds::new(alloc, reader, 8_388_608)` no round has more than 8,388,608 bytes.
     pub fn new(alloc: Global, reader: R, size: usize) -> Result<Self, AllocError>
         requires { trimmed_len < size }
         ensures { IfOk result (λ rounds. rounds ≡ record {
@@ -356,11 +356,11 @@ impl<R: Read + Drop> Rounds<R> {
 
     /// Goes on to the next round. It answers whether there is one. It takes no memory.
     ///
+    /// Example: over an input without a byte the first call answers `Ok(false)`.
+    ///
     /// # Errors
     ///
     /// `ReadFault` where a read failed or the input has 2^63 bytes or more, and from then on.
-    ///
-    /// Example: over an input without a byte the first call answers `Ok(false)`.
     pub fn advance(&mut self) -> Result<bool, ReadFault>
         ensures { HasMoved self.old result self.new }
     {
@@ -434,12 +434,12 @@ impl<R: Read + Drop> Rounds<R> {
 
     /// The next round: whole lines, but perhaps the last line. `None` where there is none. It takes no memory.
     ///
+    /// Example: over the bytes `ab\ncd` the rounds that it answers, joined, are these bytes, and then it answers
+    /// `Ok(None)`.
+    ///
     /// # Errors
     ///
     /// `ReadFault` where a read failed or the input has 2^63 bytes or more, and from then on.
-    ///
-    /// Example: over the bytes `ab\ncd` the rounds that it answers, joined, are these bytes, and then it answers
-    /// `Ok(None)`.
     pub fn next(&mut self) -> Result<Option<&[u8]>, ReadFault>
         ensures* moves { sem 𝓛 (EndsAs R.row R.Read self.entry result) }
     {

@@ -16,12 +16,12 @@ use values::{Column, Kind, Record, Schema, Value};
 
 /// Reads a line as [`read_record`](crate::read_record) does, by the tree of its JSON value, which takes memory.
 ///
+/// Example: under `cents:int` it answers of the line `{"cents":"x","cents":2}` the record of the whole number 2.
+///
 /// # Errors
 ///
 /// `Fault` with the first fault that the line has, or `Memory` where there was no memory to read it. A line that
 /// is too long is refused as `TooLong`, whatever memory there is.
-///
-/// Example: under `cents:int` it answers of the line `{"cents":"x","cents":2}` the record of the whole number 2.
 pub fn read_by_tree(alloc: Global, schema: &Schema, line: &[u8]) -> Result<Record, LineRefusal>
     ensures ok { IfOk result (λ «record». taken schema.now line.now ≡ Ok «record») }
     ensures refused { IfErr result (λ refusal. IsRefusal refusal (taken schema.now line.now)) }

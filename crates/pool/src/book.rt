@@ -85,11 +85,11 @@ impl<L: Ledger> Book<L> {
     /// A book at 0, and a share for each hand, with the sum 0. It asks for 1 to 64 hands, and for a blank of L with as
     /// many parts.
     ///
+    /// Example: `Book::<L>::new(alloc, blank, 4)` answers a book and four shares, of a blank with four parts.
+    ///
     /// # Errors
     ///
     /// `AllocError` where there is no memory for the list of shares.
-    ///
-    /// Example: `Book::<L>::new(alloc, blank, 4)` answers a book and four shares, of a blank with four parts.
     pub fn new(
         alloc: Global,
         blank: Blank,

@@ -184,11 +184,11 @@ impl Deal {
     /// that are congruent to h modulo the number of hands, in ascending order. No piece is added later. It asks for at
     /// most 1,048,576 pieces, which may be none, and 1 to 64 hands.
     ///
+    /// Example: `Deal::new(alloc, 4, 2)` deals the pieces 0 and 2 to hand 0, and 1 and 3 to hand 1.
+    ///
     /// # Errors
     ///
     /// `AllocError` where there is no memory for the deques and the hands.
-    ///
-    /// Example: `Deal::new(alloc, 4, 2)` deals the pieces 0 and 2 to hand 0, and 1 and 3 to hand 1.
     pub fn new(alloc: Global, pieces: u32, hands: usize) -> Result<Deal, AllocError>
         requires pieces { pieces ≤ 1048576 }
         requires hands { (1 ≤ hands) × (hands ≤ 64) }

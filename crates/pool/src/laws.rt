@@ -63,31 +63,31 @@ pub trait Work {
 
     /// The part of no piece, which has no weight and no load.
     ///
+    /// Example: where parts are numbers that are added, `work.unit()` answers 0.
+    ///
     /// # Errors
     ///
     /// `AllocError` where memory was refused.
-    ///
-    /// Example: where parts are numbers that are added, `work.unit()` answers 0.
     fn unit(&self) -> Result<Self::Part, AllocError>
         ensures { IfOk result (λ p. Self.meaning p ≡ Self.unit_meaning self.now) };
 
     /// The part of one piece, by the piece's number, from 0.
     ///
+    /// Example: where piece i is the number i, `work.piece(3)` answers 3.
+    ///
     /// # Errors
     ///
     /// `AllocError` where memory was refused.
-    ///
-    /// Example: where piece i is the number i, `work.piece(3)` answers 3.
     fn piece(&self, i: u32) -> Result<Self::Part, AllocError>
         ensures { IfOk result (λ p. Self.meaning p ≡ Self.piece_meaning self.now i) };
 
     /// Two parts as one. It asks that both are parts of this work, and that their loads add up to less than 2^63.
     ///
+    /// Example: where parts are numbers that are added, `work.combine(2, 3)` answers 5.
+    ///
     /// # Errors
     ///
     /// `AllocError` where memory was refused. Both parts are then given up.
-    ///
-    /// Example: where parts are numbers that are added, `work.combine(2, 3)` answers 5.
     fn combine(&self, a: Self::Part, b: Self::Part) -> Result<Self::Part, AllocError>
         requires parts { Self.fits self.now (Self.meaning a) × Self.fits self.now (Self.meaning b) }
         requires room { Self.load_of self.now (Self.meaning a) + Self.load_of self.now (Self.meaning b) < 2 ^ 63 }
@@ -96,11 +96,11 @@ pub trait Work {
     /// A part with one piece more. It may be written anew where a piece can go onto a part without a part of its own.
     /// It asks that the part is one of this work, and that its load and the piece's add up to less than 2^63.
     ///
+    /// Example: where piece i is the number i, and parts are added, `work.add(2, 3)` answers 5.
+    ///
     /// # Errors
     ///
     /// `AllocError` where memory was refused. The part is then given up.
-    ///
-    /// Example: where piece i is the number i, and parts are added, `work.add(2, 3)` answers 5.
     fn add(&self, part: Self::Part, i: u32) -> Result<Self::Part, AllocError>
         requires part { Self.fits self.now (Self.meaning part) }
         requires more { Self.load_of self.now (Self.meaning part) + Self.load_of self.now (Self.piece_meaning self.now i) < 2 ^ 63 }

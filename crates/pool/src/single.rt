@@ -8,12 +8,12 @@ use crate::laws::{Outcome, PoolFault, Work};
 /// Does the pieces below a number on the calling thread, with no lock and no deque: their combination, or `Over` where
 /// their weights add up to more than `limit`. It asks that the loads of the pieces add up to less than 2^63.
 ///
+/// Example: where piece i is the number i, which is its weight too, and parts are added, `alone(&work, 4, 6)` answers
+/// `Whole(6)`, and `alone(&work, 4, 5)` answers `Over`.
+///
 /// # Errors
 ///
 /// `OutOfMemory`, and no other.
-///
-/// Example: where piece i is the number i, which is its weight too, and parts are added, `alone(&work, 4, 6)` answers
-/// `Whole(6)`, and `alone(&work, 4, 5)` answers `Over`.
 pub fn alone<W: Work>(work: &W, pieces: u32, limit: u64) -> Result<Outcome<W::Part>, PoolFault>
     requires loads { sum_below (λ i. W.load_of work.now (W.piece_meaning work.now i)) pieces < 2 ^ 63 }
     ensures { MatchResult result (Decides W.meaning (total (W.unit_meaning work.now) (W.combined work.now) (W.piece_meaning work.now) pieces) (sum_below (λ i. W.weight_of work.now (W.piece_meaning work.now i)) pieces) limit) (λ e. e ≡ PoolFault.OutOfMemory) }

@@ -255,13 +255,13 @@ fn conclude<W: Work, L: Ledger>(
 /// It asks for all hands of a new deal, from hand 0 on, for as many shares, and that the loads of all pieces, with the
 /// sum of any share, add up to less than 2^63. All threads have ended when it answers.
 ///
-/// # Errors
-///
-/// `ThreadNotStarted` where a thread could not be started, and else `OutOfMemory`. Hands and shares are then given up.
-///
 /// Example: where the hands are those of a new deal of 100 pieces, each of the weight 1,
 /// `fan_on(rt, alloc, &work, hands, 100, &book, 100, shares)` answers `Whole`, the hands, which are settled, and the
 /// shares, whose sums add up to 100 more than before.
+///
+/// # Errors
+///
+/// `ThreadNotStarted` where a thread could not be started, and else `OutOfMemory`. Hands and shares are then given up.
 pub fn fan_on<W: Work + Sync, L: Ledger + Send + Sync, R: Threads + Wait + Sync>(
     rt: &R,
     alloc: Global,
@@ -321,12 +321,12 @@ pub fn fan_on<W: Work + Sync, L: Ledger + Send + Sync, R: Threads + Wait + Sync>
 /// It asks for 1 to 64 shares, and that the loads of all pieces, with the sum of any share, add up to less than 2^63.
 /// All threads have ended when it answers.
 ///
+/// Example: with 100 pieces of the weight 1, `fan_deal(rt, alloc, &work, 100, 100, &book, 200, shares)` answers
+/// `Whole` and the shares; `fan_deal(rt, alloc, &work, 100, 99, &book, 200, shares)` answers `Over` and the shares.
+///
 /// # Errors
 ///
 /// `ThreadNotStarted` where a thread could not be started, and else `OutOfMemory`. The shares are then given up.
-///
-/// Example: with 100 pieces of the weight 1, `fan_deal(rt, alloc, &work, 100, 100, &book, 200, shares)` answers
-/// `Whole` and the shares; `fan_deal(rt, alloc, &work, 100, 99, &book, 200, shares)` answers `Over` and the shares.
 pub fn fan_deal<W: Work + Sync, L: Ledger + Send + Sync, R: Threads + Wait + Sync>(
     rt: &R,
     alloc: Global,
@@ -410,12 +410,12 @@ fn with_book<L: Ledger + Send + Sync, W: Work + Sync, R: Threads + Wait + Sync>(
 ///
 /// It asks that the loads of all pieces add up to less than 2^63. All threads have ended when it answers.
 ///
+/// Example: where piece i is the number i, which is its weight too, and parts are added,
+/// `fan_out(rt, alloc, &work, 4, 2, 6)` answers `Whole(6)`, and `fan_out(rt, alloc, &work, 4, 2, 5)` answers `Over`.
+///
 /// # Errors
 ///
 /// `ThreadNotStarted` where a thread could not be started, and else `OutOfMemory`.
-///
-/// Example: where piece i is the number i, which is its weight too, and parts are added,
-/// `fan_out(rt, alloc, &work, 4, 2, 6)` answers `Whole(6)`, and `fan_out(rt, alloc, &work, 4, 2, 5)` answers `Over`.
 pub fn fan_out<W: Work + Sync, R: Threads + Wait + Sync>(
     rt: &R,
     alloc: Global,

@@ -19,11 +19,11 @@ pub fn is_plain_name(name: &str) -> bool
 
 /// Writes the text at the end, between quotes and with each quote in it twice. It asks that the quote is ASCII.
 ///
+/// Example: `push_quoted(&mut out, "it's", '\'')` writes `'it''s'` at the end of `out`.
+///
 /// # Errors
 ///
 /// `AllocError` where memory was refused. Then nothing is promised of what stands in `out`.
-///
-/// Example: `push_quoted(&mut out, "it's", '\'')` writes `'it''s'` at the end of `out`.
 pub fn push_quoted(out: &mut String, text: &str, quote: char) -> Result<(), AllocError>
     requires { quote < 128 }
     ensures { OnOk result (string_bytes out.new ≡ string_bytes out.old ++ quoted quote text.now) }
@@ -43,11 +43,11 @@ pub fn push_quoted(out: &mut String, text: &str, quote: char) -> Result<(), Allo
 
 /// Writes the name at the end, as canonical texts have it: plain where it can be, else in double quotes.
 ///
+/// Example: `push_name(&mut out, "shop")` writes `shop`, and `push_name(&mut out, "select")` writes `"select"`.
+///
 /// # Errors
 ///
 /// `AllocError` where memory was refused. Then nothing is promised of what stands in `out`.
-///
-/// Example: `push_name(&mut out, "shop")` writes `shop`, and `push_name(&mut out, "select")` writes `"select"`.
 pub fn push_name(out: &mut String, name: &str) -> Result<(), AllocError>
     ensures { OnOk result (string_bytes out.new ≡ string_bytes out.old ++ name_text name.now) }
 {

@@ -80,13 +80,13 @@ fn token(alloc: Global, text: &str) -> Result<Option<(Token, &str)>, AllocError>
 
 /// The tokens that a text spells, each as long as it can be, with white space between them or none.
 ///
+/// Example: `read_tokens(alloc, "n >= 5")` answers the name `n`, the sign `>=` and the whole number 5, which begin
+/// at the bytes 0, 2 and 5; of `"n ; 5"` it answers `NoToken(2)`.
+///
 /// # Errors
 ///
 /// `NoToken` with the byte, from 0, behind the tokens in front, where no token begins. `OutOfMemory` where memory
 /// was refused, which says nothing of the text.
-///
-/// Example: `read_tokens(alloc, "n >= 5")` answers the name `n`, the sign `>=` and the whole number 5, which begin
-/// at the bytes 0, 2 and 5; of `"n ; 5"` it answers `NoToken(2)`.
 pub fn read_tokens(alloc: Global, text: &str) -> Result<Tokens, TokenFault>
     // What is read is spelled.
     ensures spelled { IfOk result (λ found. Spells text.now found.all.items found.starts.items) }

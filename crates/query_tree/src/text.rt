@@ -40,11 +40,11 @@ impl Text {
 
     /// The same text again, in memory of its own.
     ///
+    /// Example: `text.try_clone()?.as_str()` has the characters of `text.as_str()`.
+    ///
     /// # Errors
     ///
     /// `AllocError` where there is no memory for it.
-    ///
-    /// Example: `text.try_clone()?.as_str()` has the characters of `text.as_str()`.
     pub fn try_clone(&self) -> Result<Text, AllocError>
         ensures { IfOk result (λ t. t ≡ self.now) }
     {

@@ -83,14 +83,14 @@ impl Schema {
     /// Reads a schema text: parts `name:type` joined by commas, without white space, the type `int`,
     /// `text` or `bool`, as in `day:text,cents:int`.
     ///
+    /// Example: `Schema::parse(alloc, "shop:text,cents:int")` answers a schema of two columns; of
+    /// `"shop"` it answers `UnknownType(1)`.
+    ///
     /// # Errors
     ///
     /// `Empty` where the text is empty. Else the first part with a fault is the one named, by its
     /// number from 1, and of its faults the first of `TooManyColumns`, `BadName`, `UnknownType`,
     /// `RepeatedName`. `OutOfMemory` where memory was refused, which says nothing of the text.
-    ///
-    /// Example: `Schema::parse(alloc, "shop:text,cents:int")` answers a schema of two columns; of
-    /// `"shop"` it answers `UnknownType(1)`.
     pub fn parse(alloc: Global, text: &str) -> Result<Schema, SchemaFault>
         ensures columns { IfOk result (λ schema. schema_of text.now ≡ Ok schema) }
         ensures fault { IfErr result (λ fault. fault ≢ SchemaFault.OutOfMemory → schema_of text.now ≡ Err fault) }
