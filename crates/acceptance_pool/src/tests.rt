@@ -1,5 +1,5 @@
 //! What no clause says: that the calls give their answers where memory and threads are ample, that threads run side by side, and who gets which piece.
-ghost use Rattle.std.specs.Prelude.{◌≡◌, ℕ, ◌<◌, ◌≤◌, ◌^◌, vec_len};
+ghost use Rattle.std.specs.Prelude.{◌≡◌, ℕ, ◌<◌, ◌≤◌, ◌^◌, vec_len, IfOk};
 ghost use Rattle.pool.specs.Totals.{sum_below};
 ghost use Rattle.pool.specs.Settled.{AreAll};
 
@@ -16,8 +16,25 @@ use std::test::Fail;
 use std::thread;
 use std::thread::Threads;
 
-/// Piece i is the number i, and parts are added.
-struct Numbers;
+/// Piece i is the number i, and parts are added. Each of them takes memory.
+#[derive(Drop)]
+struct Numbers {
+    alloc: Global,
+}
+
+impl Numbers {
+    /// A number that was put into memory of its own.
+    fn noted(&self, number: u64) -> Result<u64, AllocError>
+        ensures { IfOk result (λ noted. noted ≡ number) }
+    {
+        let mut numbers = Vec::new(self.alloc);
+        numbers.push(number)?;
+        match numbers.pop() {
+            Some(number) => Ok(number),
+            None => Err(AllocError),
+        }
+    }
+}
 
 impl Work for Numbers {
     ghost use Rattle.std.specs.Prelude.{◌≡◌, ℕ, ◌+◌, refl};
@@ -56,15 +73,15 @@ impl Work for Numbers {
     } };
 
     fn unit(&self) -> Result<u64, AllocError> {
-        Ok(0)
+        self.noted(0)
     }
 
     fn piece(&self, i: u32) -> Result<u64, AllocError> {
-        Ok(i as u64)
+        self.noted(i as u64)
     }
 
     fn combine(&self, a: u64, b: u64) -> Result<u64, AllocError> {
-        Ok(a + b)
+        self.noted(a + b)
     }
 
     fn weight(&self, p: &u64) -> u64 {
@@ -229,15 +246,19 @@ fn on_deal<L: Ledger + Send + Sync, W: Work + Sync, R: Threads + Wait + Sync>(
     limit: u64,
     stop: u128,
     blank: Blank,
-) -> Result<(Outcome<W::Part>, bool, u128), Fail>
+) -> Result<(Outcome<W::Part>, bool, u128), PoolFault>
     requires pieces { pieces ≤ 1048576 }
     requires hands { (1 ≤ hands) × (hands ≤ 64) }
     requires loads { sum_below (λ i. W.load_of work.now (W.piece_meaning work.now i)) pieces < 2 ^ 63 }
     requires name { blank.name ≡ L.name }
     requires parts { (blank.parts ≡ L.parts) × (L.parts ≡ hands) }
 {
-    let deal = Deal::new(alloc, pieces, hands)?;
-    let (book, shares) = Book::<L>::new(alloc, blank, hands)?;
+    let Ok(deal) = Deal::new(alloc, pieces, hands) else {
+        return Err(PoolFault::OutOfMemory);
+    };
+    let Ok((book, shares)) = Book::<L>::new(alloc, blank, hands) else {
+        return Err(PoolFault::OutOfMemory);
+    };
     let (outcome, mut hands, shares) = fan_on(
         rt,
         alloc,
@@ -261,8 +282,9 @@ fn is_right(outcome: &Outcome<u64>, weight: u64, limit: u64) -> bool {
 
 /// Whether `fan_out` decides four pieces of weight i rightly, with 1 to 8 hands.
 fn adds_up<R: Threads + Wait + Sync>(rt: &R, alloc: Global, limit: u64) -> Result<bool, PoolFault> {
+    let numbers = Numbers { alloc };
     for hands in 1..9 {
-        let outcome = fan_out(rt, alloc, &Numbers, 4, hands, limit)?;
+        let outcome = fan_out(rt, alloc, &numbers, 4, hands, limit)?;
         if !is_right(&outcome, 6, limit) {
             return Ok(false);
         }
@@ -272,12 +294,13 @@ fn adds_up<R: Threads + Wait + Sync>(rt: &R, alloc: Global, limit: u64) -> Resul
 
 #[test]
 fn pieces_of_their_own_weight(rt: HostRuntime) -> Result<(), Fail> {
+    let numbers = Numbers { alloc: rt.alloc() };
     for limit in [6, 5] {
-        let outcome = alone(&Numbers, 4, limit)?;
+        let outcome = alone(&numbers, 4, limit)?;
         assert!(rt; is_right(&outcome, 6, limit));
         assert!(rt; adds_up(&rt, rt.alloc(), limit)?);
     }
-    let nothing = fan_out(&rt, rt.alloc(), &Numbers, 0, 8, 0)?;
+    let nothing = fan_out(&rt, rt.alloc(), &numbers, 0, 8, 0)?;
     assert!(rt; is_right(&nothing, 0, 0));
     Ok(())
 }
@@ -574,9 +597,15 @@ fn refusal_of_book(rt: HostRuntime) {
     }
 }
 
+/// The pieces are done by `alone` and by `fan_out`, and over one book by two deals.
 #[test]
 fn refusal_of_fan_out(rt: HostRuntime) {
-    match fan_out(&rt, rt.alloc(), &Numbers, 4, 2, 6) {
+    let numbers = Numbers { alloc: rt.alloc() };
+    match alone(&numbers, 4, 6) {
+        Ok(outcome) => assert!(rt; is_right(&outcome, 6, 6)),
+        Err(fault) => assert!(rt; fault == PoolFault::OutOfMemory),
+    }
+    match fan_out(&rt, rt.alloc(), &numbers, 4, 2, 6) {
         Ok(outcome) => assert!(rt; is_right(&outcome, 6, 6)),
         Err(PoolFault::OutOfMemory) => {}
         Err(PoolFault::ThreadNotStarted) => {}
@@ -585,5 +614,30 @@ fn refusal_of_fan_out(rt: HostRuntime) {
         Ok(right) => assert!(rt; right),
         Err(PoolFault::OutOfMemory) => {}
         Err(PoolFault::ThreadNotStarted) => {}
+    }
+}
+
+/// Where the weights are within the limit the hands come back settled, and the shares with all weights reported.
+#[test]
+fn refusal_of_fan_on(rt: HostRuntime) {
+    let numbers = Numbers { alloc: rt.alloc() };
+    for limit in [6, 5] {
+        match on_deal::<Brand, Numbers, HostRuntime>(
+            &rt,
+            rt.alloc(),
+            &numbers,
+            4,
+            2,
+            limit,
+            6,
+            Blank::new(2),
+        ) {
+            Ok((outcome, all, sum)) => {
+                assert!(rt; is_right(&outcome, 6, limit));
+                assert!(rt; limit < 6 || all && sum == 6);
+            }
+            Err(PoolFault::OutOfMemory) => {}
+            Err(PoolFault::ThreadNotStarted) => {}
+        }
     }
 }

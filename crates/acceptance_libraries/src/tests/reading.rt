@@ -59,6 +59,18 @@ fn check_reading(
     }
 }
 
+/// Checks the same where memory may be refused: the record, the fault, or want of memory.
+fn check_refusable(
+    rt: &impl Abort,
+    read: Result<Record, LineRefusal>,
+    expected: Result<&[Expected], LineFault>,
+) {
+    match read {
+        Err(LineRefusal::Memory) => {}
+        read => check_reading(rt, read, expected),
+    }
+}
+
 /// Checks what comes of a line by every way to read it; the tokens alone answer exactly where there is a
 /// record.
 fn check_line(
@@ -220,7 +232,7 @@ fn refusal_of_cut(rt: HostRuntime) {
     }
 }
 
-/// The same of a good line and of refused ones: the record or the fault, or want of memory.
+/// The same of a good line and of refused ones, by a reader that reads on and by calls of their own.
 #[test]
 fn refusal_of_records(rt: HostRuntime) {
     let Ok(schema) = Schema::parse(rt.alloc(), "d:text,q:int") else {
@@ -249,9 +261,8 @@ fn refusal_of_records(rt: HostRuntime) {
     ];
     let mut reader = RecordReader::new(rt.alloc());
     for (line, expected) in rows {
-        match reader.read(&schema, line) {
-            Err(LineRefusal::Memory) => {}
-            read => check_reading(&rt, read, expected),
-        }
+        check_refusable(&rt, reader.read(&schema, line), expected);
+        check_refusable(&rt, read_record(rt.alloc(), &schema, line), expected);
+        check_refusable(&rt, read_by_tree(rt.alloc(), &schema, line), expected);
     }
 }

@@ -5,15 +5,23 @@ ghost use Rattle.report.specs.Report.{NamesColumn};
 use lines::LineFault;
 use query::{Plan, check, parse};
 use report::{arrange, arranged_law, order_law, refused_text, report_text};
-use std::alloc::Global;
+use std::alloc::{AllocError, Global};
 use std::process::Abort;
 use std::test::Fail;
 use tables::{Groups, Partial};
 use values::Schema;
 
-fn plan_of(alloc: Global, columns: &str, text: &str) -> Result<Plan, Fail> {
-    let schema = Schema::parse(alloc, columns)?;
-    Ok(check(alloc, parse(alloc, text)?, schema)?)
+/// The plan of a query that takes an average of each group, where memory is granted.
+fn plan_if_any(alloc: Global) -> Option<Plan> {
+    let text = "SELECT r, AVG(q) AS a FROM lines GROUP BY r HAVING COUNT(*) > 0 ORDER BY r DESC";
+    let query = parse(alloc, text).ok()?;
+    match Schema::parse(alloc, "r:text,q:int") {
+        Ok(schema) => check(alloc, query, schema).ok(),
+        Err(_) => {
+            drop(query);
+            None
+        }
+    }
 }
 
 /// Whether the columns that faults name are in the schema.
@@ -37,26 +45,50 @@ x
 {}
 ";
 
+/// Their report and their list.
+const REPORT: &[u8] = b"r,a\n\\N,\\N\n\"say \"\"hi\"\"\",-7/2\n\\\\N,\\N\n";
+
+const LIST: &[u8] = b"line 2: not JSON\nline 4: not an object\nline 5: bad value in column q\n";
+
+/// What is written of the lines: the report, and the list if all columns that it is to name are in the schema.
+fn written(alloc: Global, plan: &Plan) -> Result<(Vec<u8>, Vec<u8>), AllocError> {
+    let partial = Partial::fold_piece(alloc, plan, 0, LINES)?;
+    let groups = partial.finish(plan)?;
+    let rows = arrange(alloc, &groups, plan)?;
+    let report = report_text(alloc, &rows, plan)?;
+    let schema = plan.schema();
+    if !are_named(&groups, schema) {
+        return Ok((report, Vec::new(alloc)));
+    }
+    let list = refused_text(alloc, &groups, schema)?;
+    Ok((report, list))
+}
+
 #[test]
 fn writes_the_report_and_the_list(rt: HostRuntime) -> Result<(), Fail> {
-    let alloc = rt.alloc();
-    let plan = plan_of(
-        alloc,
-        "r:text,q:int",
-        "SELECT r, AVG(q) AS a FROM lines GROUP BY r HAVING COUNT(*) > 0 ORDER BY r DESC",
-    )?;
-    let partial = Partial::fold_piece(alloc, &plan, 0, LINES)?;
-    let groups = partial.finish(&plan)?;
-    let rows = arrange(alloc, &groups, &plan)?;
-    let report = report_text(alloc, &rows, &plan)?;
-    let wanted = "r,a\n\\N,\\N\n\"say \"\"hi\"\"\",-7/2\n\\\\N,\\N\n";
-    assert_eq!(rt; report.as_slice(), wanted.as_bytes());
-    let schema = plan.schema();
-    assert!(rt; are_named(&groups, schema));
-    let list = refused_text(alloc, &groups, schema)?;
-    let wanted = "line 2: not JSON\nline 4: not an object\nline 5: bad value in column q\n";
-    assert_eq!(rt; list.as_slice(), wanted.as_bytes());
+    let plan = plan_if_any(rt.alloc()).expect(&rt, "a plan");
+    let (report, list) = written(rt.alloc(), &plan)?;
+    drop(plan);
+    assert_eq!(rt; report.as_slice(), REPORT);
+    assert_eq!(rt; list.as_slice(), LIST);
     Ok(())
+}
+
+/// For the loop that refuses each allocation in turn: the report and the list, or want of memory.
+#[test]
+fn refusal_of_the_report_and_the_list(rt: HostRuntime) {
+    let Some(plan) = plan_if_any(rt.alloc()) else {
+        return;
+    };
+    let answer = written(rt.alloc(), &plan);
+    drop(plan);
+    match answer {
+        Ok((report, list)) => {
+            assert_eq!(rt; report.as_slice(), REPORT);
+            assert_eq!(rt; list.as_slice(), LIST);
+        }
+        Err(AllocError) => {}
+    }
 }
 
 #[test]
