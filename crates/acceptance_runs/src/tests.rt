@@ -5,3 +5,4 @@ mod running;
 mod serving;
 mod streams;
 mod words;
+mod writing;

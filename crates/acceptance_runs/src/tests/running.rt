@@ -259,10 +259,11 @@ fn readers_that_fail(rt: HostRuntime) {
     }
 }
 
-/// A writer that takes so many bytes and then pauses, or whose flush fails behind them.
+/// A writer that takes so many bytes, two at most a call, and then pauses, or whose flush fails behind them.
 fn sink(alloc: Global, room: usize, pause: Pause) -> Sink {
     Sink {
         room,
+        at_once: 2,
         pause,
         flushes: false,
         taken: Vec::new(alloc),

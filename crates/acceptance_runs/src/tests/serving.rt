@@ -37,6 +37,7 @@ fn assert_not_written(
     let taken = Vec::new(alloc);
     let mut out = Sink {
         room,
+        at_once: 2,
         pause: Pause::Error(ErrorKind::BrokenPipe),
         flushes,
         taken,

@@ -47,11 +47,12 @@ impl Read for Source<'_> {
     }
 }
 
-/// A writer that takes some bytes, two at most a call, then pauses once, and then takes more; its flush fails where
-/// it is to.
+/// A writer that takes some bytes, then pauses once, and then takes more; its flush fails where it is to.
 #[derive(Drop)]
 pub struct Sink {
     pub room: usize,
+    /// The most bytes that a call takes.
+    pub at_once: usize,
     pub pause: Pause,
     pub flushes: bool,
     pub taken: Vec<u8>,
@@ -59,7 +60,7 @@ pub struct Sink {
 
 impl Write for Sink {
     fn write(&mut self, buf: &[u8]) -> io::Result<usize> {
-        let count = self.room.min(buf.len()).min(2);
+        let count = self.room.min(buf.len()).min(self.at_once);
         if count == 0 {
             self.room = usize::MAX;
             return match self.pause {
