@@ -3,6 +3,7 @@ pub mod Telling
 pub mod Orders
 pub mod Reading
 pub mod Narrow
+pub mod EitherWay
 pub mod Merging
 pub mod Finding
 pub mod Members

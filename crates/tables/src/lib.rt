@@ -6,6 +6,7 @@
 mod folding;
 mod grouped;
 mod job;
+mod joining;
 mod laws;
 mod note;
 mod numbering;

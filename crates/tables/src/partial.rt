@@ -6,6 +6,7 @@ ghost use Rattle.groups.specs.Inside.Table.{AreGroupsWithin};
 
 use crate::folding::{Folding, read_lines};
 use crate::grouped::Groups;
+use crate::joining::join_tables;
 use crate::laws::members_law;
 use crate::note::Note;
 use crate::numbering::{number, number_behind};
@@ -231,18 +232,18 @@ impl Partial {
         let Partial {
             alloc,
             shape,
-            mut table,
+            table,
             lines,
             refused,
             mut notes,
         } = self;
         let mut other = other;
         notes.append(&mut other.notes)?;
-        table.absorb(other.table)?;
+        let joined = join_tables(table, other.table)?;
         Ok(Partial {
             alloc,
             shape,
-            table,
+            table: joined,
             lines: lines + other.lines,
             refused: refused + other.refused,
             notes,
@@ -271,13 +272,13 @@ impl Partial {
         let Partial {
             alloc,
             shape,
-            mut table,
+            table,
             lines: before,
             refused,
             notes,
         } = self;
         let lines = before + rest.lines;
-        table.absorb(rest.table)?;
+        let joined = join_tables(table, rest.table)?;
         let mut numbered = number(alloc, notes)?;
         number_behind(&mut numbered, before, rest.notes)?;
         let notes = one_note(
@@ -291,7 +292,7 @@ impl Partial {
         Ok(Partial {
             alloc,
             shape,
-            table,
+            table: joined,
             lines,
             refused: refused + rest.refused,
             notes,

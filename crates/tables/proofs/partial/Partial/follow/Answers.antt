@@ -3,7 +3,7 @@ use Rattle.groups.specs.Rows.{Row}
 use Rattle.query_check.specs.Sets.{grouping_places}
 use Rattle.query_check.specs.declared.function.FilteredFunction.{FilteredFunction}
 use Rattle.groups.specs.Inside.Table.{AreGroupsWithin, IsTableOf}
-use Rattle.groups.proofs.Meaning.{tables-within, within-can_join}
+use Rattle.groups.proofs.Meaning.{within-can_join}
 use Rattle.tables.specs.Functions.{aggregate_functions}
 use Rattle.tables.specs.Notes.{notes_in}
 use Rattle.tables.specs.Pieces.{records_of}
@@ -15,8 +15,8 @@ use Rattle.tables.proofs.Merging.{one-note}
 use Rattle.tables.proofs.Reading.{kept-append}
 use Rattle.tables.proofs.partial.Partial.follow.Goals as goal
 
-pub absorb-requires : goal.absorb-requires
-absorb-requires c =
+pub join_tables-requires : goal.join_tables-requires
+join_tables-requires c =
     let a = c.self.inside in
     let b = c.rest.inside in
     let functions : a.shape.functions.items ≡ b.shape.functions.items =
@@ -62,9 +62,8 @@ invariant_of-result c =
       (
         (let x = a.fewer in let y = b.fewer in omega (arith, x, y)),
         (
-          tables-within a.shape.functions.items a.lines b.lines a.table b.table c.absorb.new.self a.within
-              (subst (λ (fs : List FilteredFunction). AreGroupsWithin b.lines fs b.table) (sym functions) b.within)
-              c.in_ok-absorb.ensures.groups,
+          c.in_ok-joined.ensures.within a.shape.functions.items a.lines b.lines a.within
+              (subst (λ (fs : List FilteredFunction). AreGroupsWithin b.lines fs b.table) (sym functions) b.within),
           (
             notes.0,
             (notes.1, tt),
@@ -89,9 +88,9 @@ returns c = record {
         sets = p.sets;
         functions = p.functions;
         filters = p.filters;
-        table = subst (λ (rows : List Row). IsTableOf (grouping_places fields q) (aggregate_functions fields q) c.absorb.new.self rows)
+        table = subst (λ (rows : List Row). IsTableOf (grouping_places fields q) (aggregate_functions fields q) c.in_ok-joined.joined rows)
             (sym (ap (kept fields q) (followed-records fields front back given.pieces other.pieces whole given.cut other.cut) ∙ kept-append fields q (records_of fields given.pieces) (records_of fields other.pieces)))
-            (c.in_ok-absorb.ensures.joined (grouping_places fields q) (aggregate_functions fields q) (kept fields q (records_of fields given.pieces)) (kept fields q (records_of fields other.pieces)) p.table m.table);
+            (c.in_ok-joined.ensures.joined (grouping_places fields q) (aggregate_functions fields q) (kept fields q (records_of fields given.pieces)) (kept fields q (records_of fields other.pieces)) p.table m.table);
         lines = (let x = p.lines in let y = m.lines in let z = whole-lines (front ++ back) in omega (arith, x, y, z, count));
         refused = (let x = p.refused in let y = m.refused in let z = followed-count fields front back given.pieces other.pieces whole given.cut other.cut in omega (arith, x, y, z));
         notes = followed-note fields (front ++ back) c.in_ok-notes.notes.items _ c.in_ok-notes.ensures (omega arith) (let x = p.lines in let y = m.lines in omega (arith, x, y, count)) refused;

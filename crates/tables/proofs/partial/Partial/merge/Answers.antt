@@ -7,7 +7,7 @@ use Rattle.groups.specs.Rows.{Row}
 use Rattle.query_check.specs.Sets.{grouping_places}
 use Rattle.query_check.specs.declared.function.FilteredFunction.{FilteredFunction}
 use Rattle.groups.specs.Inside.Table.{AreGroupsWithin, IsTableOf}
-use Rattle.groups.proofs.Meaning.{tables-within, within-can_join}
+use Rattle.groups.proofs.Meaning.{within-can_join}
 use Rattle.tables.specs.Functions.{aggregate_functions}
 use Rattle.tables.specs.Notes.{IsWellNumbered, Noted, lines_noted, note_in, note_of, notes_in}
 use Rattle.tables.specs.Pieces.{records_of}
@@ -18,8 +18,8 @@ use Rattle.tables.proofs.Reading.{kept-append}
 use Rattle.tables.proofs.Merging.{counted-append, lines-append, notes-append, records-append, refused-append}
 use Rattle.tables.proofs.partial.Partial.merge.Goals as goal
 
-pub absorb-requires : goal.absorb-requires
-absorb-requires c =
+pub join_tables-requires : goal.join_tables-requires
+join_tables-requires c =
     let a = c.self.inside in
     let b = c.other.inside in
     let functions : a.shape.functions.items ≡ b.shape.functions.items =
@@ -43,9 +43,8 @@ invariant_of-result c =
       (
         (let x = a.fewer in let y = b.fewer in omega (arith, x, y)),
         (
-          tables-within a.shape.functions.items a.lines b.lines a.table b.table c.absorb.new.self a.within
-              (subst (λ (fs : List FilteredFunction). AreGroupsWithin b.lines fs b.table) (sym functions) b.within)
-              c.in_ok-absorb.ensures.groups,
+          c.in_ok-joined.ensures.within a.shape.functions.items a.lines b.lines a.within
+              (subst (λ (fs : List FilteredFunction). AreGroupsWithin b.lines fs b.table) (sym functions) b.within),
           (
             ap lines_noted joined ∙ counted-append (notes_in a.notes) (notes_in b.notes) a.lines b.lines a.counted b.counted,
             (subst (All IsWellNumbered) (sym joined) (All-append IsWellNumbered (notes_in a.notes) (notes_in b.notes) a.numbered b.numbered), tt),
@@ -65,8 +64,8 @@ returns-clause-stands c = λ fields q pieces more given other.
       sets = p.sets;
       functions = p.functions;
       filters = p.filters;
-      table = subst (λ (rows : List Row). IsTableOf (grouping_places fields q) (aggregate_functions fields q) c.absorb.new.self rows) (sym (ap (kept fields q) (records-append fields pieces more) ∙ kept-append fields q (records_of fields pieces) (records_of fields more)))
-          (c.in_ok-absorb.ensures.joined (grouping_places fields q) (aggregate_functions fields q) (kept fields q (records_of fields pieces)) (kept fields q (records_of fields more)) p.table m.table);
+      table = subst (λ (rows : List Row). IsTableOf (grouping_places fields q) (aggregate_functions fields q) c.in_ok-joined.joined rows) (sym (ap (kept fields q) (records-append fields pieces more) ∙ kept-append fields q (records_of fields pieces) (records_of fields more)))
+          (c.in_ok-joined.ensures.joined (grouping_places fields q) (aggregate_functions fields q) (kept fields q (records_of fields pieces)) (kept fields q (records_of fields more)) p.table m.table);
       lines = (let x = p.lines in let y = m.lines in let z = lines-append pieces more in omega (arith, x, y, z));
       refused = (let x = p.refused in let y = m.refused in let z = refused-append fields pieces more in omega (arith, x, y, z));
       notes = subst (λ (ns : List Noted). SameBag (map (note_of fields) (pieces ++ more)) ns) (sym joined) (notes-append fields pieces more (notes_in a.notes) (notes_in b.notes) p.notes m.notes);
