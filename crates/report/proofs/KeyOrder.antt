@@ -3,9 +3,9 @@ use Rattle.std.proofs.Common.{◌≡◌, ◌+◌, ◌<◌, ℕ, zero, suc, true,
 use Rattle.std.proofs.lemmas.List.{at_drop_more}
 use Rattle.std.specs.declared.cmp.Ordering.{Ordering}
 use Rattle.std.specs.declared.cmp.Ordering.TheVariants.{Less, Equal, Greater}
-use Rattle.std.specs.Ordering.{ordering_then}
+use Rattle.std.specs.Ordering.{nat_cmp, ordering_then}
 use Rattle.std.specs.Cmp.Lexicographic.{slice_cmp}
-use Rattle.values.specs.Datum.{Datum, datum_of, data_of, null}
+use Rattle.values.specs.Datum.{Datum, boolean, whole, text, null, datum_of, data_of}
 use Rattle.values.specs.Order.{value_order}
 use Rattle.values.specs.declared.value.Value.{Value}
 use Rattle.values.specs.declared.value.Value.TheVariants as v
@@ -14,6 +14,7 @@ use Rattle.query_tree.specs.Syntax.{key_form}
 use Rattle.query_tree.specs.declared.tree.Key.{Key}
 use Rattle.groups.specs.Groups.{key_order}
 use Rattle.report.specs.Order.{under_key}
+use Rattle.report.specs.Inside.Fronts.{front_of, front_order}
 use Rattle.report.specs.Inside.Ranked.{under_values}
 
 abbrev value_cmp : Value → Value → Ordering
@@ -51,6 +52,23 @@ key_cmp-is [] [] = refl
 key_cmp-is [] (y ∷ ys) = refl
 key_cmp-is (x ∷ xs) [] = refl
 key_cmp-is (x ∷ xs) (y ∷ ys) = ap (λ (o : Ordering). ordering_then o (slice_cmp value_cmp xs ys)) (value_cmp-is x y) ∙ ap (ordering_then (value_order (datum_of x) (datum_of y))) (key_cmp-is xs ys)
+
+then_again : (o p : Ordering) → ordering_then o (ordering_then o p) ≡ ordering_then o p
+then_again Less p = refl
+then_again Equal p = refl
+then_again Greater p = refl
+
+-- keys stand to each other as their fronts do, where these tell them apart
+pub front-tells : (k l : List Datum) → ordering_then (front_order (front_of k) (front_of l)) (key_order k l) ≡ key_order k l
+front-tells [] l = refl
+front-tells (boolean b ∷ k) l = refl
+front-tells (whole n ∷ k) l = refl
+front-tells (null ∷ k) l = refl
+front-tells (text s ∷ k) [] = refl
+front-tells (text s ∷ k) (boolean b ∷ l) = refl
+front-tells (text s ∷ k) (whole n ∷ l) = refl
+front-tells (text s ∷ k) (null ∷ l) = refl
+front-tells (text s ∷ k) (text t ∷ l) = then_again (slice_cmp nat_cmp s t) (key_order k l)
 
 -- ---- values under keys
 

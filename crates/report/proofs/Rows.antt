@@ -178,14 +178,3 @@ sorted-ranks {Y} rank fields t found gathered sorted are moved up fit =
     sym (map-twice row_beside rank sorted)
     ∙ only-order fields t found (map row_beside (map rank sorted)) fit (bag-permutation found (map row_beside (map rank sorted)) rows)
     (ascends-same fields t (map rank sorted) right (ascends-sorted (by_rank-total t.keys) rank sorted up))
-
--- without keys of ORDER BY references that are sorted by index and key are the rows in their order
-pub sorted-rows : (fields : List Field) (t : TreeForm) (refs sorted : List (Bor (ℕ × Group))) → t.keys ≡ [] → IsPermutation refs sorted → IsSortedBy (λ a b. is_lt (by_key (row_at a) (row_at b))) sorted
-    → AreFitting fields t (map row_at refs) → map row_at sorted ≡ in_order (before fields t) (map row_at refs)
-sorted-rows fields t refs sorted none moved up fit =
-    let bare : Bor (ℕ × Group) → Ranked = λ r. ([], row_at r) in
-    let are : map bare refs ≡ map (ranked fields t) (map row_at refs) =
-    (λ i. map (λ (r : Bor (ℕ × Group)). (map (key_value fields t (row_at r)) (sym none i), row_at r)) refs) ∙ sym (map-twice (ranked fields t) row_at refs) in
-    sorted-ranks bare fields t (map row_at refs) refs sorted are moved
-    (subst (λ (ks : List KeyForm). IsSortedBy (λ a b. is_lt (by_rank ks (bare a) (bare b))) sorted) (sym none) up)
-    fit

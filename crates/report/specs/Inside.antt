@@ -1,4 +1,5 @@
 -- What private calls compute and keep. No promise rests on it.
+pub mod Fronts
 pub mod Ranked
 pub mod Between
 pub mod Planned

@@ -11,6 +11,7 @@ mod having;
 mod keys;
 mod laws;
 mod ordering;
+mod ranked;
 mod refused;
 mod row;
 mod text;

@@ -8,7 +8,7 @@ use Rattle.values.specs.Schema.{Field}
 use Rattle.query_tree.specs.Syntax.{KeyForm, TreeForm}
 use Rattle.groups.specs.Groups.{key_order}
 use Rattle.tables.specs.Found.{Found, row_of}
-use Rattle.report.specs.declared.ordering.RankedRow.{RankedRow}
+use Rattle.report.specs.declared.ranked.RankedRow.{RankedRow}
 use Rattle.report.specs.Order.{key_value, under_key}
 
 -- values, which stand beside a row

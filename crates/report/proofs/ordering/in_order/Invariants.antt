@@ -3,7 +3,7 @@ use Rattle.query_plan.specs.Planned.{fields_of_plan, form_of_plan}
 use Rattle.report.specs.Order.{before, in_order}
 use Rattle.report.specs.Inside.Ranked.{ranked_in}
 use Rattle.report.proofs.Rows.{row_at}
-use Rattle.report.proofs.ordering.in_order_of_keys.Given as goal
+use Rattle.report.proofs.ordering.in_order.Given as goal
 
 -- the groups so far, and then those that are left
 abbrev pub invariant-loop-row : goal.invariant-loop-row

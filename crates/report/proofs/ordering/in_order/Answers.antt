@@ -7,10 +7,10 @@ use Rattle.query_plan.specs.Planned.{fields_of_plan, form_of_plan}
 use Rattle.groups.specs.declared.group.Group.{Group}
 use Rattle.report.specs.Order.{before, in_order}
 use Rattle.report.specs.Inside.Ranked.{by_rank, ranked_in}
-use Rattle.report.specs.declared.ordering.RankedRow.{RankedRow}
+use Rattle.report.specs.declared.ranked.RankedRow.{RankedRow}
 use Rattle.report.proofs.Rows.{row_at, sorted-ranks}
 use Rattle.report.proofs.Totals.{by_rank-total}
-use Rattle.report.proofs.ordering.in_order_of_keys.Goals as goal
+use Rattle.report.proofs.ordering.in_order.Goals as goal
 
 pub loop-row-init : goal.loop-row-init
 loop-row-init c =
