@@ -1,0 +1,17 @@
+use Rattle.std.proofs.Common.{◌∙◌, sym, ap, Ordering, nat_cmp, ◌≡◌, Equal}
+use Rattle.std.specs.Ordering.{ordering_then}
+use Rattle.values.specs.Datum.{data_of}
+use Rattle.groups.specs.Groups.{key_order}
+use Rattle.report.proofs.KeyOrder.{fronts-tell}
+use Rattle.report.proofs.ordering.compare.Goals as goal
+
+pub returns-in-Equal : goal.returns-in-Equal
+returns-in-Equal c =
+    let a = c.args.a.now in
+    let b = c.args.b.now in
+    let k = data_of a.found.now.1.key.items in
+    let l = data_of b.found.now.1.key.items in
+    let same : nat_cmp a.found.now.0 b.found.now.0 ≡ Equal = (λ i. nat_cmp (sym a.set_is i) (sym b.set_is i)) ∙ sym c.cmp.ensures ∙ c.in-Equal.is in
+    c.compare_keys.ensures
+    ∙ fronts-tell k l a.front b.front a.front_is b.front_is
+    ∙ sym (ap (λ (o : Ordering). ordering_then o (key_order k l)) same)
