@@ -3,7 +3,7 @@
 ghost use Rattle.std.specs.Prelude.{◌≡◌, ◌++◌, codes, IfOk, map, OnOk, string_bytes};
 ghost use Rattle.std.specs.Option.{option_map};
 ghost use Rattle.values.specs.Schema.{fields_of};
-ghost use Rattle.query_print.specs.Canonical.{canonical_text, direction_text, group_by_text, group_texts, header_text, item_text, key_text, list_clause, name_at, names_text, nulls_text, predicate_clause, set_text};
+ghost use Rattle.query_print.specs.Canonical.{canonical_text, comma_list, direction_text, group_by_text, group_texts, header_text, item_text, key_text, list_clause, name_at, names_text, nulls_text, predicate_clause, set_text};
 ghost use Rattle.query_tree.specs.Syntax.{element_form, element_forms, item_form, key_form, predicate_form, tree_form};
 
 use crate::groups::push_groups;
@@ -28,14 +28,28 @@ pub fn print_tree(alloc: Global, tree: &Tree) -> Result<String, AllocError>
     ensures { IfOk result (λ text. string_bytes text ≡ canonical_text (tree_form tree.now)) }
 {
     let mut out = String::new(alloc);
-    out.push_str("SELECT ")?;
-    write_list(&mut out, &tree.items)?;
-    out.push_str(" FROM lines")?;
-    push_predicate_clause(&mut out, " WHERE ", &tree.where_condition)?;
-    push_group_by(&mut out, tree.distinct_sets, &tree.groups)?;
-    push_predicate_clause(&mut out, " HAVING ", &tree.having_condition)?;
-    push_order_by(&mut out, &tree.keys)?;
+    push_tree(&mut out, tree)?;
     Ok(out)
+}
+
+/// Writes a query at the end.
+fn push_tree(out: &mut String, tree: &Tree) -> Result<(), AllocError>
+    ensures { OnOk result (string_bytes out.new ≡ string_bytes out.old ++ canonical_text (tree_form tree.now)) }
+{
+    push_select(out, &tree.items)?;
+    push_predicate_clause(out, " WHERE ", &tree.where_condition)?;
+    push_group_by(out, tree.distinct_sets, &tree.groups)?;
+    push_predicate_clause(out, " HAVING ", &tree.having_condition)?;
+    push_order_by(out, &tree.keys)
+}
+
+/// Writes the items of a query at the end, and where it reads from.
+fn push_select(out: &mut String, items: &[Item]) -> Result<(), AllocError>
+    ensures { OnOk result (string_bytes out.new ≡ string_bytes out.old ++ (codes "SELECT " ++ comma_list (map item_text (map item_form items.now)) ++ codes " FROM lines")) }
+{
+    out.push_str("SELECT ")?;
+    write_list(out, items)?;
+    out.push_str(" FROM lines")
 }
 
 /// The header of an item: its alias, or the canonical text of its expression where it has none. An

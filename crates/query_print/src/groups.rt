@@ -1,7 +1,7 @@
 //! The elements of GROUP BY.
 
-ghost use Rattle.std.specs.Prelude.{◌≡◌, ◌++◌, map, OnOk, string_bytes};
-ghost use Rattle.query_print.specs.Canonical.{comma_list, group_text, group_texts, in_brackets};
+ghost use Rattle.std.specs.Prelude.{◌≡◌, ◌++◌, codes, map, OnOk, string_bytes};
+ghost use Rattle.query_print.specs.Canonical.{comma_list, group_text, group_texts, in_brackets, unit_text};
 ghost use Rattle.query_tree.specs.Syntax.{element_form, element_forms};
 
 use crate::lists::{Written, write_list};
@@ -30,6 +30,15 @@ impl Written for Vec<Text> {
     }
 }
 
+/// Writes the units of a ROLLUP or a CUBE at the end, between this opening and a bracket.
+fn push_units(out: &mut String, opening: &str, units: &[Vec<Text>]) -> Result<(), AllocError>
+    ensures { OnOk result (string_bytes out.new ≡ string_bytes out.old ++ (opening.now ++ comma_list (map unit_text (map (λ unit. unit.items) units.now)) ++ codes ")")) }
+{
+    out.push_str(opening)?;
+    write_list(out, units)?;
+    out.push_str(")")
+}
+
 /// Writes an element of GROUP BY at the end.
 #[cycle(push_group)]
 pub(crate) fn push_group(out: &mut String, group: &GroupingElement) -> Result<(), AllocError>
@@ -37,16 +46,8 @@ pub(crate) fn push_group(out: &mut String, group: &GroupingElement) -> Result<()
 {
     match group {
         GroupingElement::Set(names) => names.write(out),
-        GroupingElement::Rollup(units) => {
-            out.push_str("ROLLUP (")?;
-            write_list(out, units)?;
-            out.push_str(")")
-        }
-        GroupingElement::Cube(units) => {
-            out.push_str("CUBE (")?;
-            write_list(out, units)?;
-            out.push_str(")")
-        }
+        GroupingElement::Rollup(units) => push_units(out, "ROLLUP (", units),
+        GroupingElement::Cube(units) => push_units(out, "CUBE (", units),
         GroupingElement::Sets(groups) => {
             out.push_str("GROUPING SETS ")?;
             push_bracketed(out, groups)

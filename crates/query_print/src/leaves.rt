@@ -1,10 +1,10 @@
 //! The leaves of expressions and predicates.
 
-ghost use Rattle.std.specs.Prelude.{◌≡◌, ◌++◌, codes, OnOk, string_bytes};
-ghost use Rattle.query_print.specs.Canonical.{aggregate_text, op_text, not_text, truth_text};
+ghost use Rattle.std.specs.Prelude.{◌≡◌, ◌++◌, codes, map, OnOk, string_bytes};
+ghost use Rattle.query_print.specs.Canonical.{aggregate_text, comma_list, in_brackets, literal_text, names_text, op_text, not_text, truth_text};
 ghost use Rattle.query_tokens.specs.Words.{name_text};
 
-use crate::lists::Written;
+use crate::lists::{Written, write_list};
 use itoa::Buffer;
 use query_tokens::{push_name, push_quoted};
 use query_tree::{Aggregate, Literal, Text};
@@ -50,6 +50,15 @@ pub(crate) fn push_aggregate(out: &mut String, aggregate: &Aggregate) -> Result<
     }
 }
 
+/// Writes GROUPING of these names at the end.
+pub(crate) fn push_grouping(out: &mut String, names: &[Text]) -> Result<(), AllocError>
+    ensures { OnOk result (string_bytes out.new ≡ string_bytes out.old ++ (codes "GROUPING(" ++ names_text names.now ++ codes ")")) }
+{
+    out.push_str("GROUPING(")?;
+    write_list(out, names)?;
+    out.push_str(")")
+}
+
 /// A whole number is written in decimal, a text between apostrophes, a truth value as its keyword.
 impl Written for Literal {
     ghost use Rattle.query_tree.specs.declared.predicate.Literal.{Literal};
@@ -75,7 +84,7 @@ impl Written for Literal {
 }
 
 /// The sign of an operator.
-pub(crate) fn op_text(op: Op) -> &'static str
+fn op_text(op: Op) -> &'static str
     ensures { result.now ≡ op_text op }
 {
     match op {
@@ -86,6 +95,15 @@ pub(crate) fn op_text(op: Op) -> &'static str
         Op::Gt => ">",
         Op::Ge => ">=",
     }
+}
+
+/// Writes the sign of an operator at the end, between spaces.
+pub(crate) fn push_op(out: &mut String, op: Op) -> Result<(), AllocError>
+    ensures { OnOk result (string_bytes out.new ≡ string_bytes out.old ++ (codes " " ++ op_text op ++ codes " ")) }
+{
+    out.push_str(" ")?;
+    out.push_str(op_text(op))?;
+    out.push_str(" ")
 }
 
 /// The keyword of a truth value.
@@ -118,4 +136,17 @@ pub(crate) fn push_marked(
     out.push_str(before)?;
     out.push_str(not_text(not))?;
     out.push_str(behind)
+}
+
+/// Writes IN at the end, with NOT where it is written, and the literals in brackets.
+pub(crate) fn push_membership(
+    out: &mut String,
+    not: bool,
+    literals: &[Literal],
+) -> Result<(), AllocError>
+    ensures { OnOk result (string_bytes out.new ≡ string_bytes out.old ++ (codes " " ++ not_text not ++ codes "IN " ++ in_brackets (comma_list (map literal_text literals.now)))) }
+{
+    push_marked(out, " ", not, "IN (")?;
+    write_list(out, literals)?;
+    out.push_str(")")
 }

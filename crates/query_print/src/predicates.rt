@@ -4,8 +4,10 @@ ghost use Rattle.std.specs.Prelude.{◌≡◌, ◌++◌, codes, IfOk, map, OnOk,
 ghost use Rattle.query_print.specs.Canonical.{bracketed_below, expression_text, joined, operand_text, part_texts, predicate_text, tightness};
 ghost use Rattle.query_tree.specs.Syntax.{expression_form, operand_form, predicate_form, predicate_forms};
 
-use crate::leaves::{op_text, push_aggregate, push_marked, truth_text};
-use crate::lists::{Written, write_list};
+use crate::leaves::{
+    push_aggregate, push_grouping, push_marked, push_membership, push_op, truth_text,
+};
+use crate::lists::Written;
 use query_tokens::push_name;
 use query_tree::{Expression, Operand, Predicate, SetFunction};
 use std::alloc::{AllocError, Global};
@@ -34,11 +36,7 @@ pub(crate) fn push_expression(out: &mut String, expression: &Expression) -> Resu
 {
     match expression {
         Expression::Name(name) => push_name(out, name.as_str()),
-        Expression::Grouping(names) => {
-            out.push_str("GROUPING(")?;
-            write_list(out, names)?;
-            out.push_str(")")
-        }
+        Expression::Grouping(names) => push_grouping(out, names),
         Expression::Function(SetFunction { aggregate, filter }) => {
             push_aggregate(out, aggregate)?;
             match filter {
@@ -88,9 +86,7 @@ pub(crate) fn push_predicate(out: &mut String, predicate: &Predicate) -> Result<
         }
         Predicate::Compare { left, op, right } => {
             push_operand(out, left)?;
-            out.push_str(" ")?;
-            out.push_str(op_text(*op))?;
-            out.push_str(" ")?;
+            push_op(out, *op)?;
             push_operand(out, right)
         }
         Predicate::Between {
@@ -111,9 +107,7 @@ pub(crate) fn push_predicate(out: &mut String, predicate: &Predicate) -> Result<
             literals,
         } => {
             push_operand(out, operand)?;
-            push_marked(out, " ", *not, "IN (")?;
-            write_list(out, literals)?;
-            out.push_str(")")
+            push_membership(out, *not, literals)
         }
         Predicate::IsNull { operand, not } => {
             push_operand(out, operand)?;
