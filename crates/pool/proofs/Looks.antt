@@ -1,11 +1,10 @@
 -- The owner takes in a seat, looks on, and gives the seat back.
-use Rattle.std.proofs.Common.{◌≡◌, ℕ, suc, Bool, true, false, ◌+◌, ◌-◌, ◌<◌, ◌≤◌, List, [], ◌∷◌, ◌++◌, sym, ap, ◌∙◌, subst, ⊎_elim, arith}
-use Rattle.std.proofs.lemmas.Bool.{cases_Bool}
+use Rattle.std.proofs.Common.{◌≡◌, ℕ, suc, Bool, true, false, ◌+◌, ◌-◌, ◌<◌, List, [], ◌∷◌, ◌++◌, sym, ap, ◌∙◌, subst, arith}
 use Rattle.std.specs.declared.alloc.Global.{Global}
 use Rattle.pool.specs.declared.view.View.{View}
 use Rattle.pool.specs.Dealing.{times}
-use Rattle.pool.specs.Rule.{view_of, held, UpTo, front, rest, Up, Apart, lent_view, giving_view, given_view}
-use Rattle.pool.specs.Seen.{seen_of, owned_of, place_of, list_of, IsThief, IsOwner, Looked}
+use Rattle.pool.specs.Rule.{view_of, held, UpTo, front, rest, Up, Apart, lent_view}
+use Rattle.pool.specs.Seen.{owned_of, place_of, list_of, IsThief, IsOwner, Looked}
 use Rattle.pool.specs.Settled.{KnowsAbove}
 use Rattle.pool.proofs.Rules.{up_apart}
 

@@ -4,7 +4,7 @@ use Rattle.std.proofs.lemmas.Bool.{cases_eq, cases_Bool}
 use Rattle.std.proofs.lemmas.List.{length-set}
 use mathlib.Core.Option.{some, some-injective, some-ne-none}
 use lib.ListN.{get_elem?}
-use Rattle.crossbeam_deque.specs.Tasks.{Pushes, Takes, Finds, FindsFew, Blocks, Forks, Merges, Learns}
+use Rattle.crossbeam_deque.specs.Tasks.{Pushes, Takes, Finds, FindsFew, Forks, Merges, Learns}
 use Rattle.crossbeam_deque.proofs.Lists.{at_set}
 use Rattle.pool.specs.declared.view.View.{View}
 use Rattle.pool.specs.declared.view.Task.{Task}

@@ -9,14 +9,14 @@ use Rattle.pool.specs.Totals.{gathered, sum_below, sum_list, once_below}
 use Rattle.pool.specs.Lawful.{Lawful}
 use Rattle.pool.specs.Seen.{Seen}
 use Rattle.pool.specs.Holding.{Holding, IsHolding, IsRound, Gained, lists_of, numbers_of}
-use Rattle.std.specs.Prelude.{Option, Some, None}
-use Rattle.pool.specs.Done.{Grown, Turned, Follows}
+use Rattle.pool.specs.Done.{Grown, Did, MayGoOn, Follows}
 use Rattle.pool.specs.Answered.{Answers}
 use Rattle.pool.specs.declared.deal.Next.{Next}
+use Rattle.pool.specs.declared.deal.Next.TheVariants.{Piece, Spent}
 use Rattle.pool.proofs.Nexts.{belongs_next}
 use Rattle.pool.proofs.Rules.{times-append}
 use Rattle.pool.proofs.Deals.{dealt_times}
-use Rattle.pool.proofs.Gather.{sum_list-middle, sum_list-within, gathered-middle, gathered_load}
+use Rattle.pool.proofs.Gather.{sum_list-middle, sum_list-within, gathered-middle, gathered_fits, gathered_load}
 
 -- no two of k numbers in a row are congruent modulo k
 mod_apart : (a d k : ℕ) → 0 < d → d < k → (a + d) % k ≢ a % k
@@ -89,6 +89,12 @@ module _ {M : Type 0} {fits : M → Type 0} {unit : M} {combined : M → M → M
 pub grown_sum : (f : ℕ → ℕ) (old new : List ℕ) (x : ℕ) → Grown old x new → sum_list f new ≡ sum_list f old + f x
 grown_sum f old new x g = let b = ap (sum_list f) g.3 ∙ sum_list-middle f x g.0 g.1 in let d = ap (sum_list f) g.2 in omega arith
 
+pub follows_next : (h k : Holding) (answer : Next) → Answers h k answer → IsHolding k → Follows h k
+follows_next h k answer a i names pieces hands number b = belongs_next names pieces hands number h k answer a i b
+
+pub gained_pieces : (h k : Holding) (x : ℕ) → Gained h x k → k.pieces ≡ h.pieces
+gained_pieces h k x = λ g. ⊎_elim (λ (o : _). ap (λ (u : Holding). u.pieces) o.2) (λ (o : _). ap (λ (u : Holding). u.pieces) o.5) g
+
 module _ {M : Type 0} {fits : M → Type 0} {unit : M} {combined : M → M → M} {piece : ℕ → M} {weight load : M → ℕ} (laws : Lawful fits unit combined piece weight load) where
   pub turn_room : (old new : List ℕ) (x n s : ℕ) → Grown old x new → ((z : ℕ) → times z new ≤ once_below z n) → s + sum_below (λ i. load (piece i)) n < 2 ^ 63 + sum_list (λ i. weight (piece i)) old → s + load (piece x) < 2 ^ 63
   turn_room old new x n s g within room =
@@ -97,18 +103,60 @@ module _ {M : Type 0} {fits : M → Type 0} {unit : M} {combined : M → M → M
       let c = weights_at_most_loads laws old in
       omega arith
 
-  -- what one turn keeps: the part is the combination of the pieces in the hand's list, and the share has grown by the weights of those that joined it
-  pub turned_keep : (a b : ℕ) (h : Holding) (m : M) (s : ℕ) (answer : Option ℕ) (k : Holding) (n : M) (t : ℕ) → Turned combined piece weight h m s answer k n t → m ≡ gathered unit combined piece (numbers_of h) → s + a ≡ b + sum_list (λ i. weight (piece i)) (numbers_of h)
-      → (n ≡ gathered unit combined piece (numbers_of k)) × (t + a ≡ b + sum_list (λ i. weight (piece i)) (numbers_of k))
-  turned_keep a b h m s None k n t turned e f =
-      (turned.2 ∙ e ∙ ap (gathered unit combined piece) (sym turned.1), (let c = ap (sum_list (λ i. weight (piece i))) turned.1 in let d = turned.3 in omega (arith, c, d, f)))
-  turned_keep a b h m s (Some number) k n t turned e f =
-      let x = turned.0 in
-      let g = turned.1 in
-      (turned.2 ∙ ap (λ l. combined l (piece x)) e ∙ sym (grown_gathered laws (numbers_of h) (numbers_of k) x g), (let c = grown_sum (λ i. weight (piece i)) (numbers_of h) (numbers_of k) x g in let d = turned.3 in omega (arith, c, d, f)))
+  -- a new hand, with the unit
+  pub may_begin : (h : Holding) (s : ℕ) (m : M) → numbers_of h ≡ [] → m ≡ unit → sum_below (λ i. load (piece i)) h.pieces + s < 2 ^ 63 → MayGoOn unit combined piece weight load h s m
+  may_begin h s m new first room =
+      let none = ap (sum_list (λ i. weight (piece i))) new in
+      record { part = first ∙ ap (gathered unit combined piece) (sym new); loads = omega (arith, room); room = omega (arith, none, room) }
 
-pub follows_next : (h k : Holding) (answer : Next) → Answers h k answer → IsHolding k → Follows h k
-follows_next h k answer a i names pieces hands number b = belongs_next names pieces hands number h k answer a i b
+  -- a worker that may go on, and went on, may go on again
+  pub may_again : (h : Holding) (s : ℕ) (m : M) (k : Holding) (t : ℕ) (n : M) → k.pieces ≡ h.pieces → MayGoOn unit combined piece weight load h s m → Did unit combined piece weight h s k t n → MayGoOn unit combined piece weight load k t n
+  may_again h s m k t n same may did =
+      let e = ap (sum_below (λ i. load (piece i))) same in
+      let a = may.loads in
+      let b = may.room in
+      let c = did.sum in
+      record { part = did.part; loads = omega (arith, e, a); room = omega (arith, e, b, c) }
 
-pub gained_pieces : (h k : Holding) (x : ℕ) → Gained h x k → k.pieces ≡ h.pieces
-gained_pieces h k x = λ g. ⊎_elim (λ (o : _). ap (λ (u : Holding). u.pieces) o.2) (λ (o : _). ap (λ (u : Holding). u.pieces) o.5) g
+  -- the piece that the hand has gained goes onto the part, and its weight to the share
+  module _ (h : Holding) (s : ℕ) (m : M) (k : Holding) (x : ℕ) (may : MayGoOn unit combined piece weight load h s m) (gained : Gained h x k) (holding : IsHolding k) where
+    within : (z : ℕ) → times z (numbers_of k) ≤ once_below z h.pieces
+    within z = subst (λ (n : ℕ). times z (numbers_of k) ≤ once_below z n) (gained_pieces h k x gained) (holding_within k z holding)
+
+    pub piece_fits_on : fits m
+    piece_fits_on = subst fits (sym may.part) (gathered_fits laws (numbers_of h))
+
+    pub piece_load : load m + load (piece x) < 2 ^ 63
+    piece_load =
+        let a = grown_room laws (numbers_of h) (numbers_of k) x h.pieces (holding_grown h k x gained) within in
+        let b = may.loads in
+        let e = ap load may.part in
+        omega (arith, a, b, e)
+
+    pub piece_room : s + load (piece x) < 2 ^ 63
+    piece_room = turn_room (numbers_of h) (numbers_of k) x h.pieces s (holding_grown h k x gained) within may.room
+
+    pub did_piece : (n : M) (t : ℕ) → n ≡ combined m (piece x) → t ≡ s + weight (piece x) → Did unit combined piece weight h s k t n
+    did_piece n t more sum =
+        let g = holding_grown h k x gained in
+        let c = grown_sum (λ i. weight (piece i)) (numbers_of h) (numbers_of k) x g in
+        record {
+          follows = follows_next h k (Piece x) gained holding;
+          part = more ∙ ap (λ l. combined l (piece x)) may.part ∙ sym (grown_gathered laws (numbers_of h) (numbers_of k) x g);
+          sum = omega (arith, c, sum);
+        }
+
+  -- a hand that is spent has what it had
+  pub did_nothing : (h k : Holding) (s : ℕ) (m : M) → MayGoOn unit combined piece weight load h s m → Answers h k Spent → IsHolding k → Did unit combined piece weight h s k s m
+  did_nothing h k s m may answer holding =
+      let same : numbers_of k ≡ numbers_of h = ap numbers_of answer.0 in
+      let c = ap (sum_list (λ i. weight (piece i))) same in
+      record { follows = follows_next h k Spent answer holding; part = may.part ∙ ap (gathered unit combined piece) (sym same); sum = omega (arith, c) }
+
+module _ {M : Type 0} (unit : M) (combined : M → M → M) (piece : ℕ → M) (weight : M → ℕ) where
+  -- who goes on twice does as by going on once
+  pub did_twice : (h : Holding) (s : ℕ) (k : Holding) (t : ℕ) (m : M) (l : Holding) (u : ℕ) (n : M) → Did unit combined piece weight h s k t m → Did unit combined piece weight k t l u n → Did unit combined piece weight h s l u n
+  did_twice h s k t m l u n a b =
+      let c = a.sum in
+      let d = b.sum in
+      record { follows = λ names pieces hands number is. b.follows names pieces hands number (a.follows names pieces hands number is); part = b.part; sum = omega (arith, c, d) }

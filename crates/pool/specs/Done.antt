@@ -1,7 +1,7 @@
 -- What a worker does.
-use Rattle.std.specs.Prelude.{◌≡◌, ℕ, true, ◌+◌, List, ◌∷◌, ◌++◌, Option, Some, None}
+use Rattle.std.specs.Prelude.{◌≡◌, ℕ, ◌+◌, ◌^◌, ◌<◌, List, ◌∷◌, ◌++◌}
 use Rattle.std.specs.declared.alloc.Global.{Global}
-use Rattle.pool.specs.Totals.{gathered, sum_list}
+use Rattle.pool.specs.Totals.{gathered, sum_below, sum_list}
 use Rattle.pool.specs.Holding.{Holding, numbers_of}
 use Rattle.pool.specs.Settled.{Belongs}
 
@@ -13,16 +13,14 @@ Follows h k = (names : ℕ → (ℕ × ℕ) × Global) (pieces hands number : �
 abbrev pub Grown : List ℕ → ℕ → List ℕ → Type 0
 Grown old x new = (ys : List ℕ) × (zs : List ℕ) × (old ≡ ys ++ zs) × (new ≡ ys ++ x ∷ zs)
 
--- the hand was spent, and nothing else changed; or one piece more is in the hand's list, the part and the share's sum, and the book answered a number
-abbrev pub Turned : {M : Type 0} → (M → M → M) → (ℕ → M) → (M → ℕ) → Holding → M → ℕ → Option ℕ → Holding → M → ℕ → Type 0
-Turned combined piece weight h m s None k n t = (k.spent ≡ true) × (numbers_of k ≡ numbers_of h) × (n ≡ m) × (t ≡ s)
-Turned combined piece weight h m s (Some number) k n t = (x : ℕ) × Grown (numbers_of h) x (numbers_of k) × (n ≡ combined m (piece x)) × (t ≡ s + weight (piece x))
-
--- one turn of a worker: its hand keeps its seat
-abbrev pub Turns : {M : Type 0} → (M → M → M) → (ℕ → M) → (M → ℕ) → Holding → M → ℕ → Option ℕ → Holding → M → ℕ → Type 0
-Turns combined piece weight h m s answer k n t = (k.pieces ≡ h.pieces) × Follows h k × Turned combined piece weight h m s answer k n t
-
 -- a worker went on: its hand keeps its seat, the part is the combination of the pieces in the hand's list, and the share has grown by the weights of those that joined the list
-abbrev pub Did : {M : Type 0} → M → (M → M → M) → (ℕ → M) → (M → ℕ) → Holding → ℕ → Holding → ℕ → M → Type 0
-Did unit combined piece weight h s k t m =
-    Follows h k × (m ≡ gathered unit combined piece (numbers_of k)) × (t + sum_list (λ i. weight (piece i)) (numbers_of h) ≡ s + sum_list (λ i. weight (piece i)) (numbers_of k))
+pub record Did {M : Type 0} (unit : M) (combined : M → M → M) (piece : ℕ → M) (weight : M → ℕ) (h : Holding) (s : ℕ) (k : Holding) (t : ℕ) (m : M) : Type 0 where
+  pub follows : Follows h k
+  pub part : m ≡ gathered unit combined piece (numbers_of k)
+  pub sum : t + sum_list (λ i. weight (piece i)) (numbers_of h) ≡ s + sum_list (λ i. weight (piece i)) (numbers_of k)
+
+-- a worker may go on: the part is the combination of the pieces in the hand's list, and the share has room for the loads of those that the hand may still take
+pub record MayGoOn {M : Type 0} (unit : M) (combined : M → M → M) (piece : ℕ → M) (weight load : M → ℕ) (k : Holding) (t : ℕ) (m : M) : Type 0 where
+  pub part : m ≡ gathered unit combined piece (numbers_of k)
+  pub loads : sum_below (λ i. load (piece i)) k.pieces < 2 ^ 63
+  pub room : t + sum_below (λ i. load (piece i)) k.pieces < 2 ^ 63 + sum_list (λ i. weight (piece i)) (numbers_of k)

@@ -5,7 +5,7 @@ use lib.ListN.{get_elem?}
 use Rattle.pool.specs.Totals.{gathered, sum_below, sum_list}
 use Rattle.pool.specs.Holding.{Holding, numbers_of}
 use Rattle.pool.specs.Settled.{AllSpent, joined}
-use Rattle.pool.specs.Done.{Follows, Did}
+use Rattle.pool.specs.Done.{Follows, Did, MayGoOn}
 use Rattle.pool.specs.declared.laws.Outcome.{Outcome}
 use Rattle.pool.specs.declared.laws.Outcome.TheVariants.{Whole, Over}
 
@@ -26,9 +26,7 @@ DidAll unit combined piece weight sum meaning (h ∷ hs) ss ks ts ps =
 abbrev pub AreUnderWay : {M S P : Type 0} → M → (M → M → M) → (ℕ → M) → (M → ℕ) → (M → ℕ) → (S → ℕ) → (P → M) → List Holding → List S → List P → Type 0
 AreUnderWay unit combined piece weight load sum meaning ks ts ps =
     (length ks ≡ length ts) × (length ks ≡ length ps)
-    × ((i : ℕ) (k : Holding) (t : _) (p : _) → get_elem? ks i ≡ some k → get_elem? ts i ≡ some t → get_elem? ps i ≡ some p
-    → (meaning p ≡ gathered unit combined piece (numbers_of k)) × (sum_below (λ j. load (piece j)) k.pieces < 2 ^ 63)
-    × (sum t + sum_below (λ j. load (piece j)) k.pieces < 2 ^ 63 + sum_list (λ j. weight (piece j)) (numbers_of k)))
+    × ((i : ℕ) (k : Holding) (t : _) (p : _) → get_elem? ks i ≡ some k → get_elem? ts i ≡ some t → get_elem? ps i ≡ some p → MayGoOn unit combined piece weight load k (sum t) (meaning p))
 
 -- the hands and shares came back in their order: each hand has its seat, and its share has grown by the weights of the pieces in its list
 abbrev pub CameBack : {S : Type 0} → (ℕ → ℕ) → (S → ℕ) → List Holding → List S → List Holding → List S → Type 0

@@ -1,5 +1,5 @@
 //! The hands of a deal, each on a thread of its own.
-ghost use Rattle.std.specs.Prelude.{◌≡◌, ℕ, ◌+◌, ◌^◌, ◌<◌, ◌≤◌, ◌⊎◌, ◌++◌, ◌∷◌, [], All, IfOk, IfErr, IfSome, IfNone, IsOkAnd, vec_len, length, List};
+ghost use Rattle.std.specs.Prelude.{◌≡◌, ℕ, ◌+◌, ◌^◌, ◌<◌, ◌≤◌, ◌⊎◌, ◌++◌, ◌∷◌, [], All, IfOk, IfErr, IfSome, IfNone, IsOkAnd, OnOk, vec_len, length, List};
 ghost use Rattle.pool.specs.Totals.{gathered, sum_below, sum_list, total, once_below};
 ghost use Rattle.pool.specs.Outcomes.{Decides};
 ghost use Rattle.pool.specs.Dealing.{times};
@@ -52,6 +52,21 @@ fn last_pair<L: Ledger>(
     Some((hand, share))
 }
 
+/// What one more worker gave back, behind what the others did.
+fn put_done<P: Drop, L: Ledger>(
+    all: &mut Gathered<P, L>,
+    done: Done<P, L>,
+) -> Result<(), AllocError>
+    ensures hands { OnOk result (all.new.hands.items ≡ all.old.hands.items ++ done.hand ∷ []) }
+    ensures shares { OnOk result (all.new.shares.items ≡ all.old.shares.items ++ done.share ∷ []) }
+    ensures parts { OnOk result (all.new.parts.items ≡ all.old.parts.items ++ done.part ∷ []) }
+{
+    let Done { hand, share, part } = done;
+    put_last(&mut all.hands, hand)?;
+    put_last(&mut all.shares, share)?;
+    put_last(&mut all.parts, part)
+}
+
 /// One more worker's, unless it ran out of memory.
 fn with_done<P: Drop, L: Ledger>(
     gathered: Gathered<P, L>,
@@ -60,14 +75,11 @@ fn with_done<P: Drop, L: Ledger>(
     ensures more { IfOk result (λ g. IsOkAnd done (λ d. (g.hands.items ≡ gathered.hands.items ++ d.hand ∷ []) × (g.shares.items ≡ gathered.shares.items ++ d.share ∷ []) × (g.parts.items ≡ gathered.parts.items ++ d.part ∷ []))) }
     ensures fault { IfErr result (λ e. e ≡ PoolFault.OutOfMemory) }
 {
-    let Ok(Done { hand, share, part }) = done else {
+    let Ok(done) = done else {
         return Err(PoolFault::OutOfMemory);
     };
     let mut all = gathered;
-    if put_last(&mut all.hands, hand).is_err()
-        || put_last(&mut all.shares, share).is_err()
-        || put_last(&mut all.parts, part).is_err()
-    {
+    if put_done(&mut all, done).is_err() {
         return Err(PoolFault::OutOfMemory);
     }
     Ok(all)

@@ -1,8 +1,8 @@
 //! One worker: it takes pieces until its hand is spent or the book is above a number, and reports their weights.
-ghost use Rattle.std.specs.Prelude.{◌≡◌, ℕ, ◌+◌, ◌^◌, ◌<◌, ◌≤◌, ◌++◌, ◌-◌, true, IfOk, IfSome, length, []};
-ghost use Rattle.pool.specs.Totals.{gathered, sum_below, sum_list};
-ghost use Rattle.pool.specs.Holding.{Holding, numbers_of};
-ghost use Rattle.pool.specs.Done.{Turns, Did};
+ghost use Rattle.std.specs.Prelude.{◌≡◌, ℕ, ◌+◌, ◌^◌, ◌<◌, ◌-◌, true, IfOk, IfSome, []};
+ghost use Rattle.pool.specs.Totals.{sum_below};
+ghost use Rattle.pool.specs.Holding.{numbers_of};
+ghost use Rattle.pool.specs.Done.{Did, MayGoOn};
 
 use crate::book::{Book, Share};
 use crate::deal::{Hand, Next};
@@ -68,34 +68,38 @@ fn one_more<W: Work, L: Ledger, R: Wait>(
     Ok((part, number))
 }
 
-/// One piece, if the hand gets one, and the book's number after it. None, where the hand is spent.
-fn turn<W: Work, L: Ledger, R: Wait>(
+/// Takes pieces until the hand is spent, or the book answers a number above `stop`. No number is above the greatest.
+fn take_pieces<W: Work, L: Ledger, R: Wait>(
     rt: &R,
     work: &W,
     book: &Book<L>,
-    done: Done<W::Part, L>,
-) -> Result<(Done<W::Part, L>, Option<u128>), AllocError>
-    requires part { W.meaning done.part ≡ gathered (W.unit_meaning work.now) (W.combined work.now) (W.piece_meaning work.now) (numbers_of done.hand) }
-    requires loads { sum_below (λ i. W.load_of work.now (W.piece_meaning work.now i)) done.hand.pieces < 2 ^ 63 }
-    requires room { done.share.sum + sum_below (λ i. W.load_of work.now (W.piece_meaning work.now i)) done.hand.pieces < 2 ^ 63 + sum_list (λ i. W.weight_of work.now (W.piece_meaning work.now i)) (numbers_of done.hand) }
-    ensures { IfOk result (λ r. Turns (W.combined work.now) (W.piece_meaning work.now) (W.weight_of work.now) done.hand (W.meaning done.part) done.share.sum r.1 r.0.hand (W.meaning r.0.part) r.0.share.sum) }
+    stop: u128,
+    hand: &mut Hand,
+    share: &mut Share<L>,
+    part: W::Part,
+) -> Result<W::Part, AllocError>
+    requires { MayGoOn (W.unit_meaning work.now) (W.combined work.now) (W.piece_meaning work.now) (W.weight_of work.now) (W.load_of work.now) hand.old share.old.sum (W.meaning part) }
+    ensures did { IfOk result (λ p. Did (W.unit_meaning work.now) (W.combined work.now) (W.piece_meaning work.now) (W.weight_of work.now) hand.old share.old.sum hand.new share.new.sum (W.meaning p)) }
+    ensures spent { stop ≡ 2 ^ 128 - 1 → IfOk result (λ p. hand.new.spent ≡ true) }
 {
-    let Done {
-        mut hand,
-        mut share,
-        part,
-    } = done;
-    match hand.next() {
-        Next::Piece(i) => {
-            let (part, number) = one_more(rt, work, book, &mut share, part, i)?;
-            Ok((Done { hand, share, part }, Some(number)))
+    let mut part = part;
+    for _ in rt.forever() {
+        match hand.next() {
+            Next::Piece(i) => {
+                let (more, number) = one_more(rt, work, book, share, part, i)?;
+                if number > stop {
+                    return Ok(more);
+                }
+                part = more;
+            }
+            Next::Spent => return Ok(part),
+            Next::Memory => return Err(AllocError),
         }
-        Next::Spent => Ok((Done { hand, share, part }, None)),
-        Next::Memory => Err(AllocError),
     }
+    unreachable!()
 }
 
-/// Goes on taking pieces until the hand is spent, or the book answers a number above `stop`. No number is above the greatest.
+/// Goes on as `take_pieces`, with the part that was made so far.
 pub fn go_on<W: Work, L: Ledger, R: Wait>(
     rt: &R,
     work: &W,
@@ -103,24 +107,17 @@ pub fn go_on<W: Work, L: Ledger, R: Wait>(
     stop: u128,
     done: Done<W::Part, L>,
 ) -> Result<Done<W::Part, L>, AllocError>
-    requires part { W.meaning done.part ≡ gathered (W.unit_meaning work.now) (W.combined work.now) (W.piece_meaning work.now) (numbers_of done.hand) }
-    requires loads { sum_below (λ i. W.load_of work.now (W.piece_meaning work.now i)) done.hand.pieces < 2 ^ 63 }
-    requires room { done.share.sum + sum_below (λ i. W.load_of work.now (W.piece_meaning work.now i)) done.hand.pieces < 2 ^ 63 + sum_list (λ i. W.weight_of work.now (W.piece_meaning work.now i)) (numbers_of done.hand) }
+    requires { MayGoOn (W.unit_meaning work.now) (W.combined work.now) (W.piece_meaning work.now) (W.weight_of work.now) (W.load_of work.now) done.hand done.share.sum (W.meaning done.part) }
     ensures did { IfOk result (λ d. Did (W.unit_meaning work.now) (W.combined work.now) (W.piece_meaning work.now) (W.weight_of work.now) done.hand done.share.sum d.hand d.share.sum (W.meaning d.part)) }
     ensures spent { stop ≡ 2 ^ 128 - 1 → IfOk result (λ d. d.hand.spent ≡ true) }
 {
-    let mut done = done;
-    for _ in rt.forever() {
-        let (next, answer) = turn(rt, work, book, done)?;
-        let Some(number) = answer else {
-            return Ok(next);
-        };
-        if number > stop {
-            return Ok(next);
-        }
-        done = next;
-    }
-    unreachable!()
+    let Done {
+        mut hand,
+        mut share,
+        part,
+    } = done;
+    let part = take_pieces(rt, work, book, stop, &mut hand, &mut share, part)?;
+    Ok(Done { hand, share, part })
 }
 
 /// All that a worker does with a new hand: as `go_on`, from the unit on.

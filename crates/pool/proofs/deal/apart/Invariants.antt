@@ -1,4 +1,4 @@
-use Rattle.std.proofs.Common.{◌≡◌, ℕ, ◌<◌, ◌≤◌, ◌%◌, length}
+use Rattle.std.proofs.Common.{◌≡◌, ℕ, ◌<◌, ◌%◌, length}
 use Rattle.pool.specs.Dealing.{times}
 use Rattle.pool.specs.Rule.{UpTo}
 use Rattle.pool.specs.Totals.{once_below}

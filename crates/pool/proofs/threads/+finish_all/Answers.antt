@@ -5,14 +5,8 @@ use Rattle.pool.proofs.threads.+finish_all.Goals as goal
 pub finish_all-requires-after_bounds : goal.finish_all-requires-after_bounds
 finish_all-requires-after_bounds g t c κs within = under_way_front (g.W.Work.unit_meaning c.args.work.now) (g.W.Work.combined c.args.work.now) (g.W.Work.piece_meaning c.args.work.now) (g.W.Work.weight_of c.args.work.now) (g.W.Work.load_of c.args.work.now) (λ s. s.sum) g.W.Work.meaning c.args.gathered.hands.items c.last_done.new.gathered.hands.items c.in-Some.done.hand c.args.gathered.shares.items c.last_done.new.gathered.shares.items c.in-Some.done.share c.args.gathered.parts.items c.last_done.new.gathered.parts.items c.in-Some.done.part c.in-Some.ensures.hands c.in-Some.ensures.shares c.in-Some.ensures.parts c.requires
 
-pub go_on-requires-clause-part : goal.go_on-requires-clause-part
-go_on-requires-clause-part g t c κs within = (under_way_last (g.W.Work.unit_meaning c.args.work.now) (g.W.Work.combined c.args.work.now) (g.W.Work.piece_meaning c.args.work.now) (g.W.Work.weight_of c.args.work.now) (g.W.Work.load_of c.args.work.now) (λ s. s.sum) g.W.Work.meaning c.args.gathered.hands.items c.last_done.new.gathered.hands.items c.in-Some.done.hand c.args.gathered.shares.items c.last_done.new.gathered.shares.items c.in-Some.done.share c.args.gathered.parts.items c.last_done.new.gathered.parts.items c.in-Some.done.part c.in-Some.ensures.hands c.in-Some.ensures.shares c.in-Some.ensures.parts c.requires).0
-
-pub go_on-requires-clause-loads : goal.go_on-requires-clause-loads
-go_on-requires-clause-loads g t c κs within = (under_way_last (g.W.Work.unit_meaning c.args.work.now) (g.W.Work.combined c.args.work.now) (g.W.Work.piece_meaning c.args.work.now) (g.W.Work.weight_of c.args.work.now) (g.W.Work.load_of c.args.work.now) (λ s. s.sum) g.W.Work.meaning c.args.gathered.hands.items c.last_done.new.gathered.hands.items c.in-Some.done.hand c.args.gathered.shares.items c.last_done.new.gathered.shares.items c.in-Some.done.share c.args.gathered.parts.items c.last_done.new.gathered.parts.items c.in-Some.done.part c.in-Some.ensures.hands c.in-Some.ensures.shares c.in-Some.ensures.parts c.requires).1
-
-pub go_on-requires-clause-room : goal.go_on-requires-clause-room
-go_on-requires-clause-room g t c κs within = (under_way_last (g.W.Work.unit_meaning c.args.work.now) (g.W.Work.combined c.args.work.now) (g.W.Work.piece_meaning c.args.work.now) (g.W.Work.weight_of c.args.work.now) (g.W.Work.load_of c.args.work.now) (λ s. s.sum) g.W.Work.meaning c.args.gathered.hands.items c.last_done.new.gathered.hands.items c.in-Some.done.hand c.args.gathered.shares.items c.last_done.new.gathered.shares.items c.in-Some.done.share c.args.gathered.parts.items c.last_done.new.gathered.parts.items c.in-Some.done.part c.in-Some.ensures.hands c.in-Some.ensures.shares c.in-Some.ensures.parts c.requires).2
+pub go_on-requires-after_bounds : goal.go_on-requires-after_bounds
+go_on-requires-after_bounds g t c κs within = under_way_last (g.W.Work.unit_meaning c.args.work.now) (g.W.Work.combined c.args.work.now) (g.W.Work.piece_meaning c.args.work.now) (g.W.Work.weight_of c.args.work.now) (g.W.Work.load_of c.args.work.now) (λ s. s.sum) g.W.Work.meaning c.args.gathered.hands.items c.last_done.new.gathered.hands.items c.in-Some.done.hand c.args.gathered.shares.items c.last_done.new.gathered.shares.items c.in-Some.done.share c.args.gathered.parts.items c.last_done.new.gathered.parts.items c.in-Some.done.part c.in-Some.ensures.hands c.in-Some.ensures.shares c.in-Some.ensures.parts c.requires
 
 pub returns-clause-did : goal.returns-clause-did
 returns-clause-did g t c =

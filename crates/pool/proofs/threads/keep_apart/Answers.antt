@@ -1,4 +1,4 @@
-use Rattle.std.proofs.Common.{◌∙◌, ℕ, sym, ap, subst, ◌≤◌, length, arith}
+use Rattle.std.proofs.Common.{◌∙◌, ℕ, sym, ap, subst, length, arith}
 use Rattle.std.proofs.lemmas.List.{with_items_is}
 use Rattle.pool.specs.Dealing.{times}
 use Rattle.pool.specs.Rule.{UpTo}

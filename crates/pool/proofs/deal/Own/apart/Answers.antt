@@ -1,4 +1,4 @@
-use Rattle.std.proofs.Common.{◌≡◌, true, ◌∙◌, ℕ, ◌+◌, ◌≤◌, length, ap, subst}
+use Rattle.std.proofs.Common.{◌≡◌, true, ◌∙◌, ℕ, ◌+◌, length, ap, subst}
 use Rattle.pool.specs.Dealing.{times}
 use Rattle.pool.specs.Rule.{held, UpTo}
 use Rattle.crossbeam_deque.specs.Handles.{worker_view}
