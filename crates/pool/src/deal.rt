@@ -11,14 +11,14 @@ ghost use Rattle.crossbeam_deque.specs.Handles.{worker_deque, worker_flavor, wor
 
 use crate::protocol::{Dealing, GiveOpen, GiveShut, LendOpen, LendShut, Seal, Taken, Within};
 use crate::source::Gap;
-use crate::view::{Task, View};
+use crate::view::{Packed, Task, View};
 use crossbeam_deque::{Pass, Steal, Stealer, Worker};
 use std::alloc::Global;
 use std::marker::Model;
 use std::mem;
 
 /// A deque of one deal, under the rule of `protocol`.
-pub type Deque = Worker<Task, Global, View, Dealing>;
+pub type Deque = Worker<Packed, Global, View, Dealing>;
 
 /// The end of a deque that its own hand takes from.
 #[derive(Drop)]
@@ -43,8 +43,8 @@ impl Model for Own {
 /// The end of another hand's deque.
 #[derive(Drop)]
 pub struct Reach {
-    pub thief: Stealer<Task, Global, View, Dealing>,
-    pub pass: Pass<Task, View, Global>,
+    pub thief: Stealer<Packed, Global, View, Dealing>,
+    pub pass: Pass<Packed, View, Global>,
     pub closed: bool,
 }
 
@@ -66,13 +66,15 @@ impl Own {
         requires { self.old.closed ≡ false }
         ensures { MatchOption result ((self.new ≡ now_closed self.old) × WasEmpty self.old.seen) (λ x. (s : Seen) × Took self.old.seen x s × (self.new ≡ with_seen self.old s)) }
     {
-        match self.worker.pop_as::<Taken>() {
-            Some(Task::Number(x)) => Some(x),
-            Some(Task::End) => {
+        let Some(packed) = self.worker.pop_as::<Taken>() else {
+            unreachable!();
+        };
+        match packed.task() {
+            Task::Number(x) => Some(x),
+            Task::End => {
                 self.closed = true;
                 None
             }
-            None => unreachable!(),
         }
     }
 }
@@ -86,13 +88,14 @@ impl Reach {
             return None;
         }
         match self.thief.steal_as::<Taken>(&mut self.pass) {
-            Steal::Success(Task::Number(x)) => Some(x),
-            Steal::Success(Task::End) => {
-                self.closed = true;
-                None
-            }
-            Steal::Empty => None,
-            Steal::Retry => None,
+            Steal::Success(packed) => match packed.task() {
+                Task::Number(x) => Some(x),
+                Task::End => {
+                    self.closed = true;
+                    None
+                }
+            },
+            Steal::Empty | Steal::Retry => None,
         }
     }
 }
@@ -295,7 +298,7 @@ pub fn first_hand(number: usize, hands: usize, pieces: u32, own: Own, others: Ve
 }
 
 /// The owner takes in a seat of its deque, behind its own.
-fn take_in(worker: &mut Deque, pass: Pass<Task, View, Global>, closed: bool)
+fn take_in(worker: &mut Deque, pass: Pass<Packed, View, Global>, closed: bool)
     requires pass { IsPassOf (worker_deque worker.old) pass × IsThief (pass_view pass) closed }
     requires owner { ((worker_view worker.old).filling ≡ false) × Seated (worker_view worker.old).known }
     ensures deque { (worker_deque worker.new ≡ worker_deque worker.old) × (worker_flavor worker.new ≡ worker_flavor worker.old) }
@@ -310,7 +313,7 @@ fn take_in(worker: &mut Deque, pass: Pass<Task, View, Global>, closed: bool)
 }
 
 /// The second hand that the owner knows has its seat again.
-fn give_back(worker: &mut Deque, closed: bool) -> Pass<Task, View, Global>
+fn give_back(worker: &mut Deque, closed: bool) -> Pass<Packed, View, Global>
     requires second { (p : ℕ × List ℕ) × (q : ℕ × List ℕ) × (more : List (ℕ × List ℕ)) × ((worker_view worker.old).known ≡ p ∷ q ∷ more) × (p.0 ≡ q.0 → ⊥) × Apart q.0 more }
     requires owner { ((worker_view worker.old).filling ≡ false) × (closed ≡ false → 0 < (worker_view worker.old).ends) }
     ensures deque { (worker_deque worker.new ≡ worker_deque worker.old) × (worker_flavor worker.new ≡ worker_flavor worker.old) }

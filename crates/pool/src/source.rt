@@ -1,11 +1,11 @@
 //! A deque that is filled, and then gives out its seats.
-ghost use Rattle.std.specs.Prelude.{◌≡◌, ℕ, ◌+◌, ◌-◌, ◌<◌, ◌≤◌, true, false, [], ◌∷◌, ◌++◌, IfOk, OnOk};
+ghost use Rattle.std.specs.Prelude.{◌≡◌, ℕ, ◌+◌, ◌-◌, ◌<◌, ◌≤◌, ◌^◌, true, false, [], ◌∷◌, ◌++◌, IfOk, OnOk};
 ghost use Rattle.pool.specs.Dealing.{dealt};
 ghost use Rattle.pool.specs.Seen.{Seen, Offer, Owned, seated, offered, owned_first};
 
 use crate::deal::{Deque, Own, Reach};
 use crate::protocol::{Fill, Mark, Seal, Seat};
-use crate::view::Task;
+use crate::view::Packed;
 use std::alloc::{AllocError, Global};
 use std::marker::Model;
 
@@ -67,11 +67,12 @@ impl Filling {
         Ok(Filling { gap, worker })
     }
 
-    /// The number goes behind all others.
+    /// The number, which is not the greatest one, goes behind all others.
     pub fn fill(&mut self, number: u32) -> Result<(), AllocError>
+        requires { number + 1 < 2 ^ 32 }
         ensures { OnOk result (self.new ≡ self.old ++ number ∷ []) }
     {
-        if self.worker.push_as::<Fill>(Task::Number(number)).is_err() {
+        if self.worker.push_as::<Fill>(Packed::number(number)).is_err() {
             return Err(AllocError);
         }
         Ok(())
@@ -84,7 +85,7 @@ impl Filling {
     {
         let Filling { gap, mut worker } = self;
         for _mark in 0..hands {
-            if worker.push_as::<Mark>(Task::End).is_err() {
+            if worker.push_as::<Mark>(Packed::end()).is_err() {
                 return Err(AllocError);
             }
         }
