@@ -7,8 +7,6 @@ ghost use Rattle.lines.specs.Lines.{lines};
 ghost use Rattle.query_tree.specs.Syntax.{TreeForm};
 ghost use Rattle.query_plan.specs.Planned.{fields_of_plan, form_of_plan};
 ghost use Rattle.tables.specs.Partials.{StandsForInput};
-ghost use Rattle.tables.specs.Planned.{AreFittingUnder};
-ghost use Rattle.report.specs.Report.{report_of};
 ghost use Rattle.engine.specs.Run.{IsDecided, IsWithin, Leaves, LeavesOfInput, refusals, report};
 
 use crate::fault::RunFault;
@@ -16,13 +14,13 @@ use crate::gathering::{whole_alone, whole_among};
 use crate::writing::put_both;
 use command_line::Options;
 use query::Plan;
-use report::{arrange, arranged_law, refused_text, report_text};
+use report::{arranged_law, refused_text, report_on};
 use std::alloc::{AllocError, Global};
 use std::io::{Read, Write};
 use std::marker::{Send, Sync};
 use std::sync::Wait;
 use std::thread::Threads;
-use tables::{Groups, Partial};
+use tables::Partial;
 
 /// The counts of an input.
 ///
@@ -181,19 +179,9 @@ fn texts_of(alloc: Global, plan: &Plan, partial: Partial) -> Result<Texts, Alloc
         → texts.refused.items ≡ refusals (fields_of_plan plan.now) input) }
 {
     let groups = partial.finish(plan)?;
-    let report = report_of(alloc, plan, &groups)?;
+    let report = report_on(alloc, &groups, plan)?;
     let refused = refused_text(alloc, &groups, plan.schema())?;
     // The groups came in the order of a walk over a table, which the report does not show.
     arranged_law();
     Ok(Texts { report, refused })
-}
-
-/// The report on groups.
-fn report_of(alloc: Global, plan: &Plan, groups: &Groups) -> Result<Vec<u8>, AllocError>
-    requires { AreFittingUnder plan.now groups.now.found }
-    ensures { IfOk result (λ text. text.items
-        ≡ report_of (fields_of_plan plan.now) (form_of_plan plan.now) groups.now.found) }
-{
-    let rows = arrange(alloc, groups, plan)?;
-    report_text(alloc, rows.as_slice(), plan)
 }

@@ -6,6 +6,7 @@ pub mod Rows
 pub mod KeyOrder
 pub mod Maps
 pub mod Wide
+pub mod Written
 mod Examples
 pub mod Filtering
 pub mod RowValues

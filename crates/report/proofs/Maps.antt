@@ -1,5 +1,6 @@
 -- Lists, one more at a time.
 use Rattle.std.proofs.Common.{◌≡◌, ◌+◌, ℕ, zero, suc, List, [], ◌∷◌, ◌++◌, take, map, slice_get, option_map, Some, refl, ap, ◌∙◌, add-one}
+use Rattle.std.specs.List.{AllByRecursion}
 
 next : {X Y : Type 0} (f : X → Y) (xs : List X) (i : ℕ) (y : Y) → Some y ≡ option_map f (slice_get xs i) → map f (take (suc i) xs) ≡ map f (take i xs) ++ y ∷ []
 next f [] i y e = absurd cc
@@ -14,3 +15,8 @@ map-next {X} f xs i y e = ap (λ (n : ℕ). map f (take n xs)) (add-one i) ∙ n
 pub map-twice : {X Y Z : Type 0} (g : Y → Z) (f : X → Y) (xs : List X) → map g (map f xs) ≡ map (λ x. g (f x)) xs
 map-twice g f [] = refl
 map-twice {X} {Y} {Z} g f (x ∷ xs) = ap (λ (zs : List Z). g (f x) ∷ zs) (map-twice g f xs)
+
+-- what holds of each mapped one holds of each by its map
+pub all-of-map : {X Y : Type 0} (f : X → Y) (P : Y → Type 0) (xs : List X) → AllByRecursion P (map f xs) → AllByRecursion (λ x. P (f x)) xs
+all-of-map f P [] all = tt
+all-of-map f P (x ∷ xs) all = (all.0, all-of-map f P xs all.1)

@@ -4,6 +4,7 @@ ghost use Rattle.query_plan.specs.Planned.{fields_of_plan, form_of_plan};
 ghost use Rattle.tables.specs.Found.{row_of};
 ghost use Rattle.tables.specs.Planned.{AreFittingUnder};
 ghost use Rattle.report.specs.Inside.Planned.{HasSetUnder};
+ghost use Rattle.report.specs.Order.{arranged};
 ghost use Rattle.report.specs.Report.{rows_shown};
 ghost use Rattle.report.specs.Shown.{cells_of, row_shown};
 
@@ -52,17 +53,30 @@ fn arranged_rows(
     ensures cells { IfOk result (λ rows. map cells_of rows.items ≡ rows_shown (fields_of_plan plan.now) (form_of_plan plan.now) groups.now.found) }
     ensures wide { IfOk result (λ rows. All (λ row. length row.cells.items ≡ length (form_of_plan plan.now).items) rows.items) }
 {
-    let unordered = rows_having_true(alloc, plan, groups.rows())?;
-    let ordered = in_order(alloc, plan, unordered)?;
-    let mut rows = Vec::with_capacity(alloc, ordered.len())?;
-    for group in ordered {
+    let shown = shown_groups(alloc, groups, plan)?;
+    let mut rows = Vec::with_capacity(alloc, shown.len())?;
+    for group in shown {
         rows.push(row_for(alloc, plan, group)?)?;
     }
     Ok(rows)
 }
 
+/// The groups that a report shows, in the order of its rows, each beside the index of its grouping set.
+pub(crate) fn shown_groups<'a>(
+    alloc: Global,
+    groups: &'a Groups,
+    plan: &PlanView<'_>,
+) -> Result<Vec<&'a (usize, Group)>, AllocError>
+    requires { AreFittingUnder plan.now groups.now.found }
+    ensures shown { IfOk result (λ v. map (λ r. row_of r.now) v.items ≡ arranged (fields_of_plan plan.now) (form_of_plan plan.now) groups.now.found) }
+    ensures sets { IfOk result (λ v. All (λ r. HasSetUnder plan.now (row_of r.now)) v.items) }
+{
+    let unordered = rows_having_true(alloc, plan, groups.rows())?;
+    in_order(alloc, plan, unordered)
+}
+
 /// The row of a group, which stands beside the index of its grouping set.
-fn row_for(
+pub(crate) fn row_for(
     alloc: Global,
     plan: &PlanView<'_>,
     found: &(usize, Group),

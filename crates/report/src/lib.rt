@@ -21,4 +21,4 @@ pub use arranging::arrange;
 pub use laws::{arranged_law, order_law};
 pub use refused::refused_text;
 pub use row::ReportRow;
-pub use text::report_text;
+pub use text::{report_on, report_text};

@@ -1,20 +1,25 @@
 //! The bytes of a report.
-ghost use Rattle.std.specs.Prelude.{◌≡◌, All, IfOk, OnOk, length, map};
+ghost use Rattle.std.specs.Prelude.{◌≡◌, [], Some, All, IfOk, OnOk, length, map};
 ghost use Rattle.std.specs.Io.KnownBytes.{Appends};
 ghost use Rattle.csv.specs.Records.{fields_of};
 ghost use Rattle.csv.specs.Writing.{row_text, default_writer, text_written};
 ghost use Rattle.query_print.specs.Canonical.{header_text};
-ghost use Rattle.query_plan.specs.Planned.{form_of_plan};
+ghost use Rattle.query_plan.specs.Planned.{fields_of_plan, form_of_plan};
+ghost use Rattle.tables.specs.Planned.{AreFittingUnder};
 ghost use Rattle.report.specs.Inside.Between.{IsBetweenRows};
+ghost use Rattle.report.specs.Report.{report_of};
 ghost use Rattle.report.specs.Shown.{cells_of};
 ghost use Rattle.report.specs.Text.{cell_field, report_bytes};
 
+use crate::arranging::{row_for, shown_groups};
 use crate::fields::write_cells;
 use crate::row::ReportRow;
+use crate::view::PlanView;
 use csv::{ByteRecord, Writer, WriterBuilder};
 use query_plan::{Plan, header};
 use std::alloc::{AllocError, Global};
 use std::io::Write;
+use tables::Groups;
 
 /// The bytes of a report: CSV (RFC 4180, section 2) with commas, line feeds, and quotes where they are needed. The
 /// first row holds the header of each item of SELECT. NULL is `\N`, and a text that begins with `\` has one more in
@@ -33,8 +38,7 @@ pub fn report_text(alloc: Global, rows: &[ReportRow], plan: &Plan) -> Result<Vec
     requires { All (λ row. length row.cells.items ≡ length (form_of_plan plan.now).items) rows.now }
     ensures { IfOk result (λ text. text.items ≡ report_bytes (form_of_plan plan.now).items (map cells_of rows.now)) }
 {
-    let mut writer = WriterBuilder::new().from_writer(Vec::new(alloc));
-    put_headers(&mut writer, alloc, plan)?;
+    let mut writer = begun(alloc, plan)?;
     let mut fields = ByteRecord::new(alloc);
     for row in rows {
         put_row(&mut writer, &mut fields, alloc, row)?;
@@ -43,6 +47,45 @@ pub fn report_text(alloc: Global, rows: &[ReportRow], plan: &Plan) -> Result<Vec
         Ok(text) => Ok(text),
         Err(_) => Err(AllocError),
     }
+}
+
+/// The bytes of the report on groups: those that `report_text` gives for the rows of `arrange`, of which it holds one at a
+/// time.
+///
+/// The groups fit the plan, as `arrange` asks for.
+///
+/// Example: for `SELECT d, COUNT(*) AS n FROM lines GROUP BY d`, and the groups of records whose `d` are `'y'`, `'x'` and
+/// `'x'`, it has the lines `d,n`, `x,2` and `y,1`.
+///
+/// # Errors
+///
+/// `AllocError` where there is no memory for the text.
+pub fn report_on(alloc: Global, groups: &Groups, plan: &Plan) -> Result<Vec<u8>, AllocError>
+    requires { AreFittingUnder plan.now groups.now.found }
+    ensures { IfOk result (λ text. text.items ≡ report_of (fields_of_plan plan.now) (form_of_plan plan.now) groups.now.found) }
+{
+    let view = PlanView::new(alloc, plan)?;
+    let shown = shown_groups(alloc, groups, &view)?;
+    let mut writer = begun(alloc, plan)?;
+    let mut fields = ByteRecord::new(alloc);
+    for group in shown.as_slice() {
+        let row = row_for(alloc, &view, group)?;
+        put_row(&mut writer, &mut fields, alloc, &row)?;
+    }
+    match writer.into_inner() {
+        Ok(text) => Ok(text),
+        Err(_) => Err(AllocError),
+    }
+}
+
+/// A writer of a report that has the row of the headers.
+fn begun(alloc: Global, plan: &Plan) -> Result<Writer<Vec<u8>>, AllocError>
+    ensures between { IfOk result IsBetweenRows }
+    ensures text { IfOk result (λ writer. text_written ⟦<Vec<u8> as Write>⟧.contents writer ≡ Some (report_bytes (form_of_plan plan.now).items [])) }
+{
+    let mut writer = WriterBuilder::new().from_writer(Vec::new(alloc));
+    put_headers(&mut writer, alloc, plan)?;
+    Ok(writer)
 }
 
 /// The headers of the items of SELECT.

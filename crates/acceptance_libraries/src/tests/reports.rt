@@ -4,7 +4,7 @@ ghost use Rattle.report.specs.Report.{NamesColumn};
 
 use lines::LineFault;
 use query::{Plan, check, parse};
-use report::{arrange, arranged_law, order_law, refused_text, report_text};
+use report::{arrange, arranged_law, order_law, refused_text, report_on, report_text};
 use std::alloc::{AllocError, Global};
 use std::process::Abort;
 use std::test::Fail;
@@ -50,27 +50,43 @@ const REPORT: &[u8] = b"r,a\n\\N,\\N\n\"say \"\"hi\"\"\",-7/2\n\\\\N,\\N\n";
 
 const LIST: &[u8] = b"line 2: not JSON\nline 4: not an object\nline 5: bad value in column q\n";
 
+/// What is written of the lines.
+#[derive(Drop)]
+struct Written {
+    report: Vec<u8>,
+    /// The report once more, by rows that are held all at once.
+    report_of_rows: Vec<u8>,
+    list: Vec<u8>,
+}
+
 /// What is written of the lines: the report, and the list if all columns that it is to name are in the schema.
-fn written(alloc: Global, plan: &Plan) -> Result<(Vec<u8>, Vec<u8>), AllocError> {
+fn written(alloc: Global, plan: &Plan) -> Result<Written, AllocError> {
     let partial = Partial::fold_piece(alloc, plan, 0, LINES)?;
     let groups = partial.finish(plan)?;
+    let report = report_on(alloc, &groups, plan)?;
     let rows = arrange(alloc, &groups, plan)?;
-    let report = report_text(alloc, &rows, plan)?;
+    let report_of_rows = report_text(alloc, &rows, plan)?;
     let schema = plan.schema();
-    if !are_named(&groups, schema) {
-        return Ok((report, Vec::new(alloc)));
-    }
-    let list = refused_text(alloc, &groups, schema)?;
-    Ok((report, list))
+    let list = if are_named(&groups, schema) {
+        refused_text(alloc, &groups, schema)?
+    } else {
+        Vec::new(alloc)
+    };
+    Ok(Written {
+        report,
+        report_of_rows,
+        list,
+    })
 }
 
 #[test]
 fn writes_the_report_and_the_list(rt: HostRuntime) -> Result<(), Fail> {
     let plan = plan_if_any(rt.alloc()).expect(&rt, "a plan");
-    let (report, list) = written(rt.alloc(), &plan)?;
+    let written = written(rt.alloc(), &plan)?;
     drop(plan);
-    assert_eq!(rt; report.as_slice(), REPORT);
-    assert_eq!(rt; list.as_slice(), LIST);
+    assert_eq!(rt; written.report.as_slice(), REPORT);
+    assert_eq!(rt; written.report_of_rows.as_slice(), REPORT);
+    assert_eq!(rt; written.list.as_slice(), LIST);
     Ok(())
 }
 
@@ -83,9 +99,10 @@ fn refusal_of_the_report_and_the_list(rt: HostRuntime) {
     let answer = written(rt.alloc(), &plan);
     drop(plan);
     match answer {
-        Ok((report, list)) => {
-            assert_eq!(rt; report.as_slice(), REPORT);
-            assert_eq!(rt; list.as_slice(), LIST);
+        Ok(written) => {
+            assert_eq!(rt; written.report.as_slice(), REPORT);
+            assert_eq!(rt; written.report_of_rows.as_slice(), REPORT);
+            assert_eq!(rt; written.list.as_slice(), LIST);
         }
         Err(AllocError) => {}
     }
