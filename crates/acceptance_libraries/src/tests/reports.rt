@@ -52,7 +52,7 @@ const LIST: &[u8] = b"line 2: not JSON\nline 4: not an object\nline 5: bad value
 
 /// What is written of the lines.
 #[derive(Drop)]
-struct Written {
+struct Texts {
     report: Vec<u8>,
     /// The report once more, by rows that are held all at once.
     report_of_rows: Vec<u8>,
@@ -60,7 +60,7 @@ struct Written {
 }
 
 /// What is written of the lines: the report, and the list if all columns that it is to name are in the schema.
-fn written(alloc: Global, plan: &Plan) -> Result<Written, AllocError> {
+fn written(alloc: Global, plan: &Plan) -> Result<Texts, AllocError> {
     let partial = Partial::fold_piece(alloc, plan, 0, LINES)?;
     let groups = partial.finish(plan)?;
     let report = report_on(alloc, &groups, plan)?;
@@ -72,7 +72,7 @@ fn written(alloc: Global, plan: &Plan) -> Result<Written, AllocError> {
     } else {
         Vec::new(alloc)
     };
-    Ok(Written {
+    Ok(Texts {
         report,
         report_of_rows,
         list,
