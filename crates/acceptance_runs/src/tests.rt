@@ -1,5 +1,6 @@
 //! A module for each subject.
 
+mod gathering;
 mod rounds;
 mod running;
 mod serving;

@@ -16,10 +16,13 @@ use Rattle.tables.specs.Partials.{StandsForInput}
 use Rattle.tables.specs.Results.{query_found}
 use Rattle.tables.specs.States.{PartialState}
 use Rattle.engine.specs.declared.running.Done.{Done}
-use Rattle.engine.specs.Pieces.{IsWhole, limit_number}
-use Rattle.engine.specs.Run.{Hinders, IsDecided, IsWithin, Leaves, LeavesOfInput, Stops, refusals, report}
+use Rattle.gathering.specs.declared.fault.GatherFault.{GatherFault}
+use Rattle.gathering.specs.declared.fault.GatherFault.TheVariants as gathering
+use Rattle.gathering.specs.Faults.{Stops}
+use Rattle.gathering.specs.Gathered.{IsWhole, limit_number}
+use Rattle.engine.specs.Run.{Hinders, IsDecided, IsWithin, Leaves, LeavesOfInput, fault_of_gathering, refusals, report}
 use Rattle.engine.specs.Written.{AppendsBeginning, LeavesWritten}
-use Rattle.engine.proofs.Tallies.{lines-of-input, refused-of-input}
+use Rattle.gathering.proofs.Tallies.{lines-of-input, refused-of-input}
 use Rattle.std.specs.Io.KnownBytes.{Appends, Keeps}
 
 -- what holds of all that was read holds of what the reader gives, where that is known
@@ -86,15 +89,13 @@ limit-known (Ok done) limit partial few h = within limit partial.refused done.re
 stopped : (limit : Option ℕ) (count : ℕ) (most : ℕ) → limit ≡ Some most → most < count → IsDecided {X = Done} (Err (TooManyRefused most)) limit count
 stopped limit count most e l = λ _. (λ no. let wrong = no in absurd cc, λ few. let at_most = subst (λ (x : Option ℕ). IsWithin x count) e few in absurd (omega (arith, l, at_most)))
 
-pub decided-stopped : (limit : Option ℕ) (fields : List Field) (known : Option (List ℕ)) (fault : RunFault) → Stops fault limit fields known
-    → IfSome known (λ input. IsDecided {X = Done} (Err fault) limit (length (refused fields input)))
+pub decided-stopped : (limit : Option ℕ) (fields : List Field) (known : Option (List ℕ)) (fault : GatherFault) → Stops fault limit fields known
+    → IfSome known (λ input. IsDecided {X = Done} (Err (fault_of_gathering fault)) limit (length (refused fields input)))
 decided-stopped limit fields None fault h = tt
-decided-stopped limit fields (Some input) Reading h = λ free. absurd (free tt)
-decided-stopped limit fields (Some input) OutOfMemory h = λ free. absurd (free tt)
-decided-stopped limit fields (Some input) ThreadNotStarted h = λ free. absurd (free tt)
-decided-stopped limit fields (Some input) (TooManyRefused most) h = stopped limit (length (refused fields input)) most h.0 h.1
-decided-stopped limit fields (Some input) WritingReport h = absurd h
-decided-stopped limit fields (Some input) WritingRefused h = absurd h
+decided-stopped limit fields (Some input) gathering.Reading h = λ free. absurd (free tt)
+decided-stopped limit fields (Some input) gathering.OutOfMemory h = λ free. absurd (free tt)
+decided-stopped limit fields (Some input) gathering.ThreadNotStarted h = λ free. absurd (free tt)
+decided-stopped limit fields (Some input) (gathering.TooManyRefused most) h = stopped limit (length (refused fields input)) most h.0 h.1
 
 hinders : (fields : List Field) (q : TreeForm) (input : List ℕ) (oo on eo en : Option (List ℕ)) (fault : RunFault) → LeavesOfInput fault fields q input oo on eo en → Hinders fault
 hinders fields q input oo on eo en Reading h = absurd h
@@ -124,14 +125,12 @@ decided-known r limit fields q known partial oo on eo en w few h =
 
 -- ---- what a fault leaves
 
-pub leaves-stopped : (limit : Option ℕ) (fields : List Field) (q : TreeForm) (known out err : Option (List ℕ)) (fault : RunFault) → Stops fault limit fields known
-    → Keeps out out → Keeps err err → Leaves fault limit fields q known out out err err
-leaves-stopped limit fields q known out err Reading h a b = (a, b)
-leaves-stopped limit fields q known out err OutOfMemory h a b = (a, b)
-leaves-stopped limit fields q known out err ThreadNotStarted h a b = (a, b)
-leaves-stopped limit fields q known out err (TooManyRefused most) h a b = (h.0, h.1, a, b)
-leaves-stopped limit fields q known out err WritingReport h a b = absurd h
-leaves-stopped limit fields q known out err WritingRefused h a b = absurd h
+pub leaves-stopped : (limit : Option ℕ) (fields : List Field) (q : TreeForm) (known out err : Option (List ℕ)) (fault : GatherFault) → Stops fault limit fields known
+    → Keeps out out → Keeps err err → Leaves (fault_of_gathering fault) limit fields q known out out err err
+leaves-stopped limit fields q known out err gathering.Reading h a b = (a, b)
+leaves-stopped limit fields q known out err gathering.OutOfMemory h a b = (a, b)
+leaves-stopped limit fields q known out err gathering.ThreadNotStarted h a b = (a, b)
+leaves-stopped limit fields q known out err (gathering.TooManyRefused most) h a b = (h.0, h.1, a, b)
 
 fault-leaves : (limit : Option ℕ) (fields : List Field) (q : TreeForm) (bytes : List ℕ) (known oo on eo en : Option (List ℕ)) (fault : RunFault) → IfSome known (λ input. bytes ≡ trim input)
     → LeavesOfInput fault fields q bytes oo on eo en → Leaves fault limit fields q known oo on eo en
@@ -151,6 +150,13 @@ pub leaves-known : (r : Result Done RunFault) (limit : Option ℕ) (fields : Lis
     → IfErr r (λ fault. Leaves fault limit fields q known oo on eo en)
 leaves-known (Ok done) limit fields q known partial oo on eo en w h = tt
 leaves-known (Err fault) limit fields q known partial oo on eo en w h = fault-leaves limit fields q w.bytes known oo on eo en fault w.trimmed (h w.bytes w.stands)
+
+-- where no thread is wanted for the result, none is wanted for the run
+pub thread-gathered : (fault : GatherFault) → fault ≢ gathering.ThreadNotStarted → fault_of_gathering fault ≢ ThreadNotStarted
+thread-gathered gathering.Reading h = λ no. let wrong = no in absurd cc
+thread-gathered gathering.OutOfMemory h = λ no. let wrong = no in absurd cc
+thread-gathered gathering.ThreadNotStarted h = λ no. h refl
+thread-gathered (gathering.TooManyRefused most) h = λ no. let wrong = no in absurd cc
 
 -- no fault after all of an input was worked on is one of a thread
 thread-started : (fields : List Field) (q : TreeForm) (input : List ℕ) (oo on eo en : Option (List ℕ)) (fault : RunFault) → LeavesOfInput fault fields q input oo on eo en → fault ≢ ThreadNotStarted

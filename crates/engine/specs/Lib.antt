@@ -1,4 +1,3 @@
 pub mod Explanation
-pub mod Pieces
 pub mod Run
 pub mod Written

@@ -1,12 +1,12 @@
 -- What a run writes, and what it leaves where it fails.
-use Rattle.std.specs.Prelude.{◌≡◌, ◌<◌, ◌≤◌, ◌↔◌, ◌⊎◌, ⊤, ℕ, List, Option, Some, None, Result, IfErr, IfSome, IsOk, length}
+use Rattle.std.specs.Prelude.{◌≡◌, ◌<◌, ◌≤◌, ◌↔◌, ⊤, ℕ, List, Option, Some, None, Result, IfErr, IfSome, IsOk, length}
 use Rattle.std.specs.Io.KnownBytes.{Appends, Keeps}
 use Rattle.values.specs.Schema.{Field}
 use Rattle.lines.specs.Input.{good, refused}
 use Rattle.query_tree.specs.Syntax.{TreeForm}
 use Rattle.tables.specs.Results.{query_found}
-use Rattle.pool.specs.declared.laws.PoolFault.{PoolFault}
-use Rattle.pool.specs.declared.laws.PoolFault.TheVariants as pool
+use Rattle.gathering.specs.declared.fault.GatherFault.{GatherFault}
+use Rattle.gathering.specs.declared.fault.GatherFault.TheVariants as gathering
 use Rattle.report.specs.Report.{refusals_of, report_of}
 use Rattle.engine.specs.Written.{AppendsBeginning}
 use Rattle.engine.specs.declared.fault.RunFault.{RunFault}
@@ -51,28 +51,12 @@ Leaves WritingRefused limit fields q input out_old out_new err_old err_new =
 
 -- ---- in the code
 
--- the fault of a run that a pool's fault is
-abbrev pub fault_of_pool : PoolFault → RunFault
-fault_of_pool pool.OutOfMemory = OutOfMemory
-fault_of_pool pool.ThreadNotStarted = ThreadNotStarted
-
--- memory or a thread was refused, before anything was written
-abbrev pub IsUnwritten : RunFault → Type 0
-IsUnwritten fault = (fault ≡ OutOfMemory) ⊎ (fault ≡ ThreadNotStarted)
-
--- the fault says that more lines are refused than the limit
-abbrev pub Refuses : RunFault → Option ℕ → ℕ → Type 0
-Refuses (TooManyRefused most) limit count = (limit ≡ Some most) × (most < count)
-Refuses fault limit count = ⊥
-
--- the fault came before anything was written: a read failed, memory or a thread was refused, or more lines are refused than the limit
-abbrev pub Stops : RunFault → Option ℕ → List Field → Option (List ℕ) → Type 0
-Stops Reading limit fields input = ⊤
-Stops OutOfMemory limit fields input = ⊤
-Stops ThreadNotStarted limit fields input = ⊤
-Stops (TooManyRefused most) limit fields input = (limit ≡ Some most) × IfSome input (λ bytes. most < length (refused fields bytes))
-Stops WritingReport limit fields input = ⊥
-Stops WritingRefused limit fields input = ⊥
+-- the fault of a run that a fault of gathering the result is
+abbrev pub fault_of_gathering : GatherFault → RunFault
+fault_of_gathering gathering.Reading = Reading
+fault_of_gathering gathering.OutOfMemory = OutOfMemory
+fault_of_gathering gathering.ThreadNotStarted = ThreadNotStarted
+fault_of_gathering (gathering.TooManyRefused most) = TooManyRefused most
 
 -- what a fault leaves after all of an input was worked on: nothing was written where memory was refused, and else what a failed write leaves of the two texts
 abbrev pub LeavesOfInput :

@@ -1,10 +1,9 @@
 //! How a run fails.
 ghost use Rattle.std.specs.Prelude.{◌≡◌};
-ghost use Rattle.engine.specs.declared.fault.RunFault.TheVariants.{OutOfMemory, Reading};
-ghost use Rattle.engine.specs.Run.{fault_of_pool};
+ghost use Rattle.engine.specs.declared.fault.RunFault.TheVariants.{OutOfMemory};
+ghost use Rattle.engine.specs.Run.{fault_of_gathering};
 
-use lines::ReadFault;
-use pool::PoolFault;
+use gathering::GatherFault;
 use std::alloc::AllocError;
 use thiserror::Error;
 
@@ -43,21 +42,15 @@ impl From<AllocError> for RunFault {
     }
 }
 
-impl From<ReadFault> for RunFault {
-    ghost from_gives = { λ _ fault. fault ≡ Reading };
+impl From<GatherFault> for RunFault {
+    ghost from_gives = { λ given fault. fault ≡ fault_of_gathering given };
 
-    fn from(_error: ReadFault) -> RunFault {
-        RunFault::Reading
-    }
-}
-
-impl From<PoolFault> for RunFault {
-    ghost from_gives = { λ given fault. fault ≡ fault_of_pool given };
-
-    fn from(fault: PoolFault) -> RunFault {
+    fn from(fault: GatherFault) -> RunFault {
         match fault {
-            PoolFault::OutOfMemory => RunFault::OutOfMemory,
-            PoolFault::ThreadNotStarted => RunFault::ThreadNotStarted,
+            GatherFault::Reading => RunFault::Reading,
+            GatherFault::OutOfMemory => RunFault::OutOfMemory,
+            GatherFault::ThreadNotStarted => RunFault::ThreadNotStarted,
+            GatherFault::TooManyRefused(most) => RunFault::TooManyRefused(most),
         }
     }
 }

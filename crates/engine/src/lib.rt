@@ -1,13 +1,10 @@
 //! What the program does, over any reader and writers.
 #![tactic(auto)]
 
-mod cutting;
 mod explaining;
 mod fault;
-mod gathering;
 mod running;
 mod serving;
-mod working;
 mod writing;
 
 pub use fault::RunFault;

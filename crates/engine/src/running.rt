@@ -10,9 +10,9 @@ ghost use Rattle.tables.specs.Partials.{StandsForInput};
 ghost use Rattle.engine.specs.Run.{IsDecided, IsWithin, Leaves, LeavesOfInput, refusals, report};
 
 use crate::fault::RunFault;
-use crate::gathering::{whole_alone, whole_among};
 use crate::writing::put_both;
 use command_line::Options;
+use gathering::{gather, gather_alone};
 use query::Plan;
 use report::{arranged_law, refused_text, report_on};
 use std::alloc::{AllocError, Global};
@@ -93,7 +93,7 @@ pub fn run<R: Read + Drop + Send, O: Write, E: Write, H: Threads + Wait + Sync>(
     // One worker starts no thread.
     ensures started { options.workers ≡ 1 → IfErr result (λ fault. fault ≢ RunFault.ThreadNotStarted) }
 {
-    let whole = whole_among(rt, alloc, plan, options, reader)?;
+    let whole = gather(rt, alloc, plan, options, reader)?;
     write_whole(alloc, plan, whole, out, err)
 }
 
@@ -134,7 +134,7 @@ pub fn run_alone<R: Read + Drop, O: Write, E: Write>(
         (O.contents out.old) (O.contents out.new) (E.contents err.old) (E.contents err.new)) }
     ensures started { IfErr result (λ fault. fault ≢ RunFault.ThreadNotStarted) }
 {
-    let whole = whole_alone(alloc, plan, options, reader)?;
+    let whole = gather_alone(alloc, plan, options, reader)?;
     write_whole(alloc, plan, whole, out, err)
 }
 

@@ -108,7 +108,7 @@ impl By {
 }
 
 /// The plan of a query under the columns, where memory is granted.
-fn plan_if_any(alloc: Global, query: &str) -> Option<Plan> {
+pub fn plan_if_any(alloc: Global, query: &str) -> Option<Plan> {
     let query = parse(alloc, query).ok()?;
     match Schema::parse(alloc, COLUMNS) {
         Ok(schema) => check(alloc, query, schema).ok(),

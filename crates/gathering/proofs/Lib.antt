@@ -1,0 +1,5 @@
+pub mod Cuts
+pub mod Tallies
+pub mod Pooled
+mod Sharing
+pub mod Gathered

@@ -1,0 +1,17 @@
+-- The result of a query over all that a reader gives.
+use Rattle.std.specs.Prelude.{◌≡◌, ℕ, List, Option, IfSome, unwrap_or}
+use Rattle.values.specs.Schema.{Field}
+use Rattle.lines.specs.Trim.{trim}
+use Rattle.query_tree.specs.Syntax.{TreeForm}
+use Rattle.tables.specs.Partials.{StandsForInput}
+use Rattle.tables.specs.States.{PartialState}
+
+-- the partial result stands for all that a reader gives: for bytes which, where it is known what the reader gives, are that, trimmed
+pub record IsWhole (fields : List Field) (q : TreeForm) (known : Option (List ℕ)) (partial : PartialState) : Type 0 where
+  pub bytes : List ℕ
+  pub stands : StandsForInput fields q partial bytes
+  pub trimmed : IfSome known (λ input. bytes ≡ trim input)
+
+-- where there is no limit, the greatest number of 64 bits stands for it
+abbrev pub limit_number : Option ℕ → ℕ
+limit_number limit = unwrap_or limit 18446744073709551615

@@ -1,0 +1,35 @@
+-- The pieces of a round that is cut, and the result over the rounds so far. Private calls alone speak of them.
+use Rattle.std.specs.Prelude.{◌≡◌, ◌⊎◌, ◌<◌, ◌≤◌, true, ℕ, List, Option, length, option_map}
+use Rattle.std.specs.Io.KnownBytes.{Consumes}
+use Rattle.values.specs.Schema.{Field}
+use Rattle.lines.specs.Pieces.{AreWholeLines}
+use Rattle.lines.specs.Rounds.{RoundsState}
+use Rattle.lines.specs.Trim.{trim}
+use Rattle.pool.specs.declared.laws.Outcome.{Outcome}
+use Rattle.pool.specs.declared.laws.Outcome.TheVariants.{Whole, Over}
+use Rattle.query_tree.specs.Syntax.{TreeForm}
+use Rattle.tables.specs.declared.partial.Partial.{Partial}
+use Rattle.tables.specs.Partials.{StandsFor, StandsForInput}
+use Rattle.tables.specs.Pieces.{IndexedPiece, IsCutInto, refused_within}
+use Rattle.tables.specs.States.{PartialState}
+
+-- a pool's answer over pieces under a limit: a result that stands for them, where not more lines are refused than the limit; Over, where more are
+abbrev pub IsAnswer : List Field → TreeForm → List IndexedPiece → ℕ → Outcome Partial → Type 0
+IsAnswer fields q pieces limit (Whole partial) = StandsFor fields q partial pieces × (length (refused_within fields pieces) ≤ limit)
+IsAnswer fields q pieces limit Over = limit < length (refused_within fields pieces)
+
+-- the answer is one over pieces that the round is cut into
+pub record IsOutcome (fields : List Field) (q : TreeForm) (round : List ℕ) (limit : ℕ) (outcome : Outcome Partial) : Type 0 where
+  pub pieces : List IndexedPiece
+  pub answer : IsAnswer fields q pieces limit outcome
+  pub cut : IsCutInto round pieces
+
+-- Between two rounds the partial result stands for the bytes of all rounds so far. Where it is known what the reader gives, these and what is left make up
+-- that, trimmed. They are counted; they are whole lines, unless the last round was given; and not more of their lines are refused than the limit.
+pub record StandsForRounds {R : Type 0} (fields : List Field) (q : TreeForm) (known : Option (List ℕ)) (limit : ℕ) (rounds : RoundsState R) (partial : PartialState) : Type 0 where
+  pub bytes : List ℕ
+  pub stands : StandsForInput fields q partial bytes
+  pub left : Consumes (option_map trim known) rounds.left bytes
+  pub count : rounds.given ≡ length bytes
+  pub ends : AreWholeLines bytes ⊎ (rounds.over ≡ true)
+  pub within : partial.refused ≤ limit

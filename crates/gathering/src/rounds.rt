@@ -1,0 +1,244 @@
+//! The result of a query over an input that is read in rounds.
+ghost use Rattle.std.specs.Prelude.{◌≡◌, ◌≢◌, ◌+◌, ◌<◌, ◌≤◌, ◌^◌, ◌⊎◌, All, IfErr, IfOk, length, vec_len};
+ghost use Rattle.query_plan.specs.Planned.{fields_of_plan, form_of_plan};
+ghost use Rattle.lines.specs.Rounds.{HasMoved};
+ghost use Rattle.lines.specs.Input.{refused};
+ghost use Rattle.tables.specs.Partials.{StandsForInput};
+ghost use Rattle.gathering.specs.Gathered.{IsWhole, limit_number};
+ghost use Rattle.gathering.specs.Faults.{IsWant, Refuses, Stops};
+
+use crate::fault::GatherFault;
+use crate::working::{round_alone, round_among};
+use command_line::Options;
+use lines::{ReadFault, Round, Rounds};
+use pool::{Book, Share};
+use query::Plan;
+use std::alloc::Global;
+use std::io::Read;
+use std::marker::{Brand, Send, Sync};
+use std::sync::Wait;
+use std::sync::ledger::{Blank, Ledger};
+use std::thread::{Threads, join};
+use tables::Partial;
+
+/// The result of a query over what a reader gives, worked on round by round on the calling thread. The number of workers is
+/// not looked at.
+///
+/// Example: with the plan of `SELECT COUNT(*) AS n FROM lines`, and an input of one empty line,
+/// `gather_alone(alloc, &plan, options, input)`, where there is memory for it, answers a result of which `lines()` and
+/// `refused()` are 1.
+///
+/// # Errors
+///
+/// Those of `gather`, but never `ThreadNotStarted`.
+pub fn gather_alone<R: Read + Drop>(
+    alloc: Global,
+    plan: &Plan,
+    options: Options,
+    reader: R,
+) -> Result<Partial, GatherFault>
+    ensures whole { IfOk result (IsWhole (fields_of_plan plan.now) (form_of_plan plan.now) (R.remaining reader)) }
+    ensures limit { IfOk result (λ partial. partial.refused ≤ limit_number options.max_refused) }
+    ensures fault { IfErr result (λ fault. Stops fault options.max_refused (fields_of_plan plan.now) (R.remaining reader)) }
+    ensures started { IfErr result (λ fault. fault ≢ GatherFault.ThreadNotStarted) }
+{
+    let mut rounds = Rounds::new(alloc, reader, options.round())?;
+    let mut whole = Partial::empty(alloc, plan)?;
+    while rounds.advance()? {
+        let before = whole.refused();
+        let round = round_alone(alloc, plan, options, before, rounds.round())?;
+        whole = whole.follow(round)?;
+    }
+    Ok(whole)
+}
+
+/// The result of a query over what a reader gives, worked on round by round by as many threads as there are workers, the
+/// calling one among them. Where there are several, one thread more reads the next round meanwhile, if there may be one.
+/// With one worker no thread is started.
+///
+/// Example: with the plan of `SELECT SUM(q) AS s FROM lines` under `q:int`, and the one line `{"q":5}` as the input,
+/// `gather(&rt, alloc, &plan, options, input)`, where nothing is refused to it, answers a result of which `lines()` is 1
+/// and `refused()` is 0.
+///
+/// # Errors
+///
+/// `Reading` where a read fails or the input has 2^63 bytes or more, `OutOfMemory` where memory runs out,
+/// `ThreadNotStarted` where a thread cannot be started, which one worker never answers, `TooManyRefused` where more lines
+/// are refused than the options allow.
+pub fn gather<R: Read + Drop + Send, H: Threads + Wait + Sync>(
+    rt: &H,
+    alloc: Global,
+    plan: &Plan,
+    options: Options,
+    reader: R,
+) -> Result<Partial, GatherFault>
+    ensures whole { IfOk result (IsWhole (fields_of_plan plan.now) (form_of_plan plan.now) (R.remaining reader)) }
+    ensures limit { IfOk result (λ partial. partial.refused ≤ limit_number options.max_refused) }
+    ensures fault { IfErr result (λ fault. Stops fault options.max_refused (fields_of_plan plan.now) (R.remaining reader)) }
+    ensures started { options.workers ≡ 1 → IfErr result (λ fault. fault ≢ GatherFault.ThreadNotStarted) }
+{
+    let blank = Blank::new(options.workers() as u64);
+    if options.workers() == 1 {
+        by_one_book::<Brand, R, H>(rt, alloc, plan, options, reader, blank)
+    } else {
+        reading_ahead::<Brand, R, H>(rt, alloc, plan, options, reader, blank)
+    }
+}
+
+/// The same with one book of refused lines over all rounds, whose ledger is L.
+fn by_one_book<L: Ledger + Send + Sync, R: Read + Drop, H: Threads + Wait + Sync>(
+    rt: &H,
+    alloc: Global,
+    plan: &Plan,
+    options: Options,
+    reader: R,
+    blank: Blank,
+) -> Result<Partial, GatherFault>
+    requires name { blank.name ≡ L.name }
+    requires parts { (blank.parts ≡ L.parts) × (L.parts ≡ options.workers) }
+    ensures whole { IfOk result (IsWhole (fields_of_plan plan.now) (form_of_plan plan.now) (R.remaining reader)) }
+    ensures limit { IfOk result (λ partial. partial.refused ≤ limit_number options.max_refused) }
+    ensures fault { IfErr result (λ fault. Stops fault options.max_refused (fields_of_plan plan.now) (R.remaining reader)) }
+    ensures started { options.workers ≡ 1 → IfErr result (λ fault. fault ≢ GatherFault.ThreadNotStarted) }
+{
+    let (book, mut shares) = Book::<L>::new(alloc, blank, options.workers())?;
+    let mut rounds = Rounds::new(alloc, reader, options.round())?;
+    let mut whole = Partial::empty(alloc, plan)?;
+    while rounds.advance()? {
+        let before = whole.refused();
+        let (round, back) = round_among(
+            rt,
+            alloc,
+            plan,
+            options,
+            before,
+            rounds.round(),
+            &book,
+            shares,
+        )?;
+        shares = back;
+        whole = whole.follow(round)?;
+    }
+    book.close(shares);
+    Ok(whole)
+}
+
+/// The same with two buffers: while a round is worked on, the next one is read into the other. What the work answers is
+/// looked at first, so that a read that fails tells nothing before the limit of refused lines does.
+fn reading_ahead<L: Ledger + Send + Sync, R: Read + Drop + Send, H: Threads + Wait + Sync>(
+    rt: &H,
+    alloc: Global,
+    plan: &Plan,
+    options: Options,
+    reader: R,
+    blank: Blank,
+) -> Result<Partial, GatherFault>
+    requires name { blank.name ≡ L.name }
+    requires parts { (blank.parts ≡ L.parts) × (L.parts ≡ options.workers) }
+    ensures whole { IfOk result (IsWhole (fields_of_plan plan.now) (form_of_plan plan.now) (R.remaining reader)) }
+    ensures limit { IfOk result (λ partial. partial.refused ≤ limit_number options.max_refused) }
+    ensures fault { IfErr result (λ fault. Stops fault options.max_refused (fields_of_plan plan.now) (R.remaining reader)) }
+{
+    let (book, mut shares) = Book::<L>::new(alloc, blank, options.workers())?;
+    let mut rounds = Rounds::new(alloc, reader, options.round())?;
+    let mut spare = Round::new(alloc, options.round())?;
+    let mut whole = Partial::empty(alloc, plan)?;
+    let mut found = rounds.advance()?;
+    while found {
+        let before = whole.refused();
+        let round = rounds.hand_out(spare);
+        let Beside { read, kept, worked } = round_beside(
+            rt, alloc, plan, options, before, rounds, &round, &book, shares,
+        );
+        let (more, back) = worked?;
+        whole = whole.follow(more)?;
+        shares = back;
+        rounds = kept;
+        spare = round;
+        found = read?;
+    }
+    book.close(shares);
+    Ok(whole)
+}
+
+/// Reads on to the next round, and hands the input back.
+fn read_on<R: Read + Drop>(rounds: Rounds<R>) -> (Result<bool, ReadFault>, Rounds<R>)
+    ensures { HasMoved rounds result.0 result.1 }
+{
+    let mut rounds = rounds;
+    let found = rounds.advance();
+    (found, rounds)
+}
+
+/// What a round comes to, and what reading on meanwhile came to.
+struct Beside<L: Ledger, R: Read + Drop> {
+    /// Whether there is a next round.
+    read: Result<bool, ReadFault>,
+    /// The input, read on.
+    kept: Rounds<R>,
+    /// The result of the round, and the shares.
+    worked: Result<(Partial, Vec<Share<L>>), GatherFault>,
+}
+
+/// Works on a round, and meanwhile reads the next one on a thread of its own, where the round may not be the last one.
+fn round_beside<L: Ledger + Send + Sync, R: Read + Drop + Send, H: Threads + Wait + Sync>(
+    rt: &H,
+    alloc: Global,
+    plan: &Plan,
+    options: Options,
+    before: u64,
+    rounds: Rounds<R>,
+    round: &Round,
+    book: &Book<L>,
+    shares: Vec<Share<L>>,
+) -> Beside<L, R>
+    requires short { before + length round.now.bytes < 2 ^ 63 }
+    requires within { before ≤ limit_number options.max_refused }
+    requires hands { (1 ≤ vec_len shares) × (vec_len shares ≤ 64) }
+    requires reported { All (λ share. share.sum ≤ before) shares.items }
+    ensures read { HasMoved rounds result.read result.kept }
+    ensures whole { IfOk result.worked (λ r. StandsForInput (fields_of_plan plan.now) (form_of_plan plan.now) r.0 round.now.bytes) }
+    ensures limit { IfOk result.worked (λ r. before + r.0.refused ≤ limit_number options.max_refused) }
+    ensures hands { IfOk result.worked (λ r. vec_len r.1 ≡ vec_len shares) }
+    ensures reported { IfOk result.worked (λ r. All (λ share. share.sum ≤ before + r.0.refused) r.1.items) }
+    ensures fault { IfErr result.worked (λ fault. IsWant fault
+        ⊎ Refuses fault options.max_refused (before + length (refused (fields_of_plan plan.now) round.now.bytes))) }
+    ensures started { vec_len shares ≡ 1 → IfErr result.worked (λ fault. fault ≢ GatherFault.ThreadNotStarted) }
+{
+    if rounds.is_over() {
+        let worked = round_among(
+            rt,
+            alloc,
+            plan,
+            options,
+            before,
+            round.bytes(),
+            book,
+            shares,
+        );
+        let (read, kept) = read_on(rounds);
+        return Beside { read, kept, worked };
+    }
+    let ((read, kept), worked) = join(
+        rt,
+        move || read_on(rounds),
+        move || -> Result<(Partial, Vec<Share<L>>), GatherFault>
+            requires short { before + length round.now.bytes < 2 ^ 63 }
+            requires within { before ≤ limit_number options.max_refused }
+            requires hands { (1 ≤ vec_len shares) × (vec_len shares ≤ 64) }
+            requires reported { All (λ share. share.sum ≤ before) shares.items }
+        {
+            round_among(
+                rt,
+                alloc,
+                plan,
+                options,
+                before,
+                round.bytes(),
+                book,
+                shares,
+            )
+        },
+    );
+    Beside { read, kept, worked }
+}
