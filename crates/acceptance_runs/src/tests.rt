@@ -1,6 +1,6 @@
 //! A module for each subject.
 
-mod gathering;
+mod results;
 mod rounds;
 mod running;
 mod serving;
