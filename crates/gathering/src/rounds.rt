@@ -12,7 +12,7 @@ use crate::working::{round_alone, round_among};
 use command_line::Options;
 use lines::{ReadFault, Round, Rounds};
 use pool::{Book, Share};
-use query::Plan;
+use query_plan::Plan;
 use std::alloc::Global;
 use std::io::Read;
 use std::marker::{Brand, Send, Sync};

@@ -11,7 +11,7 @@ use crate::cutting::pieces_of;
 use crate::fault::GatherFault;
 use command_line::Options;
 use pool::{Book, Outcome, Share, alone, fan_deal};
-use query::Plan;
+use query_plan::Plan;
 use std::alloc::Global;
 use std::marker::{Send, Sync};
 use std::sync::Wait;
