@@ -1,5 +1,5 @@
 //! The hands of a deal, each on a thread of its own.
-ghost use Rattle.std.specs.Prelude.{◌≡◌, ℕ, ◌+◌, ◌^◌, ◌<◌, ◌≤◌, ◌⊎◌, ◌++◌, ◌∷◌, [], All, IfOk, IfErr, IfSome, IfNone, IsOkAnd, OnOk, vec_len, length, List};
+ghost use Rattle.std.specs.Prelude.{◌≡◌, ℕ, ◌+◌, ◌-◌, ◌^◌, ◌<◌, ◌≤◌, ◌⊎◌, ◌++◌, ◌∷◌, [], All, IfOk, IfErr, IfSome, IfNone, IsOkAnd, OnOk, vec_len, length, List};
 ghost use Rattle.pool.specs.Totals.{gathered, sum_below, sum_list, total, once_below};
 ghost use Rattle.pool.specs.Outcomes.{Decides};
 ghost use Rattle.pool.specs.Dealing.{times};
@@ -17,7 +17,7 @@ use crate::deal::{Hand, apart};
 use crate::dealing::Deal;
 use crate::growing::put_last;
 use crate::laws::{Outcome, PoolFault, Work};
-use crate::worker::{Done, go_on, start, work_off};
+use crate::worker::{Crew, Done, go_on, start, work_off};
 use std::alloc::{AllocError, Global};
 use std::marker::{Brand, Send, Sync};
 use std::sync::Wait;
@@ -85,69 +85,61 @@ fn with_done<P: Drop, L: Ledger>(
     Ok(all)
 }
 
-/// Each hand works until it is spent or the book is above `stop`: the first on the calling thread, each other on its own, and where there is no piece all on the calling one.
+/// Each hand works until it is spent or the book is above the crew's `stop`: the first on the calling thread, each other on its own, and where there is no piece all on the calling one.
 fn spread<'s, E, W: Work + Sync, L: Ledger + Send + Sync, R: Threads + Wait + Sync>(
     scope: &Scope<'s, E>,
-    rt: &'s R,
-    alloc: Global,
-    work: &'s W,
-    book: &'s Book<L>,
-    stop: u128,
+    crew: &'s Crew<'s, W, L, R>,
     hands: Vec<Hand>,
     shares: Vec<Share<L>>,
 ) -> Result<Gathered<W::Part, L>, PoolFault>
-    requires ready { AreReady (λ i. W.load_of work.now (W.piece_meaning work.now i)) (λ s. s.sum) hands.items shares.items }
-    ensures did { IfOk result (λ g. DidAll (W.unit_meaning work.now) (W.combined work.now) (W.piece_meaning work.now) (W.weight_of work.now) (λ s. s.sum) W.meaning hands.items shares.items g.hands.items g.shares.items g.parts.items) }
+    requires ready { AreReady (λ i. W.load_of crew.now.work.now (W.piece_meaning crew.now.work.now i)) (λ s. s.sum) hands.items shares.items }
+    ensures did { IfOk result (λ g. DidAll (W.unit_meaning crew.now.work.now) (W.combined crew.now.work.now) (W.piece_meaning crew.now.work.now) (W.weight_of crew.now.work.now) (λ s. s.sum) W.meaning hands.items shares.items g.hands.items g.shares.items g.parts.items) }
     ensures alone { NeedNoThread hands.items → IfErr result (λ e. e ≡ PoolFault.OutOfMemory) }
 {
     let mut hands = hands;
     let mut shares = shares;
     let Some((hand, share)) = last_pair(&mut hands, &mut shares) else {
         return Ok(Gathered {
-            hands: Vec::new(alloc),
-            shares: Vec::new(alloc),
-            parts: Vec::new(alloc),
+            hands: Vec::new(crew.alloc),
+            shares: Vec::new(crew.alloc),
+            parts: Vec::new(crew.alloc),
         });
     };
     if hands.is_empty() || hand.pieces() == 0 {
-        let others = match spread(scope, rt, alloc, work, book, stop, hands, shares) {
+        let others = match spread(scope, crew, hands, shares) {
             Ok(others) => others,
             Err(fault) => return Err(fault),
         };
-        return with_done(others, work_off(rt, work, book, stop, hand, share));
+        return with_done(others, work_off(crew, hand, share));
     }
-    let Some(handle) = start(scope, rt, work, book, stop, hand, share) else {
+    let Some(handle) = start(scope, crew, hand, share) else {
         return Err(PoolFault::ThreadNotStarted);
     };
-    let others = match spread(scope, rt, alloc, work, book, stop, hands, shares) {
+    let others = match spread(scope, crew, hands, shares) {
         Ok(others) => others,
         Err(fault) => return Err(fault),
     };
-    with_done(others, handle.join(rt))
+    with_done(others, handle.join(crew.rt))
 }
 
 /// As `spread`, with a scope of its own.
 fn gather<W: Work + Sync, L: Ledger + Send + Sync, R: Threads + Wait + Sync>(
-    rt: &R,
-    alloc: Global,
-    work: &W,
-    book: &Book<L>,
-    stop: u128,
+    crew: &Crew<'_, W, L, R>,
     hands: Vec<Hand>,
     shares: Vec<Share<L>>,
 ) -> Result<Gathered<W::Part, L>, PoolFault>
-    requires ready { AreReady (λ i. W.load_of work.now (W.piece_meaning work.now i)) (λ s. s.sum) hands.items shares.items }
-    ensures did { IfOk result (λ g. DidAll (W.unit_meaning work.now) (W.combined work.now) (W.piece_meaning work.now) (W.weight_of work.now) (λ s. s.sum) W.meaning hands.items shares.items g.hands.items g.shares.items g.parts.items) }
+    requires ready { AreReady (λ i. W.load_of crew.now.work.now (W.piece_meaning crew.now.work.now i)) (λ s. s.sum) hands.items shares.items }
+    ensures did { IfOk result (λ g. DidAll (W.unit_meaning crew.now.work.now) (W.combined crew.now.work.now) (W.piece_meaning crew.now.work.now) (W.weight_of crew.now.work.now) (λ s. s.sum) W.meaning hands.items shares.items g.hands.items g.shares.items g.parts.items) }
     ensures alone { NeedNoThread hands.items → IfErr result (λ e. e ≡ PoolFault.OutOfMemory) }
 {
     thread::scope(
         thread::scope_env(),
-        rt,
+        crew.rt,
         move |scope| -> Result<Gathered<W::Part, L>, PoolFault>
-            requires { AreReady (λ i. W.load_of work.now (W.piece_meaning work.now i)) (λ s. s.sum) hands.items shares.items }
-            ensures did { IfOk result (λ g. DidAll (W.unit_meaning work.entry.now) (W.combined work.entry.now) (W.piece_meaning work.entry.now) (W.weight_of work.entry.now) (λ s. s.sum) W.meaning hands.items shares.items g.hands.items g.shares.items g.parts.items) }
+            requires { AreReady (λ i. W.load_of crew.now.work.now (W.piece_meaning crew.now.work.now i)) (λ s. s.sum) hands.items shares.items }
+            ensures did { IfOk result (λ g. DidAll (W.unit_meaning crew.entry.now.work.now) (W.combined crew.entry.now.work.now) (W.piece_meaning crew.entry.now.work.now) (W.weight_of crew.entry.now.work.now) (λ s. s.sum) W.meaning hands.items shares.items g.hands.items g.shares.items g.parts.items) }
             ensures alone { NeedNoThread hands.items → IfErr result (λ e. e ≡ PoolFault.OutOfMemory) }
-        { spread(scope, rt, alloc, work, book, stop, hands, shares) },
+        { spread(scope, crew, hands, shares) },
     )
 }
 
@@ -180,32 +172,30 @@ fn last_done<P, L: Ledger>(gathered: &mut Gathered<P, L>) -> Option<Done<P, L>>
     Some(Done { hand, share, part })
 }
 
-/// Each hand goes on until it is spent, on the calling thread.
+/// Each hand goes on until it is spent, on the calling thread. No number of the book stops it.
 fn finish_all<W: Work, L: Ledger, R: Wait>(
-    rt: &R,
-    alloc: Global,
-    work: &W,
-    book: &Book<L>,
+    crew: &Crew<'_, W, L, R>,
     gathered: Gathered<W::Part, L>,
 ) -> Result<Gathered<W::Part, L>, PoolFault>
-    requires { AreUnderWay (W.unit_meaning work.now) (W.combined work.now) (W.piece_meaning work.now) (W.weight_of work.now) (W.load_of work.now) (λ s. s.sum) W.meaning gathered.hands.items gathered.shares.items gathered.parts.items }
-    ensures did { IfOk result (λ g. DidAll (W.unit_meaning work.now) (W.combined work.now) (W.piece_meaning work.now) (W.weight_of work.now) (λ s. s.sum) W.meaning gathered.hands.items gathered.shares.items g.hands.items g.shares.items g.parts.items) }
+    requires never { crew.now.stop ≡ 2 ^ 128 - 1 }
+    requires under_way { AreUnderWay (W.unit_meaning crew.now.work.now) (W.combined crew.now.work.now) (W.piece_meaning crew.now.work.now) (W.weight_of crew.now.work.now) (W.load_of crew.now.work.now) (λ s. s.sum) W.meaning gathered.hands.items gathered.shares.items gathered.parts.items }
+    ensures did { IfOk result (λ g. DidAll (W.unit_meaning crew.now.work.now) (W.combined crew.now.work.now) (W.piece_meaning crew.now.work.now) (W.weight_of crew.now.work.now) (λ s. s.sum) W.meaning gathered.hands.items gathered.shares.items g.hands.items g.shares.items g.parts.items) }
     ensures spent { IfOk result (λ g. AllSpent g.hands.items) }
     ensures fault { IfErr result (λ e. e ≡ PoolFault.OutOfMemory) }
 {
     let mut gathered = gathered;
     let Some(done) = last_done(&mut gathered) else {
         return Ok(Gathered {
-            hands: Vec::new(alloc),
-            shares: Vec::new(alloc),
-            parts: Vec::new(alloc),
+            hands: Vec::new(crew.alloc),
+            shares: Vec::new(crew.alloc),
+            parts: Vec::new(crew.alloc),
         });
     };
-    let others = match finish_all(rt, alloc, work, book, gathered) {
+    let others = match finish_all(crew, gathered) {
         Ok(others) => others,
         Err(fault) => return Err(fault),
     };
-    with_done(others, go_on(rt, work, book, u128::MAX, done))
+    with_done(others, go_on(crew, done))
 }
 
 /// All parts, combined. No piece is in their lists twice.
@@ -296,25 +286,24 @@ pub fn fan_on<W: Work + Sync, L: Ledger + Send + Sync, R: Threads + Wait + Sync>
     ensures over { IfOk result (λ r. Outweighs (λ i. W.weight_of work.now (W.piece_meaning work.now i)) limit r.0 r.1.items) }
     ensures alone { (vec_len hands ≡ 1) ⊎ (pieces_of hands.items ≡ 0) → IfErr result (λ e. e ≡ PoolFault.OutOfMemory) }
 {
-    let gathered = match gather(rt, alloc, work, book, stop, hands, shares) {
+    let mut crew = Crew {
+        rt,
+        alloc,
+        work,
+        book,
+        stop,
+    };
+    let mut gathered = match gather(&crew, hands, shares) {
         Ok(gathered) => gathered,
         Err(fault) => return Err(fault),
     };
-    let Gathered {
-        mut hands,
-        shares,
-        parts,
-    } = gathered;
-    keep_apart(&mut hands);
-    if weigh(work, &parts) > limit {
+    keep_apart(&mut gathered.hands);
+    if weigh(work, &gathered.parts) > limit {
+        let Gathered { hands, shares, .. } = gathered;
         return Ok((Outcome::Over, hands, shares));
     }
-    let gathered = Gathered {
-        hands,
-        shares,
-        parts,
-    };
-    let Ok(finished) = finish_all(rt, alloc, work, book, gathered) else {
+    crew.stop = u128::MAX;
+    let Ok(finished) = finish_all(&crew, gathered) else {
         return Err(PoolFault::OutOfMemory);
     };
     let Ok(concluded) = conclude(work, limit, finished) else {

@@ -7,12 +7,22 @@ ghost use Rattle.pool.specs.Done.{Did, MayGoOn};
 use crate::book::{Book, Share};
 use crate::deal::{Hand, Next};
 use crate::laws::Work;
-use std::alloc::AllocError;
+use std::alloc::{AllocError, Global};
 use std::marker::{PhantomData, Send, Sync};
 use std::snapshot::Snapshot;
 use std::sync::Wait;
 use std::sync::ledger::Ledger;
 use std::thread::{Promise, PromisedHandle, Scope};
+
+/// What all workers of a deal share. A worker may stop once the book's number is above `stop`.
+#[derive(Drop)]
+pub struct Crew<'a, W, L: Ledger, R> {
+    pub rt: &'a R,
+    pub alloc: Global,
+    pub work: &'a W,
+    pub book: &'a Book<L>,
+    pub stop: u128,
+}
 
 /// What a worker gives back: its hand, its share, and the combination of the pieces in the hand's list.
 #[derive(Drop)]
@@ -48,46 +58,41 @@ impl<'a, W: Work, L: Ledger> Promise<Result<Done<W::Part, L>, AllocError>> for P
 
 /// Does one piece: the part has one more, and the share's sum its weight more. Also answers the book's number after it.
 fn one_more<W: Work, L: Ledger, R: Wait>(
-    rt: &R,
-    work: &W,
-    book: &Book<L>,
+    crew: &Crew<'_, W, L, R>,
     share: &mut Share<L>,
     part: W::Part,
     i: u32,
 ) -> Result<(W::Part, u128), AllocError>
-    requires fits { W.fits work.now (W.meaning part) }
-    requires room { W.load_of work.now (W.meaning part) + W.load_of work.now (W.piece_meaning work.now i) < 2 ^ 63 }
-    requires sum { share.old.sum + W.load_of work.now (W.piece_meaning work.now i) < 2 ^ 63 }
-    ensures part { IfOk result (λ r. W.meaning r.0 ≡ W.combined work.now (W.meaning part) (W.piece_meaning work.now i)) }
-    ensures sum { IfOk result (λ p. share.new.sum ≡ share.old.sum + W.weight_of work.now (W.piece_meaning work.now i)) }
+    requires fits { W.fits crew.now.work.now (W.meaning part) }
+    requires room { W.load_of crew.now.work.now (W.meaning part) + W.load_of crew.now.work.now (W.piece_meaning crew.now.work.now i) < 2 ^ 63 }
+    requires sum { share.old.sum + W.load_of crew.now.work.now (W.piece_meaning crew.now.work.now i) < 2 ^ 63 }
+    ensures part { IfOk result (λ r. W.meaning r.0 ≡ W.combined crew.now.work.now (W.meaning part) (W.piece_meaning crew.now.work.now i)) }
+    ensures sum { IfOk result (λ p. share.new.sum ≡ share.old.sum + W.weight_of crew.now.work.now (W.piece_meaning crew.now.work.now i)) }
 {
-    let before = work.weight(&part);
-    let part = work.add(part, i)?;
-    let after = work.weight(&part);
-    let number = book.report(rt, share, after - before);
+    let before = crew.work.weight(&part);
+    let part = crew.work.add(part, i)?;
+    let after = crew.work.weight(&part);
+    let number = crew.book.report(crew.rt, share, after - before);
     Ok((part, number))
 }
 
 /// Takes pieces until the hand is spent, or the book answers a number above `stop`. No number is above the greatest.
 fn take_pieces<W: Work, L: Ledger, R: Wait>(
-    rt: &R,
-    work: &W,
-    book: &Book<L>,
-    stop: u128,
+    crew: &Crew<'_, W, L, R>,
     hand: &mut Hand,
     share: &mut Share<L>,
     part: W::Part,
 ) -> Result<W::Part, AllocError>
-    requires { MayGoOn (W.unit_meaning work.now) (W.combined work.now) (W.piece_meaning work.now) (W.weight_of work.now) (W.load_of work.now) hand.old share.old.sum (W.meaning part) }
-    ensures did { IfOk result (λ p. Did (W.unit_meaning work.now) (W.combined work.now) (W.piece_meaning work.now) (W.weight_of work.now) hand.old share.old.sum hand.new share.new.sum (W.meaning p)) }
-    ensures spent { stop ≡ 2 ^ 128 - 1 → IfOk result (λ p. hand.new.spent ≡ true) }
+    requires { MayGoOn (W.unit_meaning crew.now.work.now) (W.combined crew.now.work.now) (W.piece_meaning crew.now.work.now) (W.weight_of crew.now.work.now) (W.load_of crew.now.work.now) hand.old share.old.sum (W.meaning part) }
+    ensures did { IfOk result (λ p. Did (W.unit_meaning crew.now.work.now) (W.combined crew.now.work.now) (W.piece_meaning crew.now.work.now) (W.weight_of crew.now.work.now) hand.old share.old.sum hand.new share.new.sum (W.meaning p)) }
+    ensures spent { crew.now.stop ≡ 2 ^ 128 - 1 → IfOk result (λ p. hand.new.spent ≡ true) }
 {
     let mut part = part;
-    for _ in rt.forever() {
+    for _ in crew.rt.forever() {
         match hand.next() {
             Next::Piece(i) => {
-                let (more, number) = one_more(rt, work, book, share, part, i)?;
-                if number > stop {
+                let (more, number) = one_more(crew, share, part, i)?;
+                if number > crew.stop {
                     return Ok(more);
                 }
                 part = more;
@@ -101,40 +106,34 @@ fn take_pieces<W: Work, L: Ledger, R: Wait>(
 
 /// Goes on as `take_pieces`, with the part that was made so far.
 pub fn go_on<W: Work, L: Ledger, R: Wait>(
-    rt: &R,
-    work: &W,
-    book: &Book<L>,
-    stop: u128,
+    crew: &Crew<'_, W, L, R>,
     done: Done<W::Part, L>,
 ) -> Result<Done<W::Part, L>, AllocError>
-    requires { MayGoOn (W.unit_meaning work.now) (W.combined work.now) (W.piece_meaning work.now) (W.weight_of work.now) (W.load_of work.now) done.hand done.share.sum (W.meaning done.part) }
-    ensures did { IfOk result (λ d. Did (W.unit_meaning work.now) (W.combined work.now) (W.piece_meaning work.now) (W.weight_of work.now) done.hand done.share.sum d.hand d.share.sum (W.meaning d.part)) }
-    ensures spent { stop ≡ 2 ^ 128 - 1 → IfOk result (λ d. d.hand.spent ≡ true) }
+    requires { MayGoOn (W.unit_meaning crew.now.work.now) (W.combined crew.now.work.now) (W.piece_meaning crew.now.work.now) (W.weight_of crew.now.work.now) (W.load_of crew.now.work.now) done.hand done.share.sum (W.meaning done.part) }
+    ensures did { IfOk result (λ d. Did (W.unit_meaning crew.now.work.now) (W.combined crew.now.work.now) (W.piece_meaning crew.now.work.now) (W.weight_of crew.now.work.now) done.hand done.share.sum d.hand d.share.sum (W.meaning d.part)) }
+    ensures spent { crew.now.stop ≡ 2 ^ 128 - 1 → IfOk result (λ d. d.hand.spent ≡ true) }
 {
     let Done {
         mut hand,
         mut share,
         part,
     } = done;
-    let part = take_pieces(rt, work, book, stop, &mut hand, &mut share, part)?;
+    let part = take_pieces(crew, &mut hand, &mut share, part)?;
     Ok(Done { hand, share, part })
 }
 
 /// All that a worker does with a new hand: as `go_on`, from the unit on.
 pub fn work_off<W: Work, L: Ledger, R: Wait>(
-    rt: &R,
-    work: &W,
-    book: &Book<L>,
-    stop: u128,
+    crew: &Crew<'_, W, L, R>,
     hand: Hand,
     share: Share<L>,
 ) -> Result<Done<W::Part, L>, AllocError>
     requires new { numbers_of hand ≡ [] }
-    requires loads { sum_below (λ i. W.load_of work.now (W.piece_meaning work.now i)) hand.pieces + share.sum < 2 ^ 63 }
-    ensures { IfOk result (λ d. Did (W.unit_meaning work.now) (W.combined work.now) (W.piece_meaning work.now) (W.weight_of work.now) hand share.sum d.hand d.share.sum (W.meaning d.part)) }
+    requires loads { sum_below (λ i. W.load_of crew.now.work.now (W.piece_meaning crew.now.work.now i)) hand.pieces + share.sum < 2 ^ 63 }
+    ensures { IfOk result (λ d. Did (W.unit_meaning crew.now.work.now) (W.combined crew.now.work.now) (W.piece_meaning crew.now.work.now) (W.weight_of crew.now.work.now) hand share.sum d.hand d.share.sum (W.meaning d.part)) }
 {
-    let part = work.unit()?;
-    go_on(rt, work, book, stop, Done { hand, share, part })
+    let part = crew.work.unit()?;
+    go_on(crew, Done { hand, share, part })
 }
 
 /// A worker on a thread of its own.
@@ -143,28 +142,25 @@ pub type Running<'s, W, P, L> = PromisedHandle<Result<Done<P, L>, AllocError>, P
 /// Starts one worker on a thread of its own.
 pub fn start<'s, E, W: Work + Sync, L: Ledger + Send + Sync, R: Wait + Sync>(
     scope: &Scope<'s, E>,
-    rt: &'s R,
-    work: &'s W,
-    book: &'s Book<L>,
-    stop: u128,
+    crew: &'s Crew<'s, W, L, R>,
     hand: Hand,
     share: Share<L>,
 ) -> Option<Running<'s, W, W::Part, L>>
     requires new { numbers_of hand ≡ [] }
-    requires loads { sum_below (λ i. W.load_of work.now (W.piece_meaning work.now i)) hand.pieces + share.sum < 2 ^ 63 }
-    ensures work { IfSome result (λ h. h.promise.work.now ≡ work.now) }
+    requires loads { sum_below (λ i. W.load_of crew.now.work.now (W.piece_meaning crew.now.work.now i)) hand.pieces + share.sum < 2 ^ 63 }
+    ensures work { IfSome result (λ h. h.promise.work.now ≡ crew.now.work.now) }
     ensures hand { IfSome result (λ h. h.promise.hand.value ≡ hand) }
     ensures before { IfSome result (λ h. h.promise.before ≡ share.sum) }
 {
     let promise = Promised {
-        work,
+        work: crew.work,
         hand: Snapshot::of(&hand),
         before: share.sum(),
         of: PhantomData,
     };
     let run = move || -> Result<Done<W::Part, L>, AllocError>
-        requires { (numbers_of hand ≡ []) × (sum_below (λ i. W.load_of work.now (W.piece_meaning work.now i)) hand.pieces + share.sum < 2 ^ 63) }
-        ensures { IfOk result (λ d. Did (W.unit_meaning work.entry.now) (W.combined work.entry.now) (W.piece_meaning work.entry.now) (W.weight_of work.entry.now) hand share.sum d.hand d.share.sum (W.meaning d.part)) }
-    { work_off(rt, work, book, stop, hand, share) };
+        requires { (numbers_of hand ≡ []) × (sum_below (λ i. W.load_of crew.now.work.now (W.piece_meaning crew.now.work.now i)) hand.pieces + share.sum < 2 ^ 63) }
+        ensures { IfOk result (λ d. Did (W.unit_meaning crew.entry.now.work.now) (W.combined crew.entry.now.work.now) (W.piece_meaning crew.entry.now.work.now) (W.weight_of crew.entry.now.work.now) hand share.sum d.hand d.share.sum (W.meaning d.part)) }
+    { work_off(crew, hand, share) };
     scope.spawn_with(promise, run).ok()
 }

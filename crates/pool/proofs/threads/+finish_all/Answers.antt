@@ -1,20 +1,19 @@
-use Rattle.std.proofs.Common.{refl}
 use Rattle.pool.proofs.Fans.{under_way_front, under_way_last, did_more, spent_more, if_both}
 use Rattle.pool.proofs.threads.+finish_all.Goals as goal
 
-pub finish_all-requires-after_bounds : goal.finish_all-requires-after_bounds
-finish_all-requires-after_bounds g t c κs within = under_way_front (g.W.Work.unit_meaning c.args.work.now) (g.W.Work.combined c.args.work.now) (g.W.Work.piece_meaning c.args.work.now) (g.W.Work.weight_of c.args.work.now) (g.W.Work.load_of c.args.work.now) (λ s. s.sum) g.W.Work.meaning c.args.gathered.hands.items c.last_done.new.gathered.hands.items c.in-Some.done.hand c.args.gathered.shares.items c.last_done.new.gathered.shares.items c.in-Some.done.share c.args.gathered.parts.items c.last_done.new.gathered.parts.items c.in-Some.done.part c.in-Some.ensures.hands c.in-Some.ensures.shares c.in-Some.ensures.parts c.requires
+pub finish_all-requires-clause-under_way : goal.finish_all-requires-clause-under_way
+finish_all-requires-clause-under_way g t c κs within = under_way_front (g.W.Work.unit_meaning c.args.crew.now.work.now) (g.W.Work.combined c.args.crew.now.work.now) (g.W.Work.piece_meaning c.args.crew.now.work.now) (g.W.Work.weight_of c.args.crew.now.work.now) (g.W.Work.load_of c.args.crew.now.work.now) (λ s. s.sum) g.W.Work.meaning c.args.gathered.hands.items c.last_done.new.gathered.hands.items c.in-Some.done.hand c.args.gathered.shares.items c.last_done.new.gathered.shares.items c.in-Some.done.share c.args.gathered.parts.items c.last_done.new.gathered.parts.items c.in-Some.done.part c.in-Some.ensures.hands c.in-Some.ensures.shares c.in-Some.ensures.parts c.requires.under_way
 
 pub go_on-requires-after_bounds : goal.go_on-requires-after_bounds
-go_on-requires-after_bounds g t c κs within = under_way_last (g.W.Work.unit_meaning c.args.work.now) (g.W.Work.combined c.args.work.now) (g.W.Work.piece_meaning c.args.work.now) (g.W.Work.weight_of c.args.work.now) (g.W.Work.load_of c.args.work.now) (λ s. s.sum) g.W.Work.meaning c.args.gathered.hands.items c.last_done.new.gathered.hands.items c.in-Some.done.hand c.args.gathered.shares.items c.last_done.new.gathered.shares.items c.in-Some.done.share c.args.gathered.parts.items c.last_done.new.gathered.parts.items c.in-Some.done.part c.in-Some.ensures.hands c.in-Some.ensures.shares c.in-Some.ensures.parts c.requires
+go_on-requires-after_bounds g t c κs within = under_way_last (g.W.Work.unit_meaning c.args.crew.now.work.now) (g.W.Work.combined c.args.crew.now.work.now) (g.W.Work.piece_meaning c.args.crew.now.work.now) (g.W.Work.weight_of c.args.crew.now.work.now) (g.W.Work.load_of c.args.crew.now.work.now) (λ s. s.sum) g.W.Work.meaning c.args.gathered.hands.items c.last_done.new.gathered.hands.items c.in-Some.done.hand c.args.gathered.shares.items c.last_done.new.gathered.shares.items c.in-Some.done.share c.args.gathered.parts.items c.last_done.new.gathered.parts.items c.in-Some.done.part c.in-Some.ensures.hands c.in-Some.ensures.shares c.in-Some.ensures.parts c.requires.under_way
 
 pub returns-clause-did : goal.returns-clause-did
 returns-clause-did g t c =
     if_both c.with_done.result c.go_on.result c.with_done.ensures.more c.go_on.ensures.did
     (λ all d is did. rw (c.in-Some.ensures.hands, c.in-Some.ensures.shares, is.0, is.1, is.2)
-    (did_more (g.W.Work.unit_meaning c.args.work.now) (g.W.Work.combined c.args.work.now) (g.W.Work.piece_meaning c.args.work.now) (g.W.Work.weight_of c.args.work.now) (λ s. s.sum) g.W.Work.meaning c.last_done.new.gathered.hands.items c.last_done.new.gathered.shares.items c.in-Ok.others.hands.items c.in-Ok.others.shares.items c.in-Ok.others.parts.items c.in-Some.done.hand c.in-Some.done.share d.hand d.share d.part c.in-Ok.ensures.did did))
+    (did_more (g.W.Work.unit_meaning c.args.crew.now.work.now) (g.W.Work.combined c.args.crew.now.work.now) (g.W.Work.piece_meaning c.args.crew.now.work.now) (g.W.Work.weight_of c.args.crew.now.work.now) (λ s. s.sum) g.W.Work.meaning c.last_done.new.gathered.hands.items c.last_done.new.gathered.shares.items c.in-Ok.others.hands.items c.in-Ok.others.shares.items c.in-Ok.others.parts.items c.in-Some.done.hand c.in-Some.done.share d.hand d.share d.part c.in-Ok.ensures.did did))
 
 pub returns-clause-spent : goal.returns-clause-spent
 returns-clause-spent g t c =
-    if_both c.with_done.result c.go_on.result c.with_done.ensures.more (c.go_on.ensures.spent refl)
+    if_both c.with_done.result c.go_on.result c.with_done.ensures.more (c.go_on.ensures.spent c.requires.never)
     (λ all d is spent. rw is.0 (spent_more c.in-Ok.others.hands.items d.hand c.in-Ok.ensures.spent spent))
