@@ -1,5 +1,5 @@
 -- The order of the code's keys, and of values under keys of ORDER BY.
-use Rattle.std.proofs.Common.{◌≡◌, ◌⊎◌, inl, inr, ◌+◌, ◌<◌, ℕ, zero, suc, true, false, List, [], ◌∷◌, drop, get_or, length, map, option_map, slice_index_or, unwrap_or, Option, Some, None, Bor, refl, sym, ap, ◌∙◌, add-one, arith, take, ◌++◌, ◌≤◌, length}
+use Rattle.std.proofs.Common.{◌≡◌, ◌⊎◌, inl, inr, ◌+◌, ◌<◌, ℕ, zero, suc, true, false, List, [], ◌∷◌, drop, get_or, length, map, option_map, slice_index_or, unwrap_or, Option, Some, None, Bor, refl, sym, ap, ◌∙◌, add-one, arith, take, ◌++◌, ◌≤◌}
 use Rattle.std.proofs.Math.Logic.{∥∥₁_elim}
 use Rattle.std.specs.Coded.{Coded-set, coded_list, coded_option, coded_ℕ}
 use Rattle.std.proofs.lemmas.Bool.Decides.{nat_tests}

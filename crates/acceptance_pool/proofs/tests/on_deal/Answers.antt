@@ -1,6 +1,5 @@
-use Rattle.std.proofs.Common.{◌≡◌, ◌+◌, ◌^◌, ◌<◌, vec_len, sym, ◌∙◌, subst, ⊎_elim, inl, inr, arith}
-use Rattle.pool.specs.Totals.{sum_below, total}
-use Rattle.pool.specs.Outcomes.{Decides}
+use Rattle.std.proofs.Common.{◌≡◌, ◌+◌, ◌^◌, ◌<◌, vec_len, sym, subst, arith}
+use Rattle.pool.specs.Totals.{sum_below}
 use Rattle.pool.specs.Settled.{AreAll, pieces_of}
 use Rattle.pool.specs.Assembly.{IsNewDeal}
 use Rattle.pool.proofs.Fans.{all_at, new_pieces}
