@@ -1,5 +1,5 @@
 -- The result over all rounds so far, and what it is after one more.
-use Rattle.std.proofs.Common.{◌≡◌, ◌≢◌, ◌⊎◌, ◌∙◌, ◌+◌, ◌-◌, ◌*◌, ◌<◌, cond, ◌≤◌, ◌^◌, ℕ, Bool, true, false, List, [], ◌∷◌, ◌++◌, length, map, Option, None, Some, option_map, Result, Ok, Err, inl, inr, refl, sym, ap, subst, arith, append-nil, append_assoc, length-append}
+use Rattle.std.proofs.Common.{◌≡◌, ◌⊎◌, ◌∙◌, ◌+◌, ◌-◌, ◌*◌, ◌<◌, cond, ◌≤◌, ◌^◌, ℕ, Bool, true, false, List, [], ◌∷◌, ◌++◌, length, map, Option, None, Some, option_map, Result, Ok, inl, inr, refl, sym, ap, subst, arith, append-nil, append_assoc, length-append}
 use Rattle.std.specs.Prelude.{IfSome, IsErr}
 use Rattle.std.specs.Io.KnownBytes.{Consumes, IsAtEnd}
 use Rattle.std.proofs.KnownBytes.{Consumes-nil, Consumes-trans}
@@ -10,14 +10,14 @@ use Rattle.lines.specs.declared.fault.LineFault.{LineFault}
 use Rattle.lines.specs.Input.{refused}
 use Rattle.lines.specs.Lines.{line_feed, lines}
 use Rattle.lines.specs.Pieces.{AreWholeLines, EndsInFeed}
-use Rattle.lines.specs.Rounds.{HasGiven, HasMoved, RoundsState}
+use Rattle.lines.specs.Rounds.{HasMoved, RoundsState}
 use Rattle.lines.specs.Trim.{trim}
 use Rattle.lines.proofs.Fronts.{refused-whole_lines}
 use Rattle.lines.proofs.Trims.{refused-trim}
 use Rattle.query_tree.specs.Syntax.{TreeForm}
 use Rattle.tables.specs.Partials.{HaveOneShape, StandsFor, StandsForInput, whole_piece}
-use Rattle.tables.specs.Pieces.{IsCutInto}
 use Rattle.tables.specs.States.{PartialState}
+use Rattle.tables.proofs.Following.{one-piece}
 use Rattle.gathering.specs.Pieces.{StandsForRounds}
 use Rattle.gathering.specs.Gathered.{IsWhole}
 use Rattle.gathering.specs.Faults.{IsWant, Refuses, Stops}
@@ -83,48 +83,53 @@ end-after : {R : Type 0} (bytes : List ℕ) (new : RoundsState R) → (new.over 
 end-after bytes new last (inl feed) = inl (inr (feed-behind bytes new.round feed))
 end-after bytes new last (inr over) = inr (last over)
 
--- the one piece of an input is one that it is cut into
-one-piece : (input : List ℕ) → IsCutInto input (whole_piece input)
-one-piece input = record { in_order = λ k lt. absurd (omega (arith, lt)); joined = append-nil input; feeds = tt }
-
 -- what `follow` promises
 abbrev Follows : List Field → TreeForm → PartialState → PartialState → PartialState → Type 0
 Follows fields q partial more sum = (front back : List ℕ) → StandsForInput fields q partial front → StandsForInput fields q more back → AreWholeLines front
     → StandsFor fields q sum (whole_piece (front ++ back))
 
-after : {R : Type 0} (fields : List Field) (q : TreeForm) (known : Option (List ℕ)) (limit : ℕ) (old new : RoundsState R) (found : Result Bool ReadFault) (partial more sum : PartialState)
-    → (s : StandsForRounds fields q known limit old partial) → HasMoved old found new → found ≡ Ok true → StandsForInput fields q more new.round
-    → Follows fields q partial more sum → StandsForInput fields q sum (s.bytes ++ new.round)
-after fields q known limit old new found partial more sum s moved is stands follows =
-    let whole = whole-before s.bytes old new found moved is s.ends in
-    record { pieces = whole_piece (s.bytes ++ new.round); stands = follows s.bytes new.round s.stands stands whole; cut = one-piece (s.bytes ++ new.round) }
+-- what `fold_behind` promises
+abbrev pub Behind : List Field → TreeForm → PartialState → List ℕ → PartialState → Type 0
+Behind fields q partial rest sum = (front : List ℕ) → StandsForInput fields q partial front → AreWholeLines front → StandsFor fields q sum (whole_piece (front ++ rest))
 
--- as many lines are refused as before and in the round
-pub refused-after : {R : Type 0} (fields : List Field) (q : TreeForm) (known : Option (List ℕ)) (limit : ℕ) (old new : RoundsState R) (found : Result Bool ReadFault) (partial more sum : PartialState)
-    → StandsForRounds fields q known limit old partial → HasMoved old found new → found ≡ Ok true → StandsForInput fields q more new.round
-    → Follows fields q partial more sum → sum.refused ≡ partial.refused + more.refused
-refused-after fields q known limit old new found partial more sum s moved is stands follows =
-    omega (
-      arith,
-      refused-of-input fields q sum (s.bytes ++ new.round) (after fields q known limit old new found partial more sum s moved is stands follows),
-      refused-of-input fields q partial s.bytes s.stands,
-      refused-of-input fields q more new.round stands,
-      refused-both fields s.bytes new.round (whole-before s.bytes old new found moved is s.ends),
-    )
+module _ {R : Type 0} (fields : List Field) (q : TreeForm) (known : Option (List ℕ)) (limit : ℕ) (old new : RoundsState R) (found : Result Bool ReadFault) (partial sum : PartialState)
+    (s : StandsForRounds fields q known limit old partial) (moved : HasMoved old found new) (is : found ≡ Ok true) where
+  -- what stands for the round behind the rounds before it stands for all of them
+  all-rounds : Behind fields q partial new.round sum → StandsForInput fields q sum (s.bytes ++ new.round)
+  all-rounds behind =
+      record { pieces = whole_piece (s.bytes ++ new.round); stands = behind s.bytes s.stands (whole-before s.bytes old new found moved is s.ends); cut = one-piece (s.bytes ++ new.round) }
 
-pub next-round : {R : Type 0} (fields : List Field) (q : TreeForm) (known : Option (List ℕ)) (limit : ℕ) (old new : RoundsState R) (found : Result Bool ReadFault) (partial more sum : PartialState)
-    → StandsForRounds fields q known limit old partial → HasMoved old found new → found ≡ Ok true → StandsForInput fields q more new.round
-    → Follows fields q partial more sum → partial.refused + more.refused ≤ limit → StandsForRounds fields q known limit new sum
-next-round fields q known limit old new found partial more sum s moved is stands follows few =
-    let given = moved.round is in
-    record {
-      bytes = s.bytes ++ new.round;
-      stands = after fields q known limit old new found partial more sum s moved is stands follows;
-      left = Consumes-trans (option_map trim known) old.left new.left s.bytes new.round s.left given.left;
-      count = (let c = s.count in let g = given.given in omega (arith, c, g, length-append s.bytes new.round));
-      ends = ends-after s.bytes new given.feed;
-      within = omega (arith, few, refused-after fields q known limit old new found partial more sum s moved is stands follows);
-    }
+  -- as many lines are refused as before and in the round
+  pub refused-behind : Behind fields q partial new.round sum → sum.refused ≡ partial.refused + length (refused fields new.round)
+  refused-behind behind =
+      omega (
+        arith,
+        refused-of-input fields q sum (s.bytes ++ new.round) (all-rounds behind),
+        refused-of-input fields q partial s.bytes s.stands,
+        refused-both fields s.bytes new.round (whole-before s.bytes old new found moved is s.ends),
+      )
+
+  pub next-behind : Behind fields q partial new.round sum → sum.refused ≤ limit → StandsForRounds fields q known limit new sum
+  next-behind behind few =
+      let given = moved.round is in
+      record {
+        bytes = s.bytes ++ new.round;
+        stands = all-rounds behind;
+        left = Consumes-trans (option_map trim known) old.left new.left s.bytes new.round s.left given.left;
+        count = (let c = s.count in let g = given.given in omega (arith, c, g, length-append s.bytes new.round));
+        ends = ends-after s.bytes new given.feed;
+        within = few;
+      }
+
+  module _ (more : PartialState) (stands : StandsForInput fields q more new.round) (follows : Follows fields q partial more sum) where
+    behind-by : Behind fields q partial new.round sum
+    behind-by front given whole = follows front new.round given stands whole
+
+    pub refused-after : sum.refused ≡ partial.refused + more.refused
+    refused-after = omega (arith, refused-behind behind-by, refused-of-input fields q more new.round stands)
+
+    pub next-round : partial.refused + more.refused ≤ limit → StandsForRounds fields q known limit new sum
+    next-round few = next-behind behind-by (omega (arith, few, refused-after))
 
 -- whose bytes are handed out, the rounds are the same
 pub handed-out : {R : Type 0} (fields : List Field) (q : TreeForm) (known : Option (List ℕ)) (limit : ℕ) (rounds rest : RoundsState R) (partial : PartialState)
@@ -173,22 +178,18 @@ pub one-shape : {R : Type 0} (fields : List Field) (q : TreeForm) (known : Optio
 one-shape fields q known limit old partial more round s stands =
     record { sets = s.stands.stands.sets ∙ sym stands.stands.sets; functions = s.stands.stands.functions ∙ sym stands.stands.functions; filters = s.stands.stands.filters ∙ sym stands.stands.filters }
 
-pub few-lines : {R : Type 0} (fields : List Field) (q : TreeForm) (known : Option (List ℕ)) (limit : ℕ) (old new : RoundsState R) (found : Result Bool ReadFault) (partial more : PartialState)
-    → StandsForRounds fields q known limit old partial → HasMoved old found new → found ≡ Ok true → StandsForInput fields q more new.round → partial.lines + more.lines < 2 ^ 63
-few-lines fields q known limit old new found partial more s moved is stands =
+pub few-behind : {R : Type 0} (fields : List Field) (q : TreeForm) (known : Option (List ℕ)) (limit : ℕ) (old new : RoundsState R) (found : Result Bool ReadFault) (partial : PartialState)
+    → StandsForRounds fields q known limit old partial → HasMoved old found new → found ≡ Ok true → partial.lines + length (lines new.round) < 2 ^ 63
+few-behind fields q known limit old new found partial s moved is =
     let c = s.count in
     let g = (moved.round is).given in
     let m = moved.limit in
-    omega (
-      arith,
-      c,
-      g,
-      m,
-      lines-of-input fields q partial s.bytes s.stands,
-      length-lines s.bytes,
-      lines-of-input fields q more new.round stands,
-      length-lines new.round,
-    )
+    omega (arith, c, g, m, lines-of-input fields q partial s.bytes s.stands, length-lines s.bytes, length-lines new.round)
+
+pub few-lines : {R : Type 0} (fields : List Field) (q : TreeForm) (known : Option (List ℕ)) (limit : ℕ) (old new : RoundsState R) (found : Result Bool ReadFault) (partial more : PartialState)
+    → StandsForRounds fields q known limit old partial → HasMoved old found new → found ≡ Ok true → StandsForInput fields q more new.round → partial.lines + more.lines < 2 ^ 63
+few-lines fields q known limit old new found partial more s moved is stands =
+    omega (arith, few-behind fields q known limit old new found partial s moved is, lines-of-input fields q more new.round stands)
 
 -- ---- where a round is over the limit
 

@@ -1,5 +1,5 @@
 -- What a pool answers over the pieces of an input.
-use Rattle.std.proofs.Common.{◌≡◌, ◌∙◌, ◌+◌, ◌-◌, ◌≤◌, ◌<◌, ◌^◌, ℕ, suc, List, [], ◌∷◌, length, map, filter_map, Option, Some, None, Result, Ok, Err, sym, ap, subst, arith}
+use Rattle.std.proofs.Common.{◌≡◌, ◌∙◌, ◌+◌, ◌-◌, ◌≤◌, ◌<◌, ◌^◌, ℕ, List, [], ◌∷◌, length, map, filter_map, Option, Some, None, Result, Ok, Err, ap, subst, arith}
 use Rattle.std.proofs.lemmas.List.{length-map}
 use Rattle.std.specs.List.{All}
 use Rattle.std.specs.Result.{result_err}
@@ -27,7 +27,7 @@ use Rattle.tables.specs.States.{PartialState}
 use Rattle.tables.proofs.Cutting.{cut-lines}
 use Rattle.gathering.specs.Faults.{Refuses}
 use Rattle.gathering.specs.declared.fault.GatherFault.TheVariants.{TooManyRefused}
-use Rattle.gathering.proofs.Tallies.{faults_of, length-lines, length-within, refused-counted}
+use Rattle.gathering.proofs.Tallies.{length-lines, length-within, refused-counted}
 
 -- what a pool decides of the pieces of an input under a plan
 abbrev pub DecidesOf : Plan → List ℕ → List Piece → ℕ → ℕ → Outcome Partial → Type 0

@@ -8,7 +8,7 @@ ghost use Rattle.gathering.specs.Gathered.{IsWhole, limit_number};
 ghost use Rattle.gathering.specs.Faults.{IsWant, Refuses, Stops};
 
 use crate::fault::GatherFault;
-use crate::working::{round_alone, round_among};
+use crate::working::{round_among, within_limit};
 use command_line::Options;
 use lines::{ReadFault, Round, Rounds};
 use pool::{Book, Share};
@@ -21,8 +21,8 @@ use std::sync::ledger::{Blank, Ledger};
 use std::thread::{Threads, join};
 use tables::Partial;
 
-/// The result of a query over what a reader gives, worked on round by round on the calling thread. The number of workers is
-/// not looked at.
+/// The result of a query over what a reader gives, worked on round by round on the calling thread. The records of all rounds
+/// go into one table. Neither the number of workers nor the length of a piece is looked at.
 ///
 /// Example: with the plan of `SELECT COUNT(*) AS n FROM lines`, and an input of one empty line,
 /// `gather_alone(alloc, &plan, options, input)`, where there is memory for it, answers a result of which `lines()` and
@@ -45,16 +45,15 @@ pub fn gather_alone<R: Read + Drop>(
     let mut rounds = Rounds::new(alloc, reader, options.round())?;
     let mut whole = Partial::empty(alloc, plan)?;
     while rounds.advance()? {
-        let before = whole.refused();
-        let round = round_alone(alloc, plan, options, before, rounds.round())?;
-        whole = whole.follow(round)?;
+        whole = whole.fold_behind(plan, rounds.round())?;
+        within_limit(options, whole.refused())?;
     }
     Ok(whole)
 }
 
 /// The result of a query over what a reader gives, worked on round by round by as many threads as there are workers, the
 /// calling one among them. Where there are several, one thread more reads the next round meanwhile, if there may be one.
-/// With one worker no thread is started.
+/// With one worker it is `gather_alone`, and no thread is started.
 ///
 /// Example: with the plan of `SELECT SUM(q) AS s FROM lines` under `q:int`, and the one line `{"q":5}` as the input,
 /// `gather(&rt, alloc, &plan, options, input)`, where nothing is refused to it, answers a result of which `lines()` is 1
@@ -77,54 +76,16 @@ pub fn gather<R: Read + Drop + Send, H: Threads + Wait + Sync>(
     ensures fault { IfErr result (λ fault. Stops fault options.max_refused (fields_of_plan plan.now) (R.remaining reader)) }
     ensures started { options.workers ≡ 1 → IfErr result (λ fault. fault ≢ GatherFault.ThreadNotStarted) }
 {
-    let blank = Blank::new(options.workers() as u64);
     if options.workers() == 1 {
-        by_one_book::<Brand, R, H>(rt, alloc, plan, options, reader, blank)
-    } else {
-        reading_ahead::<Brand, R, H>(rt, alloc, plan, options, reader, blank)
+        return gather_alone(alloc, plan, options, reader);
     }
+    let blank = Blank::new(options.workers() as u64);
+    reading_ahead::<Brand, R, H>(rt, alloc, plan, options, reader, blank)
 }
 
-/// The same with one book of refused lines over all rounds, whose ledger is L.
-fn by_one_book<L: Ledger + Send + Sync, R: Read + Drop, H: Threads + Wait + Sync>(
-    rt: &H,
-    alloc: Global,
-    plan: &Plan,
-    options: Options,
-    reader: R,
-    blank: Blank,
-) -> Result<Partial, GatherFault>
-    requires name { blank.name ≡ L.name }
-    requires parts { (blank.parts ≡ L.parts) × (L.parts ≡ options.workers) }
-    ensures whole { IfOk result (IsWhole (fields_of_plan plan.now) (form_of_plan plan.now) (R.remaining reader)) }
-    ensures limit { IfOk result (λ partial. partial.refused ≤ limit_number options.max_refused) }
-    ensures fault { IfErr result (λ fault. Stops fault options.max_refused (fields_of_plan plan.now) (R.remaining reader)) }
-    ensures started { options.workers ≡ 1 → IfErr result (λ fault. fault ≢ GatherFault.ThreadNotStarted) }
-{
-    let (book, mut shares) = Book::<L>::new(alloc, blank, options.workers())?;
-    let mut rounds = Rounds::new(alloc, reader, options.round())?;
-    let mut whole = Partial::empty(alloc, plan)?;
-    while rounds.advance()? {
-        let before = whole.refused();
-        let (round, back) = round_among(
-            rt,
-            alloc,
-            plan,
-            options,
-            before,
-            rounds.round(),
-            &book,
-            shares,
-        )?;
-        shares = back;
-        whole = whole.follow(round)?;
-    }
-    book.close(shares);
-    Ok(whole)
-}
-
-/// The same with two buffers: while a round is worked on, the next one is read into the other. What the work answers is
-/// looked at first, so that a read that fails tells nothing before the limit of refused lines does.
+/// The same with one book of refused lines over all rounds, whose ledger is L, and with two buffers: while a round is
+/// worked on, the next one is read into the other. What the work answers is looked at first, so that a read that fails
+/// tells nothing before the limit of refused lines does.
 fn reading_ahead<L: Ledger + Send + Sync, R: Read + Drop + Send, H: Threads + Wait + Sync>(
     rt: &H,
     alloc: Global,
@@ -203,7 +164,6 @@ fn round_beside<L: Ledger + Send + Sync, R: Read + Drop + Send, H: Threads + Wai
     ensures reported { IfOk result.worked (λ r. All (λ share. share.sum ≤ before + r.0.refused) r.1.items) }
     ensures fault { IfErr result.worked (λ fault. IsWant fault
         ⊎ Refuses fault options.max_refused (before + length (refused (fields_of_plan plan.now) round.now.bytes))) }
-    ensures started { vec_len shares ≡ 1 → IfErr result.worked (λ fault. fault ≢ GatherFault.ThreadNotStarted) }
 {
     if rounds.is_over() {
         let worked = round_among(

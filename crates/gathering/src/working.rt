@@ -1,5 +1,5 @@
 //! The result of a query over one round of an input, by its pieces.
-ghost use Rattle.std.specs.Prelude.{◌≡◌, ◌≢◌, ◌+◌, ◌-◌, ◌<◌, ◌≤◌, ◌^◌, ◌⊎◌, All, IfErr, IfOk, length, vec_len};
+ghost use Rattle.std.specs.Prelude.{◌≡◌, ◌+◌, ◌-◌, ◌<◌, ◌≤◌, ◌^◌, ◌⊎◌, All, IfErr, IfOk, OnOk, length, vec_len};
 ghost use Rattle.lines.specs.Input.{refused};
 ghost use Rattle.query_plan.specs.Planned.{fields_of_plan, form_of_plan};
 ghost use Rattle.tables.specs.Partials.{StandsForInput};
@@ -10,7 +10,7 @@ ghost use Rattle.gathering.specs.Faults.{IsWant, Refuses};
 use crate::cutting::pieces_of;
 use crate::fault::GatherFault;
 use command_line::Options;
-use pool::{Book, Outcome, Share, alone, fan_deal};
+use pool::{Book, Outcome, Share, fan_deal};
 use query_plan::Plan;
 use std::alloc::Global;
 use std::marker::{Send, Sync};
@@ -19,30 +19,14 @@ use std::sync::ledger::Ledger;
 use std::thread::Threads;
 use tables::{Job, Partial, job_law};
 
-/// The result of a query over a round, worked on in pieces on the calling thread. In the rounds before, `before` lines
-/// were refused.
-pub(crate) fn round_alone(
-    alloc: Global,
-    plan: &Plan,
-    options: Options,
-    before: u64,
-    round: &[u8],
-) -> Result<Partial, GatherFault>
-    requires short { before + length round.now < 2 ^ 63 }
-    requires within { before ≤ limit_number options.max_refused }
-    ensures whole { IfOk result (λ partial. StandsForInput (fields_of_plan plan.now) (form_of_plan plan.now) partial round.now) }
-    ensures limit { IfOk result (λ partial. before + partial.refused ≤ limit_number options.max_refused) }
-    ensures fault { IfErr result (λ fault. IsWant fault
-        ⊎ Refuses fault options.max_refused (before + length (refused (fields_of_plan plan.now) round.now))) }
-    ensures started { IfErr result (λ fault. fault ≢ GatherFault.ThreadNotStarted) }
+/// Nothing, where so many refused lines are not more than may be; else the fault that says so.
+pub(crate) fn within_limit(options: Options, count: u64) -> Result<(), GatherFault>
+    ensures within { OnOk result (count ≤ limit_number options.max_refused) }
+    ensures over { IfErr result (λ fault. Refuses fault options.max_refused count) }
 {
-    let pieces = pieces_of(alloc, round, options.piece())?;
-    job_law();
-    let job = Job::new(alloc, plan, round, pieces.as_slice());
-    let limit = limit_of(options) - before;
-    match alone(&job, pieces.len() as u32, limit) {
-        Ok(outcome) => decided(plan, options, before, round, outcome),
-        Err(fault) => Err(GatherFault::from(fault)),
+    match options.max_refused() {
+        Some(most) if count > most => Err(GatherFault::TooManyRefused(most)),
+        Some(_) | None => Ok(()),
     }
 }
 
@@ -68,7 +52,6 @@ pub(crate) fn round_among<L: Ledger + Send + Sync, H: Threads + Wait + Sync>(
     ensures reported { IfOk result (λ r. All (λ share. share.sum ≤ before + r.0.refused) r.1.items) }
     ensures fault { IfErr result (λ fault. IsWant fault
         ⊎ Refuses fault options.max_refused (before + length (refused (fields_of_plan plan.now) round.now))) }
-    ensures started { vec_len shares ≡ 1 → IfErr result (λ fault. fault ≢ GatherFault.ThreadNotStarted) }
 {
     let pieces = pieces_of(alloc, round, options.piece())?;
     job_law();
@@ -113,7 +96,6 @@ fn decided(
     ensures whole { IfOk result (λ partial. StandsForInput (fields_of_plan plan.now) (form_of_plan plan.now) partial round.now) }
     ensures limit { IfOk result (λ partial. before + partial.refused ≤ limit_number options.max_refused) }
     ensures fault { IfErr result (λ fault. Refuses fault options.max_refused (before + length (refused (fields_of_plan plan.now) round.now))) }
-    ensures started { IfErr result (λ fault. fault ≢ GatherFault.ThreadNotStarted) }
 {
     match (outcome, options.max_refused()) {
         (Outcome::Whole(partial), _) => Ok(partial),

@@ -1,5 +1,5 @@
 -- The set functions of a query, by the indexes of their filters.
-use Rattle.std.proofs.Common.{◌≡◌, Bool, false, ℕ, zero, suc, List, [], ◌∷◌, length, map, Option, Some, None, option_map, position, slice_get, slice_index_or, refl, sym, ap, ◌∙◌}
+use Rattle.std.proofs.Common.{◌≡◌, ℕ, zero, suc, List, [], ◌∷◌, length, map, Option, Some, None, option_map, position, slice_get, refl, sym, ap, ◌∙◌}
 use Rattle.std.proofs.lemmas.List.{length-map}
 use Rattle.std.specs.Option.{option_and_then}
 use Rattle.values.specs.Schema.{Field}
@@ -9,7 +9,7 @@ use Rattle.query_check.specs.Functions.{PlannedFunction, filters_of, functions_o
 use Rattle.query_check.specs.Same.{same_predicate}
 use Rattle.query_check.proofs.FilterLemmas.{indexes_lead_back}
 use Rattle.query_truth.specs.Kept.{passes}
-use Rattle.groups.specs.Functions.{AggregateFunction, bound, filter_at}
+use Rattle.groups.specs.Functions.{bound, filter_at}
 use Rattle.groups.specs.Rows.{Row}
 use Rattle.tables.specs.Functions.{aggregate_function, aggregate_functions, filters_kept}
 

@@ -2,7 +2,6 @@
 use Rattle.std.proofs.Common.{◌≡◌, ◌+◌, ◌++◌, ℕ, List, Option, Some, None, IfSome, sym, arith}
 use Rattle.std.specs.FinMap as fin
 use Rattle.groups.specs.Functions.{AggregateFunction}
-use Rattle.groups.specs.Groups.{Key}
 use Rattle.groups.specs.Inside.Group.{GroupState}
 use Rattle.groups.specs.Inside.Table.{CanJoin, Contents, IsFitting, IsTableOf}
 use Rattle.groups.specs.Rows.{Row}

@@ -167,6 +167,47 @@ followed-refused fields front back pieces more notes others before found all who
     ∙ ap (λ n. refused fields front ++ map (shift n) (refused fields back)) (counted ∙ count-lines front pieces c)
     ∙ sym (refused-whole_lines fields front back whole)
 
+-- ---- bytes behind a front that is whole lines
+
+-- an input is cut into the one piece that is all of it
+pub one-piece : (input : List ℕ) → IsCutInto input (whole_piece input)
+one-piece input = record { in_order = λ k lt. absurd (omega (arith, lt)); joined = append-nil input; feeds = tt }
+
+pub records-behind : (fields : List Field) (front rest : List ℕ) (pieces : List IndexedPiece) → AreWholeLines front → IsCutInto front pieces
+    → records_of fields (whole_piece (front ++ rest)) ≡ records_of fields pieces ++ good fields rest
+records-behind fields front rest pieces whole c =
+    followed-records fields front rest pieces (whole_piece rest) whole c (one-piece rest) ∙ ap (λ rows. records_of fields pieces ++ rows) (append-nil (good fields rest))
+
+pub lines-behind : (front rest : List ℕ) (pieces : List IndexedPiece) → AreWholeLines front → IsCutInto front pieces
+    → length (lines (front ++ rest)) ≡ length (all_lines pieces) + length (lines rest)
+lines-behind front rest pieces whole c =
+    followed-lines front rest pieces (whole_piece rest) whole c (one-piece rest) ∙ ap (λ n. length (all_lines pieces) + n) (whole-lines rest)
+
+pub count-behind : (fields : List Field) (front rest : List ℕ) (pieces : List IndexedPiece) → AreWholeLines front → IsCutInto front pieces
+    → length (refused_within fields (whole_piece (front ++ rest))) ≡ length (refused_within fields pieces) + length (refused fields rest)
+count-behind fields front rest pieces whole c =
+    followed-count fields front rest pieces (whole_piece rest) whole c (one-piece rest)
+    ∙ ap (λ (ls : List (ℕ × LineFault)). length (refused_within fields pieces) + length ls) (append-nil (refused fields rest))
+
+pub refused-behind : (fields : List Field) (front rest : List ℕ) (pieces : List IndexedPiece) (notes : List Noted) (before : ℕ) (found more all : List (ℕ × LineFault))
+    → AreWholeLines front → IsCutInto front pieces → SameBag (map (note_of fields) pieces) notes → AreLinesOf notes found → before ≡ length (all_lines pieces)
+    → more ≡ refused fields rest → all ≡ found ++ map (shift before) more → all ≡ refused fields (front ++ rest)
+refused-behind fields front rest pieces notes before found more all whole c same are counted is behind =
+    behind
+    ∙ ap (λ ls. ls ++ map (shift before) more) (refused-in_order fields front pieces notes found c same are)
+    ∙ ap (λ ls. refused fields front ++ map (shift before) ls) is
+    ∙ ap (λ n. refused fields front ++ map (shift n) (refused fields rest)) (counted ∙ count-lines front pieces c)
+    ∙ sym (refused-whole_lines fields front rest whole)
+
+pub numbers-behind : (before count : ℕ) (found more all : List (ℕ × LineFault)) → All (λ line. line.0 ≤ before) found → All (λ line. line.0 ≤ count) more
+    → all ≡ found ++ map (shift before) more → All (λ line. line.0 ≤ before + count) all
+numbers-behind before count found more all low within behind =
+    All-same (λ line. line.0 ≤ before + count) all (found ++ map (shift before) more) behind
+    (All-append (λ line. line.0 ≤ before + count) found (map (shift before) more)
+    (All-weaker (λ line. line.0 ≤ before) (λ line. line.0 ≤ before + count) (λ line l. omega (arith, l)) found low)
+    (All-map (λ line. line.0 ≤ before + count) (shift before) more
+    (All-weaker (λ line. line.0 ≤ count) (λ line. before + line.0 ≤ before + count) (λ line l. omega (arith, l)) more within)))
+
 -- ---- the note of the one piece
 
 abbrev noted : ℕ → ℕ → List (ℕ × LineFault) → Noted

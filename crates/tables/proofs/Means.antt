@@ -1,25 +1,18 @@
 -- A partial result stands for pieces where it means what they come to; and all pieces of an input.
-use Rattle.std.proofs.Common.{◌≡◌, ◌+◌, ◌<◌, ◌≤◌, ℕ, zero, suc, List, [], ◌∷◌, ◌++◌, length, map, take, Option, None, refl, sym, ap, ◌∙◌, arith}
+use Rattle.std.proofs.Common.{◌≡◌, ◌+◌, ◌<◌, ◌≤◌, ℕ, zero, suc, List, [], ◌∷◌, ◌++◌, length, take, refl, sym, ap, ◌∙◌, arith}
 use Rattle.std.proofs.lemmas.List.{get_or-map, length-map, take_all}
 use Rattle.std.proofs.lemmas.List.FromFn.{get_or-enumerate_from, length-enumerate_from}
 use Rattle.std.proofs.Math.Seq.{take-suc}
-use Rattle.std.specs.FinMap as fin
 use Rattle.std.specs.List.{enumerate_from, slice_index_or}
 use Rattle.values.specs.Schema.{Field}
 use Rattle.lines.specs.declared.pieces.Piece.{Piece}
 use Rattle.query_tree.specs.Syntax.{TreeForm}
-use Rattle.query_check.specs.Sets.{sets_of}
-use Rattle.query_truth.specs.Kept.{kept}
-use Rattle.groups.specs.Groups.{Key}
-use Rattle.groups.specs.Inside.Group.{GroupState}
-use Rattle.groups.specs.Rows.{Row}
-use Rattle.groups.specs.Inside.Table.{Contents}
 use Rattle.pool.specs.Totals as pool
 use Rattle.pool.proofs.Sums.{total_load, total_weight}
 use Rattle.tables.specs.Laws.{mean-append, means_lawful}
-use Rattle.tables.specs.Means.{Mean, both, group_of, indexed, mean, mean_at, meaning, no_bytes, piece_at, with_index}
+use Rattle.tables.specs.Means.{Mean, both, indexed, mean, mean_at, meaning, no_bytes, piece_at, with_index}
 use Rattle.tables.specs.Partials.{StandsFor}
-use Rattle.tables.specs.Pieces.{IndexedPiece, all_lines, records_of, refused_within}
+use Rattle.tables.specs.Pieces.{IndexedPiece, all_lines, refused_within}
 use Rattle.tables.specs.States.{PartialState}
 
 -- ---- standing for pieces is meaning what they come to

@@ -1,5 +1,5 @@
 -- Tables of grouping sets, rolled out of one another.
-use Rattle.std.proofs.Common.{◌≡◌, ◌≢◌, ◌==◌, ◌<◌, ◌≤◌, ◌^◌, ℕ, zero, suc, Bool, true, false, ◌||◌, not, cond, List, [], ◌∷◌, ◌++◌, All, Vec, Global, length, map, filter, slice_index_or, get_or, nat_eq, nat_lt, refl, sym, ap, subst, ◌∙◌, arith, append_assoc}
+use Rattle.std.proofs.Common.{◌≡◌, ◌≢◌, ◌==◌, ◌<◌, ◌≤◌, ℕ, zero, suc, Bool, true, false, ◌||◌, not, List, [], ◌∷◌, ◌++◌, All, Vec, Global, length, slice_index_or, get_or, nat_eq, nat_lt, refl, sym, ap, subst, ◌∙◌, arith, append_assoc}
 use Rattle.std.proofs.lemmas.Bool.Decides.{Decides-eqb}
 use Rattle.std.proofs.lemmas.List.Elements.{All-from_recursion, All-map, recursion_from_All}
 use Rattle.std.proofs.lemmas.Slice.Eq.{slice_eq-Decides}
@@ -19,7 +19,7 @@ use Rattle.groups.specs.Rolled.{AreAmong}
 use Rattle.groups.specs.Rows.{Row}
 use Rattle.groups.specs.Inside.Table.{IsTableOf}
 use Rattle.tables.specs.declared.rolling.SetTable.{SetTable}
-use Rattle.tables.specs.SetTables.{AreOfFew, AreTablesOf, HasFiner, IsMade}
+use Rattle.tables.specs.SetTables.{AreTablesOf, HasFiner, IsMade}
 use Rattle.tables.specs.Sets.{AreGroupsOf, AreGroupsOfSet}
 use Rattle.tables.proofs.Bags.{all-everywhere, all-filter, all-map}
 

@@ -77,7 +77,7 @@ fn put_all_behind(
 }
 
 /// Puts the refused lines of a piece to those of the pieces before, which have so many lines.
-fn put_behind(
+pub(crate) fn put_behind(
     numbered: &mut Vec<(u64, LineFault)>,
     before: u64,
     refused: &[(u64, LineFault)],

@@ -9,7 +9,7 @@ use crate::grouped::Groups;
 use crate::joining::join_tables;
 use crate::laws::members_law;
 use crate::note::Note;
-use crate::numbering::{number, number_behind};
+use crate::numbering::{number, number_behind, put_behind};
 use crate::rows::rows_of;
 use crate::shape::Shape;
 use groups::{Group, Table, roll_law};
@@ -64,7 +64,7 @@ impl Partial {
     ghost use Rattle.query_tree.specs.Syntax.{TreeForm};
     ghost use Rattle.groups.specs.Groups.{Key};
     ghost use Rattle.groups.specs.Rows.{Row};
-    ghost use Rattle.query_plan.specs.Planned.{fields_of_plan};
+    ghost use Rattle.query_plan.specs.Planned.{fields_of_plan, form_of_plan};
     ghost use Rattle.tables.specs.Partials.{HaveOneShape, IsPartialOf, StandsFor, StandsForInput, whole_piece};
     ghost use Rattle.tables.specs.Planned.{AreFittingUnder, AreGroupingColumns, GivesGroupsOfSet, GivesGroupsUnder, HasEachRecordOnceUnder, HasMembersOfFiner, IsPartialUnder, IsResultUnder, StandsForUnder};
     ghost use Rattle.tables.specs.Pieces.{AreInOrder, AreNumbered, HaveOwnIndexes, IndexedPiece, IsCutInto, all_lines, records_of, refused_numbered, refused_within};
@@ -295,6 +295,56 @@ impl Partial {
             table: joined,
             lines,
             refused: refused + rest.refused,
+            notes,
+        })
+    }
+
+    /// The result over an input of which this one is the result of the front, and `rest` are the bytes of the rest behind
+    /// it. The front is whole lines: it is empty, or ends in a line feed. The records of the rest go into the table that is
+    /// there. The answer stands for the input as one piece of index 0, so that the refused lines of the rest are numbered
+    /// behind the lines of the front.
+    ///
+    /// This is a result of the plan, over some pieces, and has fewer than 2^63 lines together with the rest.
+    ///
+    /// Example: where the front has 3 lines and the first line of the rest is refused, that is line 4 of the input.
+    ///
+    /// # Errors
+    ///
+    /// `AllocError` where there is no memory for it; what was there is given up then.
+    pub fn fold_behind(self, plan: &Plan, rest: &[u8]) -> Result<Partial, AllocError>
+        requires of_plan { IsPartialUnder plan.now self }
+        requires few { self.lines + length (lines rest.now) < 2 ^ 63 }
+        ensures stands { IfOk result (λ partial. (front : List ℕ)
+            → StandsForInput (fields_of_plan plan.now) (form_of_plan plan.now) self front → AreWholeLines front
+            → StandsForUnder plan.now partial (whole_piece (front ++ rest.now))) }
+    {
+        let Partial {
+            alloc,
+            shape,
+            table,
+            lines: before,
+            refused,
+            notes,
+        } = self;
+        let mut numbered = number(alloc, notes)?;
+        let folding = Folding::onto(alloc, table);
+        let folding = read_lines(alloc, plan, folding, rest)?;
+        put_behind(&mut numbered, before, folding.refused.as_slice())?;
+        let lines = before + folding.lines;
+        let notes = one_note(
+            alloc,
+            Note {
+                index: 0,
+                lines,
+                refused: numbered,
+            },
+        )?;
+        Ok(Partial {
+            alloc,
+            shape,
+            table: folding.table,
+            lines,
+            refused: refused + folding.refused.len() as u64,
             notes,
         })
     }

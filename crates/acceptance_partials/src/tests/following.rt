@@ -1,5 +1,6 @@
 //! The result over a front of whole lines, followed by that over the rest, is the result over all.
-ghost use Rattle.std.specs.Prelude.{◌≡◌, true, IfOk};
+ghost use Rattle.std.specs.Prelude.{◌≡◌, ◌^◌, ◌<◌, length, true, IfOk};
+ghost use Rattle.lines.specs.Lines.{lines};
 ghost use Rattle.lines.specs.Pieces.{AreWholeLines};
 ghost use Rattle.query_plan.specs.Planned.{fields_of_plan, form_of_plan};
 ghost use Rattle.tables.specs.Partials.{IsPartialOf, StandsForInput};
@@ -87,6 +88,13 @@ fn are_whole_lines(bytes: &[u8]) -> bool
     }
 }
 
+/// Whether bytes are few, so that their lines are few too.
+fn has_few_lines(bytes: &[u8]) -> bool
+    ensures { result ≡ true → length (lines bytes.now) < 2 ^ 62 }
+{
+    bytes.len() < 1 << 62
+}
+
 /// The result over an input: over no pieces where it is empty, and else over one.
 fn over(alloc: Global, plan: &Plan, input: &[u8]) -> Result<Partial, AllocError>
     ensures { IfOk result (λ partial. StandsForInput (fields_of_plan plan.now) (form_of_plan plan.now) partial input.now) }
@@ -122,6 +130,23 @@ fn followed(
     }
 }
 
+/// The result over a front of whole lines, with the rest folded behind it.
+fn folded_behind(
+    rt: &impl Abort,
+    alloc: Global,
+    plan: &Plan,
+    front: &[u8],
+    rest: &[u8],
+) -> Result<Partial, AllocError>
+    requires { AreWholeLines front.now }
+    ensures { IfOk result (IsPartialOf (fields_of_plan plan.now) (form_of_plan plan.now)) }
+{
+    let whole = over(alloc, plan, front)?;
+    assert!(rt; whole.lines() < 1 << 62);
+    assert!(rt; has_few_lines(rest));
+    whole.fold_behind(plan, rest)
+}
+
 /// Asserts that a result is that of an input in two parts.
 fn assert_found(
     rt: &impl Abort,
@@ -140,7 +165,8 @@ fn assert_found(
     assert_groups(rt, alloc, &groups, wanted);
 }
 
-/// Asserts that the result over both parts of an input, one following the other, is what the result over all of it is.
+/// Asserts that the result over both parts of an input, one following the other or folded behind it, is what the result
+/// over all of it is.
 fn assert_followed(rt: &impl Abort, alloc: Global, plan: &Plan, parted: &Parted) {
     let mut input = parted.front.to_vec(alloc).expect(rt, "memory");
     input.extend_from_slice(parted.rest).expect(rt, "memory");
@@ -150,6 +176,8 @@ fn assert_followed(rt: &impl Abort, alloc: Global, plan: &Plan, parted: &Parted)
     assert!(rt; are_whole_lines(parted.front));
     let both = followed(rt, alloc, plan, parted.front, parted.rest).expect(rt, "memory");
     assert_found(rt, alloc, plan, both, parted, &wanted);
+    let folded = folded_behind(rt, alloc, plan, parted.front, parted.rest).expect(rt, "memory");
+    assert_found(rt, alloc, plan, folded, parted, &wanted);
 }
 
 #[test]
@@ -164,18 +192,36 @@ fn followed_like_the_whole(rt: HostRuntime) {
     }
 }
 
+/// Asserts that a result is that of the input with groups in both parts, or memory was refused.
+fn assert_both_or_refused(rt: &impl Abort, plan: &Plan, both: Result<Partial, AllocError>)
+    requires { IfOk both (IsPartialOf (fields_of_plan plan.now) (form_of_plan plan.now)) }
+{
+    if let Ok(both) = both {
+        assert!(rt; both.lines() == 5 && both.refused() == 2);
+        if let Ok(groups) = both.finish(plan) {
+            assert_two_found(rt, &groups, IN_BOTH.refused);
+        }
+    }
+}
+
 /// For the loop that refuses each allocation in turn: the result over both parts, or want of memory.
 #[test]
 fn refusal_of_follow(rt: HostRuntime) {
-    let parted = IN_BOTH;
-    assert!(rt; are_whole_lines(parted.front));
+    assert!(rt; are_whole_lines(IN_BOTH.front));
     if let Some(plan) = planned_or_refused(&rt, rt.alloc(), BY_D) {
-        if let Ok(both) = followed(&rt, rt.alloc(), &plan, parted.front, parted.rest) {
-            assert!(rt; both.lines() == 5 && both.refused() == 2);
-            if let Ok(groups) = both.finish(&plan) {
-                assert_two_found(&rt, &groups, parted.refused);
-            }
-        }
+        let both = followed(&rt, rt.alloc(), &plan, IN_BOTH.front, IN_BOTH.rest);
+        assert_both_or_refused(&rt, &plan, both);
+        drop(plan);
+    }
+}
+
+/// The same of the rest folded behind the front.
+#[test]
+fn refusal_of_fold_behind(rt: HostRuntime) {
+    assert!(rt; are_whole_lines(IN_BOTH.front));
+    if let Some(plan) = planned_or_refused(&rt, rt.alloc(), BY_D) {
+        let both = folded_behind(&rt, rt.alloc(), &plan, IN_BOTH.front, IN_BOTH.rest);
+        assert_both_or_refused(&rt, &plan, both);
         drop(plan);
     }
 }

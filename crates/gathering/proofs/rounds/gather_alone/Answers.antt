@@ -1,10 +1,11 @@
-use Rattle.std.proofs.Common.{◌≡◌, ◌∙◌, ◌+◌, ◌≤◌, ◌<◌, ◌^◌, length, option_map, Ok, ap, subst, sym, arith, rules}
+use Rattle.std.proofs.Common.{◌∙◌, ◌+◌, ◌<◌, ◌^◌, ◌++◌, length, List, ℕ, Ok, ap, subst, sym, refl, arith, inr, rules}
 use Rattle.query_plan.specs.Planned.{fields_of_plan, form_of_plan}
+use Rattle.lines.specs.Lines.{lines}
 use Rattle.lines.specs.Rounds.{RoundsState}
-use Rattle.tables.specs.Partials.{StandsForInput}
+use Rattle.tables.specs.Partials.{StandsFor, whole_piece}
 use Rattle.gathering.specs.Gathered.{limit_number}
-use Rattle.gathering.specs.Faults.{Stops}
-use Rattle.gathering.proofs.Gathered.{few-lines, next-round, no-round, round-stops, short-round}
+use Rattle.gathering.specs.Faults.{Refuses, Stops}
+use Rattle.gathering.proofs.Gathered.{Behind, few-behind, next-behind, no-round, refused-behind, round-stops}
 use Rattle.gathering.proofs.rounds.gather_alone.Goals as goal
 
 pub loop-whole-init : goal.loop-whole-init
@@ -14,42 +15,41 @@ loop-whole-init g c =
     (ap (λ (r : RoundsState _). r.left) c.in_ok-rounds.ensures) (ap (λ (r : RoundsState _). r.given) c.in_ok-rounds.ensures) c.in_ok-whole.ensures.stands in
     rounds
 
-pub round_alone-requires-clause-short : goal.round_alone-requires-clause-short
-round_alone-requires-clause-short g c =
-    let before = c.refused-before.ensures.refused in
-    let fewer = c.refused-before.ensures.fewer in
-    let few : c.loop-whole.whole.refused ≤ c.loop-whole.whole.lines = omega (arith, before, fewer) in
-    let long = ap length c.round-in-loop-whole.ensures in
-    let short = short-round (fields_of_plan c.args.plan.now) (form_of_plan c.args.plan.now) (g.R.Read.remaining c.args.reader) (limit_number c.args.options.max_refused)
-    c.loop-whole.rounds c.advance.new.self _ c.loop-whole.whole c.loop-whole.invariant c.in_ok-advance.ensures (ap Ok c.if-branch.true) few in
-    omega (arith, before, long, short)
+pub fold_behind-requires-clause-of_plan : goal.fold_behind-requires-clause-of_plan
+fold_behind-requires-clause-of_plan g c = let s = c.loop-whole.invariant.stands in ∣ (s.pieces, s.stands) ∣₁
 
-pub returns-in_err-round-clause-fault : goal.returns-in_err-round-clause-fault
-returns-in_err-round-clause-fault g c =
-    let fields = fields_of_plan c.args.plan.now in
-    let known = g.R.Read.remaining c.args.reader in
-    let stops : Stops c.in_err-round.field-0.0 c.args.options.max_refused fields known =
-    round-stops fields (form_of_plan c.args.plan.now) known (limit_number c.args.options.max_refused) c.args.options.max_refused
-    c.loop-whole.rounds c.advance.new.self _ c.loop-whole.whole c.refused-before.result c.round-in-loop-whole.result.now c.in_err-round.field-0.0
-    c.loop-whole.invariant c.in_ok-advance.ensures (ap Ok c.if-branch.true) c.refused-before.ensures.refused c.round-in-loop-whole.ensures c.in_err-round.ensures.fault in
-    search rules
-
-pub follow-requires-clause-few : goal.follow-requires-clause-few
-follow-requires-clause-few g c =
-    let fields = fields_of_plan c.args.plan.now in
-    let q = form_of_plan c.args.plan.now in
-    few-lines fields q (g.R.Read.remaining c.args.reader) (limit_number c.args.options.max_refused)
-    c.loop-whole.rounds c.advance.new.self _ c.loop-whole.whole c.in_ok-round.round c.loop-whole.invariant c.in_ok-advance.ensures (ap Ok c.if-branch.true)
-    (subst (StandsForInput fields q c.in_ok-round.round) c.round-in-loop-whole.ensures c.in_ok-round.ensures.whole)
+pub fold_behind-requires-clause-few : goal.fold_behind-requires-clause-few
+fold_behind-requires-clause-few g c =
+    let few = few-behind (fields_of_plan c.args.plan.now) (form_of_plan c.args.plan.now) (g.R.Read.remaining c.args.reader) (limit_number c.args.options.max_refused)
+    c.loop-whole.rounds c.advance.new.self _ c.loop-whole.whole c.loop-whole.invariant c.in_ok-advance.ensures (ap Ok c.if-branch.true) in
+    subst (λ (bytes : List ℕ). c.loop-whole.whole.lines + length (lines bytes) < 2 ^ 63) (sym c.round-in-loop-whole.ensures) few
 
 pub loop-whole-preserved : goal.loop-whole-preserved
 loop-whole-preserved g c =
     let fields = fields_of_plan c.args.plan.now in
     let q = form_of_plan c.args.plan.now in
-    let before = c.refused-before.ensures.refused in
-    let limit = c.in_ok-round.ensures.limit in
-    let rounds = next-round fields q (g.R.Read.remaining c.args.reader) (limit_number c.args.options.max_refused)
-    c.loop-whole.rounds c.advance.new.self _ c.loop-whole.whole c.in_ok-round.round c.in_ok-whole-2.whole c.loop-whole.invariant c.in_ok-advance.ensures (ap Ok c.if-branch.true)
-    (subst (StandsForInput fields q c.in_ok-round.round) c.round-in-loop-whole.ensures c.in_ok-round.ensures.whole)
-    (c.in_ok-whole-2.ensures.stands fields q) (omega (arith, before, limit)) in
+    let sum = c.in_ok-whole-2.whole in
+    let behind : Behind fields q c.loop-whole.whole c.advance.new.self.round sum = λ front given whole.
+    subst (λ (bytes : List ℕ). StandsFor fields q sum (whole_piece (front ++ bytes))) c.round-in-loop-whole.ensures (c.in_ok-whole-2.ensures.stands front given whole) in
+    let count = c.refused.ensures.refused in
+    let within = c.in_ok-within_limit.ensures.within in
+    let rounds = next-behind fields q (g.R.Read.remaining c.args.reader) (limit_number c.args.options.max_refused)
+    c.loop-whole.rounds c.advance.new.self _ c.loop-whole.whole sum c.loop-whole.invariant c.in_ok-advance.ensures (ap Ok c.if-branch.true) behind (omega (arith, count, within)) in
     rounds
+
+pub returns-in_err-within_limit-clause-fault : goal.returns-in_err-within_limit-clause-fault
+returns-in_err-within_limit-clause-fault g c =
+    let fields = fields_of_plan c.args.plan.now in
+    let q = form_of_plan c.args.plan.now in
+    let known = g.R.Read.remaining c.args.reader in
+    let most = c.args.options.max_refused in
+    let sum = c.in_ok-whole-2.whole in
+    let fault = c.in_err-within_limit.field-0.0 in
+    let behind : Behind fields q c.loop-whole.whole c.advance.new.self.round sum = λ front given whole.
+    subst (λ (bytes : List ℕ). StandsFor fields q sum (whole_piece (front ++ bytes))) c.round-in-loop-whole.ensures (c.in_ok-whole-2.ensures.stands front given whole) in
+    let count = refused-behind fields q known (limit_number most) c.loop-whole.rounds c.advance.new.self _ c.loop-whole.whole sum c.loop-whole.invariant c.in_ok-advance.ensures (ap Ok c.if-branch.true) behind in
+    let stops : Stops fault most fields known =
+    round-stops fields q known (limit_number most) most c.loop-whole.rounds c.advance.new.self _ c.loop-whole.whole c.loop-whole.whole.refused c.advance.new.self.round fault
+    c.loop-whole.invariant c.in_ok-advance.ensures (ap Ok c.if-branch.true) refl refl
+    (inr (subst (λ (n : ℕ). Refuses fault most n) (c.refused.ensures.refused ∙ count) c.in_err-within_limit.ensures.over)) in
+    search rules

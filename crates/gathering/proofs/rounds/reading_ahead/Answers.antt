@@ -1,4 +1,4 @@
-use Rattle.std.proofs.Common.{◌≡◌, ◌∙◌, ◌+◌, ◌≤◌, ◌<◌, ◌^◌, ◌⊎◌, ℕ, true, All, IfErr, IfOk, cond, length, Ok, ap, refl, subst, arith, rules, vec_len}
+use Rattle.std.proofs.Common.{◌≡◌, ◌∙◌, ◌+◌, ◌≤◌, ◌⊎◌, ℕ, true, All, IfErr, IfOk, cond, length, Ok, ap, refl, subst, arith, rules, vec_len}
 use Rattle.std.proofs.lemmas.Result.{err_from_is_err_and}
 use Rattle.query_plan.specs.Planned.{fields_of_plan, form_of_plan}
 use Rattle.lines.specs.Input.{refused}
@@ -91,8 +91,8 @@ loop-found-preserved g c =
     let worked = subst (λ w. IfOk w (λ r. StandsForInput fields q r.0 c.hand_out-round.result.bytes)) c.in_ok-more.was c.round_beside-read.ensures.whole in
     let stands = subst (StandsForInput fields q c.in_ok-more.more) c.hand_out-round.ensures.round worked in
     let few = subst (λ w. IfOk w (λ r. c.refused-before.result + r.0.refused ≤ most)) c.in_ok-more.was c.round_beside-read.ensures.limit in
-    let after = next-round fields q known most m.0 rounds (Ok true) c.loop-found.whole c.in_ok-more.more whole m.1 m.2 refl stands (c.in_ok-whole-2.ensures.stands fields q) (omega (arith, before, few)) in
-    let more = refused-after fields q known most m.0 rounds (Ok true) c.loop-found.whole c.in_ok-more.more whole m.1 m.2 refl stands (c.in_ok-whole-2.ensures.stands fields q) in
+    let after = next-round fields q known most m.0 rounds (Ok true) c.loop-found.whole whole m.1 m.2 refl c.in_ok-more.more stands (c.in_ok-whole-2.ensures.stands fields q) (omega (arith, before, few)) in
+    let more = refused-after fields q known most m.0 rounds (Ok true) c.loop-found.whole whole m.1 m.2 refl c.in_ok-more.more stands (c.in_ok-whole-2.ensures.stands fields q) in
     let left = handed-out fields q known most rounds rest whole c.hand_out-round.ensures.rest after in
     let read = subst (λ found. HasMoved rest found kept) c.in_ok-found-2.was c.round_beside-read.ensures.read in
     record {

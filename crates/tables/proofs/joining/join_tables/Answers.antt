@@ -1,4 +1,4 @@
-use Rattle.std.proofs.Common.{◌≡◌, ◌+◌, ◌++◌, ℕ, List, subst, arith}
+use Rattle.std.proofs.Common.{◌+◌, ◌++◌, ℕ, List, subst}
 use Rattle.std.proofs.lemmas.Result.{IfOk-weaker}
 use Rattle.groups.specs.Functions.{AggregateFunction}
 use Rattle.groups.specs.Inside.Table.{AreGroupsWithin, Contents, IsTableOf}

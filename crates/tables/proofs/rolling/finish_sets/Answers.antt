@@ -7,7 +7,7 @@ use Rattle.groups.specs.Functions.{bound}
 use Rattle.groups.specs.Inside.Table.{IsTableOf}
 use Rattle.query_check.specs.Resolution.{contents}
 use Rattle.tables.specs.Sets.{AreGroupsOf}
-use Rattle.tables.specs.SetTables.{AreTablesOf, IsMade}
+use Rattle.tables.specs.SetTables.{IsMade}
 use Rattle.tables.proofs.SetTables.{groups-more, none-same, not-true}
 use Rattle.tables.proofs.rolling.finish_sets.Goals as goal
 

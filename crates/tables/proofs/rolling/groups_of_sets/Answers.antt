@@ -2,7 +2,6 @@ use Rattle.std.proofs.Common.{All, List, Vec, Global, ℕ, sym, subst}
 use Rattle.std.proofs.Math.Logic.{∥∥₁_map}
 use Rattle.std.proofs.lemmas.List.Sorted.{All-permutation, IsPermutation-sym}
 use Rattle.std.proofs.lemmas.Result.{IfOk-weaker}
-use Rattle.query_check.specs.Resolution.{contents}
 use Rattle.groups.specs.Rolled.{AreAmong}
 use Rattle.tables.specs.SetTables.{IsMade}
 use Rattle.tables.proofs.SetTables.{all-contents, all-from_contents}

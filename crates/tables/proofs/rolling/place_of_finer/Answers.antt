@@ -1,4 +1,4 @@
-use Rattle.std.proofs.Common.{All, ◌≡◌, ◌<◌, ◌≤◌, ◌+◌, ℕ, true, false, List, get_or, length, slice_index_or, take, sym, subst, ◌∙◌, arith}
+use Rattle.std.proofs.Common.{All, ◌<◌, ◌≤◌, length, slice_index_or, sym, subst, ◌∙◌, arith}
 use Rattle.std.proofs.lemmas.List.{take_all}
 use Rattle.std.proofs.lemmas.List.Elements.{All-more, at_read}
 use Rattle.groups.specs.Rolled.{AreAmong}

@@ -1,10 +1,9 @@
-use Rattle.std.proofs.Common.{◌<◌, ◌++◌, ◌∷◌, [], ℕ, List, get_or, length, map, sym, subst}
+use Rattle.std.proofs.Common.{◌<◌, ℕ, List, get_or, length, map, sym, subst}
 use Rattle.std.proofs.Math.Logic.{∥∥₁_map}
 use Rattle.std.proofs.lemmas.List.Elements.{All-push}
 use Rattle.groups.specs.Functions.{bound}
 use Rattle.groups.specs.Inside.Table.{IsTableOf}
 use Rattle.groups.specs.Rolled.{AreAmong}
-use Rattle.groups.specs.Rows.{Row}
 use Rattle.tables.specs.declared.rolling.SetTable.{SetTable}
 use Rattle.tables.specs.SetTables.{AreTablesOf, HasFiner}
 use Rattle.tables.proofs.SetTables.{table-at}

@@ -1,9 +1,9 @@
-use Rattle.std.proofs.Common.{All, ◌+◌, List, Vec, Global, ℕ, sym, ap, subst, arith}
+use Rattle.std.proofs.Common.{All, Vec, Global, ℕ, sym, subst, arith}
 use Rattle.std.proofs.Math.Logic.{∥∥₁_map}
 use Rattle.std.proofs.lemmas.List.{take_all}
 use Rattle.std.proofs.lemmas.List.Elements.{All-more, All-weaker}
 use Rattle.groups.specs.Rolled.{AreAmong}
-use Rattle.tables.specs.SetTables.{HasFiner, IsMade}
+use Rattle.tables.specs.SetTables.{IsMade}
 use Rattle.tables.proofs.SetTables.{finer-there}
 use Rattle.tables.proofs.rolling.tables_of_sets.Goals as goal
 

@@ -1,4 +1,4 @@
-use Rattle.std.proofs.Common.{◌≡◌, ◌++◌, ◌∷◌, [], Bool, true, List, cond, map, rules, sym, ap, subst, ◌∙◌}
+use Rattle.std.proofs.Common.{◌≡◌, ◌++◌, ◌∷◌, [], true, List, cond, map, rules, sym, ap, subst, ◌∙◌}
 use Rattle.groups.specs.Functions.{AggregateFunction, bound}
 use Rattle.groups.specs.Rows.{IsNarrowRow, Row}
 use Rattle.groups.specs.Inside.Table.{IsTableOf}

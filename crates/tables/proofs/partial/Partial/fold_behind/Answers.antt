@@ -1,0 +1,147 @@
+use native.Mathlib.Nat.{ℕ_set}
+use Rattle.std.proofs.Common.{◌≡◌, ◌+◌, ◌≤◌, ◌++◌, [], List, All, length, map, sym, ap, subst, ◌∙◌, arith}
+use Rattle.std.proofs.Math.Logic.{∥∥₁_elim, ∥∥₁_map}
+use Rattle.std.proofs.Props.{props}
+use Rattle.std.proofs.lemmas.List.Elements.{All-same}
+use Rattle.lines.specs.Lines.{lines}
+use Rattle.groups.specs.Rows.{Row}
+use Rattle.groups.specs.Inside.Table.{AreGroupsWithin, IsTableOf}
+use Rattle.groups.proofs.Meaning.{table-within}
+use Rattle.query_check.specs.declared.function.FilteredFunction.{FilteredFunction}
+use Rattle.query_plan.specs.Planned.{fields_of_plan, form_of_plan}
+use Rattle.query_check.specs.Functions.{indexed_functions}
+use Rattle.query_check.specs.Sets.{grouping_places}
+use Rattle.query_truth.specs.Kept.{kept}
+use Rattle.tables.specs.Folding.{HasRead, good_of, refused_of}
+use Rattle.tables.specs.Notes.{notes_in}
+use Rattle.tables.specs.Partials.{StandsFor}
+use Rattle.tables.specs.Pieces.{IndexedPiece, records_of}
+use Rattle.tables.specs.States.{PartialState}
+use Rattle.tables.specs.Functions.{aggregate_functions}
+use Rattle.tables.proofs.Bound.{as-many}
+use Rattle.tables.proofs.Following.{count-behind, followed-note, lines-behind, lines-within, numbers-behind, records-behind, refused-behind, whole-lines}
+use Rattle.tables.proofs.Growing.{begun, few-records}
+use Rattle.tables.proofs.Merging.{one-note}
+use Rattle.tables.proofs.Reading.{length-kept_behind, length-refused_of, well-numbered}
+use Rattle.tables.proofs.partial.Partial.fold_behind.Goals as goal
+
+pub number-requires-clause-few : goal.number-requires-clause-few
+number-requires-clause-few c = let counted = c.self.inside.counted in let few = c.self.inside.few in omega (arith, counted, few)
+
+pub number-requires-clause-numbered : goal.number-requires-clause-numbered
+number-requires-clause-numbered c = c.self.inside.numbered
+
+pub read_lines-requires : goal.read_lines-requires
+read_lines-requires c =
+    let fields = fields_of_plan c.args.plan.now in
+    let q = form_of_plan c.args.plan.now in
+    ∥∥₁_map c.requires.of_plan (λ s.
+    let p = subst (λ (v : PartialState). StandsFor fields q v s.0) (sym c.self.view_is) s.1 in
+    let few = few-records fields s.0 in
+    let count = s.1.lines in
+    record {
+      before = records_of fields s.0;
+      seen = [];
+      has_read = begun fields q s.0 c.self.inside.table c.onto-folding.result p.table c.onto-folding.ensures.table c.onto-folding.ensures.lines c.onto-folding.ensures.refused;
+      few = omega (arith, few, count, c.requires.few);
+    })
+
+pub put_behind-requires : goal.put_behind-requires
+put_behind-requires c =
+    let fields = fields_of_plan c.args.plan.now in
+    let q = form_of_plan c.args.plan.now in
+    let self = c.self.inside in
+    let folding = c.in_ok-folding.folding in
+    let ls = lines c.args.rest.now in
+    let same : self.lines ≡ c.args.self.lines = ap (λ (v : PartialState). v.lines) c.self.view_is in
+    let read : (s : (pieces : List IndexedPiece) × StandsFor fields q c.args.self pieces) → HasRead fields q (records_of fields s.0) folding ls = λ s.
+    let p = subst (λ (v : PartialState). StandsFor fields q v s.0) (sym c.self.view_is) s.1 in
+    c.in_ok-folding.ensures (records_of fields s.0) []
+    (begun fields q s.0 self.table c.onto-folding.result p.table c.onto-folding.ensures.table c.onto-folding.ensures.lines c.onto-folding.ensures.refused) in
+    let count : folding.lines ≡ length ls = ∥∥₁_elim c.requires.of_plan (ℕ_set _ _) (λ s. (read s).lines) in
+    let well : All (λ line. line.0 ≤ folding.lines) folding.refused.items =
+    ∥∥₁_elim c.requires.of_plan (hlevel props) (λ s. well-numbered fields folding.lines folding.refused.items ls (read s).lines (read s).refused) in
+    let here : All (λ line. line.0 ≤ folding.lines) c.as_slice.result.now = All-same (λ line. line.0 ≤ folding.lines) _ folding.refused.items c.as_slice.ensures.value well in
+    λ k d l. let w = here k d l in omega (arith, w, count, same, c.requires.few)
+
+pub overflow_add-lines : goal.overflow_add-lines
+overflow_add-lines c =
+    let fields = fields_of_plan c.args.plan.now in
+    let q = form_of_plan c.args.plan.now in
+    let self = c.self.inside in
+    let folding = c.in_ok-folding.folding in
+    let same : self.lines ≡ c.args.self.lines = ap (λ (v : PartialState). v.lines) c.self.view_is in
+    let count : folding.lines ≡ length (lines c.args.rest.now) = ∥∥₁_elim c.requires.of_plan (ℕ_set _ _) (λ s.
+    let p = subst (λ (v : PartialState). StandsFor fields q v s.0) (sym c.self.view_is) s.1 in
+    (c.in_ok-folding.ensures (records_of fields s.0) []
+    (begun fields q s.0 self.table c.onto-folding.result p.table c.onto-folding.ensures.table c.onto-folding.ensures.lines c.onto-folding.ensures.refused)).lines) in
+    omega (arith, count, same, c.requires.few)
+
+pub invariant_of-result : goal.invariant_of-result
+invariant_of-result c =
+    let fields = fields_of_plan c.args.plan.now in
+    let q = form_of_plan c.args.plan.now in
+    let self = c.self.inside in
+    let folding = c.in_ok-folding.folding in
+    let ls = lines c.args.rest.now in
+    let same : self.lines ≡ c.args.self.lines = ap (λ (v : PartialState). v.lines) c.self.view_is in
+    let read : (s : (pieces : List IndexedPiece) × StandsFor fields q c.args.self pieces) → HasRead fields q (records_of fields s.0) folding ls = λ s.
+    let p = subst (λ (v : PartialState). StandsFor fields q v s.0) (sym c.self.view_is) s.1 in
+    c.in_ok-folding.ensures (records_of fields s.0) []
+    (begun fields q s.0 self.table c.onto-folding.result p.table c.onto-folding.ensures.table c.onto-folding.ensures.lines c.onto-folding.ensures.refused) in
+    let count : folding.lines ≡ length ls = ∥∥₁_elim c.requires.of_plan (ℕ_set _ _) (λ s. (read s).lines) in
+    let listed : length folding.refused.items ≡ length (refused_of fields ls) = ∥∥₁_elim c.requires.of_plan (ℕ_set _ _) (λ s. ap length (read s).refused) in
+    let well : All (λ line. line.0 ≤ folding.lines) folding.refused.items =
+    ∥∥₁_elim c.requires.of_plan (hlevel props) (λ s. well-numbered fields folding.lines folding.refused.items ls (read s).lines (read s).refused) in
+    let found = c.in_ok-numbered.numbered.items in
+    let low : All (λ line. line.0 ≤ self.lines) found = subst (λ n. All (λ line. line.0 ≤ n) found) self.counted (lines-within (notes_in self.notes) found self.numbered c.in_ok-numbered.ensures) in
+    let behind = c.in_ok-put_behind.ensures ∙ ap (λ ls. found ++ map (λ line. (self.lines + line.0, line.1)) ls) c.as_slice.ensures.value in
+    let within = numbers-behind self.lines folding.lines found folding.refused.items c.put_behind.new.numbered.items low well behind in
+    let notes = one-note c.in_ok-notes.notes.items _ c.in_ok-notes.ensures within in (
+      omega (arith, count, same, c.requires.few),
+      (
+        (let fewer = self.fewer in let n = c.len.ensures in let m = length-refused_of fields ls in
+            omega (arith, n, listed, m, count, fewer)),
+        (
+          ∥∥₁_elim c.requires.of_plan (hlevel props) (λ s.
+              let p = subst (λ (v : PartialState). StandsFor fields q v s.0) (sym c.self.view_is) s.1 in
+              let r = read s in
+              subst (λ (fs : List FilteredFunction). AreGroupsWithin (self.lines + folding.lines) fs folding.table) (sym p.functions)
+              (table-within (grouping_places fields q) (indexed_functions fields q) (aggregate_functions fields q) folding.table (kept fields q (records_of fields s.0 ++ good_of fields ls)) (self.lines + folding.lines) (as-many fields q) r.table
+              (let few = length-kept_behind fields q (records_of fields s.0) ls in let records = few-records fields s.0 in let before = p.lines in omega (arith, few, records, before, count)))),
+          (
+            notes.0,
+            (notes.1, tt),
+          ),
+        ),
+      ),
+    )
+
+pub returns : goal.returns
+returns c = record {
+  stands = λ front given whole.
+      let fields = fields_of_plan c.args.plan.now in
+      let q = form_of_plan c.args.plan.now in
+      let self = c.self.inside in
+      let pieces = given.pieces in
+      let p = subst (λ (v : PartialState). StandsFor fields q v pieces) (sym c.self.view_is) given.stands in
+      let folding = c.in_ok-folding.folding in
+      let rest = c.args.rest.now in
+      let read = c.in_ok-folding.ensures (records_of fields pieces) []
+      (begun fields q pieces self.table c.onto-folding.result p.table c.onto-folding.ensures.table c.onto-folding.ensures.lines c.onto-folding.ensures.refused) in
+      let found = c.in_ok-numbered.numbered.items in
+      let all = c.put_behind.new.numbered.items in
+      let behind = c.in_ok-put_behind.ensures ∙ ap (λ ls. found ++ map (λ line. (self.lines + line.0, line.1)) ls) c.as_slice.ensures.value in
+      let count = lines-behind front rest pieces whole given.cut in
+      let refused = refused-behind fields front rest pieces (notes_in self.notes) self.lines found folding.refused.items all whole given.cut p.notes c.in_ok-numbered.ensures
+      (let x = p.lines in omega (arith, x)) read.refused behind in
+      record {
+        sets = p.sets;
+        functions = p.functions;
+        filters = p.filters;
+        table = subst (λ (rows : List Row). IsTableOf (grouping_places fields q) (aggregate_functions fields q) folding.table (kept fields q rows)) (sym (records-behind fields front rest pieces whole given.cut)) read.table;
+        lines = (let x = p.lines in let y = read.lines in let z = whole-lines (front ++ rest) in omega (arith, x, y, z, count));
+        refused = (let x = p.refused in let n = c.len.ensures in let y = ap length read.refused in let z = count-behind fields front rest pieces whole given.cut in omega (arith, x, n, y, z));
+        notes = followed-note fields (front ++ rest) c.in_ok-notes.notes.items _ c.in_ok-notes.ensures (omega arith) (let x = p.lines in let y = read.lines in omega (arith, x, y, count)) refused;
+      };
+}
