@@ -1,7 +1,7 @@
 -- The order of the code's keys, and of values under keys of ORDER BY.
-use Rattle.std.proofs.Common.{◌≡◌, ◌⊎◌, inl, inr, ◌+◌, ◌<◌, ℕ, zero, suc, true, false, List, [], ◌∷◌, drop, get_or, length, map, option_map, slice_index_or, unwrap_or, Option, Some, None, Bor, refl, sym, ap, ◌∙◌, add-one, arith, take, ◌++◌, ◌≤◌}
-use Rattle.std.proofs.Math.Logic.{∥∥₁_elim}
-use Rattle.std.specs.Coded.{Coded-set, coded_list, coded_option, coded_ℕ}
+use Rattle.std.proofs.Common.{◌≡◌, ◌⊎◌, inl, inr, ◌+◌, ◌<◌, ℕ, zero, suc, true, false, List, [], ◌∷◌, drop, get_or, length, map, option_map, slice_index_or, unwrap_or, Option, Some, None, Bor, refl, sym, ap, subst, ◌∙◌, ◌*◌, ◌-◌, ◌^◌, add-one, arith, ◌≤◌}
+use Rattle.std.proofs.Math.Nat.{one-le-pow, pow-succ', pow-zero}
+use Rattle.std.proofs.lemmas.Bool.{cases_order}
 use Rattle.std.proofs.lemmas.Bool.Decides.{nat_tests}
 use Rattle.std.proofs.lemmas.List.{at_drop_more}
 use Rattle.std.specs.declared.cmp.Ordering.{Ordering}
@@ -17,7 +17,7 @@ use Rattle.query_tree.specs.Syntax.{key_form}
 use Rattle.query_tree.specs.declared.tree.Key.{Key}
 use Rattle.groups.specs.Groups.{key_order}
 use Rattle.report.specs.Order.{under_key}
-use Rattle.report.specs.Inside.Fronts.{first_bytes, front_of, front_order}
+use Rattle.report.specs.Inside.Fronts.{AreBytes, first_text, front_of, with_digits}
 use Rattle.report.specs.Inside.Ranked.{under_values}
 
 abbrev value_cmp : Value → Value → Ordering
@@ -70,54 +70,109 @@ then_tells Less p q h = inr refl
 then_tells Equal p q h = h
 then_tells Greater p q h = inr refl
 
-zero-less : (c : ℕ) → nat_cmp 0 (suc c) ≡ Less
-zero-less c = grind (arith, nat_tests)
+-- the rest of a text of bytes
+rest_bytes : (b : ℕ) (s : List ℕ) → AreBytes (b ∷ s) → AreBytes s
+rest_bytes b s bytes = λ i. bytes (suc i)
 
-zero-greater : (b : ℕ) → nat_cmp (suc b) 0 ≡ Greater
-zero-greater b = grind (arith, nat_tests)
+-- a greater number is greater with whatever digits behind
+digits-less : (n m k : ℕ) (s t : List ℕ) → m < k → AreBytes s → with_digits m n s < with_digits k n t
+unfolding with_digits
+digits-less zero m k s t less bytes = less
+digits-less (suc n) m k [] [] less bytes = digits-less n (256 * m) (256 * k) [] [] (omega (arith, less)) bytes
+digits-less (suc n) m k [] (c ∷ t) less bytes = digits-less n (256 * m) (256 * k + c) [] t (omega (arith, less)) bytes
+digits-less (suc n) m k (b ∷ s) [] less bytes = digits-less n (256 * m + b) (256 * k) s [] (omega (arith, less, bytes 0)) (rest_bytes b s bytes)
+digits-less (suc n) m k (b ∷ s) (c ∷ t) less bytes = digits-less n (256 * m + b) (256 * k + c) s t (omega (arith, less, bytes 0)) (rest_bytes b s bytes)
+
+-- so many digits are no more than more of them
+pub more_digits : (i n : ℕ) → i ≤ n → 256 ^ i ≤ 256 ^ n
+more_digits zero n h = let a = one-le-pow n 256 (omega arith) in let b = pow-zero 256 in omega (arith, a, b)
+more_digits (suc i) zero h = absurd (omega (arith, h))
+more_digits (suc i) (suc n) h =
+    let a = more_digits i n (omega (arith, h)) in
+    let b = pow-succ' 256 i in
+    let c = pow-succ' 256 n in
+    omega (arith, a, b, c)
+
+one_digit : (m n i : ℕ) (s : List ℕ) → with_digits m (suc n) (drop i s) ≡ with_digits (256 * m + get_or s i 0) n (drop (suc i) s)
+unfolding with_digits
+one_digit m n zero [] = let same : 256 * m ≡ 256 * m + 0 = omega arith in ap (λ k. with_digits k n []) same
+one_digit m n (suc i) [] = let same : 256 * m ≡ 256 * m + 0 = omega arith in ap (λ k. with_digits k n []) same
+one_digit m n zero (b ∷ s) = refl
+one_digit m n (suc i) (b ∷ s) = one_digit m n i s
+
+-- a turn of the loop over the digits
+pub digits-next : (m i b : ℕ) (s : List ℕ) → i < 16 → b ≡ get_or s i 0 → with_digits (256 * m + b) (16 - (i + 1)) (drop (i + 1) s) ≡ with_digits m (16 - i) (drop i s)
+digits-next m i b s below is =
+    let left : 16 - i ≡ suc (15 - i) = omega (arith, below) in
+    let less : 16 - (i + 1) ≡ 15 - i = omega (arith, below) in
+    (λ k. with_digits (256 * m + is k) (less k) (drop (add-one i k) s)) ∙ sym (one_digit m (15 - i) i s) ∙ ap (λ n. with_digits m n (drop i s)) (sym left)
+
+pub digits-end : (m i : ℕ) (s : List ℕ) → 16 ≤ i → with_digits m (16 - i) (drop i s) ≡ m
+unfolding with_digits
+digits-end m i s h = let none : 16 - i ≡ 0 = omega (arith, h) in ap (λ n. with_digits m n (drop i s)) none
+
+less-is : (m k : ℕ) → m < k → nat_cmp m k ≡ Less
+less-is m k h = grind (arith, nat_tests)
+
+greater-is : (m k : ℕ) → k < m → nat_cmp m k ≡ Greater
+greater-is m k h = grind (arith, nat_tests)
+
+equal-is : (m k : ℕ) → m ≡ k → nat_cmp m k ≡ Equal
+equal-is m k h = grind (arith, nat_tests)
+
+no_bytes : AreBytes []
+no_bytes i = omega arith
+
+nothing_before : (o : Ordering) (t : List ℕ) → Tells o (slice_cmp nat_cmp [] t) → Tells o Less
+nothing_before o [] h = nothing_told o Less h
+nothing_before o (d ∷ t) h = h
+
+nothing_behind : (o : Ordering) (s : List ℕ) → Tells o (slice_cmp nat_cmp s []) → Tells o Greater
+nothing_behind o [] h = nothing_told o Greater h
+nothing_behind o (d ∷ s) h = h
 
 -- behind its end a text has zeros, so a byte of another text is not less than what stands there
-end_before : (c : ℕ) (o : Ordering) (t : List ℕ) → Tells o (slice_cmp nat_cmp [] t) → Tells (ordering_then (nat_cmp 0 c) o) Less
-end_before zero o [] h = nothing_told o Less h
-end_before zero o (d ∷ t) h = h
-end_before (suc c) o t h = inr (ap (λ (p : Ordering). ordering_then p o) (zero-less c))
+empty_tells : (n m c : ℕ) (t : List ℕ) → Tells (nat_cmp (with_digits (256 * m) n []) (with_digits (256 * m) n t)) (slice_cmp nat_cmp [] t) → Tells (nat_cmp (with_digits (256 * m) n []) (with_digits (256 * m + c) n t)) Less
+empty_tells n m zero t h = let same : 256 * m ≡ 256 * m + 0 = omega arith in nothing_before _ t (subst (λ k. Tells (nat_cmp (with_digits (256 * m) n []) (with_digits k n t)) (slice_cmp nat_cmp [] t)) same h)
+empty_tells n m (suc c) t h = inr (less-is _ _ (digits-less n (256 * m) (256 * m + suc c) [] t (omega arith) no_bytes))
 
-end_behind : (b : ℕ) (o : Ordering) (s : List ℕ) → Tells o (slice_cmp nat_cmp s []) → Tells (ordering_then (nat_cmp b 0) o) Greater
-end_behind zero o [] h = nothing_told o Greater h
-end_behind zero o (d ∷ s) h = h
-end_behind (suc b) o s h = inr (ap (λ (p : Ordering). ordering_then p o) (zero-greater b))
+tells_empty : (n m b : ℕ) (s : List ℕ) → Tells (nat_cmp (with_digits (256 * m) n s) (with_digits (256 * m) n [])) (slice_cmp nat_cmp s []) → Tells (nat_cmp (with_digits (256 * m + b) n s) (with_digits (256 * m) n [])) Greater
+tells_empty n m zero s h = let same : 256 * m ≡ 256 * m + 0 = omega arith in nothing_behind _ s (subst (λ k. Tells (nat_cmp (with_digits k n s) (with_digits (256 * m) n [])) (slice_cmp nat_cmp s [])) same h)
+tells_empty n m (suc b) s h = inr (greater-is _ _ (digits-less n (256 * m) (256 * m + suc b) [] s (omega arith) no_bytes))
 
-abbrev pub zeros : ℕ → List ℕ
-zeros zero = []
-zeros (suc n) = 0 ∷ zeros n
+-- one byte more of both texts
+both_tell : (n m b c : ℕ) (s t : List ℕ) → AreBytes s → AreBytes t → (b ≡ c) ⊎ ((b < c) ⊎ (c < b)) → Tells (nat_cmp (with_digits (256 * m + b) n s) (with_digits (256 * m + b) n t)) (slice_cmp nat_cmp s t)
+    → Tells (nat_cmp (with_digits (256 * m + b) n s) (with_digits (256 * m + c) n t)) (slice_cmp nat_cmp (b ∷ s) (c ∷ t))
+both_tell n m b c s t left right (inl same) h =
+    subst (λ d. Tells (nat_cmp (with_digits (256 * m + b) n s) (with_digits (256 * m + d) n t)) (ordering_then (nat_cmp b d) (slice_cmp nat_cmp s t))) same (rw (equal-is b b refl) h)
+both_tell n m b c s t left right (inr (inl less)) h = inr (less-is _ _ (digits-less n (256 * m + b) (256 * m + c) s t (omega (arith, less)) left) ∙ sym (ap (λ (o : Ordering). ordering_then o (slice_cmp nat_cmp s t)) (less-is b c less)))
+both_tell n m b c s t left right (inr (inr more)) h = inr (greater-is _ _ (digits-less n (256 * m + c) (256 * m + b) t s (omega (arith, more)) right) ∙ sym (ap (λ (o : Ordering). ordering_then o (slice_cmp nat_cmp s t)) (greater-is b c more)))
 
-zeros-are : (n : ℕ) → zeros n ≡ first_bytes n []
-unfolding first_bytes
-zeros-are zero = refl
-zeros-are (suc n) = ap (λ (s : List ℕ). 0 ∷ s) (zeros-are n)
-
--- the bytes of a text, as far as they are wanted, and then zeros
-pub first-bytes-are : (n m : ℕ) (s : List ℕ) → m ≤ n → m ≤ length s → (m ≡ n) ⊎ (m ≡ length s) → take m s ++ drop m (zeros n) ≡ first_bytes n s
-unfolding first_bytes
-first-bytes-are zero zero s a b e = refl
-first-bytes-are zero (suc m) s a b e = absurd (omega (arith, a))
-first-bytes-are (suc n) zero [] a b e = ap (λ (s : List ℕ). 0 ∷ s) (zeros-are n)
-first-bytes-are (suc n) zero (x ∷ s) a b e = absurd (omega (arith, e))
-first-bytes-are (suc n) (suc m) [] a b e = absurd (omega (arith, b))
-first-bytes-are (suc n) (suc m) (x ∷ s) a b e = ap (λ (t : List ℕ). x ∷ t) (first-bytes-are n m s (omega (arith, a)) (omega (arith, b)) (less_one n m s e))
+-- what is at most another number is told to be less, or not told apart
+at_most : (m k : ℕ) → m ≤ k → Tells (nat_cmp m k) Less
+at_most m k h = by_order (cases_order m k)
   where
-    less_one : (n m : ℕ) (s : List ℕ) → (suc m ≡ suc n) ⊎ (suc m ≡ length (x ∷ s)) → (m ≡ n) ⊎ (m ≡ length s)
-    less_one n m s (inl h) = inl (omega (arith, h))
-    less_one n m s (inr h) = inr (omega (arith, h))
+    by_order : (m ≡ k) ⊎ ((m < k) ⊎ (k < m)) → Tells (nat_cmp m k) Less
+    by_order (inl same) = inl (equal-is m k same)
+    by_order (inr (inl less)) = inr (less-is m k less)
+    by_order (inr (inr more)) = absurd (omega (arith, h, more))
 
--- the first bytes of two texts tell nothing, or how the texts stand to each other
-first-tell : (n : ℕ) (s t : List ℕ) → Tells (slice_cmp nat_cmp (first_bytes n s) (first_bytes n t)) (slice_cmp nat_cmp s t)
-unfolding first_bytes
-first-tell zero s t = inl refl
-first-tell (suc n) [] [] = first-tell n [] []
-first-tell (suc n) [] (c ∷ t) = end_before c (slice_cmp nat_cmp (first_bytes n []) (first_bytes n t)) t (first-tell n [] t)
-first-tell (suc n) (b ∷ s) [] = end_behind b (slice_cmp nat_cmp (first_bytes n s) (first_bytes n [])) s (first-tell n s [])
-first-tell (suc n) (b ∷ s) (c ∷ t) = then_tells (nat_cmp b c) (slice_cmp nat_cmp (first_bytes n s) (first_bytes n t)) (slice_cmp nat_cmp s t) (first-tell n s t)
+at_least : (m k : ℕ) → m ≤ k → Tells (nat_cmp k m) Greater
+at_least m k h = by_order (cases_order m k)
+  where
+    by_order : (m ≡ k) ⊎ ((m < k) ⊎ (k < m)) → Tells (nat_cmp k m) Greater
+    by_order (inl same) = inl (equal-is k m (sym same))
+    by_order (inr (inl less)) = inr (greater-is k m less)
+    by_order (inr (inr more)) = absurd (omega (arith, h, more))
+
+-- digits behind one number tell nothing, or how the texts stand to each other
+digits-tell : (n m : ℕ) (s t : List ℕ) → AreBytes s → AreBytes t → Tells (nat_cmp (with_digits m n s) (with_digits m n t)) (slice_cmp nat_cmp s t)
+unfolding with_digits
+digits-tell zero m s t left right = inl (equal-is m m refl)
+digits-tell (suc n) m [] [] left right = digits-tell n (256 * m) [] [] left right
+digits-tell (suc n) m [] (c ∷ t) left right = empty_tells n m c t (digits-tell n (256 * m) [] t left (rest_bytes c t right))
+digits-tell (suc n) m (b ∷ s) [] left right = tells_empty n m b s (digits-tell n (256 * m) s [] (rest_bytes b s left) right)
+digits-tell (suc n) m (b ∷ s) (c ∷ t) left right = both_tell n m b c s t (rest_bytes b s left) (rest_bytes c t right) (cases_order b c) (digits-tell n (256 * m + b) s t (rest_bytes b s left) (rest_bytes c t right))
 
 then_again : (o p : Ordering) → ordering_then o (ordering_then o p) ≡ ordering_then o p
 then_again Less p = refl
@@ -128,25 +183,47 @@ told_first : (o p q : Ordering) → Tells o p → ordering_then o (ordering_then
 told_first o p q (inl h) = ap (λ (x : Ordering). ordering_then x (ordering_then p q)) h
 told_first o p q (inr h) = ap (λ (x : Ordering). ordering_then x (ordering_then p q)) h ∙ then_again p q
 
--- keys stand to each other as their fronts do, where these tell them apart
-front-tells : (k l : List Datum) → ordering_then (front_order (front_of k) (front_of l)) (key_order k l) ≡ key_order k l
-front-tells [] l = refl
-front-tells (boolean b ∷ k) l = refl
-front-tells (whole n ∷ k) l = refl
-front-tells (null ∷ k) l = refl
-front-tells (text s ∷ k) [] = refl
-front-tells (text s ∷ k) (boolean b ∷ l) = refl
-front-tells (text s ∷ k) (whole n ∷ l) = refl
-front-tells (text s ∷ k) (null ∷ l) = refl
-front-tells (text s ∷ k) (text t ∷ l) = told_first (slice_cmp nat_cmp (first_bytes 16 s) (first_bytes 16 t)) (slice_cmp nat_cmp s t) (key_order k l) (first-tell 16 s t)
+-- what tells nothing or the same may be asked first
+told_less : (o : Ordering) → Tells o Less → ordering_then o Less ≡ Less
+told_less o (inl h) = rw h refl
+told_less o (inr h) = rw h refl
 
--- the same of fronts that are known to be those of the keys
-pub fronts-tell : (k l : List Datum) (a b : Option (List ℕ)) → ∥ a ≡ front_of k ∥₁ → ∥ b ≡ front_of l ∥₁ → ordering_then (front_order a b) (key_order k l) ≡ key_order k l
-fronts-tell k l a b left right =
-    let one : (o p : Option (List ℕ)) → IsProp (o ≡ p) = Coded-set (coded_option (coded_list coded_ℕ)) in
-    let a-is = ∥∥₁_elim left (one a (front_of k)) (λ e. e) in
-    let b-is = ∥∥₁_elim right (one b (front_of l)) (λ e. e) in
-    (λ i. ordering_then (front_order (a-is i) (b-is i)) (key_order k l)) ∙ front-tells k l
+told_greater : (o : Ordering) → Tells o Greater → ordering_then o Greater ≡ Greater
+told_greater o (inl h) = rw h refl
+told_greater o (inr h) = rw h refl
+
+-- the digits of a text are at most those that NULL has
+text_fits : (s : List ℕ) → AreBytes s → with_digits 0 16 s ≤ 2 ^ 128 - 1
+unfolding with_digits
+text_fits s bytes = let below : with_digits 0 16 s < 2 ^ 128 = digits-less 16 0 1 s [] (omega arith) bytes in omega (arith, below)
+
+-- keys stand to each other as their fronts do, where these tell them apart
+pub fronts-tell : (k l : List Datum) → AreBytes (first_text k) → AreBytes (first_text l) → ordering_then (nat_cmp (front_of k) (front_of l)) (key_order k l) ≡ key_order k l
+fronts-tell [] [] a b = refl
+fronts-tell [] (boolean c ∷ l) a b = refl
+fronts-tell [] (whole n ∷ l) a b = refl
+fronts-tell [] (text t ∷ l) a b = told_less _ (at_most 0 (with_digits 0 16 t) (omega arith))
+fronts-tell [] (null ∷ l) a b = refl
+fronts-tell (boolean b ∷ k) [] c d = refl
+fronts-tell (boolean b ∷ k) (boolean c ∷ l) d e = refl
+fronts-tell (boolean b ∷ k) (whole n ∷ l) d e = refl
+fronts-tell (boolean b ∷ k) (text t ∷ l) d e = told_less _ (at_most 0 (with_digits 0 16 t) (omega arith))
+fronts-tell (boolean b ∷ k) (null ∷ l) d e = refl
+fronts-tell (whole m ∷ k) [] d e = refl
+fronts-tell (whole m ∷ k) (boolean c ∷ l) d e = refl
+fronts-tell (whole m ∷ k) (whole n ∷ l) d e = refl
+fronts-tell (whole m ∷ k) (text t ∷ l) d e = told_less _ (at_most 0 (with_digits 0 16 t) (omega arith))
+fronts-tell (whole m ∷ k) (null ∷ l) d e = refl
+fronts-tell (text s ∷ k) [] d e = told_greater _ (at_least 0 (with_digits 0 16 s) (omega arith))
+fronts-tell (text s ∷ k) (boolean c ∷ l) d e = told_greater _ (at_least 0 (with_digits 0 16 s) (omega arith))
+fronts-tell (text s ∷ k) (whole n ∷ l) d e = told_greater _ (at_least 0 (with_digits 0 16 s) (omega arith))
+fronts-tell (text s ∷ k) (text t ∷ l) d e = told_first (nat_cmp (with_digits 0 16 s) (with_digits 0 16 t)) (slice_cmp nat_cmp s t) (key_order k l) (digits-tell 16 0 s t d e)
+fronts-tell (text s ∷ k) (null ∷ l) d e = told_less _ (at_most _ _ (text_fits s d))
+fronts-tell (null ∷ k) [] d e = refl
+fronts-tell (null ∷ k) (boolean c ∷ l) d e = refl
+fronts-tell (null ∷ k) (whole n ∷ l) d e = refl
+fronts-tell (null ∷ k) (text t ∷ l) d e = told_greater _ (at_least _ _ (text_fits t e))
+fronts-tell (null ∷ k) (null ∷ l) d e = refl
 
 -- ---- values under keys
 

@@ -12,3 +12,4 @@ pub mod Filtering
 pub mod RowValues
 pub mod Keeping
 mod RowSets
+mod Sources

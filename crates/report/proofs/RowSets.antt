@@ -1,5 +1,5 @@
 -- The grouping set of a row, as a plan holds it.
-use Rattle.std.proofs.Common.{◌≡◌, ◌∙◌, ◌<◌, ℕ, List, [], length, get_or, ap, sym, arith}
+use Rattle.std.proofs.Common.{◌≡◌, ◌∙◌, ◌<◌, ℕ, Bor, List, [], length, get_or, ap, subst, sym, arith, All}
 use Rattle.std.specs.Global.{Vec}
 use Rattle.std.proofs.lemmas.List.{get_or-map, length-map}
 use Rattle.values.specs.Schema.{Field}
@@ -7,7 +7,8 @@ use Rattle.query_tree.specs.Syntax.{TreeForm}
 use Rattle.query_check.specs.Resolution.{contents}
 use Rattle.query_check.specs.Sets.{sets_of}
 use Rattle.tables.specs.Fitting.{set_of}
-use Rattle.tables.specs.Found.{Found}
+use Rattle.groups.specs.declared.group.Group.{Group}
+use Rattle.tables.specs.Found.{Found, row_of}
 
 -- the set at the index of a row is that of the row
 pub set-of-row : (fields : List Field) (t : TreeForm) (row : Found) (sets : List (Vec ℕ)) (set : Vec ℕ)
@@ -17,3 +18,8 @@ set-of-row fields t row sets set same within is =
     let e = ap length same in
     let below : row.0 < length sets = omega (arith, within, n, e) in
     ap (λ (s : Vec ℕ). s.items) is ∙ sym (get_or-map (λ (s : Vec ℕ). s.items) sets row.0 set [] below) ∙ ap (λ (all : List (List ℕ)). get_or all row.0 []) same
+
+-- the index of each group that is shown is that of a set
+pub found-within : (fields : List Field) (t : TreeForm) (groups : List (Bor (ℕ × Group))) (i : ℕ) (found : Bor (ℕ × Group))
+    → All (λ (r : Bor (ℕ × Group)). (row_of r.now).0 < length (sets_of fields t)) groups → i < length groups → found ≡ get_or groups i found → found.now.0 < length (sets_of fields t)
+found-within fields t groups i found all below is = subst (λ (r : Bor (ℕ × Group)). r.now.0 < length (sets_of fields t)) (sym is) (all i found below)

@@ -3,3 +3,4 @@ pub mod Fronts
 pub mod Ranked
 pub mod Between
 pub mod Planned
+pub mod Sources

@@ -76,7 +76,7 @@ pub(crate) fn shown_groups<'a>(
 }
 
 /// The row of a group, which stands beside the index of its grouping set.
-pub(crate) fn row_for(
+fn row_for(
     alloc: Global,
     plan: &PlanView<'_>,
     found: &(usize, Group),

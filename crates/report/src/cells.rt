@@ -8,12 +8,14 @@ ghost use Rattle.groups.specs.Functions.{plain};
 ghost use Rattle.groups.specs.Cells.{summary_of};
 ghost use Rattle.report.specs.Having.{cell_value};
 ghost use Rattle.report.specs.Inside.Planned.{shown_under};
+ghost use Rattle.report.specs.Inside.Sources.{shown_at};
 ghost use Rattle.report.specs.Shown.{value_in, function_shown, grouping_number, grouping_shown, is_rolled_up, name_shown};
 
+use crate::source::{Source, key_place, source_of};
 use crate::view::PlanView;
 use groups::{Cell, Group};
 use query_check::place_of;
-use query_plan::{Expression, SetFunction, Text};
+use query_plan::{Expression, Text};
 use std::alloc::AllocError;
 use values::{Column, Value};
 
@@ -29,14 +31,17 @@ pub(crate) fn expression_cell(
 ) -> Result<Cell, AllocError>
     ensures { IfOk result (λ cell. summary_of cell ≡ shown_under plan.now set.now group.now (expression_form expression.now)) }
 {
-    let columns = plan.schema().columns();
-    match expression {
-        Expression::Name(name) => {
-            let value = name_value(columns, set, group.key.as_slice(), name)?;
-            Ok(Cell::Plain(value))
-        }
-        Expression::Grouping(names) => Ok(Cell::Plain(grouping_value(columns, set, names))),
-        Expression::Function(function) => { function_cell(plan, group.cells.as_slice(), function) }
+    cell_from(source_of(plan, set, expression), group)
+}
+
+/// What a group has where the rows of its grouping set have what they show.
+fn cell_from(source: Source, group: &Group) -> Result<Cell, AllocError>
+    ensures { IfOk result (λ cell. summary_of cell ≡ shown_at (data_of group.now.key.items) (map summary_of group.now.cells.items) source) }
+{
+    match source {
+        Source::KeyAt(place) => Ok(Cell::Plain(value_at(group.key.as_slice(), place)?)),
+        Source::CellAt(place) => cell_at(group.cells.as_slice(), place),
+        Source::Always(value) => Ok(Cell::Plain(value)),
     }
 }
 
@@ -58,17 +63,6 @@ pub(crate) fn expression_value(
 
 // ---- columns
 
-/// A copy of the value that a key of a grouping set has for the column at a place, and NULL where the column is not
-/// in the set.
-fn value_in(set: &[usize], key: &[Value], place: usize) -> Result<Value, AllocError>
-    ensures { IfOk result (λ value. datum_of value ≡ value_in set.now (data_of key.now) place) }
-{
-    match set.iter().position(|column| *column == place) {
-        Some(at) => value_at(key, at),
-        None => Ok(Value::Null),
-    }
-}
-
 /// A copy of the value at a place, and NULL where there is none.
 fn value_at(key: &[Value], place: usize) -> Result<Value, AllocError>
     ensures { IfOk result (λ value. datum_of value ≡ slice_index_or (data_of key.now) place null) }
@@ -88,8 +82,8 @@ pub(crate) fn name_value(
 ) -> Result<Value, AllocError>
     ensures { IfOk result (λ value. datum_of value ≡ name_shown (fields_of columns.now) set.now (data_of key.now) name.now) }
 {
-    match place_of(columns, name.as_str()) {
-        Some(place) => value_in(set, key, place),
+    match key_place(columns, set, name) {
+        Some(at) => value_at(key, at),
         None => Ok(Value::Null),
     }
 }
@@ -119,7 +113,7 @@ fn grouping_number(columns: &[Column], set: &[usize], names: &[Text]) -> u64
 }
 
 /// What a row of a grouping set shows for GROUPING.
-fn grouping_value(columns: &[Column], set: &[usize], names: &[Text]) -> Value
+pub(crate) fn grouping_value(columns: &[Column], set: &[usize], names: &[Text]) -> Value
     ensures { datum_of result ≡ grouping_shown (fields_of columns.now) set.now names.now }
 {
     if names.len() > MOST_COLUMNS {
@@ -128,21 +122,7 @@ fn grouping_value(columns: &[Column], set: &[usize], names: &[Text]) -> Value
     Value::Int(i128::from(grouping_number(columns, set, names)))
 }
 
-// ---- set functions
-
-/// What a row with these cells shows for a set function.
-fn function_cell(
-    plan: &PlanView<'_>,
-    cells: &[Cell],
-    function: &SetFunction,
-) -> Result<Cell, AllocError>
-    ensures { IfOk result (λ cell. summary_of cell ≡ function_shown (fields_of_plan plan.now) (form_of_plan plan.now) (map summary_of cells.now) (function_form function.now)) }
-{
-    match plan.function_place(function) {
-        Some(place) => cell_at(cells, place),
-        None => Ok(Cell::Plain(Value::Null)),
-    }
-}
+// ---- cells
 
 /// A copy of the cell at a place, and NULL where there is none.
 fn cell_at(cells: &[Cell], place: usize) -> Result<Cell, AllocError>

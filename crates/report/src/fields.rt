@@ -1,13 +1,15 @@
 //! The fields of a row.
 ghost use Rattle.std.specs.Prelude.{◌≡◌, [], ◌∷◌, ◌++◌, IfOk, OnOk, codes, decimal, map};
 ghost use Rattle.std.specs.Fmt.{signed_decimal};
-ghost use Rattle.values.specs.Datum.{datum_of};
+ghost use Rattle.values.specs.Datum.{data_of, datum_of};
 ghost use Rattle.groups.specs.Cells.{summary_of};
 ghost use Rattle.csv.specs.Records.{fields_of, partial_of};
+ghost use Rattle.report.specs.Inside.Sources.{shown_at};
 ghost use Rattle.report.specs.Text.{cell_field, marked, value_field};
 
+use crate::source::Source;
 use csv::ByteRecord;
-use groups::Cell;
+use groups::{Cell, Group};
 use itoa::Buffer;
 use std::alloc::{AllocError, Global};
 use values::Value;
@@ -25,6 +27,47 @@ pub(crate) fn write_cells(
         push_cell(fields, alloc, cell)?;
     }
     Ok(())
+}
+
+/// Writes what a group shows as fields over those of another row, whose memory is used again: what it has at each of
+/// these sources.
+pub(crate) fn write_group(
+    fields: &mut ByteRecord,
+    alloc: Global,
+    sources: &[Source],
+    group: &Group,
+) -> Result<(), AllocError>
+    ensures { OnOk result (fields_of fields.new ≡ map cell_field (map (shown_at (data_of group.now.key.items) (map summary_of group.now.cells.items)) sources.now)) }
+{
+    fields.clear();
+    for source in sources {
+        push_from(fields, alloc, source, group)?;
+    }
+    Ok(())
+}
+
+/// Puts what a group has at a source behind the fields.
+fn push_from(
+    fields: &mut ByteRecord,
+    alloc: Global,
+    source: &Source,
+    group: &Group,
+) -> Result<(), AllocError>
+    requires { partial_of fields.old ≡ [] }
+    ensures field { OnOk result (fields_of fields.new ≡ fields_of fields.old ++ cell_field (shown_at (data_of group.now.key.items) (map summary_of group.now.cells.items) source.now) ∷ []) }
+    ensures whole { OnOk result (partial_of fields.new ≡ []) }
+{
+    match source {
+        Source::KeyAt(place) => match group.key.get(*place) {
+            Some(value) => push_value(fields, alloc, value),
+            None => push_value(fields, alloc, &Value::Null),
+        },
+        Source::CellAt(place) => match group.cells.get(*place) {
+            Some(cell) => push_cell(fields, alloc, cell),
+            None => push_value(fields, alloc, &Value::Null),
+        },
+        Source::Always(value) => push_value(fields, alloc, value),
+    }
 }
 
 /// Puts a cell behind the fields.

@@ -14,6 +14,7 @@ mod ordering;
 mod ranked;
 mod refused;
 mod row;
+mod source;
 mod text;
 mod view;
 

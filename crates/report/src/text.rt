@@ -3,19 +3,24 @@ ghost use Rattle.std.specs.Prelude.{◌≡◌, [], Some, All, IfOk, OnOk, length
 ghost use Rattle.std.specs.Io.KnownBytes.{Appends};
 ghost use Rattle.csv.specs.Records.{fields_of};
 ghost use Rattle.csv.specs.Writing.{row_text, default_writer, text_written};
+ghost use Rattle.values.specs.Datum.{data_of};
 ghost use Rattle.query_print.specs.Canonical.{header_text};
 ghost use Rattle.query_plan.specs.Planned.{fields_of_plan, form_of_plan};
+ghost use Rattle.groups.specs.Cells.{summary_of};
 ghost use Rattle.tables.specs.Planned.{AreFittingUnder};
 ghost use Rattle.report.specs.Inside.Between.{IsBetweenRows};
+ghost use Rattle.report.specs.Inside.Sources.{shown_at};
 ghost use Rattle.report.specs.Report.{report_of};
 ghost use Rattle.report.specs.Shown.{cells_of};
 ghost use Rattle.report.specs.Text.{cell_field, report_bytes};
 
-use crate::arranging::{row_for, shown_groups};
-use crate::fields::write_cells;
+use crate::arranging::shown_groups;
+use crate::fields::{write_cells, write_group};
 use crate::row::ReportRow;
+use crate::source::{Source, sources_at, sources_by_set};
 use crate::view::PlanView;
 use csv::{ByteRecord, Writer, WriterBuilder};
+use groups::Group;
 use query_plan::{Plan, header};
 use std::alloc::{AllocError, Global};
 use std::io::Write;
@@ -49,8 +54,7 @@ pub fn report_text(alloc: Global, rows: &[ReportRow], plan: &Plan) -> Result<Vec
     }
 }
 
-/// The bytes of the report on groups: those that `report_text` gives for the rows of `arrange`, of which it holds one at a
-/// time.
+/// The bytes of the report on groups: those that `report_text` gives for the rows of `arrange`, of which it makes none.
 ///
 /// The groups fit the plan, as `arrange` asks for.
 ///
@@ -66,11 +70,19 @@ pub fn report_on(alloc: Global, groups: &Groups, plan: &Plan) -> Result<Vec<u8>,
 {
     let view = PlanView::new(alloc, plan)?;
     let shown = shown_groups(alloc, groups, &view)?;
+    let sources = sources_by_set(alloc, &view)?;
+    let sources = sources.as_slice();
     let mut writer = begun(alloc, plan)?;
     let mut fields = ByteRecord::new(alloc);
-    for group in shown.as_slice() {
-        let row = row_for(alloc, &view, group)?;
-        put_row(&mut writer, &mut fields, alloc, &row)?;
+    for found in shown.as_slice() {
+        let (index, group) = found;
+        put_group(
+            &mut writer,
+            &mut fields,
+            alloc,
+            sources_at(sources, *index),
+            group,
+        )?;
     }
     match writer.into_inner() {
         Ok(text) => Ok(text),
@@ -123,6 +135,23 @@ fn put_row(
     ensures appends { OnOk result (Appends (text_written ⟦<Vec<u8> as Write>⟧.contents writer.old) (text_written ⟦<Vec<u8> as Write>⟧.contents writer.new) (row_text default_writer (map cell_field (cells_of row.now)))) }
 {
     write_cells(fields, alloc, row.cells.as_slice())?;
+    put_fields(writer, fields)
+}
+
+/// Writes the row of a group, by a record of fields whose memory is used again: what the group has at each of these
+/// sources.
+fn put_group(
+    writer: &mut Writer<Vec<u8>>,
+    fields: &mut ByteRecord,
+    alloc: Global,
+    sources: &[Source],
+    group: &Group,
+) -> Result<(), AllocError>
+    requires { IsBetweenRows writer.old }
+    ensures between { OnOk result (IsBetweenRows writer.new) }
+    ensures appends { OnOk result (Appends (text_written ⟦<Vec<u8> as Write>⟧.contents writer.old) (text_written ⟦<Vec<u8> as Write>⟧.contents writer.new) (row_text default_writer (map cell_field (map (shown_at (data_of group.now.key.items) (map summary_of group.now.cells.items)) sources.now)))) }
+{
+    write_group(fields, alloc, sources, group)?;
     put_fields(writer, fields)
 }
 

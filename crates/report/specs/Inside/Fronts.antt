@@ -1,28 +1,30 @@
--- The first bytes of the first texts of keys, which tell most keys apart.
-use Rattle.std.specs.Prelude.{ℕ, zero, suc, List, [], ◌∷◌, Option, Some, None}
-use Rattle.std.specs.declared.cmp.Ordering.{Ordering}
-use Rattle.std.specs.declared.cmp.Ordering.TheVariants.{Equal}
-use Rattle.std.specs.Ordering.{nat_cmp}
-use Rattle.std.specs.Cmp.Lexicographic.{slice_cmp}
+-- One number for the first value of a key, which tells most keys apart.
+use Rattle.std.specs.Prelude.{◌<◌, ◌+◌, ◌-◌, ◌*◌, ◌^◌, ℕ, zero, suc, List, [], ◌∷◌, get_or}
 use Rattle.values.specs.Datum.{boolean, whole, text, null}
 use Rattle.groups.specs.Groups.{Key}
 
--- the first bytes of a text, so many; zeros stand behind a text that is shorter
-unfoldable pub first_bytes : ℕ → List ℕ → List ℕ
-first_bytes zero s = []
-first_bytes (suc n) [] = 0 ∷ first_bytes n []
-first_bytes (suc n) (b ∷ s) = b ∷ first_bytes n s
+-- each number of a list is a byte
+abbrev pub AreBytes : List ℕ → Type 0
+AreBytes s = (i : ℕ) → get_or s i 0 < 256
 
--- the first 16 bytes of the first value of a key, where that is a text
-abbrev pub front_of : Key → Option (List ℕ)
-front_of [] = None
-front_of (boolean b ∷ key) = None
-front_of (whole n ∷ key) = None
-front_of (text s ∷ key) = Some (first_bytes 16 s)
-front_of (null ∷ key) = None
+-- a number with so many digits to the base 256 behind its own: the first bytes of a text, and zeros behind a text that is shorter
+unfoldable pub with_digits : ℕ → ℕ → List ℕ → ℕ
+with_digits number zero s = number
+with_digits number (suc n) [] = with_digits (256 * number) n []
+with_digits number (suc n) (b ∷ s) = with_digits (256 * number + b) n s
 
--- how two fronts stand to each other, byte by byte; where one is missing, nothing tells them apart
-abbrev pub front_order : Option (List ℕ) → Option (List ℕ) → Ordering
-front_order None b = Equal
-front_order (Some s) None = Equal
-front_order (Some s) (Some t) = slice_cmp nat_cmp s t
+-- the text that a key begins with, and the empty one where it begins with none
+abbrev pub first_text : Key → List ℕ
+first_text [] = []
+first_text (boolean b ∷ key) = []
+first_text (whole n ∷ key) = []
+first_text (text s ∷ key) = s
+first_text (null ∷ key) = []
+
+-- the number of a key: the first 16 bytes of the text that it begins with; in front of texts there are truth values and whole numbers, and behind them NULL
+abbrev pub front_of : Key → ℕ
+front_of [] = 0
+front_of (boolean b ∷ key) = 0
+front_of (whole n ∷ key) = 0
+front_of (text s ∷ key) = with_digits 0 16 s
+front_of (null ∷ key) = 2 ^ 128 - 1

@@ -13,5 +13,5 @@ returns-in-Equal c =
     let l = data_of b.found.now.1.key.items in
     let same : nat_cmp a.found.now.0 b.found.now.0 ≡ Equal = (λ i. nat_cmp (sym a.set_is i) (sym b.set_is i)) ∙ sym c.cmp.ensures ∙ c.in-Equal.is in
     c.compare_keys.ensures
-    ∙ fronts-tell k l a.front b.front a.front_is b.front_is
+    ∙ ap (λ (o : Ordering). ordering_then o (key_order k l)) (λ i. nat_cmp (a.front_is i) (b.front_is i)) ∙ fronts-tell k l a.bytes b.bytes
     ∙ sym (ap (λ (o : Ordering). ordering_then o (key_order k l)) same)

@@ -9,4 +9,4 @@ pub returns-in-Equal : goal.returns-in-Equal
 returns-in-Equal c =
     let a = c.args.a.now.found.now.1.key.items in
     let b = c.args.b.now.found.now.1.key.items in
-    c.cmp.ensures ∙ key_cmp-is a b ∙ ap (λ (o : Ordering). ordering_then o (key_order (data_of a) (data_of b))) c.in-Equal.ensures
+    c.cmp-in-Equal.ensures ∙ key_cmp-is a b ∙ ap (λ (o : Ordering). ordering_then o (key_order (data_of a) (data_of b))) c.in-Equal.ensures

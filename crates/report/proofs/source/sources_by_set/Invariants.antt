@@ -1,0 +1,7 @@
+use Rattle.std.proofs.Common.{take}
+use Rattle.query_check.specs.Resolution.{contents}
+use Rattle.report.specs.Inside.Sources.{AreSourcesOfEach}
+use Rattle.report.proofs.source.sources_by_set.Given as goal
+
+abbrev pub invariant-loop-set : goal.invariant-loop-set
+invariant-loop-set l = AreSourcesOfEach l.plan (take l.set-index (contents l.set-items)) l.all.items
