@@ -1,5 +1,7 @@
 -- The order of the code's keys, and of values under keys of ORDER BY.
 use Rattle.std.proofs.Common.{◌≡◌, ◌⊎◌, inl, inr, ◌+◌, ◌<◌, ℕ, zero, suc, true, false, List, [], ◌∷◌, drop, get_or, length, map, option_map, slice_index_or, unwrap_or, Option, Some, None, Bor, refl, sym, ap, subst, ◌∙◌, ◌*◌, ◌-◌, ◌^◌, add-one, arith, ◌≤◌}
+use Rattle.std.proofs.Math.Logic.{∥∥₁_elim}
+use Rattle.std.specs.Coded.{Coded-set, coded_list, coded_option, coded_ℕ}
 use Rattle.std.proofs.Math.Nat.{one-le-pow, pow-succ', pow-zero}
 use Rattle.std.proofs.lemmas.Bool.{cases_order}
 use Rattle.std.proofs.lemmas.Bool.Decides.{nat_tests}
@@ -17,7 +19,7 @@ use Rattle.query_tree.specs.Syntax.{key_form}
 use Rattle.query_tree.specs.declared.tree.Key.{Key}
 use Rattle.groups.specs.Groups.{key_order}
 use Rattle.report.specs.Order.{under_key}
-use Rattle.report.specs.Inside.Fronts.{AreBytes, first_text, front_of, with_digits}
+use Rattle.report.specs.Inside.Fronts.{AreBytes, IsOfBytes, first_text, front_of, text_order, with_digits}
 use Rattle.report.specs.Inside.Ranked.{under_values}
 
 abbrev value_cmp : Value → Value → Ordering
@@ -198,7 +200,7 @@ unfolding with_digits
 text_fits s bytes = let below : with_digits 0 16 s < 2 ^ 128 = digits-less 16 0 1 s [] (omega arith) bytes in omega (arith, below)
 
 -- keys stand to each other as their fronts do, where these tell them apart
-pub fronts-tell : (k l : List Datum) → AreBytes (first_text k) → AreBytes (first_text l) → ordering_then (nat_cmp (front_of k) (front_of l)) (key_order k l) ≡ key_order k l
+pub fronts-tell : (k l : List Datum) → IsOfBytes k → IsOfBytes l → ordering_then (nat_cmp (front_of k) (front_of l)) (key_order k l) ≡ key_order k l
 fronts-tell [] [] a b = refl
 fronts-tell [] (boolean c ∷ l) a b = refl
 fronts-tell [] (whole n ∷ l) a b = refl
@@ -224,6 +226,26 @@ fronts-tell (null ∷ k) (boolean c ∷ l) d e = refl
 fronts-tell (null ∷ k) (whole n ∷ l) d e = refl
 fronts-tell (null ∷ k) (text t ∷ l) d e = told_greater _ (at_least _ _ (text_fits t e))
 fronts-tell (null ∷ k) (null ∷ l) d e = refl
+
+-- so they do as the texts that they begin with
+pub texts-tell : (k l : List Datum) → ordering_then (text_order (first_text k) (first_text l)) (key_order k l) ≡ key_order k l
+texts-tell [] l = refl
+texts-tell (boolean b ∷ k) l = refl
+texts-tell (whole n ∷ k) l = refl
+texts-tell (null ∷ k) l = refl
+texts-tell (text s ∷ k) [] = refl
+texts-tell (text s ∷ k) (boolean b ∷ l) = refl
+texts-tell (text s ∷ k) (whole n ∷ l) = refl
+texts-tell (text s ∷ k) (null ∷ l) = refl
+texts-tell (text s ∷ k) (text t ∷ l) = told_first (slice_cmp nat_cmp s t) (slice_cmp nat_cmp s t) (key_order k l) (inr refl)
+
+-- texts that are known to be those of keys
+pub texts-known : (k l : List Datum) (a b : Option (List ℕ)) → ∥ a ≡ first_text k ∥₁ → ∥ b ≡ first_text l ∥₁ → text_order a b ≡ text_order (first_text k) (first_text l)
+texts-known k l a b left right =
+    let one : (o p : Option (List ℕ)) → IsProp (o ≡ p) = Coded-set (coded_option (coded_list coded_ℕ)) in
+    let a-is = ∥∥₁_elim left (one a (first_text k)) (λ e. e) in
+    let b-is = ∥∥₁_elim right (one b (first_text l)) (λ e. e) in
+    λ i. text_order (a-is i) (b-is i)
 
 -- ---- values under keys
 

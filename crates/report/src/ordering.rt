@@ -9,7 +9,7 @@ ghost use Rattle.report.specs.Inside.Planned.{HasSetUnder};
 ghost use Rattle.report.specs.Inside.Ranked.{by_key, by_rank, ranked, ranked_in};
 
 use crate::keys::{key_values, under_values};
-use crate::ranked::{RankedRow, compare_keys, front_of};
+use crate::ranked::{RankedRow, compare_keys, first_text, front_of};
 use crate::view::PlanView;
 use groups::Group;
 use query_plan::Key;
@@ -71,6 +71,7 @@ fn rank<'a>(
             values,
             set: found.0,
             front: front_of(found.1.key.as_slice()),
+            text: first_text(found.1.key.as_slice()),
             found,
         })?;
     }

@@ -1,10 +1,11 @@
 //! Groups beside what their rows are put in order by.
 ghost use Rattle.std.specs.Prelude.{◌≡◌};
+ghost use Rattle.std.specs.Option.{option_map};
 ghost use Rattle.std.specs.Ordering.{nat_cmp, ordering_then};
 ghost use Rattle.std.proofs.Props.{props};
 ghost use Rattle.values.specs.Datum.{data_of};
 ghost use Rattle.groups.specs.Groups.{key_order};
-ghost use Rattle.report.specs.Inside.Fronts.{AreBytes, first_text, front_of, with_digits};
+ghost use Rattle.report.specs.Inside.Fronts.{AreBytes, IsOfBytes, first_text, front_of, text_order, with_digits};
 
 use groups::Group;
 use std::cmp::Ordering;
@@ -22,11 +23,14 @@ pub(crate) struct RankedRow<'a> {
     pub(crate) set: usize,
     /// The front of the group's key. Fronts tell most groups apart, and are at hand here, where the keys lie elsewhere.
     pub(crate) front: u128,
+    /// The text that the group's key begins with, where it begins with one: it tells apart what fronts do not.
+    pub(crate) text: Option<&'a str>,
     /// The group, beside the index.
     pub(crate) found: &'a (usize, Group),
     ghost set_is: { set ≡ found.now.0 },
     ghost front_is: { front ≡ front_of (data_of found.now.1.key.items) } by { Prim.hlevel props },
-    ghost bytes: { AreBytes (first_text (data_of found.now.1.key.items)) } by { Prim.hlevel props },
+    ghost text_is: { ∥ option_map (λ t. t.now) text ≡ first_text (data_of found.now.1.key.items) ∥₁ },
+    ghost bytes: { IsOfBytes (data_of found.now.1.key.items) } by { Prim.hlevel props },
 }
 
 /// The first bytes of a text as the digits of one number, the first one highest, with zeros behind a shorter text.
@@ -46,7 +50,7 @@ fn digits_of(text: &[u8]) -> u128
 /// values and whole numbers, and behind them NULL, as in the order of keys.
 pub(crate) fn front_of(key: &[Value]) -> u128
     ensures number { result ≡ front_of (data_of key.now) }
-    ensures bytes { AreBytes (first_text (data_of key.now)) }
+    ensures bytes { IsOfBytes (data_of key.now) }
 {
     match key {
         [Value::Text(text), ..] => digits_of(text.as_bytes()),
@@ -55,14 +59,46 @@ pub(crate) fn front_of(key: &[Value]) -> u128
     }
 }
 
+/// The text that a key begins with, where it begins with one.
+pub(crate) fn first_text(key: &[Value]) -> Option<&str>
+    ensures { option_map (λ t. t.now) result ≡ first_text (data_of key.now) }
+{
+    match key {
+        [Value::Text(text), ..] => Some(text.as_str()),
+        [Value::Bool(_) | Value::Int(_) | Value::Null, ..] | [] => None,
+    }
+}
+
+/// How two texts stand to each other, where both are there, and else as equal.
+fn compare_texts(a: Option<&str>, b: Option<&str>) -> Ordering
+    ensures { result ≡ text_order (option_map (λ t. t.now) a.entry) (option_map (λ t. t.now) b.entry) }
+{
+    match (a, b) {
+        (Some(a), Some(b)) => a.cmp(b),
+        (Some(_), None) | (None, _) => Ordering::Equal,
+    }
+}
+
+/// How two groups of one grouping set and of one front stand to each other.
+fn compare_ties(a: &RankedRow, b: &RankedRow) -> Ordering
+    ensures { result ≡ ordering_then (text_order (first_text (data_of a.now.found.now.1.key.items)) (first_text (data_of b.now.found.now.1.key.items)))
+        (key_order (data_of a.now.found.now.1.key.items) (data_of b.now.found.now.1.key.items)) }
+{
+    match compare_texts(a.text, b.text) {
+        Ordering::Equal => a.found.1.key.cmp(&b.found.1.key),
+        other => other,
+    }
+}
+
 /// How two groups of one grouping set stand to each other. The values of a key stand in the order of the grouping
 /// columns, and in the other ones two groups of one set are both NULL.
 pub(crate) fn compare_keys(a: &RankedRow, b: &RankedRow) -> Ordering
     ensures { result ≡ ordering_then (nat_cmp a.now.front b.now.front)
-        (key_order (data_of a.now.found.now.1.key.items) (data_of b.now.found.now.1.key.items)) }
+        (ordering_then (text_order (first_text (data_of a.now.found.now.1.key.items)) (first_text (data_of b.now.found.now.1.key.items)))
+        (key_order (data_of a.now.found.now.1.key.items) (data_of b.now.found.now.1.key.items))) }
 {
     match a.front.cmp(&b.front) {
-        Ordering::Equal => a.found.1.key.cmp(&b.found.1.key),
+        Ordering::Equal => compare_ties(a, b),
         other => other,
     }
 }

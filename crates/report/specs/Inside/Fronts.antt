@@ -1,5 +1,9 @@
--- One number for the first value of a key, which tells most keys apart.
-use Rattle.std.specs.Prelude.{◌<◌, ◌+◌, ◌-◌, ◌*◌, ◌^◌, ℕ, zero, suc, List, [], ◌∷◌, get_or}
+-- A number for the first value of a key, which tells most keys apart, and the text that it begins with.
+use Rattle.std.specs.Prelude.{◌<◌, ◌+◌, ◌-◌, ◌*◌, ◌^◌, ℕ, zero, suc, List, [], ◌∷◌, Option, Some, None, get_or, unwrap_or}
+use Rattle.std.specs.declared.cmp.Ordering.{Ordering}
+use Rattle.std.specs.declared.cmp.Ordering.TheVariants.{Equal}
+use Rattle.std.specs.Ordering.{nat_cmp}
+use Rattle.std.specs.Cmp.Lexicographic.{slice_cmp}
 use Rattle.values.specs.Datum.{boolean, whole, text, null}
 use Rattle.groups.specs.Groups.{Key}
 
@@ -13,13 +17,23 @@ with_digits number zero s = number
 with_digits number (suc n) [] = with_digits (256 * number) n []
 with_digits number (suc n) (b ∷ s) = with_digits (256 * number + b) n s
 
--- the text that a key begins with, and the empty one where it begins with none
-abbrev pub first_text : Key → List ℕ
-first_text [] = []
-first_text (boolean b ∷ key) = []
-first_text (whole n ∷ key) = []
-first_text (text s ∷ key) = s
-first_text (null ∷ key) = []
+-- the text that a key begins with
+abbrev pub first_text : Key → Option (List ℕ)
+first_text [] = None
+first_text (boolean b ∷ key) = None
+first_text (whole n ∷ key) = None
+first_text (text s ∷ key) = Some s
+first_text (null ∷ key) = None
+
+-- it is a list of bytes
+abbrev pub IsOfBytes : Key → Type 0
+IsOfBytes key = AreBytes (unwrap_or (first_text key) [])
+
+-- how the texts that two keys begin with stand to each other, byte by byte; where one begins with none, nothing tells them apart
+abbrev pub text_order : Option (List ℕ) → Option (List ℕ) → Ordering
+text_order None b = Equal
+text_order (Some s) None = Equal
+text_order (Some s) (Some t) = slice_cmp nat_cmp s t
 
 -- the number of a key: the first 16 bytes of the text that it begins with; in front of texts there are truth values and whole numbers, and behind them NULL
 abbrev pub front_of : Key → ℕ
