@@ -21,6 +21,10 @@ use std::sync::ledger::{Blank, Ledger};
 use std::thread::{Threads, join};
 use tables::Partial;
 
+/// The most bytes of a round that is worked on by the calling thread alone: so few that they stay near the processor
+/// from the read to the last look at them, and no memory has to be touched for the first time beyond them.
+const LONGEST_ALONE: usize = 2_097_152;
+
 /// The result of a query over what a reader gives, worked on round by round on the calling thread. The records of all rounds
 /// go into one table. Neither the number of workers nor the length of a piece is looked at.
 ///
@@ -42,7 +46,7 @@ pub fn gather_alone<R: Read + Drop>(
     ensures fault { IfErr result (λ fault. Stops fault options.max_refused (fields_of_plan plan.now) (R.remaining reader)) }
     ensures started { IfErr result (λ fault. fault ≢ GatherFault.ThreadNotStarted) }
 {
-    let mut rounds = Rounds::new(alloc, reader, options.round())?;
+    let mut rounds = Rounds::new(alloc, reader, options.round().min(LONGEST_ALONE))?;
     let mut whole = Partial::empty(alloc, plan)?;
     while rounds.advance()? {
         whole = whole.fold_behind(plan, rounds.round())?;

@@ -2,14 +2,13 @@
 ghost use Rattle.std.specs.Prelude.{◌≡◌, ◌≤◌, IfOk, map, length, slice_get, slice_index_or, unwrap_or};
 ghost use Rattle.values.specs.Datum.{data_of, datum_of, null};
 ghost use Rattle.values.specs.Schema.{fields_of};
-ghost use Rattle.query_tree.specs.Syntax.{expression_form, function_form};
-ghost use Rattle.query_plan.specs.Planned.{fields_of_plan, form_of_plan};
+ghost use Rattle.query_tree.specs.Syntax.{expression_form};
 ghost use Rattle.groups.specs.Functions.{plain};
 ghost use Rattle.groups.specs.Cells.{summary_of};
 ghost use Rattle.report.specs.Having.{cell_value};
 ghost use Rattle.report.specs.Inside.Planned.{shown_under};
 ghost use Rattle.report.specs.Inside.Sources.{shown_at};
-ghost use Rattle.report.specs.Shown.{value_in, function_shown, grouping_number, grouping_shown, is_rolled_up, name_shown};
+ghost use Rattle.report.specs.Shown.{grouping_number, grouping_shown, is_rolled_up, name_shown};
 
 use crate::source::{Source, key_place, source_of};
 use crate::view::PlanView;
