@@ -1,13 +1,13 @@
 -- What a run leaves, from what it is known to have read and made.
-use Rattle.std.proofs.Common.{◌≡◌, ◌≢◌, ◌≤◌, ◌<◌, ◌⊎◌, ◌∙◌, inl, inr, ℕ, List, length, Option, Some, None, Result, Ok, Err, refl, subst, sym, ap, arith}
-use Rattle.std.specs.Prelude.{◌↔◌, IfErr, IfOk, IfSome, IsOk, OnOk}
+use Rattle.std.proofs.Common.{◌≡◌, ◌≢◌, ◌≤◌, ◌<◌, ◌∙◌, ℕ, List, length, Option, Some, None, Result, Ok, Err, refl, subst, sym, ap, arith}
+use Rattle.std.specs.Prelude.{IfErr, IfOk, IfSome, OnOk}
 use Rattle.values.specs.Schema.{Field}
 use Rattle.query_tree.specs.Syntax.{TreeForm}
 use Rattle.engine.specs.declared.fault.RunFault.{RunFault}
 use Rattle.engine.specs.declared.fault.RunFault.TheVariants.{Reading, OutOfMemory, ThreadNotStarted, TooManyRefused, WritingReport, WritingRefused}
 use Rattle.groups.specs.Rows.{Row}
 use Rattle.lines.specs.declared.fault.LineFault.{LineFault}
-use Rattle.lines.specs.Input.{good, refused}
+use Rattle.lines.specs.Input.{refused}
 use Rattle.lines.specs.Lines.{lines}
 use Rattle.lines.specs.Trim.{trim}
 use Rattle.lines.proofs.Trims.{count-trim, good-trim, refused-trim}

@@ -3,6 +3,7 @@
 
 mod explaining;
 mod fault;
+mod reporting;
 mod running;
 mod serving;
 mod writing;

@@ -10,11 +10,12 @@ ghost use Rattle.tables.specs.Partials.{StandsForInput};
 ghost use Rattle.engine.specs.Run.{IsDecided, IsWithin, Leaves, LeavesOfInput, refusals, report};
 
 use crate::fault::RunFault;
+use crate::reporting::{CallingThread, Hands, Writers};
 use crate::writing::put_both;
 use command_line::Options;
 use gathering::{gather, gather_alone};
 use query::Plan;
-use report::{arranged_law, refused_text, report_on};
+use report::{arranged_law, refused_text};
 use std::alloc::{AllocError, Global};
 use std::io::{Read, Write};
 use std::marker::{Send, Sync};
@@ -94,7 +95,11 @@ pub fn run<R: Read + Drop + Send, O: Write, E: Write, H: Threads + Wait + Sync>(
     ensures started { options.workers ≡ 1 → IfErr result (λ fault. fault ≢ RunFault.ThreadNotStarted) }
 {
     let whole = gather(rt, alloc, plan, options, reader)?;
-    write_whole(alloc, plan, whole, out, err)
+    let hands = Hands {
+        rt,
+        count: options.workers(),
+    };
+    write_whole(&hands, alloc, plan, whole, out, err)
 }
 
 /// Does what `run` does on the calling thread, without a thread of its own. The number of workers is
@@ -135,18 +140,20 @@ pub fn run_alone<R: Read + Drop, O: Write, E: Write>(
     ensures started { IfErr result (λ fault. fault ≢ RunFault.ThreadNotStarted) }
 {
     let whole = gather_alone(alloc, plan, options, reader)?;
-    write_whole(alloc, plan, whole, out, err)
+    write_whole(&CallingThread, alloc, plan, whole, out, err)
 }
 
 /// Writes the report and the list of refused lines by the result over an input.
-fn write_whole<O: Write, E: Write>(
+fn write_whole<T: Writers, O: Write, E: Write>(
+    writers: &T,
     alloc: Global,
     plan: &Plan,
     whole: Partial,
     out: &mut O,
     err: &mut E,
 ) -> Result<Done, RunFault>
-    requires { (input : List ℕ) × StandsForInput (fields_of_plan plan.now) (form_of_plan plan.now) whole input }
+    requires ready { T.ready writers.now }
+    requires of_input { (input : List ℕ) × StandsForInput (fields_of_plan plan.now) (form_of_plan plan.now) whole input }
     ensures report { OnOk result ((input : List ℕ) → StandsForInput (fields_of_plan plan.now) (form_of_plan plan.now) whole input
         → Appends (O.contents out.old) (O.contents out.new) (report (fields_of_plan plan.now) (form_of_plan plan.now) input)) }
     ensures refusals { OnOk result ((input : List ℕ) → StandsForInput (fields_of_plan plan.now) (form_of_plan plan.now) whole input
@@ -161,7 +168,7 @@ fn write_whole<O: Write, E: Write>(
         lines: whole.lines(),
         refused: whole.refused(),
     };
-    let texts = texts_of(alloc, plan, whole)?;
+    let texts = texts_of(writers, alloc, plan, whole)?;
     match put_both(out, texts.report.as_slice(), err, texts.refused.as_slice()) {
         Ok(()) => Ok(done),
         Err(fault) => Err(fault),
@@ -169,8 +176,14 @@ fn write_whole<O: Write, E: Write>(
 }
 
 /// What is written of an input, by the result over it.
-fn texts_of(alloc: Global, plan: &Plan, partial: Partial) -> Result<Texts, AllocError>
-    requires { (input : List ℕ) × StandsForInput (fields_of_plan plan.now) (form_of_plan plan.now) partial input }
+fn texts_of<T: Writers>(
+    writers: &T,
+    alloc: Global,
+    plan: &Plan,
+    partial: Partial,
+) -> Result<Texts, AllocError>
+    requires ready { T.ready writers.now }
+    requires of_input { (input : List ℕ) × StandsForInput (fields_of_plan plan.now) (form_of_plan plan.now) partial input }
     ensures report { IfOk result (λ texts. (input : List ℕ)
         → StandsForInput (fields_of_plan plan.now) (form_of_plan plan.now) partial input
         → texts.report.items ≡ report (fields_of_plan plan.now) (form_of_plan plan.now) input) }
@@ -179,7 +192,7 @@ fn texts_of(alloc: Global, plan: &Plan, partial: Partial) -> Result<Texts, Alloc
         → texts.refused.items ≡ refusals (fields_of_plan plan.now) input) }
 {
     let groups = partial.finish(plan)?;
-    let report = report_on(alloc, &groups, plan)?;
+    let report = writers.report(alloc, &groups, plan)?;
     let refused = refused_text(alloc, &groups, plan.schema())?;
     // The groups came in the order of a walk over a table, which the report does not show.
     arranged_law();

@@ -13,3 +13,5 @@ pub mod RowValues
 pub mod Keeping
 mod RowSets
 mod Sources
+mod Parts
+mod OnGroups

@@ -1,13 +1,14 @@
 -- The text of a report, row by row.
-use Rattle.std.proofs.Common.{◌≡◌, ◌∙◌, ℕ, Option, None, Some, List, [], ◌∷◌, ◌++◌, map, ap, sym}
+use Rattle.std.proofs.Common.{◌≡◌, ◌∙◌, ℕ, Option, None, Some, List, [], ◌∷◌, ◌++◌, map, ap, sym, append_assoc}
 use Rattle.std.specs.Io.KnownBytes.{Appends}
 use Rattle.std.specs.List.{flat_map}
-use Rattle.std.proofs.lemmas.List.{flat_map_more, map-append}
+use Rattle.std.proofs.lemmas.List.{append-nil, flat_map_more, map-append}
+use Rattle.std.proofs.lemmas.List.Concat.{flat_map-append}
 use Rattle.csv.specs.Writing.{row_text, default_writer}
 use Rattle.query_tree.specs.Syntax.{ItemForm}
 use Rattle.query_print.specs.Canonical.{header_text}
 use Rattle.groups.specs.Functions.{Summary}
-use Rattle.report.specs.Text.{cell_field, report_bytes}
+use Rattle.report.specs.Text.{cell_field, report_bytes, rows_bytes}
 
 -- one more row behind those that were written
 pub written-next : (items : List ItemForm) (old new : Option (List ℕ)) (done more : List (List Summary)) (row : List Summary) → old ≡ Some (report_bytes items done) → Appends old new (row_text default_writer (map cell_field row)) → more ≡ done ++ row ∷ [] → new ≡ Some (report_bytes items more)
@@ -21,3 +22,49 @@ written-next items (Some xs) (Some ys) done more row is appends all =
     ∙ flat_map_more (row_text default_writer) head (map (map cell_field) done) (map cell_field row)
     ∙ ap (λ (rows : List (List (List ℕ))). head ++ flat_map (row_text default_writer) rows) (sym (map-append (map cell_field) done (row ∷ [])))
     ∙ ap (report_bytes items) (sym all))
+
+-- rows behind rows
+pub rows-append : (rows more : List (List Summary)) → rows_bytes (rows ++ more) ≡ rows_bytes rows ++ rows_bytes more
+rows-append rows more =
+    ap (flat_map (row_text default_writer)) (map-append (map cell_field) rows more)
+    ∙ flat_map-append (row_text default_writer) (map (map cell_field) rows) (map (map cell_field) more)
+
+-- one more row behind those that were written behind what was there
+pub appended-next : (old new next : Option (List ℕ)) (done more : List (List Summary)) (row : List Summary)
+    → Appends old new (rows_bytes done) → Appends new next (row_text default_writer (map cell_field row)) → more ≡ done ++ row ∷ [] → Appends old next (rows_bytes more)
+appended-next None new next done more row first then all = tt
+appended-next (Some xs) None next done more row first then all = absurd first
+appended-next (Some xs) (Some ys) None done more row first then all = absurd then
+appended-next (Some xs) (Some ys) (Some zs) done more row first then all =
+    then
+    ∙ ap (λ (bs : List ℕ). bs ++ row_text default_writer (map cell_field row)) first
+    ∙ append_assoc xs (rows_bytes done) (row_text default_writer (map cell_field row))
+    ∙ ap (λ (bs : List ℕ). xs ++ bs) (ap (λ (bs : List ℕ). rows_bytes done ++ bs) (sym (append-nil (row_text default_writer (map cell_field row))))
+    ∙ sym (rows-append done (row ∷ []))
+    ∙ ap rows_bytes (sym all))
+
+-- no row behind what was there
+pub appended-none : (old : Option (List ℕ)) → Appends old old []
+appended-none None = tt
+appended-none (Some xs) = sym (append-nil xs)
+
+-- the headers, and then the rows
+pub report-written : (items : List ItemForm) (old new : Option (List ℕ)) (text : List ℕ) (rows : List (List Summary))
+    → old ≡ Some (report_bytes items []) → Appends old new (rows_bytes rows) → new ≡ Some text → text ≡ report_bytes items rows
+report-written items None new text rows begun appends ended = absurd cc
+report-written items (Some xs) None text rows begun appends ended = absurd appends
+report-written items (Some xs) (Some ys) text rows begun appends ended =
+    let head = row_text default_writer (map header_text items) in
+    let first : xs ≡ head ++ [] = cc in
+    let last : ys ≡ text = cc in
+    sym last ∙ appends ∙ ap (λ (bs : List ℕ). bs ++ rows_bytes rows) (first ∙ append-nil head)
+
+-- the headers, and then the texts of the rows
+pub report-joined : (items : List ItemForm) (begun : Option (List ℕ)) (text whole bytes : List ℕ) (rows : List (List Summary))
+    → begun ≡ Some (report_bytes items []) → begun ≡ Some text → whole ≡ text ++ bytes → bytes ≡ rows_bytes rows → whole ≡ report_bytes items rows
+report-joined items None text whole bytes rows first is all of_rows = absurd cc
+report-joined items (Some xs) text whole bytes rows first is all of_rows =
+    let head = row_text default_writer (map header_text items) in
+    let begins : xs ≡ head ++ [] = cc in
+    let same : xs ≡ text = cc in
+    all ∙ (λ i. (sym same ∙ begins ∙ append-nil head) i ++ of_rows i)

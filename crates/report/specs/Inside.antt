@@ -4,3 +4,4 @@ pub mod Ranked
 pub mod Between
 pub mod Planned
 pub mod Sources
+pub mod Parts

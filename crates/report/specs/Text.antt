@@ -35,6 +35,10 @@ cell_field (ratio sum count) = signed_decimal sum ++ codes "/" ++ decimal count
 abbrev pub report_fields : List ItemForm → List (List Summary) → List (List (List ℕ))
 report_fields items rows = map header_text items ∷ map (map cell_field) rows
 
+-- the bytes of rows: each as CSV, with commas, line feeds, and quotes where they are needed
+abbrev pub rows_bytes : List (List Summary) → List ℕ
+rows_bytes rows = flat_map (row_text default_writer) (map (map cell_field) rows)
+
 -- the bytes of a report: each row as CSV, with commas, line feeds, and quotes where they are needed
 abbrev pub report_bytes : List ItemForm → List (List Summary) → List ℕ
 report_bytes items rows = flat_map (row_text default_writer) (report_fields items rows)

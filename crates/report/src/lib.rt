@@ -4,6 +4,7 @@
 //! SELECT, and the two texts (CSV as the crate `csv` writes it).
 #![tactic(auto)]
 
+mod among;
 mod arranging;
 mod cells;
 mod fields;
@@ -18,6 +19,7 @@ mod source;
 mod text;
 mod view;
 
+pub use among::report_among;
 pub use arranging::arrange;
 pub use laws::{arranged_law, order_law};
 pub use refused::refused_text;

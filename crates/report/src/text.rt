@@ -1,5 +1,5 @@
 //! The bytes of a report.
-ghost use Rattle.std.specs.Prelude.{◌≡◌, [], Some, All, IfOk, OnOk, length, map};
+ghost use Rattle.std.specs.Prelude.{◌≡◌, ◌<◌, [], Some, All, IfOk, OnOk, length, map};
 ghost use Rattle.std.specs.Io.KnownBytes.{Appends};
 ghost use Rattle.csv.specs.Records.{fields_of};
 ghost use Rattle.csv.specs.Writing.{row_text, default_writer, text_written};
@@ -7,12 +7,13 @@ ghost use Rattle.values.specs.Datum.{data_of};
 ghost use Rattle.query_print.specs.Canonical.{header_text};
 ghost use Rattle.query_plan.specs.Planned.{fields_of_plan, form_of_plan};
 ghost use Rattle.groups.specs.Cells.{summary_of};
+ghost use Rattle.tables.specs.Found.{row_of};
 ghost use Rattle.tables.specs.Planned.{AreFittingUnder};
 ghost use Rattle.report.specs.Inside.Between.{IsBetweenRows};
-ghost use Rattle.report.specs.Inside.Sources.{shown_at};
+ghost use Rattle.report.specs.Inside.Sources.{cells_at, shown_at};
 ghost use Rattle.report.specs.Report.{report_of};
 ghost use Rattle.report.specs.Shown.{cells_of};
-ghost use Rattle.report.specs.Text.{cell_field, report_bytes};
+ghost use Rattle.report.specs.Text.{cell_field, report_bytes, rows_bytes};
 
 use crate::arranging::shown_groups;
 use crate::fields::{write_cells, write_group};
@@ -48,10 +49,7 @@ pub fn report_text(alloc: Global, rows: &[ReportRow], plan: &Plan) -> Result<Vec
     for row in rows {
         put_row(&mut writer, &mut fields, alloc, row)?;
     }
-    match writer.into_inner() {
-        Ok(text) => Ok(text),
-        Err(_) => Err(AllocError),
-    }
+    ended(writer)
 }
 
 /// The bytes of the report on groups: those that `report_text` gives for the rows of `arrange`, of which it makes none.
@@ -71,19 +69,41 @@ pub fn report_on(alloc: Global, groups: &Groups, plan: &Plan) -> Result<Vec<u8>,
     let view = PlanView::new(alloc, plan)?;
     let shown = shown_groups(alloc, groups, &view)?;
     let sources = sources_by_set(alloc, &view)?;
-    let sources = sources.as_slice();
     let mut writer = begun(alloc, plan)?;
+    put_groups(&mut writer, alloc, sources.as_slice(), shown.as_slice())?;
+    ended(writer)
+}
+
+/// Writes the rows of groups, each of which stands beside the index of its grouping set.
+pub(crate) fn put_groups(
+    writer: &mut Writer<Vec<u8>>,
+    alloc: Global,
+    sources: &[Vec<Source>],
+    groups: &[&(usize, Group)],
+) -> Result<(), AllocError>
+    requires between { IsBetweenRows writer.old }
+    requires within { All (λ r. (row_of r.now).0 < length sources.now) groups.now }
+    ensures between { OnOk result (IsBetweenRows writer.new) }
+    ensures appends { OnOk result (Appends (text_written ⟦<Vec<u8> as Write>⟧.contents writer.old) (text_written ⟦<Vec<u8> as Write>⟧.contents writer.new) (rows_bytes (map (λ r. cells_at sources.now (row_of r.now)) groups.now))) }
+{
     let mut fields = ByteRecord::new(alloc);
-    for found in shown.as_slice() {
+    for found in groups {
         let (index, group) = found;
         put_group(
-            &mut writer,
+            writer,
             &mut fields,
             alloc,
             sources_at(sources, *index),
             group,
         )?;
     }
+    Ok(())
+}
+
+/// What a writer has written.
+pub(crate) fn ended(writer: Writer<Vec<u8>>) -> Result<Vec<u8>, AllocError>
+    ensures { IfOk result (λ text. text_written ⟦<Vec<u8> as Write>⟧.contents writer ≡ Some text.items) }
+{
     match writer.into_inner() {
         Ok(text) => Ok(text),
         Err(_) => Err(AllocError),
@@ -91,7 +111,7 @@ pub fn report_on(alloc: Global, groups: &Groups, plan: &Plan) -> Result<Vec<u8>,
 }
 
 /// A writer of a report that has the row of the headers.
-fn begun(alloc: Global, plan: &Plan) -> Result<Writer<Vec<u8>>, AllocError>
+pub(crate) fn begun(alloc: Global, plan: &Plan) -> Result<Writer<Vec<u8>>, AllocError>
     ensures between { IfOk result IsBetweenRows }
     ensures text { IfOk result (λ writer. text_written ⟦<Vec<u8> as Write>⟧.contents writer ≡ Some (report_bytes (form_of_plan plan.now).items [])) }
 {

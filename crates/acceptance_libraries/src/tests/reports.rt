@@ -4,10 +4,14 @@ ghost use Rattle.report.specs.Report.{NamesColumn};
 
 use lines::LineFault;
 use query::{Plan, check, parse};
-use report::{arrange, arranged_law, order_law, refused_text, report_on, report_text};
+use report::{
+    arrange, arranged_law, order_law, refused_text, report_among, report_on, report_text,
+};
 use std::alloc::{AllocError, Global};
+use std::marker::Sync;
 use std::process::Abort;
 use std::test::Fail;
+use std::thread::Threads;
 use tables::{Groups, Partial};
 use values::Schema;
 
@@ -54,16 +58,19 @@ const LIST: &[u8] = b"line 2: not JSON\nline 4: not an object\nline 5: bad value
 #[derive(Drop)]
 struct Texts {
     report: Vec<u8>,
+    /// The report once more, by three hands.
+    report_by_hands: Vec<u8>,
     /// The report once more, by rows that are held all at once.
     report_of_rows: Vec<u8>,
     list: Vec<u8>,
 }
 
 /// What is written of the lines: the report, and the list if all columns that it is to name are in the schema.
-fn written(alloc: Global, plan: &Plan) -> Result<Texts, AllocError> {
+fn written<H: Threads + Sync>(rt: &H, alloc: Global, plan: &Plan) -> Result<Texts, AllocError> {
     let partial = Partial::fold_piece(alloc, plan, 0, LINES)?;
     let groups = partial.finish(plan)?;
     let report = report_on(alloc, &groups, plan)?;
+    let report_by_hands = report_among(rt, alloc, &groups, plan, 3)?;
     let rows = arrange(alloc, &groups, plan)?;
     let report_of_rows = report_text(alloc, &rows, plan)?;
     let schema = plan.schema();
@@ -74,6 +81,7 @@ fn written(alloc: Global, plan: &Plan) -> Result<Texts, AllocError> {
     };
     Ok(Texts {
         report,
+        report_by_hands,
         report_of_rows,
         list,
     })
@@ -82,9 +90,10 @@ fn written(alloc: Global, plan: &Plan) -> Result<Texts, AllocError> {
 #[test]
 fn writes_the_report_and_the_list(rt: HostRuntime) -> Result<(), Fail> {
     let plan = plan_if_any(rt.alloc()).expect(&rt, "a plan");
-    let written = written(rt.alloc(), &plan)?;
+    let written = written(&rt, rt.alloc(), &plan)?;
     drop(plan);
     assert_eq!(rt; written.report.as_slice(), REPORT);
+    assert_eq!(rt; written.report_by_hands.as_slice(), REPORT);
     assert_eq!(rt; written.report_of_rows.as_slice(), REPORT);
     assert_eq!(rt; written.list.as_slice(), LIST);
     Ok(())
@@ -96,11 +105,12 @@ fn refusal_of_the_report_and_the_list(rt: HostRuntime) {
     let Some(plan) = plan_if_any(rt.alloc()) else {
         return;
     };
-    let answer = written(rt.alloc(), &plan);
+    let answer = written(&rt, rt.alloc(), &plan);
     drop(plan);
     match answer {
         Ok(written) => {
             assert_eq!(rt; written.report.as_slice(), REPORT);
+            assert_eq!(rt; written.report_by_hands.as_slice(), REPORT);
             assert_eq!(rt; written.report_of_rows.as_slice(), REPORT);
             assert_eq!(rt; written.list.as_slice(), LIST);
         }

@@ -7,6 +7,7 @@ use Rattle.query_plan.specs.declared.plan.Plan.{Plan}
 use Rattle.query_plan.specs.Planned.{fields_of_plan, form_of_plan}
 use Rattle.groups.specs.Functions.{Summary, plain}
 use Rattle.groups.specs.Groups.{Key}
+use Rattle.tables.specs.Found.{Found}
 use Rattle.report.specs.declared.source.Source.{Source}
 use Rattle.report.specs.declared.source.Source.TheVariants.{KeyAt, CellAt, Always}
 use Rattle.report.specs.Shown.{expression_shown}
@@ -35,3 +36,7 @@ AreSourcesOfEach plan (set ∷ sets) (sources ∷ others) = AreSourcesOf plan se
 -- those of the grouping set at an index
 abbrev pub sources_at : List (Vec Source) → ℕ → List Source
 sources_at all index = slice_index_or (map (λ sources. sources.items) all) index []
+
+-- what the row of a group has where its grouping set has what it shows
+abbrev pub cells_at : List (Vec Source) → Found → List Summary
+cells_at all row = map (shown_at row.1.key row.1.cells) (sources_at all row.0)

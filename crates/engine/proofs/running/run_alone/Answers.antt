@@ -1,4 +1,3 @@
-use Rattle.std.proofs.Common.{◌≡◌}
 use Rattle.query_plan.specs.Planned.{fields_of_plan, form_of_plan}
 use Rattle.engine.proofs.Outcomes.{decided-known, leaves-known, limit-known, lines-known, refusals-known, refused-known, report-known, started-known}
 use Rattle.engine.proofs.running.run_alone.Goals as goal

@@ -10,15 +10,15 @@ use Rattle.engine.proofs.Named.{refused-named}
 use Rattle.engine.proofs.running.texts_of.Goals as goal
 
 pub refused_text-requires : goal.refused_text-requires
-refused_text-requires c =
+refused_text-requires g c =
     let plan = c.args.plan.now in
-    let whole = c.requires.1 in
-    let is = c.in_ok-groups.ensures.whole c.requires.0 whole.pieces whole.stands whole.cut in
+    let whole = c.requires.of_input.1 in
+    let is = c.in_ok-groups.ensures.whole c.requires.of_input.0 whole.pieces whole.stands whole.cut in
     subst (λ fields. All (λ line. NamesColumn fields line.1) c.in_ok-groups.groups.refused) (sym c.schema.ensures.schema)
-    (subst (λ refused. All (λ line. NamesColumn (fields_of_plan plan) line.1) refused) (sym is.refused) (refused-named (fields_of_plan plan) c.requires.0))
+    (subst (λ refused. All (λ line. NamesColumn (fields_of_plan plan) line.1) refused) (sym is.refused) (refused-named (fields_of_plan plan) c.requires.of_input.0))
 
 pub returns-clause-report : goal.returns-clause-report
-returns-clause-report c = λ input whole.
+returns-clause-report g c = λ input whole.
     let fields = fields_of_plan c.args.plan.now in
     let q = form_of_plan c.args.plan.now in
     let groups = c.in_ok-groups.groups in
@@ -29,7 +29,7 @@ returns-clause-report c = λ input whole.
     c.in_ok-report.ensures ∙ ap (λ rows. report_bytes q.items (map (row_shown fields q) rows)) (sym blind)
 
 pub returns-clause-refused : goal.returns-clause-refused
-returns-clause-refused c = λ input whole.
+returns-clause-refused g c = λ input whole.
     let fields = fields_of_plan c.args.plan.now in
     let is = c.in_ok-groups.ensures.whole input whole.pieces whole.stands whole.cut in
     c.in_ok-refused.ensures

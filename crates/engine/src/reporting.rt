@@ -1,0 +1,55 @@
+//! Who writes the rows of a report.
+ghost use Rattle.std.specs.Prelude.{◌≡◌, ◌<◌, IfOk};
+ghost use Rattle.query_plan.specs.Planned.{fields_of_plan, form_of_plan};
+ghost use Rattle.tables.specs.Planned.{AreFittingUnder};
+ghost use Rattle.report.specs.Report.{report_of};
+
+use query::Plan;
+use report::{report_among, report_on};
+use std::alloc::{AllocError, Global};
+use std::marker::Sync;
+use std::thread::Threads;
+use tables::Groups;
+
+/// Those who write the rows of a report.
+pub(crate) trait Writers {
+    /// They can write.
+    ghost ready: { Self → Type 0 };
+
+    /// The bytes of the report on groups that fit the plan, whoever writes them.
+    fn report(&self, alloc: Global, groups: &Groups, plan: &Plan) -> Result<Vec<u8>, AllocError>
+        requires ready { Self.ready self.now }
+        requires fit { AreFittingUnder plan.now groups.now.found }
+        ensures { IfOk result (λ text. text.items ≡ report_of (fields_of_plan plan.now) (form_of_plan plan.now) groups.now.found) };
+}
+
+/// The calling thread alone.
+pub(crate) struct CallingThread;
+
+impl Writers for CallingThread {
+    ghost use Rattle.std.specs.Prelude.{⊤};
+
+    ghost ready = { λ _. ⊤ };
+
+    fn report(&self, alloc: Global, groups: &Groups, plan: &Plan) -> Result<Vec<u8>, AllocError> {
+        report_on(alloc, groups, plan)
+    }
+}
+
+/// As many threads as there are hands, the calling one among them.
+#[derive(Drop)]
+pub(crate) struct Hands<'a, H> {
+    pub(crate) rt: &'a H,
+    pub(crate) count: usize,
+}
+
+impl<'a, H: Threads + Sync> Writers for Hands<'a, H> {
+    ghost use Rattle.std.specs.Prelude.{◌<◌};
+    ghost use denote.Param.Send.{IsSync};
+
+    ghost ready = { λ hands. IsSync H.row × (0 < hands.count) };
+
+    fn report(&self, alloc: Global, groups: &Groups, plan: &Plan) -> Result<Vec<u8>, AllocError> {
+        report_among(self.rt, alloc, groups, plan, self.count)
+    }
+}
