@@ -14,3 +14,4 @@ pub mod Covering
 pub mod Rolled
 pub mod AnyOrder
 pub mod Rolling
+mod Writes

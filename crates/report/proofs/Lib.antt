@@ -13,5 +13,6 @@ pub mod RowValues
 pub mod Keeping
 mod RowSets
 mod Sources
-mod Parts
+mod InParts
 mod OnGroups
+mod Sharing

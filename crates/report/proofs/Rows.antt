@@ -32,7 +32,10 @@ use Rattle.report.proofs.Filtering.{bag-having_true, fit-having_true}
 use Rattle.report.proofs.Totals.{before-total, by_rank-total}
 use Rattle.report.proofs.Sorting.{Apart, apart-in_order, ascends-in_order, ascends-sorted, bag-permutation, one-list, weigh-in_order}
 use Rattle.report.proofs.Sameness.{both-tied, found-tells, same_found}
-use Rattle.report.proofs.Maps.{map-twice}
+use Rattle.query_plan.specs.declared.plan.Plan.{Plan}
+use Rattle.tables.specs.Planned.{AreFittingUnder}
+use Rattle.report.specs.Inside.Planned.{HasSetUnder}
+use Rattle.report.proofs.Maps.{all-of-map, map-twice}
 use Rattle.report.proofs.Places.{different-distinct, order-same_set}
 
 -- ---- one row and another
@@ -165,11 +168,15 @@ rows-beside : (fields : List Field) (t : TreeForm) (found : List Found) → map 
 rows-beside fields t [] = refl
 rows-beside fields t (x ∷ found) = ap (λ (xs : List Found). x ∷ xs) (rows-beside fields t found)
 
+-- what is a permutation of rows beside the values of the keys
+pub ranks-moved : {Y : Type 0} (rank : Y → Ranked) (fields : List Field) (t : TreeForm) (found : List Found) (gathered sorted : List Y) → map rank gathered ≡ map (ranked fields t) found → IsPermutation gathered sorted
+    → IsPermutation (map (ranked fields t) found) (map rank sorted)
+ranks-moved rank fields t found gathered sorted are moved = subst (λ (rs : List Ranked). IsPermutation rs (map rank sorted)) are (IsPermutation-map rank gathered sorted moved)
+
 -- what is sorted by values that are those of the keys, by index and by key has the rows in their order
-pub sorted-ranks : {Y : Type 0} (rank : Y → Ranked) (fields : List Field) (t : TreeForm) (found : List Found) (gathered sorted : List Y) → map rank gathered ≡ map (ranked fields t) found → IsPermutation gathered sorted
+pub sorted-ranks : {Y : Type 0} (rank : Y → Ranked) (fields : List Field) (t : TreeForm) (found : List Found) (sorted : List Y) → IsPermutation (map (ranked fields t) found) (map rank sorted)
     → IsSortedBy (λ a b. is_lt (by_rank t.keys (rank a) (rank b))) sorted → AreFitting fields t found → map (λ y. (rank y).1) sorted ≡ in_order (before fields t) found
-sorted-ranks {Y} rank fields t found gathered sorted are moved up fit =
-    let there : IsPermutation (map (ranked fields t) found) (map rank sorted) = subst (λ (rs : List Ranked). IsPermutation rs (map rank sorted)) are (IsPermutation-map rank gathered sorted moved) in
+sorted-ranks {Y} rank fields t found sorted there up fit =
     let fits : AllByRecursion (IsRight fields t) (map (ranked fields t) found) = each-right fields t found (recursion_from_All (IsFit fields t) found (all-fit fields t found fit)) in
     let right : AllByRecursion (IsRight fields t) (map rank sorted) =
     recursion_from_All (IsRight fields t) (map rank sorted) (All-permutation (IsRight fields t) (map (ranked fields t) found) (map rank sorted) there (All-from_recursion (IsRight fields t) (map (ranked fields t) found) fits)) in
@@ -178,3 +185,9 @@ sorted-ranks {Y} rank fields t found gathered sorted are moved up fit =
     sym (map-twice row_beside rank sorted)
     ∙ only-order fields t found (map row_beside (map rank sorted)) fit (bag-permutation found (map row_beside (map rank sorted)) rows)
     (ascends-same fields t (map rank sorted) right (ascends-sorted (by_rank-total t.keys) rank sorted up))
+
+-- rows that fit have indexes of sets
+pub sets-fitting : (plan : Plan) (groups : List (Bor (ℕ × Group))) → AreFittingUnder plan (map row_at groups) → All (λ r. HasSetUnder plan (row_at r)) groups
+sets-fitting plan groups fit =
+    All-from_recursion (λ (r : Bor (ℕ × Group)). HasSetUnder plan (row_at r)) groups
+    (all-of-map row_at (HasSetUnder plan) groups (recursion_from_All (HasSetUnder plan) (map row_at groups) fit.indexes))

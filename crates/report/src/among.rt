@@ -1,15 +1,15 @@
-//! The bytes of a report, whose rows are written by several threads.
-ghost use Rattle.std.specs.Prelude.{◌≡◌, ◌<◌, ◌++◌, All, IfOk, OnOk, length, map};
-ghost use Rattle.std.specs.List.{flat_map};
+//! The bytes of a report, whose rows are put in order and written by several threads.
+ghost use Rattle.std.specs.Prelude.{◌≡◌, ◌<◌, All, IfOk, length, map};
 ghost use Rattle.query_plan.specs.Planned.{fields_of_plan, form_of_plan};
 ghost use Rattle.tables.specs.Found.{row_of};
 ghost use Rattle.tables.specs.Planned.{AreFittingUnder};
 ghost use Rattle.report.specs.Report.{report_of};
 ghost use Rattle.report.specs.Text.{rows_bytes};
-ghost use Rattle.report.specs.Inside.Parts.{AreMade, AreTextsOf, bytes_of};
+ghost use Rattle.report.specs.Inside.Parts.{AreTextsOf};
 ghost use Rattle.report.specs.Inside.Sources.{cells_at};
 
-use crate::arranging::shown_groups;
+use crate::arranging::shown_among;
+use crate::parts::{joined, part_len};
 use crate::source::{Source, sources_by_set};
 use crate::text::{begun, ended, put_groups};
 use crate::view::PlanView;
@@ -22,12 +22,8 @@ use std::thread;
 use std::thread::Threads;
 use tables::Groups;
 
-/// How many rows are written by one thread, where there are more than so many. Fewer are written sooner than a thread is
-/// started.
-const FEWEST: usize = 4_096;
-
-/// The bytes of a report as `report_on` gives them, whose rows are written by as many threads as there are hands, the
-/// calling one among them, or by fewer where the rows are few or a thread cannot be started.
+/// The bytes of a report as `report_on` gives them, whose rows are put in order and written by as many threads as there are
+/// hands, the calling one among them, or by fewer where the rows are few or a thread cannot be started.
 ///
 /// The groups fit the plan, as `report_on` asks for, and there is a hand.
 ///
@@ -48,12 +44,12 @@ pub fn report_among<H: Threads + Sync>(
     ensures { IfOk result (λ text. text.items ≡ report_of (fields_of_plan plan.now) (form_of_plan plan.now) groups.now.found) }
 {
     let view = PlanView::new(alloc, plan)?;
-    let shown = shown_groups(alloc, groups, &view)?;
+    let shown = shown_among(rt, alloc, groups, &view, hands)?;
     let sources = sources_by_set(alloc, &view)?;
-    let size = FEWEST.max(shown.len().div_ceil(hands));
+    let size = part_len(shown.len(), hands);
     let texts = texts_among(rt, alloc, sources.as_slice(), shown.as_slice(), size)?;
     let text = ended(begun(alloc, plan)?)?;
-    joined(text, texts.as_slice())
+    joined(text, texts)
 }
 
 /// The bytes of the rows of groups, in parts of so many rows, each by a thread of its own where one can be started.
@@ -93,19 +89,4 @@ fn rows_text(
     let mut writer = WriterBuilder::new().from_writer(Vec::new(alloc));
     put_groups(&mut writer, alloc, sources, groups)?;
     ended(writer)
-}
-
-/// A text with these texts behind it, one after the other, where each of them was made.
-fn joined(text: Vec<u8>, texts: &[Result<Vec<u8>, AllocError>]) -> Result<Vec<u8>, AllocError>
-    ensures made { OnOk result (AreMade texts.now) }
-    ensures bytes { IfOk result (λ whole. whole.items ≡ text.items ++ flat_map bytes_of texts.now) }
-{
-    let mut whole = text;
-    for text in texts {
-        match text {
-            Ok(text) => whole.extend_from_slice(text.as_slice())?,
-            Err(_) => return Err(AllocError),
-        }
-    }
-    Ok(whole)
 }

@@ -1,5 +1,5 @@
 //! The rows of a report.
-ghost use Rattle.std.specs.Prelude.{◌≡◌, All, IfOk, length, map};
+ghost use Rattle.std.specs.Prelude.{◌≡◌, ◌<◌, All, IfOk, length, map};
 ghost use Rattle.query_plan.specs.Planned.{fields_of_plan, form_of_plan};
 ghost use Rattle.tables.specs.Found.{row_of};
 ghost use Rattle.tables.specs.Planned.{AreFittingUnder};
@@ -10,12 +10,15 @@ ghost use Rattle.report.specs.Shown.{cells_of, row_shown};
 
 use crate::cells::expression_cell;
 use crate::having::rows_having_true;
-use crate::ordering::in_order;
+use crate::ordering::{in_order, in_order_among};
+use crate::parts::part_len;
 use crate::row::ReportRow;
 use crate::view::PlanView;
 use groups::Group;
 use query_plan::Plan;
 use std::alloc::{AllocError, Global};
+use std::marker::Sync;
+use std::thread::Threads;
 use tables::Groups;
 
 /// The rows of a report: one for each group for which the predicate of HAVING is True, and for each group where HAVING
@@ -73,6 +76,25 @@ pub(crate) fn shown_groups<'a>(
 {
     let unordered = rows_having_true(alloc, plan, groups.rows())?;
     in_order(alloc, plan, unordered)
+}
+
+/// As `shown_groups`; the groups are put in order by as many threads as there are hands, the calling one among them, or by
+/// fewer where they are few or a thread cannot be started.
+pub(crate) fn shown_among<'a, H: Threads + Sync>(
+    rt: &H,
+    alloc: Global,
+    groups: &'a Groups,
+    plan: &PlanView<'_>,
+    hands: usize,
+) -> Result<Vec<&'a (usize, Group)>, AllocError>
+    requires fit { AreFittingUnder plan.now groups.now.found }
+    requires hands { 0 < hands }
+    ensures shown { IfOk result (λ v. map (λ r. row_of r.now) v.items ≡ arranged (fields_of_plan plan.now) (form_of_plan plan.now) groups.now.found) }
+    ensures sets { IfOk result (λ v. All (λ r. HasSetUnder plan.now (row_of r.now)) v.items) }
+{
+    let unordered = rows_having_true(alloc, plan, groups.rows())?;
+    let size = part_len(unordered.len(), hands);
+    in_order_among(rt, alloc, plan, unordered, size)
 }
 
 /// The row of a group, which stands beside the index of its grouping set.

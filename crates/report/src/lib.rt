@@ -12,6 +12,7 @@ mod having;
 mod keys;
 mod laws;
 mod ordering;
+mod parts;
 mod ranked;
 mod refused;
 mod row;

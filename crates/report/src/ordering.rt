@@ -1,20 +1,27 @@
 //! The order of rows.
-ghost use Rattle.std.specs.Prelude.{◌≡◌, All, IfOk, map};
+ghost use Rattle.std.specs.Prelude.{◌≡◌, ◌<◌, All, IfOk, map};
+ghost use Rattle.std.specs.List.Sorted.{IsPermutation, IsSortedBy};
+ghost use Rattle.std.specs.Ordering.{is_lt};
 ghost use Rattle.query_tree.specs.Syntax.{key_form};
 ghost use Rattle.query_plan.specs.Planned.{fields_of_plan, form_of_plan};
 ghost use Rattle.tables.specs.Found.{row_of};
 ghost use Rattle.tables.specs.Planned.{AreFittingUnder};
 ghost use Rattle.report.specs.Order.{before, in_order};
+ghost use Rattle.report.specs.Inside.Parts.{AreRanked, AreRankedParts};
 ghost use Rattle.report.specs.Inside.Planned.{HasSetUnder};
 ghost use Rattle.report.specs.Inside.Ranked.{by_key, by_rank, ranked, ranked_in};
 
 use crate::keys::{key_values, under_values};
+use crate::parts::joined;
 use crate::ranked::{RankedRow, compare_keys, first_text, front_of};
 use crate::view::PlanView;
 use groups::Group;
 use query_plan::Key;
 use std::alloc::{AllocError, Global};
 use std::cmp::Ordering;
+use std::marker::Sync;
+use std::thread;
+use std::thread::Threads;
 
 /// How two groups stand to each other: by the index of their grouping set, and in one set by their keys.
 fn compare(a: &RankedRow, b: &RankedRow) -> Ordering
@@ -45,24 +52,76 @@ pub(crate) fn in_order<'a>(
     requires { AreFittingUnder plan.now (map (λ r. row_of r.now) rows.items) }
     ensures { IfOk result (λ v. map (λ r. row_of r.now) v.items ≡ in_order (before (fields_of_plan plan.now) (form_of_plan plan.now)) (map (λ r. row_of r.now) rows.entry.items)) }
 {
-    let keys = plan.query().tree().keys.as_slice();
-    let mut ranked = rank(alloc, plan, rows)?;
-    ranked.sort_by(|a, b| compare_ranked(keys, a, b))?;
-    let mut ordered = Vec::with_capacity(alloc, ranked.len())?;
-    for row in ranked {
-        ordered.push(row.found)?;
-    }
-    Ok(ordered)
+    let ranked = rank(alloc, plan, rows.as_slice())?;
+    let ordered = sorted(plan, ranked)?;
+    groups_in(alloc, ordered)
+}
+
+/// As `in_order`. The groups are put in order in parts of so many, each by a thread of its own where one can be started,
+/// and the parts then together.
+pub(crate) fn in_order_among<'a, H: Threads + Sync>(
+    rt: &H,
+    alloc: Global,
+    plan: &PlanView<'_>,
+    rows: Vec<&'a (usize, Group)>,
+    size: usize,
+) -> Result<Vec<&'a (usize, Group)>, AllocError>
+    requires fit { AreFittingUnder plan.now (map (λ r. row_of r.now) rows.items) }
+    requires size { 0 < size }
+    ensures { IfOk result (λ v. map (λ r. row_of r.now) v.items ≡ in_order (before (fields_of_plan plan.now) (form_of_plan plan.now)) (map (λ r. row_of r.now) rows.entry.items)) }
+{
+    let parts = parts_in_order(rt, alloc, plan, rows.as_slice(), size)?;
+    let ranked = joined(Vec::with_capacity(alloc, rows.len())?, parts)?;
+    let ordered = sorted(plan, ranked)?;
+    groups_in(alloc, ordered)
+}
+
+/// The groups in parts of so many, each beside what their rows are put in order by, and each part in that order.
+fn parts_in_order<'a, H: Threads + Sync>(
+    rt: &H,
+    alloc: Global,
+    plan: &PlanView<'_>,
+    rows: &[&'a (usize, Group)],
+    size: usize,
+) -> Result<Vec<Result<Vec<RankedRow<'a>>, AllocError>>, AllocError>
+    requires size { 0 < size }
+    requires sets { All (λ r. HasSetUnder plan.now (row_of r.now)) rows.now }
+    ensures { IfOk result (λ parts. AreRankedParts (ranked (fields_of_plan plan.now) (form_of_plan plan.now)) size (map (λ r. row_of r.now) rows.now) parts.items) }
+{
+    let parts = thread::map_chunks(
+        rt,
+        alloc,
+        rows,
+        size,
+        &|_, part: &[&(usize, Group)]| -> Result<Vec<RankedRow<'_>>, AllocError>
+            requires { All (λ r. HasSetUnder plan.now (row_of r.now)) part.now }
+            ensures { IfOk result (λ v. AreRanked (ranked (fields_of_plan plan.entry.now) (form_of_plan plan.entry.now)) (map (λ r. row_of r.now) part.entry.now) v.items) }
+        { part_in_order(alloc, plan, part) },
+    )?;
+    Ok(parts)
+}
+
+/// The groups of one part beside what their rows are put in order by, in that order.
+fn part_in_order<'a>(
+    alloc: Global,
+    plan: &PlanView<'_>,
+    rows: &[&'a (usize, Group)],
+) -> Result<Vec<RankedRow<'a>>, AllocError>
+    requires { All (λ r. HasSetUnder plan.now (row_of r.now)) rows.now }
+    ensures { IfOk result (λ v. AreRanked (ranked (fields_of_plan plan.now) (form_of_plan plan.now)) (map (λ r. row_of r.now) rows.now) v.items) }
+{
+    let ranked = rank(alloc, plan, rows)?;
+    sorted(plan, ranked)
 }
 
 /// The groups beside what their rows are put in order by.
 fn rank<'a>(
     alloc: Global,
     plan: &PlanView<'_>,
-    rows: Vec<&'a (usize, Group)>,
+    rows: &[&'a (usize, Group)],
 ) -> Result<Vec<RankedRow<'a>>, AllocError>
-    requires { All (λ row. HasSetUnder plan.now row) (map (λ r. row_of r.now) rows.items) }
-    ensures { IfOk result (λ v. map ranked_in v.items ≡ map (ranked (fields_of_plan plan.now) (form_of_plan plan.now)) (map (λ r. row_of r.now) rows.entry.items)) }
+    requires { All (λ r. HasSetUnder plan.now (row_of r.now)) rows.now }
+    ensures { IfOk result (λ v. map ranked_in v.items ≡ map (ranked (fields_of_plan plan.now) (form_of_plan plan.now)) (map (λ r. row_of r.now) rows.now)) }
 {
     let mut ranked = Vec::with_capacity(alloc, rows.len())?;
     for found in rows {
@@ -72,8 +131,36 @@ fn rank<'a>(
             set: found.0,
             front: front_of(found.1.key.as_slice()),
             text: first_text(found.1.key.as_slice()),
-            found,
+            found: *found,
         })?;
     }
     Ok(ranked)
+}
+
+/// The groups in the order of what stands beside them.
+fn sorted<'a>(
+    plan: &PlanView<'_>,
+    ranked: Vec<RankedRow<'a>>,
+) -> Result<Vec<RankedRow<'a>>, AllocError>
+    ensures permutation { IfOk result (λ v. IsPermutation ranked.entry.items v.items) }
+    ensures sorted { IfOk result (λ v. IsSortedBy (λ a b. is_lt (by_rank (form_of_plan plan.now).keys (ranked_in a) (ranked_in b))) v.items) }
+{
+    let keys = plan.query().tree().keys.as_slice();
+    let mut ranked = ranked;
+    ranked.sort_by(|a, b| compare_ranked(keys, a, b))?;
+    Ok(ranked)
+}
+
+/// The groups alone, in the order in which they stand.
+fn groups_in<'a>(
+    alloc: Global,
+    ranked: Vec<RankedRow<'a>>,
+) -> Result<Vec<&'a (usize, Group)>, AllocError>
+    ensures { IfOk result (λ v. map (λ r. row_of r.now) v.items ≡ map (λ r. (ranked_in r).1) ranked.entry.items) }
+{
+    let mut groups = Vec::with_capacity(alloc, ranked.len())?;
+    for row in ranked {
+        groups.push(row.found)?;
+    }
+    Ok(groups)
 }

@@ -20,3 +20,4 @@ pub mod Types
 pub mod TypeTests
 pub mod Growing
 pub mod Means
+pub mod Sharing

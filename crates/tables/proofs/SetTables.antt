@@ -198,3 +198,7 @@ table-of fs tables place item set rows lt is at h =
 
 pub permuted : (xs ys zs : List (List ℕ)) → xs ≡ ys → IsPermutation xs zs → IsPermutation ys zs
 permuted xs ys zs e p = subst (λ (ls : List (List ℕ)). IsPermutation ls zs) e p
+
+-- the set of the only table is made
+pub first-made : (set : List ℕ) (tables : List SetTable) (table : SetTable) → tables ≡ table ∷ [] → table.set.items ≡ set → IsMade set tables
+first-made set tables table is same none = (subst (λ (ts : List SetTable). All (λ (t : SetTable). t.set.items ≢ set) ts) is none) 0 table (omega arith) same

@@ -2,7 +2,7 @@ use Rattle.std.proofs.Common.{◌≡◌, ◌∙◌, length, arith}
 use denote.Param.Send.{sendable}
 use Rattle.query_plan.specs.Planned.{fields_of_plan, form_of_plan}
 use Rattle.gathering.proofs.Pooled.{few-loads, grown-by, outcome-of, room-beside, weights-counted}
-use Rattle.gathering.proofs.Sharing.{job_sync}
+use Rattle.tables.proofs.Sharing.{job_sync}
 use Rattle.gathering.proofs.Tallies.{refused-of-input}
 use Rattle.gathering.proofs.working.round_among.Goals as goal
 

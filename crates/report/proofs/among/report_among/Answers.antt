@@ -1,15 +1,15 @@
-use Rattle.std.proofs.Common.{◌∙◌, Bor, ℕ, List, Some, ap, map, subst}
+use Rattle.std.proofs.Common.{◌∙◌, Bor, ℕ, List, Some, ap, map}
 use Rattle.std.specs.List.{flat_map}
 use Rattle.csv.specs.Writing.{text_written}
 use Rattle.query_plan.specs.Planned.{form_of_plan}
 use Rattle.groups.specs.Functions.{Summary}
 use Rattle.groups.specs.declared.group.Group.{Group}
 use Rattle.tables.specs.Found.{row_of}
-use Rattle.report.specs.Inside.Parts.{AreMade, bytes_of}
+use Rattle.report.specs.Inside.Parts.{items_of}
 use Rattle.report.specs.Inside.Sources.{cells_at}
 use Rattle.report.specs.Text.{report_bytes}
 use Rattle.report.proofs.OnGroups.{groups-shown, groups-within}
-use Rattle.report.proofs.Parts.{joined-whole, parts-joined}
+use Rattle.report.proofs.InParts.{joined-whole, texts-joined}
 use Rattle.report.proofs.Written.{report-joined}
 use Rattle.report.proofs.among.report_among.Goals as goal
 
@@ -24,8 +24,8 @@ returns g c =
     let rows = map (λ (r : Bor (ℕ × Group)). cells_at c.as_slice.result.now (row_of r.now)) c.as_slice-2.result.now in
     let is = groups-shown c.args.plan.now c.in_ok-view.view c.args.groups.now.found c.in_ok-shown.shown.items c.as_slice-2.result.now c.in_ok-sources.sources.items c.as_slice.result.now
     c.in_ok-view.ensures c.as_slice-2.ensures.value c.as_slice.ensures.value c.in_ok-shown.ensures.shown c.in_ok-shown.ensures.sets c.in_ok-sources.ensures in
-    joined-whole c.joined.result c.joined.ensures.made c.joined.ensures.bytes (λ whole made bytes.
-    report-joined items (text_written (λ v. Some v.items) c.in_ok-begun.field-0) c.in_ok-text.text.items whole.items (flat_map bytes_of c.as_slice-3.result.now) rows
+    joined-whole c.joined.result c.joined.ensures.made c.joined.ensures.items (λ whole made bytes.
+    report-joined items (text_written (λ v. Some v.items) c.in_ok-begun.field-0) c.in_ok-text.text.items whole.items (flat_map items_of c.in_ok-texts.texts.items) rows
     c.in_ok-begun.ensures.text c.in_ok-text.ensures bytes
-    (ap (flat_map bytes_of) c.as_slice-3.ensures.value ∙ parts-joined c.max-size.result rows c.in_ok-texts.texts.items c.in_ok-texts.ensures (subst AreMade c.as_slice-3.ensures.value made))
+    (texts-joined c.part_len-size.result rows c.in_ok-texts.texts.items c.in_ok-texts.ensures made)
     ∙ ap (λ (all : List (List Summary)). report_bytes items all) is)

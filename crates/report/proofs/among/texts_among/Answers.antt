@@ -3,9 +3,10 @@ use Rattle.std.proofs.lemmas.List.{drop-map, length-map, take-map}
 use Rattle.groups.specs.Functions.{Summary}
 use Rattle.groups.specs.declared.group.Group.{Group}
 use Rattle.tables.specs.Found.{row_of}
+use Rattle.report.specs.Inside.Parts.{IsTextOf}
 use Rattle.report.specs.Inside.Sources.{cells_at}
 use Rattle.report.specs.Text.{rows_bytes}
-use Rattle.report.proofs.Parts.{parts-cover, parts-made}
+use Rattle.report.proofs.InParts.{parts-cover, parts-made}
 use Rattle.report.proofs.among.texts_among.Goals as goal
 
 pub returns : goal.returns
@@ -18,7 +19,7 @@ returns g c =
     let ok = c.in_ok-texts.texts.ok in
     let made : length texts ≡ c.in_ok-texts.texts.len = omega (arith, ok) in
     let cover = parts-cover (length groups) size (length texts) c.requires.size (made ∙ c.in_ok-texts.ensures.len) in
-    parts-made size (map cells groups) texts
+    parts-made IsTextOf size (map cells groups) texts
     (λ n d low.
     let k = (c.in_ok-texts.ensures.each n d low).1 in
     let part : map cells k.argument.now ≡ take size (drop (n * size) (map cells groups)) =

@@ -19,7 +19,7 @@ group_sync = search (std.crosses, group.crosses, sendable) depth 60 fits 20000
 expression_sync : IsSync (Expression.the_field).row
 expression_sync = search (std.crosses, expression.crosses, sendable) depth 60 fits 20000
 
-predicate_sync : IsSync (Predicate.the_field).row
+pub predicate_sync : IsSync (Predicate.the_field).row
 predicate_sync = search (std.crosses, expression.crosses, sendable) depth 60 fits 20000
 
 condition_sync : IsSync (Condition.the_field).row
@@ -28,7 +28,7 @@ condition_sync = search (std.crosses, condition.crosses, sendable) depth 60 fits
 tree_sync : IsSync (Tree.the_field).row
 tree_sync = search (group_sync, expression_sync, predicate_sync, std.crosses, sendable) depth 60 fits 20000
 
-plan_sync : IsSync (Plan.the_field).row
+pub plan_sync : IsSync (Plan.the_field).row
 plan_sync = search (tree_sync, condition_sync, std.crosses, sendable) depth 60 fits 20000
 
 pub job_sync : (κ : NamedLft) → IsSync (Job.the_row κ)

@@ -1,0 +1,34 @@
+use Rattle.std.proofs.Common.{◌≡◌, ◌∙◌, ◌++◌, All, Bor, IsPermutation, List, ℕ, map, ap, sym, subst}
+use Rattle.std.specs.List.{flat_map}
+use Rattle.std.proofs.lemmas.Result.{IfOk-weaker}
+use Rattle.std.proofs.lemmas.List.Sorted.{IsPermutation-map, IsPermutation-trans}
+use Rattle.query_plan.specs.Planned.{fields_of_plan, form_of_plan}
+use Rattle.groups.specs.declared.group.Group.{Group}
+use Rattle.report.specs.Inside.Parts.{AreRanked, AreRankedParts, items_of}
+use Rattle.report.specs.Inside.Planned.{HasSetUnder}
+use Rattle.report.specs.Inside.Ranked.{ranked, ranked_in}
+use Rattle.report.specs.declared.ranked.RankedRow.{RankedRow}
+use Rattle.report.proofs.InParts.{ranks-joined}
+use Rattle.report.proofs.Rows.{row_at, sets-fitting, sorted-ranks}
+use Rattle.report.proofs.ordering.in_order_among.Goals as goal
+
+pub parts_in_order-requires-clause-sets : goal.parts_in_order-requires-clause-sets
+parts_in_order-requires-clause-sets g c κs within =
+    let plan = c.args.plan.now in
+    subst (λ (rows : List (Bor (ℕ × Group))). All (λ r. HasSetUnder plan (row_at r)) rows) (sym c.as_slice.ensures.value) (sets-fitting plan c.args.rows.items c.requires.fit)
+
+pub returns : goal.returns
+returns g c =
+    let fields = fields_of_plan c.args.plan.now in
+    let t = form_of_plan c.args.plan.now in
+    let rank = ranked fields t in
+    let found = map row_at c.args.rows.items in
+    let parts = c.in_ok-parts.parts.items in
+    let whole = c.in_ok-ranked.ranked.items in
+    let sorted = c.in_ok-ordered.ordered.items in
+    let of-parts : AreRankedParts rank c.args.size found parts = subst (λ (rows : List (Bor (ℕ × Group))). AreRankedParts rank c.args.size (map row_at rows) parts) c.as_slice.ensures.value c.in_ok-parts.ensures in
+    let all : whole ≡ flat_map items_of parts = c.in_ok-ranked.ensures.items ∙ ap (λ (first : List RankedRow). first ++ flat_map items_of parts) c.in_ok-with_capacity.ensures.items in
+    let ranks : AreRanked rank found whole = subst (AreRanked rank found) (sym all) (ranks-joined rank c.args.size found parts of-parts c.in_ok-ranked.ensures.made) in
+    let there : IsPermutation (map rank found) (map ranked_in sorted) =
+    IsPermutation-trans (map rank found) (map ranked_in whole) (map ranked_in sorted) ranks (IsPermutation-map ranked_in whole sorted c.in_ok-ordered.ensures.permutation) in
+    IfOk-weaker c.groups_in.result _ _ (λ v e. e ∙ sorted-ranks ranked_in fields t found sorted there c.in_ok-ordered.ensures.sorted c.requires.fit) c.groups_in.ensures
