@@ -14,4 +14,3 @@ pub mod Covering
 pub mod Rolled
 pub mod AnyOrder
 pub mod Rolling
-mod Writes

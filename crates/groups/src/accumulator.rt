@@ -31,13 +31,6 @@ pub(crate) enum Accumulator {
     Average(Total),
 }
 
-/// What stands in a place for an accumulator that is not taken.
-impl Default for Accumulator {
-    fn default() -> Accumulator {
-        Accumulator::Rows
-    }
-}
-
 impl Accumulator {
     ghost use Rattle.std.specs.Prelude.{[], IfOk, OnOk, OnErr};
     ghost use Rattle.groups.specs.Inside.Accumulator.{is_marked, no_state, state_in, state_counted, state_over, with_count, with_member, with_record, with_value, joined, summary, HasRoom, IsUnbounded};

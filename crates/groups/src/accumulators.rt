@@ -6,20 +6,15 @@ ghost use Rattle.groups.specs.Cells.{summary_of};
 use crate::accumulator::Accumulator;
 use crate::cell::Cell;
 use query_check::FilteredFunction;
-use smallvec::SmallVec;
 use std::alloc::{AllocError, Global};
 use std::marker::Model;
 use values::Value;
-
-/// How many accumulators of a group stand in its place in the table itself. Where a query has more set functions, those of
-/// a group stand in memory of their own.
-const FEW: usize = 2;
 
 /// What is kept of the members of a group: their number, and for each set function an accumulator.
 #[derive(Debug, Drop)]
 pub(crate) struct Accumulators {
     lines: u64,
-    parts: SmallVec<Accumulator, FEW>,
+    parts: Vec<Accumulator>,
 }
 
 impl Model for Accumulators {
@@ -51,7 +46,7 @@ impl Accumulators {
     ) -> Result<Accumulators, AllocError>
         ensures { IfOk result (λ group. group ≡ no_group functions.now) }
     {
-        let mut parts = SmallVec::with_capacity(alloc, functions.len())?;
+        let mut parts = Vec::with_capacity(alloc, functions.len())?;
         for function in functions {
             parts.push(Accumulator::new(alloc, *function)?)?;
         }
@@ -117,11 +112,7 @@ impl Accumulators {
 }
 
 /// The values of set functions over a group of so many records.
-fn cells_of(
-    alloc: Global,
-    lines: u64,
-    parts: SmallVec<Accumulator, FEW>,
-) -> Result<Vec<Cell>, AllocError>
+fn cells_of(alloc: Global, lines: u64, parts: Vec<Accumulator>) -> Result<Vec<Cell>, AllocError>
     ensures { IfOk result (λ cells. map summary_of cells.items ≡ map (λ part. summary lines (state_in part)) parts.items) }
 {
     let mut cells = Vec::with_capacity(alloc, parts.len())?;

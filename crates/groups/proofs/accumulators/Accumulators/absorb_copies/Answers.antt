@@ -1,7 +1,6 @@
 use Rattle.std.proofs.Common.{◌≡◌, ◌+◌, ◌<◌, ℕ, zero, suc, List, [], ◌∷◌, drop, get_or, set, length, map, refl, sym, ap, subst, ◌∙◌, arith, add-one, length-set}
 use Rattle.std.proofs.lemmas.List.{length-map}
 use Rattle.groups.specs.declared.accumulator.Accumulator.{Accumulator}
-use Rattle.groups.proofs.Writes.{found-at, written}
 use Rattle.groups.specs.Inside.Accumulator.{AccumulatorState, state_in, IsWithin}
 use Rattle.groups.specs.Inside.Group.{GroupState, all_joined, IsSound}
 use Rattle.groups.proofs.Keeping.{all_joined-sound, more-sound, sound-set, unbounded-within, joined_from, joined_from-within, joined_from-step, joined_from-end, joined_from-room}
@@ -49,14 +48,12 @@ absorb_copies-requires c =
     let start : IsSound old.lines old.parts = subst (λ (h : GroupState). IsSound h.lines h.parts) c.self.view_is c.self.invariant in
     let more : IsSound other.lines other.parts = subst (λ (h : GroupState). IsSound h.lines h.parts) c.other.view_is c.other.invariant in
     let xs = c.deref-part-items.result.now in
-    let v : map state_in xs ≡ other.parts = ap (map state_in) c.deref-part-items.ensures ∙ ap (λ (h : GroupState). h.parts) c.other.view_is in
+    let v : map state_in xs ≡ other.parts = ap (map state_in) c.deref-part-items.ensures.value ∙ ap (λ (h : GroupState). h.parts) c.other.view_is in
     let l : length xs ≡ length other.parts = sym (length-map xs state_in) ∙ ap length v in
     let next : drop place other.parts ≡ part ∷ drop (suc place) other.parts = next-part xs other.parts place c.part-item.result v c.loop-place-test.true c.part-item.is in
     let at : joined_from place (map state_in items) (part ∷ drop (suc place) other.parts) ≡ all_joined old.parts other.parts = ap (joined_from place (map state_in items)) (sym next) ∙ i.rest in
-    let item = get_or c.deref_mut.result.now place c.index-deref_mut-place.result in
-    let at-place : item ≡ get_or items place item = found-at c.deref_mut.result.now items place c.index-deref_mut-place.result c.deref_mut.ensures.value c.index-deref_mut-place.is in
-    joined_from-room (old.lines + other.lines) place items part (drop (suc place) other.parts) item
-    (omega (arith, c.loop-place-test.true, l, i.one_each)) at-place c.requires.room
+    joined_from-room (old.lines + other.lines) place items part (drop (suc place) other.parts) c.index_mut.result.now
+    (omega (arith, c.loop-place-test.true, l, i.one_each)) c.index_mut.ensures.value c.requires.room
     (subst (λ (ks : List AccumulatorState). IsSound (old.lines + other.lines) ks) (sym at) (all_joined-sound old.lines other.lines old.parts other.parts start more))
 
 pub loop-place-preserved : goal.loop-place-preserved
@@ -72,27 +69,22 @@ loop-place-preserved c =
     let start : IsSound old.lines old.parts = subst (λ (h : GroupState). IsSound h.lines h.parts) c.self.view_is c.self.invariant in
     let more : IsSound other.lines other.parts = subst (λ (h : GroupState). IsSound h.lines h.parts) c.other.view_is c.other.invariant in
     let xs = c.deref-part-items.result.now in
-    let v : map state_in xs ≡ other.parts = ap (map state_in) c.deref-part-items.ensures ∙ ap (λ (h : GroupState). h.parts) c.other.view_is in
+    let v : map state_in xs ≡ other.parts = ap (map state_in) c.deref-part-items.ensures.value ∙ ap (λ (h : GroupState). h.parts) c.other.view_is in
     let l : length xs ≡ length other.parts = sym (length-map xs state_in) ∙ ap length v in
     let here : place < length items = omega (arith, c.loop-place-test.true, l, i.one_each) in
     let next : drop place other.parts ≡ part ∷ rest = next-part xs other.parts place c.part-item.result v c.loop-place-test.true c.part-item.is in
     let at : joined_from place (map state_in items) (part ∷ rest) ≡ all_joined old.parts other.parts = ap (joined_from place (map state_in items)) (sym next) ∙ i.rest in
     let all : IsSound lines (joined_from place (map state_in items) (part ∷ rest)) =
     subst (λ (ks : List AccumulatorState). IsSound lines ks) (sym at) (all_joined-sound old.lines other.lines old.parts other.parts start more) in
-    let item = get_or c.deref_mut.result.now place c.index-deref_mut-place.result in
-    let at-place : item ≡ get_or items place item = found-at c.deref_mut.result.now items place c.index-deref_mut-place.result c.deref_mut.ensures.value c.index-deref_mut-place.is in
-    let w = written c.loop-place.self-inside.parts c.deref_mut.result.now place c.absorb_copies.new.self c.deref_mut.ensures.value in
     record {
-      rest = ap (λ (xs : List Accumulator). joined_from (place + 1) (map state_in xs) (drop (place + 1) other.parts)) w
-          ∙ ap (λ n. joined_from n (map state_in (set items place c.absorb_copies.new.self)) (drop n other.parts)) (add-one place)
-          ∙ joined_from-step place items part rest item c.absorb_copies.new.self here at-place c.in_ok-absorb_copies.ensures.joined
+      rest = ap (λ n. joined_from n (map state_in (set items place c.absorb_copies.new.self)) (drop n other.parts)) (add-one place)
+          ∙ joined_from-step place items part rest c.index_mut.result.now c.absorb_copies.new.self here c.index_mut.ensures.value c.in_ok-absorb_copies.ensures.joined
           ∙ at;
-      one_each = i.one_each ∙ sym (ap length w ∙ length-set items place c.absorb_copies.new.self);
+      one_each = i.one_each ∙ sym (length-set items place c.absorb_copies.new.self);
       lines = i.lines;
-      sound = subst (λ (xs : List Accumulator). IsSound lines (map state_in xs)) (sym w)
-          (sound-set lines place items c.absorb_copies.new.self i.sound
+      sound = sound-set lines place items c.absorb_copies.new.self i.sound
           (subst (λ (k : AccumulatorState). IsWithin lines k) (sym c.in_ok-absorb_copies.ensures.joined)
-          (joined_from-within lines place items part rest item here at-place all)));
+          (joined_from-within lines place items part rest c.index_mut.result.now here c.index_mut.ensures.value all));
     }
 
 pub invariant_of-self-in_err-absorb_copies : goal.invariant_of-self-in_err-absorb_copies
@@ -101,10 +93,8 @@ invariant_of-self-in_err-absorb_copies c =
     let place = c.loop-place.place in
     let i = c.loop-place.invariant in
     let lines = c.args.self.now.lines + c.args.other.now.lines in
-    let w = written c.loop-place.self-inside.parts c.deref_mut.result.now place c.absorb_copies.new.self c.deref_mut.ensures.value in
-    subst (λ (xs : List Accumulator). IsSound c.loop-place.self-inside.lines (map state_in xs)) (sym w)
-    (subst (λ n. IsSound n (map state_in (set items place c.absorb_copies.new.self))) (sym i.lines)
-    (sound-set lines place items c.absorb_copies.new.self i.sound (unbounded-within lines (state_in c.absorb_copies.new.self) c.in_err-absorb_copies.ensures.unbounded)))
+    subst (λ n. IsSound n (map state_in (set items place c.absorb_copies.new.self))) (sym i.lines)
+    (sound-set lines place items c.absorb_copies.new.self i.sound (unbounded-within lines (state_in c.absorb_copies.new.self) c.in_err-absorb_copies.ensures.unbounded))
 
 pub returns : goal.returns
 returns c =
@@ -114,7 +104,7 @@ returns c =
     let place = c.loop-place.place in
     let items = c.loop-place.self-inside.parts.items in
     let xs = c.deref-part-items.result.now in
-    let v : map state_in xs ≡ other.parts = ap (map state_in) c.deref-part-items.ensures ∙ ap (λ (h : GroupState). h.parts) c.other.view_is in
+    let v : map state_in xs ≡ other.parts = ap (map state_in) c.deref-part-items.ensures.value ∙ ap (λ (h : GroupState). h.parts) c.other.view_is in
     let l : length xs ≡ length other.parts = sym (length-map xs state_in) ∙ ap length v in
     let none : drop place other.parts ≡ [] = all-dropped place other.parts (omega (arith, c.loop-place-test.false, c.loop-place.auto.place-end, l)) in
     let all : map state_in items ≡ all_joined old.parts other.parts = sym (joined_from-end place (map state_in items)) ∙ ap (joined_from place (map state_in items)) (sym none) ∙ i.rest in

@@ -1,10 +1,8 @@
-use Rattle.std.proofs.Common.{None, ◌≡◌, ◌+◌, ◌<◌, ◌^◌, List, set, get_or, length, map, sym, ap, subst, ◌∙◌, arith, add-one, length-set}
+use Rattle.std.proofs.Common.{None, ◌≡◌, ◌+◌, ◌<◌, ◌^◌, List, set, length, map, sym, ap, subst, ◌∙◌, arith, add-one, length-set}
 use Rattle.std.proofs.lemmas.List.{length-map}
 use Rattle.values.specs.Datum.{data_of}
 use Rattle.query_check.specs.declared.function.ColumnFunction.TheVariants.{CountRows}
 use Rattle.query_check.specs.declared.function.FilteredFunction.{FilteredFunction}
-use Rattle.groups.specs.declared.accumulator.Accumulator.{Accumulator}
-use Rattle.groups.proofs.Writes.{found-at, written}
 use Rattle.groups.specs.Inside.Accumulator.{AccumulatorState, state_in, IsWithin}
 use Rattle.groups.specs.Inside.Group.{GroupState, all_with_row, IsSound}
 use Rattle.groups.proofs.Keeping.{all_with_row-sound, more-sound, sound-set, unbounded-within, taken_from, taken_from-step, taken_from-all, taken_from-within, taken_from-room}
@@ -35,11 +33,8 @@ add-requires c =
     let start : IsSound old.lines old.parts = subst (λ (h : GroupState). IsSound h.lines h.parts) c.self.view_is c.self.invariant in
     let sound : IsSound (old.lines + 1) (taken_from c.loop-place.place fs marks (map state_in c.loop-place.self-inside.parts.items) row) =
     subst (λ (ks : List AccumulatorState). IsSound (old.lines + 1) ks) (sym i.rest) (all_with_row-sound old.lines fs marks old.parts row start c.requires.narrow) in
-    let items = c.loop-place.self-inside.parts.items in
-    let item = get_or c.deref_mut.result.now c.loop-place.place c.index-deref_mut-place.result in
-    let at-place : item ≡ get_or items c.loop-place.place item = found-at c.deref_mut.result.now items c.loop-place.place c.index-deref_mut-place.result c.deref_mut.ensures.value c.index-deref_mut-place.is in
-    taken_from-room (old.lines + 1) c.loop-place.place fs marks c.loop-place.self-inside.parts.items row none item
-    c.loop-place-test.true (omega (arith, c.loop-place-test.true, i.one_each)) at-place bound sound
+    taken_from-room (old.lines + 1) c.loop-place.place fs marks c.loop-place.self-inside.parts.items row none c.index_mut.result.now
+    c.loop-place-test.true (omega (arith, c.loop-place-test.true, i.one_each)) c.index_mut.ensures.value bound sound
 
 pub loop-place-preserved : goal.loop-place-preserved
 loop-place-preserved c =
@@ -54,21 +49,16 @@ loop-place-preserved c =
     let all : IsSound (old.lines + 1) (taken_from place fs marks (map state_in items) row) =
     subst (λ (ks : List AccumulatorState). IsSound (old.lines + 1) ks) (sym i.rest) (all_with_row-sound old.lines fs marks old.parts row start c.requires.narrow) in
     let here : place < length items = omega (arith, c.loop-place-test.true, i.one_each) in
-    let item = get_or c.deref_mut.result.now place c.index-deref_mut-place.result in
-    let at-place : item ≡ get_or items place item = found-at c.deref_mut.result.now items place c.index-deref_mut-place.result c.deref_mut.ensures.value c.index-deref_mut-place.is in
-    let w = written c.loop-place.self-inside.parts c.deref_mut.result.now place c.add.new.self c.deref_mut.ensures.value in
     record {
-      rest = ap (λ (xs : List Accumulator). taken_from (place + 1) fs marks (map state_in xs) row) w
-          ∙ ap (λ n. taken_from n fs marks (map state_in (set items place c.add.new.self)) row) (add-one place)
-          ∙ taken_from-step place fs marks items row none item c.add.new.self
-          c.loop-place-test.true here at-place c.in_ok-add.ensures.added
+      rest = ap (λ n. taken_from n fs marks (map state_in (set items place c.add.new.self)) row) (add-one place)
+          ∙ taken_from-step place fs marks items row none c.index_mut.result.now c.add.new.self
+          c.loop-place-test.true here c.index_mut.ensures.value c.in_ok-add.ensures.added
           ∙ i.rest;
-      one_each = ap length w ∙ length-set items place c.add.new.self ∙ i.one_each;
+      one_each = length-set items place c.add.new.self ∙ i.one_each;
       lines = i.lines;
-      sound = subst (λ (xs : List Accumulator). IsSound (old.lines + 1) (map state_in xs)) (sym w)
-          (sound-set (old.lines + 1) place items c.add.new.self i.sound
+      sound = sound-set (old.lines + 1) place items c.add.new.self i.sound
           (subst (λ (k : AccumulatorState). IsWithin (old.lines + 1) k) (sym c.in_ok-add.ensures.added)
-          (taken_from-within (old.lines + 1) place fs marks items row none item c.loop-place-test.true here at-place all)));
+          (taken_from-within (old.lines + 1) place fs marks items row none c.index_mut.result.now c.loop-place-test.true here c.index_mut.ensures.value all));
     }
 
 pub invariant_of-self-in_err-add : goal.invariant_of-self-in_err-add
@@ -76,10 +66,8 @@ invariant_of-self-in_err-add c =
     let items = c.loop-place.self-inside.parts.items in
     let place = c.loop-place.place in
     let i = c.loop-place.invariant in
-    let w = written c.loop-place.self-inside.parts c.deref_mut.result.now place c.add.new.self c.deref_mut.ensures.value in
-    subst (λ (xs : List Accumulator). IsSound c.loop-place.self-inside.lines (map state_in xs)) (sym w)
-    (subst (λ n. IsSound n (map state_in (set items place c.add.new.self))) (sym i.lines)
-    (sound-set (c.args.self.now.lines + 1) place items c.add.new.self i.sound (unbounded-within (c.args.self.now.lines + 1) (state_in c.add.new.self) c.in_err-add.ensures.unbounded)))
+    subst (λ n. IsSound n (map state_in (set items place c.add.new.self))) (sym i.lines)
+    (sound-set (c.args.self.now.lines + 1) place items c.add.new.self i.sound (unbounded-within (c.args.self.now.lines + 1) (state_in c.add.new.self) c.in_err-add.ensures.unbounded))
 
 pub invariant_of-self : goal.invariant_of-self
 invariant_of-self c =
