@@ -57,8 +57,8 @@ pub(crate) fn in_order<'a>(
     groups_in(alloc, ordered)
 }
 
-/// As `in_order`. The groups are put in order in parts of so many, each by a thread of its own where one can be started,
-/// and the parts then together.
+/// As `in_order`. Where there are more groups than one part has, they are put in order in parts of so many, each by a thread
+/// of its own where one can be started, and the parts then together.
 pub(crate) fn in_order_among<'a, H: Threads + Sync>(
     rt: &H,
     alloc: Global,
@@ -70,6 +70,9 @@ pub(crate) fn in_order_among<'a, H: Threads + Sync>(
     requires size { 0 < size }
     ensures { IfOk result (λ v. map (λ r. row_of r.now) v.items ≡ in_order (before (fields_of_plan plan.now) (form_of_plan plan.now)) (map (λ r. row_of r.now) rows.entry.items)) }
 {
+    if rows.len() <= size {
+        return in_order(alloc, plan, rows);
+    }
     let parts = parts_in_order(rt, alloc, plan, rows.as_slice(), size)?;
     let ranked = joined(Vec::with_capacity(alloc, rows.len())?, parts)?;
     let ordered = sorted(plan, ranked)?;
