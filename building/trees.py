@@ -1,4 +1,4 @@
-"""The crates of the repository, and small trees in which one of them is checked.
+"""The crates of the repository, commands that work on one, and small trees in which one of them is checked.
 
 The toolchain lets one run at a time into a crate and into all crates below it. In a tree of its own, which has its
 sources and those of the crates below it, and links to the libraries of these, a crate is checked beside others.
@@ -6,6 +6,7 @@ sources and those of the crates below it, and links to the libraries of these, a
 import os
 import re
 import shutil
+import subprocess
 
 TOP = os.path.dirname(os.path.dirname(os.path.realpath(__file__)))
 SOURCES = ("src", "specs", "proofs")
@@ -13,14 +14,20 @@ SOURCES = ("src", "specs", "proofs")
 BYTES_OF_A_CHECK = 3_500_000_000
 
 
-def crates():
-    """The crates of crates.txt: of each those of the repository that it names."""
+def words_of():
+    """The crates of crates.txt: of each the libraries that it names."""
     named = {}
     with open(f"{TOP}/crates.txt", encoding="utf-8") as lines:
         for line in lines:
             head, colon, below = line.partition("#")[0].partition(":")
             if colon:
                 named[head.split()[0]] = below.split()
+    return named
+
+
+def crates():
+    """The crates of crates.txt: of each those of the repository that it names."""
+    named = words_of()
     return {name: [it for it in below if it in named] for name, below in named.items()}
 
 
@@ -44,6 +51,22 @@ def is_program(name):
 
 def out_of(name):
     return f"{TOP}/crates/{name}/out"
+
+
+def log_of(name):
+    return f"{out_of(name)}/building.log"
+
+
+def run(words, folder, name, niceness=0):
+    """Starts a command, whose words go to the log of a crate, so much behind others that want the processors."""
+
+    def begin():
+        os.setpgid(0, 0)
+        os.nice(niceness)
+
+    os.makedirs(out_of(name), exist_ok=True)
+    with open(log_of(name), "wb") as log:
+        return subprocess.Popen(words, cwd=folder, stdin=subprocess.DEVNULL, stdout=log, stderr=log, preexec_fn=begin)
 
 
 def places():
