@@ -11,6 +11,7 @@ mod Examples
 pub mod Filtering
 pub mod RowValues
 pub mod Keeping
+mod Arranged
 mod RowSets
 mod Sources
 mod InParts
