@@ -1,7 +1,8 @@
 """Proving crates over what those below them state, and building a program over them.
 
 The compiler is called itself: of a library it writes what the crates above it can cite, without the proofs, so that none
-of these is read again. Such a library is for the program alone; a check of the toolchain's `rt` makes its own.
+of these is read again. Such a library is for the program alone; a check of the toolchain's `rt` makes its own. It lies in
+crates/*/out/rlib, beside that one, since `rt` takes sources that lie elsewhere for such as nobody reads.
 """
 import hashlib
 import os
@@ -13,8 +14,12 @@ from trees import SOURCES, TOP, crates, is_program, log_of, out_of, run, stands_
 TARGET = "x86_64-unknown-linux-gnu"
 
 
+def folder_of(name):
+    return f"{out_of(name)}/rlib/statements"
+
+
 def library_of(name):
-    return f"{out_of(name)}/statements/{name}.rlib"
+    return f"{folder_of(name)}/{name}.rlib"
 
 
 def program_of(name):
@@ -22,7 +27,7 @@ def program_of(name):
 
 
 def stamp_file_of(name):
-    return f"{out_of(name)}/statements/stamp"
+    return f"{folder_of(name)}/stamp"
 
 
 def sum_of_program(name):
@@ -70,15 +75,15 @@ class Statements:
 
     def start(self, name, jobs, niceness):
         """Starts to prove a crate by so many jobs."""
-        shutil.rmtree(f"{out_of(name)}/statements", ignore_errors=True)
-        os.makedirs(f"{out_of(name)}/statements")
+        shutil.rmtree(folder_of(name), ignore_errors=True)
+        os.makedirs(folder_of(name))
         self.begun[name] = self.stamp(name)
         root = "src/main.rt" if is_program(name) else "src/lib.rt"
         words = [f"{self.kit}/bin/rattle", "build", "--crate-name", name, root, "--links", f"{name}=", "--jobs", str(jobs)]
         words += ["--antt-project", f"{self.kit}/rattle/logic/antt-project.json", "--logic-built", f"{self.kit}/logic_built"]
         for it in ["std", *self.words[name]]:
             words += ["--extern", f"{it}={library_of(it) if it in self.words else f'{self.kit}/rlibs/{it}.rlib'}"]
-        for it in [f"{self.kit}/rlibs", *[os.path.dirname(library_of(it)) for it in stands_on(name, self.crates)[:-1]]]:
+        for it in [f"{self.kit}/rlibs", *[folder_of(it) for it in stands_on(name, self.crates)[:-1]]]:
             words += ["-L", f"dependency={it}"]
         if is_program(name):
             words += ["--toolchain", f"{self.kit}/toolchain", "--backend", "llvm", "-o", f"{program_of(name)}.o"]

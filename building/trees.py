@@ -106,5 +106,7 @@ def lay_out(tree, name, below):
     for it in below:
         copy_sources(it, tree)
         shutil.rmtree(f"{tree}/crates/{it}/out", ignore_errors=True)
-        shutil.copytree(f"{out_of(it)}/rlib", f"{tree}/crates/{it}/out/rlib", copy_function=link)
+        # What the program was built over lies there too.
+        others = lambda at, _: ["statements"] if at == f"{out_of(it)}/rlib" else []
+        shutil.copytree(f"{out_of(it)}/rlib", f"{tree}/crates/{it}/out/rlib", ignore=others, copy_function=link)
     copy_sources(name, tree)
