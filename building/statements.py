@@ -46,13 +46,17 @@ def files_of(name):
             yield from (f"{at}/{it}" for it in sorted(files))
 
 
+def toolchain():
+    """The folder of the toolchain, in which its command `rt` and the compiler stand; None where there is no compiler."""
+    kit = os.path.dirname(os.path.dirname(os.path.realpath(shutil.which("rt") or "")))
+    return kit if os.access(f"{kit}/bin/rattle", os.X_OK) else None
+
+
 class Statements:
     """Crates, each of which is proved once, in its own folder."""
 
-    def __init__(self):
-        self.words, self.crates, self.begun = words_of(), crates(), {}
-        # The compiler and what it reads stand beside the toolchain's own command.
-        self.kit = os.path.dirname(os.path.dirname(os.path.realpath(shutil.which("rt"))))
+    def __init__(self, kit):
+        self.kit, self.words, self.crates, self.begun = kit, words_of(), crates(), {}
         self.version = subprocess.run(["rt", "version"], stdout=subprocess.PIPE, check=True).stdout
 
     def stamp(self, name):
