@@ -1,12 +1,15 @@
 -- The pieces of a round that is cut, and the result over the rounds so far. Private calls alone speak of them.
-use Rattle.std.specs.Prelude.{◌≡◌, ◌⊎◌, ◌<◌, ◌≤◌, true, ℕ, List, Option, length, option_map}
+use Rattle.std.specs.Prelude.{◌≡◌, ◌⊎◌, ◌<◌, ◌≤◌, ◌+◌, ◌-◌, ◌*◌, Bool, true, false, if◌then◌else◌, ℕ, All, List, Ok, Option, length, option_map, vec_len}
 use Rattle.std.specs.Io.KnownBytes.{Consumes}
+use Rattle.std.specs.declared.alloc.Global.{Global}
+use Rattle.std.specs.declared.vec.Vec.{Vec}
 use Rattle.values.specs.Schema.{Field}
 use Rattle.lines.specs.Pieces.{AreWholeLines}
-use Rattle.lines.specs.Rounds.{RoundsState}
+use Rattle.lines.specs.Rounds.{HasMoved, RoundState, RoundsState}
 use Rattle.lines.specs.Trim.{trim}
 use Rattle.pool.specs.declared.laws.Outcome.{Outcome}
 use Rattle.pool.specs.declared.laws.Outcome.TheVariants.{Whole, Over}
+use Rattle.gathering.specs.Gathered.{IsWhole}
 use Rattle.query_tree.specs.Syntax.{TreeForm}
 use Rattle.tables.specs.declared.partial.Partial.{Partial}
 use Rattle.tables.specs.Partials.{StandsFor, StandsForInput}
@@ -33,3 +36,18 @@ pub record StandsForRounds {R : Type 0} (fields : List Field) (q : TreeForm) (kn
   pub count : rounds.given ≡ length bytes
   pub ends : AreWholeLines bytes ⊎ (rounds.over ≡ true)
   pub within : partial.refused ≤ limit
+
+-- While a round is worked on, the next one is read. Where one was read, the result stands for all rounds before it; else it stands for all that the reader gives.
+-- The buffers are as long as a round may be; there are as many shares as workers, and none has reported more lines than were refused, which are within the limit.
+pub record IsAhead {R S : Type 0} (fields : List Field) (q : TreeForm) (known : Option (List ℕ)) (limit longest workers : ℕ) (sum : S → ℕ) (whole : PartialState) (rounds : RoundsState R) (found : Bool) (buffer : RoundState) (parts : Vec S Global) : Type 0 where
+  pub size : rounds.size ≡ longest
+  pub spare : buffer.size ≡ longest
+  pub more : found ≡ true → (old : RoundsState R) × StandsForRounds fields q known limit old whole × HasMoved old (Ok true) rounds
+  pub none : found ≡ false → IsWhole fields q known whole
+  pub within : whole.refused ≤ limit
+  pub hands : vec_len parts ≡ workers
+  pub reported : All (λ share. sum share ≤ whole.refused) parts.items
+
+-- At most so many turns are left: each reads a round, which has a byte of an input of fewer than 2^63, or finds that there is none and is the last.
+abbrev pub most_turns : {R : Type 0} → RoundsState R → Bool → ℕ
+most_turns rounds found = 2 * (9223372036854775808 - rounds.given) + (if found then 1 else 0)

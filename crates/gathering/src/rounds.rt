@@ -1,11 +1,12 @@
 //! The result of a query over an input that is read in rounds.
-ghost use Rattle.std.specs.Prelude.{◌≡◌, ◌≢◌, ◌+◌, ◌<◌, ◌≤◌, ◌^◌, ◌⊎◌, All, IfErr, IfOk, length, vec_len};
+ghost use Rattle.std.specs.Prelude.{◌≡◌, ◌≢◌, ◌+◌, ◌<◌, ◌≤◌, ◌^◌, ◌⊎◌, true, ℕ, All, IfErr, IfOk, List, Option, length, vec_len};
 ghost use Rattle.query_plan.specs.Planned.{fields_of_plan, form_of_plan};
 ghost use Rattle.lines.specs.Rounds.{HasMoved};
 ghost use Rattle.lines.specs.Input.{refused};
 ghost use Rattle.tables.specs.Partials.{StandsForInput};
 ghost use Rattle.gathering.specs.Gathered.{IsWhole, limit_number};
 ghost use Rattle.gathering.specs.Faults.{IsWant, Refuses, Stops};
+ghost use Rattle.gathering.specs.Pieces.{IsAhead, most_turns};
 
 use crate::fault::GatherFault;
 use crate::working::{round_among, within_limit};
@@ -88,8 +89,7 @@ pub fn gather<R: Read + Drop + Send, H: Threads + Wait + Sync>(
 }
 
 /// The same with one book of refused lines over all rounds, whose ledger is L, and with two buffers: while a round is
-/// worked on, the next one is read into the other. What the work answers is looked at first, so that a read that fails
-/// tells nothing before the limit of refused lines does.
+/// worked on, the next one is read into the other.
 fn reading_ahead<L: Ledger + Send + Sync, R: Read + Drop + Send, H: Threads + Wait + Sync>(
     rt: &H,
     alloc: Global,
@@ -104,26 +104,101 @@ fn reading_ahead<L: Ledger + Send + Sync, R: Read + Drop + Send, H: Threads + Wa
     ensures limit { IfOk result (λ partial. partial.refused ≤ limit_number options.max_refused) }
     ensures fault { IfErr result (λ fault. Stops fault options.max_refused (fields_of_plan plan.now) (R.remaining reader)) }
 {
-    let (book, mut shares) = Book::<L>::new(alloc, blank, options.workers())?;
-    let mut rounds = Rounds::new(alloc, reader, options.round())?;
-    let mut spare = Round::new(alloc, options.round())?;
-    let mut whole = Partial::empty(alloc, plan)?;
-    let mut found = rounds.advance()?;
-    while found {
-        let before = whole.refused();
-        let round = rounds.hand_out(spare);
-        let Beside { read, kept, worked } = round_beside(
-            rt, alloc, plan, options, before, rounds, &round, &book, shares,
-        );
-        let (more, back) = worked?;
-        whole = whole.follow(more)?;
-        shares = back;
-        rounds = kept;
-        spare = round;
-        found = read?;
+    let (book, shares) = Book::<L>::new(alloc, blank, options.workers())?;
+    let mut ahead = first_ahead(alloc, plan, options, reader, shares)?;
+    while ahead.found {
+        ahead = work_ahead(rt, alloc, plan, options, &book, ahead)?;
     }
+    let Ahead { whole, shares, .. } = ahead;
     book.close(shares);
     Ok(whole)
+}
+
+/// How far an input has come of which a round is read while the one before is worked on.
+#[derive(Drop)]
+struct Ahead<L: Ledger, R: Read + Drop> {
+    /// The result of the rounds that were worked on.
+    whole: Partial,
+    /// The input, and the round that was read, which is still to be worked on.
+    rounds: Rounds<R>,
+    /// Whether there was such a round: else all of the input was worked on.
+    found: bool,
+    /// A buffer for the round after it.
+    spare: Round,
+    shares: Vec<Share<L>>,
+}
+
+/// Reads the first round.
+fn first_ahead<L: Ledger, R: Read + Drop>(
+    alloc: Global,
+    plan: &Plan,
+    options: Options,
+    reader: R,
+    shares: Vec<Share<L>>,
+) -> Result<Ahead<L, R>, GatherFault>
+    requires hands { vec_len shares ≡ options.workers }
+    requires none { All (λ share. share.sum ≤ 0) shares.items }
+    ensures ahead { IfOk result (λ ahead. IsAhead (fields_of_plan plan.now) (form_of_plan plan.now) (R.remaining reader) (limit_number options.max_refused) options.round options.workers (λ share. share.sum)
+        ahead.whole ahead.rounds ahead.found ahead.spare ahead.shares) }
+    ensures fault { IfErr result (λ fault. Stops fault options.max_refused (fields_of_plan plan.now) (R.remaining reader)) }
+{
+    let mut rounds = Rounds::new(alloc, reader, options.round())?;
+    let spare = Round::new(alloc, options.round())?;
+    let whole = Partial::empty(alloc, plan)?;
+    let found = rounds.advance()?;
+    Ok(Ahead {
+        whole,
+        rounds,
+        found,
+        spare,
+        shares,
+    })
+}
+
+/// Works on the round that was read, and reads the next one meanwhile. What the work answers is looked at first, so that
+/// a read that fails tells nothing before the limit of refused lines does.
+fn work_ahead<L: Ledger + Send + Sync, R: Read + Drop + Send, H: Threads + Wait + Sync>(
+    rt: &H,
+    alloc: Global,
+    plan: &Plan,
+    options: Options,
+    book: &Book<L>,
+    ahead: Ahead<L, R>,
+) -> Result<Ahead<L, R>, GatherFault>
+    requires found { ahead.found ≡ true }
+    requires ahead { (known : Option (List ℕ)) × IsAhead (fields_of_plan plan.now) (form_of_plan plan.now) known (limit_number options.max_refused) options.round options.workers (λ share. share.sum)
+        ahead.whole ahead.rounds ahead.found ahead.spare ahead.shares }
+    ensures ahead { (known : Option (List ℕ)) → IsAhead (fields_of_plan plan.now) (form_of_plan plan.now) known (limit_number options.max_refused) options.round options.workers (λ share. share.sum)
+        ahead.whole ahead.rounds ahead.found ahead.spare ahead.shares
+        → IfOk result (λ next. IsAhead (fields_of_plan plan.now) (form_of_plan plan.now) known (limit_number options.max_refused) options.round options.workers (λ share. share.sum)
+        next.whole next.rounds next.found next.spare next.shares) }
+    ensures fault { (known : Option (List ℕ)) → IsAhead (fields_of_plan plan.now) (form_of_plan plan.now) known (limit_number options.max_refused) options.round options.workers (λ share. share.sum)
+        ahead.whole ahead.rounds ahead.found ahead.spare ahead.shares
+        → IfErr result (λ fault. Stops fault options.max_refused (fields_of_plan plan.now) known) }
+    ensures fewer { IfOk result (λ next. most_turns next.rounds next.found < most_turns ahead.rounds ahead.found) }
+{
+    let Ahead {
+        whole,
+        mut rounds,
+        spare,
+        shares,
+        ..
+    } = ahead;
+    let before = whole.refused();
+    let round = rounds.hand_out(spare);
+    let Beside { read, kept, worked } = round_beside(
+        rt, alloc, plan, options, before, rounds, &round, book, shares,
+    );
+    let (more, shares) = worked?;
+    let whole = whole.follow(more)?;
+    let found = read?;
+    Ok(Ahead {
+        whole,
+        rounds: kept,
+        found,
+        spare: round,
+        shares,
+    })
 }
 
 /// Reads on to the next round, and hands the input back.
