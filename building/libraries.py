@@ -18,7 +18,7 @@ class Libraries:
         """Whether that is known without a run. The toolchain looks by itself for what it may keep."""
         return False
 
-    def start(self, name, jobs, niceness):
+    def start(self, name, jobs):
         """Starts to prove a crate by so many jobs, over what an earlier run kept."""
         tree = f"{out_of(name)}/proving"
         lay_out(tree, name, stands_on(name, self.crates)[:-1])
@@ -28,7 +28,7 @@ class Libraries:
             for part in ("incremental", "rlib"):
                 if os.path.isdir(f"{out_of(name)}/{part}"):
                     os.rename(f"{out_of(name)}/{part}", f"{kept}/{part}")
-        return run(["rt", "lib", "--jobs", str(jobs)], f"{tree}/crates/{name}", name, niceness)
+        return run(["rt", "lib", "--jobs", str(jobs)], f"{tree}/crates/{name}", name)
 
     def ended(self, name, status):
         """Puts what was made of a crate where the toolchain looks for it, proved or not, and clears its tree."""

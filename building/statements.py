@@ -77,7 +77,7 @@ class Statements:
         except FileNotFoundError:
             return False
 
-    def start(self, name, jobs, niceness):
+    def start(self, name, jobs):
         """Starts to prove a crate by so many jobs."""
         shutil.rmtree(folder_of(name), ignore_errors=True)
         os.makedirs(folder_of(name))
@@ -93,7 +93,7 @@ class Statements:
             words += ["--toolchain", f"{self.kit}/toolchain", "--backend", "llvm", "-o", f"{program_of(name)}.o"]
         else:
             words += ["--statements", "-o", library_of(name)]
-        return run(words, f"{TOP}/crates/{name}", name, niceness)
+        return run(words, f"{TOP}/crates/{name}", name)
 
     def ended(self, name, status):
         """Puts down that a crate is proved, where its run says so; a program is linked first. Whether all is well."""

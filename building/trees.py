@@ -57,16 +57,11 @@ def log_of(name):
     return f"{out_of(name)}/building.log"
 
 
-def run(words, folder, name, niceness=0):
-    """Starts a command, whose words go to the log of a crate, so much behind others that want the processors."""
-
-    def begin():
-        os.setpgid(0, 0)
-        os.nice(niceness)
-
+def run(words, folder, name):
+    """Starts a command in a group of processes of its own, whose words go to the log of a crate."""
     os.makedirs(out_of(name), exist_ok=True)
     with open(log_of(name), "wb") as log:
-        return subprocess.Popen(words, cwd=folder, stdin=subprocess.DEVNULL, stdout=log, stderr=log, preexec_fn=begin)
+        return subprocess.Popen(words, cwd=folder, stdin=subprocess.DEVNULL, stdout=log, stderr=log, preexec_fn=os.setpgrp)
 
 
 def places():
