@@ -11,13 +11,14 @@ ghost use Rattle.gathering.specs.Pieces.{IsAhead, most_turns};
 use crate::fault::GatherFault;
 use crate::working::{round_among, within_limit};
 use command_line::Options;
-use lines::{ReadFault, Round, Rounds};
+use lines::{ReadFault, Round, Rounds, Waiter};
 use pool::{Book, Share};
 use query_plan::Plan;
 use std::alloc::Global;
 use std::io::Read;
 use std::marker::{Brand, Send, Sync};
 use std::sync::Wait;
+use std::sync::atomic::{AtomicBool, Ordering};
 use std::sync::ledger::{Blank, Ledger};
 use std::thread::{Threads, join};
 use tables::Partial;
@@ -201,12 +202,15 @@ fn work_ahead<L: Ledger + Send + Sync, R: Read + Drop + Send, H: Threads + Wait 
     })
 }
 
-/// Reads on to the next round, and hands the input back.
-fn read_on<R: Read + Drop>(rounds: Rounds<R>) -> (Result<bool, ReadFault>, Rounds<R>)
+/// Reads on to the next round, which ends early where it is waited for, and hands the input back.
+fn read_on<R: Read + Drop, W: Waiter>(
+    rounds: Rounds<R>,
+    waiter: &W,
+) -> (Result<bool, ReadFault>, Rounds<R>)
     ensures { HasMoved rounds result.0 result.1 }
 {
     let mut rounds = rounds;
-    let found = rounds.advance();
+    let found = rounds.advance_for(waiter);
     (found, rounds)
 }
 
@@ -221,6 +225,7 @@ struct Beside<L: Ledger, R: Read + Drop> {
 }
 
 /// Works on a round, and meanwhile reads the next one on a thread of its own, where the round may not be the last one.
+/// When the work is done, the next round ends early.
 fn round_beside<L: Ledger + Send + Sync, R: Read + Drop + Send, H: Threads + Wait + Sync>(
     rt: &H,
     alloc: Global,
@@ -244,6 +249,8 @@ fn round_beside<L: Ledger + Send + Sync, R: Read + Drop + Send, H: Threads + Wai
     ensures fault { IfErr result.worked (λ fault. IsWant fault
         ⊎ Refuses fault options.max_refused (before + length (refused (fields_of_plan plan.now) round.now.bytes))) }
 {
+    let done = AtomicBool::new(false);
+    let waiter = &done;
     if rounds.is_over() {
         let worked = round_among(
             rt,
@@ -255,19 +262,19 @@ fn round_beside<L: Ledger + Send + Sync, R: Read + Drop + Send, H: Threads + Wai
             book,
             shares,
         );
-        let (read, kept) = read_on(rounds);
+        let (read, kept) = read_on(rounds, waiter);
         return Beside { read, kept, worked };
     }
     let ((read, kept), worked) = join(
         rt,
-        move || read_on(rounds),
+        move || read_on(rounds, waiter),
         move || -> Result<(Partial, Vec<Share<L>>), GatherFault>
             requires short { before + length round.now.bytes < 2 ^ 63 }
             requires within { before ≤ limit_number options.max_refused }
             requires hands { (1 ≤ vec_len shares) × (vec_len shares ≤ 64) }
             requires reported { All (λ share. share.sum ≤ before) shares.items }
         {
-            round_among(
+            let worked = round_among(
                 rt,
                 alloc,
                 plan,
@@ -276,7 +283,9 @@ fn round_beside<L: Ledger + Send + Sync, R: Read + Drop + Send, H: Threads + Wai
                 round.bytes(),
                 book,
                 shares,
-            )
+            );
+            waiter.store(true, Ordering::Relaxed);
+            worked
         },
     );
     Beside { read, kept, worked }

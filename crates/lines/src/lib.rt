@@ -19,6 +19,6 @@ pub use fault::{LineFault, LineRefusal, ReadFault};
 pub use laws::{front_law, trim_law};
 pub use pieces::Piece;
 pub use reading::{RecordReader, read_record};
-pub use rounds::{Round, Rounds};
+pub use rounds::{Round, Rounds, Waiter};
 pub use splitting::{Lines, lines_of};
 pub use tree::read_by_tree;

@@ -1,5 +1,5 @@
 //! Reading an input in rounds of whole lines.
-ghost use Rattle.std.specs.Prelude.{◌≡◌, [], ◌+◌, ◌-◌, ◌<◌, ◌≤◌, ◌^◌, max, true, false, zero, IsTrue, IsFalse, IsErr, Ok, Err, None, Some, IfErr, IfOk, IfSome, OnOk, length, option_map, take, drop, vec_capacity, vec_len};
+ghost use Rattle.std.specs.Prelude.{◌≡◌, [], ◌+◌, ◌-◌, ◌<◌, ◌≤◌, ◌^◌, ◌⊎◌, max, true, false, zero, IsTrue, IsFalse, IsErr, Ok, Err, None, Some, IfErr, IfOk, IfSome, OnOk, length, option_map, take, drop, vec_capacity, vec_len};
 ghost use Rattle.std.specs.Io.KnownBytes.{Consumes, IsAtEnd, Keeps};
 ghost use Rattle.lines.specs.Holding.{IsBetween, IsHeld, left_behind, left_of, open_part, whole_lines};
 ghost use Rattle.lines.specs.Rounds.{HasMoved};
@@ -12,6 +12,7 @@ use std::alloc::{AllocError, Global};
 use std::io::Read;
 use std::marker::Model;
 use std::mem;
+use std::sync::atomic::{AtomicBool, Ordering};
 
 /// The number of bytes that an input stays below.
 const INPUT_LIMIT: usize = 0x8000_0000_0000_0000;
@@ -23,8 +24,33 @@ const SPARE: usize = 65_536;
 const STEP: usize = 1_048_576;
 
 /// How many bytes the first round has, about, where more may be held. Each further round has twice as many as the one
-/// before, so that work begins soon and the rounds of a long input are long.
+/// before, so that work begins soon and the rounds of a long input are long. A round that ends early, because it is
+/// waited for, has at least so many.
 const FIRST: usize = 8_388_608;
+
+/// Whoever a round is read for.
+///
+/// Example: a thread that works on the round before, and stores `true` in an `AtomicBool` when it is done.
+pub trait Waiter {
+    /// Whether they have nothing else to do until the round is there.
+    fn is_waiting(&self) -> bool;
+}
+
+impl Waiter for AtomicBool {
+    /// Whether `true` is stored.
+    fn is_waiting(&self) -> bool {
+        self.load(Ordering::Relaxed)
+    }
+}
+
+/// Nobody, who never waits.
+struct Nobody;
+
+impl Waiter for Nobody {
+    fn is_waiting(&self) -> bool {
+        false
+    }
+}
 
 /// One read into the buffer from place `at` on. It answers how many bytes the reader gave.
 fn read_at<R: Read>(reader: &mut R, buffer: &mut [u8], at: usize) -> Result<usize, ReadFault>
@@ -83,15 +109,17 @@ fn read_more<R: Read>(reader: &mut R, held: &mut Held, most: usize) -> Result<us
     Ok(count)
 }
 
-/// Reads until the whole lines come near to `aim` bytes or the input is at its end, and counts the bytes. It
-/// answers whether the input is at its end.
-fn fill<R: Read>(
+/// Reads until the whole lines come near to `aim` bytes, or have `FIRST` bytes and are waited for, or the input is at
+/// its end, and counts the bytes. It answers whether the input is at its end.
+fn fill<R: Read, W: Waiter>(
     reader: &mut R,
     held: &mut Held,
     aim: usize,
     size: usize,
     taken: &mut usize,
+    waiter: &W,
 ) -> Result<bool, ReadFault>
+    requires long { trimmed_len < aim }
     requires held { IsHeld held.old }
     requires within { held.old.cut ≤ aim }
     requires aim { aim ≤ size }
@@ -108,10 +136,15 @@ fn fill<R: Read>(
     ensures end { IfOk result (λ ended. IsTrue ended → IsAtEnd (R.remaining reader.new)) }
     ensures few { IfOk result (λ ended. IsTrue ended
         → (held.new.filled ≤ held.new.cut + trimmed_len) × (held.new.filled ≤ size)) }
-    ensures whole { IfOk result (λ ended. IsFalse ended → aim ≤ held.new.cut + trimmed_len) }
+    ensures some { IfOk result (λ ended. IsFalse ended → 0 < held.new.cut) }
+    ensures whole { IfOk result (λ ended. IsFalse ended
+        → (aim ≤ held.new.cut + trimmed_len) ⊎ (held.new.filled ≤ held.new.cut + trimmed_len)) }
 {
     settle(held, aim);
     while held.cut + TRIMMED_LEN < aim {
+        if held.cut >= FIRST && waiter.is_waiting() {
+            return Ok(false);
+        }
         let count = read_more(reader, held, size + SPARE)?;
         if count == 0 {
             return Ok(true);
@@ -127,12 +160,13 @@ fn fill<R: Read>(
 
 /// Lets go the round before, and holds the next round in front, of about `aim` bytes and at most `size`. It answers
 /// whether it is the last.
-fn turn<R: Read>(
+fn turn<R: Read, W: Waiter>(
     reader: &mut R,
     held: &mut Held,
     aim: usize,
     size: usize,
     taken: &mut usize,
+    waiter: &W,
 ) -> Result<bool, ReadFault>
     requires held { IsHeld held.old }
     requires long { trimmed_len < aim }
@@ -154,7 +188,7 @@ fn turn<R: Read>(
     ensures limit { OnOk result (taken.new < 2 ^ 63) }
 {
     release(held);
-    let ended = fill(reader, held, aim, size, taken)?;
+    let ended = fill(reader, held, aim, size, taken, waiter)?;
     if ended {
         held.cut = held.filled;
     } else if !held.full {
@@ -364,6 +398,20 @@ impl<R: Read + Drop> Rounds<R> {
     pub fn advance(&mut self) -> Result<bool, ReadFault>
         ensures { HasMoved self.old result self.new }
     {
+        self.advance_for(&Nobody)
+    }
+
+    /// The same for somebody who may wait for the round: it ends early, with 8,388,608 bytes or more, where they do.
+    ///
+    /// Example: with rounds of 67,108,864 bytes, over an input of 1,000,000,000 line feeds, the third round has
+    /// 33,554,432 bytes less at most 1,048,577, and 8,388,608 or little more where `waiter.is_waiting()` answers `true`.
+    ///
+    /// # Errors
+    ///
+    /// As for [`Rounds::advance`].
+    pub fn advance_for<W: Waiter>(&mut self, waiter: &W) -> Result<bool, ReadFault>
+        ensures { HasMoved self.old result self.new }
+    {
         if self.failed {
             return Err(ReadFault);
         }
@@ -371,7 +419,14 @@ impl<R: Read + Drop> Rounds<R> {
             return Ok(false);
         }
         let (aim, size) = (self.aim, self.size);
-        match turn(&mut self.reader, &mut self.held, aim, size, &mut self.taken) {
+        match turn(
+            &mut self.reader,
+            &mut self.held,
+            aim,
+            size,
+            &mut self.taken,
+            waiter,
+        ) {
             Ok(ended) => {
                 self.aim = size.min(aim.saturating_mul(2));
                 if self.held.cut == 0 {

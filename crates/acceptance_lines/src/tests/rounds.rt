@@ -6,6 +6,7 @@ use std::alloc::{AllocError, Global};
 use std::io;
 use std::io::{ErrorKind, Read};
 use std::process::Abort;
+use std::sync::atomic::AtomicBool;
 use std::test::Fail;
 
 /// The least size of a round: as much as is given of a line that is too long, and a line feed.
@@ -175,6 +176,24 @@ fn rounds_that_are_full(rt: HostRuntime) -> Result<(), Fail> {
             Ok(Some(round)) => assert_eq!(rt; round.len(), len),
             Ok(None) | Err(_) => panic!(rt; "no round"),
         }
+    }
+    Ok(())
+}
+
+/// A round that is waited for ends early, behind 8,388,608 bytes; else it comes near to twice the round before.
+#[test]
+fn rounds_that_are_waited_for(rt: HostRuntime) -> Result<(), Fail> {
+    let input = vec![in rt.alloc(); b'\n'; 30_000_000]?;
+    for (waits, least, most) in [
+        (true, 8_388_608, 9_600_000),
+        (false, 15_728_639, 16_777_216),
+    ] {
+        let waiter = AtomicBool::new(waits);
+        let mut rounds = Rounds::new(rt.alloc(), input.as_slice(), 33_554_432)?;
+        assert_eq!(rt; rounds.advance_for(&waiter), Ok(true));
+        assert_eq!(rt; rounds.advance_for(&waiter), Ok(true));
+        let len = rounds.round().len();
+        assert!(rt; least <= len && len <= most, "{len} bytes");
     }
     Ok(())
 }
