@@ -23,9 +23,8 @@ const SPARE: usize = 65_536;
 /// By how many bytes a buffer gets longer, until it has its length.
 const STEP: usize = 1_048_576;
 
-/// How many bytes the first round has, about, where more may be held. Each further round has twice as many as the one
-/// before, so that work begins soon and the rounds of a long input are long. A round that ends early, because it is
-/// waited for, has at least so many.
+/// How many bytes the first round has, about, where more may be held, so that work begins soon; and how many a round
+/// has at least that ends early, because it is waited for.
 const FIRST: usize = 8_388_608;
 
 /// Whoever a round is read for.
@@ -401,10 +400,10 @@ impl<R: Read + Drop> Rounds<R> {
         self.advance_for(&Nobody)
     }
 
-    /// The same for somebody who may wait for the round: it ends early, with 8,388,608 bytes or more, where they do.
+    /// The same for somebody who may wait for the round: where they do, it ends as soon as it has 8,388,608 bytes.
     ///
-    /// Example: with rounds of 67,108,864 bytes, over an input of 1,000,000,000 line feeds, the third round has
-    /// 33,554,432 bytes less at most 1,048,577, and 8,388,608 or little more where `waiter.is_waiting()` answers `true`.
+    /// Example: with rounds of 67,108,864 bytes, over an input of 1,000,000,000 line feeds, the second round has
+    /// 67,108,864 bytes less at most 1,048,577, and where `waiter.is_waiting()` answers `true`, 8,388,608 or little more.
     ///
     /// # Errors
     ///
@@ -428,7 +427,7 @@ impl<R: Read + Drop> Rounds<R> {
             waiter,
         ) {
             Ok(ended) => {
-                self.aim = size.min(aim.saturating_mul(2));
+                self.aim = size;
                 if self.held.cut == 0 {
                     return Ok(false);
                 }

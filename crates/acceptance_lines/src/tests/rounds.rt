@@ -180,7 +180,7 @@ fn rounds_that_are_full(rt: HostRuntime) -> Result<(), Fail> {
     Ok(())
 }
 
-/// A round that is waited for ends early, behind 8,388,608 bytes; else it comes near to twice the round before.
+/// A round that is waited for ends early, behind 8,388,608 bytes; else it comes near to the most that it may have.
 #[test]
 fn rounds_that_are_waited_for(rt: HostRuntime) -> Result<(), Fail> {
     let input = vec![in rt.alloc(); b'\n'; 30_000_000]?;
@@ -189,7 +189,7 @@ fn rounds_that_are_waited_for(rt: HostRuntime) -> Result<(), Fail> {
         (false, 15_728_639, 16_777_216),
     ] {
         let waiter = AtomicBool::new(waits);
-        let mut rounds = Rounds::new(rt.alloc(), input.as_slice(), 33_554_432)?;
+        let mut rounds = Rounds::new(rt.alloc(), input.as_slice(), 16_777_216)?;
         assert_eq!(rt; rounds.advance_for(&waiter), Ok(true));
         assert_eq!(rt; rounds.advance_for(&waiter), Ok(true));
         let len = rounds.round().len();
