@@ -24,7 +24,7 @@ const SPARE: usize = 65_536;
 const STEP: usize = 1_048_576;
 
 /// How many bytes the first round has, about, where more may be held, so that work begins soon; and how many a round
-/// has at least that ends early, because it is waited for.
+/// has about, at least, that ends early, because it is waited for.
 const FIRST: usize = 8_388_608;
 
 /// Whoever a round is read for.
@@ -108,17 +108,15 @@ fn read_more<R: Read>(reader: &mut R, held: &mut Held, most: usize) -> Result<us
     Ok(count)
 }
 
-/// Reads until the whole lines come near to `aim` bytes, or have `FIRST` bytes and are waited for, or the input is at
-/// its end, and counts the bytes. It answers whether the input is at its end.
-fn fill<R: Read, W: Waiter>(
+/// Reads until the whole lines come near to `aim` bytes or the input is at its end, and counts the bytes. It
+/// answers whether the input is at its end.
+fn fill<R: Read>(
     reader: &mut R,
     held: &mut Held,
     aim: usize,
     size: usize,
     taken: &mut usize,
-    waiter: &W,
 ) -> Result<bool, ReadFault>
-    requires long { trimmed_len < aim }
     requires held { IsHeld held.old }
     requires within { held.old.cut ≤ aim }
     requires aim { aim ≤ size }
@@ -135,15 +133,10 @@ fn fill<R: Read, W: Waiter>(
     ensures end { IfOk result (λ ended. IsTrue ended → IsAtEnd (R.remaining reader.new)) }
     ensures few { IfOk result (λ ended. IsTrue ended
         → (held.new.filled ≤ held.new.cut + trimmed_len) × (held.new.filled ≤ size)) }
-    ensures some { IfOk result (λ ended. IsFalse ended → 0 < held.new.cut) }
-    ensures whole { IfOk result (λ ended. IsFalse ended
-        → (aim ≤ held.new.cut + trimmed_len) ⊎ (held.new.filled ≤ held.new.cut + trimmed_len)) }
+    ensures whole { IfOk result (λ ended. IsFalse ended → aim ≤ held.new.cut + trimmed_len) }
 {
     settle(held, aim);
     while held.cut + TRIMMED_LEN < aim {
-        if held.cut >= FIRST && waiter.is_waiting() {
-            return Ok(false);
-        }
         let count = read_more(reader, held, size + SPARE)?;
         if count == 0 {
             return Ok(true);
@@ -155,6 +148,46 @@ fn fill<R: Read, W: Waiter>(
         settle(held, aim);
     }
     Ok(false)
+}
+
+/// Reads as `fill` does, first for about `FIRST` bytes and then for more, until the whole lines come near to `aim` bytes,
+/// or are waited for, or the input is at its end. It answers whether the input is at its end, and to how many bytes the
+/// whole lines were to come near at last.
+fn fill_for<R: Read, W: Waiter>(
+    reader: &mut R,
+    held: &mut Held,
+    aim: usize,
+    size: usize,
+    taken: &mut usize,
+    waiter: &W,
+) -> Result<(bool, usize), ReadFault>
+    requires held { IsHeld held.old }
+    requires within { held.old.cut ≤ aim }
+    requires aim { aim ≤ size }
+    requires len { vec_len held.old.buffer ≤ size + 65536 }
+    requires room { size + 65536 ≤ vec_capacity held.old.buffer }
+    requires limit { taken.old < 2 ^ 63 }
+    ensures held { OnOk result (IsHeld held.new) }
+    ensures left { OnOk result (Keeps (left_of held.old (R.remaining reader.old)) (left_of held.new (R.remaining reader.new))) }
+    ensures len { vec_len held.new.buffer ≤ size + 65536 }
+    ensures room { size + 65536 ≤ vec_capacity held.new.buffer }
+    ensures within { IfOk result (λ r. held.new.cut ≤ r.1) }
+    ensures near { IfOk result (λ r. r.1 ≤ aim) }
+    ensures long { IfOk result (λ r. trimmed_len < aim → trimmed_len < r.1) }
+    ensures taken { OnOk result (held.new.filled + taken.old ≤ held.old.filled + taken.new) }
+    ensures limit { OnOk result (taken.new < 2 ^ 63) }
+    ensures end { IfOk result (λ r. IsTrue r.0 → IsAtEnd (R.remaining reader.new)) }
+    ensures few { IfOk result (λ r. IsTrue r.0
+        → (held.new.filled ≤ held.new.cut + trimmed_len) × (held.new.filled ≤ size)) }
+    ensures whole { IfOk result (λ r. IsFalse r.0 → r.1 ≤ held.new.cut + trimmed_len) }
+{
+    let mut near = aim.min(held.cut.max(FIRST));
+    let mut ended = fill(reader, held, near, size, taken)?;
+    while !ended && near < aim && !waiter.is_waiting() {
+        near = aim.min(near.saturating_add(STEP));
+        ended = fill(reader, held, near, size, taken)?;
+    }
+    Ok((ended, near))
 }
 
 /// Lets go the round before, and holds the next round in front, of about `aim` bytes and at most `size`. It answers
@@ -187,11 +220,11 @@ fn turn<R: Read, W: Waiter>(
     ensures limit { OnOk result (taken.new < 2 ^ 63) }
 {
     release(held);
-    let ended = fill(reader, held, aim, size, taken, waiter)?;
+    let (ended, near) = fill_for(reader, held, aim, size, taken, waiter)?;
     if ended {
         held.cut = held.filled;
     } else if !held.full {
-        let window = held.filled.min(aim) - held.cut;
+        let window = held.filled.min(near) - held.cut;
         pass(held, window);
     }
     Ok(ended)
@@ -400,10 +433,11 @@ impl<R: Read + Drop> Rounds<R> {
         self.advance_for(&Nobody)
     }
 
-    /// The same for somebody who may wait for the round: where they do, it ends as soon as it has 8,388,608 bytes.
+    /// The same for somebody who may wait for the round: where they do, it ends as soon as it has about 8,388,608 bytes.
     ///
     /// Example: with rounds of 67,108,864 bytes, over an input of 1,000,000,000 line feeds, the second round has
-    /// 67,108,864 bytes less at most 1,048,577, and where `waiter.is_waiting()` answers `true`, 8,388,608 or little more.
+    /// 67,108,864 bytes less at most 1,048,577, and where `waiter.is_waiting()` answers `true`, 8,388,608 less at most
+    /// 1,048,577.
     ///
     /// # Errors
     ///

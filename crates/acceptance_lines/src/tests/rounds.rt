@@ -180,12 +180,12 @@ fn rounds_that_are_full(rt: HostRuntime) -> Result<(), Fail> {
     Ok(())
 }
 
-/// A round that is waited for ends early, behind 8,388,608 bytes; else it comes near to the most that it may have.
+/// A round that is waited for ends early, with about 8,388,608 bytes; else it comes near to the most that it may have.
 #[test]
 fn rounds_that_are_waited_for(rt: HostRuntime) -> Result<(), Fail> {
     let input = vec![in rt.alloc(); b'\n'; 30_000_000]?;
     for (waits, least, most) in [
-        (true, 8_388_608, 9_600_000),
+        (true, 7_340_031, 8_388_608),
         (false, 15_728_639, 16_777_216),
     ] {
         let waiter = AtomicBool::new(waits);
