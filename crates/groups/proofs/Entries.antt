@@ -1,5 +1,5 @@
 -- The entries of a hashed map from keys to groups, and what is found in them by a key.
-use Rattle.std.proofs.Common.{◌≡◌, ◌+◌, IfSome, Bool, length, add-one, arith, true, false, cond, List, [], ◌∷◌, Option, Some, None, Vec, Global, refl, sym, ap, subst, ◌∙◌}
+use Rattle.std.proofs.Common.{Result, Ok, Err, OnOk, OnErr, ◌≡◌, ◌+◌, IfSome, Bool, length, add-one, arith, true, false, cond, List, [], ◌∷◌, Option, Some, None, Vec, Global, refl, sym, ap, subst, ◌∙◌}
 use Rattle.std.proofs.lemmas.List.{length-map}
 use Rattle.std.specs.Cmp.{eq_by_cmp_equiv}
 use Rattle.std.specs.Cmp.Lexicographic.{pointwise}
@@ -13,6 +13,7 @@ use Rattle.query_check.specs.declared.function.FilteredFunction.{FilteredFunctio
 use Rattle.groups.specs.Groups.{Key, key_order, same_key}
 use Rattle.groups.specs.Inside.Accumulator.{no_state}
 use Rattle.groups.specs.Inside.Group.{GroupState, no_group}
+pub use Rattle.groups.specs.Inside.Keys.{key_eq}
 use Rattle.groups.specs.declared.part.Part.{Part}
 use Rattle.groups.specs.declared.part.Part.TheVariants as taken
 use Rattle.groups.specs.Inside.Table.{Contents, IsPut, IsFitting, IsTaken, IsWithPart, with_part, join_options, entries_by_key, contents_of}
@@ -20,9 +21,6 @@ use Rattle.groups.proofs.Order.{key_total, same_key-Decides, value_eq, key_eq-ti
 
 abbrev pub Entries : Type 0
 Entries = List (Vec Value Global × GroupState)
-
-abbrev pub key_eq : Vec Value Global → Vec Value Global → Bool
-key_eq x y = pointwise value_eq x.items y.items
 
 -- what a search by a key finds
 pub lookup-shown : (key : List Value) (es : Entries) → lookup (λ k. pointwise value_eq key k.items) es ≡ find key_order (data_of key) (entries_by_key es)
@@ -61,6 +59,20 @@ pub get-updated : (es fs : Entries) (key : List Value) (w : Option GroupState) �
     → (q : Key) → get (contents_of fs) q ≡ cond (same_key q (data_of key)) w (get (contents_of es) q)
 get-updated es fs key w at others q = get-from_entries key_total (entries_by_key fs) q ∙ find-updated es fs key w at others q
     ∙ ap (cond (same_key q (data_of key)) w) (sym (get-from_entries key_total (entries_by_key es) q))
+
+-- and nothing elsewhere
+pub updated-elsewhere : (es fs : Entries) (key : List Value) (w : Option GroupState) → lookup (λ k. pointwise value_eq key k.items) fs ≡ w
+    → KeepsOthers (λ x y. pointwise value_eq x.items y.items) (λ k. pointwise value_eq key k.items) es fs
+    → (q : Key) → same_key q (data_of key) ≡ false → get (contents_of fs) q ≡ get (contents_of es) q
+updated-elsewhere es fs key w at others q e = get-updated es fs key w at others q ∙ ap (λ b. cond b w (get (contents_of es) q)) e
+
+-- also where the change may have failed, and nothing has changed then
+pub elsewhere-after : {A E : Type 0} (r : Result A E) (es ms fs : Entries) (key : List Value) (w : Option GroupState) → ms ≡ es
+    → OnOk r ((lookup (λ k. pointwise value_eq key k.items) fs ≡ w) × KeepsOthers (λ x y. pointwise value_eq x.items y.items) (λ k. pointwise value_eq key k.items) ms fs)
+    → OnErr r (fs ≡ ms)
+    → (q : Key) → same_key q (data_of key) ≡ false → get (contents_of fs) q ≡ get (contents_of es) q
+elsewhere-after (Ok x) es ms fs key w is ok err q e = updated-elsewhere ms fs key w ok.0 ok.1 q e ∙ ap (λ m. get (contents_of m) q) is
+elsewhere-after (Err x) es ms fs key w is ok err q e = ap (λ m. get (contents_of m) q) (err ∙ is)
 
 pub get-shown : (key : List Value) (es : Entries) → get (contents_of es) (data_of key) ≡ lookup (λ k. pointwise value_eq key k.items) es
 get-shown key es = get-from_entries key_total (entries_by_key es) (data_of key) ∙ sym (lookup-shown key es)

@@ -14,3 +14,5 @@ pub mod Covering
 pub mod Rolled
 pub mod AnyOrder
 pub mod Rolling
+pub mod Shards
+pub mod InPairs

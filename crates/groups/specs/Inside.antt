@@ -4,4 +4,7 @@ pub mod Values
 pub mod Coding
 pub mod Accumulator
 pub mod Group
+pub mod Keys
 pub mod Table
+pub mod Shards
+pub mod Pairs

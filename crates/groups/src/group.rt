@@ -1,15 +1,13 @@
 //! The groups that a table gives.
-ghost use Rattle.std.specs.Prelude.{◌≡◌, IfOk, map};
-ghost use Rattle.std.specs.List.{IsDistinct};
-ghost use Rattle.groups.specs.Groups.{same_key};
+ghost use Rattle.std.specs.Prelude.{◌≡◌, ◌++◌, OnOk, map};
+ghost use Rattle.groups.specs.Inside.Shards.{entries_in};
 ghost use Rattle.groups.specs.Inside.Table.{entries_by_key};
 ghost use Rattle.groups.specs.GroupSummaries.{group_summary_in};
 ghost use Rattle.groups.specs.Inside.Group.{state_summary};
 
-use crate::accumulators::Accumulators;
 use crate::cell::Cell;
+use crate::shard::Shard;
 use std::alloc::{AllocError, Global};
-use std::collections::HashMap;
 use values::Value;
 
 /// A group of a grouping set: the members of one key, and the value of each set function over them (ISO/IEC 9075-2,
@@ -28,18 +26,18 @@ pub struct Group {
     pub cells: Vec<Cell>,
 }
 
-/// A group for each entry, in the order in which the map has them.
-pub(crate) fn groups_of(
+/// Puts a group for each of a shard behind others, in the order in which the shard has them.
+pub(crate) fn put_groups(
     alloc: Global,
-    entries: HashMap<Vec<Value>, Accumulators>,
-) -> Result<Vec<Group>, AllocError>
-    ensures lines { IfOk result (λ groups. map group_summary_in groups.items ≡ map state_summary (entries_by_key entries.entries)) }
-    ensures distinct { IfOk result (λ _. IsDistinct same_key (map (λ e. e.0) (entries_by_key entries.entries))) }
+    groups: &mut Vec<Group>,
+    shard: Shard,
+) -> Result<(), AllocError>
+    ensures { OnOk result (map group_summary_in groups.new.items ≡ map group_summary_in groups.old.items ++ map state_summary (entries_by_key (entries_in shard))) }
 {
-    let mut groups = Vec::new(alloc);
+    let Shard { groups: entries } = shard;
     for (key, group) in entries {
         let (lines, cells) = group.finish(alloc)?;
         groups.push(Group { key, lines, cells })?;
     }
-    Ok(groups)
+    Ok(())
 }

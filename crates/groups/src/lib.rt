@@ -14,7 +14,10 @@ mod extreme;
 mod group;
 mod key;
 mod laws;
+mod pairs;
 mod part;
+mod place;
+mod shard;
 mod table;
 mod total;
 

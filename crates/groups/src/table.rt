@@ -1,13 +1,25 @@
 //! A hashed table of groups.
+ghost use Rattle.std.specs.Prelude.{◌≡◌, IfOk, vec_len};
+ghost use Rattle.std.proofs.Props.{props};
+ghost use Rattle.groups.specs.Inside.Shards.{AreApart, AreJoined, CanJoinEach};
+
 use crate::accumulators::Accumulators;
-use crate::group::{Group, groups_of};
-use crate::key::{indices_in, key_of, write_key};
+use crate::group::{Group, put_groups};
+use crate::key::{indices_in, write_key};
+use crate::pairs::join_shards_among;
 use crate::part::Part;
+use crate::place::{SHARDS, place_of};
+use crate::shard::Shard;
 use query_check::FilteredFunction;
 use std::alloc::{AllocError, Global};
-use std::collections::HashMap;
-use std::marker::Model;
+use std::marker::{Model, Sync};
+use std::mem;
+use std::thread::Threads;
 use values::Value;
+
+/// How many groups a table has at least that several threads put to another one: fewer are put there sooner than a thread
+/// is started.
+const FEWEST: usize = 4_096;
 
 /// The groups of one grouping set over the records that were taken so far, each by its key.
 ///
@@ -20,25 +32,30 @@ use values::Value;
 #[derive(Debug, Drop)]
 pub struct Table {
     alloc: Global,
-    groups: HashMap<Vec<Value>, Accumulators>,
+    /// The groups, each in the shard of its key's place: so that tables can be put together shard by shard, by several
+    /// threads.
+    shards: Vec<Shard>,
     /// The key by which a group was last searched. It is written over the one before, so that no memory is taken for a
     /// record whose group is there. A new group gets a key of its own, with room for its own texts and no more; this
     /// one keeps room for the longest text of each column so far, which is no longer than a line may be.
     scratch: Vec<Value>,
+    ghost count: { vec_len shards ≡ 16 },
+    ghost apart: { AreApart shards.items } by { Prim.hlevel props },
 }
 
 impl Model for Table {
-    ghost use Rattle.groups.specs.Inside.Table.{Contents, coded_contents, contents_of};
+    ghost use Rattle.groups.specs.Inside.Table.{Contents, coded_contents};
+    ghost use Rattle.groups.specs.Inside.Shards.{contents_of_shards};
 
     ghost Value = { Contents };
 
     ghost coded = { coded_contents };
 
-    ghost view = { λ t. contents_of t.groups.entries };
+    ghost view = { λ t. contents_of_shards t.shards.items };
 }
 
 impl Table {
-    ghost use Rattle.std.specs.Prelude.{◌≡◌, Bool, ℕ, [], ◌∷◌, ◌++◌, OnOk, IfOk, List, map};
+    ghost use Rattle.std.specs.Prelude.{◌≡◌, ◌<◌, Bool, ℕ, [], ◌∷◌, ◌++◌, OnOk, IfOk, List, map};
     ghost use Rattle.groups.specs.Rows.{Row, IsNarrowRow};
     ghost use Rattle.groups.specs.Functions.{AggregateFunction, bound};
     ghost use Rattle.std.specs.FinMap as fin;
@@ -68,25 +85,29 @@ impl Table {
         if set.is_empty() {
             return Table::with_empty_key(alloc, functions);
         }
-        Ok(Table::without_groups(alloc))
+        Table::without_groups(alloc)
     }
 
     /// The table that has no group.
-    fn without_groups(alloc: Global) -> Table
-        ensures { result ≡ fin.empty }
+    fn without_groups(alloc: Global) -> Result<Table, AllocError>
+        ensures { IfOk result (λ table. table ≡ fin.empty) }
     {
-        Table {
-            alloc,
-            groups: HashMap::new(alloc),
-            scratch: Vec::new(alloc),
+        let mut shards = Vec::with_capacity(alloc, SHARDS)?;
+        for _ in 0..SHARDS {
+            shards.push(Shard::new(alloc))?;
         }
+        Ok(Table {
+            alloc,
+            shards,
+            scratch: Vec::new(alloc),
+        })
     }
 
     /// The table of no records under the empty set, whose one key is there from the start.
     fn with_empty_key(alloc: Global, functions: &[FilteredFunction]) -> Result<Table, AllocError>
         ensures { IfOk result (λ table. (k : Key) → IsPut fin.empty table [] (no_group functions.now) k) }
     {
-        let mut table = Table::without_groups(alloc);
+        let mut table = Table::without_groups(alloc)?;
         let group = Accumulators::new(alloc, functions)?;
         table.put_to_group(Vec::new(alloc), group)?;
         Ok(table)
@@ -137,7 +158,43 @@ impl Table {
         ensures joined { OnOk result ((set : List ℕ) (functions : List AggregateFunction) (rows more : List Row)
             → IsTableOf set functions self.old rows → IsTableOf set functions other more → IsTableOf set functions self.new (rows ++ more)) }
     {
-        self.put_all(other)
+        let fresh = Table::without_groups(self.alloc)?;
+        let table = mem::replace(self, fresh);
+        *self = table.joined(other)?;
+        Ok(())
+    }
+
+    /// What `absorb` does, by as many threads as there are hands, the calling one among them, where the other table has
+    /// many groups.
+    ///
+    /// Where both have a group of one key, the two have fewer than 2^63 members together, and are for as many
+    /// functions. There is a hand.
+    ///
+    /// Example: `table.absorb_among(&rt, 4, other)?` leaves what `table.absorb(other)?` leaves.
+    ///
+    /// # Errors
+    ///
+    /// `AllocError` where there is no memory for it; the table is of no use then. Where a thread cannot be started, the one
+    /// that wanted to start it does its part.
+    pub fn absorb_among<H: Threads + Sync>(
+        &mut self,
+        rt: &H,
+        hands: usize,
+        other: Table,
+    ) -> Result<(), AllocError>
+        requires join { CanJoin self.old other }
+        requires hands { 0 < hands }
+        ensures groups { OnOk result ((k : Key) → IsJoined self.old other self.new k) }
+        ensures joined { OnOk result ((set : List ℕ) (functions : List AggregateFunction) (rows more : List Row)
+            → IsTableOf set functions self.old rows → IsTableOf set functions other more → IsTableOf set functions self.new (rows ++ more)) }
+    {
+        if hands == 1 || other.len() < FEWEST {
+            return self.absorb(other);
+        }
+        let fresh = Table::without_groups(self.alloc)?;
+        let table = mem::replace(self, fresh);
+        *self = table.joined_among(rt, hands, other)?;
+        Ok(())
     }
 
     /// The table of the same records under another set, made of the groups of this one, which stays as it is. So it may
@@ -165,13 +222,15 @@ impl Table {
     {
         let indices = indices_in(self.alloc, finer, set)?;
         let mut rolled = Table::new(self.alloc, set, functions)?;
-        for (key, part) in &self.groups {
-            rolled.put(
-                indices.as_slice(),
-                functions,
-                key.as_slice(),
-                Part::Copies(part),
-            )?;
+        for shard in &self.shards {
+            for (key, part) in &shard.groups {
+                rolled.put(
+                    indices.as_slice(),
+                    functions,
+                    key.as_slice(),
+                    Part::Copies(part),
+                )?;
+            }
         }
         Ok(rolled)
     }
@@ -180,7 +239,11 @@ impl Table {
     pub fn len(&self) -> usize
         ensures { result ≡ fin.len self.now }
     {
-        self.groups.len()
+        let mut count = 0;
+        for shard in &self.shards {
+            count += shard.len();
+        }
+        count
     }
 
     /// One group for each key of the records, in no order that is said: with the number of its members, and the value
@@ -196,12 +259,12 @@ impl Table {
         ensures groups { IfOk result (λ groups. (set : List ℕ) (functions : List AggregateFunction) (rows : List Row)
             → IsTableOf set functions self rows → SameBag (map group_summary_in groups.items) (group_summaries set functions rows)) }
     {
-        let Table {
-            alloc,
-            groups,
-            scratch: _,
-        } = self;
-        groups_of(alloc, groups)
+        let Table { alloc, shards, .. } = self;
+        let mut groups = Vec::new(alloc);
+        for shard in shards {
+            put_groups(alloc, &mut groups, shard)?;
+        }
+        Ok(groups)
     }
 
     /// Puts one more part to the group of a record's key.
@@ -216,14 +279,8 @@ impl Table {
         ensures { OnOk result ((k : Key) → IsWithPart functions.now self.old self.new (project set.now (data_of row.now)) part.entry k) }
     {
         write_key(&mut self.scratch, set, row)?;
-        if let Some(group) = self.groups.get_mut(&self.scratch) {
-            return part.put_to(group, functions);
-        }
-        let mut group = Accumulators::new(self.alloc, functions)?;
-        part.put_to(&mut group, functions)?;
-        let key = key_of(self.alloc, set, row)?;
-        self.groups.insert(key, group)?;
-        Ok(())
+        let place = place_of(self.scratch.as_slice());
+        self.shards[place].put(self.alloc, &self.scratch, set, functions, row, part)
     }
 
     /// Moves one more part to the group of a key.
@@ -231,26 +288,63 @@ impl Table {
         requires { IsFitting part (fin.get self.old (data_of key.items)) }
         ensures { OnOk result ((k : Key) → IsPut self.old self.new (data_of key.items) part k) }
     {
-        if let Some(group) = self.groups.get_mut(&key) {
-            return group.absorb(part);
-        }
-        self.groups.insert(key, part)?;
-        Ok(())
+        let place = place_of(key.as_slice());
+        self.shards[place].put_group(key, part)
     }
 
-    /// Puts the groups of another table to these.
-    fn put_all(&mut self, other: Table) -> Result<(), AllocError>
-        requires { CanJoin self.old other }
-        ensures { OnOk result ((k : Key) → IsJoined self.old other self.new k) }
+    /// The table of the groups of both, shard by shard.
+    fn joined(self, other: Table) -> Result<Table, AllocError>
+        requires { CanJoin self other }
+        ensures { IfOk result (λ table. (k : Key) → IsJoined self other table k) }
     {
         let Table {
-            alloc: _,
-            groups,
-            scratch: _,
-        } = other;
-        for (key, part) in groups {
-            self.put_to_group(key, part)?;
-        }
-        Ok(())
+            alloc,
+            shards,
+            scratch,
+        } = self;
+        let shards = join_shards(shards, other.shards)?;
+        Ok(Table {
+            alloc,
+            shards,
+            scratch,
+        })
     }
+
+    /// The same by as many threads as there are hands.
+    fn joined_among<H: Threads + Sync>(
+        self,
+        rt: &H,
+        hands: usize,
+        other: Table,
+    ) -> Result<Table, AllocError>
+        requires join { CanJoin self other }
+        requires hands { 0 < hands }
+        ensures { IfOk result (λ table. (k : Key) → IsJoined self other table k) }
+    {
+        let Table {
+            alloc,
+            shards,
+            scratch,
+        } = self;
+        let shards = join_shards_among(rt, alloc, hands, shards, other.shards)?;
+        Ok(Table {
+            alloc,
+            shards,
+            scratch,
+        })
+    }
+}
+
+/// The shards, each with the groups of the other list's shard of the same place.
+fn join_shards(shards: Vec<Shard>, others: Vec<Shard>) -> Result<Vec<Shard>, AllocError>
+    requires count { vec_len others ≡ vec_len shards }
+    requires each { CanJoinEach shards.items others.items }
+    ensures count { IfOk result (λ joined. vec_len joined ≡ vec_len shards) }
+    ensures joined { IfOk result (λ joined. AreJoined shards.items others.items joined.items) }
+{
+    let mut joined = shards;
+    for (place, other) in others.into_iter().enumerate() {
+        joined[place].absorb(other)?;
+    }
+    Ok(joined)
 }

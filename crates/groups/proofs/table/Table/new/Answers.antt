@@ -1,4 +1,5 @@
 use Rattle.std.proofs.Common.{◌≡◌, ◌≢◌, ◌==◌, true, Bool, ℕ, List, [], length, map, Result, Ok, Err, IfOk, arith, eq-eqb}
+use Rattle.std.proofs.lemmas.Result.{IfOk-weaker}
 use Rattle.query_check.specs.declared.function.FilteredFunction.{FilteredFunction}
 use Rattle.std.specs.FinMap as fin
 use Rattle.groups.specs.Functions.{bound}
@@ -13,7 +14,11 @@ pub returns : goal.returns
 returns c =
     let set = c.args.set.now in
     let some : length set ≢ 0 = λ h. let t : (length set == 0) ≡ true = eq-eqb (length set) 0 h in let f = c.if-is_empty.ensures in cc in
-    record { empty = λ filters. table-no_group set (map (bound filters) c.args.functions.now) c.without_groups.result some c.without_groups.ensures }
+    record {
+      empty = IfOk-weaker c.without_groups.result _ _
+          (λ (t : Contents) (h : t ≡ fin.empty) (filters : List (Row → Bool)). table-no_group set (map (bound filters) c.args.functions.now) t some h)
+          c.without_groups.ensures;
+    }
 
 by_key : {E : Type 0} (set : List ℕ) (functions : List FilteredFunction) (r : Result Contents E) → length set ≡ 0 → IfOk r (λ t. (k : Key) → IsPut fin.empty t [] (no_group functions) k)
     → IfOk r (λ t. (filters : List (Row → Bool)) → IsTableOf set (map (bound filters) functions) t [])

@@ -1,61 +1,56 @@
-use Rattle.std.proofs.Common.{◌≡◌, ◌∙◌, ap, sym, subst, Option, Some, None, IsSome}
+use Rattle.std.proofs.Common.{◌≡◌, ◌∙◌, ap, sym, subst, get_or, set, Option, Some}
 use Rattle.std.proofs.lemmas.Result.{on_ok_weaker}
 use Rattle.std.specs.FinMap as fin
-use Rattle.std.specs.Option.{option_copied_mut, is_some}
-use Rattle.std.specs.Map.{lookup}
-use Rattle.std.specs.Cmp.Lexicographic.{pointwise}
 use Rattle.values.specs.Datum.{data_of}
-use Rattle.groups.specs.Groups.{project}
+use Rattle.groups.specs.Groups.{Key, project}
 use Rattle.groups.specs.Inside.Group.{GroupState}
-use Rattle.groups.specs.Inside.Table.{IsTaken, with_part}
-use Rattle.groups.proofs.Order.{value_eq}
-use Rattle.groups.proofs.Entries.{got-by, with_part-by, taken-first}
+use Rattle.groups.specs.Inside.Shards.{AreApart, contents_in, contents_of_shards, place}
+use Rattle.groups.specs.Inside.Table.{Contents, IsTaken, IsWithPart, with_part}
+use Rattle.groups.specs.declared.shard.Shard.{Shard}
+use Rattle.groups.proofs.Shards.{all-changed, apart-changed, get-place, within-all}
 use Rattle.groups.proofs.table.Table.put.Goals as goal
 
-pub put_to-requires : goal.put_to-requires
-put_to-requires c =
-    let found : fin.get c.args.self.now (project c.args.set.now (data_of c.args.row.now)) ≡ Some c.in-Some.group.now =
-    got-by c.self.inside.groups.entries c.args.self.now (project c.args.set.now (data_of c.args.row.now)) c.write_key.new.key.items c.self.view_is c.in_ok-write_key.ensures
-    ∙ sym c.get_mut.ensures.value ∙ ap option_copied_mut c.in-Some.is in
-    subst (λ (o : Option GroupState). IsTaken c.args.functions.now o c.args.part) found c.requires
-
-pub put_to-requires-2 : goal.put_to-requires-2
-put_to-requires-2 c =
-    let fs = c.args.functions.now in
-    let absent : fin.get c.args.self.now (project c.args.set.now (data_of c.args.row.now)) ≡ None =
-    got-by c.self.inside.groups.entries c.args.self.now (project c.args.set.now (data_of c.args.row.now)) c.write_key.new.key.items c.self.view_is c.in_ok-write_key.ensures
-    ∙ sym c.get_mut.ensures.value ∙ ap option_copied_mut c.in_default.is in
-    subst (λ (g : GroupState). IsTaken fs (Some g) c.args.part) (sym c.in_ok-group.ensures)
-    (taken-first fs c.args.part (subst (λ (o : Option GroupState). IsTaken fs o c.args.part) absent c.requires))
-
-pub returns-in-Some : goal.returns-in-Some
-returns-in-Some c =
-    let fs = c.args.functions.now in
-    let es = c.self.inside.groups.entries in
+pub put-requires-clause-taken : goal.put-requires-clause-taken
+put-requires-clause-taken c =
     let key = project c.args.set.now (data_of c.args.row.now) in
-    let code = c.write_key.new.key.items in
-    let new = c.put_to.new.group in
-    let n = c.get_mut.follows.lender new in
-    let there : IsSome (lookup (λ k. pointwise value_eq code k.items) es) = ap is_some (sym c.get_mut.ensures.value ∙ ap option_copied_mut c.in-Some.is) in
-    let u = (c.get_mut.follows.holds new).3 there in
-    let found : fin.get c.args.self.now key ≡ Some c.in-Some.group.now =
-    got-by es c.args.self.now key code c.self.view_is c.in_ok-write_key.ensures ∙ sym c.get_mut.ensures.value ∙ ap option_copied_mut c.in-Some.is in
-    on_ok_weaker c.put_to.result
-    (λ (h : new ≡ with_part fs (Some c.in-Some.group.now) c.args.part).
-    with_part-by fs c.args.part es n.entries c.args.self.now key code new c.self.view_is c.in_ok-write_key.ensures u.1 u.3
-    (h ∙ ap (λ o. with_part fs o c.args.part) (sym found)))
-    c.put_to.ensures
+    let ss = c.self.inside.shards.items in
+    let s = c.index_mut.result.now in
+    let p : c.place_of-place.result ≡ place key = c.place_of-place.ensures.place ∙ ap (λ xs. place (data_of xs)) c.as_slice.ensures.value ∙ ap place c.in_ok-write_key.ensures in
+    let is : s ≡ get_or ss (place key) s = c.index_mut.ensures.value ∙ ap (λ n. get_or ss n s) p in
+    subst (λ (o : Option GroupState). IsTaken c.args.functions.now o c.args.part)
+    (ap (λ m. fin.get m key) (sym c.self.view_is)
+    ∙ get-place ss s key c.self.inside.apart (within-all c.self.inside.shards c.self.inside.count key)
+    ∙ ap (λ (x : Shard). fin.get (contents_in x) key) (sym is))
+    c.requires
+
+pub invariant_of-self-inside-2 : goal.invariant_of-self-inside-2
+invariant_of-self-inside-2 c =
+    let key = project c.args.set.now (data_of c.args.row.now) in
+    let ss = c.self.inside.shards.items in
+    let s = c.index_mut.result.now in
+    let p : c.place_of-place.result ≡ place key = c.place_of-place.ensures.place ∙ ap (λ xs. place (data_of xs)) c.as_slice.ensures.value ∙ ap place c.in_ok-write_key.ensures in
+    let is : s ≡ get_or ss (place key) s = c.index_mut.ensures.value ∙ ap (λ n. get_or ss n s) p in (
+      c.self.inside.count,
+      (
+        subst (λ n. AreApart (set ss n c.put.new.self)) (sym p)
+            (apart-changed ss s c.put.new.self key c.self.inside.apart (within-all c.self.inside.shards c.self.inside.count key) is c.put.ensures.others),
+        tt,
+      ),
+    )
 
 pub returns : goal.returns
 returns c =
     let fs = c.args.functions.now in
-    let es = c.self.inside.groups.entries in
+    let part = c.args.part in
     let key = project c.args.set.now (data_of c.args.row.now) in
-    let new = c.put_to-2.new.group in
-    let u = c.in_ok-insert.ensures.updates in
-    let absent : fin.get c.args.self.now (project c.args.set.now (data_of c.args.row.now)) ≡ None =
-    got-by c.self.inside.groups.entries c.args.self.now (project c.args.set.now (data_of c.args.row.now)) c.write_key.new.key.items c.self.view_is c.in_ok-write_key.ensures
-    ∙ sym c.get_mut.ensures.value ∙ ap option_copied_mut c.in_default.is in
-    let others = rw (c.get_mut.follows.holds-at-none) at u.3 in
-    with_part-by fs c.args.part es c.insert.new.self.entries c.args.self.now key c.in_ok-key.key.items new c.self.view_is c.in_ok-key.ensures u.1 others
-    (c.in_ok-put_to.ensures ∙ ap (λ (g : GroupState). with_part fs (Some g) c.args.part) c.in_ok-group.ensures ∙ ap (λ o. with_part fs o c.args.part) (sym absent))
+    let ss = c.self.inside.shards.items in
+    let s = c.index_mut.result.now in
+    let new = c.put.new.self in
+    let p : c.place_of-place.result ≡ place key = c.place_of-place.ensures.place ∙ ap (λ xs. place (data_of xs)) c.as_slice.ensures.value ∙ ap place c.in_ok-write_key.ensures in
+    let is : s ≡ get_or ss (place key) s = c.index_mut.ensures.value ∙ ap (λ n. get_or ss n s) p in
+    on_ok_weaker c.put.result
+    (λ (h : (k : Key) → IsWithPart fs (contents_in s) (contents_in new) key part k). λ (k : Key).
+    subst (λ (t : Contents). IsWithPart fs t (contents_of_shards (set ss c.place_of-place.result new)) key part k) c.self.view_is
+    (subst (λ n. IsWithPart fs (contents_of_shards ss) (contents_of_shards (set ss n new)) key part k) (sym p)
+    (all-changed (λ o. Some (with_part fs o part)) ss s new key c.self.inside.apart (within-all c.self.inside.shards c.self.inside.count) is c.put.ensures.others h k)))
+    c.put.ensures.put

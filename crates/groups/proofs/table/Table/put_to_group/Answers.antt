@@ -1,62 +1,55 @@
-use Rattle.std.proofs.Common.{◌≡◌, ◌∙◌, ap, sym, cond, Some, None, IsSome}
+use Rattle.std.proofs.Common.{◌≡◌, ◌∙◌, ap, sym, subst, get_or, set, Option, Some}
 use Rattle.std.proofs.lemmas.Result.{on_ok_weaker}
 use Rattle.std.specs.FinMap as fin
-use Rattle.std.specs.Option.{option_copied_mut, is_some}
-use Rattle.std.specs.Map.{lookup}
-use Rattle.std.specs.Cmp.Lexicographic.{pointwise}
 use Rattle.values.specs.Datum.{data_of}
-use Rattle.groups.specs.Groups.{same_key}
-use Rattle.groups.specs.Inside.Group.{join}
-use Rattle.groups.specs.Inside.Table.{join_options, contents_of}
-use Rattle.groups.proofs.Order.{value_eq}
-use Rattle.groups.proofs.Entries.{get-updated, get-shown, put_is}
+use Rattle.groups.specs.Groups.{Key}
+use Rattle.groups.specs.Inside.Group.{GroupState}
+use Rattle.groups.specs.Inside.Shards.{AreApart, contents_in, contents_of_shards, place}
+use Rattle.groups.specs.Inside.Table.{Contents, IsFitting, IsPut, join_options}
+use Rattle.groups.specs.declared.shard.Shard.{Shard}
+use Rattle.groups.proofs.Shards.{all-changed, apart-changed, get-place, within-all}
 use Rattle.groups.proofs.table.Table.put_to_group.Goals as goal
 
--- what the table has at the key
-found : (c : goal.In-Some) → fin.get c.args.self.now (data_of c.args.key.items) ≡ Some c.in-Some.group.now
-found c =
-    let es = c.self.inside.groups.entries in
-    ap (λ m. fin.get m (data_of c.args.key.items)) (sym c.self.view_is)
-    ∙ get-shown c.args.key.items es
-    ∙ sym c.get_mut.ensures.value
-    ∙ ap option_copied_mut c.in-Some.is
-
-pub absorb-requires-clause-room : goal.absorb-requires-clause-room
-absorb-requires-clause-room c = let h = rw (found c) at c.requires in h.0
-
-pub absorb-requires-clause-one_each : goal.absorb-requires-clause-one_each
-absorb-requires-clause-one_each c = let h = rw (found c) at c.requires in h.1
-
-found_then : (c : goal.After-drop-key) → fin.get c.args.self.now (data_of c.args.key.items) ≡ Some c.in-Some.group.now
-found_then c =
-    let es = c.self.inside.groups.entries in
-    ap (λ m. fin.get m (data_of c.args.key.items)) (sym c.self.view_is)
-    ∙ get-shown c.args.key.items es
-    ∙ sym c.get_mut.ensures.value
-    ∙ ap option_copied_mut c.in-Some.is
-
-pub returns-in-Some : goal.returns-in-Some
-returns-in-Some c =
-    let es = c.self.inside.groups.entries in
-    let n = c.get_mut.follows.lender c.absorb.new.self in
+pub put_group-requires : goal.put_group-requires
+put_group-requires c =
     let key = data_of c.args.key.items in
-    let there : IsSome (lookup (λ k. pointwise value_eq c.args.key.items k.items) es) = ap is_some (sym c.get_mut.ensures.value ∙ ap option_copied_mut c.in-Some.is) in
-    let u = (c.get_mut.follows.holds c.absorb.new.self).3 there in
-    on_ok_weaker c.absorb.result
-    (λ (h : c.absorb.new.self ≡ join c.in-Some.group.now c.args.part).
-    put_is c.args.self.now (contents_of n.entries) key c.args.part (Some c.absorb.new.self)
-    (λ q. get-updated es n.entries c.args.key.items (Some c.absorb.new.self) u.1 u.3 q ∙ ap (λ m. cond (same_key q key) (Some c.absorb.new.self) (fin.get m q)) c.self.view_is)
-    (ap Some h ∙ ap (λ o. join_options o (Some c.args.part)) (sym (found_then c))))
-    c.absorb.ensures
+    let ss = c.self.inside.shards.items in
+    let s = c.index_mut.result.now in
+    let p : c.place_of-place.result ≡ place key = c.place_of-place.ensures.place ∙ ap (λ xs. place (data_of xs)) c.as_slice.ensures.value in
+    let is : s ≡ get_or ss (place key) s = c.index_mut.ensures.value ∙ ap (λ n. get_or ss n s) p in
+    subst (λ (o : Option GroupState). IsFitting c.args.part o)
+    (ap (λ m. fin.get m key) (sym c.self.view_is)
+    ∙ get-place ss s key c.self.inside.apart (within-all c.self.inside.shards c.self.inside.count key)
+    ∙ ap (λ (x : Shard). fin.get (contents_in x) key) (sym is))
+    c.requires
+
+pub invariant_of-self-inside : goal.invariant_of-self-inside
+invariant_of-self-inside c =
+    let key = data_of c.args.key.items in
+    let ss = c.self.inside.shards.items in
+    let s = c.index_mut.result.now in
+    let p : c.place_of-place.result ≡ place key = c.place_of-place.ensures.place ∙ ap (λ xs. place (data_of xs)) c.as_slice.ensures.value in
+    let is : s ≡ get_or ss (place key) s = c.index_mut.ensures.value ∙ ap (λ n. get_or ss n s) p in (
+      c.self.inside.count,
+      (
+        subst (λ n. AreApart (set ss n c.put_group.new.self)) (sym p)
+            (apart-changed ss s c.put_group.new.self key c.self.inside.apart (within-all c.self.inside.shards c.self.inside.count key) is c.put_group.ensures.others),
+        tt,
+      ),
+    )
 
 pub returns : goal.returns
 returns c =
-    let es = c.self.inside.groups.entries in
+    let part = c.args.part in
     let key = data_of c.args.key.items in
-    let u = c.in_ok-insert.ensures.updates in
-    let others = rw (c.get_mut.follows.holds-at-none) at u.3 in
-    let absent : fin.get c.args.self.now key ≡ None =
-    ap (λ m. fin.get m key) (sym c.self.view_is) ∙ get-shown c.args.key.items es ∙ sym c.get_mut.ensures.value ∙ ap option_copied_mut c.in_default.is in
-    put_is c.args.self.now (contents_of c.insert.new.self.entries) key c.args.part (Some c.args.part)
-    (λ q. get-updated es c.insert.new.self.entries c.args.key.items (Some c.args.part) u.1 others q ∙ ap (λ m. cond (same_key q key) (Some c.args.part) (fin.get m q)) c.self.view_is)
-    (ap (λ o. join_options o (Some c.args.part)) (sym absent))
+    let ss = c.self.inside.shards.items in
+    let s = c.index_mut.result.now in
+    let new = c.put_group.new.self in
+    let p : c.place_of-place.result ≡ place key = c.place_of-place.ensures.place ∙ ap (λ xs. place (data_of xs)) c.as_slice.ensures.value in
+    let is : s ≡ get_or ss (place key) s = c.index_mut.ensures.value ∙ ap (λ n. get_or ss n s) p in
+    on_ok_weaker c.put_group.result
+    (λ (h : (k : Key) → IsPut (contents_in s) (contents_in new) key part k). λ (k : Key).
+    subst (λ (t : Contents). IsPut t (contents_of_shards (set ss c.place_of-place.result new)) key part k) c.self.view_is
+    (subst (λ n. IsPut (contents_of_shards ss) (contents_of_shards (set ss n new)) key part k) (sym p)
+    (all-changed (λ o. join_options o (Some part)) ss s new key c.self.inside.apart (within-all c.self.inside.shards c.self.inside.count) is c.put_group.ensures.others h k)))
+    c.put_group.ensures.put

@@ -7,8 +7,7 @@ use Rattle.groups.specs.Inside.Group.{GroupState, state_summary}
 use Rattle.groups.specs.GroupSummaries.{group_summary_in}
 use Rattle.groups.specs.Inside.Table.{entries_by_key}
 use Rattle.groups.proofs.Entries.{Entries}
-use Rattle.groups.proofs.Distinct.{distinct-shown}
-use Rattle.groups.proofs.group.groups_of.Goals as goal
+use Rattle.groups.proofs.group.put_groups.Goals as goal
 
 pushed : (groups : List Group) (g : Group) (e : Vec Value Global × GroupState) (es : Entries) → group_summary_in g ≡ state_summary (data_of e.0.items, e.1)
     → map group_summary_in (groups ++ g ∷ []) ++ map state_summary (entries_by_key es) ≡ map group_summary_in groups ++ map state_summary (entries_by_key (e ∷ es))
@@ -23,6 +22,3 @@ loop-key-preserved c =
     let f = c.in_ok-lines.ensures in
     rw c.in_ok-push.ensures.items (pushed c.loop-key.groups.items _ e rest (λ i. record { key = data_of c.in-Some.key.items; lines = f.lines i; cells = f.cells i })
     ∙ ap (λ es. map group_summary_in c.loop-key.groups.items ++ map state_summary (entries_by_key es)) (sym is) ∙ c.loop-key.invariant)
-
-pub returns-clause-distinct : goal.returns-clause-distinct
-returns-clause-distinct c = let g = c.into_iter-key-iterator.ensures.into_iter_gives in distinct-shown c.args.entries.entries g.4

@@ -3,14 +3,15 @@ use Rattle.std.specs.List.{IsDistinct}
 use Rattle.std.specs.Map.{keys_of}
 use Rattle.std.specs.FinMap.{get, find}
 use Rattle.groups.specs.Groups.{Key, key_order}
+use Rattle.groups.specs.Inside.Keys.{key_eq}
+use Rattle.groups.specs.Inside.Shards.{contents_in}
 use Rattle.groups.specs.Inside.Table.{IsFitting, join_options, entries_by_key}
-use Rattle.groups.proofs.Entries.{key_eq}
-use Rattle.groups.proofs.table.Table.put_all.Given as goal
+use Rattle.groups.proofs.shard.Shard.absorb.Given as goal
 
 -- the groups so far with those that are left are those of both, and what is left fits
 abbrev pub invariant-loop-key : goal.invariant-loop-key
 invariant-loop-key l = record {
-  joined : (k : Key) → join_options (get l.self k) (find key_order k (entries_by_key l.key-iterator)) ≡ join_options (get l.fn.self k) (get l.fn.other k);
-  fits : (k : Key) → IfSome (find key_order k (entries_by_key l.key-iterator)) (λ p. IsFitting p (get l.self k));
+  joined : (k : Key) → join_options (get (contents_in l.self) k) (find key_order k (entries_by_key l.key-iterator)) ≡ join_options (get (contents_in l.fn.self) k) (get (contents_in l.fn.other) k);
+  fits : (k : Key) → IfSome (find key_order k (entries_by_key l.key-iterator)) (λ p. IsFitting p (get (contents_in l.self) k));
   distinct : IsDistinct key_eq (keys_of l.key-iterator);
 }

@@ -8,31 +8,32 @@ use Rattle.values.specs.Datum.{data_of}
 use Rattle.values.specs.declared.value.Value.{Value}
 use Rattle.groups.specs.Groups.{Key, key_order}
 use Rattle.groups.specs.Inside.Group.{GroupState}
+use Rattle.groups.specs.Inside.Shards.{contents_in}
 use Rattle.groups.specs.Inside.Table.{IsFitting, join_options, entries_by_key}
 use Rattle.groups.proofs.Order.{key_total}
 use Rattle.groups.proofs.Entries.{key_eq, merged_step, fits_step, find-first}
-use Rattle.groups.proofs.table.Table.put_all.Goals as goal
+use Rattle.groups.proofs.shard.Shard.absorb.Goals as goal
 
 pub loop-key-init : goal.loop-key-init
 loop-key-init c =
     let g = c.into_iter-key-iterator.ensures.into_iter_gives in
-    let at : (k : Key) → find key_order k (entries_by_key c.into_iter-key-iterator.result) ≡ get c.args.other k =
-    λ k. ap (λ es. find key_order k (entries_by_key es)) g.0 ∙ sym (get-from_entries key_total (entries_by_key c.other.inside.groups.entries) k) ∙ ap (λ m. get m k) c.other.view_is in
+    let at : (k : Key) → find key_order k (entries_by_key c.into_iter-key-iterator.result) ≡ get (contents_in c.args.other) k =
+    λ k. ap (λ es. find key_order k (entries_by_key es)) g.0 ∙ sym (get-from_entries key_total (entries_by_key c.args.other.groups.entries) k) in
     record {
-      joined = λ k. ap (join_options (get c.args.self.now k)) (at k);
-      fits = λ k. subst (λ (o : Option GroupState). IfSome o (λ p. IsFitting p (get c.args.self.now k))) (sym (at k)) (c.requires k);
+      joined = λ k. ap (join_options (get (contents_in c.args.self.now) k)) (at k);
+      fits = λ k. subst (λ (o : Option GroupState). IfSome o (λ p. IsFitting p (get (contents_in c.args.self.now) k))) (sym (at k)) (c.requires k);
       distinct = subst (λ es. IsDistinct key_eq (keys_of es)) (sym g.0) g.4;
     }
 
 -- the rest begins with this turn's entry
-more : (c : goal.After-put_to_group-arg-1) → c.loop-key.key-iterator ≡ (c.in-Some.key, c.in-Some.part) ∷ c.next.new.self
+more : (c : goal.After-put_group-arg-1) → c.loop-key.key-iterator ≡ (c.in-Some.key, c.in-Some.part) ∷ c.next.new.self
 more c = rest_more (λ (x : Vec Value Global × GroupState). x) c.loop-key.key-iterator c.next.new.self c.next.result (c.in-Some.key, c.in-Some.part) c.in-Some.is c.next.ensures.steps
 
-pub put_to_group-requires : goal.put_to_group-requires
-put_to_group-requires c =
+pub put_group-requires : goal.put_group-requires
+put_group-requires c =
     let k = data_of c.in-Some.key.items in
     let e : Vec Value Global × GroupState = (c.in-Some.key, c.in-Some.part) in
-    subst (λ (o : Option GroupState). IfSome o (λ p. IsFitting p (get c.loop-key.self k)))
+    subst (λ (o : Option GroupState). IfSome o (λ p. IsFitting p (get (contents_in c.loop-key.self) k)))
     (ap (λ es. find key_order k (entries_by_key es)) (more c) ∙ find-first e c.next.new.self)
     (c.loop-key.invariant.fits k)
 
@@ -42,10 +43,12 @@ loop-key-preserved c =
     let e : Vec Value Global × GroupState = (c.in-Some.key, c.in-Some.part) in
     let is : c.loop-key.key-iterator ≡ e ∷ rest = rest_more (λ (x : Vec Value Global × GroupState). x) c.loop-key.key-iterator rest c.next.result e c.in-Some.is c.next.ensures.steps in
     let d : IsDistinct key_eq (keys_of (e ∷ rest)) = subst (λ es. IsDistinct key_eq (keys_of es)) is c.loop-key.invariant.distinct in
+    let old = contents_in c.loop-key.self in
+    let new = contents_in c.put_group.new.self in
     record {
-      joined = λ k. merged_step c.loop-key.self c.put_to_group.new.self k e rest d (c.in_ok-put_to_group.ensures k)
-          ∙ ap (λ es. join_options (get c.loop-key.self k) (find key_order k (entries_by_key es))) (sym is) ∙ c.loop-key.invariant.joined k;
-      fits = λ k. fits_step c.loop-key.self c.put_to_group.new.self k e rest d (c.in_ok-put_to_group.ensures k)
-          (subst (λ es. IfSome (find key_order k (entries_by_key es)) (λ p. IsFitting p (get c.loop-key.self k))) is (c.loop-key.invariant.fits k));
+      joined = λ k. merged_step old new k e rest d (c.in_ok-put_group.ensures.put k)
+          ∙ ap (λ es. join_options (get old k) (find key_order k (entries_by_key es))) (sym is) ∙ c.loop-key.invariant.joined k;
+      fits = λ k. fits_step old new k e rest d (c.in_ok-put_group.ensures.put k)
+          (subst (λ es. IfSome (find key_order k (entries_by_key es)) (λ p. IsFitting p (get old k))) is (c.loop-key.invariant.fits k));
       distinct = IsDistinct-tail key_eq e.0 (keys_of rest) d;
     }
