@@ -1,10 +1,11 @@
 -- Two tables are put together either way round.
-use Rattle.std.proofs.Common.{◌≡◌, ◌+◌, ◌++◌, ℕ, List, Option, Some, None, IfSome, sym, arith}
+use Rattle.std.proofs.Common.{◌≡◌, ◌+◌, ◌++◌, ◌⊎◌, ℕ, List, Option, Some, None, IfSome, inl, inr, sym, subst, arith}
 use Rattle.std.specs.FinMap as fin
 use Rattle.groups.specs.Functions.{AggregateFunction}
 use Rattle.groups.specs.Inside.Group.{GroupState}
-use Rattle.groups.specs.Inside.Table.{CanJoin, Contents, IsFitting, IsTableOf}
+use Rattle.groups.specs.Inside.Table.{AreGroupsWithin, CanJoin, Contents, IsFitting, IsTableOf}
 use Rattle.groups.specs.Rows.{Row}
+use Rattle.query_check.specs.declared.function.FilteredFunction.{FilteredFunction}
 use Rattle.groups.proofs.AnyOrder.{table-same}
 use Rattle.tables.proofs.Bags.{weigh-append}
 
@@ -22,3 +23,24 @@ table-flip set functions t rows more = table-same set functions t (more ++ rows)
 
 pub plus-flip : (m n : ℕ) → m + n ≡ n + m
 plus-flip m n = omega arith
+
+-- ---- what is so of one table moved into another is so whichever of the two moves
+
+abbrev pub Joins : Contents → Contents → Contents → Type 0
+Joins t u table = (set : List ℕ) (functions : List AggregateFunction) (rows more : List Row) → IsTableOf set functions t rows → IsTableOf set functions u more → IsTableOf set functions table (rows ++ more)
+
+abbrev pub JoinsWithin : Contents → Contents → Contents → Type 0
+JoinsWithin t u table = (functions : List FilteredFunction) (m n : ℕ) → AreGroupsWithin m functions t → AreGroupsWithin n functions u → AreGroupsWithin (m + n) functions table
+
+pub joins-either_way : (first second : Contents) (pair : Contents × Contents) (table : Contents) → (pair ≡ (first, second)) ⊎ (pair ≡ (second, first))
+    → Joins pair.0 pair.1 table → Joins first second table
+joins-either_way first second pair table (inl e) joins = subst (λ (p : Contents × Contents). Joins p.0 p.1 table) e joins
+joins-either_way first second pair table (inr e) joins =
+    λ set functions rows more p q. table-flip set functions table rows more (subst (λ (p : Contents × Contents). Joins p.0 p.1 table) e joins set functions more rows q p)
+
+pub within-either_way : (first second : Contents) (pair : Contents × Contents) (table : Contents) → (pair ≡ (first, second)) ⊎ (pair ≡ (second, first))
+    → JoinsWithin pair.0 pair.1 table → JoinsWithin first second table
+within-either_way first second pair table (inl e) joins = subst (λ (p : Contents × Contents). JoinsWithin p.0 p.1 table) e joins
+within-either_way first second pair table (inr e) joins =
+    λ functions m n p q.
+    subst (λ lines. AreGroupsWithin lines functions table) (plus-flip n m) (subst (λ (p : Contents × Contents). JoinsWithin p.0 p.1 table) e joins functions n m q p)

@@ -10,7 +10,7 @@ use Rattle.query_tree.specs.Syntax.{TreeForm}
 use Rattle.pool.specs.Totals as pool
 use Rattle.pool.proofs.Sums.{total_load, total_weight}
 use Rattle.tables.specs.Laws.{mean-append, means_lawful}
-use Rattle.tables.specs.Means.{Mean, both, indexed, mean, mean_at, meaning, no_bytes, piece_at, with_index}
+use Rattle.tables.specs.Means.{IsMean, Mean, both, indexed, mean, mean_at, meaning, no_bytes, piece_at, with_index}
 use Rattle.tables.specs.Partials.{StandsFor}
 use Rattle.tables.specs.Pieces.{IndexedPiece, all_lines, refused_within}
 use Rattle.tables.specs.States.{PartialState}
@@ -39,6 +39,16 @@ stands-from_mean fields q partial pieces e = record {
   refused = ap (λ (m : Mean). m.refused) e;
   notes = λ weight. sym (ap (λ (m : Mean). m.notes weight) e);
 }
+
+-- what stands for the pieces of both means what both come to together
+pub mean-merged : (fields : List Field) (q : TreeForm) (a b merged : PartialState)
+    → ((pieces more : List IndexedPiece) → StandsFor fields q a pieces → StandsFor fields q b more → StandsFor fields q merged (pieces ++ more))
+    → IsMean fields q (meaning a) → IsMean fields q (meaning b) → meaning merged ≡ both (meaning a) (meaning b)
+mean-merged fields q a b merged stands x y =
+    mean-from_stands fields q merged (x.0 ++ y.0) (stands x.0 y.0 (stands-from_mean fields q a x.0 x.1) (stands-from_mean fields q b y.0 y.1))
+    ∙ mean-append fields q x.0 y.0
+    ∙ ap (λ m. both m (mean fields q y.0)) (sym x.1)
+    ∙ ap (both (meaning a)) (sym y.1)
 
 -- ---- all pieces of an input
 

@@ -3,6 +3,7 @@ ghost use Rattle.std.specs.Prelude.{◌≡◌, ◌≤◌, ◌<◌, ◌^◌, All,
 ghost use Rattle.std.proofs.Props.{props};
 ghost use Rattle.tables.specs.Means.{piece_at};
 
+use crate::joining::Joiner;
 use crate::partial::Partial;
 use lines::Piece;
 use pool::Work;
@@ -112,5 +113,78 @@ impl<'a> Work for Job<'a> {
 
     fn load(&self, p: &Partial) -> u64 {
         p.lines()
+    }
+}
+
+/// A job whose results are merged by a joiner.
+///
+/// Example: a pool makes of `JobBy::new(job, &Hands { rt: &rt, count: 4 })` what it makes of `job`.
+#[derive(Drop)]
+pub struct JobBy<'a, J: Joiner> {
+    job: Job<'a>,
+    joiner: &'a J,
+    ghost ready: { J.ready joiner.now } by { J.ready_once joiner.now },
+}
+
+impl<'a, J: Joiner> JobBy<'a, J> {
+    /// The job with this joiner, which can join. It takes no memory.
+    ///
+    /// Example: `JobBy::new(job, &CallingThread)` is a work like `job`.
+    pub fn new(job: Job<'a>, joiner: &'a J) -> JobBy<'a, J>
+        requires ready { J.ready joiner.now }
+        ensures job { result.job ≡ job.entry }
+    {
+        JobBy { job, joiner }
+    }
+}
+
+impl<'a, J: Joiner> Work for JobBy<'a, J> {
+    ghost use Rattle.std.specs.Prelude.{[]};
+    ghost use Rattle.query_plan.specs.Planned.{fields_of_plan, form_of_plan};
+    ghost use Rattle.tables.specs.Means.{IsMean, Mean, both, mean, mean_at, meaning};
+    ghost use Rattle.tables.specs.Laws.{means_lawful};
+
+    type Part = Partial;
+
+    ghost Meaning = { Mean };
+
+    ghost meaning = { λ part. meaning part };
+
+    ghost fits = { λ it m. IsMean (fields_of_plan it.job.plan.now) (form_of_plan it.job.plan.now) m };
+
+    ghost unit_meaning = { λ it. mean (fields_of_plan it.job.plan.now) (form_of_plan it.job.plan.now) [] };
+
+    ghost piece_meaning = { λ it i. mean_at (fields_of_plan it.job.plan.now) (form_of_plan it.job.plan.now) it.job.input.now it.job.pieces.now i };
+
+    ghost combined = { λ it a b. both a b };
+
+    ghost weight_of = { λ it m. m.refused };
+
+    ghost load_of = { λ it m. m.lines };
+
+    ghost lawful = { λ it. means_lawful (fields_of_plan it.job.plan.now) (form_of_plan it.job.plan.now) it.job.input.now it.job.pieces.now };
+
+    fn unit(&self) -> Result<Partial, AllocError> {
+        self.job.unit()
+    }
+
+    fn piece(&self, i: u32) -> Result<Partial, AllocError> {
+        self.job.piece(i)
+    }
+
+    fn combine(&self, a: Partial, b: Partial) -> Result<Partial, AllocError> {
+        a.merge_by(self.joiner, b)
+    }
+
+    fn add(&self, part: Partial, i: u32) -> Result<Partial, AllocError> {
+        self.job.add(part, i)
+    }
+
+    fn weight(&self, p: &Partial) -> u64 {
+        self.job.weight(p)
+    }
+
+    fn load(&self, p: &Partial) -> u64 {
+        self.job.load(p)
     }
 }

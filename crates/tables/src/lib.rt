@@ -17,6 +17,7 @@ mod shape;
 
 pub use grouped::Groups;
 pub use groups::{Cell, Group};
-pub use job::Job;
+pub use job::{Job, JobBy};
+pub use joining::{CallingThread, Hands, Joiner};
 pub use laws::{job_law, meaning_law, members_law, order_law};
 pub use partial::Partial;

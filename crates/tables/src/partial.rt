@@ -6,7 +6,7 @@ ghost use Rattle.groups.specs.Inside.Table.{AreGroupsWithin};
 
 use crate::folding::{Folding, read_lines};
 use crate::grouped::Groups;
-use crate::joining::join_tables;
+use crate::joining::{CallingThread, Joiner};
 use crate::laws::members_law;
 use crate::note::Note;
 use crate::numbering::{number, number_behind, put_behind};
@@ -229,6 +229,26 @@ impl Partial {
         ensures of_plan { IfOk result (λ merged. (fields : List Field) (q : TreeForm)
             → IsPartialOf fields q self → IsPartialOf fields q other → IsPartialOf fields q merged) }
     {
+        self.merge_by(&CallingThread, other)
+    }
+
+    /// What `merge` does, where the joiner puts the tables together. It can do so.
+    ///
+    /// Example: `first.merge_by(&Hands { rt: &rt, count: 4 }, second)?` stands for the pieces of both, as
+    /// `first.merge(second)?` does.
+    ///
+    /// # Errors
+    ///
+    /// `AllocError` where there is no memory for it; both are given up then.
+    pub fn merge_by<J: Joiner>(self, joiner: &J, other: Partial) -> Result<Partial, AllocError>
+        requires ready { J.ready joiner.now }
+        requires one_shape { HaveOneShape self other }
+        requires few { self.lines + other.lines < 2 ^ 63 }
+        ensures stands { IfOk result (λ merged. (fields : List Field) (q : TreeForm) (pieces more : List IndexedPiece)
+            → StandsFor fields q self pieces → StandsFor fields q other more → StandsFor fields q merged (pieces ++ more)) }
+        ensures of_plan { IfOk result (λ merged. (fields : List Field) (q : TreeForm)
+            → IsPartialOf fields q self → IsPartialOf fields q other → IsPartialOf fields q merged) }
+    {
         let Partial {
             alloc,
             shape,
@@ -239,7 +259,7 @@ impl Partial {
         } = self;
         let mut other = other;
         notes.append(&mut other.notes)?;
-        let joined = join_tables(table, other.table)?;
+        let joined = joiner.join(table, other.table)?;
         Ok(Partial {
             alloc,
             shape,
@@ -269,6 +289,25 @@ impl Partial {
             → StandsForInput fields q self front → StandsForInput fields q rest back → AreWholeLines front
             → StandsFor fields q followed (whole_piece (front ++ back))) }
     {
+        self.follow_by(&CallingThread, rest)
+    }
+
+    /// What `follow` does, where the joiner puts the tables together. It can do so.
+    ///
+    /// Example: `front.follow_by(&Hands { rt: &rt, count: 4 }, rest)?` stands for the whole input, as
+    /// `front.follow(rest)?` does.
+    ///
+    /// # Errors
+    ///
+    /// `AllocError` where there is no memory for it; both are given up then.
+    pub fn follow_by<J: Joiner>(self, joiner: &J, rest: Partial) -> Result<Partial, AllocError>
+        requires ready { J.ready joiner.now }
+        requires one_shape { HaveOneShape self rest }
+        requires few { self.lines + rest.lines < 2 ^ 63 }
+        ensures stands { IfOk result (λ followed. (fields : List Field) (q : TreeForm) (front back : List ℕ)
+            → StandsForInput fields q self front → StandsForInput fields q rest back → AreWholeLines front
+            → StandsFor fields q followed (whole_piece (front ++ back))) }
+    {
         let Partial {
             alloc,
             shape,
@@ -278,7 +317,7 @@ impl Partial {
             notes,
         } = self;
         let lines = before + rest.lines;
-        let joined = join_tables(table, rest.table)?;
+        let joined = joiner.join(table, rest.table)?;
         let mut numbered = number(alloc, notes)?;
         number_behind(&mut numbered, before, rest.notes)?;
         let notes = one_note(

@@ -13,10 +13,10 @@ use Rattle.query_truth.specs.Kept.{kept}
 use Rattle.tables.proofs.Following.{behind-within, followed-count, followed-lines, followed-note, followed-records, followed-refused, lines-within, whole-lines}
 use Rattle.tables.proofs.Merging.{one-note}
 use Rattle.tables.proofs.Reading.{kept-append}
-use Rattle.tables.proofs.partial.Partial.follow.Goals as goal
+use Rattle.tables.proofs.partial.Partial.follow_by.Goals as goal
 
-pub join_tables-requires : goal.join_tables-requires
-join_tables-requires c =
+pub join-requires-clause-join : goal.join-requires-clause-join
+join-requires-clause-join g c =
     let a = c.self.inside in
     let b = c.rest.inside in
     let functions : a.shape.functions.items ≡ b.shape.functions.items =
@@ -28,13 +28,13 @@ join_tables-requires c =
     (subst (λ (fs : List FilteredFunction). AreGroupsWithin b.lines fs b.table) (sym functions) b.within)
 
 pub number-requires-clause-few : goal.number-requires-clause-few
-number-requires-clause-few c = let a = c.self.inside in let counted = a.counted in let few = a.few in omega (arith, counted, few)
+number-requires-clause-few g c = let a = c.self.inside in let counted = a.counted in let few = a.few in omega (arith, counted, few)
 
 pub number-requires-clause-numbered : goal.number-requires-clause-numbered
-number-requires-clause-numbered c = c.self.inside.numbered
+number-requires-clause-numbered g c = c.self.inside.numbered
 
 pub number_behind-requires-clause-few : goal.number_behind-requires-clause-few
-number_behind-requires-clause-few c =
+number_behind-requires-clause-few g c =
     let a = c.self.inside in
     let b = c.rest.inside in
     let counted = b.counted in
@@ -43,10 +43,10 @@ number_behind-requires-clause-few c =
     omega (arith, first, second, counted, c.requires.few)
 
 pub number_behind-requires-clause-numbered : goal.number_behind-requires-clause-numbered
-number_behind-requires-clause-numbered c = c.rest.inside.numbered
+number_behind-requires-clause-numbered g c = c.rest.inside.numbered
 
 pub invariant_of-result : goal.invariant_of-result
-invariant_of-result c =
+invariant_of-result g c =
     let a = c.self.inside in
     let b = c.rest.inside in
     let functions : a.shape.functions.items ≡ b.shape.functions.items =
@@ -73,7 +73,7 @@ invariant_of-result c =
     )
 
 pub returns : goal.returns
-returns c = record {
+returns g c = record {
   stands = λ fields q front back given other whole.
       let a = c.self.inside in
       let b = c.rest.inside in

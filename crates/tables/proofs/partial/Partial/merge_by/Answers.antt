@@ -16,10 +16,10 @@ use Rattle.tables.specs.States.{PartialState}
 use Rattle.query_truth.specs.Kept.{kept}
 use Rattle.tables.proofs.Reading.{kept-append}
 use Rattle.tables.proofs.Merging.{counted-append, lines-append, notes-append, records-append, refused-append}
-use Rattle.tables.proofs.partial.Partial.merge.Goals as goal
+use Rattle.tables.proofs.partial.Partial.merge_by.Goals as goal
 
-pub join_tables-requires : goal.join_tables-requires
-join_tables-requires c =
+pub join-requires-clause-join : goal.join-requires-clause-join
+join-requires-clause-join g c =
     let a = c.self.inside in
     let b = c.other.inside in
     let functions : a.shape.functions.items ≡ b.shape.functions.items =
@@ -31,7 +31,7 @@ join_tables-requires c =
     (subst (λ (fs : List FilteredFunction). AreGroupsWithin b.lines fs b.table) (sym functions) b.within)
 
 pub invariant_of-result : goal.invariant_of-result
-invariant_of-result c =
+invariant_of-result g c =
     let a = c.self.inside in
     let b = c.other.inside in
     let functions : a.shape.functions.items ≡ b.shape.functions.items =
@@ -54,7 +54,7 @@ invariant_of-result c =
     )
 
 pub returns-clause-stands : goal.returns-clause-stands
-returns-clause-stands c = λ fields q pieces more given other.
+returns-clause-stands g c = λ fields q pieces more given other.
     let a = c.self.inside in
     let b = c.other.inside in
     let p = subst (λ (v : PartialState). StandsFor fields q v pieces) (sym c.self.view_is) given in
@@ -72,5 +72,5 @@ returns-clause-stands c = λ fields q pieces more given other.
     }
 
 pub returns-clause-of_plan : goal.returns-clause-of_plan
-returns-clause-of_plan c = λ fields q p m.
-    ∥∥₁_map₂ p m (λ x y. (x.0 ++ y.0, returns-clause-stands c fields q x.0 y.0 x.1 y.1))
+returns-clause-of_plan g c = λ fields q p m.
+    ∥∥₁_map₂ p m (λ x y. (x.0 ++ y.0, returns-clause-stands g c fields q x.0 y.0 x.1 y.1))
