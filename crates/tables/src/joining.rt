@@ -73,13 +73,12 @@ pub struct Hands<'a, H> {
 
 impl<'a, H: Threads + Sync> Joiner for Hands<'a, H> {
     ghost use Rattle.std.specs.Prelude.{◌<◌};
-    ghost use denote.Param.Send.{IsSync};
-    ghost use Rattle.tables.specs.Ready.{sync-once};
+    ghost use Rattle.tables.specs.Ready.{IsSyncAtEach, keyless-once};
     ghost use Rattle.std.specs.Coded.{le_prop};
 
-    ghost ready = { λ hands. IsSync H.row × (0 < hands.count) };
+    ghost ready = { λ hands. IsSyncAtEach H.row × (0 < hands.count) };
 
-    ghost ready_once = { λ _. Prim.hlevel (sync-once, le_prop) };
+    ghost ready_once = { λ _. Prim.hlevel (keyless-once, le_prop) };
 
     fn join(&self, first: Table, second: Table) -> Result<Table, AllocError> {
         let (mut joined, other) = larger_first(first, second);
