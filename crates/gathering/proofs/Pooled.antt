@@ -17,6 +17,7 @@ use Rattle.pool.specs.Totals.{sum_below, total}
 use Rattle.query_tree.specs.Syntax.{TreeForm}
 use Rattle.query_plan.specs.declared.plan.Plan.{Plan}
 use Rattle.query_plan.specs.Planned.{fields_of_plan, form_of_plan}
+use Rattle.tables.specs.declared.job.Job.{Job}
 use Rattle.tables.specs.declared.partial.Partial.{Partial}
 use Rattle.tables.specs.Means.{both, indexed, mean, mean_at, meaning}
 use Rattle.tables.specs.Partials.{StandsFor, StandsForInput}
@@ -34,6 +35,12 @@ abbrev pub DecidesOf : Plan → List ℕ → List Piece → ℕ → ℕ → Outc
 DecidesOf plan input pieces n limit outcome =
     Decides meaning (total (mean (fields_of_plan plan) (form_of_plan plan) []) both (mean_at (fields_of_plan plan) (form_of_plan plan) input pieces) n)
     (sum_below (λ i. (mean_at (fields_of_plan plan) (form_of_plan plan) input pieces i).refused) n) limit outcome
+
+-- a job is over the pieces of an input under a plan
+pub record IsJobOf (plan : Plan) (input : List ℕ) (pieces : List Piece) (job : Job) : Type 0 where
+  pub plan_is : job.plan.now ≡ plan
+  pub input_is : job.input.now ≡ input
+  pub pieces_are : job.pieces.now ≡ pieces
 
 -- the laws of a job's pieces
 abbrev Stands : Type 0

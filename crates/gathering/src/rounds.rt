@@ -21,7 +21,7 @@ use std::sync::Wait;
 use std::sync::atomic::{AtomicBool, Ordering};
 use std::sync::ledger::{Blank, Ledger};
 use std::thread::{Threads, join};
-use tables::Partial;
+use tables::{Hands, Partial};
 
 /// The most bytes of a round that is worked on by the calling thread alone: so few that they stay near the processor
 /// from the read to the last look at them, and no memory has to be touched for the first time beyond them.
@@ -191,7 +191,11 @@ fn work_ahead<L: Ledger + Send + Sync, R: Read + Drop + Send, H: Threads + Wait 
         rt, alloc, plan, options, before, rounds, &round, book, shares,
     );
     let (more, shares) = worked?;
-    let whole = whole.follow(more)?;
+    let hands = Hands {
+        rt,
+        count: options.workers(),
+    };
+    let whole = whole.follow_by(&hands, more)?;
     let found = read?;
     Ok(Ahead {
         whole,

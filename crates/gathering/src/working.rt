@@ -17,7 +17,7 @@ use std::marker::{Send, Sync};
 use std::sync::Wait;
 use std::sync::ledger::Ledger;
 use std::thread::Threads;
-use tables::{Job, Partial, job_law};
+use tables::{Hands, Job, JobBy, Partial, job_law};
 
 /// Nothing, where so many refused lines are not more than may be; else the fault that says so.
 pub(crate) fn within_limit(options: Options, count: u64) -> Result<(), GatherFault>
@@ -55,7 +55,11 @@ pub(crate) fn round_among<L: Ledger + Send + Sync, H: Threads + Wait + Sync>(
 {
     let pieces = pieces_of(alloc, round, options.piece())?;
     job_law();
-    let job = Job::new(alloc, plan, round, pieces.as_slice());
+    let hands = Hands {
+        rt,
+        count: shares.len(),
+    };
+    let job = JobBy::new(Job::new(alloc, plan, round, pieces.as_slice()), &hands);
     let stop = limit_of(options);
     match fan_deal(
         rt,

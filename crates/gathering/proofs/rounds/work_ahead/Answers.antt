@@ -37,8 +37,8 @@ returns-in_err-more-clause-fault g c = λ known is.
     let p = err_from_is_err_and c.from_residual.result c.from_residual.ensures.1 in
     rw (p.1, p.2) stops
 
-pub follow-requires-clause-few : goal.follow-requires-clause-few
-follow-requires-clause-few g c =
+pub follow_by-requires-clause-few : goal.follow_by-requires-clause-few
+follow_by-requires-clause-few g c =
     let ahead = c.args.ahead in
     let m = c.requires.ahead.1.more c.requires.found in
     let fields = fields_of_plan c.args.plan.now in
