@@ -80,12 +80,12 @@ find-place n (suc i) (s ∷ ss) d k a p l =
 
 -- ---- all shards
 
--- there are sixteen places
-place-below : (k : Key) → place k < 16
+-- there are four places
+place-below : (k : Key) → place k < 4
 place-below k = omega arith
 
--- so each key has one in sixteen shards
-pub within-all : (ss : Vec Shard Global) → vec_len ss ≡ 16 → (k : Key) → place k < length ss.items
+-- so each key has one in four shards
+pub within-all : (ss : Vec Shard Global) → vec_len ss ≡ 4 → (k : Key) → place k < length ss.items
 within-all ss n k = let p = place-below k in let l = ss.ok in omega (arith, n, p, l)
 
 pub get-place : (ss : List Shard) (d : Shard) (k : Key) → AreApart ss → place k < length ss → get (contents_of_shards ss) k ≡ get (contents_in (get_or ss (place k) d)) k

@@ -7,7 +7,7 @@ ghost use Rattle.groups.specs.Inside.Shards.{last_bytes, mixed, place, with_valu
 use values::Value;
 
 /// The number of shards of a table.
-pub(crate) const SHARDS: usize = 16;
+pub(crate) const SHARDS: usize = 4;
 
 /// How many bytes at the end of a text tell its shard.
 const LAST: usize = 4;
@@ -15,13 +15,13 @@ const LAST: usize = 4;
 /// The number of the shard that keeps a key, below `SHARDS`.
 pub(crate) fn place_of(key: &[Value]) -> usize
     ensures place { result ≡ place (data_of key.now) }
-    ensures within { result < 16 }
+    ensures within { result < 4 }
 {
     let mut digest = 0;
     for value in key {
         digest = with_value(digest, value);
     }
-    (mixed(digest, 0) / 268_435_456) as usize
+    (mixed(digest, 0) / 1_073_741_824) as usize
 }
 
 /// A number with a value mixed into it.

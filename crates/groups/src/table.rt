@@ -39,7 +39,7 @@ pub struct Table {
     /// record whose group is there. A new group gets a key of its own, with room for its own texts and no more; this
     /// one keeps room for the longest text of each column so far, which is no longer than a line may be.
     scratch: Vec<Value>,
-    ghost count: { vec_len shards ≡ 16 },
+    ghost count: { vec_len shards ≡ 4 },
     ghost apart: { AreApart shards.items } by { Prim.hlevel props },
 }
 

@@ -28,9 +28,9 @@ with_value digest (whole n) = mixed digest (unsigned_abs n % 4294967296)
 with_value digest (text bytes) = fold mixed digest (last_bytes bytes)
 with_value digest null = mixed digest 2
 
--- the number of the shard that keeps a key, below 16: the highest four of the 32 bits of what all its values mix to
+-- the number of the shard that keeps a key, below 4: the highest two of the 32 bits of what all its values mix to
 abbrev pub place : Key → ℕ
-place key = mixed (fold with_value 0 key) 0 / 268435456
+place key = mixed (fold with_value 0 key) 0 / 1073741824
 
 -- ---- what shards have
 
