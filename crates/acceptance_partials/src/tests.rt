@@ -1,6 +1,7 @@
 //! A module for each subject.
 
 mod following;
+mod joining;
 mod partials;
 mod reference;
 mod rolling;

@@ -12,8 +12,10 @@ use super::reference::{Findings, findings_of};
 use lines::LineFault;
 use query::Plan;
 use std::alloc::{AllocError, Global};
+use std::marker::Sync;
 use std::process::Abort;
-use tables::Partial;
+use std::thread::Threads;
+use tables::{Hands, Partial};
 
 /// An input in two parts, how many lines it has, and its refused lines.
 #[derive(Clone, Copy)]
@@ -79,7 +81,7 @@ const ALL_PARTED: &[Parted] = &[
 ];
 
 /// Whether bytes are whole lines: there are none, or they end in a line feed.
-fn are_whole_lines(bytes: &[u8]) -> bool
+pub fn are_whole_lines(bytes: &[u8]) -> bool
     ensures { result ≡ true → AreWholeLines bytes.now }
 {
     match bytes.split_last() {
@@ -96,7 +98,7 @@ fn has_few_lines(bytes: &[u8]) -> bool
 }
 
 /// The result over an input: over no pieces where it is empty, and else over one.
-fn over(alloc: Global, plan: &Plan, input: &[u8]) -> Result<Partial, AllocError>
+pub fn over(alloc: Global, plan: &Plan, input: &[u8]) -> Result<Partial, AllocError>
     ensures { IfOk result (λ partial. StandsForInput (fields_of_plan plan.now) (form_of_plan plan.now) partial input.now) }
 {
     if input.is_empty() {
@@ -122,6 +124,33 @@ fn followed(
             assert!(rt; whole.same_shape(&behind));
             assert!(rt; whole.lines() + behind.lines() < 1 << 63);
             whole.follow(behind)
+        }
+        Err(refused) => {
+            drop(behind);
+            Err(refused)
+        }
+    }
+}
+
+/// The same, where so many hands put the tables together.
+pub fn followed_by_hands<H: Abort + Threads + Sync>(
+    rt: &H,
+    alloc: Global,
+    plan: &Plan,
+    front: &[u8],
+    rest: &[u8],
+    count: usize,
+) -> Result<Partial, AllocError>
+    requires front { AreWholeLines front.now }
+    requires hands { 0 < count }
+    ensures { IfOk result (IsPartialOf (fields_of_plan plan.now) (form_of_plan plan.now)) }
+{
+    let behind = over(alloc, plan, rest)?;
+    match over(alloc, plan, front) {
+        Ok(whole) => {
+            assert!(rt; whole.same_shape(&behind));
+            assert!(rt; whole.lines() + behind.lines() < 1 << 63);
+            whole.follow_by(&Hands { rt, count }, behind)
         }
         Err(refused) => {
             drop(behind);
@@ -167,7 +196,7 @@ fn assert_found(
 
 /// Asserts that the result over both parts of an input, one following the other or folded behind it, is what the result
 /// over all of it is.
-fn assert_followed(rt: &impl Abort, alloc: Global, plan: &Plan, parted: &Parted) {
+fn assert_followed<H: Abort + Threads + Sync>(rt: &H, alloc: Global, plan: &Plan, parted: &Parted) {
     let mut input = parted.front.to_vec(alloc).expect(rt, "memory");
     input.extend_from_slice(parted.rest).expect(rt, "memory");
     let wanted = findings_of(rt, alloc, plan, input.as_slice());
@@ -176,6 +205,9 @@ fn assert_followed(rt: &impl Abort, alloc: Global, plan: &Plan, parted: &Parted)
     assert!(rt; are_whole_lines(parted.front));
     let both = followed(rt, alloc, plan, parted.front, parted.rest).expect(rt, "memory");
     assert_found(rt, alloc, plan, both, parted, &wanted);
+    let by_hands = followed_by_hands(rt, alloc, plan, parted.front, parted.rest, 3);
+    let by_hands = by_hands.expect(rt, "memory");
+    assert_found(rt, alloc, plan, by_hands, parted, &wanted);
     let folded = folded_behind(rt, alloc, plan, parted.front, parted.rest).expect(rt, "memory");
     assert_found(rt, alloc, plan, folded, parted, &wanted);
 }
@@ -210,6 +242,17 @@ fn refusal_of_follow(rt: HostRuntime) {
     assert!(rt; are_whole_lines(IN_BOTH.front));
     if let Some(plan) = planned_or_refused(&rt, rt.alloc(), BY_D) {
         let both = followed(&rt, rt.alloc(), &plan, IN_BOTH.front, IN_BOTH.rest);
+        assert_both_or_refused(&rt, &plan, both);
+        drop(plan);
+    }
+}
+
+/// The same where several hands put the tables together.
+#[test]
+fn refusal_of_follow_by(rt: HostRuntime) {
+    assert!(rt; are_whole_lines(IN_BOTH.front));
+    if let Some(plan) = planned_or_refused(&rt, rt.alloc(), BY_D) {
+        let both = followed_by_hands(&rt, rt.alloc(), &plan, IN_BOTH.front, IN_BOTH.rest, 3);
         assert_both_or_refused(&rt, &plan, both);
         drop(plan);
     }

@@ -8,8 +8,10 @@ use super::reference::{Findings, Row, cell_of, findings_of};
 use lines::{LineFault, Piece, cut};
 use query::{ColumnFunction, Plan, Query, QueryFault, check, parse};
 use std::alloc::{AllocError, Global};
+use std::marker::Sync;
 use std::process::Abort;
-use tables::{Cell, Group, Groups, Partial};
+use std::thread::Threads;
+use tables::{Cell, Group, Groups, Hands, Partial};
 use values::{Record, Schema, SchemaFault, Value};
 
 const COLUMNS: &str = "d:text,r:text,q:int";
@@ -85,6 +87,24 @@ fn merge(rt: &impl Abort, plan: &Plan, left: Partial, right: Partial) -> Result<
     left.merge(right)
 }
 
+/// The same, where so many hands put the tables together.
+pub fn merge_by_hands<H: Abort + Threads + Sync>(
+    rt: &H,
+    plan: &Plan,
+    left: Partial,
+    right: Partial,
+    count: usize,
+) -> Result<Partial, AllocError>
+    requires left { IsPartialOf (fields_of_plan plan.now) (form_of_plan plan.now) left }
+    requires right { IsPartialOf (fields_of_plan plan.now) (form_of_plan plan.now) right }
+    requires hands { 0 < count }
+    ensures { IfOk result (λ merged. IsPartialOf (fields_of_plan plan.now) (form_of_plan plan.now) merged) }
+{
+    assert!(rt; left.same_shape(&right));
+    assert!(rt; left.lines() + right.lines() < 1 << 63);
+    left.merge_by(&Hands { rt, count }, right)
+}
+
 /// The result over a piece of an input.
 fn folded(
     rt: &impl Abort,
@@ -157,7 +177,11 @@ fn merged(
 }
 
 /// The rows by the index of their set, those of one set by their keys.
-fn sorted_rows<'a>(rt: &impl Abort, alloc: Global, groups: &'a Groups) -> Vec<&'a (usize, Group)> {
+pub fn sorted_rows<'a>(
+    rt: &impl Abort,
+    alloc: Global,
+    groups: &'a Groups,
+) -> Vec<&'a (usize, Group)> {
     let rows: Result<Vec<&(usize, Group)>, AllocError> = groups.rows().iter().collect(alloc);
     let mut rows = rows.expect(rt, "memory");
     rows.sort_unstable_by(|a, b| a.0.cmp(&b.0).then_with(|| a.1.key.cmp(&b.1.key)));
@@ -601,6 +625,34 @@ fn two_merged(rt: &impl Abort, alloc: Global, plan: &Plan) -> Result<Partial, Al
 fn refusal_of_merge(rt: HostRuntime) {
     if let Some(plan) = planned_or_refused(&rt, rt.alloc(), BY_D) {
         let merged = two_merged(&rt, rt.alloc(), &plan);
+        assert_four_or_refused(&rt, &plan, merged);
+        drop(plan);
+    }
+}
+
+/// The same, where several hands put the tables together.
+fn two_merged_by_hands<H: Abort + Threads + Sync>(
+    rt: &H,
+    alloc: Global,
+    plan: &Plan,
+) -> Result<Partial, AllocError>
+    ensures { IfOk result (IsPartialOf (fields_of_plan plan.now) (form_of_plan plan.now)) }
+{
+    let second = Partial::fold_piece(alloc, plan, 1, &FOUR[FIRST_LEN..])?;
+    match first_folded(alloc, plan) {
+        Ok(first) => merge_by_hands(rt, plan, second, first, 3),
+        Err(refused) => {
+            drop(second);
+            Err(refused)
+        }
+    }
+}
+
+/// The same of two results that several hands put together.
+#[test]
+fn refusal_of_merge_by(rt: HostRuntime) {
+    if let Some(plan) = planned_or_refused(&rt, rt.alloc(), BY_D) {
+        let merged = two_merged_by_hands(&rt, rt.alloc(), &plan);
         assert_four_or_refused(&rt, &plan, merged);
         drop(plan);
     }

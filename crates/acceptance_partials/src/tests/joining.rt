@@ -1,0 +1,107 @@
+//! Results with many groups that several hands put together are the result over all.
+ghost use Rattle.std.specs.Prelude.{◌<◌, IfOk};
+ghost use Rattle.query_plan.specs.Planned.{fields_of_plan, form_of_plan};
+ghost use Rattle.tables.specs.Partials.{IsPartialOf};
+
+use super::following::{are_whole_lines, followed_by_hands};
+use super::partials::{BY_D, merge_by_hands, planned, sorted_rows};
+use query::Plan;
+use std::alloc::{AllocError, Global};
+use std::marker::Sync;
+use std::process::Abort;
+use std::thread::Threads;
+use tables::{Group, Groups, Partial};
+
+/// A line for each number from the first one to before the last one, which stands in two columns.
+fn numbered_lines(alloc: Global, first: u32, last: u32) -> Result<String, AllocError> {
+    let mut text = String::new(alloc);
+    for number in first..last {
+        let number = number.to_string(alloc)?;
+        text.push_str("{\"d\":\"")?;
+        text.push_str(number.as_str())?;
+        text.push_str("\",\"q\":")?;
+        text.push_str(number.as_str())?;
+        text.push_str("}\n")?;
+    }
+    Ok(text)
+}
+
+/// The result over two pieces, put together by so many hands.
+fn merged_by_hands<H: Abort + Threads + Sync>(
+    rt: &H,
+    alloc: Global,
+    plan: &Plan,
+    first: &[u8],
+    second: &[u8],
+    count: usize,
+) -> Result<Partial, AllocError>
+    requires hands { 0 < count }
+    ensures { IfOk result (IsPartialOf (fields_of_plan plan.now) (form_of_plan plan.now)) }
+{
+    let behind = Partial::fold_piece(alloc, plan, 1, second)?;
+    match Partial::fold_piece(alloc, plan, 0, first) {
+        Ok(before) => merge_by_hands(rt, plan, before, behind, count),
+        Err(refused) => {
+            drop(behind);
+            Err(refused)
+        }
+    }
+}
+
+fn is_same(left: &(usize, Group), right: &(usize, Group)) -> bool {
+    left.0 == right.0
+        && left.1.key.as_slice() == right.1.key.as_slice()
+        && left.1.lines == right.1.lines
+        && left.1.cells.as_slice() == right.1.cells.as_slice()
+}
+
+/// Asserts that a result finds these groups.
+fn assert_finds(rt: &impl Abort, alloc: Global, plan: &Plan, partial: Partial, wanted: &Groups)
+    requires { IsPartialOf (fields_of_plan plan.now) (form_of_plan plan.now) partial }
+{
+    let groups = partial.finish(plan).expect(rt, "memory");
+    assert_eq!(rt; groups.rows().len(), wanted.rows().len());
+    let rows = sorted_rows(rt, alloc, &groups);
+    let wanted = sorted_rows(rt, alloc, wanted);
+    for (row, wanted) in rows.iter().zip(wanted.iter()) {
+        assert!(rt; is_same(*row, *wanted), "{row:?} / {wanted:?}");
+    }
+}
+
+/// Asserts that these groups are found by the results over two inputs that so many hands put together.
+fn assert_joined<H: Abort + Threads + Sync>(
+    rt: &H,
+    alloc: Global,
+    plan: &Plan,
+    front: &[u8],
+    rest: &[u8],
+    count: usize,
+    wanted: &Groups,
+)
+    requires { 0 < count }
+{
+    assert!(rt; are_whole_lines(front));
+    let merged = merged_by_hands(rt, alloc, plan, rest, front, count);
+    assert_finds(rt, alloc, plan, merged.expect(rt, "memory"), wanted);
+    let followed = followed_by_hands(rt, alloc, plan, front, rest, count);
+    assert_finds(rt, alloc, plan, followed.expect(rt, "memory"), wanted);
+}
+
+/// Two inputs of 4,000 groups each, half of which both have.
+#[test]
+fn joined_by_hands_like_the_whole(rt: HostRuntime) {
+    let alloc = rt.alloc();
+    let front = numbered_lines(alloc, 0, 4000).expect(&rt, "memory");
+    let rest = numbered_lines(alloc, 2000, 6000).expect(&rt, "memory");
+    let mut input = front.clone().expect(&rt, "memory");
+    input.push_str(rest.as_str()).expect(&rt, "memory");
+    let plan = planned(&rt, alloc, BY_D);
+    let whole = Partial::fold_piece(alloc, &plan, 0, input.as_bytes()).expect(&rt, "memory");
+    let wanted = whole.finish(&plan).expect(&rt, "memory");
+    assert_eq!(rt; wanted.rows().len(), 6000);
+    let (front, rest) = (front.as_bytes(), rest.as_bytes());
+    assert_joined(&rt, alloc, &plan, front, rest, 1, &wanted);
+    assert_joined(&rt, alloc, &plan, front, rest, 2, &wanted);
+    assert_joined(&rt, alloc, &plan, front, rest, 5, &wanted);
+    drop(plan);
+}
