@@ -87,18 +87,18 @@ fn assert_joined<H: Abort + Threads + Sync>(
     assert_finds(rt, alloc, plan, followed.expect(rt, "memory"), wanted);
 }
 
-/// Two inputs of 4,000 groups each, half of which both have.
+/// Two inputs of 6,000 groups each, half of which both have.
 #[test]
 fn joined_by_hands_like_the_whole(rt: HostRuntime) {
     let alloc = rt.alloc();
-    let front = numbered_lines(alloc, 0, 4000).expect(&rt, "memory");
-    let rest = numbered_lines(alloc, 2000, 6000).expect(&rt, "memory");
+    let front = numbered_lines(alloc, 0, 6000).expect(&rt, "memory");
+    let rest = numbered_lines(alloc, 3000, 9000).expect(&rt, "memory");
     let mut input = front.clone().expect(&rt, "memory");
     input.push_str(rest.as_str()).expect(&rt, "memory");
     let plan = planned(&rt, alloc, BY_D);
     let whole = Partial::fold_piece(alloc, &plan, 0, input.as_bytes()).expect(&rt, "memory");
     let wanted = whole.finish(&plan).expect(&rt, "memory");
-    assert_eq!(rt; wanted.rows().len(), 6000);
+    assert_eq!(rt; wanted.rows().len(), 9000);
     let (front, rest) = (front.as_bytes(), rest.as_bytes());
     assert_joined(&rt, alloc, &plan, front, rest, 1, &wanted);
     assert_joined(&rt, alloc, &plan, front, rest, 2, &wanted);
