@@ -16,3 +16,4 @@ pub mod AnyOrder
 pub mod Rolling
 pub mod Shards
 pub mod InPairs
+pub mod Walks

@@ -8,3 +8,4 @@ pub mod Keys
 pub mod Table
 pub mod Shards
 pub mod Pairs
+pub mod Walks

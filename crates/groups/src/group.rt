@@ -1,12 +1,13 @@
 //! The groups that a table gives.
-ghost use Rattle.std.specs.Prelude.{◌≡◌, ◌++◌, OnOk, map};
-ghost use Rattle.groups.specs.Inside.Shards.{entries_in};
+ghost use Rattle.std.specs.Prelude.{◌≡◌, ◌++◌, ◌∷◌, [], OnOk, map};
+ghost use Rattle.values.specs.Datum.{data_of};
 ghost use Rattle.groups.specs.Inside.Table.{entries_by_key};
 ghost use Rattle.groups.specs.GroupSummaries.{group_summary_in};
 ghost use Rattle.groups.specs.Inside.Group.{state_summary};
 
+use crate::accumulators::Accumulators;
 use crate::cell::Cell;
-use crate::shard::Shard;
+use crate::walk::Walk;
 use std::alloc::{AllocError, Global};
 use values::Value;
 
@@ -26,18 +27,31 @@ pub struct Group {
     pub cells: Vec<Cell>,
 }
 
-/// Puts a group for each of a shard behind others, in the order in which the shard has them.
+/// Puts a group for each that a walk has not come to behind others, in its order.
 pub(crate) fn put_groups(
     alloc: Global,
     groups: &mut Vec<Group>,
-    shard: Shard,
+    walk: Walk,
 ) -> Result<(), AllocError>
-    ensures { OnOk result (map group_summary_in groups.new.items ≡ map group_summary_in groups.old.items ++ map state_summary (entries_by_key (entries_in shard))) }
+    ensures { OnOk result (map group_summary_in groups.new.items ≡ map group_summary_in groups.old.items ++ map state_summary (entries_by_key walk.entries)) }
 {
-    let Shard { groups: entries } = shard;
+    let Walk { entries } = walk;
     for (key, group) in entries {
-        let (lines, cells) = group.finish(alloc)?;
-        groups.push(Group { key, lines, cells })?;
+        put_group(alloc, groups, key, group)?;
     }
+    Ok(())
+}
+
+/// Puts a group behind others.
+pub(crate) fn put_group(
+    alloc: Global,
+    groups: &mut Vec<Group>,
+    key: Vec<Value>,
+    group: Accumulators,
+) -> Result<(), AllocError>
+    ensures { OnOk result (map group_summary_in groups.new.items ≡ map group_summary_in groups.old.items ++ state_summary (data_of key.items, group) ∷ []) }
+{
+    let (lines, cells) = group.finish(alloc)?;
+    groups.push(Group { key, lines, cells })?;
     Ok(())
 }

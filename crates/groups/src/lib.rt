@@ -20,6 +20,7 @@ mod place;
 mod shard;
 mod table;
 mod total;
+mod walk;
 
 pub use cell::Cell;
 pub use group::Group;

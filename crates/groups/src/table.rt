@@ -4,12 +4,13 @@ ghost use Rattle.std.proofs.Props.{props};
 ghost use Rattle.groups.specs.Inside.Shards.{AreApart, AreJoined, CanJoinEach};
 
 use crate::accumulators::Accumulators;
-use crate::group::{Group, put_groups};
+use crate::group::Group;
 use crate::key::{indices_in, write_key};
 use crate::pairs::join_shards_among;
 use crate::part::Part;
 use crate::place::{SHARDS, place_of};
 use crate::shard::Shard;
+use crate::walk::{fewest, put_rest, put_turn, walks_over};
 use query_check::FilteredFunction;
 use std::alloc::{AllocError, Global};
 use std::marker::{Model, Sync};
@@ -260,11 +261,13 @@ impl Table {
             → IsTableOf set functions self rows → SameBag (map group_summary_in groups.items) (group_summaries set functions rows)) }
     {
         let Table { alloc, shards, .. } = self;
+        let turns = fewest(shards.as_slice());
+        let mut walks = walks_over(alloc, shards)?;
         let mut groups = Vec::new(alloc);
-        for shard in shards {
-            put_groups(alloc, &mut groups, shard)?;
+        for _ in 0..turns {
+            put_turn(alloc, &mut groups, &mut walks)?;
         }
-        Ok(groups)
+        put_rest(alloc, groups, walks)
     }
 
     /// Puts one more part to the group of a record's key.

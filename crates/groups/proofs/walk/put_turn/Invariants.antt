@@ -1,0 +1,12 @@
+use Rattle.std.proofs.Common.{◌++◌, map}
+use Rattle.groups.specs.Bags.{SameBag}
+use Rattle.groups.specs.GroupSummaries.{group_summary_in}
+use Rattle.groups.specs.Inside.Group.{state_summary}
+use Rattle.groups.specs.Inside.Table.{entries_by_key}
+use Rattle.groups.specs.Inside.Walks.{entries_left}
+use Rattle.groups.proofs.walk.put_turn.Given as goal
+
+-- the groups so far and those that are left are the same as at first
+abbrev pub invariant-loop-place : goal.invariant-loop-place
+invariant-loop-place l = SameBag (map group_summary_in l.groups.items ++ map state_summary (entries_by_key (entries_left l.walks.items)))
+    (map group_summary_in l.fn.groups.items ++ map state_summary (entries_by_key (entries_left l.fn.walks.items)))
