@@ -1,4 +1,4 @@
-use Rattle.std.proofs.Common.{◌++◌, map}
+use Rattle.std.proofs.Common.{◌≡◌, ◌++◌, length, map}
 use Rattle.groups.specs.Bags.{SameBag}
 use Rattle.groups.specs.GroupSummaries.{group_summary_in}
 use Rattle.groups.specs.Inside.Group.{state_summary}
@@ -6,7 +6,10 @@ use Rattle.groups.specs.Inside.Table.{entries_by_key}
 use Rattle.groups.specs.Inside.Walks.{entries_left}
 use Rattle.groups.proofs.walk.put_turn.Given as goal
 
--- the groups so far and those that are left are the same as at first
+-- there are as many walks as at first, and the groups so far and those that are left are the same
 abbrev pub invariant-loop-place : goal.invariant-loop-place
-invariant-loop-place l = SameBag (map group_summary_in l.groups.items ++ map state_summary (entries_by_key (entries_left l.walks.items)))
-    (map group_summary_in l.fn.groups.items ++ map state_summary (entries_by_key (entries_left l.fn.walks.items)))
+invariant-loop-place l = record {
+  count : length l.walks.items ≡ length l.fn.walks.items;
+  same : SameBag (map group_summary_in l.groups.items ++ map state_summary (entries_by_key (entries_left l.walks.items)))
+      (map group_summary_in l.fn.groups.items ++ map state_summary (entries_by_key (entries_left l.fn.walks.items)));
+}

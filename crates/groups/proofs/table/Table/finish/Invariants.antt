@@ -2,11 +2,10 @@ use Rattle.std.proofs.Common.{◌++◌, map}
 use Rattle.groups.specs.Bags.{SameBag}
 use Rattle.groups.specs.GroupSummaries.{group_summary_in}
 use Rattle.groups.specs.Inside.Group.{state_summary}
-use Rattle.groups.specs.Inside.Shards.{all_entries}
 use Rattle.groups.specs.Inside.Table.{entries_by_key}
 use Rattle.groups.specs.Inside.Walks.{entries_left}
 use Rattle.groups.proofs.table.Table.finish.Given as goal
 
 -- the groups so far and those that the walks have not come to are those of all shards
-abbrev pub invariant-loop-_ : goal.invariant-loop-_
-invariant-loop-_ l = SameBag (map group_summary_in l.groups.items ++ map state_summary (entries_by_key (entries_left l.walks.items))) (map state_summary (entries_by_key (all_entries l.initial.walks.items)))
+abbrev pub invariant-loop : goal.invariant-loop
+invariant-loop l = SameBag (map group_summary_in l.groups.items ++ map state_summary (entries_by_key (entries_left l.walks.items))) (map state_summary (entries_by_key (entries_left l.initial.walks.items)))
