@@ -89,6 +89,25 @@ impl Table {
         Table::without_groups(alloc)
     }
 
+    /// The table that `new` gives, kept in such a way that as many hands put it to another one soonest
+    /// (`absorb_among`).
+    ///
+    /// Example: `Table::for_hands(alloc, 4, set, functions)?` means what `Table::new(alloc, set, functions)?` means.
+    ///
+    /// # Errors
+    ///
+    /// `AllocError` where there is no memory for it.
+    pub fn for_hands(
+        alloc: Global,
+        _hands: usize,
+        set: &[usize],
+        functions: &[FilteredFunction],
+    ) -> Result<Table, AllocError>
+        ensures empty { IfOk result (λ table. (filters : List (Row → Bool)) → IsTableOf set.now (map (bound filters) functions.now) table []) }
+    {
+        Table::new(alloc, set, functions)
+    }
+
     /// The table that has no group.
     fn without_groups(alloc: Global) -> Result<Table, AllocError>
         ensures { IfOk result (λ table. table ≡ fin.empty) }

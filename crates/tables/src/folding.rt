@@ -4,6 +4,7 @@ ghost use Rattle.lines.specs.Lines.{lines};
 ghost use Rattle.groups.specs.Rows.{Row};
 ghost use Rattle.tables.specs.Folding.{HasReadUnder, ReadsMoreUnder};
 
+use crate::joining::Joiner;
 use groups::Table;
 use lines::{LineFault, LineRefusal, RecordReader, lines_of};
 use query_plan::{Plan, holds};
@@ -30,11 +31,15 @@ impl Folding {
     ghost use Rattle.groups.specs.Rows.{Row};
     ghost use Rattle.tables.specs.Folding.{HasReadUnder, IsTableUnder, ReadsMoreUnder, TakesRecordUnder};
 
-    /// No line has been read.
-    pub(crate) fn new(alloc: Global, plan: &Plan) -> Result<Folding, AllocError>
+    /// No line has been read; the joiner will put the table to others.
+    pub(crate) fn new<J: Joiner>(
+        alloc: Global,
+        plan: &Plan,
+        joiner: &J,
+    ) -> Result<Folding, AllocError>
         ensures { IfOk result (λ folding. HasReadUnder plan.now [] folding []) }
     {
-        let table = Table::new(alloc, plan.grouping(), plan.set_functions())?;
+        let table = joiner.empty_table(alloc, plan.grouping(), plan.set_functions())?;
         Ok(Folding::onto(alloc, table))
     }
 

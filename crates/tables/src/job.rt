@@ -165,7 +165,7 @@ impl<'a, J: Joiner> Work for JobBy<'a, J> {
     ghost lawful = { λ it. means_lawful (fields_of_plan it.job.plan.now) (form_of_plan it.job.plan.now) it.job.input.now it.job.pieces.now };
 
     fn unit(&self) -> Result<Partial, AllocError> {
-        self.job.unit()
+        Partial::empty_by(self.job.alloc, self.job.plan, self.joiner)
     }
 
     fn piece(&self, i: u32) -> Result<Partial, AllocError> {

@@ -1,12 +1,13 @@
 //! Two tables of records, put together.
-ghost use Rattle.std.specs.Prelude.{◌≡◌, ◌<◌, ◌⊎◌, ◌+◌, ◌++◌, ℕ, IfOk, List};
-ghost use Rattle.groups.specs.Functions.{AggregateFunction};
+ghost use Rattle.std.specs.Prelude.{◌≡◌, ◌<◌, ◌⊎◌, ◌+◌, ◌++◌, [], Bool, ℕ, IfOk, List, map};
+ghost use Rattle.groups.specs.Functions.{AggregateFunction, bound};
 ghost use Rattle.groups.specs.Inside.Table.{AreGroupsWithin, CanJoin, IsTableOf};
 ghost use Rattle.groups.specs.Rows.{Row};
 ghost use Rattle.query_check.specs.declared.function.FilteredFunction.{FilteredFunction};
 
 use groups::Table;
-use std::alloc::AllocError;
+use query_plan::FilteredFunction;
+use std::alloc::{AllocError, Global};
 use std::marker::Sync;
 use std::thread::Threads;
 
@@ -19,6 +20,21 @@ pub trait Joiner {
 
     /// This has one proof at most.
     ghost ready_once: { (joiner : Self) → IsProp (Self.ready joiner) };
+
+    /// The table of no records under a grouping set, for these set functions, to which this joiner puts others soonest.
+    ///
+    /// Example: `joiner.empty_table(alloc, set, functions)?` means what `Table::new(alloc, set, functions)?` means.
+    ///
+    /// # Errors
+    ///
+    /// `AllocError` where there is no memory for it.
+    fn empty_table(
+        &self,
+        alloc: Global,
+        set: &[usize],
+        functions: &[FilteredFunction],
+    ) -> Result<Table, AllocError>
+        ensures empty { IfOk result (λ table. (filters : List (Row → Bool)) → IsTableOf set.now (map (bound filters) functions.now) table []) };
 
     /// The table of the records of two, which are under one grouping set and for the same set functions.
     ///
@@ -52,6 +68,15 @@ impl Joiner for CallingThread {
 
     ghost ready_once = { λ _. Prim.hlevel };
 
+    fn empty_table(
+        &self,
+        alloc: Global,
+        set: &[usize],
+        functions: &[FilteredFunction],
+    ) -> Result<Table, AllocError> {
+        Table::new(alloc, set, functions)
+    }
+
     fn join(&self, first: Table, second: Table) -> Result<Table, AllocError> {
         let (mut joined, other) = larger_first(first, second);
         joined.absorb(other)?;
@@ -79,6 +104,15 @@ impl<'a, H: Threads + Sync> Joiner for Hands<'a, H> {
     ghost ready = { λ hands. IsSyncAtEach H.row × (0 < hands.count) };
 
     ghost ready_once = { λ _. Prim.hlevel (keyless-once, le_prop) };
+
+    fn empty_table(
+        &self,
+        alloc: Global,
+        set: &[usize],
+        functions: &[FilteredFunction],
+    ) -> Result<Table, AllocError> {
+        Table::for_hands(alloc, self.count, set, functions)
+    }
 
     fn join(&self, first: Table, second: Table) -> Result<Table, AllocError> {
         let (mut joined, other) = larger_first(first, second);

@@ -79,8 +79,26 @@ impl Partial {
     pub fn empty(alloc: Global, plan: &Plan) -> Result<Partial, AllocError>
         ensures stands { IfOk result (λ partial. StandsForUnder plan.now partial []) }
     {
+        Partial::empty_by(alloc, plan, &CallingThread)
+    }
+
+    /// What `empty` gives, to which the joiner puts other results soonest.
+    ///
+    /// Example: `Partial::empty_by(alloc, &plan, &Hands { rt: &rt, count: 4 })?` stands for no pieces, as
+    /// `Partial::empty(alloc, &plan)?` does.
+    ///
+    /// # Errors
+    ///
+    /// `AllocError` where there is no memory for it.
+    pub fn empty_by<J: Joiner>(
+        alloc: Global,
+        plan: &Plan,
+        joiner: &J,
+    ) -> Result<Partial, AllocError>
+        ensures stands { IfOk result (λ partial. StandsForUnder plan.now partial []) }
+    {
         let shape = Shape::of(alloc, plan)?;
-        let folding = Folding::new(alloc, plan)?;
+        let folding = Folding::new(alloc, plan, joiner)?;
         Ok(Partial {
             alloc,
             shape,
@@ -111,7 +129,7 @@ impl Partial {
             StandsForUnder plan.now partial (record { index = index; bytes = piece.now } ∷ [])) }
     {
         let shape = Shape::of(alloc, plan)?;
-        let folding = Folding::new(alloc, plan)?;
+        let folding = Folding::new(alloc, plan, &CallingThread)?;
         let Folding {
             table,
             lines,

@@ -8,7 +8,7 @@ use Rattle.tables.proofs.Bound.{bound-functions}
 use Rattle.tables.proofs.folding.Folding.new.Goals as goal
 
 pub returns : goal.returns
-returns c =
+returns g c =
     let fields = fields_of_plan c.args.plan.now in
     let q = form_of_plan c.args.plan.now in
     let grouping = grouping_places fields q in

@@ -8,10 +8,10 @@ use Rattle.groups.proofs.Meaning.{table-within}
 use Rattle.tables.specs.Functions.{aggregate_functions}
 use Rattle.tables.proofs.Bound.{as-many}
 use Rattle.tables.proofs.Merging.{no-notes}
-use Rattle.tables.proofs.partial.Partial.empty.Goals as goal
+use Rattle.tables.proofs.partial.Partial.empty_by.Goals as goal
 
 pub invariant_of-result : goal.invariant_of-result
-invariant_of-result c =
+invariant_of-result g c =
     let fields = fields_of_plan c.args.plan.now in
     let q = form_of_plan c.args.plan.now in
     let shape = c.in_ok-shape.shape in
