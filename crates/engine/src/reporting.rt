@@ -21,6 +21,10 @@ pub(crate) trait Writers {
         requires ready { Self.ready self.now }
         requires fit { AreFittingUnder plan.now groups.now.found }
         ensures { IfOk result (λ text. text.items ≡ report_of (fields_of_plan plan.now) (form_of_plan plan.now) groups.now.found) };
+
+    /// Gives back the memory of groups that have been written.
+    fn give_back(&self, alloc: Global, groups: Groups)
+        requires ready { Self.ready self.now };
 }
 
 /// The calling thread alone.
@@ -33,6 +37,10 @@ impl Writers for CallingThread {
 
     fn report(&self, alloc: Global, groups: &Groups, plan: &Plan) -> Result<Vec<u8>, AllocError> {
         report_on(alloc, groups, plan)
+    }
+
+    fn give_back(&self, _alloc: Global, groups: Groups) {
+        drop(groups);
     }
 }
 
@@ -51,5 +59,9 @@ impl<'a, H: Threads + Sync> Writers for Hands<'a, H> {
 
     fn report(&self, alloc: Global, groups: &Groups, plan: &Plan) -> Result<Vec<u8>, AllocError> {
         report_among(self.rt, alloc, groups, plan, self.count)
+    }
+
+    fn give_back(&self, alloc: Global, groups: Groups) {
+        groups.give_back_among(self.rt, alloc, self.count);
     }
 }

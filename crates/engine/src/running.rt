@@ -196,5 +196,6 @@ fn texts_of<T: Writers>(
     let refused = refused_text(alloc, &groups, plan.schema())?;
     // The groups came in the order of a walk over a table, which the report does not show.
     arranged_law();
+    writers.give_back(alloc, groups);
     Ok(Texts { report, refused })
 }

@@ -1,12 +1,19 @@
 //! The groups of an input, and its refused lines.
-ghost use Rattle.std.specs.Prelude.{◌≡◌, map};
+ghost use Rattle.std.specs.Prelude.{◌≡◌, ◌<◌, map};
 ghost use Rattle.std.proofs.Props.{props};
 ghost use Rattle.tables.specs.Fitting.{FitSomePlan};
 ghost use Rattle.tables.specs.Found.{row_of};
 
 use groups::Group;
 use lines::LineFault;
-use std::marker::Model;
+use std::alloc::Global;
+use std::marker::{Model, Sync};
+use std::thread;
+use std::thread::Threads;
+
+/// How many groups there are at least whose memory several threads give back: that of fewer is given back sooner than a
+/// thread is started.
+const FEWEST: usize = 4_096;
 
 /// What the grouping sets of a query find in an input: their groups, and the refused lines.
 ///
@@ -58,4 +65,29 @@ impl Groups {
     {
         self.refused.as_slice()
     }
+
+    /// Gives the memory of the groups back, by as many threads as there are hands, the calling one among them, or by fewer
+    /// where the groups are few or a thread cannot be started. There is a hand.
+    ///
+    /// Example: `groups.give_back_among(&rt, alloc, 4)` does what `drop(groups)` does.
+    pub fn give_back_among<H: Threads + Sync>(self, rt: &H, alloc: Global, hands: usize)
+        requires { 0 < hands }
+    {
+        let Groups { mut rows, .. } = self;
+        if hands == 1 || rows.len() < FEWEST {
+            return;
+        }
+        thread::for_each_mut(
+            rt,
+            rows.as_mut_slice(),
+            hands,
+            &|_place: usize, row: &mut (usize, Group)| { empty(alloc, &mut row.1) },
+        );
+    }
+}
+
+/// Takes away what a group has, whose memory is given back.
+fn empty(alloc: Global, group: &mut Group) {
+    group.key = Vec::new(alloc);
+    group.cells = Vec::new(alloc);
 }
