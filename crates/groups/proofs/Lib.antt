@@ -17,3 +17,4 @@ pub mod Rolling
 pub mod Shards
 pub mod InPairs
 pub mod Walks
+pub mod InParts

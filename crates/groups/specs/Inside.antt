@@ -9,3 +9,4 @@ pub mod Table
 pub mod Shards
 pub mod Pairs
 pub mod Walks
+pub mod Finished

@@ -11,6 +11,7 @@ mod cell;
 mod copy;
 mod distinct_values;
 mod extreme;
+mod finishing;
 mod group;
 mod key;
 mod laws;

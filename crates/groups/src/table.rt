@@ -4,6 +4,7 @@ ghost use Rattle.std.proofs.Props.{props};
 ghost use Rattle.groups.specs.Inside.Shards.{AreApart, AreJoined, CanJoinEach};
 
 use crate::accumulators::Accumulators;
+use crate::finishing::groups_among;
 use crate::group::Group;
 use crate::key::{indices_in, write_key};
 use crate::pairs::join_shards_among;
@@ -18,8 +19,8 @@ use std::mem;
 use std::thread::Threads;
 use values::Value;
 
-/// How many groups a table has at least that several threads put to another one: fewer are put there sooner than a thread
-/// is started.
+/// How many groups a table has at least that several threads put to another one, or finish: fewer are put there sooner than
+/// a thread is started.
 const FEWEST: usize = 4_096;
 
 /// The groups of one grouping set over the records that were taken so far, each by its key.
@@ -287,6 +288,29 @@ impl Table {
             put_turn(alloc, &mut groups, &mut walks)?;
         }
         put_rest(alloc, groups, walks)
+    }
+
+    /// What `finish` gives, by as many threads as there are hands, the calling one among them, or by fewer where the
+    /// groups are few or a thread cannot be started. There is a hand.
+    ///
+    /// Example: `table.finish_among(&rt, 4)?` gives the groups that `table.finish()?` gives.
+    ///
+    /// # Errors
+    ///
+    /// `AllocError` where there is no memory for the groups; the table is given up then.
+    pub fn finish_among<H: Threads + Sync>(
+        self,
+        rt: &H,
+        hands: usize,
+    ) -> Result<Vec<Group>, AllocError>
+        ensures groups { IfOk result (λ groups. (set : List ℕ) (functions : List AggregateFunction) (rows : List Row)
+            → IsTableOf set functions self rows → SameBag (map group_summary_in groups.items) (group_summaries set functions rows)) }
+    {
+        if hands < self.shards.len() || self.len() < FEWEST {
+            return self.finish();
+        }
+        let Table { alloc, shards, .. } = self;
+        groups_among(rt, alloc, shards)
     }
 
     /// Puts one more part to the group of a record's key.

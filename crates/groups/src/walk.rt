@@ -3,7 +3,7 @@ ghost use Rattle.std.specs.Prelude.{◌≡◌, ◌++◌, IfOk, OnOk, map};
 ghost use Rattle.groups.specs.Bags.{SameBag};
 ghost use Rattle.groups.specs.GroupSummaries.{group_summary_in};
 ghost use Rattle.groups.specs.Inside.Group.{state_summary};
-ghost use Rattle.groups.specs.Inside.Shards.{all_entries};
+ghost use Rattle.groups.specs.Inside.Shards.{all_entries, entries_in};
 ghost use Rattle.groups.specs.Inside.Table.{entries_by_key};
 ghost use Rattle.groups.specs.Inside.Walks.{entries_left};
 
@@ -27,12 +27,19 @@ pub(crate) fn walks_over(alloc: Global, shards: Vec<Shard>) -> Result<Vec<Walk>,
 {
     let mut walks = Vec::with_capacity(alloc, shards.len())?;
     for shard in shards {
-        let Shard { groups } = shard;
-        walks.push(Walk {
-            entries: groups.into_iter(),
-        })?;
+        walks.push(walk_over(shard))?;
     }
     Ok(walks)
+}
+
+/// A walk over a shard.
+pub(crate) fn walk_over(shard: Shard) -> Walk
+    ensures { result.entries ≡ entries_in shard }
+{
+    let Shard { groups } = shard;
+    Walk {
+        entries: groups.into_iter(),
+    }
 }
 
 /// The number of groups of the shard that has the fewest, and none where there is no shard.
