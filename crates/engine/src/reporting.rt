@@ -1,7 +1,8 @@
-//! Who writes the rows of a report.
-ghost use Rattle.std.specs.Prelude.{◌≡◌, ◌<◌, IfOk};
+//! Who finishes the groups of a report and writes its rows.
+ghost use Rattle.std.specs.Prelude.{◌≡◌, ◌<◌, ℕ, IfOk, List};
 ghost use Rattle.query_plan.specs.Planned.{fields_of_plan, form_of_plan};
-ghost use Rattle.tables.specs.Planned.{AreFittingUnder};
+ghost use Rattle.tables.specs.Pieces.{IndexedPiece, IsCutInto};
+ghost use Rattle.tables.specs.Planned.{AreFittingUnder, IsPartialUnder, IsResultUnder, StandsForUnder};
 ghost use Rattle.report.specs.Report.{report_of};
 
 use query::Plan;
@@ -9,9 +10,9 @@ use report::{report_among, report_on};
 use std::alloc::{AllocError, Global};
 use std::marker::Sync;
 use std::thread::Threads;
-use tables::Groups;
+use tables::{Groups, Partial};
 
-/// Those who write the rows of a report.
+/// Those who finish the groups of a report and write its rows.
 pub(crate) trait Writers {
     /// They can write.
     ghost ready: { Self → Type 0 };
@@ -21,6 +22,15 @@ pub(crate) trait Writers {
         requires ready { Self.ready self.now }
         requires fit { AreFittingUnder plan.now groups.now.found }
         ensures { IfOk result (λ text. text.items ≡ report_of (fields_of_plan plan.now) (form_of_plan plan.now) groups.now.found) };
+
+    /// The groups and the refused lines of a result over some pieces, whoever finishes them.
+    fn groups(&self, plan: &Plan, whole: Partial) -> Result<Groups, AllocError>
+        requires ready { Self.ready self.now }
+        requires of_plan { IsPartialUnder plan.now whole }
+        ensures fit { IfOk result (λ groups. (pieces : List IndexedPiece) → StandsForUnder plan.now whole pieces
+            → AreFittingUnder plan.now groups.found) }
+        ensures whole { IfOk result (λ groups. (input : List ℕ) (pieces : List IndexedPiece) → StandsForUnder plan.now whole pieces
+            → IsCutInto input pieces → IsResultUnder plan.now groups input) };
 
     /// Gives back the memory of groups that have been written.
     fn give_back(&self, alloc: Global, groups: Groups)
@@ -37,6 +47,10 @@ impl Writers for CallingThread {
 
     fn report(&self, alloc: Global, groups: &Groups, plan: &Plan) -> Result<Vec<u8>, AllocError> {
         report_on(alloc, groups, plan)
+    }
+
+    fn groups(&self, plan: &Plan, whole: Partial) -> Result<Groups, AllocError> {
+        whole.finish(plan)
     }
 
     fn give_back(&self, _alloc: Global, groups: Groups) {
@@ -59,6 +73,14 @@ impl<'a, H: Threads + Sync> Writers for Hands<'a, H> {
 
     fn report(&self, alloc: Global, groups: &Groups, plan: &Plan) -> Result<Vec<u8>, AllocError> {
         report_among(self.rt, alloc, groups, plan, self.count)
+    }
+
+    fn groups(&self, plan: &Plan, whole: Partial) -> Result<Groups, AllocError> {
+        let hands = tables::Hands {
+            rt: self.rt,
+            count: self.count,
+        };
+        whole.finish_by(&hands, plan)
     }
 
     fn give_back(&self, alloc: Global, groups: Groups) {

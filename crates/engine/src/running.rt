@@ -191,7 +191,7 @@ fn texts_of<T: Writers>(
         → StandsForInput (fields_of_plan plan.now) (form_of_plan plan.now) partial input
         → texts.refused.items ≡ refusals (fields_of_plan plan.now) input) }
 {
-    let groups = partial.finish(plan)?;
+    let groups = writers.groups(plan, partial)?;
     let report = writers.report(alloc, &groups, plan)?;
     let refused = refused_text(alloc, &groups, plan.schema())?;
     // The groups came in the order of a walk over a table, which the report does not show.

@@ -1,17 +1,19 @@
 //! Two tables of records, put together.
 ghost use Rattle.std.specs.Prelude.{◌≡◌, ◌<◌, ◌⊎◌, ◌+◌, ◌++◌, [], Bool, ℕ, IfOk, List, map};
+ghost use Rattle.groups.specs.Bags.{SameBag};
 ghost use Rattle.groups.specs.Functions.{AggregateFunction, bound};
+ghost use Rattle.groups.specs.GroupSummaries.{group_summaries, group_summary_in};
 ghost use Rattle.groups.specs.Inside.Table.{AreGroupsWithin, CanJoin, IsTableOf};
 ghost use Rattle.groups.specs.Rows.{Row};
 ghost use Rattle.query_check.specs.declared.function.FilteredFunction.{FilteredFunction};
 
-use groups::Table;
+use groups::{Group, Table};
 use query_plan::FilteredFunction;
 use std::alloc::{AllocError, Global};
 use std::marker::Sync;
 use std::thread::Threads;
 
-/// Who puts two tables of groups together.
+/// Who puts two tables of groups together, begins them and finishes them.
 ///
 /// Example: `CallingThread` does it alone, and `Hands` by several threads.
 pub trait Joiner {
@@ -54,6 +56,18 @@ pub trait Joiner {
             → IsTableOf set functions first rows → IsTableOf set functions second more → IsTableOf set functions table (rows ++ more)) }
         ensures within { IfOk result (λ table. (functions : List FilteredFunction) (m n : ℕ)
             → AreGroupsWithin m functions first → AreGroupsWithin n functions second → AreGroupsWithin (m + n) functions table) };
+
+    /// The groups of a table, as `Table::finish` gives them, in no order that is said.
+    ///
+    /// Example: `joiner.finish(table)?` gives the groups that `table.finish()?` gives.
+    ///
+    /// # Errors
+    ///
+    /// `AllocError` where there is no memory for the groups; the table is given up then.
+    fn finish(&self, table: Table) -> Result<Vec<Group>, AllocError>
+        requires ready { Self.ready self.now }
+        ensures groups { IfOk result (λ groups. (set : List ℕ) (functions : List AggregateFunction) (rows : List Row)
+            → IsTableOf set functions table rows → SameBag (map group_summary_in groups.items) (group_summaries set functions rows)) };
 }
 
 /// The calling thread alone.
@@ -81,6 +95,10 @@ impl Joiner for CallingThread {
         let (mut joined, other) = larger_first(first, second);
         joined.absorb(other)?;
         Ok(joined)
+    }
+
+    fn finish(&self, table: Table) -> Result<Vec<Group>, AllocError> {
+        table.finish()
     }
 }
 
@@ -118,6 +136,10 @@ impl<'a, H: Threads + Sync> Joiner for Hands<'a, H> {
         let (mut joined, other) = larger_first(first, second);
         joined.absorb_among(self.rt, self.count, other)?;
         Ok(joined)
+    }
+
+    fn finish(&self, table: Table) -> Result<Vec<Group>, AllocError> {
+        table.finish_among(self.rt, self.count)
     }
 }
 

@@ -440,13 +440,42 @@ impl Partial {
         ensures whole { IfOk result (λ groups. (input : List ℕ) (pieces : List IndexedPiece) → StandsForUnder plan.now self pieces
             → IsCutInto input pieces → IsResultUnder plan.now groups input) }
     {
+        self.finish_by(&CallingThread, plan)
+    }
+
+    /// What `finish` gives, where the joiner finishes the groups. It can do so.
+    ///
+    /// This is a result of the plan, over some pieces.
+    ///
+    /// Example: `partial.finish_by(&Hands { rt: &rt, count: 4 }, &plan)?` gives the groups and the refused lines that
+    /// `partial.finish(&plan)?` gives.
+    ///
+    /// # Errors
+    ///
+    /// `AllocError` where there is no memory for them; the result is given up then.
+    pub fn finish_by<J: Joiner>(self, joiner: &J, plan: &Plan) -> Result<Groups, AllocError>
+        requires ready { J.ready joiner.now }
+        requires of_plan { IsPartialUnder plan.now self }
+        ensures rows { IfOk result (λ groups. (pieces : List IndexedPiece) → StandsForUnder plan.now self pieces
+            → GivesGroupsUnder plan.now groups (records_of (fields_of_plan plan.now) pieces)) }
+        ensures fit { IfOk result (λ groups. (pieces : List IndexedPiece) → StandsForUnder plan.now self pieces
+            → AreFittingUnder plan.now groups.found) }
+        ensures members { IfOk result (λ groups. (pieces : List IndexedPiece) → StandsForUnder plan.now self pieces
+            → HasEachRecordOnceUnder plan.now groups.found (records_of (fields_of_plan plan.now) pieces)) }
+        ensures numbered { IfOk result (λ groups. (pieces : List IndexedPiece) → StandsForUnder plan.now self pieces
+            → HaveOwnIndexes pieces → AreNumbered (fields_of_plan plan.now) pieces groups.refused) }
+        ensures refused { IfOk result (λ groups. (pieces : List IndexedPiece) → StandsForUnder plan.now self pieces
+            → AreInOrder pieces → groups.refused ≡ refused_numbered (fields_of_plan plan.now) pieces) }
+        ensures whole { IfOk result (λ groups. (input : List ℕ) (pieces : List IndexedPiece) → StandsForUnder plan.now self pieces
+            → IsCutInto input pieces → IsResultUnder plan.now groups input) }
+    {
         let Partial {
             alloc,
             table,
             notes,
             ..
         } = self;
-        let rows = rows_of(alloc, plan, table)?;
+        let rows = rows_of(alloc, joiner, plan, table)?;
         let refused = number(alloc, notes)?;
         members_law();
         Ok(Groups::new(rows, refused))

@@ -11,6 +11,7 @@ ghost use Rattle.groups.specs.Inside.Table.{IsOfFew, IsTableOf};
 ghost use Rattle.tables.specs.SetTables.{AreOfFew, AreTablesOf, HasFiner, IsMade};
 ghost use Rattle.tables.specs.Sets.{AreGroupsOf};
 
+use crate::joining::Joiner;
 use crate::shape::copied_sets;
 use groups::{Group, Table};
 use query_plan::FilteredFunction;
@@ -26,14 +27,16 @@ struct SetTable {
 
 /// The groups of each grouping set of a list, in the order of the list; those of one set in no order that is said.
 ///
-/// They are made of the table of all grouping columns, among which the columns of each set are.
-pub(crate) fn groups_of_sets(
+/// They are made of the table of all grouping columns, among which the columns of each set are, and finished by the joiner.
+pub(crate) fn groups_of_sets<J: Joiner>(
     alloc: Global,
+    joiner: &J,
     grouping: &[usize],
     sets: &[Vec<usize>],
     functions: &[FilteredFunction],
     finest: Table,
 ) -> Result<Vec<Vec<Group>>, AllocError>
+    requires ready { J.ready joiner.now }
     requires among { All (λ set. AreAmong set grouping.now) (contents sets.now) }
     requires few { ∥ IsOfFew grouping.now functions.now finest ∥₁ }
     ensures { IfOk result (λ groups. (filters : List (Row → Bool)) (rows : List Row) → IsTableOf grouping.now (map (bound filters) functions.now) finest rows
@@ -41,7 +44,7 @@ pub(crate) fn groups_of_sets(
 {
     let order = longest_first(alloc, sets)?;
     let tables = tables_of_sets(alloc, grouping, order.as_slice(), functions, finest)?;
-    finish_sets(alloc, sets, functions, tables)
+    finish_sets(alloc, joiner, sets, functions, tables)
 }
 
 /// A table for each different set of a list, and the one of all grouping columns.
@@ -169,13 +172,15 @@ fn is_same(set: &[usize], other: &[usize]) -> bool
     set == other
 }
 
-/// The groups of each set, whose tables are there.
-fn finish_sets(
+/// The groups of each set, whose tables are there and which the joiner finishes.
+fn finish_sets<J: Joiner>(
     alloc: Global,
+    joiner: &J,
     sets: &[Vec<usize>],
     functions: &[FilteredFunction],
     tables: Vec<SetTable>,
 ) -> Result<Vec<Vec<Group>>, AllocError>
+    requires ready { J.ready joiner.now }
     requires few { ∥ AreOfFew functions.now tables.items ∥₁ }
     requires made { All (λ set. IsMade set.items tables.items) sets.now }
     ensures { IfOk result (λ groups. (filters : List (Row → Bool)) (rows : List Row) → AreTablesOf (map (bound filters) functions.now) tables.items rows
@@ -187,7 +192,7 @@ fn finish_sets(
         let set = sets[index].as_slice();
         let is_last = !stands_in(&sets[index + 1..], set);
         let table = take_table(&mut tables, set, functions, is_last)?;
-        groups.push(table.finish()?)?;
+        groups.push(joiner.finish(table)?)?;
     }
     Ok(groups)
 }

@@ -8,23 +8,28 @@ ghost use Rattle.query_plan.specs.Planned.{fields_of_plan, form_of_plan};
 ghost use Rattle.tables.specs.Folding.{IsOfFewUnder, IsTableUnder};
 ghost use Rattle.tables.specs.Results.{query_found};
 
+use crate::joining::Joiner;
 use crate::rolling::groups_of_sets;
 use groups::{Group, Table};
 use query_plan::Plan;
 use std::alloc::{AllocError, Global};
 
-/// The groups of each grouping set of a plan, each beside the index of its set, by the table of all grouping columns.
-pub(crate) fn rows_of(
+/// The groups of each grouping set of a plan, each beside the index of its set, by the table of all grouping columns. The
+/// joiner finishes them.
+pub(crate) fn rows_of<J: Joiner>(
     alloc: Global,
+    joiner: &J,
     plan: &Plan,
     finest: Table,
 ) -> Result<Vec<(usize, Group)>, AllocError>
-    requires { IsOfFewUnder plan.now finest }
+    requires ready { J.ready joiner.now }
+    requires few { IsOfFewUnder plan.now finest }
     ensures { IfOk result (λ rows. (records : List Row) → IsTableUnder plan.now finest records
         → SameBag (map row_of rows.items) (query_found (fields_of_plan plan.now) (form_of_plan plan.now) records)) }
 {
     let groups = groups_of_sets(
         alloc,
+        joiner,
         plan.grouping(),
         plan.sets(),
         plan.set_functions(),

@@ -12,10 +12,10 @@ use Rattle.tables.proofs.SetTables.{groups-more, none-same, not-true}
 use Rattle.tables.proofs.rolling.finish_sets.Goals as goal
 
 pub take_table-requires-clause-few : goal.take_table-requires-clause-few
-take_table-requires-clause-few c = ∥∥₁_map c.requires.few (λ p. record { filters = p.filters; rows = p.rows; are_tables = c.loop-index.invariant.tables p.filters p.rows p.are_tables; few = p.few })
+take_table-requires-clause-few g c = ∥∥₁_map c.requires.few (λ p. record { filters = p.filters; rows = p.rows; are_tables = c.loop-index.invariant.tables p.filters p.rows p.are_tables; few = p.few })
 
 pub take_table-requires-clause-made : goal.take_table-requires-clause-made
-take_table-requires-clause-made c =
+take_table-requires-clause-made g c =
     let sets = c.args.sets.now in
     let i = c.loop-index.index in
     let item = c.index-sets-index.result in
@@ -25,7 +25,7 @@ take_table-requires-clause-made c =
     (All-head P item (drop (i + 1) sets) (subst (All P) left c.loop-index.invariant.made))
 
 pub loop-index-preserved : goal.loop-index-preserved
-loop-index-preserved c =
+loop-index-preserved g c =
     let sets = c.args.sets.now in
     let i = c.loop-index.index in
     let item = c.index-sets-index.result in
@@ -54,6 +54,6 @@ loop-index-preserved c =
     }
 
 pub returns : goal.returns
-returns c = λ filters rows h.
+returns g c = λ filters rows h.
     subst (λ (sets : List (Vec ℕ Global)). AreGroupsOf (contents sets) (map (bound filters) c.args.functions.now) c.loop-index.groups.items rows)
     (take_all c.loop-index.index c.args.sets.now (omega (arith, c.loop-index-test.false))) (c.loop-index.invariant.groups filters rows h)

@@ -8,7 +8,7 @@ use Rattle.tables.proofs.rolling.finish_sets.Given as goal
 
 -- the tables are of the records, the groups are those of the sets so far, and the tables of the other sets are there
 abbrev pub invariant-loop-index : goal.invariant-loop-index
-invariant-loop-index l = record {
+invariant-loop-index g l = record {
   tables : (filters : List (Row → Bool)) (rows : List Row) → AreTablesOf (map (bound filters) l.functions) l.fn.tables.items rows
       → AreTablesOf (map (bound filters) l.functions) l.tables.items rows;
   groups : (filters : List (Row → Bool)) (rows : List Row) → AreTablesOf (map (bound filters) l.functions) l.fn.tables.items rows

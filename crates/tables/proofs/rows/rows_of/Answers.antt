@@ -19,20 +19,20 @@ use Rattle.tables.proofs.SetTables.{sets-among}
 use Rattle.tables.proofs.rows.rows_of.Goals as goal
 
 pub groups_of_sets-requires-clause-among : goal.groups_of_sets-requires-clause-among
-groups_of_sets-requires-clause-among c =
+groups_of_sets-requires-clause-among g c =
     let fields = fields_of_plan c.args.plan.now in
     let q = form_of_plan c.args.plan.now in
     subst (λ grouping. All (λ set. AreAmong set grouping) (contents c.sets.result.now)) (sym c.grouping.ensures.grouping)
     (subst (All (λ set. AreAmong set (grouping_places fields q))) (sym c.sets.ensures.sets) (sets-among fields q))
 
 pub groups_of_sets-requires-clause-few : goal.groups_of_sets-requires-clause-few
-groups_of_sets-requires-clause-few c =
-    ∥∥₁_map c.requires (λ (p : IsOfFew _ _ _).
+groups_of_sets-requires-clause-few g c =
+    ∥∥₁_map c.requires.few (λ (p : IsOfFew _ _ _).
     subst (λ grouping. IsOfFew grouping c.set_functions.result.now c.args.finest) (sym c.grouping.ensures.grouping)
     (subst (λ (fs : List FilteredFunction). IsOfFew (grouping_places (fields_of_plan c.args.plan.now) (form_of_plan c.args.plan.now)) fs c.args.finest) (sym c.set_functions.ensures.functions) p))
 
 pub returns : goal.returns
-returns c = IfOk-weaker c.flattened.result _ _ (λ rows is records table.
+returns g c = IfOk-weaker c.flattened.result _ _ (λ rows is records table.
     let fields = fields_of_plan c.args.plan.now in
     let q = form_of_plan c.args.plan.now in
     let fs = aggregate_functions fields q in

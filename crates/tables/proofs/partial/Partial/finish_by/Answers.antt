@@ -20,10 +20,10 @@ use Rattle.tables.proofs.Fitting.{found-fit}
 use Rattle.tables.proofs.Growing.{few-kept}
 use Rattle.tables.proofs.Numbered.{lines-in_order, lines-numbered, numbered-in_order}
 use Rattle.tables.proofs.Taken.{kept-fits}
-use Rattle.tables.proofs.partial.Partial.finish.Goals as goal
+use Rattle.tables.proofs.partial.Partial.finish_by.Goals as goal
 
-pub rows_of-requires : goal.rows_of-requires
-rows_of-requires c =
+pub rows_of-requires-clause-few : goal.rows_of-requires-clause-few
+rows_of-requires-clause-few g c =
     let fields = fields_of_plan c.args.plan.now in
     let q = form_of_plan c.args.plan.now in
     ∥∥₁_map c.requires.of_plan (λ s.
@@ -36,7 +36,7 @@ rows_of-requires c =
     })
 
 pub new-requires : goal.new-requires
-new-requires c =
+new-requires g c =
     let plan = c.args.plan.now in
     let fields = fields_of_plan plan in
     let q = form_of_plan plan in
@@ -49,7 +49,7 @@ new-requires c =
     }
 
 pub returns-clause-rows : goal.returns-clause-rows
-returns-clause-rows c = λ pieces given.
+returns-clause-rows g c = λ pieces given.
     let fields = fields_of_plan c.args.plan.now in
     let q = form_of_plan c.args.plan.now in
     let p = subst (λ (v : PartialState). StandsFor fields q v pieces) (sym c.self.view_is) given in
@@ -57,7 +57,7 @@ returns-clause-rows c = λ pieces given.
     (c.in_ok-rows.ensures (records_of fields pieces) p.table)
 
 pub returns-clause-fit : goal.returns-clause-fit
-returns-clause-fit c = λ pieces given.
+returns-clause-fit g c = λ pieces given.
     let fields = fields_of_plan c.args.plan.now in
     let q = form_of_plan c.args.plan.now in
     let p = subst (λ (v : PartialState). StandsFor fields q v pieces) (sym c.self.view_is) given in
@@ -68,7 +68,7 @@ returns-clause-fit c = λ pieces given.
     (kept-fits fields q pieces)
 
 pub returns-clause-members : goal.returns-clause-members
-returns-clause-members c = λ pieces given.
+returns-clause-members g c = λ pieces given.
     let fields = fields_of_plan c.args.plan.now in
     let q = form_of_plan c.args.plan.now in
     let p = subst (λ (v : PartialState). StandsFor fields q v pieces) (sym c.self.view_is) given in
@@ -78,7 +78,7 @@ returns-clause-members c = λ pieces given.
     (c.in_ok-rows.ensures rows p.table))
 
 pub returns-clause-numbered : goal.returns-clause-numbered
-returns-clause-numbered c = λ pieces given own.
+returns-clause-numbered g c = λ pieces given own.
     let fields = fields_of_plan c.args.plan.now in
     let q = form_of_plan c.args.plan.now in
     let p = subst (λ (v : PartialState). StandsFor fields q v pieces) (sym c.self.view_is) given in
@@ -86,7 +86,7 @@ returns-clause-numbered c = λ pieces given own.
     (lines-numbered fields pieces (notes_in c.self.inside.notes) c.in_ok-refused.refused.items own p.notes c.in_ok-refused.ensures)
 
 pub returns-clause-refused : goal.returns-clause-refused
-returns-clause-refused c = λ pieces given o.
+returns-clause-refused g c = λ pieces given o.
     let fields = fields_of_plan c.args.plan.now in
     let q = form_of_plan c.args.plan.now in
     let p = subst (λ (v : PartialState). StandsFor fields q v pieces) (sym c.self.view_is) given in
@@ -95,7 +95,7 @@ returns-clause-refused c = λ pieces given o.
     ∙ numbered-in_order fields pieces o
 
 pub returns-clause-whole : goal.returns-clause-whole
-returns-clause-whole c = λ input pieces given w.
+returns-clause-whole g c = λ input pieces given w.
     let fields = fields_of_plan c.args.plan.now in
     let q = form_of_plan c.args.plan.now in
     let p = subst (λ (v : PartialState). StandsFor fields q v pieces) (sym c.self.view_is) given in
