@@ -1,4 +1,4 @@
-//! Results with many groups that several hands put together are the result over all.
+//! Results with many groups that several hands begin, put together and finish are the result over all.
 ghost use Rattle.std.specs.Prelude.{◌<◌, IfOk};
 ghost use Rattle.query_plan.specs.Planned.{fields_of_plan, form_of_plan};
 ghost use Rattle.tables.specs.Partials.{IsPartialOf};
@@ -10,7 +10,7 @@ use std::alloc::{AllocError, Global};
 use std::marker::Sync;
 use std::process::Abort;
 use std::thread::Threads;
-use tables::{Group, Groups, Partial};
+use tables::{Group, Groups, Hands, Partial};
 
 /// A line for each number from the first one to before the last one, which stands in two columns.
 fn numbered_lines(alloc: Global, first: u32, last: u32) -> Result<String, AllocError> {
@@ -26,6 +26,21 @@ fn numbered_lines(alloc: Global, first: u32, last: u32) -> Result<String, AllocE
     Ok(text)
 }
 
+/// The result over a piece of index 0, which begins as so many hands begin it.
+fn begun_by_hands<H: Abort + Threads + Sync>(
+    rt: &H,
+    alloc: Global,
+    plan: &Plan,
+    piece: &[u8],
+    count: usize,
+) -> Result<Partial, AllocError>
+    ensures { IfOk result (IsPartialOf (fields_of_plan plan.now) (form_of_plan plan.now)) }
+{
+    let begun = Partial::empty_by(alloc, plan, &Hands { rt, count })?;
+    assert!(rt; begun.lines() < 1 << 62);
+    begun.fold_onto(plan, 0, piece)
+}
+
 /// The result over two pieces, put together by so many hands.
 fn merged_by_hands<H: Abort + Threads + Sync>(
     rt: &H,
@@ -39,7 +54,7 @@ fn merged_by_hands<H: Abort + Threads + Sync>(
     ensures { IfOk result (IsPartialOf (fields_of_plan plan.now) (form_of_plan plan.now)) }
 {
     let behind = Partial::fold_piece(alloc, plan, 1, second)?;
-    match Partial::fold_piece(alloc, plan, 0, first) {
+    match begun_by_hands(rt, alloc, plan, first, count) {
         Ok(before) => merge_by_hands(rt, plan, before, behind, count),
         Err(refused) => {
             drop(behind);
@@ -55,17 +70,28 @@ fn is_same(left: &(usize, Group), right: &(usize, Group)) -> bool {
         && left.1.cells.as_slice() == right.1.cells.as_slice()
 }
 
-/// Asserts that a result finds these groups.
-fn assert_finds(rt: &impl Abort, alloc: Global, plan: &Plan, partial: Partial, wanted: &Groups)
-    requires { IsPartialOf (fields_of_plan plan.now) (form_of_plan plan.now) partial }
+/// Asserts that a result finds these groups, where so many hands finish it and give its memory back.
+fn assert_finds<H: Abort + Threads + Sync>(
+    rt: &H,
+    alloc: Global,
+    plan: &Plan,
+    partial: Partial,
+    count: usize,
+    wanted: &Groups,
+)
+    requires partial { IsPartialOf (fields_of_plan plan.now) (form_of_plan plan.now) partial }
+    requires hands { 0 < count }
 {
-    let groups = partial.finish(plan).expect(rt, "memory");
+    let groups = partial
+        .finish_by(&Hands { rt, count }, plan)
+        .expect(rt, "memory");
     assert_eq!(rt; groups.rows().len(), wanted.rows().len());
     let rows = sorted_rows(rt, alloc, &groups);
     let wanted = sorted_rows(rt, alloc, wanted);
     for (row, wanted) in rows.iter().zip(wanted.iter()) {
         assert!(rt; is_same(*row, *wanted), "{row:?} / {wanted:?}");
     }
+    groups.give_back_among(rt, alloc, count);
 }
 
 /// Asserts that these groups are found by the results over two inputs that so many hands put together.
@@ -82,9 +108,9 @@ fn assert_joined<H: Abort + Threads + Sync>(
 {
     assert!(rt; are_whole_lines(front));
     let merged = merged_by_hands(rt, alloc, plan, rest, front, count);
-    assert_finds(rt, alloc, plan, merged.expect(rt, "memory"), wanted);
+    assert_finds(rt, alloc, plan, merged.expect(rt, "memory"), count, wanted);
     let followed = followed_by_hands(rt, alloc, plan, front, rest, count);
-    assert_finds(rt, alloc, plan, followed.expect(rt, "memory"), wanted);
+    assert_finds(rt, alloc, plan, followed.expect(rt, "memory"), count, wanted);
 }
 
 /// Two inputs of 6,000 groups each, half of which both have.
