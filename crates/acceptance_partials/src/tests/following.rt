@@ -91,7 +91,7 @@ pub fn are_whole_lines(bytes: &[u8]) -> bool
 }
 
 /// Whether bytes are few, so that their lines are few too.
-fn has_few_lines(bytes: &[u8]) -> bool
+pub fn has_few_lines(bytes: &[u8]) -> bool
     ensures { result ≡ true → length (lines bytes.now) < 2 ^ 62 }
 {
     bytes.len() < 1 << 62

@@ -3,7 +3,7 @@ ghost use Rattle.std.specs.Prelude.{◌<◌, IfOk};
 ghost use Rattle.query_plan.specs.Planned.{fields_of_plan, form_of_plan};
 ghost use Rattle.tables.specs.Partials.{IsPartialOf};
 
-use super::following::{are_whole_lines, followed_by_hands};
+use super::following::{are_whole_lines, followed_by_hands, has_few_lines};
 use super::partials::{BY_D, merge_by_hands, planned, sorted_rows};
 use query::Plan;
 use std::alloc::{AllocError, Global};
@@ -38,6 +38,7 @@ fn begun_by_hands<H: Abort + Threads + Sync>(
 {
     let begun = Partial::empty_by(alloc, plan, &Hands { rt, count })?;
     assert!(rt; begun.lines() < 1 << 62);
+    assert!(rt; has_few_lines(piece));
     begun.fold_onto(plan, 0, piece)
 }
 
@@ -91,6 +92,7 @@ fn assert_finds<H: Abort + Threads + Sync>(
     for (row, wanted) in rows.iter().zip(wanted.iter()) {
         assert!(rt; is_same(*row, *wanted), "{row:?} / {wanted:?}");
     }
+    drop(rows);
     groups.give_back_among(rt, alloc, count);
 }
 
