@@ -1,5 +1,5 @@
 -- The definitions at some values.
-use Rattle.std.proofs.Common.{◌≡◌, ℕ, pos, negsuc, true, false, List, [], ◌∷◌, codes, refl, None, Some}
+use Rattle.std.proofs.Common.{◌≡◌, ◌+◌, ◌*◌, ◌^◌, ℕ, pos, negsuc, true, false, List, [], ◌∷◌, codes, refl, None, Some}
 use Rattle.std.specs.declared.cmp.Ordering.TheVariants.{Greater}
 use Rattle.std.specs.Fmt.{digits}
 use Rattle.csv.specs.Writing.{fields_text, is_blank}
@@ -15,6 +15,7 @@ use Rattle.query_tree.specs.Syntax.{KeyForm, PredicateForm, TreeForm, name, grou
 use Rattle.groups.specs.Functions.{Summary, plain, ratio}
 use Rattle.tables.specs.Found.{Found}
 use Rattle.report.specs.Having.{having_truth, rows_having_true}
+use Rattle.report.specs.Inside.Fronts.{behind_of, front_of, with_digits}
 use Rattle.report.specs.Order.{arranged, under_key}
 use Rattle.report.specs.Report.{refusals_of, report_of, rows_shown}
 use Rattle.report.specs.Shown.{number_of_digits}
@@ -26,6 +27,23 @@ six-is-110 = refl
 -- the text \N is not NULL
 a-backslash-is-marked : marked (codes "\\N") ≡ codes "\\\\N"
 a-backslash-is-marked = refl
+
+-- the seventeenth byte is the first one behind the front
+a-front : front_of (text (codes "A") ∷ []) ≡ 65 * 2 ^ 120
+unfolding with_digits
+a-front = refl
+
+the-front-of-a-longer-text-is-that-of-its-start : front_of (text (codes "of sixteen bytesB") ∷ []) ≡ front_of (text (codes "of sixteen bytes") ∷ [])
+unfolding with_digits
+the-front-of-a-longer-text-is-that-of-its-start = refl
+
+what-is-behind-a-front : behind_of (text (codes "of sixteen bytesBC") ∷ []) ≡ 66 * 2 ^ 120 + 67 * 2 ^ 112
+unfolding with_digits
+what-is-behind-a-front = refl
+
+nothing-is-behind-the-front-of-a-short-text : behind_of (text (codes "of sixteen bytes") ∷ []) ≡ 0
+unfolding with_digits
+nothing-is-behind-the-front-of-a-short-text = refl
 
 an-average : cell_field (ratio (negsuc 6) 2) ≡ codes "-7/2"
 unfolding digits

@@ -19,7 +19,7 @@ use Rattle.query_tree.specs.Syntax.{key_form}
 use Rattle.query_tree.specs.declared.tree.Key.{Key}
 use Rattle.groups.specs.Groups.{key_order}
 use Rattle.report.specs.Order.{under_key}
-use Rattle.report.specs.Inside.Fronts.{AreBytes, IsOfBytes, first_text, front_of, text_order, with_digits}
+use Rattle.report.specs.Inside.Fronts.{AreBytes, IsOfBytes, behind_of, first_text, front_of, text_order, with_digits}
 use Rattle.report.specs.Inside.Ranked.{under_values}
 
 abbrev value_cmp : Value → Value → Ordering
@@ -200,7 +200,7 @@ unfolding with_digits
 text_fits s bytes = let below : with_digits 0 16 s < 2 ^ 128 = digits-less 16 0 1 s [] (omega arith) bytes in omega (arith, below)
 
 -- keys stand to each other as their fronts do, where these tell them apart
-pub fronts-tell : (k l : List Datum) → IsOfBytes k → IsOfBytes l → ordering_then (nat_cmp (front_of k) (front_of l)) (key_order k l) ≡ key_order k l
+fronts-tell : (k l : List Datum) → IsOfBytes k → IsOfBytes l → ordering_then (nat_cmp (front_of k) (front_of l)) (key_order k l) ≡ key_order k l
 fronts-tell [] [] a b = refl
 fronts-tell [] (boolean c ∷ l) a b = refl
 fronts-tell [] (whole n ∷ l) a b = refl
@@ -227,6 +227,102 @@ fronts-tell (null ∷ k) (whole n ∷ l) d e = refl
 fronts-tell (null ∷ k) (text t ∷ l) d e = told_greater _ (at_least _ _ (text_fits t e))
 fronts-tell (null ∷ k) (null ∷ l) d e = refl
 
+-- a text has other digits than one that has ended where it has a byte above 0
+not_above : (n m c : ℕ) (t : List ℕ) → with_digits (256 * m) n [] ≡ with_digits (256 * m + suc c) n t → ⊥
+not_above n m c t same = let less = digits-less n (256 * m) (256 * m + suc c) [] t (omega arith) no_bytes in omega (arith, same, less)
+
+-- the rest of a text of bytes behind so many
+dropped_bytes : (n : ℕ) (s : List ℕ) → AreBytes s → AreBytes (drop n s)
+dropped_bytes zero s bytes = bytes
+dropped_bytes (suc n) [] bytes = bytes
+dropped_bytes (suc n) (b ∷ s) bytes = dropped_bytes n s (rest_bytes b s bytes)
+
+-- the digits of a text behind so many of it
+abbrev digits_behind : ℕ → List ℕ → ℕ
+digits_behind n s = with_digits 0 16 (drop n s)
+
+nothing_dropped : (n : ℕ) → digits_behind n [] ≡ digits_behind (suc n) []
+nothing_dropped zero = refl
+nothing_dropped (suc n) = refl
+
+empty_against : (n m c : ℕ) (t : List ℕ) → with_digits (256 * m) n [] ≡ with_digits (256 * m + c) n t
+    → (with_digits (256 * m) n [] ≡ with_digits (256 * m) n t → Tells (nat_cmp (digits_behind n []) (digits_behind n t)) (slice_cmp nat_cmp [] t))
+    → Tells (nat_cmp (digits_behind (suc n) []) (digits_behind n t)) Less
+empty_against n m zero t same h =
+    let plain : 256 * m + 0 ≡ 256 * m = omega arith in
+    nothing_before _ t (subst (λ k. Tells (nat_cmp k (digits_behind n t)) (slice_cmp nat_cmp [] t)) (nothing_dropped n) (h (same ∙ ap (λ k. with_digits k n t) plain)))
+empty_against n m (suc c) t same h = absurd (not_above n m c t same)
+
+against_empty : (n m b : ℕ) (s : List ℕ) → with_digits (256 * m + b) n s ≡ with_digits (256 * m) n []
+    → (with_digits (256 * m) n s ≡ with_digits (256 * m) n [] → Tells (nat_cmp (digits_behind n s) (digits_behind n [])) (slice_cmp nat_cmp s []))
+    → Tells (nat_cmp (digits_behind n s) (digits_behind (suc n) [])) Greater
+against_empty n m zero s same h =
+    let plain : 256 * m ≡ 256 * m + 0 = omega arith in
+    nothing_behind _ s (subst (λ k. Tells (nat_cmp (digits_behind n s) k) (slice_cmp nat_cmp s [])) (nothing_dropped n) (h (ap (λ k. with_digits k n s) plain ∙ same)))
+against_empty n m (suc b) s same h = absurd (not_above n m b s (sym same))
+
+-- one byte more of both texts
+both_against : (n m b c : ℕ) (s t : List ℕ) → AreBytes s → AreBytes t → with_digits (256 * m + b) n s ≡ with_digits (256 * m + c) n t → (b ≡ c) ⊎ ((b < c) ⊎ (c < b))
+    → (with_digits (256 * m + b) n s ≡ with_digits (256 * m + b) n t → Tells (nat_cmp (digits_behind n s) (digits_behind n t)) (slice_cmp nat_cmp s t))
+    → Tells (nat_cmp (digits_behind n s) (digits_behind n t)) (slice_cmp nat_cmp (b ∷ s) (c ∷ t))
+both_against n m b c s t left right fronts (inl same) h =
+    subst (λ d. Tells (nat_cmp (digits_behind n s) (digits_behind n t)) (ordering_then (nat_cmp b d) (slice_cmp nat_cmp s t))) same
+        (rw (equal-is b b refl) (h (fronts ∙ ap (λ d. with_digits (256 * m + d) n t) (sym same))))
+both_against n m b c s t left right fronts (inr (inl less)) h = let apart = digits-less n (256 * m + b) (256 * m + c) s t (omega (arith, less)) left in absurd (omega (arith, fronts, apart))
+both_against n m b c s t left right fronts (inr (inr more)) h = let apart = digits-less n (256 * m + c) (256 * m + b) t s (omega (arith, more)) right in absurd (omega (arith, fronts, apart))
+
+-- where so many digits are the same, those behind them tell nothing, or how the texts stand to each other
+digits_behind-tell : (n m : ℕ) (s t : List ℕ) → AreBytes s → AreBytes t → with_digits m n s ≡ with_digits m n t → Tells (nat_cmp (digits_behind n s) (digits_behind n t)) (slice_cmp nat_cmp s t)
+unfolding with_digits
+digits_behind-tell zero m s t left right same = digits-tell 16 0 s t left right
+digits_behind-tell (suc n) m [] [] left right same = inl (equal-is (digits_behind (suc n) []) (digits_behind (suc n) []) refl)
+digits_behind-tell (suc n) m [] (c ∷ t) left right same = empty_against n m c t same (digits_behind-tell n (256 * m) [] t left (rest_bytes c t right))
+digits_behind-tell (suc n) m (b ∷ s) [] left right same = against_empty n m b s same (digits_behind-tell n (256 * m) s [] (rest_bytes b s left) right)
+digits_behind-tell (suc n) m (b ∷ s) (c ∷ t) left right same =
+    both_against n m b c s t (rest_bytes b s left) (rest_bytes c t right) same (cases_order b c) (digits_behind-tell n (256 * m + b) s t (rest_bytes b s left) (rest_bytes c t right))
+
+-- keys of one front stand to each other as what is behind their fronts does, where this tells them apart
+behind-tells : (k l : List Datum) → IsOfBytes k → IsOfBytes l → front_of k ≡ front_of l → ordering_then (nat_cmp (behind_of k) (behind_of l)) (key_order k l) ≡ key_order k l
+behind-tells [] [] a b same = refl
+behind-tells [] (boolean c ∷ l) a b same = refl
+behind-tells [] (whole n ∷ l) a b same = refl
+behind-tells [] (text t ∷ l) a b same = told_less _ (at_most 0 (digits_behind 16 t) (omega arith))
+behind-tells [] (null ∷ l) a b same = refl
+behind-tells (boolean b ∷ k) [] c d same = refl
+behind-tells (boolean b ∷ k) (boolean c ∷ l) d e same = refl
+behind-tells (boolean b ∷ k) (whole n ∷ l) d e same = refl
+behind-tells (boolean b ∷ k) (text t ∷ l) d e same = told_less _ (at_most 0 (digits_behind 16 t) (omega arith))
+behind-tells (boolean b ∷ k) (null ∷ l) d e same = refl
+behind-tells (whole m ∷ k) [] d e same = refl
+behind-tells (whole m ∷ k) (boolean c ∷ l) d e same = refl
+behind-tells (whole m ∷ k) (whole n ∷ l) d e same = refl
+behind-tells (whole m ∷ k) (text t ∷ l) d e same = told_less _ (at_most 0 (digits_behind 16 t) (omega arith))
+behind-tells (whole m ∷ k) (null ∷ l) d e same = refl
+behind-tells (text s ∷ k) [] d e same = told_greater _ (at_least 0 (digits_behind 16 s) (omega arith))
+behind-tells (text s ∷ k) (boolean c ∷ l) d e same = told_greater _ (at_least 0 (digits_behind 16 s) (omega arith))
+behind-tells (text s ∷ k) (whole n ∷ l) d e same = told_greater _ (at_least 0 (digits_behind 16 s) (omega arith))
+behind-tells (text s ∷ k) (text t ∷ l) d e same = told_first (nat_cmp (digits_behind 16 s) (digits_behind 16 t)) (slice_cmp nat_cmp s t) (key_order k l) (digits_behind-tell 16 0 s t d e same)
+behind-tells (text s ∷ k) (null ∷ l) d e same = told_less _ (at_most _ _ (text_fits (drop 16 s) (dropped_bytes 16 s d)))
+behind-tells (null ∷ k) [] d e same = refl
+behind-tells (null ∷ k) (boolean c ∷ l) d e same = refl
+behind-tells (null ∷ k) (whole n ∷ l) d e same = refl
+behind-tells (null ∷ k) (text t ∷ l) d e same = told_greater _ (at_least _ _ (text_fits (drop 16 t) (dropped_bytes 16 t e)))
+behind-tells (null ∷ k) (null ∷ l) d e same = refl
+
+same-is : (m k : ℕ) → nat_cmp m k ≡ Equal → m ≡ k
+same-is m k h = grind (arith, nat_tests)
+
+-- what tells the right thing where the first one tells nothing may be asked behind that one
+told_second : (o p q : Ordering) → ordering_then o q ≡ q → (o ≡ Equal → ordering_then p q ≡ q) → ordering_then o (ordering_then p q) ≡ q
+told_second Less p q first second = first
+told_second Equal p q first second = second refl
+told_second Greater p q first second = first
+
+-- keys stand to each other as both of their numbers do, where these tell them apart
+pub numbers-tell : (k l : List Datum) → IsOfBytes k → IsOfBytes l → ordering_then (nat_cmp (front_of k) (front_of l)) (ordering_then (nat_cmp (behind_of k) (behind_of l)) (key_order k l)) ≡ key_order k l
+numbers-tell k l left right =
+    told_second (nat_cmp (front_of k) (front_of l)) (nat_cmp (behind_of k) (behind_of l)) (key_order k l) (fronts-tell k l left right) (λ same. behind-tells k l left right (same-is _ _ same))
+
 -- so they do as the texts that they begin with
 pub texts-tell : (k l : List Datum) → ordering_then (text_order (first_text k) (first_text l)) (key_order k l) ≡ key_order k l
 texts-tell [] l = refl
@@ -246,6 +342,12 @@ texts-known k l a b left right =
     let a-is = ∥∥₁_elim left (one a (first_text k)) (λ e. e) in
     let b-is = ∥∥₁_elim right (one b (first_text l)) (λ e. e) in
     λ i. text_order (a-is i) (b-is i)
+
+-- where the first one tells two things apart, the other one is not asked
+pub told_apart : (o p q : Ordering) → o ≡ p → (o ≡ Equal → ⊥) → o ≡ ordering_then p q
+told_apart o Less q is apart = is
+told_apart o Equal q is apart = absurd (apart is)
+told_apart o Greater q is apart = is
 
 -- ---- values under keys
 

@@ -13,7 +13,7 @@ ghost use Rattle.report.specs.Inside.Ranked.{by_key, by_rank, ranked, ranked_in}
 
 use crate::keys::{key_values, under_values};
 use crate::parts::joined;
-use crate::ranked::{RankedRow, compare_keys, first_text, front_of};
+use crate::ranked::{RankedRow, behind_of, compare_keys, first_text, front_of};
 use crate::view::PlanView;
 use groups::Group;
 use query_plan::Key;
@@ -133,6 +133,7 @@ fn rank<'a>(
             values,
             set: found.0,
             front: front_of(found.1.key.as_slice()),
+            behind: behind_of(found.1.key.as_slice()),
             text: first_text(found.1.key.as_slice()),
             found: *found,
         })?;

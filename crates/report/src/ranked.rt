@@ -5,7 +5,7 @@ ghost use Rattle.std.specs.Ordering.{nat_cmp, ordering_then};
 ghost use Rattle.std.proofs.Props.{props};
 ghost use Rattle.values.specs.Datum.{data_of};
 ghost use Rattle.groups.specs.Groups.{key_order};
-ghost use Rattle.report.specs.Inside.Fronts.{AreBytes, IsOfBytes, first_text, front_of, text_order, with_digits};
+ghost use Rattle.report.specs.Inside.Fronts.{AreBytes, IsOfBytes, behind_of, first_text, front_of, text_order, with_digits};
 
 use groups::Group;
 use std::cmp::Ordering;
@@ -23,12 +23,15 @@ pub(crate) struct RankedRow<'a> {
     pub(crate) set: usize,
     /// The front of the group's key. Fronts tell most groups apart, and are at hand here, where the keys lie elsewhere.
     pub(crate) front: u128,
-    /// The text that the group's key begins with, where it begins with one: it tells apart what fronts do not.
+    /// What is behind the front in the group's key. It tells apart most groups of one front.
+    pub(crate) behind: u128,
+    /// The text that the group's key begins with, where it begins with one: it tells apart what numbers do not.
     pub(crate) text: Option<&'a str>,
     /// The group, beside the index.
     pub(crate) found: &'a (usize, Group),
     ghost set_is: { set ≡ found.now.0 },
     ghost front_is: { front ≡ front_of (data_of found.now.1.key.items) } by { Prim.hlevel props },
+    ghost behind_is: { behind ≡ behind_of (data_of found.now.1.key.items) } by { Prim.hlevel props },
     ghost text_is: { ∥ option_map (λ t. t.now) text ≡ first_text (data_of found.now.1.key.items) ∥₁ },
     ghost bytes: { IsOfBytes (data_of found.now.1.key.items) } by { Prim.hlevel props },
 }
@@ -59,6 +62,17 @@ pub(crate) fn front_of(key: &[Value]) -> u128
     }
 }
 
+/// What is behind the front in a key: the bytes behind the first ones of the text that it begins with, again as one number.
+/// Where it begins with no text, this is the number that its front is.
+pub(crate) fn behind_of(key: &[Value]) -> u128
+    ensures { result ≡ behind_of (data_of key.now) }
+{
+    match key {
+        [Value::Text(text), ..] => digits_of(text.as_bytes().get(FRONT..).unwrap_or(&[])),
+        [Value::Bool(_) | Value::Int(_) | Value::Null, ..] | [] => front_of(key),
+    }
+}
+
 /// The text that a key begins with, where it begins with one.
 pub(crate) fn first_text(key: &[Value]) -> Option<&str>
     ensures { option_map (λ t. t.now) result ≡ first_text (data_of key.now) }
@@ -79,7 +93,7 @@ fn compare_texts(a: Option<&str>, b: Option<&str>) -> Ordering
     }
 }
 
-/// How two groups of one grouping set and of one front stand to each other.
+/// How two groups of one grouping set stand to each other where no number tells them apart.
 fn compare_ties(a: &RankedRow, b: &RankedRow) -> Ordering
     ensures { result ≡ ordering_then (text_order (first_text (data_of a.now.found.now.1.key.items)) (first_text (data_of b.now.found.now.1.key.items)))
         (key_order (data_of a.now.found.now.1.key.items) (data_of b.now.found.now.1.key.items)) }
@@ -90,15 +104,28 @@ fn compare_ties(a: &RankedRow, b: &RankedRow) -> Ordering
     }
 }
 
+/// How two groups of one grouping set and of one front stand to each other.
+fn compare_behind(a: &RankedRow, b: &RankedRow) -> Ordering
+    ensures { result ≡ ordering_then (nat_cmp a.now.behind b.now.behind)
+        (ordering_then (text_order (first_text (data_of a.now.found.now.1.key.items)) (first_text (data_of b.now.found.now.1.key.items)))
+        (key_order (data_of a.now.found.now.1.key.items) (data_of b.now.found.now.1.key.items))) }
+{
+    match a.behind.cmp(&b.behind) {
+        Ordering::Equal => compare_ties(a, b),
+        other => other,
+    }
+}
+
 /// How two groups of one grouping set stand to each other. The values of a key stand in the order of the grouping
 /// columns, and in the other ones two groups of one set are both NULL.
 pub(crate) fn compare_keys(a: &RankedRow, b: &RankedRow) -> Ordering
     ensures { result ≡ ordering_then (nat_cmp a.now.front b.now.front)
+        (ordering_then (nat_cmp a.now.behind b.now.behind)
         (ordering_then (text_order (first_text (data_of a.now.found.now.1.key.items)) (first_text (data_of b.now.found.now.1.key.items)))
-        (key_order (data_of a.now.found.now.1.key.items) (data_of b.now.found.now.1.key.items))) }
+        (key_order (data_of a.now.found.now.1.key.items) (data_of b.now.found.now.1.key.items)))) }
 {
     match a.front.cmp(&b.front) {
-        Ordering::Equal => compare_ties(a, b),
+        Ordering::Equal => compare_behind(a, b),
         other => other,
     }
 }

@@ -1,5 +1,5 @@
 -- A number for the first value of a key, which tells most keys apart, and the text that it begins with.
-use Rattle.std.specs.Prelude.{◌<◌, ◌+◌, ◌-◌, ◌*◌, ◌^◌, ℕ, zero, suc, List, [], ◌∷◌, Option, Some, None, get_or, unwrap_or}
+use Rattle.std.specs.Prelude.{◌<◌, ◌+◌, ◌-◌, ◌*◌, ◌^◌, ℕ, zero, suc, List, [], ◌∷◌, drop, Option, Some, None, get_or, unwrap_or}
 use Rattle.std.specs.declared.cmp.Ordering.{Ordering}
 use Rattle.std.specs.declared.cmp.Ordering.TheVariants.{Equal}
 use Rattle.std.specs.Ordering.{nat_cmp}
@@ -42,3 +42,11 @@ front_of (boolean b ∷ key) = 0
 front_of (whole n ∷ key) = 0
 front_of (text s ∷ key) = with_digits 0 16 s
 front_of (null ∷ key) = 2 ^ 128 - 1
+
+-- the second number of a key: the 16 bytes behind the first 16 of that text, which tells most keys of one first number apart; for a key that begins with no text it is the first number again
+abbrev pub behind_of : Key → ℕ
+behind_of [] = 0
+behind_of (boolean b ∷ key) = 0
+behind_of (whole n ∷ key) = 0
+behind_of (text s ∷ key) = with_digits 0 16 (drop 16 s)
+behind_of (null ∷ key) = 2 ^ 128 - 1
