@@ -1,5 +1,5 @@
 //! A hashed table of groups.
-ghost use Rattle.std.specs.Prelude.{◌≡◌, IfOk, vec_len};
+ghost use Rattle.std.specs.Prelude.{◌≡◌, ◌<◌, ◌≤◌, IfOk, vec_len};
 ghost use Rattle.std.proofs.Props.{props};
 ghost use Rattle.groups.specs.Inside.Shards.{AreApart, AreJoined, CanJoinEach};
 
@@ -33,14 +33,15 @@ const FEWEST: usize = 4_096;
 #[derive(Debug, Drop)]
 pub struct Table {
     alloc: Global,
-    /// The groups, each in the shard of its key's place: so that tables can be put together shard by shard, by several
-    /// threads.
+    /// The groups, each in the shard of its key's place. There are several shards, so that tables can be put together
+    /// shard by shard, by as many threads, or there is one.
     shards: Vec<Shard>,
     /// The key by which a group was last searched. It is written over the one before, so that no memory is taken for a
     /// record whose group is there. A new group gets a key of its own, with room for its own texts and no more; this
     /// one keeps room for the longest text of each column so far, which is no longer than a line may be.
     scratch: Vec<Value>,
-    ghost count: { vec_len shards ≡ 4 },
+    ghost some: { 0 < vec_len shards },
+    ghost few: { vec_len shards ≤ 4 },
     ghost apart: { AreApart shards.items } by { Prim.hlevel props },
 }
 
@@ -56,7 +57,7 @@ impl Model for Table {
 }
 
 impl Table {
-    ghost use Rattle.std.specs.Prelude.{◌≡◌, ◌<◌, Bool, ℕ, [], ◌∷◌, ◌++◌, OnOk, IfOk, List, map};
+    ghost use Rattle.std.specs.Prelude.{◌≡◌, ◌<◌, ◌≤◌, Bool, ℕ, [], ◌∷◌, ◌++◌, OnOk, IfOk, List, map};
     ghost use Rattle.groups.specs.Rows.{Row, IsNarrowRow};
     ghost use Rattle.groups.specs.Functions.{AggregateFunction, bound};
     ghost use Rattle.std.specs.FinMap as fin;
@@ -65,6 +66,7 @@ impl Table {
     ghost use Rattle.groups.specs.Inside.Group.{no_group};
     ghost use Rattle.groups.specs.GroupSummaries.{group_summary_in, group_summaries};
     ghost use Rattle.groups.specs.Bags.{SameBag};
+    ghost use Rattle.groups.specs.Inside.Shards.{contents_in};
     ghost use Rattle.groups.specs.Inside.Table.{CanJoin, IsPut, IsFitting, IsJoined, IsOfFew, IsTableOf, IsTaken, IsWithPart, TakesOne};
     ghost use Rattle.groups.specs.Rolled.{AreAmong};
 
@@ -83,18 +85,40 @@ impl Table {
     ) -> Result<Table, AllocError>
         ensures empty { IfOk result (λ table. (filters : List (Row → Bool)) → IsTableOf set.now (map (bound filters) functions.now) table []) }
     {
-        if set.is_empty() {
-            return Table::with_empty_key(alloc, functions);
-        }
-        Table::without_groups(alloc)
+        Table::for_hands(alloc, 1, set, functions)
     }
 
-    /// The table that has no group.
-    fn without_groups(alloc: Global) -> Result<Table, AllocError>
+    /// The table of no records that `new` gives, kept in such a way that as many hands put it to another one soonest
+    /// (`absorb_among`), where that one is for as many hands too.
+    ///
+    /// Example: `Table::for_hands(alloc, 4, &[], functions)` answers a table whose `len()` is 1; with `&[0]` it is 0.
+    ///
+    /// # Errors
+    ///
+    /// `AllocError` where there is no memory for it.
+    pub fn for_hands(
+        alloc: Global,
+        hands: usize,
+        set: &[usize],
+        functions: &[FilteredFunction],
+    ) -> Result<Table, AllocError>
+        ensures empty { IfOk result (λ table. (filters : List (Row → Bool)) → IsTableOf set.now (map (bound filters) functions.now) table []) }
+    {
+        let count = if hands < 2 { 1 } else { SHARDS };
+        if set.is_empty() {
+            return Table::with_empty_key(alloc, count, functions);
+        }
+        Table::without_groups(alloc, count)
+    }
+
+    /// The table of so many shards that has no group.
+    fn without_groups(alloc: Global, count: usize) -> Result<Table, AllocError>
+        requires some { 0 < count }
+        requires few { count ≤ 4 }
         ensures { IfOk result (λ table. table ≡ fin.empty) }
     {
-        let mut shards = Vec::with_capacity(alloc, SHARDS)?;
-        for _ in 0..SHARDS {
+        let mut shards = Vec::with_capacity(alloc, count)?;
+        for _ in 0..count {
             shards.push(Shard::new(alloc))?;
         }
         Ok(Table {
@@ -104,11 +128,17 @@ impl Table {
         })
     }
 
-    /// The table of no records under the empty set, whose one key is there from the start.
-    fn with_empty_key(alloc: Global, functions: &[FilteredFunction]) -> Result<Table, AllocError>
+    /// The table of so many shards of no records under the empty set, whose one key is there from the start.
+    fn with_empty_key(
+        alloc: Global,
+        count: usize,
+        functions: &[FilteredFunction],
+    ) -> Result<Table, AllocError>
+        requires some { 0 < count }
+        requires few { count ≤ 4 }
         ensures { IfOk result (λ table. (k : Key) → IsPut fin.empty table [] (no_group functions.now) k) }
     {
-        let mut table = Table::without_groups(alloc)?;
+        let mut table = Table::without_groups(alloc, count)?;
         let group = Accumulators::new(alloc, functions)?;
         table.put_to_group(Vec::new(alloc), group)?;
         Ok(table)
@@ -159,7 +189,7 @@ impl Table {
         ensures joined { OnOk result ((set : List ℕ) (functions : List AggregateFunction) (rows more : List Row)
             → IsTableOf set functions self.old rows → IsTableOf set functions other more → IsTableOf set functions self.new (rows ++ more)) }
     {
-        let fresh = Table::without_groups(self.alloc)?;
+        let fresh = Table::without_groups(self.alloc, 1)?;
         let table = mem::replace(self, fresh);
         *self = table.joined(other)?;
         Ok(())
@@ -192,7 +222,7 @@ impl Table {
         if hands == 1 || other.len() < FEWEST {
             return self.absorb(other);
         }
-        let fresh = Table::without_groups(self.alloc)?;
+        let fresh = Table::without_groups(self.alloc, 1)?;
         let table = mem::replace(self, fresh);
         *self = table.joined_among(rt, hands, other)?;
         Ok(())
@@ -282,7 +312,7 @@ impl Table {
         ensures { OnOk result ((k : Key) → IsWithPart functions.now self.old self.new (project set.now (data_of row.now)) part.entry k) }
     {
         write_key(&mut self.scratch, set, row)?;
-        let place = place_of(self.scratch.as_slice());
+        let place = place_of(self.scratch.as_slice(), self.shards.len());
         self.shards[place].put(self.alloc, &self.scratch, set, functions, row, part)
     }
 
@@ -291,15 +321,42 @@ impl Table {
         requires { IsFitting part (fin.get self.old (data_of key.items)) }
         ensures { OnOk result ((k : Key) → IsPut self.old self.new (data_of key.items) part k) }
     {
-        let place = place_of(key.as_slice());
+        let place = place_of(key.as_slice(), self.shards.len());
         self.shards[place].put_group(key, part)
     }
 
-    /// The table of the groups of both, shard by shard.
+    /// Puts the groups of a shard to these, each to the group of its key.
+    fn absorb_shard(&mut self, shard: Shard) -> Result<(), AllocError>
+        requires { CanJoin self.old (contents_in shard) }
+        ensures { OnOk result ((k : Key) → IsJoined self.old (contents_in shard) self.new k) }
+    {
+        let Shard { groups } = shard;
+        for (key, part) in groups {
+            self.put_to_group(key, part)?;
+        }
+        Ok(())
+    }
+
+    /// The table of the groups of both, group by group, whatever the numbers of their shards are.
+    fn joined_by_key(self, other: Table) -> Result<Table, AllocError>
+        requires { CanJoin self other }
+        ensures { IfOk result (λ table. (k : Key) → IsJoined self other table k) }
+    {
+        let mut table = self;
+        for shard in other.shards {
+            table.absorb_shard(shard)?;
+        }
+        Ok(table)
+    }
+
+    /// The table of the groups of both, shard by shard where they have as many shards.
     fn joined(self, other: Table) -> Result<Table, AllocError>
         requires { CanJoin self other }
         ensures { IfOk result (λ table. (k : Key) → IsJoined self other table k) }
     {
+        if self.shards.len() != other.shards.len() {
+            return self.joined_by_key(other);
+        }
         let Table {
             alloc,
             shards,
@@ -313,7 +370,7 @@ impl Table {
         })
     }
 
-    /// The same by as many threads as there are hands.
+    /// The same, by as many threads as there are hands where they have as many shards.
     fn joined_among<H: Threads + Sync>(
         self,
         rt: &H,
@@ -324,6 +381,9 @@ impl Table {
         requires hands { 0 < hands }
         ensures { IfOk result (λ table. (k : Key) → IsJoined self other table k) }
     {
+        if self.shards.len() != other.shards.len() {
+            return self.joined_by_key(other);
+        }
         let Table {
             alloc,
             shards,
