@@ -92,11 +92,7 @@ place-below n k some =
 pub within-all : (ss : Vec Shard Global) → 0 < vec_len ss → (k : Key) → place (length ss.items) k < length ss.items
 within-all ss n k = let l = ss.ok in place-below (length ss.items) k (omega (arith, n, l))
 
--- where there is one shard, it keeps each key
-pub place-one : (k : Key) → place 1 k ≡ 0
-place-one k = let p = place-below 1 k (omega arith) in omega (arith, p)
-
--- the shards are apart, where there are m of them
+-- each shard has keys of its own place among m alone
 abbrev pub AreApartAmong : ℕ → List Shard → Type 0
 AreApartAmong m ss = (i : ℕ) (d : Shard) (k : Key) → i < length ss → IfSome (get (contents_in (get_or ss i d)) k) (λ _. place m k ≡ i)
 

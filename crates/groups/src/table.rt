@@ -33,8 +33,9 @@ const FEWEST: usize = 4_096;
 #[derive(Debug, Drop)]
 pub struct Table {
     alloc: Global,
-    /// The groups, each in the shard of its key's place. There are several shards, so that tables can be put together
-    /// shard by shard, by as many threads, or there is one.
+    /// The groups, each in the shard of its key's place. Either there are several shards, so that tables can be put
+    /// together shard by shard, by several threads; or there is one, in which the groups lie in the order in which they
+    /// came.
     shards: Vec<Shard>,
     /// The key by which a group was last searched. It is written over the one before, so that no memory is taken for a
     /// record whose group is there. A new group gets a key of its own, with room for its own texts and no more; this
@@ -89,7 +90,7 @@ impl Table {
     }
 
     /// The table of no records that `new` gives, kept in such a way that as many hands put it to another one soonest
-    /// (`absorb_among`), where that one is for as many hands too.
+    /// (`absorb_among`), where that one is kept so too. What is taken and given does not depend on the hands.
     ///
     /// Example: `Table::for_hands(alloc, 4, &[], functions)` answers a table whose `len()` is 1; with `&[0]` it is 0.
     ///
@@ -196,7 +197,7 @@ impl Table {
     }
 
     /// What `absorb` does, by as many threads as there are hands, the calling one among them, where the other table has
-    /// many groups.
+    /// many groups and both are kept for several hands (`for_hands`).
     ///
     /// Where both have a group of one key, the two have fewer than 2^63 members together, and are for as many
     /// functions. There is a hand.
@@ -325,7 +326,7 @@ impl Table {
         self.shards[place].put_group(key, part)
     }
 
-    /// Puts the groups of a shard to these, each to the group of its key.
+    /// Puts the groups of a shard of another table to these, each to the group of its key.
     fn absorb_shard(&mut self, shard: Shard) -> Result<(), AllocError>
         requires { CanJoin self.old (contents_in shard) }
         ensures { OnOk result ((k : Key) → IsJoined self.old (contents_in shard) self.new k) }
@@ -337,19 +338,19 @@ impl Table {
         Ok(())
     }
 
-    /// The table of the groups of both, group by group, whatever the numbers of their shards are.
+    /// The table of the groups of both, group by group, however many shards each has.
     fn joined_by_key(self, other: Table) -> Result<Table, AllocError>
         requires { CanJoin self other }
         ensures { IfOk result (λ table. (k : Key) → IsJoined self other table k) }
     {
-        let mut table = self;
+        let mut joined = self;
         for shard in other.shards {
-            table.absorb_shard(shard)?;
+            joined.absorb_shard(shard)?;
         }
-        Ok(table)
+        Ok(joined)
     }
 
-    /// The table of the groups of both, shard by shard where they have as many shards.
+    /// The table of the groups of both: shard by shard, where one has as many as the other.
     fn joined(self, other: Table) -> Result<Table, AllocError>
         requires { CanJoin self other }
         ensures { IfOk result (λ table. (k : Key) → IsJoined self other table k) }
@@ -370,7 +371,7 @@ impl Table {
         })
     }
 
-    /// The same, by as many threads as there are hands where they have as many shards.
+    /// The same: by as many threads as there are hands, where one has as many shards as the other.
     fn joined_among<H: Threads + Sync>(
         self,
         rt: &H,

@@ -54,7 +54,7 @@ all_entries shards = flat_map entries_in shards
 abbrev pub contents_of_shards : List Shard → Contents
 contents_of_shards shards = contents_of (all_entries shards)
 
--- each shard has keys of its own place alone
+-- each shard has keys of its own place alone, among as many as there are shards
 abbrev pub AreApart : List Shard → Type 0
 AreApart shards = (i : ℕ) (d : Shard) (key : Key) → i < length shards → IfSome (fin.get (contents_in (get_or shards i d)) key) (λ _. place (length shards) key ≡ i)
 

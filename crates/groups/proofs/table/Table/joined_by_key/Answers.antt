@@ -31,13 +31,13 @@ absorb_shard-requires c =
     let s : Shard = c.in-Some.shard in
     let rest : List Shard = c.next.new.self.rest.items in
     let is : c.loop-shard.shard-iterator.rest.items ≡ s ∷ rest = c.in-Some.ensures.steps.0 in
-    can_join-first c.loop-shard.table s rest
-    (λ k. subst (λ (xs : List Shard). IfSome (find key_order k (entries_by_key (all_entries xs))) (λ p. IsFitting p (get c.loop-shard.table k))) is (c.loop-shard.invariant.fits k))
+    can_join-first c.loop-shard.joined s rest
+    (λ k. subst (λ (xs : List Shard). IfSome (find key_order k (entries_by_key (all_entries xs))) (λ p. IsFitting p (get c.loop-shard.joined k))) is (c.loop-shard.invariant.fits k))
 
 pub loop-shard-preserved : goal.loop-shard-preserved
 loop-shard-preserved c =
     let i = c.loop-shard.invariant in
-    let old = c.loop-shard.table in
+    let old = c.loop-shard.joined in
     let new = c.absorb_shard.new.self in
     let s : Shard = c.in-Some.shard in
     let rest : List Shard = c.next.new.self.rest.items in
@@ -59,6 +59,6 @@ pub returns : goal.returns
 returns c = λ k.
     let left : List Shard = c.loop-shard.shard-iterator.rest.items in
     let many : length left ≡ 0 = let l = c.loop-shard.shard-iterator.rest.ok in let s = c.in-None.ensures.steps in omega (arith, l, s) in
-    sym (options-none (get c.loop-shard.table k))
-    ∙ ap (λ (xs : List Shard). join_options (get c.loop-shard.table k) (find key_order k (entries_by_key (all_entries xs)))) (sym (none-left left many))
+    sym (options-none (get c.loop-shard.joined k))
+    ∙ ap (λ (xs : List Shard). join_options (get c.loop-shard.joined k) (find key_order k (entries_by_key (all_entries xs)))) (sym (none-left left many))
     ∙ c.loop-shard.invariant.joined k
