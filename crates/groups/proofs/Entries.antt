@@ -118,12 +118,12 @@ taken-first functions (taken.Copies members) h = ((omega (arith, h.1), h.2 ∙ s
 
 -- ---- merging the entries of another table, one after another
 
-options-none : (a : Option GroupState) → join_options a None ≡ a
+pub options-none : (a : Option GroupState) → join_options a None ≡ a
 options-none None = refl
 options-none (Some a) = refl
 
 -- a key that the first entry has is in no other
-none_after : (k : Key) (e : Vec Value Global × GroupState) (es : Entries) → IsDistinct key_eq (keys_of (e ∷ es)) → same_key k (data_of e.0.items) ≡ true → find key_order k (entries_by_key es) ≡ None
+pub none_after : (k : Key) (e : Vec Value Global × GroupState) (es : Entries) → IsDistinct key_eq (keys_of (e ∷ es)) → same_key k (data_of e.0.items) ≡ true → find key_order k (entries_by_key es) ≡ None
 unfolding IsDistinct
 none_after k e [] d h = refl
 none_after k e (f ∷ es) d h =

@@ -1,27 +1,32 @@
 //! Which shard of a table keeps a key.
-ghost use Rattle.std.specs.Prelude.{◌≡◌, ◌<◌, ◌^◌};
+ghost use Rattle.std.specs.Prelude.{◌≡◌, ◌<◌, ◌≤◌, ◌^◌};
 ghost use Rattle.std.specs.List.{fold};
 ghost use Rattle.values.specs.Datum.{data_of, datum_of};
 ghost use Rattle.groups.specs.Inside.Shards.{last_bytes, mixed, place, with_value};
 
 use values::Value;
 
-/// The number of shards of a table.
+/// The number of shards of a table that several hands put to another one. Any other table has one.
 pub(crate) const SHARDS: usize = 4;
 
 /// How many bytes at the end of a text tell its shard.
 const LAST: usize = 4;
 
-/// The number of the shard that keeps a key, below `SHARDS`.
-pub(crate) fn place_of(key: &[Value]) -> usize
-    ensures place { result ≡ place (data_of key.now) }
-    ensures within { result < 4 }
+/// The number of the shard that keeps a key among so many of them. Where there is one, the key is not looked at.
+pub(crate) fn place_of(key: &[Value], count: usize) -> usize
+    requires some { 0 < count }
+    requires few { count ≤ 4 }
+    ensures place { result ≡ place count (data_of key.now) }
+    ensures within { result < count }
 {
+    if count == 1 {
+        return 0;
+    }
     let mut digest = 0;
     for value in key {
         digest = with_value(digest, value);
     }
-    (mixed(digest, 0) / 1_073_741_824) as usize
+    (mixed(digest, 0) * count as u64 / 4_294_967_296) as usize
 }
 
 /// A number with a value mixed into it.

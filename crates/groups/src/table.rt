@@ -1,5 +1,5 @@
 //! A hashed table of groups.
-ghost use Rattle.std.specs.Prelude.{◌≡◌, IfOk, vec_len};
+ghost use Rattle.std.specs.Prelude.{◌≡◌, ◌<◌, ◌≤◌, IfOk, vec_len};
 ghost use Rattle.std.proofs.Props.{props};
 ghost use Rattle.groups.specs.Inside.Shards.{AreApart, AreJoined, CanJoinEach};
 
@@ -34,14 +34,16 @@ const FEWEST: usize = 4_096;
 #[derive(Debug, Drop)]
 pub struct Table {
     alloc: Global,
-    /// The groups, each in the shard of its key's place: so that tables can be put together shard by shard, by several
-    /// threads.
+    /// The groups, each in the shard of its key's place. Either there are several shards, so that tables can be put
+    /// together shard by shard, by several threads; or there is one, in which the groups lie in the order in which they
+    /// came.
     shards: Vec<Shard>,
     /// The key by which a group was last searched. It is written over the one before, so that no memory is taken for a
     /// record whose group is there. A new group gets a key of its own, with room for its own texts and no more; this
     /// one keeps room for the longest text of each column so far, which is no longer than a line may be.
     scratch: Vec<Value>,
-    ghost count: { vec_len shards ≡ 4 },
+    ghost some: { 0 < vec_len shards },
+    ghost few: { vec_len shards ≤ 4 },
     ghost apart: { AreApart shards.items } by { Prim.hlevel props },
 }
 
@@ -57,7 +59,7 @@ impl Model for Table {
 }
 
 impl Table {
-    ghost use Rattle.std.specs.Prelude.{◌≡◌, ◌<◌, Bool, ℕ, [], ◌∷◌, ◌++◌, OnOk, IfOk, List, map};
+    ghost use Rattle.std.specs.Prelude.{◌≡◌, ◌<◌, ◌≤◌, Bool, ℕ, [], ◌∷◌, ◌++◌, OnOk, IfOk, List, map};
     ghost use Rattle.groups.specs.Rows.{Row, IsNarrowRow};
     ghost use Rattle.groups.specs.Functions.{AggregateFunction, bound};
     ghost use Rattle.std.specs.FinMap as fin;
@@ -66,6 +68,7 @@ impl Table {
     ghost use Rattle.groups.specs.Inside.Group.{no_group};
     ghost use Rattle.groups.specs.GroupSummaries.{group_summary_in, group_summaries};
     ghost use Rattle.groups.specs.Bags.{SameBag};
+    ghost use Rattle.groups.specs.Inside.Shards.{contents_in};
     ghost use Rattle.groups.specs.Inside.Table.{CanJoin, IsPut, IsFitting, IsJoined, IsOfFew, IsTableOf, IsTaken, IsWithPart, TakesOne};
     ghost use Rattle.groups.specs.Rolled.{AreAmong};
 
@@ -84,37 +87,40 @@ impl Table {
     ) -> Result<Table, AllocError>
         ensures empty { IfOk result (λ table. (filters : List (Row → Bool)) → IsTableOf set.now (map (bound filters) functions.now) table []) }
     {
-        if set.is_empty() {
-            return Table::with_empty_key(alloc, functions);
-        }
-        Table::without_groups(alloc)
+        Table::for_hands(alloc, 1, set, functions)
     }
 
-    /// The table that `new` gives, kept in such a way that as many hands put it to another one soonest
-    /// (`absorb_among`).
+    /// The table of no records that `new` gives, kept in such a way that as many hands put it to another one soonest
+    /// (`absorb_among`), where that one is kept so too. What is taken and given does not depend on the hands.
     ///
-    /// Example: `Table::for_hands(alloc, 4, set, functions)?` means what `Table::new(alloc, set, functions)?` means.
+    /// Example: `Table::for_hands(alloc, 4, &[], functions)` answers a table whose `len()` is 1; with `&[0]` it is 0.
     ///
     /// # Errors
     ///
     /// `AllocError` where there is no memory for it.
     pub fn for_hands(
         alloc: Global,
-        _hands: usize,
+        hands: usize,
         set: &[usize],
         functions: &[FilteredFunction],
     ) -> Result<Table, AllocError>
         ensures empty { IfOk result (λ table. (filters : List (Row → Bool)) → IsTableOf set.now (map (bound filters) functions.now) table []) }
     {
-        Table::new(alloc, set, functions)
+        let count = hands.clamp(1, SHARDS);
+        if set.is_empty() {
+            return Table::with_empty_key(alloc, count, functions);
+        }
+        Table::without_groups(alloc, count)
     }
 
-    /// The table that has no group.
-    fn without_groups(alloc: Global) -> Result<Table, AllocError>
+    /// The table of so many shards that has no group.
+    fn without_groups(alloc: Global, count: usize) -> Result<Table, AllocError>
+        requires some { 0 < count }
+        requires few { count ≤ 4 }
         ensures { IfOk result (λ table. table ≡ fin.empty) }
     {
-        let mut shards = Vec::with_capacity(alloc, SHARDS)?;
-        for _ in 0..SHARDS {
+        let mut shards = Vec::with_capacity(alloc, count)?;
+        for _ in 0..count {
             shards.push(Shard::new(alloc))?;
         }
         Ok(Table {
@@ -124,11 +130,17 @@ impl Table {
         })
     }
 
-    /// The table of no records under the empty set, whose one key is there from the start.
-    fn with_empty_key(alloc: Global, functions: &[FilteredFunction]) -> Result<Table, AllocError>
+    /// The table of so many shards of no records under the empty set, whose one key is there from the start.
+    fn with_empty_key(
+        alloc: Global,
+        count: usize,
+        functions: &[FilteredFunction],
+    ) -> Result<Table, AllocError>
+        requires some { 0 < count }
+        requires few { count ≤ 4 }
         ensures { IfOk result (λ table. (k : Key) → IsPut fin.empty table [] (no_group functions.now) k) }
     {
-        let mut table = Table::without_groups(alloc)?;
+        let mut table = Table::without_groups(alloc, count)?;
         let group = Accumulators::new(alloc, functions)?;
         table.put_to_group(Vec::new(alloc), group)?;
         Ok(table)
@@ -179,14 +191,14 @@ impl Table {
         ensures joined { OnOk result ((set : List ℕ) (functions : List AggregateFunction) (rows more : List Row)
             → IsTableOf set functions self.old rows → IsTableOf set functions other more → IsTableOf set functions self.new (rows ++ more)) }
     {
-        let fresh = Table::without_groups(self.alloc)?;
+        let fresh = Table::without_groups(self.alloc, 1)?;
         let table = mem::replace(self, fresh);
         *self = table.joined(other)?;
         Ok(())
     }
 
     /// What `absorb` does, by as many threads as there are hands, the calling one among them, where the other table has
-    /// many groups.
+    /// many groups and both are kept for several hands (`for_hands`).
     ///
     /// Where both have a group of one key, the two have fewer than 2^63 members together, and are for as many
     /// functions. There is a hand.
@@ -212,7 +224,7 @@ impl Table {
         if hands == 1 || other.len() < FEWEST {
             return self.absorb(other);
         }
-        let fresh = Table::without_groups(self.alloc)?;
+        let fresh = Table::without_groups(self.alloc, 1)?;
         let table = mem::replace(self, fresh);
         *self = table.joined_among(rt, hands, other)?;
         Ok(())
@@ -325,7 +337,7 @@ impl Table {
         ensures { OnOk result ((k : Key) → IsWithPart functions.now self.old self.new (project set.now (data_of row.now)) part.entry k) }
     {
         write_key(&mut self.scratch, set, row)?;
-        let place = place_of(self.scratch.as_slice());
+        let place = place_of(self.scratch.as_slice(), self.shards.len());
         self.shards[place].put(self.alloc, &self.scratch, set, functions, row, part)
     }
 
@@ -334,15 +346,42 @@ impl Table {
         requires { IsFitting part (fin.get self.old (data_of key.items)) }
         ensures { OnOk result ((k : Key) → IsPut self.old self.new (data_of key.items) part k) }
     {
-        let place = place_of(key.as_slice());
+        let place = place_of(key.as_slice(), self.shards.len());
         self.shards[place].put_group(key, part)
     }
 
-    /// The table of the groups of both, shard by shard.
+    /// Puts the groups of a shard of another table to these, each to the group of its key.
+    fn absorb_shard(&mut self, shard: Shard) -> Result<(), AllocError>
+        requires { CanJoin self.old (contents_in shard) }
+        ensures { OnOk result ((k : Key) → IsJoined self.old (contents_in shard) self.new k) }
+    {
+        let Shard { groups } = shard;
+        for (key, part) in groups {
+            self.put_to_group(key, part)?;
+        }
+        Ok(())
+    }
+
+    /// The table of the groups of both, group by group, however many shards each has.
+    fn joined_by_key(self, other: Table) -> Result<Table, AllocError>
+        requires { CanJoin self other }
+        ensures { IfOk result (λ table. (k : Key) → IsJoined self other table k) }
+    {
+        let mut joined = self;
+        for shard in other.shards {
+            joined.absorb_shard(shard)?;
+        }
+        Ok(joined)
+    }
+
+    /// The table of the groups of both: shard by shard, where one has as many as the other.
     fn joined(self, other: Table) -> Result<Table, AllocError>
         requires { CanJoin self other }
         ensures { IfOk result (λ table. (k : Key) → IsJoined self other table k) }
     {
+        if self.shards.len() != other.shards.len() {
+            return self.joined_by_key(other);
+        }
         let Table {
             alloc,
             shards,
@@ -356,7 +395,7 @@ impl Table {
         })
     }
 
-    /// The same by as many threads as there are hands.
+    /// The same: by as many threads as there are hands, where one has as many shards as the other.
     fn joined_among<H: Threads + Sync>(
         self,
         rt: &H,
@@ -367,6 +406,9 @@ impl Table {
         requires hands { 0 < hands }
         ensures { IfOk result (λ table. (k : Key) → IsJoined self other table k) }
     {
+        if self.shards.len() != other.shards.len() {
+            return self.joined_by_key(other);
+        }
         let Table {
             alloc,
             shards,

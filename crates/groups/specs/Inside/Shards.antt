@@ -28,9 +28,13 @@ with_value digest (whole n) = mixed digest (unsigned_abs n % 4294967296)
 with_value digest (text bytes) = fold mixed digest (last_bytes bytes)
 with_value digest null = mixed digest 2
 
--- the number of the shard that keeps a key, below 4: the highest two of the 32 bits of what all its values mix to
-abbrev pub place : Key → ℕ
-place key = mixed (fold with_value 0 key) 0 / 1073741824
+-- the 32 bits that all values of a key mix to
+abbrev pub digest : Key → ℕ
+digest key = mixed (fold with_value 0 key) 0
+
+-- the number of the shard that keeps a key among n of them, below n: as far along them as its digest lies along the numbers of 32 bits
+abbrev pub place : ℕ → Key → ℕ
+place n key = digest key * n / 4294967296
 
 -- ---- what shards have
 
@@ -50,9 +54,9 @@ all_entries shards = flat_map entries_in shards
 abbrev pub contents_of_shards : List Shard → Contents
 contents_of_shards shards = contents_of (all_entries shards)
 
--- each shard has keys of its own place alone
+-- each shard has keys of its own place alone, among as many as there are shards
 abbrev pub AreApart : List Shard → Type 0
-AreApart shards = (i : ℕ) (d : Shard) (key : Key) → i < length shards → IfSome (fin.get (contents_in (get_or shards i d)) key) (λ _. place key ≡ i)
+AreApart shards = (i : ℕ) (d : Shard) (key : Key) → i < length shards → IfSome (fin.get (contents_in (get_or shards i d)) key) (λ _. place (length shards) key ≡ i)
 
 -- each shard can take the groups of the other list's shard of the same place
 abbrev pub CanJoinEach : List Shard → List Shard → Type 0

@@ -20,7 +20,7 @@ more shards i s l is =
 pub overflow_add-count : goal.overflow_add-count
 overflow_add-count c =
     let n = ap length c.deref-shard-items.ensures.value in
-    omega (arith, n, c.self.inside.count, c.self.inside.shards.ok)
+    omega (arith, n, c.self.inside.few, c.self.inside.shards.ok)
 
 pub loop-shard-preserved : goal.loop-shard-preserved
 loop-shard-preserved c = record {

@@ -1,4 +1,4 @@
-use Rattle.std.proofs.Common.{◌≡◌, ◌∙◌, ap, sym, subst, get_or, set, Option, Some}
+use Rattle.std.proofs.Common.{◌≡◌, ◌∙◌, ap, sym, subst, arith, length, get_or, set, Option, Some}
 use Rattle.std.proofs.lemmas.Result.{on_ok_weaker}
 use Rattle.std.specs.FinMap as fin
 use Rattle.values.specs.Datum.{data_of}
@@ -15,11 +15,12 @@ put-requires-clause-taken c =
     let key = project c.args.set.now (data_of c.args.row.now) in
     let ss = c.self.inside.shards.items in
     let s = c.index_mut.result.now in
-    let p : c.place_of-place.result ≡ place key = c.place_of-place.ensures.place ∙ ap (λ xs. place (data_of xs)) c.as_slice.ensures.value ∙ ap place c.in_ok-write_key.ensures in
-    let is : s ≡ get_or ss (place key) s = c.index_mut.ensures.value ∙ ap (λ n. get_or ss n s) p in
+    let count : c.len.result ≡ length ss = let l = c.self.inside.shards.ok in omega (arith, l, c.len.ensures) in
+    let p : c.place_of-place.result ≡ place (length ss) key = c.place_of-place.ensures.place ∙ ap (λ xs. place c.len.result (data_of xs)) c.as_slice.ensures.value ∙ ap (place c.len.result) c.in_ok-write_key.ensures ∙ ap (λ n. place n key) count in
+    let is : s ≡ get_or ss (place (length ss) key) s = c.index_mut.ensures.value ∙ ap (λ n. get_or ss n s) p in
     subst (λ (o : Option GroupState). IsTaken c.args.functions.now o c.args.part)
     (ap (λ m. fin.get m key) (sym c.self.view_is)
-    ∙ get-place ss s key c.self.inside.apart (within-all c.self.inside.shards c.self.inside.count key)
+    ∙ get-place ss s key c.self.inside.apart (within-all c.self.inside.shards c.self.inside.some key)
     ∙ ap (λ (x : Shard). fin.get (contents_in x) key) (sym is))
     c.requires
 
@@ -28,13 +29,17 @@ invariant_of-self-inside-2 c =
     let key = project c.args.set.now (data_of c.args.row.now) in
     let ss = c.self.inside.shards.items in
     let s = c.index_mut.result.now in
-    let p : c.place_of-place.result ≡ place key = c.place_of-place.ensures.place ∙ ap (λ xs. place (data_of xs)) c.as_slice.ensures.value ∙ ap place c.in_ok-write_key.ensures in
-    let is : s ≡ get_or ss (place key) s = c.index_mut.ensures.value ∙ ap (λ n. get_or ss n s) p in (
-      c.self.inside.count,
+    let count : c.len.result ≡ length ss = let l = c.self.inside.shards.ok in omega (arith, l, c.len.ensures) in
+    let p : c.place_of-place.result ≡ place (length ss) key = c.place_of-place.ensures.place ∙ ap (λ xs. place c.len.result (data_of xs)) c.as_slice.ensures.value ∙ ap (place c.len.result) c.in_ok-write_key.ensures ∙ ap (λ n. place n key) count in
+    let is : s ≡ get_or ss (place (length ss) key) s = c.index_mut.ensures.value ∙ ap (λ n. get_or ss n s) p in (
+      c.self.inside.some,
       (
-        subst (λ n. AreApart (set ss n c.put.new.self)) (sym p)
-            (apart-changed ss s c.put.new.self key c.self.inside.apart (within-all c.self.inside.shards c.self.inside.count key) is c.put.ensures.others),
-        tt,
+        c.self.inside.few,
+        (
+          subst (λ n. AreApart (set ss n c.put.new.self)) (sym p)
+              (apart-changed ss s c.put.new.self key c.self.inside.apart (within-all c.self.inside.shards c.self.inside.some key) is c.put.ensures.others),
+          tt,
+        ),
       ),
     )
 
@@ -46,11 +51,12 @@ returns c =
     let ss = c.self.inside.shards.items in
     let s = c.index_mut.result.now in
     let new = c.put.new.self in
-    let p : c.place_of-place.result ≡ place key = c.place_of-place.ensures.place ∙ ap (λ xs. place (data_of xs)) c.as_slice.ensures.value ∙ ap place c.in_ok-write_key.ensures in
-    let is : s ≡ get_or ss (place key) s = c.index_mut.ensures.value ∙ ap (λ n. get_or ss n s) p in
+    let count : c.len.result ≡ length ss = let l = c.self.inside.shards.ok in omega (arith, l, c.len.ensures) in
+    let p : c.place_of-place.result ≡ place (length ss) key = c.place_of-place.ensures.place ∙ ap (λ xs. place c.len.result (data_of xs)) c.as_slice.ensures.value ∙ ap (place c.len.result) c.in_ok-write_key.ensures ∙ ap (λ n. place n key) count in
+    let is : s ≡ get_or ss (place (length ss) key) s = c.index_mut.ensures.value ∙ ap (λ n. get_or ss n s) p in
     on_ok_weaker c.put.result
     (λ (h : (k : Key) → IsWithPart fs (contents_in s) (contents_in new) key part k). λ (k : Key).
     subst (λ (t : Contents). IsWithPart fs t (contents_of_shards (set ss c.place_of-place.result new)) key part k) c.self.view_is
     (subst (λ n. IsWithPart fs (contents_of_shards ss) (contents_of_shards (set ss n new)) key part k) (sym p)
-    (all-changed (λ o. Some (with_part fs o part)) ss s new key c.self.inside.apart (within-all c.self.inside.shards c.self.inside.count) is c.put.ensures.others h k)))
+    (all-changed (λ o. Some (with_part fs o part)) ss s new key c.self.inside.apart (within-all c.self.inside.shards c.self.inside.some) is c.put.ensures.others h k)))
     c.put.ensures.put

@@ -8,7 +8,7 @@ use Rattle.groups.specs.Rows.{Row}
 use Rattle.groups.specs.Inside.Group.{no_group}
 use Rattle.groups.specs.Inside.Table.{Contents, IsPut, IsTableOf}
 use Rattle.groups.proofs.Meaning.{table-empty_set, table-no_group}
-use Rattle.groups.proofs.table.Table.new.Goals as goal
+use Rattle.groups.proofs.table.Table.for_hands.Goals as goal
 
 pub returns : goal.returns
 returns c =
