@@ -35,14 +35,16 @@ pub part-joined : (all : List GroupSummary) (groups more : List Group) (part : P
     → ComesTo all groups (part ∷ parts) → ComesTo all more parts
 part-joined all groups more part parts made was is ([], none, e) = absurd none
 part-joined all groups more part parts made was is (s ∷ left, f, e) =
-    let this : IsFinished s made.items = subst (λ (p : Part). IfOk p (λ gs. IsFinished s gs.items)) was f.0 in
-    (left, f.1,
+    let this : IsFinished s made.items = subst (λ (p : Part). IfOk p (λ gs. IsFinished s gs.items)) was f.0 in (
+      left,
+      f.1,
       ap (λ gs. map group_summary_in gs ++ summaries (all_entries left)) is
-      ∙ ap (λ rs. rs ++ summaries (all_entries left)) (shown-append groups made.items)
-      ∙ append_assoc (map group_summary_in groups) (map group_summary_in made.items) (summaries (all_entries left))
-      ∙ ap (λ rs. map group_summary_in groups ++ (rs ++ summaries (all_entries left))) this
-      ∙ ap (λ rs. map group_summary_in groups ++ rs) (sym (summaries-append (entries_in s) (all_entries left)))
-      ∙ e)
+          ∙ ap (λ rs. rs ++ summaries (all_entries left)) (shown-append groups made.items)
+          ∙ append_assoc (map group_summary_in groups) (map group_summary_in made.items) (summaries (all_entries left))
+          ∙ ap (λ rs. map group_summary_in groups ++ (rs ++ summaries (all_entries left))) this
+          ∙ ap (λ rs. map group_summary_in groups ++ rs) (sym (summaries-append (entries_in s) (all_entries left)))
+          ∙ e,
+    )
 
 pub none-left : (all : List GroupSummary) (groups : List Group) (parts : List Part) → parts ≡ [] → ComesTo all groups parts → map group_summary_in groups ≡ all
 none-left all groups [] is ([], f, e) = sym (append-nil (map group_summary_in groups)) ∙ e

@@ -44,7 +44,11 @@ pub(crate) fn walk_over(shard: Shard) -> Walk
 
 /// The number of groups of the shard that has the fewest, and none where there is no shard.
 pub(crate) fn fewest(shards: &[Shard]) -> usize {
-    shards.iter().map(|shard| shard.groups.len()).min().unwrap_or(0)
+    shards
+        .iter()
+        .map(|shard| shard.groups.len())
+        .min()
+        .unwrap_or(0)
 }
 
 /// Puts the next group of each walk that has one behind others.

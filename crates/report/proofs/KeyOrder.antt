@@ -267,7 +267,7 @@ both_against : (n m b c : ℕ) (s t : List ℕ) → AreBytes s → AreBytes t �
     → Tells (nat_cmp (digits_behind n s) (digits_behind n t)) (slice_cmp nat_cmp (b ∷ s) (c ∷ t))
 both_against n m b c s t left right fronts (inl same) h =
     subst (λ d. Tells (nat_cmp (digits_behind n s) (digits_behind n t)) (ordering_then (nat_cmp b d) (slice_cmp nat_cmp s t))) same
-        (rw (equal-is b b refl) (h (fronts ∙ ap (λ d. with_digits (256 * m + d) n t) (sym same))))
+    (rw (equal-is b b refl) (h (fronts ∙ ap (λ d. with_digits (256 * m + d) n t) (sym same))))
 both_against n m b c s t left right fronts (inr (inl less)) h = let apart = digits-less n (256 * m + b) (256 * m + c) s t (omega (arith, less)) left in absurd (omega (arith, fronts, apart))
 both_against n m b c s t left right fronts (inr (inr more)) h = let apart = digits-less n (256 * m + c) (256 * m + b) t s (omega (arith, more)) right in absurd (omega (arith, fronts, apart))
 

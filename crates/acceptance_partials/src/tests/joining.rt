@@ -112,7 +112,14 @@ fn assert_joined<H: Abort + Threads + Sync>(
     let merged = merged_by_hands(rt, alloc, plan, rest, front, count);
     assert_finds(rt, alloc, plan, merged.expect(rt, "memory"), count, wanted);
     let followed = followed_by_hands(rt, alloc, plan, front, rest, count);
-    assert_finds(rt, alloc, plan, followed.expect(rt, "memory"), count, wanted);
+    assert_finds(
+        rt,
+        alloc,
+        plan,
+        followed.expect(rt, "memory"),
+        count,
+        wanted,
+    );
 }
 
 /// Two inputs of 6,000 groups each, half of which both have.
