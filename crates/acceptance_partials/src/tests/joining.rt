@@ -26,11 +26,12 @@ fn numbered_lines(alloc: Global, first: u32, last: u32) -> Result<String, AllocE
     Ok(text)
 }
 
-/// The result over a piece of index 0, which begins as so many hands begin it.
+/// The result over a piece with this index, which begins as so many hands begin it.
 fn begun_by_hands<H: Abort + Threads + Sync>(
     rt: &H,
     alloc: Global,
     plan: &Plan,
+    index: u32,
     piece: &[u8],
     count: usize,
 ) -> Result<Partial, AllocError>
@@ -39,10 +40,10 @@ fn begun_by_hands<H: Abort + Threads + Sync>(
     let begun = Partial::empty_by(alloc, plan, &Hands { rt, count })?;
     assert!(rt; begun.lines() < 1 << 62);
     assert!(rt; has_few_lines(piece));
-    begun.fold_onto(plan, 0, piece)
+    begun.fold_onto(plan, index, piece)
 }
 
-/// The result over two pieces, put together by so many hands.
+/// The result over two pieces, put together by so many hands; the second one begins as so many others begin it.
 fn merged_by_hands<H: Abort + Threads + Sync>(
     rt: &H,
     alloc: Global,
@@ -50,12 +51,13 @@ fn merged_by_hands<H: Abort + Threads + Sync>(
     first: &[u8],
     second: &[u8],
     count: usize,
+    others: usize,
 ) -> Result<Partial, AllocError>
     requires hands { 0 < count }
     ensures { IfOk result (IsPartialOf (fields_of_plan plan.now) (form_of_plan plan.now)) }
 {
-    let behind = Partial::fold_piece(alloc, plan, 1, second)?;
-    match begun_by_hands(rt, alloc, plan, first, count) {
+    let behind = begun_by_hands(rt, alloc, plan, 1, second, others)?;
+    match begun_by_hands(rt, alloc, plan, 0, first, count) {
         Ok(before) => merge_by_hands(rt, plan, before, behind, count),
         Err(refused) => {
             drop(behind);
@@ -96,7 +98,8 @@ fn assert_finds<H: Abort + Threads + Sync>(
     groups.give_back_among(rt, alloc, count);
 }
 
-/// Asserts that these groups are found by the results over two inputs that so many hands put together.
+/// Asserts that these groups are found by the results over two inputs that so many hands put together, also where one of
+/// them begins as so many others begin it.
 fn assert_joined<H: Abort + Threads + Sync>(
     rt: &H,
     alloc: Global,
@@ -104,12 +107,13 @@ fn assert_joined<H: Abort + Threads + Sync>(
     front: &[u8],
     rest: &[u8],
     count: usize,
+    others: usize,
     wanted: &Groups,
 )
     requires { 0 < count }
 {
     assert!(rt; are_whole_lines(front));
-    let merged = merged_by_hands(rt, alloc, plan, rest, front, count);
+    let merged = merged_by_hands(rt, alloc, plan, rest, front, count, others);
     assert_finds(rt, alloc, plan, merged.expect(rt, "memory"), count, wanted);
     let followed = followed_by_hands(rt, alloc, plan, front, rest, count);
     assert_finds(
@@ -135,8 +139,9 @@ fn joined_by_hands_like_the_whole(rt: HostRuntime) {
     let wanted = whole.finish(&plan).expect(&rt, "memory");
     assert_eq!(rt; wanted.rows().len(), 9000);
     let (front, rest) = (front.as_bytes(), rest.as_bytes());
-    assert_joined(&rt, alloc, &plan, front, rest, 1, &wanted);
-    assert_joined(&rt, alloc, &plan, front, rest, 2, &wanted);
-    assert_joined(&rt, alloc, &plan, front, rest, 5, &wanted);
+    assert_joined(&rt, alloc, &plan, front, rest, 1, 1, &wanted);
+    assert_joined(&rt, alloc, &plan, front, rest, 2, 2, &wanted);
+    assert_joined(&rt, alloc, &plan, front, rest, 5, 5, &wanted);
+    assert_joined(&rt, alloc, &plan, front, rest, 5, 1, &wanted);
     drop(plan);
 }
