@@ -630,6 +630,19 @@ fn refusal_of_merge(rt: HostRuntime) {
     }
 }
 
+/// The result over the first of the four lines, which begins as three hands begin it.
+fn first_by_hands<H: Abort + Threads + Sync>(
+    rt: &H,
+    alloc: Global,
+    plan: &Plan,
+) -> Result<Partial, AllocError>
+    ensures { IfOk result (IsPartialOf (fields_of_plan plan.now) (form_of_plan plan.now)) }
+{
+    let begun = Partial::empty_by(alloc, plan, &Hands { rt, count: 3 })?;
+    assert!(rt; begun.lines() < 1 << 62);
+    begun.fold_onto(plan, 0, &FOUR[..FIRST_LEN])
+}
+
 /// The same, where several hands put the tables together.
 fn two_merged_by_hands<H: Abort + Threads + Sync>(
     rt: &H,
@@ -639,7 +652,7 @@ fn two_merged_by_hands<H: Abort + Threads + Sync>(
     ensures { IfOk result (IsPartialOf (fields_of_plan plan.now) (form_of_plan plan.now)) }
 {
     let second = Partial::fold_piece(alloc, plan, 1, &FOUR[FIRST_LEN..])?;
-    match first_folded(alloc, plan) {
+    match first_by_hands(rt, alloc, plan) {
         Ok(first) => merge_by_hands(rt, plan, second, first, 3),
         Err(refused) => {
             drop(second);
@@ -648,12 +661,32 @@ fn two_merged_by_hands<H: Abort + Threads + Sync>(
     }
 }
 
-/// The same of two results that several hands put together.
+/// As `assert_four_or_refused`, where three hands finish the result and give its memory back.
+fn assert_four_by_hands<H: Abort + Threads + Sync>(
+    rt: &H,
+    alloc: Global,
+    plan: &Plan,
+    partial: Result<Partial, AllocError>,
+)
+    requires { IfOk partial (IsPartialOf (fields_of_plan plan.now) (form_of_plan plan.now)) }
+{
+    let Ok(partial) = partial else {
+        return;
+    };
+    assert_four_counted(rt, &partial);
+    if let Ok(groups) = partial.finish_by(&Hands { rt, count: 3 }, plan) {
+        let refused = [(3, LineFault::NoObject)];
+        assert_two_found(rt, &groups, refused.as_slice());
+        groups.give_back_among(rt, alloc, 3);
+    }
+}
+
+/// The same of two results that several hands begin, put together and finish.
 #[test]
 fn refusal_of_merge_by(rt: HostRuntime) {
     if let Some(plan) = planned_or_refused(&rt, rt.alloc(), BY_D) {
         let merged = two_merged_by_hands(&rt, rt.alloc(), &plan);
-        assert_four_or_refused(&rt, &plan, merged);
+        assert_four_by_hands(&rt, rt.alloc(), &plan, merged);
         drop(plan);
     }
 }
