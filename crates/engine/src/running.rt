@@ -21,7 +21,7 @@ use std::io::{Read, Write};
 use std::marker::{Send, Sync};
 use std::sync::Wait;
 use std::thread::Threads;
-use tables::Partial;
+use tables::{Groups, Partial};
 
 /// The counts of an input.
 ///
@@ -35,13 +35,15 @@ pub struct Done {
     pub refused: u64,
 }
 
-/// What is written of an input.
+/// What is written of an input, and what that is made of.
 #[derive(Debug, Drop)]
 struct Texts {
     /// The report.
     report: Vec<u8>,
     /// The list of refused lines.
     refused: Vec<u8>,
+    /// The groups, whose memory is given back once both are written, so that nobody waits for that.
+    groups: Groups,
 }
 
 /// Answers the query of a plan over what a reader gives, by as many threads as there are workers,
@@ -169,10 +171,20 @@ fn write_whole<T: Writers, O: Write, E: Write>(
         refused: whole.refused(),
     };
     let texts = texts_of(writers, alloc, plan, whole)?;
-    match put_both(out, texts.report.as_slice(), err, texts.refused.as_slice()) {
-        Ok(()) => Ok(done),
-        Err(fault) => Err(fault),
+    if let Err(fault) = put_both(out, texts.report.as_slice(), err, texts.refused.as_slice()) {
+        return Err(fault);
     }
+    let Texts {
+        report,
+        refused,
+        groups,
+    } = texts;
+    // The two large pieces of memory go back before the many small ones: a large one has the allocator look at each small
+    // one that lies with it.
+    drop(report);
+    drop(refused);
+    writers.give_back(alloc, groups);
+    Ok(done)
 }
 
 /// What is written of an input, by the result over it.
@@ -196,6 +208,9 @@ fn texts_of<T: Writers>(
     let refused = refused_text(alloc, &groups, plan.schema())?;
     // The groups came in the order of a walk over a table, which the report does not show.
     arranged_law();
-    writers.give_back(alloc, groups);
-    Ok(Texts { report, refused })
+    Ok(Texts {
+        report,
+        refused,
+        groups,
+    })
 }

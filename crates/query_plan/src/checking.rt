@@ -9,6 +9,7 @@ ghost use Rattle.query_fault.specs.declared.QueryFault.TheVariants.{OutOfMemory}
 ghost use Rattle.query_tree.specs.Syntax.{tree_form};
 ghost use Rattle.query_check.specs.Functions.{filters_of};
 ghost use Rattle.query_truth.specs.Binding.{AreConditionsOf, IsConditionOf};
+ghost use Rattle.values.specs.Schema.{fields_of};
 ghost use Rattle.query_plan.specs.Form.{form_of};
 ghost use Rattle.query_plan.specs.Planned.{fields_of_plan, form_of_plan};
 
@@ -18,8 +19,8 @@ use query_check::{Resolved, check_tree, filters};
 use query_fault::QueryFault;
 use query_tree::Tree;
 use query_truth::{Condition, bind_filters, bind_where};
-use std::alloc::Global;
-use values::Schema;
+use std::alloc::{AllocError, Global};
+use values::{Column, Schema};
 
 /// Checks a query under a schema, and plans it. It takes both; where the query is refused, they are
 /// given up.
@@ -76,6 +77,18 @@ fn resolve(
     let resolved = check_tree(alloc, tree, schema)?;
     let columns = schema.columns();
     let condition = bind_where(alloc, columns, &tree.where_condition)?;
-    let filters = bind_filters(alloc, columns, &filters(alloc, columns, tree)?)?;
+    let filters = filter_conditions(alloc, columns, tree)?;
     Ok((resolved, condition, filters))
+}
+
+/// The conditions of a query's different filters.
+fn filter_conditions(
+    alloc: Global,
+    columns: &[Column],
+    tree: &Tree,
+) -> Result<Vec<Condition>, AllocError>
+    ensures { IfOk result (λ conditions. AreConditionsOf (fields_of columns.now) (filters_of (fields_of columns.now) (tree_form tree.now)) conditions.items) }
+{
+    let filters = filters(alloc, columns, tree)?;
+    bind_filters(alloc, columns, &filters)
 }

@@ -3,16 +3,16 @@ use Rattle.query_plan.specs.Planned.{fields_of_plan, form_of_plan}
 use Rattle.engine.proofs.Outcomes.{appends-text, leaves-written}
 use Rattle.engine.proofs.running.write_whole.Goals as goal
 
-pub returns-in-Ok-clause-report : goal.returns-in-Ok-clause-report
-returns-in-Ok-clause-report g c = λ input stands.
-    appends-text (g.O.Write.contents c.args.out.now) (g.O.Write.contents c.put_both.new.out) _ _ (c.as_slice.ensures.value ∙ c.in_ok-texts.ensures.report input stands) c.in-Ok.ensures.report
+pub returns-clause-report : goal.returns-clause-report
+returns-clause-report g c = λ input stands.
+    appends-text (g.O.Write.contents c.args.out.now) (g.O.Write.contents c.put_both.new.out) _ _ (c.as_slice.ensures.value ∙ c.in_ok-texts.ensures.report input stands) c.in_default.ensures.report
 
-pub returns-in-Ok-clause-refusals : goal.returns-in-Ok-clause-refusals
-returns-in-Ok-clause-refusals g c = λ input stands.
-    appends-text (g.E.Write.contents c.args.err.now) (g.E.Write.contents c.put_both.new.err) _ _ (c.as_slice-2.ensures.value ∙ c.in_ok-texts.ensures.refused input stands) c.in-Ok.ensures.list
+pub returns-clause-refusals : goal.returns-clause-refusals
+returns-clause-refusals g c = λ input stands.
+    appends-text (g.E.Write.contents c.args.err.now) (g.E.Write.contents c.put_both.new.err) _ _ (c.as_slice-2.ensures.value ∙ c.in_ok-texts.ensures.refused input stands) c.in_default.ensures.list
 
-pub returns-clause-fault : goal.returns-clause-fault
-returns-clause-fault g c = λ input stands.
+pub returns-in-Err-clause-fault : goal.returns-in-Err-clause-fault
+returns-in-Err-clause-fault g c = λ input stands.
     leaves-written (fields_of_plan c.args.plan.now) (form_of_plan c.args.plan.now) input
     c.as_slice.result.now c.as_slice-2.result.now
     (g.O.Write.contents c.args.out.now) (g.O.Write.contents c.put_both.new.out) (g.E.Write.contents c.args.err.now) (g.E.Write.contents c.put_both.new.err)
