@@ -1,5 +1,5 @@
 -- The pieces of a list, in whatever order they stand.
-use Rattle.std.proofs.Common.{◌≡◌, ◌≢◌, ℕ, zero, suc, ◌+◌, ◌^◌, ◌<◌, ◌≤◌, true, ◌==◌, if◌then◌else◌, List, [], ◌∷◌, ◌++◌, sym, refl, ap, ◌∙◌, subst, ⊎_elim, arith, eq-eqb, ne_eqb}
+use Rattle.std.proofs.Common.{◌≡◌, ◌≢◌, ℕ, zero, suc, ◌+◌, ◌<◌, ◌≤◌, true, ◌==◌, if◌then◌else◌, List, [], ◌∷◌, ◌++◌, sym, refl, ap, ◌∙◌, subst, ⊎_elim, arith, eq-eqb, ne_eqb}
 use Rattle.std.proofs.lemmas.Bool.{cases_eq}
 use Rattle.pool.specs.Lawful.{Lawful}
 use Rattle.pool.specs.Dealing.{times}
@@ -54,31 +54,37 @@ sum_list-within f (suc k) xs h =
     (cases_eq (times k xs) 0)
 
 module _ {M : Type 0} {fits : M → Type 0} {unit : M} {combined : M → M → M} {piece : ℕ → M} {weight load : M → ℕ} (laws : Lawful fits unit combined piece weight load) where
+  -- pieces that go onto a part that was made before
+  module _ (b : M) (its : fits b) where
+    pub onto_fits : (xs : List ℕ) → fits (gathered b combined piece xs)
+    onto_fits [] = its
+    onto_fits (x ∷ xs) = laws.combined_fits _ _ (laws.piece_fits x) (onto_fits xs)
+
+    pub onto_load : (xs : List ℕ) → load (gathered b combined piece xs) ≡ load b + sum_list (λ i. load (piece i)) xs
+    onto_load [] = omega arith
+    onto_load (x ∷ xs) = let a = laws.load_adds _ _ (laws.piece_fits x) (onto_fits xs) in omega (arith, a, onto_load xs)
+
+    pub onto_weight : (xs : List ℕ) → weight (gathered b combined piece xs) ≡ weight b + sum_list (λ i. weight (piece i)) xs
+    onto_weight [] = omega arith
+    onto_weight (x ∷ xs) = let a = laws.weight_adds _ _ (laws.piece_fits x) (onto_fits xs) in omega (arith, a, onto_weight xs)
+
+    pub onto-middle : (x : ℕ) (ys zs : List ℕ) → gathered b combined piece (ys ++ x ∷ zs) ≡ combined (gathered b combined piece (ys ++ zs)) (piece x)
+    onto-middle x [] zs = laws.commutative _ _ (laws.piece_fits x) (onto_fits zs)
+    onto-middle x (y ∷ ys) zs = ap (combined (piece y)) (onto-middle x ys zs) ∙ sym (laws.associative _ _ _ (laws.piece_fits y) (onto_fits (ys ++ zs)) (laws.piece_fits x))
+
   pub gathered_fits : (xs : List ℕ) → fits (gathered unit combined piece xs)
-  gathered_fits [] = laws.unit_fits
-  gathered_fits (x ∷ xs) = laws.combined_fits _ _ (laws.piece_fits x) (gathered_fits xs)
+  gathered_fits xs = onto_fits unit laws.unit_fits xs
 
-  pub gathered_load : (xs : List ℕ) → load (gathered unit combined piece xs) ≡ sum_list (λ i. load (piece i)) xs
-  gathered_load [] = laws.unit_load
-  gathered_load (x ∷ xs) = laws.load_adds _ _ (laws.piece_fits x) (gathered_fits xs) ∙ ap (λ n. load (piece x) + n) (gathered_load xs)
+  pub unit_after : (a : M) → fits a → combined a unit ≡ a
+  unit_after a its = laws.commutative _ _ its laws.unit_fits ∙ laws.unit_combined _ its
 
-  pub gathered_weight : (xs : List ℕ) → weight (gathered unit combined piece xs) ≡ sum_list (λ i. weight (piece i)) xs
-  gathered_weight [] = laws.unit_weight
-  gathered_weight (x ∷ xs) = laws.weight_adds _ _ (laws.piece_fits x) (gathered_fits xs) ∙ ap (λ n. weight (piece x) + n) (gathered_weight xs)
-
-  pub gathered-append : (xs ys : List ℕ) → gathered unit combined piece (xs ++ ys) ≡ combined (gathered unit combined piece xs) (gathered unit combined piece ys)
-  gathered-append [] ys = sym (laws.unit_combined _ (gathered_fits ys))
-  gathered-append (x ∷ xs) ys = ap (combined (piece x)) (gathered-append xs ys) ∙ sym (laws.associative _ _ _ (laws.piece_fits x) (gathered_fits xs) (gathered_fits ys))
-
-  pub gathered_one : (x : ℕ) → gathered unit combined piece (x ∷ []) ≡ piece x
-  gathered_one x = laws.commutative _ _ (laws.piece_fits x) laws.unit_fits ∙ laws.unit_combined _ (laws.piece_fits x)
-
-  pub gathered-snoc : (xs : List ℕ) (x : ℕ) → gathered unit combined piece (xs ++ x ∷ []) ≡ combined (gathered unit combined piece xs) (piece x)
-  gathered-snoc xs x = gathered-append xs (x ∷ []) ∙ ap (combined (gathered unit combined piece xs)) (gathered_one x)
-
-  pub gathered-middle : (x : ℕ) (ys zs : List ℕ) → gathered unit combined piece (ys ++ x ∷ zs) ≡ combined (gathered unit combined piece (ys ++ zs)) (piece x)
-  gathered-middle x [] zs = laws.commutative _ _ (laws.piece_fits x) (gathered_fits zs)
-  gathered-middle x (y ∷ ys) zs = ap (combined (piece y)) (gathered-middle x ys zs) ∙ sym (laws.associative _ _ _ (laws.piece_fits y) (gathered_fits (ys ++ zs)) (laws.piece_fits x))
+  -- what there was to begin with may be combined last
+  pub onto_apart : (b : M) → fits b → (xs : List ℕ) → gathered b combined piece xs ≡ combined b (gathered unit combined piece xs)
+  onto_apart b its [] = sym (unit_after b its)
+  onto_apart b its (x ∷ xs) =
+      let p = laws.piece_fits x in
+      let r = gathered_fits xs in
+      ap (combined (piece x)) (onto_apart b its xs) ∙ sym (laws.associative _ _ _ p its r) ∙ ap (λ m. combined m (gathered unit combined piece xs)) (laws.commutative _ _ p its) ∙ laws.associative _ _ _ its p r
 
   -- each number below n once, and no other
   pub gathered_whole : (n : ℕ) (xs : List ℕ) → ((x : ℕ) → times x xs ≡ once_below x n) → gathered unit combined piece xs ≡ total unit combined piece n
@@ -89,14 +95,22 @@ module _ {M : Type 0} {fits : M → Type 0} {unit : M} {combined : M → M → M
       let e = one_if_same k in
       let r = split_at k xs (omega arith) in
       let i = gathered_whole k (r.0 ++ r.1) (λ x. let b = h x in let t = ap (times x) r.2 ∙ times-middle x k r.0 r.1 in omega arith) in
-      ap (gathered unit combined piece) r.2 ∙ gathered-middle k r.0 r.1 ∙ ap (λ m. combined m (piece k)) i
+      ap (gathered unit combined piece) r.2 ∙ onto-middle unit laws.unit_fits k r.0 r.1 ∙ ap (λ m. combined m (piece k)) i
 
-  pub list_room : (n : ℕ) (xs : List ℕ) → ((x : ℕ) → times x xs ≤ once_below x n) → sum_below (λ i. load (piece i)) n < 2 ^ 63 → load (gathered unit combined piece xs) < 2 ^ 63
-  list_room n xs h room = let a = sum_list-within (λ i. load (piece i)) n xs h in rw (gathered_load xs) (omega arith)
+  pub onto_whole : (b : M) → fits b → (n : ℕ) (xs : List ℕ) → ((x : ℕ) → times x xs ≡ once_below x n) → gathered b combined piece xs ≡ combined b (total unit combined piece n)
+  onto_whole b its n xs h = onto_apart b its xs ∙ ap (combined b) (gathered_whole n xs h)
 
-  -- one more piece, where with it none stands more than once
-  pub more_room : (n : ℕ) (xs : List ℕ) (x : ℕ) → ((z : ℕ) → times z (xs ++ x ∷ []) ≤ once_below z n) → sum_below (λ i. load (piece i)) n < 2 ^ 63 → load (gathered unit combined piece xs) + load (piece x) < 2 ^ 63
-  more_room n xs x h room =
-      let a = sum_list-within (λ i. load (piece i)) n (xs ++ x ∷ []) h in
-      let b = gathered_load xs in
-      omega (arith, sum_list-append (λ i. load (piece i)) xs (x ∷ []))
+  -- the next list goes onto what was gathered so far
+  pub onto-append : (b : M) → fits b → (xs ys : List ℕ) → gathered b combined piece (xs ++ ys) ≡ combined (gathered b combined piece xs) (gathered unit combined piece ys)
+  onto-append b its [] ys = onto_apart b its ys
+  onto-append b its (x ∷ xs) ys = ap (combined (piece x)) (onto-append b its xs ys) ∙ sym (laws.associative _ _ _ (laws.piece_fits x) (onto_fits b its xs) (gathered_fits ys))
+
+  -- a part m still lacks what b stands for; with a part that b was begun with and the list l, it lacks nothing
+  pub onto_next : (first : M) → fits first → (m b p : M) → fits m → fits b → (done l : List ℕ) → combined m b ≡ gathered first combined piece done → p ≡ gathered b combined piece l → combined (combined m p) unit ≡ gathered first combined piece (done ++ l)
+  onto_next first its m b p fm fb done l so_far is =
+      let r = gathered_fits l in
+      unit_after _ (laws.combined_fits _ _ fm (subst fits (sym is) (onto_fits b fb l)))
+      ∙ ap (combined m) (is ∙ onto_apart b fb l)
+      ∙ sym (laws.associative _ _ _ fm fb r)
+      ∙ ap (λ n. combined n (gathered unit combined piece l)) so_far
+      ∙ sym (onto-append first its done l)

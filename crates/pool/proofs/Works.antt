@@ -16,7 +16,7 @@ use Rattle.pool.specs.declared.deal.Next.TheVariants.{Piece, Spent}
 use Rattle.pool.proofs.Nexts.{belongs_next}
 use Rattle.pool.proofs.Rules.{times-append}
 use Rattle.pool.proofs.Deals.{dealt_times}
-use Rattle.pool.proofs.Gather.{sum_list-middle, sum_list-within, gathered-middle, gathered_fits, gathered_load}
+use Rattle.pool.proofs.Gather.{sum_list-middle, sum_list-within, onto-middle, onto_fits, onto_load}
 
 -- no two of k numbers in a row are congruent modulo k
 mod_apart : (a d k : ℕ) → 0 < d → d < k → (a + d) % k ≢ a % k
@@ -69,25 +69,11 @@ holding_grown h k x = λ g. ⊎_elim
     (h.own.seen.list ++ g.0, g.1, ap (λ l. h.own.seen.list ++ l) g.2 ∙ sym (append_assoc h.own.seen.list g.0 g.1), ap numbers_of o.5 ∙ ap (λ l. h.own.seen.list ++ l) g.3 ∙ sym (append_assoc h.own.seen.list g.0 (x ∷ g.1))))
     g
 
-module _ {M : Type 0} {fits : M → Type 0} {unit : M} {combined : M → M → M} {piece : ℕ → M} {weight load : M → ℕ} (laws : Lawful fits unit combined piece weight load) where
-  pub grown_gathered : (old new : List ℕ) (x : ℕ) → Grown old x new → gathered unit combined piece new ≡ combined (gathered unit combined piece old) (piece x)
-  grown_gathered old new x g = ap (gathered unit combined piece) g.3 ∙ gathered-middle laws x g.0 g.1 ∙ ap (λ l. combined (gathered unit combined piece l) (piece x)) (sym g.2)
-
-  pub grown_room : (old new : List ℕ) (x n : ℕ) → Grown old x new → ((z : ℕ) → times z new ≤ once_below z n) → load (gathered unit combined piece old) + load (piece x) ≤ sum_below (λ i. load (piece i)) n
-  grown_room old new x n g within =
-      let f : ℕ → ℕ = λ i. load (piece i) in
-      let a = sum_list-within f n new within in
-      let b = ap (sum_list f) g.3 ∙ sum_list-middle f x g.0 g.1 in
-      let c = gathered_load laws old in
-      let d = ap (sum_list f) g.2 in
-      omega arith
-
-  pub weights_at_most_loads : (xs : List ℕ) → sum_list (λ i. weight (piece i)) xs ≤ sum_list (λ i. load (piece i)) xs
-  weights_at_most_loads [] = omega arith
-  weights_at_most_loads (x ∷ xs) = omega (arith, laws.weight_at_most_load (piece x) (laws.piece_fits x), weights_at_most_loads xs)
-
 pub grown_sum : (f : ℕ → ℕ) (old new : List ℕ) (x : ℕ) → Grown old x new → sum_list f new ≡ sum_list f old + f x
 grown_sum f old new x g = let b = ap (sum_list f) g.3 ∙ sum_list-middle f x g.0 g.1 in let d = ap (sum_list f) g.2 in omega arith
+
+grown_at_most : (f : ℕ → ℕ) (old new : List ℕ) (x n : ℕ) → Grown old x new → ((z : ℕ) → times z new ≤ once_below z n) → sum_list f old + f x ≤ sum_below f n
+grown_at_most f old new x n g within = let a = sum_list-within f n new within in let b = grown_sum f old new x g in omega arith
 
 pub follows_next : (h k : Holding) (answer : Next) → Answers h k answer → IsHolding k → Follows h k
 follows_next h k answer a i names pieces hands number b = belongs_next names pieces hands number h k answer a i b
@@ -96,21 +82,28 @@ pub gained_pieces : (h k : Holding) (x : ℕ) → Gained h x k → k.pieces ≡ 
 gained_pieces h k x = λ g. ⊎_elim (λ (o : _). ap (λ (u : Holding). u.pieces) o.2) (λ (o : _). ap (λ (u : Holding). u.pieces) o.5) g
 
 module _ {M : Type 0} {fits : M → Type 0} {unit : M} {combined : M → M → M} {piece : ℕ → M} {weight load : M → ℕ} (laws : Lawful fits unit combined piece weight load) where
-  pub turn_room : (old new : List ℕ) (x n s : ℕ) → Grown old x new → ((z : ℕ) → times z new ≤ once_below z n) → s + sum_below (λ i. load (piece i)) n < 2 ^ 63 + sum_list (λ i. weight (piece i)) old → s + load (piece x) < 2 ^ 63
+  pub weights_at_most_loads : (xs : List ℕ) → sum_list (λ i. weight (piece i)) xs ≤ sum_list (λ i. load (piece i)) xs
+  weights_at_most_loads [] = omega arith
+  weights_at_most_loads (x ∷ xs) = omega (arith, laws.weight_at_most_load (piece x) (laws.piece_fits x), weights_at_most_loads xs)
+
+  turn_room : (old new : List ℕ) (x n s : ℕ) → Grown old x new → ((z : ℕ) → times z new ≤ once_below z n) → s + sum_below (λ i. load (piece i)) n < 2 ^ 63 + sum_list (λ i. weight (piece i)) old → s + load (piece x) < 2 ^ 63
   turn_room old new x n s g within room =
-      let a = grown_room laws old new x n g within in
-      let b = gathered_load laws old in
-      let c = weights_at_most_loads laws old in
+      let a = grown_at_most (λ i. load (piece i)) old new x n g within in
+      let c = weights_at_most_loads old in
       omega arith
 
-  -- a new hand, with the unit
-  pub may_begin : (h : Holding) (s : ℕ) (m : M) → numbers_of h ≡ [] → m ≡ unit → sum_below (λ i. load (piece i)) h.pieces + s < 2 ^ 63 → MayGoOn unit combined piece weight load h s m
-  may_begin h s m new first room =
+module _ {M : Type 0} {fits : M → Type 0} {unit : M} {combined : M → M → M} {piece : ℕ → M} {weight load : M → ℕ} (laws : Lawful fits unit combined piece weight load) (begin : M) (its : fits begin) where
+  grown_gathered : (old new : List ℕ) (x : ℕ) → Grown old x new → gathered begin combined piece new ≡ combined (gathered begin combined piece old) (piece x)
+  grown_gathered old new x g = ap (gathered begin combined piece) g.3 ∙ onto-middle laws begin its x g.0 g.1 ∙ ap (λ l. combined (gathered begin combined piece l) (piece x)) (sym g.2)
+
+  -- a new hand, with what it begins with
+  pub may_begin : (h : Holding) (s : ℕ) (m : M) → numbers_of h ≡ [] → m ≡ begin → load begin + sum_below (λ i. load (piece i)) h.pieces < 2 ^ 63 → sum_below (λ i. load (piece i)) h.pieces + s < 2 ^ 63 → MayGoOn begin combined piece weight load h s m
+  may_begin h s m new first loads room =
       let none = ap (sum_list (λ i. weight (piece i))) new in
-      record { part = first ∙ ap (gathered unit combined piece) (sym new); loads = omega (arith, room); room = omega (arith, none, room) }
+      record { part = first ∙ ap (gathered begin combined piece) (sym new); loads = loads; room = omega (arith, none, room) }
 
   -- a worker that may go on, and went on, may go on again
-  pub may_again : (h : Holding) (s : ℕ) (m : M) (k : Holding) (t : ℕ) (n : M) → k.pieces ≡ h.pieces → MayGoOn unit combined piece weight load h s m → Did unit combined piece weight h s k t n → MayGoOn unit combined piece weight load k t n
+  pub may_again : (h : Holding) (s : ℕ) (m : M) (k : Holding) (t : ℕ) (n : M) → k.pieces ≡ h.pieces → MayGoOn begin combined piece weight load h s m → Did begin combined piece weight h s k t n → MayGoOn begin combined piece weight load k t n
   may_again h s m k t n same may did =
       let e = ap (sum_below (λ i. load (piece i))) same in
       let a = may.loads in
@@ -119,43 +112,43 @@ module _ {M : Type 0} {fits : M → Type 0} {unit : M} {combined : M → M → M
       record { part = did.part; loads = omega (arith, e, a); room = omega (arith, e, b, c) }
 
   -- the piece that the hand has gained goes onto the part, and its weight to the share
-  module _ (h : Holding) (s : ℕ) (m : M) (k : Holding) (x : ℕ) (may : MayGoOn unit combined piece weight load h s m) (gained : Gained h x k) (holding : IsHolding k) where
+  module _ (h : Holding) (s : ℕ) (m : M) (k : Holding) (x : ℕ) (may : MayGoOn begin combined piece weight load h s m) (gained : Gained h x k) (holding : IsHolding k) where
     within : (z : ℕ) → times z (numbers_of k) ≤ once_below z h.pieces
     within z = subst (λ (n : ℕ). times z (numbers_of k) ≤ once_below z n) (gained_pieces h k x gained) (holding_within k z holding)
 
     pub piece_fits_on : fits m
-    piece_fits_on = subst fits (sym may.part) (gathered_fits laws (numbers_of h))
+    piece_fits_on = subst fits (sym may.part) (onto_fits laws begin its (numbers_of h))
 
     pub piece_load : load m + load (piece x) < 2 ^ 63
     piece_load =
-        let a = grown_room laws (numbers_of h) (numbers_of k) x h.pieces (holding_grown h k x gained) within in
+        let a = grown_at_most (λ i. load (piece i)) (numbers_of h) (numbers_of k) x h.pieces (holding_grown h k x gained) within in
         let b = may.loads in
-        let e = ap load may.part in
+        let e = ap load may.part ∙ onto_load laws begin its (numbers_of h) in
         omega (arith, a, b, e)
 
     pub piece_room : s + load (piece x) < 2 ^ 63
-    piece_room = turn_room (numbers_of h) (numbers_of k) x h.pieces s (holding_grown h k x gained) within may.room
+    piece_room = turn_room laws (numbers_of h) (numbers_of k) x h.pieces s (holding_grown h k x gained) within may.room
 
-    pub did_piece : (n : M) (t : ℕ) → n ≡ combined m (piece x) → t ≡ s + weight (piece x) → Did unit combined piece weight h s k t n
+    pub did_piece : (n : M) (t : ℕ) → n ≡ combined m (piece x) → t ≡ s + weight (piece x) → Did begin combined piece weight h s k t n
     did_piece n t more sum =
         let g = holding_grown h k x gained in
         let c = grown_sum (λ i. weight (piece i)) (numbers_of h) (numbers_of k) x g in
         record {
           follows = follows_next h k (Piece x) gained holding;
-          part = more ∙ ap (λ l. combined l (piece x)) may.part ∙ sym (grown_gathered laws (numbers_of h) (numbers_of k) x g);
+          part = more ∙ ap (λ l. combined l (piece x)) may.part ∙ sym (grown_gathered (numbers_of h) (numbers_of k) x g);
           sum = omega (arith, c, sum);
         }
 
   -- a hand that is spent has what it had
-  pub did_nothing : (h k : Holding) (s : ℕ) (m : M) → MayGoOn unit combined piece weight load h s m → Answers h k Spent → IsHolding k → Did unit combined piece weight h s k s m
+  pub did_nothing : (h k : Holding) (s : ℕ) (m : M) → MayGoOn begin combined piece weight load h s m → Answers h k Spent → IsHolding k → Did begin combined piece weight h s k s m
   did_nothing h k s m may answer holding =
       let same : numbers_of k ≡ numbers_of h = ap numbers_of answer.0 in
       let c = ap (sum_list (λ i. weight (piece i))) same in
-      record { follows = follows_next h k Spent answer holding; part = may.part ∙ ap (gathered unit combined piece) (sym same); sum = omega (arith, c) }
+      record { follows = follows_next h k Spent answer holding; part = may.part ∙ ap (gathered begin combined piece) (sym same); sum = omega (arith, c) }
 
-module _ {M : Type 0} (unit : M) (combined : M → M → M) (piece : ℕ → M) (weight : M → ℕ) where
+module _ {M : Type 0} (begin : M) (combined : M → M → M) (piece : ℕ → M) (weight : M → ℕ) where
   -- who goes on twice does as by going on once
-  pub did_twice : (h : Holding) (s : ℕ) (k : Holding) (t : ℕ) (m : M) (l : Holding) (u : ℕ) (n : M) → Did unit combined piece weight h s k t m → Did unit combined piece weight k t l u n → Did unit combined piece weight h s l u n
+  pub did_twice : (h : Holding) (s : ℕ) (k : Holding) (t : ℕ) (m : M) (l : Holding) (u : ℕ) (n : M) → Did begin combined piece weight h s k t m → Did begin combined piece weight k t l u n → Did begin combined piece weight h s l u n
   did_twice h s k t m l u n a b =
       let c = a.sum in
       let d = b.sum in

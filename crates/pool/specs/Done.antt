@@ -13,14 +13,14 @@ Follows h k = (names : ℕ → (ℕ × ℕ) × Global) (pieces hands number : �
 abbrev pub Grown : List ℕ → ℕ → List ℕ → Type 0
 Grown old x new = (ys : List ℕ) × (zs : List ℕ) × (old ≡ ys ++ zs) × (new ≡ ys ++ x ∷ zs)
 
--- a worker went on: its hand keeps its seat, the part is the combination of the pieces in the hand's list, and the share has grown by the weights of those that joined the list
-pub record Did {M : Type 0} (unit : M) (combined : M → M → M) (piece : ℕ → M) (weight : M → ℕ) (h : Holding) (s : ℕ) (k : Holding) (t : ℕ) (m : M) : Type 0 where
+-- a worker went on: its hand keeps its seat, the part is what the worker began with and the pieces in the hand's list, combined, and the share has grown by the weights of those that joined the list
+pub record Did {M : Type 0} (begin : M) (combined : M → M → M) (piece : ℕ → M) (weight : M → ℕ) (h : Holding) (s : ℕ) (k : Holding) (t : ℕ) (m : M) : Type 0 where
   pub follows : Follows h k
-  pub part : m ≡ gathered unit combined piece (numbers_of k)
+  pub part : m ≡ gathered begin combined piece (numbers_of k)
   pub sum : t + sum_list (λ i. weight (piece i)) (numbers_of h) ≡ s + sum_list (λ i. weight (piece i)) (numbers_of k)
 
--- a worker may go on: the part is the combination of the pieces in the hand's list, and the share has room for the loads of those that the hand may still take
-pub record MayGoOn {M : Type 0} (unit : M) (combined : M → M → M) (piece : ℕ → M) (weight load : M → ℕ) (k : Holding) (t : ℕ) (m : M) : Type 0 where
-  pub part : m ≡ gathered unit combined piece (numbers_of k)
-  pub loads : sum_below (λ i. load (piece i)) k.pieces < 2 ^ 63
+-- a worker may go on: the part is what the worker began with and the pieces in the hand's list, combined; the part has room for the loads of all pieces, and the share for those of the pieces that the hand may still take
+pub record MayGoOn {M : Type 0} (begin : M) (combined : M → M → M) (piece : ℕ → M) (weight load : M → ℕ) (k : Holding) (t : ℕ) (m : M) : Type 0 where
+  pub part : m ≡ gathered begin combined piece (numbers_of k)
+  pub loads : load begin + sum_below (λ i. load (piece i)) k.pieces < 2 ^ 63
   pub room : t + sum_below (λ i. load (piece i)) k.pieces < 2 ^ 63 + sum_list (λ i. weight (piece i)) (numbers_of k)

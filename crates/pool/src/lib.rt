@@ -33,4 +33,4 @@ pub use deal::{Hand, Next, settled};
 pub use dealing::Deal;
 pub use laws::{Outcome, PoolFault, Work};
 pub use single::alone;
-pub use threads::{fan_deal, fan_on, fan_out};
+pub use threads::{fan_deal, fan_deal_onto, fan_on, fan_out};

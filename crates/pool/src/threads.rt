@@ -7,7 +7,7 @@ ghost use Rattle.pool.specs.Rule.{UpTo};
 ghost use Rattle.pool.specs.Holding.{Holding, numbers_of};
 ghost use Rattle.pool.specs.Settled.{AreAll, AllSpent, joined, pieces_of};
 ghost use Rattle.pool.specs.Done.{Did};
-ghost use Rattle.pool.specs.Fanned.{AreReady, DidAll, AreUnderWay, CameBack, NeedNoThread, AreGathered, flat, lists_in, Settles, Outweighs};
+ghost use Rattle.pool.specs.Fanned.{AreReady, begun, DidAll, AreUnderWay, CameBack, NeedNoThread, AreGathered, flat, lists_in, Settles, Outweighs, IsAbove};
 ghost use Rattle.pool.specs.Assembly.{IsNewDeal};
 ghost use mathlib.Core.Option.{some};
 ghost use lib.ListN.{get_elem?};
@@ -31,6 +31,19 @@ pub struct Gathered<P, L: Ledger> {
     pub hands: Vec<Hand>,
     pub shares: Vec<Share<L>>,
     pub parts: Vec<P>,
+}
+
+/// What no worker gives back.
+fn nothing<P, L: Ledger>(alloc: Global) -> Gathered<P, L>
+    ensures hands { result.hands.items ≡ [] }
+    ensures shares { result.shares.items ≡ [] }
+    ensures parts { result.parts.items ≡ [] }
+{
+    Gathered {
+        hands: Vec::new(alloc),
+        shares: Vec::new(alloc),
+        parts: Vec::new(alloc),
+    }
 }
 
 /// The last hand, with its share.
@@ -85,28 +98,33 @@ fn with_done<P: Drop, L: Ledger>(
     Ok(all)
 }
 
-/// Each hand works until it is spent or the book is above the crew's `stop`: the first on the calling thread, each other on its own, and where there is no piece all on the calling one.
+/// Each hand works until it is spent or the book is above the crew's `stop`: the first on the calling thread, from the
+/// part `first` on, each other on its own, from the unit on, and where there is no piece all on the calling one.
 fn spread<'s, E, W: Work + Sync, L: Ledger + Send + Sync, R: Threads + Wait + Sync>(
     scope: &Scope<'s, E>,
     crew: &'s Crew<'s, W, L, R>,
+    first: W::Part,
     hands: Vec<Hand>,
     shares: Vec<Share<L>>,
 ) -> Result<Gathered<W::Part, L>, PoolFault>
+    requires first { W.fits crew.now.work.now (W.meaning first) }
     requires ready { AreReady (λ i. W.load_of crew.now.work.now (W.piece_meaning crew.now.work.now i)) (λ s. s.sum) hands.items shares.items }
-    ensures did { IfOk result (λ g. DidAll (W.unit_meaning crew.now.work.now) (W.combined crew.now.work.now) (W.piece_meaning crew.now.work.now) (W.weight_of crew.now.work.now) (λ s. s.sum) W.meaning hands.items shares.items g.hands.items g.shares.items g.parts.items) }
+    requires load { W.load_of crew.now.work.now (W.meaning first) + sum_below (λ i. W.load_of crew.now.work.now (W.piece_meaning crew.now.work.now i)) (pieces_of hands.items) < 2 ^ 63 }
+    ensures did { IfOk result (λ g. DidAll (begun (W.meaning first) (W.unit_meaning crew.now.work.now)) (W.combined crew.now.work.now) (W.piece_meaning crew.now.work.now) (W.weight_of crew.now.work.now) (λ s. s.sum) W.meaning hands.items shares.items g.hands.items g.shares.items g.parts.items) }
     ensures alone { NeedNoThread hands.items → IfErr result (λ e. e ≡ PoolFault.OutOfMemory) }
 {
     let mut hands = hands;
     let mut shares = shares;
     let Some((hand, share)) = last_pair(&mut hands, &mut shares) else {
-        return Ok(Gathered {
-            hands: Vec::new(crew.alloc),
-            shares: Vec::new(crew.alloc),
-            parts: Vec::new(crew.alloc),
-        });
+        return Ok(nothing(crew.alloc));
     };
-    if hands.is_empty() || hand.pieces() == 0 {
-        let others = match spread(scope, crew, hands, shares) {
+    if hands.is_empty() {
+        let part = first;
+        let others = nothing(crew.alloc);
+        return with_done(others, go_on(crew, Done { hand, share, part }));
+    }
+    if hand.pieces() == 0 {
+        let others = match spread(scope, crew, first, hands, shares) {
             Ok(others) => others,
             Err(fault) => return Err(fault),
         };
@@ -115,7 +133,7 @@ fn spread<'s, E, W: Work + Sync, L: Ledger + Send + Sync, R: Threads + Wait + Sy
     let Some(handle) = start(scope, crew, hand, share) else {
         return Err(PoolFault::ThreadNotStarted);
     };
-    let others = match spread(scope, crew, hands, shares) {
+    let others = match spread(scope, crew, first, hands, shares) {
         Ok(others) => others,
         Err(fault) => return Err(fault),
     };
@@ -125,28 +143,34 @@ fn spread<'s, E, W: Work + Sync, L: Ledger + Send + Sync, R: Threads + Wait + Sy
 /// As `spread`, with a scope of its own.
 fn gather<W: Work + Sync, L: Ledger + Send + Sync, R: Threads + Wait + Sync>(
     crew: &Crew<'_, W, L, R>,
+    first: W::Part,
     hands: Vec<Hand>,
     shares: Vec<Share<L>>,
 ) -> Result<Gathered<W::Part, L>, PoolFault>
+    requires first { W.fits crew.now.work.now (W.meaning first) }
     requires ready { AreReady (λ i. W.load_of crew.now.work.now (W.piece_meaning crew.now.work.now i)) (λ s. s.sum) hands.items shares.items }
-    ensures did { IfOk result (λ g. DidAll (W.unit_meaning crew.now.work.now) (W.combined crew.now.work.now) (W.piece_meaning crew.now.work.now) (W.weight_of crew.now.work.now) (λ s. s.sum) W.meaning hands.items shares.items g.hands.items g.shares.items g.parts.items) }
+    requires load { W.load_of crew.now.work.now (W.meaning first) + sum_below (λ i. W.load_of crew.now.work.now (W.piece_meaning crew.now.work.now i)) (pieces_of hands.items) < 2 ^ 63 }
+    ensures did { IfOk result (λ g. DidAll (begun (W.meaning first) (W.unit_meaning crew.now.work.now)) (W.combined crew.now.work.now) (W.piece_meaning crew.now.work.now) (W.weight_of crew.now.work.now) (λ s. s.sum) W.meaning hands.items shares.items g.hands.items g.shares.items g.parts.items) }
     ensures alone { NeedNoThread hands.items → IfErr result (λ e. e ≡ PoolFault.OutOfMemory) }
 {
     thread::scope(
         thread::scope_env(),
         crew.rt,
         move |scope| -> Result<Gathered<W::Part, L>, PoolFault>
-            requires { AreReady (λ i. W.load_of crew.now.work.now (W.piece_meaning crew.now.work.now i)) (λ s. s.sum) hands.items shares.items }
-            ensures did { IfOk result (λ g. DidAll (W.unit_meaning crew.entry.now.work.now) (W.combined crew.entry.now.work.now) (W.piece_meaning crew.entry.now.work.now) (W.weight_of crew.entry.now.work.now) (λ s. s.sum) W.meaning hands.items shares.items g.hands.items g.shares.items g.parts.items) }
+            requires first { W.fits crew.now.work.now (W.meaning first) }
+            requires ready { AreReady (λ i. W.load_of crew.now.work.now (W.piece_meaning crew.now.work.now i)) (λ s. s.sum) hands.items shares.items }
+            requires load { W.load_of crew.now.work.now (W.meaning first) + sum_below (λ i. W.load_of crew.now.work.now (W.piece_meaning crew.now.work.now i)) (pieces_of hands.items) < 2 ^ 63 }
+            ensures did { IfOk result (λ g. DidAll (begun (W.meaning first) (W.unit_meaning crew.entry.now.work.now)) (W.combined crew.entry.now.work.now) (W.piece_meaning crew.entry.now.work.now) (W.weight_of crew.entry.now.work.now) (λ s. s.sum) W.meaning hands.items shares.items g.hands.items g.shares.items g.parts.items) }
             ensures alone { NeedNoThread hands.items → IfErr result (λ e. e ≡ PoolFault.OutOfMemory) }
-        { spread(scope, crew, hands, shares) },
+        { spread(scope, crew, first, hands, shares) },
     )
 }
 
-/// The weights of all parts, added up. No piece is in their lists twice.
+/// The weights of all parts, added up: those of what the first began with, and of the pieces in all lists. No piece is
+/// in them twice.
 fn weigh<W: Work>(work: &W, parts: &Vec<W::Part>) -> u64
-    requires { (n : ℕ) × (sum_below (λ i. W.load_of work.now (W.piece_meaning work.now i)) n < 2 ^ 63) × ((lists : List (List ℕ)) × AreGathered (W.unit_meaning work.now) (W.combined work.now) (W.piece_meaning work.now) W.meaning lists parts.now.items × ((x : ℕ) → times x (flat lists) ≤ once_below x n)) }
-    ensures { (lists : List (List ℕ)) → AreGathered (W.unit_meaning work.now) (W.combined work.now) (W.piece_meaning work.now) W.meaning lists parts.now.items → result ≡ sum_list (λ i. W.weight_of work.now (W.piece_meaning work.now i)) (flat lists) }
+    requires { (n : ℕ) × (first : W.Meaning) × (lists : List (List ℕ)) × W.fits work.now first × (W.load_of work.now first + sum_below (λ i. W.load_of work.now (W.piece_meaning work.now i)) n < 2 ^ 63) × AreGathered first (W.unit_meaning work.now) (W.combined work.now) (W.piece_meaning work.now) W.meaning lists parts.now.items × ((x : ℕ) → times x (flat lists) ≤ once_below x n) }
+    ensures { (first : W.Meaning) (lists : List (List ℕ)) → W.fits work.now first → AreGathered first (W.unit_meaning work.now) (W.combined work.now) (W.piece_meaning work.now) W.meaning lists parts.now.items → result ≡ W.weight_of work.now first + sum_list (λ i. W.weight_of work.now (W.piece_meaning work.now i)) (flat lists) }
 {
     let mut sum = 0;
     for part in parts {
@@ -172,24 +196,20 @@ fn last_done<P, L: Ledger>(gathered: &mut Gathered<P, L>) -> Option<Done<P, L>>
     Some(Done { hand, share, part })
 }
 
-/// Each hand goes on until it is spent, on the calling thread. No number of the book stops it.
+/// Each hand goes on until it is spent, on the calling thread, from what it began with. No number of the book stops it.
 fn finish_all<W: Work, L: Ledger, R: Wait>(
     crew: &Crew<'_, W, L, R>,
     gathered: Gathered<W::Part, L>,
 ) -> Result<Gathered<W::Part, L>, PoolFault>
     requires never { crew.now.stop ≡ 2 ^ 128 - 1 }
-    requires under_way { AreUnderWay (W.unit_meaning crew.now.work.now) (W.combined crew.now.work.now) (W.piece_meaning crew.now.work.now) (W.weight_of crew.now.work.now) (W.load_of crew.now.work.now) (λ s. s.sum) W.meaning gathered.hands.items gathered.shares.items gathered.parts.items }
-    ensures did { IfOk result (λ g. DidAll (W.unit_meaning crew.now.work.now) (W.combined crew.now.work.now) (W.piece_meaning crew.now.work.now) (W.weight_of crew.now.work.now) (λ s. s.sum) W.meaning gathered.hands.items gathered.shares.items g.hands.items g.shares.items g.parts.items) }
+    requires under_way { (begin : ℕ → W.Meaning) × ((i : ℕ) → W.fits crew.now.work.now (begin i)) × AreUnderWay begin (W.combined crew.now.work.now) (W.piece_meaning crew.now.work.now) (W.weight_of crew.now.work.now) (W.load_of crew.now.work.now) (λ s. s.sum) W.meaning gathered.hands.items gathered.shares.items gathered.parts.items }
+    ensures did { (begin : ℕ → W.Meaning) → ((i : ℕ) → W.fits crew.now.work.now (begin i)) → AreUnderWay begin (W.combined crew.now.work.now) (W.piece_meaning crew.now.work.now) (W.weight_of crew.now.work.now) (W.load_of crew.now.work.now) (λ s. s.sum) W.meaning gathered.hands.items gathered.shares.items gathered.parts.items → IfOk result (λ g. DidAll begin (W.combined crew.now.work.now) (W.piece_meaning crew.now.work.now) (W.weight_of crew.now.work.now) (λ s. s.sum) W.meaning gathered.hands.items gathered.shares.items g.hands.items g.shares.items g.parts.items) }
     ensures spent { IfOk result (λ g. AllSpent g.hands.items) }
     ensures fault { IfErr result (λ e. e ≡ PoolFault.OutOfMemory) }
 {
     let mut gathered = gathered;
     let Some(done) = last_done(&mut gathered) else {
-        return Ok(Gathered {
-            hands: Vec::new(crew.alloc),
-            shares: Vec::new(crew.alloc),
-            parts: Vec::new(crew.alloc),
-        });
+        return Ok(nothing(crew.alloc));
     };
     let others = match finish_all(crew, gathered) {
         Ok(others) => others,
@@ -198,10 +218,10 @@ fn finish_all<W: Work, L: Ledger, R: Wait>(
     with_done(others, go_on(crew, done))
 }
 
-/// All parts, combined. No piece is in their lists twice.
+/// All parts, combined: what the first began with, and the pieces in all lists. No piece is in them twice.
 fn combine_all<W: Work>(work: &W, parts: Vec<W::Part>) -> Result<W::Part, AllocError>
-    requires { (n : ℕ) × (sum_below (λ i. W.load_of work.now (W.piece_meaning work.now i)) n < 2 ^ 63) × ((lists : List (List ℕ)) × AreGathered (W.unit_meaning work.now) (W.combined work.now) (W.piece_meaning work.now) W.meaning lists parts.items × ((x : ℕ) → times x (flat lists) ≤ once_below x n)) }
-    ensures { (lists : List (List ℕ)) → AreGathered (W.unit_meaning work.now) (W.combined work.now) (W.piece_meaning work.now) W.meaning lists parts.items → IfOk result (λ p. W.meaning p ≡ gathered (W.unit_meaning work.now) (W.combined work.now) (W.piece_meaning work.now) (flat lists)) }
+    requires { (n : ℕ) × (first : W.Meaning) × (lists : List (List ℕ)) × W.fits work.now first × (W.load_of work.now first + sum_below (λ i. W.load_of work.now (W.piece_meaning work.now i)) n < 2 ^ 63) × AreGathered first (W.unit_meaning work.now) (W.combined work.now) (W.piece_meaning work.now) W.meaning lists parts.items × ((x : ℕ) → times x (flat lists) ≤ once_below x n) }
+    ensures { (first : W.Meaning) (lists : List (List ℕ)) → W.fits work.now first → AreGathered first (W.unit_meaning work.now) (W.combined work.now) (W.piece_meaning work.now) W.meaning lists parts.items → IfOk result (λ p. W.meaning p ≡ gathered first (W.combined work.now) (W.piece_meaning work.now) (flat lists)) }
 {
     let mut all = work.unit()?;
     for part in parts {
@@ -219,7 +239,7 @@ fn keep_apart(hands: &mut Vec<Hand>)
     apart(hands.as_mut_slice());
 }
 
-/// What comes of all pieces, once each hand is spent.
+/// What comes of all pieces and what the first hand began with, once each hand is spent.
 fn conclude<W: Work, L: Ledger>(
     work: &W,
     limit: u64,
@@ -227,12 +247,11 @@ fn conclude<W: Work, L: Ledger>(
 ) -> Result<(Outcome<W::Part>, Vec<Hand>, Vec<Share<L>>), AllocError>
     requires deal { AreAll finished.hands.items }
     requires spent { AllSpent finished.hands.items }
-    requires loads { sum_below (λ i. W.load_of work.now (W.piece_meaning work.now i)) (pieces_of finished.hands.items) < 2 ^ 63 }
-    requires parts { AreGathered (W.unit_meaning work.now) (W.combined work.now) (W.piece_meaning work.now) W.meaning (lists_in finished.hands.items) finished.parts.items }
-    ensures decided { IfOk result (λ r. Decides W.meaning (total (W.unit_meaning work.now) (W.combined work.now) (W.piece_meaning work.now) (pieces_of finished.hands.items)) (sum_below (λ i. W.weight_of work.now (W.piece_meaning work.now i)) (pieces_of finished.hands.items)) limit r.0) }
+    requires parts { (first : W.Meaning) × W.fits work.now first × (W.load_of work.now first + sum_below (λ i. W.load_of work.now (W.piece_meaning work.now i)) (pieces_of finished.hands.items) < 2 ^ 63) × AreGathered first (W.unit_meaning work.now) (W.combined work.now) (W.piece_meaning work.now) W.meaning (lists_in finished.hands.items) finished.parts.items }
+    ensures decided { (first : W.Meaning) → W.fits work.now first → AreGathered first (W.unit_meaning work.now) (W.combined work.now) (W.piece_meaning work.now) W.meaning (lists_in finished.hands.items) finished.parts.items → IfOk result (λ r. Decides W.meaning (W.combined work.now first (total (W.unit_meaning work.now) (W.combined work.now) (W.piece_meaning work.now) (pieces_of finished.hands.items))) (W.weight_of work.now first + sum_below (λ i. W.weight_of work.now (W.piece_meaning work.now i)) (pieces_of finished.hands.items)) limit r.0) }
     ensures same { IfOk result (λ r. (r.1.items ≡ finished.hands.items) × (r.2.items ≡ finished.shares.items)) }
     ensures once { IfOk result (λ r. (x : ℕ) → times x (joined finished.hands.items) ≡ once_below x (pieces_of finished.hands.items)) }
-    ensures over { IfOk result (λ r. Outweighs (λ i. W.weight_of work.now (W.piece_meaning work.now i)) limit r.0 r.1.items) }
+    ensures over { (first : W.Meaning) → W.fits work.now first → AreGathered first (W.unit_meaning work.now) (W.combined work.now) (W.piece_meaning work.now) W.meaning (lists_in finished.hands.items) finished.parts.items → IfOk result (λ r. IsAbove (W.weight_of work.now first + sum_list (λ i. W.weight_of work.now (W.piece_meaning work.now i)) (joined r.1.items)) limit r.0) }
 {
     let Gathered {
         mut hands,
@@ -286,6 +305,38 @@ pub fn fan_on<W: Work + Sync, L: Ledger + Send + Sync, R: Threads + Wait + Sync>
     ensures over { IfOk result (λ r. Outweighs (λ i. W.weight_of work.now (W.piece_meaning work.now i)) limit r.0 r.1.items) }
     ensures alone { (vec_len hands ≡ 1) ⊎ (pieces_of hands.items ≡ 0) → IfErr result (λ e. e ≡ PoolFault.OutOfMemory) }
 {
+    let Ok(first) = work.unit() else {
+        return Err(PoolFault::OutOfMemory);
+    };
+    fan_onto(rt, alloc, work, first, hands, limit, book, stop, shares)
+}
+
+/// As `fan_on`, but the first hand begins with a part that was made before, and what is answered is that part and all
+/// pieces, combined.
+fn fan_onto<W: Work + Sync, L: Ledger + Send + Sync, R: Threads + Wait + Sync>(
+    rt: &R,
+    alloc: Global,
+    work: &W,
+    first: W::Part,
+    hands: Vec<Hand>,
+    limit: u64,
+    book: &Book<L>,
+    stop: u128,
+    shares: Vec<Share<L>>,
+) -> Result<(Outcome<W::Part>, Vec<Hand>, Vec<Share<L>>), PoolFault>
+    requires first { W.fits work.now (W.meaning first) }
+    requires deal { IsNewDeal (pieces_of hands.items) (vec_len hands) hands.items }
+    requires count { vec_len shares ≡ vec_len hands }
+    requires loads { W.load_of work.now (W.meaning first) + sum_below (λ i. W.load_of work.now (W.piece_meaning work.now i)) (pieces_of hands.items) < 2 ^ 63 }
+    requires room { (i : ℕ) (s : _) → get_elem? shares.items i ≡ some s → sum_below (λ i. W.load_of work.now (W.piece_meaning work.now i)) (pieces_of hands.items) + s.sum < 2 ^ 63 }
+    ensures decided { IfOk result (λ r. Decides W.meaning (W.combined work.now (W.meaning first) (total (W.unit_meaning work.now) (W.combined work.now) (W.piece_meaning work.now) (pieces_of hands.items))) (W.weight_of work.now (W.meaning first) + sum_below (λ i. W.weight_of work.now (W.piece_meaning work.now i)) (pieces_of hands.items)) limit r.0) }
+    ensures deal { IfOk result (λ r. AreAll r.1.items × (pieces_of r.1.items ≡ pieces_of hands.items)) }
+    ensures back { IfOk result (λ r. CameBack (λ i. W.weight_of work.now (W.piece_meaning work.now i)) (λ s. s.sum) hands.items shares.items r.1.items r.2.items) }
+    ensures once { IfOk result (λ r. (x : ℕ) → times x (joined r.1.items) ≤ once_below x (pieces_of hands.items)) }
+    ensures settled { IfOk result (λ r. Settles r.0 r.1.items) }
+    ensures over { IfOk result (λ r. IsAbove (W.weight_of work.now (W.meaning first) + sum_list (λ i. W.weight_of work.now (W.piece_meaning work.now i)) (joined r.1.items)) limit r.0) }
+    ensures alone { (vec_len hands ≡ 1) ⊎ (pieces_of hands.items ≡ 0) → IfErr result (λ e. e ≡ PoolFault.OutOfMemory) }
+{
     let mut crew = Crew {
         rt,
         alloc,
@@ -293,7 +344,7 @@ pub fn fan_on<W: Work + Sync, L: Ledger + Send + Sync, R: Threads + Wait + Sync>
         book,
         stop,
     };
-    let mut gathered = match gather(&crew, hands, shares) {
+    let mut gathered = match gather(&crew, first, hands, shares) {
         Ok(gathered) => gathered,
         Err(fault) => return Err(fault),
     };
@@ -349,13 +400,58 @@ pub fn fan_deal<W: Work + Sync, L: Ledger + Send + Sync, R: Threads + Wait + Syn
         → All (λ s. s.sum ≤ most + sum_below (λ i. W.weight_of work.now (W.piece_meaning work.now i)) pieces) r.1.items) }
     ensures alone { (vec_len shares ≡ 1) ⊎ (pieces ≡ 0) → IfErr result (λ e. e ≡ PoolFault.OutOfMemory) }
 {
+    let Ok(part) = work.unit() else {
+        return Err(PoolFault::OutOfMemory);
+    };
+    fan_deal_onto(rt, alloc, work, part, pieces, limit, book, stop, shares)
+}
+
+/// As `fan_deal`, but the first hand goes on with a part that was made before, and the answer is that part and all
+/// pieces combined, or `Over` where the weight of the part and those of the pieces add up to more than `limit`. What
+/// the part weighs is not reported to the book.
+///
+/// It asks for a part of this work whose load and the loads of all pieces add up to less than 2^63, for 1 to 64 shares,
+/// and that the loads of all pieces, with the sum of any share, add up to less than 2^63. All threads have ended when
+/// it answers.
+///
+/// Example: where parts are numbers that are added and each of 100 pieces is 1,
+/// `fan_deal_onto(rt, alloc, &work, 5, 100, 105, &book, 105, shares)` answers `Whole(105)` and the shares.
+///
+/// # Errors
+///
+/// `ThreadNotStarted` where a thread could not be started, and else `OutOfMemory`. The part and the shares are then
+/// given up.
+pub fn fan_deal_onto<W: Work + Sync, L: Ledger + Send + Sync, R: Threads + Wait + Sync>(
+    rt: &R,
+    alloc: Global,
+    work: &W,
+    part: W::Part,
+    pieces: u32,
+    limit: u64,
+    book: &Book<L>,
+    stop: u128,
+    shares: Vec<Share<L>>,
+) -> Result<(Outcome<W::Part>, Vec<Share<L>>), PoolFault>
+    requires part { W.fits work.now (W.meaning part) }
+    requires pieces { pieces ≤ 1048576 }
+    requires hands { (1 ≤ vec_len shares) × (vec_len shares ≤ 64) }
+    requires loads { W.load_of work.now (W.meaning part) + sum_below (λ i. W.load_of work.now (W.piece_meaning work.now i)) pieces < 2 ^ 63 }
+    requires room { All (λ s. sum_below (λ i. W.load_of work.now (W.piece_meaning work.now i)) pieces + s.sum < 2 ^ 63) shares.items }
+    ensures decided { IfOk result (λ r. Decides W.meaning (W.combined work.now (W.meaning part) (total (W.unit_meaning work.now) (W.combined work.now) (W.piece_meaning work.now) pieces)) (W.weight_of work.now (W.meaning part) + sum_below (λ i. W.weight_of work.now (W.piece_meaning work.now i)) pieces) limit r.0) }
+    ensures count { IfOk result (λ r. vec_len r.1 ≡ vec_len shares) }
+    // No share has grown by more than the weights of all pieces.
+    ensures grown { IfOk result (λ r. (most : ℕ) → All (λ s. s.sum ≤ most) shares.items
+        → All (λ s. s.sum ≤ most + sum_below (λ i. W.weight_of work.now (W.piece_meaning work.now i)) pieces) r.1.items) }
+    ensures alone { (vec_len shares ≡ 1) ⊎ (pieces ≡ 0) → IfErr result (λ e. e ≡ PoolFault.OutOfMemory) }
+{
     let Ok(deal) = Deal::new(alloc, pieces, shares.len()) else {
         return Err(PoolFault::OutOfMemory);
     };
-    match fan_on(
+    match fan_onto(
         rt,
         alloc,
         work,
+        part,
         deal.into_hands(),
         limit,
         book,

@@ -24,7 +24,8 @@ pub struct Crew<'a, W, L: Ledger, R> {
     pub stop: u128,
 }
 
-/// What a worker gives back: its hand, its share, and the combination of the pieces in the hand's list.
+/// What a worker gives back: its hand, its share, and a part: what it began with and the pieces in the hand's list,
+/// combined.
 #[derive(Drop)]
 pub struct Done<P, L: Ledger> {
     pub hand: Hand,
@@ -32,7 +33,8 @@ pub struct Done<P, L: Ledger> {
     pub part: P,
 }
 
-/// The hand has the same seat, the part is the combination of the pieces in its list, and the share has grown by their weights.
+/// The hand has the same seat, the part is the combination of the pieces in its list, onto the unit, and the share has
+/// grown by their weights.
 pub struct Promised<'a, W, L: Ledger> {
     pub work: &'a W,
     pub hand: Snapshot<Hand>,
@@ -76,15 +78,16 @@ fn one_more<W: Work, L: Ledger, R: Wait>(
     Ok((part, number))
 }
 
-/// Takes pieces until the hand is spent, or the book answers a number above `stop`. No number is above the greatest.
+/// Takes pieces until the hand is spent, or the book answers a number above `stop`. No number is above the greatest. What
+/// the worker began with, the unit or a part that was made before, stays in the part.
 fn take_pieces<W: Work, L: Ledger, R: Wait>(
     crew: &Crew<'_, W, L, R>,
     hand: &mut Hand,
     share: &mut Share<L>,
     part: W::Part,
 ) -> Result<W::Part, AllocError>
-    requires { MayGoOn (W.unit_meaning crew.now.work.now) (W.combined crew.now.work.now) (W.piece_meaning crew.now.work.now) (W.weight_of crew.now.work.now) (W.load_of crew.now.work.now) hand.old share.old.sum (W.meaning part) }
-    ensures did { IfOk result (λ p. Did (W.unit_meaning crew.now.work.now) (W.combined crew.now.work.now) (W.piece_meaning crew.now.work.now) (W.weight_of crew.now.work.now) hand.old share.old.sum hand.new share.new.sum (W.meaning p)) }
+    requires { (begin : W.Meaning) × W.fits crew.now.work.now begin × MayGoOn begin (W.combined crew.now.work.now) (W.piece_meaning crew.now.work.now) (W.weight_of crew.now.work.now) (W.load_of crew.now.work.now) hand.old share.old.sum (W.meaning part) }
+    ensures did { (begin : W.Meaning) → W.fits crew.now.work.now begin → MayGoOn begin (W.combined crew.now.work.now) (W.piece_meaning crew.now.work.now) (W.weight_of crew.now.work.now) (W.load_of crew.now.work.now) hand.old share.old.sum (W.meaning part) → IfOk result (λ p. Did begin (W.combined crew.now.work.now) (W.piece_meaning crew.now.work.now) (W.weight_of crew.now.work.now) hand.old share.old.sum hand.new share.new.sum (W.meaning p)) }
     ensures spent { crew.now.stop ≡ 2 ^ 128 - 1 → IfOk result (λ p. hand.new.spent ≡ true) }
 {
     let mut part = part;
@@ -109,8 +112,8 @@ pub fn go_on<W: Work, L: Ledger, R: Wait>(
     crew: &Crew<'_, W, L, R>,
     done: Done<W::Part, L>,
 ) -> Result<Done<W::Part, L>, AllocError>
-    requires { MayGoOn (W.unit_meaning crew.now.work.now) (W.combined crew.now.work.now) (W.piece_meaning crew.now.work.now) (W.weight_of crew.now.work.now) (W.load_of crew.now.work.now) done.hand done.share.sum (W.meaning done.part) }
-    ensures did { IfOk result (λ d. Did (W.unit_meaning crew.now.work.now) (W.combined crew.now.work.now) (W.piece_meaning crew.now.work.now) (W.weight_of crew.now.work.now) done.hand done.share.sum d.hand d.share.sum (W.meaning d.part)) }
+    requires { (begin : W.Meaning) × W.fits crew.now.work.now begin × MayGoOn begin (W.combined crew.now.work.now) (W.piece_meaning crew.now.work.now) (W.weight_of crew.now.work.now) (W.load_of crew.now.work.now) done.hand done.share.sum (W.meaning done.part) }
+    ensures did { (begin : W.Meaning) → W.fits crew.now.work.now begin → MayGoOn begin (W.combined crew.now.work.now) (W.piece_meaning crew.now.work.now) (W.weight_of crew.now.work.now) (W.load_of crew.now.work.now) done.hand done.share.sum (W.meaning done.part) → IfOk result (λ d. Did begin (W.combined crew.now.work.now) (W.piece_meaning crew.now.work.now) (W.weight_of crew.now.work.now) done.hand done.share.sum d.hand d.share.sum (W.meaning d.part)) }
     ensures spent { crew.now.stop ≡ 2 ^ 128 - 1 → IfOk result (λ d. d.hand.spent ≡ true) }
 {
     let Done {
