@@ -414,8 +414,9 @@ pub fn fan_deal<W: Work + Sync, L: Ledger + Send + Sync, R: Threads + Wait + Syn
 /// and that the loads of all pieces, with the sum of any share, add up to less than 2^63. All threads have ended when
 /// it answers.
 ///
-/// Example: where parts are numbers that are added and each of 100 pieces is 1,
-/// `fan_deal_onto(rt, alloc, &work, 5, 100, 105, &book, 105, shares)` answers `Whole(105)` and the shares.
+/// Example: where a part is a number, which is its weight too, parts are added, and each of 100 pieces is 1,
+/// `fan_deal_onto(rt, alloc, &work, 5, 100, 105, &book, 105, shares)` answers `Whole(105)` and the shares;
+/// `fan_deal_onto(rt, alloc, &work, 5, 100, 104, &book, 105, shares)` answers `Over` and the shares.
 ///
 /// # Errors
 ///
