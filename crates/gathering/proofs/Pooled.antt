@@ -71,6 +71,9 @@ pub under-of : (front : PartialState) (p : Plan) (first : ℕ) (b : List ℕ) (p
 under-of front p first b ps n limit count outcome same d =
     subst (λ (c : ℕ). IsUnder c limit outcome) same (decided-under meaning _ _ limit outcome IsUnder (λ _ low. low) (λ high. high) d)
 
+pub under-same : (count l m : ℕ) (outcome : Outcome Partial) → l ≡ m → IsUnder count l outcome → IsUnder count m outcome
+under-same count l m outcome e under = subst (λ (limit : ℕ). IsUnder count limit outcome) e under
+
 -- what is Whole has as many refused lines as the front and the pieces, and these are within the limit
 pub refused-whole : (front : PartialState) (p : Plan) (first : ℕ) (b : List ℕ) (ps : List Piece) (n limit : ℕ) (outcome : Outcome Partial) (partial : Partial)
     → outcome ≡ Whole partial → DecidesBehind front p first b ps n limit outcome → (partial.refused ≡ front.refused + weights_of p b ps n) × (partial.refused ≤ limit)

@@ -1,4 +1,4 @@
-use Rattle.std.proofs.Common.{◌≡◌, ◌∙◌, ◌+◌, ℕ, inr, length, sym, ap, subst, arith}
+use Rattle.std.proofs.Common.{◌≡◌, ◌∙◌, ◌+◌, inr, length, sym, ap, subst, arith}
 use Rattle.std.proofs.lemmas.Result.{err_from_is_err_and}
 use denote.Param.Send.{sendable}
 use Rattle.lines.specs.Input.{refused}
@@ -9,8 +9,7 @@ use Rattle.tables.specs.Partials.{one_piece}
 use Rattle.tables.specs.States.{PartialState}
 use Rattle.tables.proofs.Means.{mean-from_stands}
 use Rattle.tables.proofs.Sharing.{hands_sync, job_by_sync}
-use Rattle.gathering.specs.Pieces.{IsUnder}
-use Rattle.gathering.proofs.Pooled.{IsJobOf, few-loads, grown-by, refused-whole, room-beside, stands-behind, under-of, weights-counted}
+use Rattle.gathering.proofs.Pooled.{IsJobOf, few-loads, grown-by, refused-whole, room-beside, stands-behind, under-of, under-same, weights-counted}
 use Rattle.gathering.proofs.Tallies.{few-refused}
 use Rattle.gathering.proofs.working.round_among.Goals as goal
 
@@ -68,7 +67,6 @@ decided-requires g c =
     let job = c.new-job.result.job in
     let first = c.new-job.result.first in
     let n = c.len-2.result in
-    let limit = c.limit_of-limit.result in
     let of = subst (IsJobOf plan round pieces.items) (sym c.new-job.ensures.job)
     record { plan_is = c.new.ensures.plan; input_is = c.new.ensures.input; pieces_are = c.new.ensures.pieces ∙ c.as_slice.ensures.value } in
     let count : n ≡ length pieces.items = grind (arith, c.len-2.ensures, pieces.ok) in
@@ -82,8 +80,9 @@ decided-requires g c =
     let lines_are = ap (λ (s : PartialState). s.lines) v.view_is in
     let short = c.requires.short in
     let few = few-refused (fields_of_plan plan) round in
-    let under = under-of front job.plan.now first job.input.now job.pieces.now n limit all c.in-Ok.outcome (omega (arith, weights, same)) c.in-Ok.ensures.decided in
-    (all, omega (arith, fewer, refused_is, lines_are, short, few), subst (λ (l : ℕ). IsUnder all l c.in-Ok.outcome) c.limit_of-limit.ensures under)
+    let limit = c.limit_of-limit.ensures in
+    let under = under-of front job.plan.now first job.input.now job.pieces.now n _ all c.in-Ok.outcome (omega (arith, weights, same)) c.in-Ok.ensures.decided in
+    (all, omega (arith, fewer, refused_is, lines_are, short, few), under-same all _ _ c.in-Ok.outcome (omega (arith, limit)) under)
 
 pub returns-in_err-partial-in-Ok-clause-fault : goal.returns-in_err-partial-in-Ok-clause-fault
 returns-in_err-partial-in-Ok-clause-fault g c =
@@ -94,7 +93,6 @@ returns-in_err-partial-in-Ok-clause-fault g c =
     let job = c.new-job.result.job in
     let first = c.new-job.result.first in
     let n = c.len-2.result in
-    let limit = c.limit_of-limit.result in
     let of = subst (IsJobOf plan round pieces.items) (sym c.new-job.ensures.job)
     record { plan_is = c.new.ensures.plan; input_is = c.new.ensures.input; pieces_are = c.new.ensures.pieces ∙ c.as_slice.ensures.value } in
     let count : n ≡ length pieces.items = grind (arith, c.len-2.ensures, pieces.ok) in
@@ -102,9 +100,10 @@ returns-in_err-partial-in-Ok-clause-fault g c =
     of.plan_is of.input_is of.pieces_are count c.job_law.ensures.refused c.in_ok-pieces.ensures.lines in
     let same = c.in_ok-front.ensures.refused in
     let all = c.args.before.refused + length (refused (fields_of_plan plan) round) in
-    let under = under-of front job.plan.now first job.input.now job.pieces.now n limit all c.in-Ok.outcome (omega (arith, weights, same)) c.in-Ok.ensures.decided in
+    let limit = c.limit_of-limit.ensures in
+    let under = under-of front job.plan.now first job.input.now job.pieces.now n _ all c.in-Ok.outcome (omega (arith, weights, same)) c.in-Ok.ensures.decided in
     let p = err_from_is_err_and c.from_residual-in_err-partial-in-Ok.result c.from_residual-in_err-partial-in-Ok.ensures.1 in
-    rw (p.1, p.2) (inr (c.in_err-partial-in-Ok.ensures.fault all (subst (λ (l : ℕ). IsUnder all l c.in-Ok.outcome) c.limit_of-limit.ensures under)))
+    rw (p.1, p.2) (inr (c.in_err-partial-in-Ok.ensures.fault all (under-same all _ _ c.in-Ok.outcome (omega (arith, limit)) under)))
 
 pub returns-in-Ok-clause-whole : goal.returns-in-Ok-clause-whole
 returns-in-Ok-clause-whole g c =
@@ -115,18 +114,17 @@ returns-in-Ok-clause-whole g c =
     let job = c.new-job.result.job in
     let first = c.new-job.result.first in
     let n = c.len-2.result in
-    let limit = c.limit_of-limit.result in
     let of = subst (IsJobOf plan round pieces.items) (sym c.new-job.ensures.job)
     record { plan_is = c.new.ensures.plan; input_is = c.new.ensures.input; pieces_are = c.new.ensures.pieces ∙ c.as_slice.ensures.value } in
     let count : n ≡ length pieces.items = grind (arith, c.len-2.ensures, pieces.ok) in
-    stands-behind c.args.before front plan job.plan.now first round job.input.now pieces.items job.pieces.now n limit c.in-Ok.outcome c.in_ok-partial-in-Ok.partial
+    stands-behind c.args.before front plan job.plan.now first round job.input.now pieces.items job.pieces.now n _ c.in-Ok.outcome c.in_ok-partial-in-Ok.partial
     of.plan_is c.new-job.ensures.first of.input_is of.pieces_are count c.in_ok-pieces.ensures.few c.job_law.ensures.behind c.in_ok-pieces.ensures.cut c.in_ok-front.ensures.stands
     c.in_ok-partial-in-Ok.ensures.whole c.in-Ok.ensures.decided
 
 pub returns-in-Ok-clause-limit : goal.returns-in-Ok-clause-limit
 returns-in-Ok-clause-limit g c =
     let job = c.new-job.result.job in
-    let r = refused-whole c.in_ok-front.front job.plan.now c.new-job.result.first job.input.now job.pieces.now c.len-2.result c.limit_of-limit.result c.in-Ok.outcome c.in_ok-partial-in-Ok.partial
+    let r = refused-whole c.in_ok-front.front job.plan.now c.new-job.result.first job.input.now job.pieces.now c.len-2.result _ c.in-Ok.outcome c.in_ok-partial-in-Ok.partial
     c.in_ok-partial-in-Ok.ensures.whole c.in-Ok.ensures.decided in
     let few = r.1 in
     let limit = c.limit_of-limit.ensures in
@@ -135,7 +133,7 @@ returns-in-Ok-clause-limit g c =
 pub returns-in-Ok-clause-reported : goal.returns-in-Ok-clause-reported
 returns-in-Ok-clause-reported g c =
     let job = c.new-job.result.job in
-    let r = refused-whole c.in_ok-front.front job.plan.now c.new-job.result.first job.input.now job.pieces.now c.len-2.result c.limit_of-limit.result c.in-Ok.outcome c.in_ok-partial-in-Ok.partial
+    let r = refused-whole c.in_ok-front.front job.plan.now c.new-job.result.first job.input.now job.pieces.now c.len-2.result _ c.in-Ok.outcome c.in_ok-partial-in-Ok.partial
     c.in_ok-partial-in-Ok.ensures.whole c.in-Ok.ensures.decided in
     let count = r.0 in
     let same = c.in_ok-front.ensures.refused in
