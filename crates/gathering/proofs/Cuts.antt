@@ -1,5 +1,5 @@
 -- The pieces of a cut: how many there are, and how each ends.
-use Rattle.std.proofs.Common.{◌≡◌, ◌∙◌, ◌<◌, ◌≤◌, ◌+◌, ◌-◌, ◌*◌, ◌/◌, ℕ, zero, suc, List, [], ◌∷◌, ◌++◌, length, map, take, drop, slice_index, refl, ap, inl, inr, arith, length-drop, Result, Ok, Err}
+use Rattle.std.proofs.Common.{◌≡◌, ◌∙◌, ◌<◌, ◌≤◌, ◌+◌, ◌-◌, ◌*◌, ◌/◌, ℕ, zero, suc, List, [], ◌∷◌, ◌++◌, length, map, take, drop, slice_index, refl, sym, ap, inl, inr, arith, length-drop, Result, Ok, Err}
 use Rattle.std.specs.Prelude.{All, IfOk}
 use Rattle.std.specs.Global.{Vec}
 use Rattle.std.specs.List.{enumerate_from, flat_map}
@@ -10,9 +10,10 @@ use Rattle.std.proofs.lemmas.List.{get_or-drop}
 use Rattle.std.proofs.lemmas.List.Elements.{All-head, All-tail}
 use Rattle.lines.specs.declared.pieces.Piece.{Piece}
 use Rattle.lines.specs.Lines.{line_feed, lines}
-use Rattle.lines.specs.Pieces.{AllButLast, AreConsecutive, EndsInFeed, IsStop, after_feed, at_end, bytes_of}
+use Rattle.lines.specs.Pieces.{AllButLast, AreConsecutive, AreWholeLines, EndsInFeed, IsStop, after_feed, at_end, bytes_of}
 use Rattle.tables.specs.Pieces.{IndexedPiece, IsCutInto, all_lines, joined_bytes}
-use Rattle.tables.specs.Means.{indexed, with_index}
+use Rattle.tables.specs.Means.{indexed, indexed_from, no_bytes, with_index}
+use Rattle.tables.specs.Partials.{one_piece}
 
 -- ---- how many there are
 
@@ -131,6 +132,37 @@ cut-into input target ps wanted follow some within stops joined = record {
   in_order = λ k lt. omega (arith, indexes-rise input 0 ps k (omega arith), indexes-rise input 0 ps (k + 1) lt);
   joined = same-bytes input 0 ps ∙ joined;
   feeds = feeds-from input target 0 0 ps wanted follow some within stops;
+}
+
+-- ---- behind a front
+
+-- whatever the first index, the pieces end as they do
+feeds-same : (input : List ℕ) (index other : ℕ) (ps : List Piece)
+    → AllButLast (λ piece. EndsInFeed piece.bytes) (map (with_index input) (enumerate_from index ps)) → AllButLast (λ piece. EndsInFeed piece.bytes) (map (with_index input) (enumerate_from other ps))
+feeds-same input index other [] feeds = tt
+feeds-same input index other (p ∷ []) feeds = tt
+feeds-same input index other (p ∷ q ∷ qs) feeds = (feeds.0, feeds-same input (index + 1) (other + 1) (q ∷ qs) feeds.1)
+
+-- behind a piece that ends in a line feed
+feeds-behind : (first : IndexedPiece) (pieces : List IndexedPiece) → EndsInFeed first.bytes → AllButLast (λ piece. EndsInFeed piece.bytes) pieces → AllButLast (λ piece. EndsInFeed piece.bytes) (first ∷ pieces)
+feeds-behind first [] feed feeds = tt
+feeds-behind first (p ∷ ps) feed feeds = (feed, feeds)
+
+ends-some : (b : ℕ) (bytes : List ℕ) → AreWholeLines (b ∷ bytes) → EndsInFeed (b ∷ bytes)
+ends-some b bytes (inl none) = absurd (let n = ap length none in omega (arith, n))
+ends-some b bytes (inr feed) = feed
+
+-- a front of whole lines as one piece, and behind it the pieces that the rest is cut into, are pieces of both
+pub cut-behind : (front rest : List ℕ) (ps : List Piece) → AreWholeLines front → IsCutInto rest (indexed rest ps) → IsCutInto (front ++ rest) (one_piece front ++ indexed_from 1 rest ps)
+cut-behind [] rest ps whole cut = record {
+  in_order = λ k lt. omega (arith, indexes-rise rest 1 ps k (omega arith), indexes-rise rest 1 ps (k + 1) lt);
+  joined = same-bytes rest 1 ps ∙ sym (same-bytes rest 0 ps) ∙ cut.joined;
+  feeds = feeds-same rest 0 1 ps cut.feeds;
+}
+cut-behind (b ∷ bytes) rest ps whole cut = record {
+  in_order = λ k lt. omega (arith, indexes-rise rest 0 (no_bytes ∷ ps) k (omega arith), indexes-rise rest 0 (no_bytes ∷ ps) (k + 1) lt);
+  joined = ap (λ bs. (b ∷ bytes) ++ bs) (same-bytes rest 1 ps ∙ sym (same-bytes rest 0 ps) ∙ cut.joined);
+  feeds = feeds-behind (record { index = 0; bytes = b ∷ bytes }) (indexed_from 1 rest ps) (ends-some b bytes whole) (feeds-same rest 0 1 ps cut.feeds);
 }
 
 -- ---- of what is answered

@@ -15,10 +15,10 @@ use Rattle.lines.specs.Trim.{trim}
 use Rattle.lines.proofs.Fronts.{refused-whole_lines}
 use Rattle.lines.proofs.Trims.{refused-trim}
 use Rattle.query_tree.specs.Syntax.{TreeForm}
-use Rattle.tables.specs.Partials.{HaveOneShape, StandsFor, StandsForInput, whole_piece}
+use Rattle.tables.specs.Partials.{StandsFor, StandsForInput, whole_piece}
 use Rattle.tables.specs.States.{PartialState}
 use Rattle.tables.proofs.Following.{one-piece}
-use Rattle.gathering.specs.Pieces.{StandsForRounds}
+use Rattle.gathering.specs.Pieces.{StandsBehind, StandsForRounds}
 use Rattle.gathering.specs.Gathered.{IsWhole}
 use Rattle.gathering.specs.Faults.{IsWant, Refuses, Stops}
 use Rattle.gathering.specs.declared.fault.GatherFault.{GatherFault}
@@ -83,24 +83,19 @@ end-after : {R : Type 0} (bytes : List ℕ) (new : RoundsState R) → (new.over 
 end-after bytes new last (inl feed) = inl (inr (feed-behind bytes new.round feed))
 end-after bytes new last (inr over) = inr (last over)
 
--- what `follow` promises
-abbrev Follows : List Field → TreeForm → PartialState → PartialState → PartialState → Type 0
-Follows fields q partial more sum = (front back : List ℕ) → StandsForInput fields q partial front → StandsForInput fields q more back → AreWholeLines front
-    → StandsFor fields q sum (whole_piece (front ++ back))
-
--- what `fold_behind` promises
-abbrev pub Behind : List Field → TreeForm → PartialState → List ℕ → PartialState → Type 0
-Behind fields q partial rest sum = (front : List ℕ) → StandsForInput fields q partial front → AreWholeLines front → StandsFor fields q sum (whole_piece (front ++ rest))
+-- so does what stands for the front and the rest as one piece
+pub behind-as_one : (fields : List Field) (q : TreeForm) (partial sum : PartialState) (rest : List ℕ)
+    → ((front : List ℕ) → StandsForInput fields q partial front → AreWholeLines front → StandsFor fields q sum (whole_piece (front ++ rest))) → StandsBehind fields q partial rest sum
+behind-as_one fields q partial sum rest as_one = record { behind = λ front given whole. record { pieces = whole_piece (front ++ rest); stands = as_one front given whole; cut = one-piece (front ++ rest) } }
 
 module _ {R : Type 0} (fields : List Field) (q : TreeForm) (known : Option (List ℕ)) (limit : ℕ) (old new : RoundsState R) (found : Result Bool ReadFault) (partial sum : PartialState)
     (s : StandsForRounds fields q known limit old partial) (moved : HasMoved old found new) (is : found ≡ Ok true) where
   -- what stands for the round behind the rounds before it stands for all of them
-  all-rounds : Behind fields q partial new.round sum → StandsForInput fields q sum (s.bytes ++ new.round)
-  all-rounds behind =
-      record { pieces = whole_piece (s.bytes ++ new.round); stands = behind s.bytes s.stands (whole-before s.bytes old new found moved is s.ends); cut = one-piece (s.bytes ++ new.round) }
+  all-rounds : StandsBehind fields q partial new.round sum → StandsForInput fields q sum (s.bytes ++ new.round)
+  all-rounds behind = behind.behind s.bytes s.stands (whole-before s.bytes old new found moved is s.ends)
 
   -- as many lines are refused as before and in the round
-  pub refused-behind : Behind fields q partial new.round sum → sum.refused ≡ partial.refused + length (refused fields new.round)
+  pub refused-behind : StandsBehind fields q partial new.round sum → sum.refused ≡ partial.refused + length (refused fields new.round)
   refused-behind behind =
       omega (
         arith,
@@ -109,7 +104,7 @@ module _ {R : Type 0} (fields : List Field) (q : TreeForm) (known : Option (List
         refused-both fields s.bytes new.round (whole-before s.bytes old new found moved is s.ends),
       )
 
-  pub next-behind : Behind fields q partial new.round sum → sum.refused ≤ limit → StandsForRounds fields q known limit new sum
+  pub next-behind : StandsBehind fields q partial new.round sum → sum.refused ≤ limit → StandsForRounds fields q known limit new sum
   next-behind behind few =
       let given = moved.round is in
       record {
@@ -120,16 +115,6 @@ module _ {R : Type 0} (fields : List Field) (q : TreeForm) (known : Option (List
         ends = ends-after s.bytes new given.feed;
         within = few;
       }
-
-  module _ (more : PartialState) (stands : StandsForInput fields q more new.round) (follows : Follows fields q partial more sum) where
-    behind-by : Behind fields q partial new.round sum
-    behind-by front given whole = follows front new.round given stands whole
-
-    pub refused-after : sum.refused ≡ partial.refused + more.refused
-    refused-after = omega (arith, refused-behind behind-by, refused-of-input fields q more new.round stands)
-
-    pub next-round : partial.refused + more.refused ≤ limit → StandsForRounds fields q known limit new sum
-    next-round few = next-behind behind-by (omega (arith, few, refused-after))
 
 -- whose bytes are handed out, the rounds are the same
 pub handed-out : {R : Type 0} (fields : List Field) (q : TreeForm) (known : Option (List ℕ)) (limit : ℕ) (rounds rest : RoundsState R) (partial : PartialState)
@@ -163,20 +148,21 @@ pub no-more : {R : Type 0} (fields : List Field) (q : TreeForm) (known : Option 
 no-more fields q known limit old new found partial s moved is =
     record { bytes = s.bytes; stands = s.stands; trimmed = at-end known old.left s.bytes s.left (moved.none is).left }
 
--- ---- what is asked of a round and of `follow`
+-- ---- what is asked of a round
 
+-- the rounds before it are whole lines
+pub front-before : {R : Type 0} (fields : List Field) (q : TreeForm) (known : Option (List ℕ)) (limit : ℕ) (old new : RoundsState R) (found : Result Bool ReadFault) (partial : PartialState)
+    → StandsForRounds fields q known limit old partial → HasMoved old found new → found ≡ Ok true → (front : List ℕ) × StandsForInput fields q partial front × AreWholeLines front
+front-before fields q known limit old new found partial s moved is = (s.bytes, s.stands, whole-before s.bytes old new found moved is s.ends)
+
+-- with its bytes, as many as the lines so far, it is short
 pub short-round : {R : Type 0} (fields : List Field) (q : TreeForm) (known : Option (List ℕ)) (limit : ℕ) (old new : RoundsState R) (found : Result Bool ReadFault) (partial : PartialState)
-    → StandsForRounds fields q known limit old partial → HasMoved old found new → found ≡ Ok true → partial.refused ≤ partial.lines → partial.refused + length new.round < 2 ^ 63
-short-round fields q known limit old new found partial s moved is few =
+    → StandsForRounds fields q known limit old partial → HasMoved old found new → found ≡ Ok true → partial.lines + length new.round < 2 ^ 63
+short-round fields q known limit old new found partial s moved is =
     let c = s.count in
     let g = (moved.round is).given in
     let m = moved.limit in
-    omega (arith, few, c, g, m, lines-of-input fields q partial s.bytes s.stands, length-lines s.bytes)
-
-pub one-shape : {R : Type 0} (fields : List Field) (q : TreeForm) (known : Option (List ℕ)) (limit : ℕ) (old : RoundsState R) (partial more : PartialState) (round : List ℕ)
-    → StandsForRounds fields q known limit old partial → StandsForInput fields q more round → HaveOneShape partial more
-one-shape fields q known limit old partial more round s stands =
-    record { sets = s.stands.stands.sets ∙ sym stands.stands.sets; functions = s.stands.stands.functions ∙ sym stands.stands.functions; filters = s.stands.stands.filters ∙ sym stands.stands.filters }
+    omega (arith, c, g, m, lines-of-input fields q partial s.bytes s.stands, length-lines s.bytes)
 
 pub few-behind : {R : Type 0} (fields : List Field) (q : TreeForm) (known : Option (List ℕ)) (limit : ℕ) (old new : RoundsState R) (found : Result Bool ReadFault) (partial : PartialState)
     → StandsForRounds fields q known limit old partial → HasMoved old found new → found ≡ Ok true → partial.lines + length (lines new.round) < 2 ^ 63
@@ -185,11 +171,6 @@ few-behind fields q known limit old new found partial s moved is =
     let g = (moved.round is).given in
     let m = moved.limit in
     omega (arith, c, g, m, lines-of-input fields q partial s.bytes s.stands, length-lines s.bytes, length-lines new.round)
-
-pub few-lines : {R : Type 0} (fields : List Field) (q : TreeForm) (known : Option (List ℕ)) (limit : ℕ) (old new : RoundsState R) (found : Result Bool ReadFault) (partial more : PartialState)
-    → StandsForRounds fields q known limit old partial → HasMoved old found new → found ≡ Ok true → StandsForInput fields q more new.round → partial.lines + more.lines < 2 ^ 63
-few-lines fields q known limit old new found partial more s moved is stands =
-    omega (arith, few-behind fields q known limit old new found partial s moved is, lines-of-input fields q more new.round stands)
 
 -- ---- where a round is over the limit
 

@@ -1,40 +1,35 @@
--- What a pool answers over the pieces of an input.
-use Rattle.std.proofs.Common.{◌≡◌, ◌∙◌, ◌+◌, ◌-◌, ◌≤◌, ◌<◌, ◌^◌, ℕ, List, [], ◌∷◌, length, map, filter_map, Option, Some, None, Result, Ok, Err, ap, subst, arith}
-use Rattle.std.proofs.lemmas.List.{length-map}
+-- What a pool answers over a front and the pieces of a round behind it.
+use Rattle.std.proofs.Common.{◌≡◌, ◌∙◌, ◌+◌, ◌≤◌, ◌<◌, ◌^◌, ◌++◌, ℕ, List, [], length, ap, subst, arith}
 use Rattle.std.specs.List.{All}
-use Rattle.std.specs.Result.{result_err}
-use Rattle.values.specs.Datum.{Datum}
 use Rattle.values.specs.Schema.{Field}
-use Rattle.lines.specs.declared.fault.LineFault.{LineFault}
 use Rattle.lines.specs.declared.pieces.Piece.{Piece}
 use Rattle.lines.specs.Lines.{lines}
-use Rattle.lines.specs.Taken.{taken}
 use Rattle.lines.specs.Input.{refused}
 use Rattle.pool.specs.declared.laws.Outcome.{Outcome}
 use Rattle.pool.specs.declared.laws.Outcome.TheVariants.{Whole, Over}
 use Rattle.pool.specs.Outcomes.{Decides}
 use Rattle.pool.specs.Totals.{sum_below, total}
+use Rattle.pool.proofs.Sums.{total_weight}
 use Rattle.query_tree.specs.Syntax.{TreeForm}
 use Rattle.query_plan.specs.declared.plan.Plan.{Plan}
 use Rattle.query_plan.specs.Planned.{fields_of_plan, form_of_plan}
 use Rattle.tables.specs.declared.job.Job.{Job}
 use Rattle.tables.specs.declared.partial.Partial.{Partial}
-use Rattle.tables.specs.Means.{both, indexed, mean, mean_at, meaning}
-use Rattle.tables.specs.Partials.{StandsFor, StandsForInput}
+use Rattle.tables.specs.Laws.{means_lawful_from}
+use Rattle.tables.specs.Means.{Mean, both, indexed, indexed_from, mean, mean_at, mean_from, meaning}
+use Rattle.tables.specs.Partials.{StandsFor, StandsForInput, one_piece}
 use Rattle.tables.specs.Pieces.{IndexedPiece, IsCutInto, all_lines, refused_within}
-use Rattle.gathering.specs.Pieces.{IsAnswer, IsOutcome}
-use Rattle.gathering.specs.Gathered.{limit_number}
 use Rattle.tables.specs.States.{PartialState}
-use Rattle.tables.proofs.Cutting.{cut-lines}
-use Rattle.gathering.specs.Faults.{Refuses}
-use Rattle.gathering.specs.declared.fault.GatherFault.TheVariants.{TooManyRefused}
-use Rattle.gathering.proofs.Tallies.{length-lines, length-within, refused-counted}
+use Rattle.tables.proofs.Means.{mean-from_stands}
+use Rattle.gathering.specs.Pieces.{IsUnder, StandsBehind}
+use Rattle.gathering.proofs.Cuts.{cut-behind}
+use Rattle.gathering.proofs.Tallies.{length-lines, refused-counted}
 
--- what a pool decides of the pieces of an input under a plan
-abbrev pub DecidesOf : Plan → List ℕ → List Piece → ℕ → ℕ → Outcome Partial → Type 0
-DecidesOf plan input pieces n limit outcome =
-    Decides meaning (total (mean (fields_of_plan plan) (form_of_plan plan) []) both (mean_at (fields_of_plan plan) (form_of_plan plan) input pieces) n)
-    (sum_below (λ i. (mean_at (fields_of_plan plan) (form_of_plan plan) input pieces i).refused) n) limit outcome
+-- what a pool decides of a part and the pieces of the rest of an input behind it, with indexes from a first one on, under a plan
+abbrev pub DecidesBehind : PartialState → Plan → ℕ → List ℕ → List Piece → ℕ → ℕ → Outcome Partial → Type 0
+DecidesBehind front plan first rest pieces n limit outcome =
+    Decides meaning (both (meaning front) (total (mean (fields_of_plan plan) (form_of_plan plan) []) both (mean_from (fields_of_plan plan) (form_of_plan plan) first rest pieces) n))
+    (front.refused + sum_below (λ i. (mean_from (fields_of_plan plan) (form_of_plan plan) first rest pieces i).refused) n) limit outcome
 
 -- a job is over the pieces of an input under a plan
 pub record IsJobOf (plan : Plan) (input : List ℕ) (pieces : List Piece) (job : Job) : Type 0 where
@@ -42,10 +37,20 @@ pub record IsJobOf (plan : Plan) (input : List ℕ) (pieces : List Piece) (job :
   pub input_is : job.input.now ≡ input
   pub pieces_are : job.pieces.now ≡ pieces
 
+-- how many lines the pieces have
+abbrev pub loads_of : Plan → List ℕ → List Piece → ℕ → ℕ
+loads_of plan input pieces n = sum_below (λ i. (mean_from (fields_of_plan plan) (form_of_plan plan) 1 input pieces i).lines) n
+
+-- how many refused lines the pieces have
+abbrev pub weights_of : Plan → List ℕ → List Piece → ℕ → ℕ
+weights_of plan input pieces n = sum_below (λ i. (mean_from (fields_of_plan plan) (form_of_plan plan) 1 input pieces i).refused) n
+
 -- the laws of a job's pieces
 abbrev Stands : Type 0
-Stands = (fields : List Field) (q : TreeForm) (input : List ℕ) (pieces : List Piece) (partial : Partial)
-    → meaning partial ≡ total (mean fields q []) both (mean_at fields q input pieces) (length pieces) → StandsFor fields q partial (indexed input pieces)
+Stands = (fields : List Field) (q : TreeForm) (front : List IndexedPiece) (first : ℕ) (rest : List ℕ) (pieces : List Piece) (partial : Partial)
+    → first + length pieces < 2 ^ 32
+    → meaning partial ≡ both (mean fields q front) (total (mean fields q []) both (mean_from fields q first rest pieces) (length pieces))
+    → StandsFor fields q partial (front ++ indexed_from first rest pieces)
 
 abbrev Weighs : Type 0
 Weighs = (fields : List Field) (q : TreeForm) (input : List ℕ) (pieces : List Piece)
@@ -55,32 +60,54 @@ abbrev Loads : Type 0
 Loads = (fields : List Field) (q : TreeForm) (input : List ℕ) (pieces : List Piece)
     → sum_below (λ i. (mean_at fields q input pieces i).lines) (length pieces) ≡ length (all_lines (indexed input pieces))
 
-answered : (plan : Plan) (input : List ℕ) (pieces : List Piece) (limit : ℕ) (outcome : Outcome Partial) → Stands → Weighs
-    → DecidesOf plan input pieces (length pieces) limit outcome → IsAnswer (fields_of_plan plan) (form_of_plan plan) (indexed input pieces) limit outcome
-answered plan input pieces limit (Whole partial) stands weighs d =
-    (stands (fields_of_plan plan) (form_of_plan plan) input pieces partial d.0, omega (arith, weighs (fields_of_plan plan) (form_of_plan plan) input pieces, d.1))
-answered plan input pieces limit Over stands weighs d = omega (arith, weighs (fields_of_plan plan) (form_of_plan plan) input pieces, d)
+-- the parts weigh so much under the limit
+decided-under : {P M : Type 0} (meaning : P → M) (whole : M) (count limit : ℕ) (outcome : Outcome P) (Under : ℕ → ℕ → Outcome P → Type 0)
+    → ((p : P) → count ≤ limit → Under count limit (Whole p)) → (limit < count → Under count limit Over) → Decides meaning whole count limit outcome → Under count limit outcome
+decided-under meaning whole count limit (Whole p) Under is over d = is p d.1
+decided-under meaning whole count limit Over Under is over d = over d
 
--- what is decided of the pieces that a round is cut into is an outcome over the round
-pub outcome-of : (plan p : Plan) (input b : List ℕ) (pieces ps : List Piece) (n m limit : ℕ) (outcome : Outcome Partial)
-    → p ≡ plan → b ≡ input → ps ≡ pieces → n ≡ length pieces → m ≡ limit → Stands → Weighs
-    → IsCutInto input (indexed input pieces)
-    → DecidesOf p b ps n m outcome → IsOutcome (fields_of_plan plan) (form_of_plan plan) input limit outcome
-outcome-of plan p input b pieces ps n m limit outcome e f g h k stands weighs cut d =
-    let d1 = subst (λ (x : Plan). DecidesOf x b ps n m outcome) e d in
-    let d2 = subst (λ (x : List ℕ). DecidesOf plan x ps n m outcome) f d1 in
-    let d3 = subst (λ (x : List Piece). DecidesOf plan input x n m outcome) g d2 in
-    let d4 = subst (λ (x : ℕ). DecidesOf plan input pieces x m outcome) h d3 in
-    let d5 = subst (λ (x : ℕ). DecidesOf plan input pieces (length pieces) x outcome) k d4 in
+pub under-of : (front : PartialState) (p : Plan) (first : ℕ) (b : List ℕ) (ps : List Piece) (n limit count : ℕ) (outcome : Outcome Partial)
+    → front.refused + weights_of p b ps n ≡ count → DecidesBehind front p first b ps n limit outcome → IsUnder count limit outcome
+under-of front p first b ps n limit count outcome same d =
+    subst (λ (c : ℕ). IsUnder c limit outcome) same (decided-under meaning _ _ limit outcome IsUnder (λ _ low. low) (λ high. high) d)
+
+pub under-same : (count l m : ℕ) (outcome : Outcome Partial) → l ≡ m → IsUnder count l outcome → IsUnder count m outcome
+under-same count l m outcome e under = subst (λ (limit : ℕ). IsUnder count limit outcome) e under
+
+-- what is Whole has as many refused lines as the front and the pieces, and these are within the limit
+pub refused-whole : (front : PartialState) (p : Plan) (first : ℕ) (b : List ℕ) (ps : List Piece) (n limit : ℕ) (outcome : Outcome Partial) (partial : Partial)
+    → outcome ≡ Whole partial → DecidesBehind front p first b ps n limit outcome → (partial.refused ≡ front.refused + weights_of p b ps n) × (partial.refused ≤ limit)
+refused-whole front p first b ps n limit outcome partial is d =
+    let whole = subst (DecidesBehind front p first b ps n limit) is d in
+    let laws = means_lawful_from (fields_of_plan p) (form_of_plan p) first b ps in
+    let count : partial.refused ≡ front.refused + weights_of p b ps n = ap (λ (m : Mean). m.refused) whole.0 ∙ ap (λ k. front.refused + k) (total_weight laws n) in
+    let few = whole.1 in
+    (count, omega (arith, count, few))
+
+-- and it stands for the front and the rest
+pub stands-behind : (before front : PartialState) (plan p : Plan) (first : ℕ) (rest b : List ℕ) (pieces ps : List Piece) (n limit : ℕ) (outcome : Outcome Partial) (partial : Partial)
+    → p ≡ plan → first ≡ 1 → b ≡ rest → ps ≡ pieces → n ≡ length pieces → length pieces ≤ 1048576 → Stands → IsCutInto rest (indexed rest pieces)
+    → ((fields : List Field) (q : TreeForm) (input : List ℕ) → StandsForInput fields q before input → StandsFor fields q front (one_piece input))
+    → outcome ≡ Whole partial → DecidesBehind front p first b ps n limit outcome → StandsBehind (fields_of_plan plan) (form_of_plan plan) before rest partial
+stands-behind before front plan p first rest b pieces ps n limit outcome partial e a f g h few stands cut as_one is d =
+    let fields = fields_of_plan plan in
+    let q = form_of_plan plan in
+    let d1 = subst (λ (x : Plan). DecidesBehind front x first b ps n limit outcome) e d in
+    let d2 = subst (λ (x : ℕ). DecidesBehind front plan x b ps n limit outcome) a d1 in
+    let d3 = subst (λ (x : List ℕ). DecidesBehind front plan 1 x ps n limit outcome) f d2 in
+    let d4 = subst (λ (x : List Piece). DecidesBehind front plan 1 rest x n limit outcome) g d3 in
+    let d5 = subst (λ (x : ℕ). DecidesBehind front plan 1 rest pieces x limit outcome) h d4 in
+    let whole = subst (DecidesBehind front plan 1 rest pieces (length pieces) limit) is d5 in
     record {
-      pieces = indexed input pieces;
-      answer = answered plan input pieces limit outcome stands weighs d5;
-      cut = cut;
+      behind = λ input given lines.
+          let is_front = mean-from_stands fields q front (one_piece input) (as_one fields q input given) in
+          record {
+            pieces = one_piece input ++ indexed_from 1 rest pieces;
+            stands = stands fields q (one_piece input) 1 rest pieces partial (omega (arith, few))
+                (whole.0 ∙ ap (λ m. both m (total (mean fields q []) both (mean_from fields q 1 rest pieces) (length pieces))) is_front);
+            cut = cut-behind input rest pieces lines cut;
+          };
     }
-
--- how many lines the pieces have
-abbrev pub loads_of : Plan → List ℕ → List Piece → ℕ → ℕ
-loads_of plan input pieces n = sum_below (λ i. (mean_at (fields_of_plan plan) (form_of_plan plan) input pieces i).lines) n
 
 -- with some more they are few
 pub few-loads : (plan p : Plan) (input b : List ℕ) (pieces ps : List Piece) (n more : ℕ)
@@ -90,10 +117,6 @@ few-loads plan p input b pieces ps n more e f g h loads same short =
     let is = ap (λ (x : Plan). loads_of x b ps n) e ∙ ap (λ (x : List ℕ). loads_of plan x ps n) f ∙ ap (λ (x : List Piece). loads_of plan input x n) g
     ∙ ap (λ (x : ℕ). loads_of plan input pieces x) h ∙ loads (fields_of_plan plan) (form_of_plan plan) input pieces ∙ ap length same in
     omega (arith, is, length-lines input, short)
-
--- how many refused lines the pieces have
-abbrev pub weights_of : Plan → List ℕ → List Piece → ℕ → ℕ
-weights_of plan input pieces n = sum_below (λ i. (mean_at (fields_of_plan plan) (form_of_plan plan) input pieces i).refused) n
 
 pub weights-counted : (plan p : Plan) (input b : List ℕ) (pieces ps : List Piece) (n : ℕ)
     → p ≡ plan → b ≡ input → ps ≡ pieces → n ≡ length pieces → Weighs → all_lines (indexed input pieces) ≡ lines input
@@ -109,46 +132,3 @@ room-beside sum shares before loads short all = λ k d l. let most = all k d l i
 
 pub grown-by : {S : Type 0} (sum : S → ℕ) (shares : List S) (most more : ℕ) → most ≤ more → All (λ share. sum share ≤ most) shares → All (λ share. sum share ≤ more) shares
 grown-by sum shares most more few all = λ k d l. let at_most = all k d l in omega (arith, at_most, few)
-
--- ---- of an outcome
-
-few-faults : (rs : List (Result (List Datum) LineFault)) → length (filter_map result_err rs) ≤ length rs
-few-faults [] = omega arith
-few-faults (Ok r ∷ rs) = omega (arith, few-faults rs)
-few-faults (Err fault ∷ rs) = omega (arith, few-faults rs)
-
--- the lines of the pieces that a round is cut into are those of the round
-lines-cut : (pieces : List IndexedPiece) (round : List ℕ) → IsCutInto round pieces → all_lines pieces ≡ lines round
-lines-cut pieces round cut = cut-lines pieces cut.feeds ∙ ap lines cut.joined
-
--- without a limit it is never Over
-pub never-over : (fields : List Field) (q : TreeForm) (round : List ℕ) (before : ℕ) (outcome : Outcome Partial) → IsOutcome fields q round (limit_number None - before) outcome → outcome ≡ Over
-    → before + length round < 2 ^ 63 → ⊥
-never-over fields q round before outcome is over short =
-    let above = subst (IsAnswer fields q is.pieces (limit_number None - before)) over is.answer in
-    let count = length-within fields is.pieces in
-    let few = few-faults (map (taken fields) (all_lines is.pieces)) in
-    let long = length-map (all_lines is.pieces) (taken fields) in
-    let same = ap length (lines-cut is.pieces round is.cut) in
-    omega (arith, above, count, few, long, same, length-lines round, short)
-
-pub whole-from : (fields : List Field) (q : TreeForm) (round : List ℕ) (limit : ℕ) (outcome : Outcome Partial) (partial : Partial) → outcome ≡ Whole partial
-    → IsOutcome fields q round limit outcome → StandsForInput fields q partial round
-whole-from fields q round limit outcome partial e is = record {
-  pieces = is.pieces;
-  stands = (subst (IsAnswer fields q is.pieces limit) e is.answer).0;
-  cut = is.cut;
-}
-
-pub within-from : (fields : List Field) (q : TreeForm) (round : List ℕ) (limit before : ℕ) (outcome : Outcome Partial) (partial : Partial) (state : PartialState) → state.refused ≡ length (refused fields round)
-    → outcome ≡ Whole partial → before ≤ limit → IsOutcome fields q round (limit - before) outcome → before + state.refused ≤ limit
-within-from fields q round limit before outcome partial state count e within is =
-    let few = (subst (IsAnswer fields q is.pieces (limit - before)) e is.answer).1 in
-    omega (arith, few, within, count, refused-counted fields is.pieces round (lines-cut is.pieces round is.cut))
-
-pub refuses-from : (fields : List Field) (q : TreeForm) (round : List ℕ) (limit : Option ℕ) (before most : ℕ) (outcome : Outcome Partial) → outcome ≡ Over → limit ≡ Some most → before ≤ limit_number limit
-    → IsOutcome fields q round (limit_number limit - before) outcome → Refuses (TooManyRefused most) limit (before + length (refused fields round))
-refuses-from fields q round limit before most outcome e is_limit within is =
-    let above = subst (IsAnswer fields q is.pieces (limit_number limit - before)) e is.answer in
-    let number = ap limit_number is_limit in
-    (is_limit, omega (arith, above, number, within, refused-counted fields is.pieces round (lines-cut is.pieces round is.cut)))

@@ -1,6 +1,6 @@
 -- The number of lines of an input, and of refused ones.
 use Rattle.std.proofs.Common.{◌≡◌, ◌∙◌, ◌==◌, ◌+◌, ◌≤◌, ◌<◌, ℕ, suc, Bool, true, false, cond, List, [], ◌∷◌, ◌++◌, length, map, filter_map, option_map, Result, Ok, Err, refl, sym, ap, arith}
-use Rattle.std.proofs.lemmas.List.{length-append, map-append}
+use Rattle.std.proofs.lemmas.List.{length-append, length-map, map-append}
 use Rattle.std.proofs.lemmas.List.Elements.{filter_map-append}
 use Rattle.std.proofs.lemmas.List.Splits.{length-slice_split}
 use Rattle.std.specs.List.{enumerate_from, onto_first, slice_split}
@@ -79,6 +79,16 @@ pub refused-counted : (fields : List Field) (pieces : List IndexedPiece) (input 
     → length (refused_within fields pieces) ≡ length (refused fields input)
 refused-counted fields pieces input same =
     length-within fields pieces ∙ ap (λ ls. length (faults_of fields ls)) same ∙ sym (length-refused fields input)
+
+few-faults : (rs : List (Result (List Datum) LineFault)) → length (filter_map result_err rs) ≤ length rs
+few-faults [] = omega arith
+few-faults (Ok r ∷ rs) = omega (arith, few-faults rs)
+few-faults (Err fault ∷ rs) = omega (arith, few-faults rs)
+
+-- an input has at most as many refused lines as bytes
+pub few-refused : (fields : List Field) (input : List ℕ) → length (refused fields input) ≤ length input
+few-refused fields input =
+    omega (arith, length-refused fields input, few-faults (map (taken fields) (lines input)), length-map (lines input) (taken fields), length-lines input)
 
 -- ---- the numbers of a result over an input
 

@@ -1,5 +1,5 @@
--- The pieces of a round that is cut, and the result over the rounds so far. Private calls alone speak of them.
-use Rattle.std.specs.Prelude.{◌≡◌, ◌⊎◌, ◌<◌, ◌≤◌, ◌+◌, ◌-◌, ◌*◌, Bool, true, false, if◌then◌else◌, ℕ, All, List, Ok, Option, length, option_map, vec_len}
+-- The result over the rounds so far, and over a round behind them. Private calls alone speak of it.
+use Rattle.std.specs.Prelude.{◌≡◌, ◌⊎◌, ◌<◌, ◌≤◌, ◌+◌, ◌-◌, ◌*◌, ◌++◌, Bool, true, false, if◌then◌else◌, ℕ, All, List, Ok, Option, length, option_map, vec_len}
 use Rattle.std.specs.Io.KnownBytes.{Consumes}
 use Rattle.std.specs.declared.alloc.Global.{Global}
 use Rattle.std.specs.declared.vec.Vec.{Vec}
@@ -12,20 +12,17 @@ use Rattle.pool.specs.declared.laws.Outcome.TheVariants.{Whole, Over}
 use Rattle.gathering.specs.Gathered.{IsWhole}
 use Rattle.query_tree.specs.Syntax.{TreeForm}
 use Rattle.tables.specs.declared.partial.Partial.{Partial}
-use Rattle.tables.specs.Partials.{StandsFor, StandsForInput}
-use Rattle.tables.specs.Pieces.{IndexedPiece, IsCutInto, refused_within}
+use Rattle.tables.specs.Partials.{StandsForInput}
 use Rattle.tables.specs.States.{PartialState}
 
--- a pool's answer over pieces under a limit: a result that stands for them, where not more lines are refused than the limit; Over, where more are
-abbrev pub IsAnswer : List Field → TreeForm → List IndexedPiece → ℕ → Outcome Partial → Type 0
-IsAnswer fields q pieces limit (Whole partial) = StandsFor fields q partial pieces × (length (refused_within fields pieces) ≤ limit)
-IsAnswer fields q pieces limit Over = limit < length (refused_within fields pieces)
+-- a pool's answer over parts that weigh so much under a limit: a result where that is not more than the limit, and Over where it is more
+abbrev pub IsUnder : ℕ → ℕ → Outcome Partial → Type 0
+IsUnder count limit (Whole partial) = count ≤ limit
+IsUnder count limit Over = limit < count
 
--- the answer is one over pieces that the round is cut into
-pub record IsOutcome (fields : List Field) (q : TreeForm) (round : List ℕ) (limit : ℕ) (outcome : Outcome Partial) : Type 0 where
-  pub pieces : List IndexedPiece
-  pub answer : IsAnswer fields q pieces limit outcome
-  pub cut : IsCutInto round pieces
+-- a result stands for whatever another one stands for, where that is whole lines, with the rest behind it
+pub record StandsBehind (fields : List Field) (q : TreeForm) (before : PartialState) (rest : List ℕ) (partial : PartialState) : Type 0 where
+  pub behind : (front : List ℕ) → StandsForInput fields q before front → AreWholeLines front → StandsForInput fields q partial (front ++ rest)
 
 -- Between two rounds the partial result stands for the bytes of all rounds so far. Where it is known what the reader gives, these and what is left make up
 -- that, trimmed. They are counted; they are whole lines, unless the last round was given; and not more of their lines are refused than the limit.

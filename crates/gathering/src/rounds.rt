@@ -3,10 +3,11 @@ ghost use Rattle.std.specs.Prelude.{◌≡◌, ◌≢◌, ◌+◌, ◌<◌, ◌�
 ghost use Rattle.query_plan.specs.Planned.{fields_of_plan, form_of_plan};
 ghost use Rattle.lines.specs.Rounds.{HasMoved};
 ghost use Rattle.lines.specs.Input.{refused};
+ghost use Rattle.lines.specs.Pieces.{AreWholeLines};
 ghost use Rattle.tables.specs.Partials.{StandsForInput};
 ghost use Rattle.gathering.specs.Gathered.{IsWhole, limit_number};
 ghost use Rattle.gathering.specs.Faults.{IsWant, Refuses, Stops};
-ghost use Rattle.gathering.specs.Pieces.{IsAhead, most_turns};
+ghost use Rattle.gathering.specs.Pieces.{IsAhead, StandsBehind, most_turns};
 
 use crate::fault::GatherFault;
 use crate::working::{round_among, within_limit};
@@ -106,7 +107,7 @@ fn reading_ahead<L: Ledger + Send + Sync, R: Read + Drop + Send, H: Threads + Wa
     ensures fault { IfErr result (λ fault. Stops fault options.max_refused (fields_of_plan plan.now) (R.remaining reader)) }
 {
     let (book, shares) = Book::<L>::new(alloc, blank, options.workers())?;
-    let mut ahead = first_ahead(alloc, plan, options, reader, shares)?;
+    let mut ahead = first_ahead(rt, alloc, plan, options, reader, shares)?;
     while ahead.found {
         ahead = work_ahead(rt, alloc, plan, options, &book, ahead)?;
     }
@@ -130,7 +131,8 @@ struct Ahead<L: Ledger, R: Read + Drop> {
 }
 
 /// Reads the first round.
-fn first_ahead<L: Ledger, R: Read + Drop>(
+fn first_ahead<L: Ledger, R: Read + Drop, H: Threads + Sync>(
+    rt: &H,
     alloc: Global,
     plan: &Plan,
     options: Options,
@@ -145,7 +147,11 @@ fn first_ahead<L: Ledger, R: Read + Drop>(
 {
     let mut rounds = Rounds::new(alloc, reader, options.round())?;
     let spare = Round::new(alloc, options.round())?;
-    let whole = Partial::empty(alloc, plan)?;
+    let hands = Hands {
+        rt,
+        count: options.workers(),
+    };
+    let whole = Partial::empty_by(alloc, plan, &hands)?;
     let found = rounds.advance()?;
     Ok(Ahead {
         whole,
@@ -185,17 +191,11 @@ fn work_ahead<L: Ledger + Send + Sync, R: Read + Drop + Send, H: Threads + Wait 
         shares,
         ..
     } = ahead;
-    let before = whole.refused();
     let round = rounds.hand_out(spare);
     let Beside { read, kept, worked } = round_beside(
-        rt, alloc, plan, options, before, rounds, &round, book, shares,
+        rt, alloc, plan, options, whole, rounds, &round, book, shares,
     );
-    let (more, shares) = worked?;
-    let hands = Hands {
-        rt,
-        count: options.workers(),
-    };
-    let whole = whole.follow_by(&hands, more)?;
+    let (whole, shares) = worked?;
     let found = read?;
     Ok(Ahead {
         whole,
@@ -224,34 +224,34 @@ struct Beside<L: Ledger, R: Read + Drop> {
     read: Result<bool, ReadFault>,
     /// The input, read on.
     kept: Rounds<R>,
-    /// The result of the round, and the shares.
+    /// The result over the round and those before it, and the shares.
     worked: Result<(Partial, Vec<Share<L>>), GatherFault>,
 }
 
-/// Works on a round, and meanwhile reads the next one on a thread of its own, where the round may not be the last one.
-/// When the work is done, the next round ends early.
+/// Works on a round behind the rounds before it, as `round_among` does, and meanwhile reads the next one on a thread of its
+/// own, where the round may not be the last one. When the work is done, the next round ends early.
 fn round_beside<L: Ledger + Send + Sync, R: Read + Drop + Send, H: Threads + Wait + Sync>(
     rt: &H,
     alloc: Global,
     plan: &Plan,
     options: Options,
-    before: u64,
+    before: Partial,
     rounds: Rounds<R>,
     round: &Round,
     book: &Book<L>,
     shares: Vec<Share<L>>,
 ) -> Beside<L, R>
-    requires short { before + length round.now.bytes < 2 ^ 63 }
-    requires within { before ≤ limit_number options.max_refused }
+    requires front { (front : List ℕ) × StandsForInput (fields_of_plan plan.now) (form_of_plan plan.now) before front × AreWholeLines front }
+    requires short { before.lines + length round.now.bytes < 2 ^ 63 }
     requires hands { (1 ≤ vec_len shares) × (vec_len shares ≤ 64) }
-    requires reported { All (λ share. share.sum ≤ before) shares.items }
+    requires reported { All (λ share. share.sum ≤ before.refused) shares.items }
     ensures read { HasMoved rounds result.read result.kept }
-    ensures whole { IfOk result.worked (λ r. StandsForInput (fields_of_plan plan.now) (form_of_plan plan.now) r.0 round.now.bytes) }
-    ensures limit { IfOk result.worked (λ r. before + r.0.refused ≤ limit_number options.max_refused) }
+    ensures whole { IfOk result.worked (λ r. StandsBehind (fields_of_plan plan.now) (form_of_plan plan.now) before round.now.bytes r.0) }
+    ensures limit { IfOk result.worked (λ r. r.0.refused ≤ limit_number options.max_refused) }
     ensures hands { IfOk result.worked (λ r. vec_len r.1 ≡ vec_len shares) }
-    ensures reported { IfOk result.worked (λ r. All (λ share. share.sum ≤ before + r.0.refused) r.1.items) }
+    ensures reported { IfOk result.worked (λ r. All (λ share. share.sum ≤ r.0.refused) r.1.items) }
     ensures fault { IfErr result.worked (λ fault. IsWant fault
-        ⊎ Refuses fault options.max_refused (before + length (refused (fields_of_plan plan.now) round.now.bytes))) }
+        ⊎ Refuses fault options.max_refused (before.refused + length (refused (fields_of_plan plan.now) round.now.bytes))) }
 {
     let done = AtomicBool::new(false);
     let waiter = &done;
@@ -273,10 +273,10 @@ fn round_beside<L: Ledger + Send + Sync, R: Read + Drop + Send, H: Threads + Wai
         rt,
         move || read_on(rounds, waiter),
         move || -> Result<(Partial, Vec<Share<L>>), GatherFault>
-            requires short { before + length round.now.bytes < 2 ^ 63 }
-            requires within { before ≤ limit_number options.max_refused }
+            requires front { (front : List ℕ) × StandsForInput (fields_of_plan plan.now) (form_of_plan plan.now) before front × AreWholeLines front }
+            requires short { before.lines + length round.now.bytes < 2 ^ 63 }
             requires hands { (1 ≤ vec_len shares) × (vec_len shares ≤ 64) }
-            requires reported { All (λ share. share.sum ≤ before) shares.items }
+            requires reported { All (λ share. share.sum ≤ before.refused) shares.items }
         {
             let worked = round_among(
                 rt,

@@ -1,16 +1,18 @@
-//! The result of a query over one round of an input, by its pieces.
-ghost use Rattle.std.specs.Prelude.{◌≡◌, ◌+◌, ◌-◌, ◌<◌, ◌≤◌, ◌^◌, ◌⊎◌, All, IfErr, IfOk, OnOk, length, vec_len};
+//! The result of a query over one round of an input behind the rounds before it, by its pieces.
+ghost use Rattle.std.specs.Prelude.{◌≡◌, ◌+◌, ◌<◌, ◌≤◌, ◌^◌, ◌⊎◌, ℕ, All, IfErr, IfOk, List, OnOk, length, vec_len};
 ghost use Rattle.lines.specs.Input.{refused};
+ghost use Rattle.lines.specs.Pieces.{AreWholeLines};
+ghost use Rattle.pool.specs.declared.laws.Outcome.TheVariants as Outcome;
 ghost use Rattle.query_plan.specs.Planned.{fields_of_plan, form_of_plan};
 ghost use Rattle.tables.specs.Partials.{StandsForInput};
-ghost use Rattle.gathering.specs.Pieces.{IsOutcome};
+ghost use Rattle.gathering.specs.Pieces.{IsUnder, StandsBehind};
 ghost use Rattle.gathering.specs.Gathered.{limit_number};
 ghost use Rattle.gathering.specs.Faults.{IsWant, Refuses};
 
 use crate::cutting::pieces_of;
 use crate::fault::GatherFault;
 use command_line::Options;
-use pool::{Book, Outcome, Share, fan_deal};
+use pool::{Book, Outcome, Share, fan_deal_onto};
 use query_plan::Plan;
 use std::alloc::Global;
 use std::marker::{Send, Sync};
@@ -30,49 +32,53 @@ pub(crate) fn within_limit(options: Options, count: u64) -> Result<(), GatherFau
     }
 }
 
-/// The result of a query over a round, worked on in pieces by as many threads as there are shares, the calling one among
-/// them; and the shares. In the rounds before, `before` lines were refused, and no share has reported more.
+/// The result of a query over the rounds before and a round behind them, worked on in pieces by as many threads as there
+/// are shares, the calling one among them, which goes on with the result over the rounds before; and the shares. Those
+/// rounds are whole lines, and no share has reported more lines than were refused in them.
 pub(crate) fn round_among<L: Ledger + Send + Sync, H: Threads + Wait + Sync>(
     rt: &H,
     alloc: Global,
     plan: &Plan,
     options: Options,
-    before: u64,
+    before: Partial,
     round: &[u8],
     book: &Book<L>,
     shares: Vec<Share<L>>,
 ) -> Result<(Partial, Vec<Share<L>>), GatherFault>
-    requires short { before + length round.now < 2 ^ 63 }
-    requires within { before ≤ limit_number options.max_refused }
+    requires front { (front : List ℕ) × StandsForInput (fields_of_plan plan.now) (form_of_plan plan.now) before front × AreWholeLines front }
+    requires short { before.lines + length round.now < 2 ^ 63 }
     requires hands { (1 ≤ vec_len shares) × (vec_len shares ≤ 64) }
-    requires reported { All (λ share. share.sum ≤ before) shares.items }
-    ensures whole { IfOk result (λ r. StandsForInput (fields_of_plan plan.now) (form_of_plan plan.now) r.0 round.now) }
-    ensures limit { IfOk result (λ r. before + r.0.refused ≤ limit_number options.max_refused) }
+    requires reported { All (λ share. share.sum ≤ before.refused) shares.items }
+    ensures whole { IfOk result (λ r. StandsBehind (fields_of_plan plan.now) (form_of_plan plan.now) before round.now r.0) }
+    ensures limit { IfOk result (λ r. r.0.refused ≤ limit_number options.max_refused) }
     ensures hands { IfOk result (λ r. vec_len r.1 ≡ vec_len shares) }
-    ensures reported { IfOk result (λ r. All (λ share. share.sum ≤ before + r.0.refused) r.1.items) }
+    ensures reported { IfOk result (λ r. All (λ share. share.sum ≤ r.0.refused) r.1.items) }
     ensures fault { IfErr result (λ fault. IsWant fault
-        ⊎ Refuses fault options.max_refused (before + length (refused (fields_of_plan plan.now) round.now))) }
+        ⊎ Refuses fault options.max_refused (before.refused + length (refused (fields_of_plan plan.now) round.now))) }
 {
     let pieces = pieces_of(alloc, round, options.piece())?;
+    let front = before.in_one_piece()?;
     job_law();
     let hands = Hands {
         rt,
         count: shares.len(),
     };
-    let job = JobBy::new(Job::new(alloc, plan, round, pieces.as_slice()), &hands);
-    let stop = limit_of(options);
-    match fan_deal(
+    // The front is the piece of index 0.
+    let job = JobBy::new(Job::new(alloc, plan, round, pieces.as_slice()), &hands, 1);
+    let limit = limit_of(options);
+    match fan_deal_onto(
         rt,
         alloc,
         &job,
+        front,
         pieces.len() as u32,
-        stop - before,
+        limit,
         book,
-        stop as u128,
+        limit as u128,
         shares,
     ) {
         Ok((outcome, shares)) => {
-            let partial = decided(plan, options, before, round, outcome)?;
+            let partial = decided(options, outcome)?;
             Ok((partial, shares))
         }
         Err(fault) => Err(GatherFault::from(fault)),
@@ -86,20 +92,11 @@ fn limit_of(options: Options) -> u64
     options.max_refused().unwrap_or(u64::MAX)
 }
 
-/// The result over a round that a pool answers; Over is the fault that too many lines are refused.
-fn decided(
-    plan: &Plan,
-    options: Options,
-    before: u64,
-    round: &[u8],
-    outcome: Outcome<Partial>,
-) -> Result<Partial, GatherFault>
-    requires short { before + length round.now < 2 ^ 63 }
-    requires within { before ≤ limit_number options.max_refused }
-    requires outcome { IsOutcome (fields_of_plan plan.now) (form_of_plan plan.now) round.now (limit_number options.max_refused - before) outcome }
-    ensures whole { IfOk result (λ partial. StandsForInput (fields_of_plan plan.now) (form_of_plan plan.now) partial round.now) }
-    ensures limit { IfOk result (λ partial. before + partial.refused ≤ limit_number options.max_refused) }
-    ensures fault { IfErr result (λ fault. Refuses fault options.max_refused (before + length (refused (fields_of_plan plan.now) round.now))) }
+/// The result that a pool answers; Over is the fault that too many lines are refused.
+fn decided(options: Options, outcome: Outcome<Partial>) -> Result<Partial, GatherFault>
+    requires { (count : ℕ) × (count < 2 ^ 63) × IsUnder count (limit_number options.max_refused) outcome }
+    ensures whole { IfOk result (λ partial. outcome ≡ Outcome.Whole partial) }
+    ensures fault { (count : ℕ) → IsUnder count (limit_number options.max_refused) outcome → IfErr result (λ fault. Refuses fault options.max_refused count) }
 {
     match (outcome, options.max_refused()) {
         (Outcome::Whole(partial), _) => Ok(partial),

@@ -1,24 +1,26 @@
 -- A result over the front of an input and one over its rest, put together.
-use Rattle.std.proofs.Common.{◌≡◌, ◌+◌, ◌≤◌, ℕ, Bool, nat_le, Decides, List, [], ◌∷◌, ◌++◌, All, length, map, refl, sym, ap, subst, ◌∙◌, arith, append-nil, length-append}
+use Rattle.std.proofs.Common.{◌≡◌, ◌+◌, ◌<◌, ◌≤◌, ◌==◌, ℕ, zero, suc, Bool, true, false, cond, nat_le, Decides, List, [], ◌∷◌, ◌++◌, All, length, map, refl, sym, ap, subst, ◌∙◌, arith, append-nil, length-append}
 use Rattle.std.proofs.lemmas.Bool.Decides.{Decides-by_and, nat_tests}
 use Rattle.std.proofs.lemmas.List.{map-append, length-map}
 use Rattle.std.proofs.lemmas.List.Elements.{All-append, All-from_recursion, All-head, All-map, All-nil, All-same, All-tail, All-weaker, recursion_from_All}
 use Rattle.std.proofs.lemmas.List.Recursion.{is_sum_by}
 use Rattle.std.proofs.lemmas.List.Sums.{sum_by-cons}
-use Rattle.std.specs.List.{list_all}
+use Rattle.std.proofs.lemmas.List.Splits.{length-slice_split}
+use Rattle.std.specs.List.{list_all, onto_first, slice_split}
 use Rattle.values.specs.Schema.{Field}
 use Rattle.lines.specs.declared.fault.LineFault.{LineFault}
 use Rattle.lines.specs.Input.{good, refused}
-use Rattle.lines.specs.Lines.{lines}
+use Rattle.lines.specs.Lines.{line_feed, lines, without_empty_last}
 use Rattle.lines.specs.Pieces.{AreWholeLines}
 use Rattle.lines.proofs.Fronts.{good-whole_lines, lines-whole_lines, refused-whole_lines}
 use Rattle.groups.specs.Bags.{SameBag, weigh}
 use Rattle.tables.specs.declared.note.Note.{Note}
 use Rattle.tables.specs.Notes.{AreLinesBehind, AreLinesOf, IsWellNumbered, Noted, lines_noted, note_in, note_of, numbered_from}
-use Rattle.tables.specs.Partials.{whole_piece}
+use Rattle.tables.specs.Partials.{one_piece, whole_piece}
 use Rattle.tables.specs.Pieces.{IndexedPiece, IsCutInto, all_lines, records_of, refused_within}
 use Rattle.tables.proofs.Bags.{all-decided}
 use Rattle.tables.proofs.Cutting.{cut-lines, cut-records, cut-refused}
+use Rattle.tables.proofs.Merging.{no-notes, one-note}
 use Rattle.tables.proofs.Numbered.{lines-in_order}
 
 abbrev shift : ℕ → ℕ × LineFault → ℕ × LineFault
@@ -121,7 +123,7 @@ count-numbered fields before (p ∷ more) =
 count-refused : (fields : List Field) (input : List ℕ) (pieces : List IndexedPiece) → IsCutInto input pieces → length (refused_within fields pieces) ≡ length (refused fields input)
 count-refused fields input pieces c = sym (count-numbered fields 0 pieces) ∙ ap length (cut-refused fields input pieces c)
 
-refused-in_order : (fields : List Field) (input : List ℕ) (pieces : List IndexedPiece) (notes : List Noted) (found : List (ℕ × LineFault)) → IsCutInto input pieces
+pub refused-in_order : (fields : List Field) (input : List ℕ) (pieces : List IndexedPiece) (notes : List Noted) (found : List (ℕ × LineFault)) → IsCutInto input pieces
     → SameBag (map (note_of fields) pieces) notes → AreLinesOf notes found → found ≡ refused fields input
 refused-in_order fields input pieces notes found c same are = lines-in_order fields pieces notes found c.in_order same are ∙ cut-refused fields input pieces c
 
@@ -219,3 +221,53 @@ followed-note fields input notes note is first count found =
     let same : note_in note ≡ noted 0 (length (lines input)) (refused fields input) =
     ap (λ index. noted index note.lines note.refused.items) first ∙ ap (λ n. noted 0 n note.refused.items) count ∙ ap (noted 0 (length (lines input))) found in
     subst (λ (ns : List Noted). SameBag (map (note_of fields) (whole_piece input)) ns) (sym (ap (map note_in) is ∙ ap (λ n. n ∷ []) same)) (λ f. refl)
+
+-- ---- an input as one piece
+
+-- the records, the lines and the refused lines of an input as one piece are those of its pieces
+pub one-records : (fields : List Field) (input : List ℕ) (pieces : List IndexedPiece) → IsCutInto input pieces → records_of fields (one_piece input) ≡ records_of fields pieces
+one-records fields [] pieces c = sym (cut-records fields [] pieces c)
+one-records fields (byte ∷ bytes) pieces c = append-nil (good fields (byte ∷ bytes)) ∙ sym (cut-records fields (byte ∷ bytes) pieces c)
+
+pub one-lines : (input : List ℕ) (pieces : List IndexedPiece) → IsCutInto input pieces → length (all_lines (one_piece input)) ≡ length (all_lines pieces)
+one-lines [] pieces c = sym (count-lines [] pieces c)
+one-lines (byte ∷ bytes) pieces c = whole-lines (byte ∷ bytes) ∙ sym (count-lines (byte ∷ bytes) pieces c)
+
+pub one-refused : (fields : List Field) (input : List ℕ) (pieces : List IndexedPiece) → IsCutInto input pieces → length (refused_within fields (one_piece input)) ≡ length (refused_within fields pieces)
+one-refused fields [] pieces c = sym (count-refused fields [] pieces c)
+one-refused fields (byte ∷ bytes) pieces c = ap length (append-nil (refused fields (byte ∷ bytes))) ∙ sym (count-refused fields (byte ∷ bytes) pieces c)
+
+some-parts : (b : ℕ) (ends : Bool) (ps : List (List ℕ)) → 0 < length ps → 0 < length (without_empty_last (cond ends ([] ∷ ps) (onto_first b ps)))
+some-parts b ends [] h = absurd (omega (arith, h))
+some-parts b true (p ∷ ps) h = omega arith
+some-parts b false (p ∷ []) h = subst (λ (none : Bool). 0 < length (cond none [] ((b ∷ p) ∷ []))) (let e : false ≡ (length (b ∷ p) == 0) = grind (arith, nat_tests) in e) (omega arith)
+some-parts b false (p ∷ q ∷ ps) h = omega arith
+
+-- an input with a byte has a line
+some-line : (b : ℕ) (bytes : List ℕ) → 0 < length (lines (b ∷ bytes))
+some-line b bytes = some-parts b (b == line_feed) (slice_split (λ x. x == line_feed) bytes) (let n = length-slice_split (λ (x : ℕ). x == line_feed) bytes in omega (arith, n))
+
+-- the notes of an input as one piece: there is one where there is a line, and else none
+abbrev AreOneNote : ℕ → List (ℕ × LineFault) → List Note → Type 0
+AreOneNote count found notes =
+    (count ≡ 0 → notes ≡ []) × (0 < count → (note : Note) × (note.index ≡ 0) × (note.lines ≡ count) × (note.refused.items ≡ found) × (notes ≡ note ∷ []))
+
+pub one-noted : (fields : List Field) (input : List ℕ) (pieces : List IndexedPiece) (count : ℕ) (found : List (ℕ × LineFault)) (notes : List Note) → IsCutInto input pieces
+    → count ≡ length (all_lines pieces) → found ≡ refused fields input → AreOneNote count found notes → SameBag (map (note_of fields) (one_piece input)) (map note_in notes)
+one-noted fields [] pieces count found notes c counted same are =
+    let none = count-lines [] pieces c in
+    subst (λ (ns : List Note). SameBag [] (map note_in ns)) (sym (are.0 (omega (arith, counted, none)))) (λ f. refl)
+one-noted fields (b ∷ bytes) pieces count found notes c counted same are =
+    let some = some-line b bytes in
+    let all = count-lines (b ∷ bytes) pieces c in
+    let note = are.1 (omega (arith, some, all, counted)) in
+    followed-note fields (b ∷ bytes) notes note.0 note.4 note.1 (let n = note.2 in omega (arith, n, counted, all)) (note.3 ∙ same)
+
+pub one-sound : (count : ℕ) (found : List (ℕ × LineFault)) (notes : List Note) → All (λ line. line.0 ≤ count) found → AreOneNote count found notes
+    → (lines_noted (map note_in notes) ≡ count) × All IsWellNumbered (map note_in notes)
+one-sound zero found notes low are = no-notes notes (are.0 refl)
+one-sound (suc n) found notes low are =
+    let note = are.1 (omega arith) in
+    let well : IsWellNumbered (note_in note.0) = subst (λ ls. All (λ line. line.0 ≤ note.0.lines) ls) (sym note.3) (subst (λ m. All (λ line. line.0 ≤ m) found) (sym note.2) low) in
+    let one = one-note notes note.0 note.4 well in
+    (one.0 ∙ note.2, one.1)

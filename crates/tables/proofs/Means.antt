@@ -1,5 +1,5 @@
 -- A partial result stands for pieces where it means what they come to; and all pieces of an input.
-use Rattle.std.proofs.Common.{◌≡◌, ◌+◌, ◌<◌, ◌≤◌, ℕ, zero, suc, List, [], ◌∷◌, ◌++◌, length, take, refl, sym, ap, ◌∙◌, arith}
+use Rattle.std.proofs.Common.{◌≡◌, ◌+◌, ◌<◌, ◌≤◌, ◌^◌, min, ℕ, zero, suc, List, [], ◌∷◌, ◌++◌, length, take, refl, sym, ap, ◌∙◌, arith}
 use Rattle.std.proofs.lemmas.List.{get_or-map, length-map, take_all}
 use Rattle.std.proofs.lemmas.List.FromFn.{get_or-enumerate_from, length-enumerate_from}
 use Rattle.std.proofs.Math.Seq.{take-suc}
@@ -10,7 +10,7 @@ use Rattle.query_tree.specs.Syntax.{TreeForm}
 use Rattle.pool.specs.Totals as pool
 use Rattle.pool.proofs.Sums.{total_load, total_weight}
 use Rattle.tables.specs.Laws.{mean-append, means_lawful}
-use Rattle.tables.specs.Means.{IsMean, Mean, both, indexed, mean, mean_at, meaning, no_bytes, piece_at, with_index}
+use Rattle.tables.specs.Means.{IsMean, Mean, both, indexed, indexed_from, mean, mean_at, mean_from, meaning, no_bytes, piece_at, piece_from, with_index}
 use Rattle.tables.specs.Partials.{StandsFor}
 use Rattle.tables.specs.Pieces.{IndexedPiece, all_lines, refused_within}
 use Rattle.tables.specs.States.{PartialState}
@@ -50,36 +50,67 @@ mean-merged fields q a b merged stands x y =
     ∙ ap (λ m. both m (mean fields q y.0)) (sym x.1)
     ∙ ap (both (meaning a)) (sym y.1)
 
+-- ---- pieces by their numbers
+
+-- each next one stands behind those before it
+abbrev AreNumbered : (ℕ → IndexedPiece) → List IndexedPiece → Type 0
+AreNumbered piece pieces = (k : ℕ) → k < length pieces → take (suc k) pieces ≡ take k pieces ++ piece k ∷ []
+
+total-first : (fields : List Field) (q : TreeForm) (piece : ℕ → IndexedPiece) (pieces : List IndexedPiece) → AreNumbered piece pieces → (k : ℕ) → k ≤ length pieces
+    → pool.total (mean fields q []) both (λ i. mean fields q (piece i ∷ [])) k ≡ mean fields q (take k pieces)
+total-first fields q piece pieces numbered zero le = refl
+total-first fields q piece pieces numbered (suc k) le =
+    ap (λ m. both m (mean fields q (piece k ∷ []))) (total-first fields q piece pieces numbered k (omega (arith, le)))
+    ∙ sym (mean-append fields q (take k pieces) (piece k ∷ []))
+    ∙ ap (mean fields q) (sym (numbered k (omega (arith, le))))
+
+total-numbered : (fields : List Field) (q : TreeForm) (piece : ℕ → IndexedPiece) (pieces : List IndexedPiece) → AreNumbered piece pieces
+    → pool.total (mean fields q []) both (λ i. mean fields q (piece i ∷ [])) (length pieces) ≡ mean fields q pieces
+total-numbered fields q piece pieces numbered =
+    total-first fields q piece pieces numbered (length pieces) (omega arith) ∙ ap (mean fields q) (take_all (length pieces) pieces (omega arith))
+
 -- ---- all pieces of an input
 
 -- there are as many with their indexes
+length-from : (first : ℕ) (input : List ℕ) (pieces : List Piece) → length (indexed_from first input pieces) ≡ length pieces
+length-from first input pieces = length-map (enumerate_from first pieces) (with_index input) ∙ length-enumerate_from first pieces
+
 pub length-indexed : (input : List ℕ) (pieces : List Piece) → length (indexed input pieces) ≡ length pieces
-length-indexed input pieces = length-map (enumerate_from 0 pieces) (with_index input) ∙ length-enumerate_from 0 pieces
+length-indexed input pieces = length-from 0 input pieces
 
 -- the pieces up to one, and that one
-one-more : (input : List ℕ) (pieces : List Piece) (k : ℕ) → k < length pieces
-    → take (suc k) (indexed input pieces) ≡ take k (indexed input pieces) ++ piece_at input pieces k ∷ []
-one-more input pieces k lt =
-    take-suc (indexed input pieces) k (with_index input (0, no_bytes)) (omega (arith, lt, length-indexed input pieces))
-    ∙ ap (λ piece. take k (indexed input pieces) ++ piece ∷ [])
-    (get_or-map (with_index input) (enumerate_from 0 pieces) k (0, no_bytes) (with_index input (0, no_bytes)) (omega (arith, lt, length-enumerate_from 0 pieces))
-    ∙ ap (with_index input) (get_or-enumerate_from 0 pieces k (0, no_bytes) lt)
-    ∙ ap (λ n. with_index input (n, slice_index_or pieces k no_bytes)) (let e : 0 + k ≡ k = omega arith in e))
-
-total-first : (fields : List Field) (q : TreeForm) (input : List ℕ) (pieces : List Piece) (k : ℕ) → k ≤ length pieces
-    → pool.total (mean fields q []) both (mean_at fields q input pieces) k ≡ mean fields q (take k (indexed input pieces))
-total-first fields q input pieces zero le = refl
-total-first fields q input pieces (suc k) le =
-    ap (λ m. both m (mean_at fields q input pieces k)) (total-first fields q input pieces k (omega (arith, le)))
-    ∙ sym (mean-append fields q (take k (indexed input pieces)) (piece_at input pieces k ∷ []))
-    ∙ ap (mean fields q) (sym (one-more input pieces k (omega (arith, le))))
+one-more : (first : ℕ) (input : List ℕ) (pieces : List Piece) (k : ℕ) → k < length pieces
+    → take (suc k) (indexed_from first input pieces) ≡ take k (indexed_from first input pieces) ++ with_index input (first + k, slice_index_or pieces k no_bytes) ∷ []
+one-more first input pieces k lt =
+    take-suc (indexed_from first input pieces) k (with_index input (0, no_bytes)) (omega (arith, lt, length-from first input pieces))
+    ∙ ap (λ piece. take k (indexed_from first input pieces) ++ piece ∷ [])
+    (get_or-map (with_index input) (enumerate_from first pieces) k (0, no_bytes) (with_index input (0, no_bytes)) (omega (arith, lt, length-enumerate_from first pieces))
+    ∙ ap (with_index input) (get_or-enumerate_from first pieces k (0, no_bytes) lt))
 
 -- the total of all pieces is what they come to
 pub total-all : (fields : List Field) (q : TreeForm) (input : List ℕ) (pieces : List Piece)
     → pool.total (mean fields q []) both (mean_at fields q input pieces) (length pieces) ≡ mean fields q (indexed input pieces)
 total-all fields q input pieces =
-    total-first fields q input pieces (length pieces) (omega arith)
-    ∙ ap (mean fields q) (take_all (length pieces) (indexed input pieces) (omega (arith, length-indexed input pieces)))
+    ap (pool.total (mean fields q []) both (mean_at fields q input pieces)) (sym (length-indexed input pieces))
+    ∙ total-numbered fields q (piece_at input pieces) (indexed input pieces)
+    (λ k lt. one-more 0 input pieces k (omega (arith, lt, length-indexed input pieces))
+    ∙ ap (λ n. take k (indexed input pieces) ++ with_index input (n, slice_index_or pieces k no_bytes) ∷ []) (let e : 0 + k ≡ k = omega arith in e))
+
+-- and so with indexes from a first one on
+pub total-from : (fields : List Field) (q : TreeForm) (first : ℕ) (rest : List ℕ) (pieces : List Piece) → first + length pieces < 2 ^ 32
+    → pool.total (mean fields q []) both (mean_from fields q first rest pieces) (length pieces) ≡ mean fields q (indexed_from first rest pieces)
+total-from fields q first rest pieces few =
+    ap (pool.total (mean fields q []) both (mean_from fields q first rest pieces)) (sym (length-from first rest pieces))
+    ∙ total-numbered fields q (piece_from first rest pieces) (indexed_from first rest pieces)
+    (λ k lt. one-more first rest pieces k (omega (arith, lt, length-from first rest pieces))
+    ∙ ap (λ n. take k (indexed_from first rest pieces) ++ with_index rest (n, slice_index_or pieces k no_bytes) ∷ [])
+    (let e : first + k ≡ min (first + k) 4294967295 = omega (arith, lt, few, length-from first rest pieces) in e))
+
+-- what a front comes to, and behind it the pieces of the rest
+pub total-behind : (fields : List Field) (q : TreeForm) (front : List IndexedPiece) (first : ℕ) (rest : List ℕ) (pieces : List Piece) → first + length pieces < 2 ^ 32
+    → both (mean fields q front) (pool.total (mean fields q []) both (mean_from fields q first rest pieces) (length pieces)) ≡ mean fields q (front ++ indexed_from first rest pieces)
+total-behind fields q front first rest pieces few =
+    ap (both (mean fields q front)) (total-from fields q first rest pieces few) ∙ sym (mean-append fields q front (indexed_from first rest pieces))
 
 -- so are the numbers of refused lines and of lines, added up
 pub refused-all : (fields : List Field) (q : TreeForm) (input : List ℕ) (pieces : List Piece)

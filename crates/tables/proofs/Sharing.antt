@@ -48,4 +48,4 @@ job_field_sync κ = search (plan_sync, std.crosses, sendable) depth 60 fits 2000
 
 pub job_by_sync : (κ : NamedLft) (T : RattleType) (joiner : Joiner.Ghosts T.Denot) → IsSync T → IsSync (JobBy.the_row κ T joiner)
 job_by_sync κ T joiner s =
-    declared_sync (JobBy.the_type κ T joiner) (as_row_sync (Job.the_field κ) (job_field_sync κ), (as_row_sync (row_field (ShrRef κ.mir κ.lft T)) (search sendable depth 20), tt))
+    declared_sync (JobBy.the_type κ T joiner) (as_row_sync (Job.the_field κ) (job_field_sync κ), (as_row_sync (row_field (ShrRef κ.mir κ.lft T)) (search sendable depth 20), (search sendable depth 20, tt)))

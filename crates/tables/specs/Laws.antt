@@ -24,7 +24,7 @@ use Rattle.groups.proofs.Meaning.{has_key, group_at-append}
 use Rattle.groups.proofs.AnyOrder.{options-flip}
 use Rattle.pool.specs.Lawful.{Lawful}
 use Rattle.tables.specs.Functions.{aggregate_functions, filter_texts}
-use Rattle.tables.specs.Means.{IsMean, both, group_of, mean, mean_at, piece_at}
+use Rattle.tables.specs.Means.{IsMean, both, group_of, mean, mean_at, mean_from, piece_at, piece_from}
 use Rattle.tables.specs.Notes.{note_of}
 use Rattle.tables.specs.Pieces.{IndexedPiece, all_lines, records_of, refused_within}
 
@@ -107,11 +107,12 @@ few-refused fields (p ∷ pieces) =
     let b = length-append (lines p.bytes) (all_lines pieces) in
     omega (arith, more, here, many, a, b)
 
-pub means_lawful : (fields : List Field) (q : TreeForm) (input : List ℕ) (pieces : List Piece)
-    → Lawful (IsMean fields q) (mean fields q []) both (mean_at fields q input pieces) (λ m. m.refused) (λ m. m.lines)
-means_lawful fields q input pieces = record {
+-- whatever the pieces are, by their numbers
+pub pieces_lawful : (fields : List Field) (q : TreeForm) (piece : ℕ → IndexedPiece)
+    → Lawful (IsMean fields q) (mean fields q []) both (λ i. mean fields q (piece i ∷ [])) (λ m. m.refused) (λ m. m.lines)
+pieces_lawful fields q piece = record {
   unit_fits = ([], refl);
-  piece_fits = λ i. (piece_at input pieces i ∷ [], refl);
+  piece_fits = λ i. (piece i ∷ [], refl);
   combined_fits = λ a b x y. (x.0 ++ y.0, ap (λ m. both m b) x.1 ∙ ap (both (mean fields q x.0)) y.1 ∙ sym (mean-append fields q x.0 y.0));
   associative = λ a b c x y z. rw (x.1, y.1, z.1) (
       ap (λ m. both m (mean fields q z.0)) (sym (mean-append fields q x.0 y.0)) ∙ sym (mean-append fields q (x.0 ++ y.0) z.0)
@@ -125,3 +126,12 @@ means_lawful fields q input pieces = record {
   load_adds = λ a b x y. refl;
   weight_at_most_load = λ a x. rw (x.1) (few-refused fields x.0);
 }
+
+pub means_lawful : (fields : List Field) (q : TreeForm) (input : List ℕ) (pieces : List Piece)
+    → Lawful (IsMean fields q) (mean fields q []) both (mean_at fields q input pieces) (λ m. m.refused) (λ m. m.lines)
+means_lawful fields q input pieces = pieces_lawful fields q (piece_at input pieces)
+
+-- the pieces of the rest of an input
+pub means_lawful_from : (fields : List Field) (q : TreeForm) (first : ℕ) (rest : List ℕ) (pieces : List Piece)
+    → Lawful (IsMean fields q) (mean fields q []) both (mean_from fields q first rest pieces) (λ m. m.refused) (λ m. m.lines)
+means_lawful_from fields q first rest pieces = pieces_lawful fields q (piece_from first rest pieces)

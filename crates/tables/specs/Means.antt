@@ -1,5 +1,5 @@
 -- What a partial result means, whatever the order of its pieces, and what pieces come to.
-use Rattle.std.specs.Prelude.{◌≡◌, ℕ, ◌+◌, List, [], ◌∷◌, length, map, slice_index_or, Option, Some, None, if◌then◌else◌}
+use Rattle.std.specs.Prelude.{◌≡◌, ℕ, ◌+◌, min, List, [], ◌∷◌, length, map, slice_index_or, Option, Some, None, if◌then◌else◌}
 use Rattle.std.specs.FinMap as fin
 use Rattle.std.specs.List.{enumerate_from, list_any}
 use Rattle.values.specs.Schema.{Field}
@@ -89,6 +89,21 @@ piece_at input pieces index = with_index input (index, slice_index_or pieces ind
 -- what the piece with this index comes to
 abbrev pub mean_at : List Field → TreeForm → List ℕ → List Piece → ℕ → Mean
 mean_at fields q input pieces index = mean fields q (piece_at input pieces index ∷ [])
+
+-- ---- pieces of the rest of an input, whose indexes begin behind those of its front
+
+-- the pieces of the rest with their indexes, from `first` on
+abbrev pub indexed_from : ℕ → List ℕ → List Piece → List IndexedPiece
+indexed_from first rest pieces = map (with_index rest) (enumerate_from first pieces)
+
+-- the piece of the rest that comes so many behind the first one, which has the index `first`; past the last piece an empty one. No index is above the
+-- greatest number of 32 bits
+abbrev pub piece_from : ℕ → List ℕ → List Piece → ℕ → IndexedPiece
+piece_from first rest pieces place = with_index rest (min (first + place) 4294967295, slice_index_or pieces place no_bytes)
+
+-- what that piece comes to
+abbrev pub mean_from : List Field → TreeForm → ℕ → List ℕ → List Piece → ℕ → Mean
+mean_from fields q first rest pieces place = mean fields q (piece_from first rest pieces place ∷ [])
 
 -- ---- of a partial result
 

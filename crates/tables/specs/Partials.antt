@@ -40,6 +40,11 @@ pub record StandsForInput (fields : List Field) (q : TreeForm) (partial : Partia
 abbrev pub whole_piece : List ℕ → List IndexedPiece
 whole_piece input = record { index = 0; bytes = input } ∷ []
 
+-- the one piece that an input is, of index 0; an input without a byte is none
+abbrev pub one_piece : List ℕ → List IndexedPiece
+one_piece [] = []
+one_piece (byte ∷ bytes) = whole_piece (byte ∷ bytes)
+
 -- partial results have one shape where their grouping sets, set functions and filters are the same
 pub record HaveOneShape (partial other : PartialState) : Type 0 where
   pub sets : partial.sets ≡ other.sets

@@ -1,5 +1,5 @@
 //! The pieces of an input as a work for a pool.
-ghost use Rattle.std.specs.Prelude.{◌≡◌, ◌≤◌, ◌<◌, ◌^◌, All, length};
+ghost use Rattle.std.specs.Prelude.{◌≡◌, ◌≤◌, ◌<◌, ◌+◌, ◌^◌, min, All, length};
 ghost use Rattle.std.proofs.Props.{props};
 ghost use Rattle.tables.specs.Means.{piece_at};
 
@@ -116,33 +116,43 @@ impl<'a> Work for Job<'a> {
     }
 }
 
-/// A job whose results are merged by a joiner.
+/// A job whose results are merged by a joiner. Its pieces have indexes from a first one on, so that they can stand behind
+/// pieces that a result has already; no index is above the greatest number of 32 bits.
 ///
-/// Example: a pool makes of `JobBy::new(job, &Hands { rt: &rt, count: 4 })` what it makes of `job`.
+/// Example: a pool makes of `JobBy::new(job, &Hands { rt: &rt, count: 4 }, 0)` what it makes of `job`.
 #[derive(Drop)]
 pub struct JobBy<'a, J: Joiner> {
     job: Job<'a>,
     joiner: &'a J,
+    first: u32,
     ghost ready: { J.ready joiner.now } by { J.ready_once joiner.now },
 }
 
 impl<'a, J: Joiner> JobBy<'a, J> {
-    /// The job with this joiner, which can join. It takes no memory.
+    /// The job with this joiner, which can join, whose first piece has the index `first`. It takes no memory.
     ///
-    /// Example: `JobBy::new(job, &CallingThread)` is a work like `job`.
-    pub fn new(job: Job<'a>, joiner: &'a J) -> JobBy<'a, J>
+    /// Example: `JobBy::new(job, &CallingThread, 0)` is a work like `job`.
+    pub fn new(job: Job<'a>, joiner: &'a J, first: u32) -> JobBy<'a, J>
         requires ready { J.ready joiner.now }
         ensures job { result.job ≡ job.entry }
+        ensures first { result.first ≡ first }
     {
-        JobBy { job, joiner }
+        JobBy { job, joiner, first }
+    }
+
+    /// The index of the piece that comes so many behind the first one.
+    fn index(&self, place: u32) -> u32
+        ensures { result ≡ min (self.now.first + place) 4294967295 }
+    {
+        self.first.saturating_add(place)
     }
 }
 
 impl<'a, J: Joiner> Work for JobBy<'a, J> {
     ghost use Rattle.std.specs.Prelude.{[]};
     ghost use Rattle.query_plan.specs.Planned.{fields_of_plan, form_of_plan};
-    ghost use Rattle.tables.specs.Means.{IsMean, Mean, both, mean, mean_at, meaning};
-    ghost use Rattle.tables.specs.Laws.{means_lawful};
+    ghost use Rattle.tables.specs.Means.{IsMean, Mean, both, mean, mean_from, meaning};
+    ghost use Rattle.tables.specs.Laws.{means_lawful_from};
 
     type Part = Partial;
 
@@ -154,7 +164,7 @@ impl<'a, J: Joiner> Work for JobBy<'a, J> {
 
     ghost unit_meaning = { λ it. mean (fields_of_plan it.job.plan.now) (form_of_plan it.job.plan.now) [] };
 
-    ghost piece_meaning = { λ it i. mean_at (fields_of_plan it.job.plan.now) (form_of_plan it.job.plan.now) it.job.input.now it.job.pieces.now i };
+    ghost piece_meaning = { λ it i. mean_from (fields_of_plan it.job.plan.now) (form_of_plan it.job.plan.now) it.first it.job.input.now it.job.pieces.now i };
 
     ghost combined = { λ it a b. both a b };
 
@@ -162,14 +172,19 @@ impl<'a, J: Joiner> Work for JobBy<'a, J> {
 
     ghost load_of = { λ it m. m.lines };
 
-    ghost lawful = { λ it. means_lawful (fields_of_plan it.job.plan.now) (form_of_plan it.job.plan.now) it.job.input.now it.job.pieces.now };
+    ghost lawful = { λ it. means_lawful_from (fields_of_plan it.job.plan.now) (form_of_plan it.job.plan.now) it.first it.job.input.now it.job.pieces.now };
 
     fn unit(&self) -> Result<Partial, AllocError> {
         Partial::empty_by(self.job.alloc, self.job.plan, self.joiner)
     }
 
     fn piece(&self, i: u32) -> Result<Partial, AllocError> {
-        self.job.piece(i)
+        Partial::fold_piece(
+            self.job.alloc,
+            self.job.plan,
+            self.index(i),
+            self.job.bytes(i),
+        )
     }
 
     fn combine(&self, a: Partial, b: Partial) -> Result<Partial, AllocError> {
@@ -177,7 +192,7 @@ impl<'a, J: Joiner> Work for JobBy<'a, J> {
     }
 
     fn add(&self, part: Partial, i: u32) -> Result<Partial, AllocError> {
-        self.job.add(part, i)
+        part.fold_onto(self.job.plan, self.index(i), self.job.bytes(i))
     }
 
     fn weight(&self, p: &Partial) -> u64 {

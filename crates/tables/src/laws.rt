@@ -1,5 +1,5 @@
 //! Laws of partial results and of groups, with no work to do.
-ghost use Rattle.std.specs.Prelude.{◌≡◌, ◌↔◌, ℕ, [], List, length};
+ghost use Rattle.std.specs.Prelude.{◌≡◌, ◌↔◌, ◌+◌, ◌<◌, ◌^◌, ◌++◌, ℕ, [], List, length};
 ghost use Rattle.values.specs.Schema.{Field};
 ghost use Rattle.lines.specs.declared.pieces.Piece.{Piece};
 ghost use Rattle.query_tree.specs.Syntax.{TreeForm};
@@ -10,7 +10,7 @@ ghost use Rattle.tables.specs.declared.grouped.Groups.{Groups};
 ghost use Rattle.tables.specs.declared.partial.Partial.{Partial};
 ghost use Rattle.tables.specs.Members.{HasEachRecordOnce};
 ghost use Rattle.tables.specs.Partials.{GivesGroups, StandsFor};
-ghost use Rattle.tables.specs.Means.{both, indexed, mean, mean_at, meaning};
+ghost use Rattle.tables.specs.Means.{both, indexed, indexed_from, mean, mean_at, mean_from, meaning};
 ghost use Rattle.tables.specs.Pieces.{IndexedPiece, all_lines, refused_within};
 
 /// A law, with no work to do: a result stands for the same pieces in any other order.
@@ -40,6 +40,11 @@ pub fn job_law()
     ensures whole { (fields : List Field) (q : TreeForm) (input : List ℕ) (pieces : List Piece) (partial : Partial)
         → meaning partial ≡ total (mean fields q []) both (mean_at fields q input pieces) (length pieces)
         → StandsFor fields q partial (indexed input pieces) }
+    // So does what a front comes to, and behind it the pieces of the rest, with indexes from a first one on.
+    ensures behind { (fields : List Field) (q : TreeForm) (front : List IndexedPiece) (first : ℕ) (rest : List ℕ) (pieces : List Piece) (partial : Partial)
+        → first + length pieces < 2 ^ 32
+        → meaning partial ≡ both (mean fields q front) (total (mean fields q []) both (mean_from fields q first rest pieces) (length pieces))
+        → StandsFor fields q partial (front ++ indexed_from first rest pieces) }
     ensures refused { (fields : List Field) (q : TreeForm) (input : List ℕ) (pieces : List Piece)
         → sum_below (λ i. (mean_at fields q input pieces i).refused) (length pieces) ≡ length (refused_within fields (indexed input pieces)) }
     ensures lines { (fields : List Field) (q : TreeForm) (input : List ℕ) (pieces : List Piece)

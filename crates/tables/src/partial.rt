@@ -1,5 +1,6 @@
 //! Partial results: what is known of some pieces of an input.
 ghost use Rattle.std.specs.Prelude.{◌≡◌, ◌<◌, ◌≤◌, ◌^◌, ◌∷◌, [], All, IfOk, length};
+ghost use Rattle.tables.specs.declared.note.Note.{Note};
 ghost use Rattle.std.proofs.Props.{props};
 ghost use Rattle.tables.specs.Notes.{IsWellNumbered, lines_noted, notes_in};
 ghost use Rattle.groups.specs.Inside.Table.{AreGroupsWithin};
@@ -13,6 +14,7 @@ use crate::numbering::{number, number_behind, put_behind};
 use crate::rows::rows_of;
 use crate::shape::Shape;
 use groups::{Group, Table, roll_law};
+use lines::LineFault;
 use query_plan::Plan;
 use std::alloc::{AllocError, Global};
 use std::marker::Model;
@@ -65,7 +67,7 @@ impl Partial {
     ghost use Rattle.groups.specs.Groups.{Key};
     ghost use Rattle.groups.specs.Rows.{Row};
     ghost use Rattle.query_plan.specs.Planned.{fields_of_plan, form_of_plan};
-    ghost use Rattle.tables.specs.Partials.{HaveOneShape, IsPartialOf, StandsFor, StandsForInput, whole_piece};
+    ghost use Rattle.tables.specs.Partials.{HaveOneShape, IsPartialOf, StandsFor, StandsForInput, one_piece, whole_piece};
     ghost use Rattle.tables.specs.Planned.{AreFittingUnder, AreGroupingColumns, GivesGroupsOfSet, GivesGroupsUnder, HasEachRecordOnceUnder, HasMembersOfFiner, IsPartialUnder, IsResultUnder, StandsForUnder};
     ghost use Rattle.tables.specs.Pieces.{AreInOrder, AreNumbered, HaveOwnIndexes, IndexedPiece, IsCutInto, all_lines, records_of, refused_numbered, refused_within};
 
@@ -406,6 +408,42 @@ impl Partial {
         })
     }
 
+    /// The result over the same input as one piece, of index 0, or over no piece where it has no line. Which pieces it was
+    /// cut into is forgotten, so that pieces behind it can have the indexes from 1 on.
+    ///
+    /// Example: of a result over the pieces 0 and 1 of an input, `partial.in_one_piece()?` has as many lines, and merged
+    /// with that over a piece of index 1 whose first line is refused, it has that line numbered behind all of these.
+    ///
+    /// # Errors
+    ///
+    /// `AllocError` where there is no memory for it; what was there is given up then.
+    pub fn in_one_piece(self) -> Result<Partial, AllocError>
+        ensures stands { IfOk result (λ partial. (fields : List Field) (q : TreeForm) (input : List ℕ)
+            → StandsForInput fields q self input → StandsFor fields q partial (one_piece input)) }
+        ensures shape { IfOk result (HaveOneShape self) }
+        ensures lines { IfOk result (λ partial. partial.lines ≡ self.lines) }
+        ensures refused { IfOk result (λ partial. partial.refused ≡ self.refused) }
+    {
+        let Partial {
+            alloc,
+            shape,
+            table,
+            lines,
+            refused,
+            notes,
+        } = self;
+        let numbered = number(alloc, notes)?;
+        let notes = note_if_any(alloc, lines, numbered)?;
+        Ok(Partial {
+            alloc,
+            shape,
+            table,
+            lines,
+            refused,
+            notes,
+        })
+    }
+
     /// The groups and the refused lines of the pieces. For each grouping set of the plan, and each key of the good
     /// records that WHERE keeps, there is one group, with the number of its members and the value of each set function
     /// (ISO/IEC 9075-2, `<group by clause>`); the empty set has its one group also over no records. Where no two pieces
@@ -515,4 +553,26 @@ fn one_note(alloc: Global, note: Note) -> Result<Vec<Note>, AllocError>
     let mut notes = Vec::with_capacity(alloc, 1)?;
     notes.push(note)?;
     Ok(notes)
+}
+
+/// The notes of an input of so many lines as one piece, by its refused lines; of no line there is no note.
+fn note_if_any(
+    alloc: Global,
+    lines: u64,
+    refused: Vec<(u64, LineFault)>,
+) -> Result<Vec<Note>, AllocError>
+    ensures none { lines ≡ 0 → IfOk result (λ notes. notes.items ≡ []) }
+    ensures some { 0 < lines → IfOk result (λ notes. (note : Note) × (note.index ≡ 0) × (note.lines ≡ lines) × (note.refused.items ≡ refused.items) × (notes.items ≡ note ∷ [])) }
+{
+    if lines == 0 {
+        return Ok(Vec::new(alloc));
+    }
+    one_note(
+        alloc,
+        Note {
+            index: 0,
+            lines,
+            refused,
+        },
+    )
 }

@@ -5,7 +5,7 @@ use Rattle.lines.specs.Rounds.{RoundsState}
 use Rattle.tables.specs.Partials.{StandsFor, whole_piece}
 use Rattle.gathering.specs.Gathered.{limit_number}
 use Rattle.gathering.specs.Faults.{Refuses, Stops}
-use Rattle.gathering.proofs.Gathered.{Behind, few-behind, next-behind, no-round, refused-behind, round-stops}
+use Rattle.gathering.proofs.Gathered.{behind-as_one, few-behind, next-behind, no-round, refused-behind, round-stops}
 use Rattle.gathering.proofs.rounds.gather_alone.Goals as goal
 
 pub loop-whole-init : goal.loop-whole-init
@@ -29,8 +29,8 @@ loop-whole-preserved g c =
     let fields = fields_of_plan c.args.plan.now in
     let q = form_of_plan c.args.plan.now in
     let sum = c.in_ok-whole-2.whole in
-    let behind : Behind fields q c.loop-whole.whole c.advance.new.self.round sum = λ front given whole.
-    subst (λ (bytes : List ℕ). StandsFor fields q sum (whole_piece (front ++ bytes))) c.round-in-loop-whole.ensures (c.in_ok-whole-2.ensures.stands front given whole) in
+    let behind = behind-as_one fields q c.loop-whole.whole sum c.advance.new.self.round (λ front given whole.
+    subst (λ (bytes : List ℕ). StandsFor fields q sum (whole_piece (front ++ bytes))) c.round-in-loop-whole.ensures (c.in_ok-whole-2.ensures.stands front given whole)) in
     let count = c.refused.ensures.refused in
     let within = c.in_ok-within_limit.ensures.within in
     let rounds = next-behind fields q (g.R.Read.remaining c.args.reader) (limit_number c.args.options.max_refused)
@@ -45,8 +45,8 @@ returns-in_err-within_limit-clause-fault g c =
     let most = c.args.options.max_refused in
     let sum = c.in_ok-whole-2.whole in
     let fault = c.in_err-within_limit.field-0.0 in
-    let behind : Behind fields q c.loop-whole.whole c.advance.new.self.round sum = λ front given whole.
-    subst (λ (bytes : List ℕ). StandsFor fields q sum (whole_piece (front ++ bytes))) c.round-in-loop-whole.ensures (c.in_ok-whole-2.ensures.stands front given whole) in
+    let behind = behind-as_one fields q c.loop-whole.whole sum c.advance.new.self.round (λ front given whole.
+    subst (λ (bytes : List ℕ). StandsFor fields q sum (whole_piece (front ++ bytes))) c.round-in-loop-whole.ensures (c.in_ok-whole-2.ensures.stands front given whole)) in
     let count = refused-behind fields q known (limit_number most) c.loop-whole.rounds c.advance.new.self _ c.loop-whole.whole sum c.loop-whole.invariant c.in_ok-advance.ensures (ap Ok c.if-branch.true) behind in
     let stops : Stops fault most fields known =
     round-stops fields q known (limit_number most) most c.loop-whole.rounds c.advance.new.self _ c.loop-whole.whole c.loop-whole.whole.refused c.advance.new.self.round fault

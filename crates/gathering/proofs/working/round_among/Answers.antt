@@ -1,62 +1,140 @@
-use Rattle.std.proofs.Common.{◌≡◌, ◌∙◌, length, sym, subst, arith}
+use Rattle.std.proofs.Common.{◌≡◌, ◌∙◌, ◌+◌, inr, length, sym, ap, subst, arith}
+use Rattle.std.proofs.lemmas.Result.{err_from_is_err_and}
 use denote.Param.Send.{sendable}
+use Rattle.lines.specs.Input.{refused}
+use Rattle.query_plan.specs.declared.plan.Plan.{Plan}
 use Rattle.query_plan.specs.Planned.{fields_of_plan, form_of_plan}
-use Rattle.gathering.proofs.Pooled.{IsJobOf, few-loads, grown-by, outcome-of, room-beside, weights-counted}
+use Rattle.tables.specs.Means.{IsMean, meaning}
+use Rattle.tables.specs.Partials.{one_piece}
+use Rattle.tables.specs.States.{PartialState}
+use Rattle.tables.proofs.Means.{mean-from_stands}
 use Rattle.tables.proofs.Sharing.{hands_sync, job_by_sync}
-use Rattle.gathering.proofs.Tallies.{refused-of-input}
+use Rattle.gathering.proofs.Pooled.{IsJobOf, few-loads, grown-by, refused-whole, room-beside, stands-behind, under-of, under-same, weights-counted}
+use Rattle.gathering.proofs.Tallies.{few-refused}
 use Rattle.gathering.proofs.working.round_among.Goals as goal
 
-pub fan_deal-requires-sync-W : goal.fan_deal-requires-sync-W
-fan_deal-requires-sync-W g c κs within = search (job_by_sync, hands_sync, sendable) depth 20
+pub fan_deal_onto-requires-sync-W : goal.fan_deal_onto-requires-sync-W
+fan_deal_onto-requires-sync-W g c κs within = search (job_by_sync, hands_sync, sendable) depth 20
 
-pub fan_deal-requires-clause-loads : goal.fan_deal-requires-clause-loads
-fan_deal-requires-clause-loads g c =
+pub fan_deal_onto-requires-clause-part : goal.fan_deal_onto-requires-clause-part
+fan_deal_onto-requires-clause-part g c κs within =
+    let plan = c.args.plan.now in
+    let pieces = c.in_ok-pieces.pieces in
+    let front = c.in_ok-front.front in
+    let of = subst (IsJobOf plan c.args.round.now pieces.items) (sym c.new-job.ensures.job)
+    record { plan_is = c.new.ensures.plan; input_is = c.new.ensures.input; pieces_are = c.new.ensures.pieces ∙ c.as_slice.ensures.value } in
+    let x = c.requires.front in
+    let stands = c.in_ok-front.ensures.stands (fields_of_plan plan) (form_of_plan plan) x.0 x.1 in
+    subst (λ (p : Plan). IsMean (fields_of_plan p) (form_of_plan p) (meaning front)) (sym of.plan_is)
+    (one_piece x.0, mean-from_stands (fields_of_plan plan) (form_of_plan plan) front (one_piece x.0) stands)
+
+pub fan_deal_onto-requires-clause-loads : goal.fan_deal_onto-requires-clause-loads
+fan_deal_onto-requires-clause-loads g c κs within =
     let pieces = c.in_ok-pieces.pieces in
     let job = c.new-job.result.job in
     let of = subst (IsJobOf c.args.plan.now c.args.round.now pieces.items) (sym c.new-job.ensures.job)
     record { plan_is = c.new.ensures.plan; input_is = c.new.ensures.input; pieces_are = c.new.ensures.pieces ∙ c.as_slice.ensures.value } in
     let count : c.len-2.result ≡ length pieces.items = grind (arith, c.len-2.ensures, pieces.ok) in
-    λ κs lives. let few = few-loads c.args.plan.now job.plan.now c.args.round.now job.input.now pieces.items job.pieces.now c.len-2.result c.args.before
+    let few = few-loads c.args.plan.now job.plan.now c.args.round.now job.input.now pieces.items job.pieces.now c.len-2.result c.args.before.lines
     of.plan_is of.input_is of.pieces_are count
-    c.job_law.ensures.lines c.in_ok-pieces.ensures.lines c.requires.short in omega (arith, few)
+    c.job_law.ensures.lines c.in_ok-pieces.ensures.lines c.requires.short in
+    let same = c.in_ok-front.ensures.lines in
+    omega (arith, few, same)
 
-pub fan_deal-requires-clause-room : goal.fan_deal-requires-clause-room
-fan_deal-requires-clause-room g c =
+pub fan_deal_onto-requires-clause-room : goal.fan_deal_onto-requires-clause-room
+fan_deal_onto-requires-clause-room g c κs within =
     let pieces = c.in_ok-pieces.pieces in
     let job = c.new-job.result.job in
     let of = subst (IsJobOf c.args.plan.now c.args.round.now pieces.items) (sym c.new-job.ensures.job)
     record { plan_is = c.new.ensures.plan; input_is = c.new.ensures.input; pieces_are = c.new.ensures.pieces ∙ c.as_slice.ensures.value } in
     let count : c.len-2.result ≡ length pieces.items = grind (arith, c.len-2.ensures, pieces.ok) in
-    λ κs lives. room-beside (λ share. share.sum) c.args.shares.items c.args.before _
-    (few-loads c.args.plan.now job.plan.now c.args.round.now job.input.now pieces.items job.pieces.now c.len-2.result c.args.before
+    let v = c.before-2 in
+    let fewer = v.inside.fewer in
+    let refused = ap (λ (s : PartialState). s.refused) v.view_is in
+    let lines = ap (λ (s : PartialState). s.lines) v.view_is in
+    room-beside (λ share. share.sum) c.args.shares.items c.args.before.refused _
+    (few-loads c.args.plan.now job.plan.now c.args.round.now job.input.now pieces.items job.pieces.now c.len-2.result c.args.before.refused
     of.plan_is of.input_is of.pieces_are count
-    c.job_law.ensures.lines c.in_ok-pieces.ensures.lines c.requires.short)
+    c.job_law.ensures.lines c.in_ok-pieces.ensures.lines (let short = c.requires.short in omega (arith, fewer, refused, lines, short)))
     c.requires.reported
 
-pub decided-requires-clause-outcome : goal.decided-requires-clause-outcome
-decided-requires-clause-outcome g c =
+pub decided-requires : goal.decided-requires
+decided-requires g c =
+    let plan = c.args.plan.now in
+    let round = c.args.round.now in
     let pieces = c.in_ok-pieces.pieces in
+    let front = c.in_ok-front.front in
     let job = c.new-job.result.job in
-    let of = subst (IsJobOf c.args.plan.now c.args.round.now pieces.items) (sym c.new-job.ensures.job)
+    let first = c.new-job.result.first in
+    let n = c.len-2.result in
+    let of = subst (IsJobOf plan round pieces.items) (sym c.new-job.ensures.job)
     record { plan_is = c.new.ensures.plan; input_is = c.new.ensures.input; pieces_are = c.new.ensures.pieces ∙ c.as_slice.ensures.value } in
-    let count : c.len-2.result ≡ length pieces.items = grind (arith, c.len-2.ensures, pieces.ok) in
-    let stop = c.limit_of-stop.ensures in
-    outcome-of c.args.plan.now job.plan.now c.args.round.now job.input.now pieces.items job.pieces.now c.len-2.result _ _ c.in-Ok.outcome
-    of.plan_is of.input_is of.pieces_are count (omega (arith, stop))
-    c.job_law.ensures.whole c.job_law.ensures.refused c.in_ok-pieces.ensures.cut c.in-Ok.ensures.decided
+    let count : n ≡ length pieces.items = grind (arith, c.len-2.ensures, pieces.ok) in
+    let weights = weights-counted plan job.plan.now round job.input.now pieces.items job.pieces.now n
+    of.plan_is of.input_is of.pieces_are count c.job_law.ensures.refused c.in_ok-pieces.ensures.lines in
+    let same = c.in_ok-front.ensures.refused in
+    let all = c.args.before.refused + length (refused (fields_of_plan plan) round) in
+    let v = c.before-2 in
+    let fewer = v.inside.fewer in
+    let refused_is = ap (λ (s : PartialState). s.refused) v.view_is in
+    let lines_are = ap (λ (s : PartialState). s.lines) v.view_is in
+    let short = c.requires.short in
+    let few = few-refused (fields_of_plan plan) round in
+    let limit = c.limit_of-limit.ensures in
+    let under = under-of front job.plan.now first job.input.now job.pieces.now n _ all c.in-Ok.outcome (omega (arith, weights, same)) c.in-Ok.ensures.decided in
+    (all, omega (arith, fewer, refused_is, lines_are, short, few), under-same all _ _ c.in-Ok.outcome (omega (arith, limit)) under)
+
+pub returns-in_err-partial-in-Ok-clause-fault : goal.returns-in_err-partial-in-Ok-clause-fault
+returns-in_err-partial-in-Ok-clause-fault g c =
+    let plan = c.args.plan.now in
+    let round = c.args.round.now in
+    let pieces = c.in_ok-pieces.pieces in
+    let front = c.in_ok-front.front in
+    let job = c.new-job.result.job in
+    let first = c.new-job.result.first in
+    let n = c.len-2.result in
+    let of = subst (IsJobOf plan round pieces.items) (sym c.new-job.ensures.job)
+    record { plan_is = c.new.ensures.plan; input_is = c.new.ensures.input; pieces_are = c.new.ensures.pieces ∙ c.as_slice.ensures.value } in
+    let count : n ≡ length pieces.items = grind (arith, c.len-2.ensures, pieces.ok) in
+    let weights = weights-counted plan job.plan.now round job.input.now pieces.items job.pieces.now n
+    of.plan_is of.input_is of.pieces_are count c.job_law.ensures.refused c.in_ok-pieces.ensures.lines in
+    let same = c.in_ok-front.ensures.refused in
+    let all = c.args.before.refused + length (refused (fields_of_plan plan) round) in
+    let limit = c.limit_of-limit.ensures in
+    let under = under-of front job.plan.now first job.input.now job.pieces.now n _ all c.in-Ok.outcome (omega (arith, weights, same)) c.in-Ok.ensures.decided in
+    let p = err_from_is_err_and c.from_residual-in_err-partial-in-Ok.result c.from_residual-in_err-partial-in-Ok.ensures.1 in
+    rw (p.1, p.2) (inr (c.in_err-partial-in-Ok.ensures.fault all (under-same all _ _ c.in-Ok.outcome (omega (arith, limit)) under)))
+
+pub returns-in-Ok-clause-whole : goal.returns-in-Ok-clause-whole
+returns-in-Ok-clause-whole g c =
+    let plan = c.args.plan.now in
+    let round = c.args.round.now in
+    let pieces = c.in_ok-pieces.pieces in
+    let front = c.in_ok-front.front in
+    let job = c.new-job.result.job in
+    let first = c.new-job.result.first in
+    let n = c.len-2.result in
+    let of = subst (IsJobOf plan round pieces.items) (sym c.new-job.ensures.job)
+    record { plan_is = c.new.ensures.plan; input_is = c.new.ensures.input; pieces_are = c.new.ensures.pieces ∙ c.as_slice.ensures.value } in
+    let count : n ≡ length pieces.items = grind (arith, c.len-2.ensures, pieces.ok) in
+    stands-behind c.args.before front plan job.plan.now first round job.input.now pieces.items job.pieces.now n _ c.in-Ok.outcome c.in_ok-partial-in-Ok.partial
+    of.plan_is c.new-job.ensures.first of.input_is of.pieces_are count c.in_ok-pieces.ensures.few c.job_law.ensures.behind c.in_ok-pieces.ensures.cut c.in_ok-front.ensures.stands
+    c.in_ok-partial-in-Ok.ensures.whole c.in-Ok.ensures.decided
+
+pub returns-in-Ok-clause-limit : goal.returns-in-Ok-clause-limit
+returns-in-Ok-clause-limit g c =
+    let job = c.new-job.result.job in
+    let r = refused-whole c.in_ok-front.front job.plan.now c.new-job.result.first job.input.now job.pieces.now c.len-2.result _ c.in-Ok.outcome c.in_ok-partial-in-Ok.partial
+    c.in_ok-partial-in-Ok.ensures.whole c.in-Ok.ensures.decided in
+    let few = r.1 in
+    let limit = c.limit_of-limit.ensures in
+    omega (arith, few, limit)
 
 pub returns-in-Ok-clause-reported : goal.returns-in-Ok-clause-reported
 returns-in-Ok-clause-reported g c =
-    let plan = c.args.plan.now in
-    let fields = fields_of_plan plan in
-    let pieces = c.in_ok-pieces.pieces in
     let job = c.new-job.result.job in
-    let of = subst (IsJobOf c.args.plan.now c.args.round.now pieces.items) (sym c.new-job.ensures.job)
-    record { plan_is = c.new.ensures.plan; input_is = c.new.ensures.input; pieces_are = c.new.ensures.pieces ∙ c.as_slice.ensures.value } in
-    let partial = c.in_ok-partial-in-Ok.partial in
-    let count : c.len-2.result ≡ length pieces.items = grind (arith, c.len-2.ensures, pieces.ok) in
-    let weights = weights-counted plan job.plan.now c.args.round.now job.input.now pieces.items job.pieces.now c.len-2.result
-    of.plan_is of.input_is of.pieces_are count
-    c.job_law.ensures.refused c.in_ok-pieces.ensures.lines in
-    let refused = refused-of-input fields (form_of_plan plan) partial c.args.round.now c.in_ok-partial-in-Ok.ensures.whole in
-    grown-by (λ share. share.sum) c.in-Ok.shares.items _ _ (omega (arith, weights, refused)) (c.in-Ok.ensures.grown c.args.before c.requires.reported)
+    let r = refused-whole c.in_ok-front.front job.plan.now c.new-job.result.first job.input.now job.pieces.now c.len-2.result _ c.in-Ok.outcome c.in_ok-partial-in-Ok.partial
+    c.in_ok-partial-in-Ok.ensures.whole c.in-Ok.ensures.decided in
+    let count = r.0 in
+    let same = c.in_ok-front.ensures.refused in
+    grown-by (λ share. share.sum) c.in-Ok.shares.items _ _ (omega (arith, count, same)) (c.in-Ok.ensures.grown c.args.before.refused c.requires.reported)

@@ -1,10 +1,14 @@
-use Rattle.std.proofs.Common.{◌∙◌}
-use Rattle.tables.specs.Means.{indexed}
-use Rattle.tables.proofs.Means.{lines-all, refused-all, stands-from_mean, total-all}
+use Rattle.std.proofs.Common.{◌∙◌, ◌++◌}
+use Rattle.tables.specs.Means.{indexed, indexed_from}
+use Rattle.tables.proofs.Means.{lines-all, refused-all, stands-from_mean, total-all, total-behind}
 use Rattle.tables.proofs.laws.job_law.Goals as goal
 
 pub returns-clause-whole : goal.returns-clause-whole
 returns-clause-whole c = λ fields q input pieces partial e. stands-from_mean fields q partial (indexed input pieces) (e ∙ total-all fields q input pieces)
+
+pub returns-clause-behind : goal.returns-clause-behind
+returns-clause-behind c = λ fields q front first rest pieces partial few e.
+    stands-from_mean fields q partial (front ++ indexed_from first rest pieces) (e ∙ total-behind fields q front first rest pieces few)
 
 pub returns-clause-refused : goal.returns-clause-refused
 returns-clause-refused c = refused-all

@@ -1,0 +1,31 @@
+use Rattle.std.proofs.Common.{ℕ, ◌+◌, min, List, [], ◌∷◌, ◌++◌, ◌∙◌, ap, sym}
+use Rattle.std.proofs.lemmas.Result.{IfOk-weaker}
+use Rattle.query_plan.specs.Planned.{fields_of_plan, form_of_plan}
+use Rattle.tables.specs.Laws.{mean-append}
+use Rattle.tables.specs.Means.{both, mean, meaning}
+use Rattle.tables.specs.Pieces.{IndexedPiece}
+use Rattle.tables.proofs.Means.{mean-from_stands, stands-from_mean}
+use Rattle.tables.proofs.job.JobByWork.add.Goals as goal
+
+pub fold_onto-requires-clause-of_plan : goal.fold_onto-requires-clause-of_plan
+fold_onto-requires-clause-of_plan g c =
+    let fields = fields_of_plan c.args.self.now.job.plan.now in
+    let q = form_of_plan c.args.self.now.job.plan.now in
+    let x = c.requires.part in
+    ∣ (x.0, stands-from_mean fields q c.args.part x.0 x.1) ∣₁
+
+pub returns : goal.returns
+returns g c =
+    let fields = fields_of_plan c.args.self.now.job.plan.now in
+    let q = form_of_plan c.args.self.now.job.plan.now in
+    let x = c.requires.part in
+    let piece : ℕ → List ℕ → IndexedPiece = λ index bytes. record { index = index; bytes = bytes } in
+    let new = piece c.index.result c.bytes.result.now in
+    IfOk-weaker c.fold_onto.result _ _
+    (λ partial stands.
+    mean-from_stands fields q partial (x.0 ++ new ∷ []) (stands x.0 (stands-from_mean fields q c.args.part x.0 x.1))
+    ∙ mean-append fields q x.0 (new ∷ [])
+    ∙ ap (λ m. both m (mean fields q (new ∷ []))) (sym x.1)
+    ∙ ap (λ index. both (meaning c.args.part) (mean fields q (piece index c.bytes.result.now ∷ []))) c.index.ensures
+    ∙ ap (λ bytes. both (meaning c.args.part) (mean fields q (piece (min (c.args.self.now.first + c.args.i) 4294967295) bytes ∷ []))) c.bytes.ensures.bytes)
+    c.fold_onto.ensures.stands

@@ -1,0 +1,19 @@
+use Rattle.std.proofs.Common.{ℕ, ◌+◌, min, List, [], ◌∷◌, ◌∙◌, ap}
+use Rattle.std.proofs.lemmas.Result.{IfOk-weaker}
+use Rattle.query_plan.specs.Planned.{fields_of_plan, form_of_plan}
+use Rattle.tables.specs.Means.{mean}
+use Rattle.tables.specs.Pieces.{IndexedPiece}
+use Rattle.tables.proofs.Means.{mean-from_stands}
+use Rattle.tables.proofs.job.JobByWork.piece.Goals as goal
+
+pub returns : goal.returns
+returns g c =
+    let fields = fields_of_plan c.args.self.now.job.plan.now in
+    let q = form_of_plan c.args.self.now.job.plan.now in
+    let piece : ℕ → List ℕ → IndexedPiece = λ index bytes. record { index = index; bytes = bytes } in
+    IfOk-weaker c.fold_piece.result _ _
+    (λ partial stands.
+    mean-from_stands fields q partial (piece c.index.result c.bytes.result.now ∷ []) stands
+    ∙ ap (λ index. mean fields q (piece index c.bytes.result.now ∷ [])) c.index.ensures
+    ∙ ap (λ bytes. mean fields q (piece (min (c.args.self.now.first + c.args.i) 4294967295) bytes ∷ [])) c.bytes.ensures.bytes)
+    c.fold_piece.ensures.stands
