@@ -4,8 +4,8 @@ ghost use Rattle.pool.specs.Totals.{sum_below};
 ghost use Rattle.pool.specs.Settled.{AreAll};
 
 use pool::{
-    Book, Deal, Hand, Next, Outcome, PoolFault, Share, Work, alone, fan_deal, fan_on, fan_out,
-    settled,
+    Book, Deal, Hand, Next, Outcome, PoolFault, Share, Work, alone, fan_deal, fan_deal_onto,
+    fan_on, fan_out, settled,
 };
 use std::alloc::{AllocError, Global};
 use std::marker::{Brand, Send, Sync};
@@ -391,6 +391,22 @@ fn deal_in_turn<L: Ledger + Send + Sync, R: Threads + Wait + Sync>(
     Ok(right && sum == 200)
 }
 
+/// What `fan_deal_onto` makes of the part 5 and a hundred pieces of weight 1, and what the four shares then hold.
+fn onto_five<L: Ledger + Send + Sync, R: Threads + Wait + Sync>(
+    rt: &R,
+    alloc: Global,
+    limit: u64,
+    blank: Blank,
+) -> Result<(Outcome<u64>, u128), PoolFault>
+    requires { (blank.name ≡ L.name) × (blank.parts ≡ L.parts) × (L.parts ≡ 4) }
+{
+    let Ok((book, shares)) = Book::<L>::new(alloc, blank, 4) else {
+        return Err(PoolFault::OutOfMemory);
+    };
+    let (outcome, shares) = fan_deal_onto(rt, alloc, &Ones, 5, 100, limit, &book, 105, shares)?;
+    Ok((outcome, book.close(shares)))
+}
+
 /// Workers that stop after their first piece leave the others to the calling thread.
 #[test]
 fn hundred_pieces(rt: HostRuntime) -> Result<(), Fail> {
@@ -411,6 +427,16 @@ fn hundred_pieces(rt: HostRuntime) -> Result<(), Fail> {
     for third in [false, true] {
         let right = deal_in_turn::<Brand, HostRuntime>(&rt, rt.alloc(), third, Blank::new(4))?;
         assert!(rt; right);
+    }
+    for limit in [105, 104] {
+        let (outcome, sum) = onto_five::<Brand, HostRuntime>(
+            &rt,
+            rt.alloc(),
+            limit,
+            Blank::new(4),
+        )?;
+        assert!(rt; is_right(&outcome, 105, limit));
+        assert!(rt; limit < 105 || sum == 100);
     }
     Ok(())
 }
@@ -597,7 +623,7 @@ fn refusal_of_book(rt: HostRuntime) {
     }
 }
 
-/// The pieces are done by `alone` and by `fan_out`, and over one book by two deals.
+/// The pieces are done by `alone` and by `fan_out`, and over one book by two deals and by one onto a part.
 #[test]
 fn refusal_of_fan_out(rt: HostRuntime) {
     let numbers = Numbers { alloc: rt.alloc() };
@@ -612,6 +638,11 @@ fn refusal_of_fan_out(rt: HostRuntime) {
     }
     match deal_in_turn::<Brand, HostRuntime>(&rt, rt.alloc(), false, Blank::new(4)) {
         Ok(right) => assert!(rt; right),
+        Err(PoolFault::OutOfMemory) => {}
+        Err(PoolFault::ThreadNotStarted) => {}
+    }
+    match onto_five::<Brand, HostRuntime>(&rt, rt.alloc(), 105, Blank::new(4)) {
+        Ok((outcome, sum)) => assert!(rt; is_right(&outcome, 105, 105) && sum == 100),
         Err(PoolFault::OutOfMemory) => {}
         Err(PoolFault::ThreadNotStarted) => {}
     }

@@ -1,3 +1,4 @@
+mod Examples
 pub mod SetTables
 pub mod Telling
 pub mod Orders

@@ -176,6 +176,22 @@ fn folded_behind(
     whole.fold_behind(plan, rest)
 }
 
+/// The result over a front of whole lines as one piece, with the rest folded onto it as the next one.
+fn folded_onto_one_piece(
+    rt: &impl Abort,
+    alloc: Global,
+    plan: &Plan,
+    front: &[u8],
+    rest: &[u8],
+) -> Result<Partial, AllocError>
+    ensures { IfOk result (IsPartialOf (fields_of_plan plan.now) (form_of_plan plan.now)) }
+{
+    let whole = over(alloc, plan, front)?.in_one_piece()?;
+    assert!(rt; whole.lines() < 1 << 62);
+    assert!(rt; has_few_lines(rest));
+    whole.fold_onto(plan, 1, rest)
+}
+
 /// Asserts that a result is that of an input in two parts.
 fn assert_found(
     rt: &impl Abort,
@@ -194,8 +210,8 @@ fn assert_found(
     assert_groups(rt, alloc, &groups, wanted);
 }
 
-/// Asserts that the result over both parts of an input, one following the other or folded behind it, is what the result
-/// over all of it is.
+/// Asserts that the result over both parts of an input, one following the other, folded behind it or folded onto it, is
+/// what the result over all of it is.
 fn assert_followed<H: Abort + Threads + Sync>(rt: &H, alloc: Global, plan: &Plan, parted: &Parted) {
     let mut input = parted.front.to_vec(alloc).expect(rt, "memory");
     input.extend_from_slice(parted.rest).expect(rt, "memory");
@@ -210,6 +226,9 @@ fn assert_followed<H: Abort + Threads + Sync>(rt: &H, alloc: Global, plan: &Plan
     assert_found(rt, alloc, plan, by_hands, parted, &wanted);
     let folded = folded_behind(rt, alloc, plan, parted.front, parted.rest).expect(rt, "memory");
     assert_found(rt, alloc, plan, folded, parted, &wanted);
+    let onto = folded_onto_one_piece(rt, alloc, plan, parted.front, parted.rest);
+    let onto = onto.expect(rt, "memory");
+    assert_found(rt, alloc, plan, onto, parted, &wanted);
 }
 
 #[test]
@@ -258,12 +277,14 @@ fn refusal_of_follow_by(rt: HostRuntime) {
     }
 }
 
-/// The same of the rest folded behind the front.
+/// The same of the rest folded behind the front, and onto the front as one piece.
 #[test]
 fn refusal_of_fold_behind(rt: HostRuntime) {
     assert!(rt; are_whole_lines(IN_BOTH.front));
     if let Some(plan) = planned_or_refused(&rt, rt.alloc(), BY_D) {
         let both = folded_behind(&rt, rt.alloc(), &plan, IN_BOTH.front, IN_BOTH.rest);
+        assert_both_or_refused(&rt, &plan, both);
+        let both = folded_onto_one_piece(&rt, rt.alloc(), &plan, IN_BOTH.front, IN_BOTH.rest);
         assert_both_or_refused(&rt, &plan, both);
         drop(plan);
     }
