@@ -1,5 +1,6 @@
 //! The order of rows.
-ghost use Rattle.std.specs.Prelude.{◌≡◌, ◌<◌, All, IfOk, map};
+ghost use Rattle.std.specs.Prelude.{◌≡◌, ◌<◌, ◌++◌, All, IfOk, OnOk, map};
+ghost use Rattle.std.specs.List.{flat_map};
 ghost use Rattle.std.specs.List.Sorted.{IsPermutation, IsSortedBy};
 ghost use Rattle.std.specs.Ordering.{is_lt};
 ghost use Rattle.query_tree.specs.Syntax.{key_form};
@@ -7,12 +8,11 @@ ghost use Rattle.query_plan.specs.Planned.{fields_of_plan, form_of_plan};
 ghost use Rattle.tables.specs.Found.{row_of};
 ghost use Rattle.tables.specs.Planned.{AreFittingUnder};
 ghost use Rattle.report.specs.Order.{before, in_order};
-ghost use Rattle.report.specs.Inside.Parts.{AreRanked, AreRankedParts};
+ghost use Rattle.report.specs.Inside.Parts.{AreMade, AreRanked, AreRankedParts, items_of};
 ghost use Rattle.report.specs.Inside.Planned.{HasSetUnder};
 ghost use Rattle.report.specs.Inside.Ranked.{by_key, by_rank, ranked, ranked_in};
 
 use crate::keys::{key_values, under_values};
-use crate::parts::joined;
 use crate::ranked::{RankedRow, behind_of, compare_keys, first_text, front_of};
 use crate::view::PlanView;
 use groups::Group;
@@ -74,9 +74,9 @@ pub(crate) fn in_order_among<'a, H: Threads + Sync>(
         return in_order(alloc, plan, rows);
     }
     let parts = parts_in_order(rt, alloc, plan, rows.as_slice(), size)?;
-    let ranked = joined(Vec::with_capacity(alloc, rows.len())?, parts)?;
-    let ordered = sorted(plan, ranked)?;
-    groups_in(alloc, ordered)
+    let ranked = rows_of_parts(alloc, parts.as_slice(), rows.len())?;
+    let ordered = merged(plan, ranked)?;
+    groups_at(alloc, ordered)
 }
 
 /// The groups in parts of so many, each beside what their rows are put in order by, and each part in that order.
@@ -164,6 +164,68 @@ fn groups_in<'a>(
 {
     let mut groups = Vec::with_capacity(alloc, ranked.len())?;
     for row in ranked {
+        groups.push(row.found)?;
+    }
+    Ok(groups)
+}
+
+/// The rows of all parts, one part after the other, where each of them was made. There may be as many as `count`; for more
+/// the list gets longer.
+fn rows_of_parts<'r, 'a>(
+    alloc: Global,
+    parts: &'r [Result<Vec<RankedRow<'a>>, AllocError>],
+    count: usize,
+) -> Result<Vec<&'r RankedRow<'a>>, AllocError>
+    ensures made { OnOk result (AreMade parts.entry.now) }
+    ensures rows { IfOk result (λ rows. map (λ r. r.now) rows.items ≡ flat_map items_of parts.entry.now) }
+{
+    let mut rows = Vec::with_capacity(alloc, count)?;
+    for part in parts {
+        match part {
+            Ok(part) => put_rows(&mut rows, part.as_slice())?,
+            Err(_) => return Err(AllocError),
+        }
+    }
+    Ok(rows)
+}
+
+/// Puts the rows of a part behind others.
+fn put_rows<'r, 'a>(
+    rows: &mut Vec<&'r RankedRow<'a>>,
+    part: &'r [RankedRow<'a>],
+) -> Result<(), AllocError>
+    ensures { OnOk result (map (λ r. r.now) rows.new.items ≡ map (λ r. r.now) rows.old.items ++ part.entry.now) }
+{
+    for row in part {
+        rows.push(row)?;
+    }
+    Ok(())
+}
+
+/// Rows that stand in order part by part, in the order of what stands beside them. The parts are put together by moving
+/// what leads to the rows, not the rows.
+fn merged<'r, 'a>(
+    plan: &PlanView<'_>,
+    rows: Vec<&'r RankedRow<'a>>,
+) -> Result<Vec<&'r RankedRow<'a>>, AllocError>
+    ensures permutation { IfOk result (λ v. IsPermutation rows.entry.items v.items) }
+    ensures sorted { IfOk result (λ v. IsSortedBy (λ a b. is_lt (by_rank (form_of_plan plan.now).keys (ranked_in a.now) (ranked_in b.now))) v.items) }
+{
+    let keys = plan.query().tree().keys.as_slice();
+    let mut rows = rows;
+    rows.sort_by(|a, b| compare_ranked(keys, *a, *b))?;
+    Ok(rows)
+}
+
+/// The groups that these rows are of, in the order in which the rows stand.
+fn groups_at<'a>(
+    alloc: Global,
+    rows: Vec<&RankedRow<'a>>,
+) -> Result<Vec<&'a (usize, Group)>, AllocError>
+    ensures { IfOk result (λ v. map (λ r. row_of r.now) v.items ≡ map (λ r. (ranked_in r.now).1) rows.entry.items) }
+{
+    let mut groups = Vec::with_capacity(alloc, rows.len())?;
+    for row in rows {
         groups.push(row.found)?;
     }
     Ok(groups)

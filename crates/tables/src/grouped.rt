@@ -25,8 +25,10 @@ const FEWEST: usize = 4_096;
 /// `'Quay'` beside the index 0, and that with the empty key beside the index 1.
 #[derive(Debug, Drop)]
 pub struct Groups {
-    rows: Vec<(usize, Group)>,
+    // What lies in one piece of memory goes before the many small pieces of the groups: behind these the allocator would
+    // look at each of them.
     refused: Vec<(u64, LineFault)>,
+    rows: Vec<(usize, Group)>,
     ghost fit: { FitSomePlan (map row_of rows.items) } by { Prim.hlevel props },
 }
 
@@ -47,7 +49,7 @@ impl Groups {
         ensures rows { result.found ≡ map row_of rows.items }
         ensures refused { result.refused ≡ refused.items }
     {
-        Groups { rows, refused }
+        Groups { refused, rows }
     }
 
     /// The groups, each with the index of its grouping set among those of the plan, from 0, in no order that is said.
@@ -73,7 +75,8 @@ impl Groups {
     pub fn give_back_among<H: Threads + Sync>(self, rt: &H, alloc: Global, hands: usize)
         requires { 0 < hands }
     {
-        let Groups { mut rows, .. } = self;
+        let Groups { refused, mut rows } = self;
+        drop(refused);
         if hands == 1 || rows.len() < FEWEST {
             return;
         }

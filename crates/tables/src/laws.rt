@@ -40,6 +40,11 @@ pub fn job_law()
     ensures whole { (fields : List Field) (q : TreeForm) (input : List ℕ) (pieces : List Piece) (partial : Partial)
         → meaning partial ≡ total (mean fields q []) both (mean_at fields q input pieces) (length pieces)
         → StandsFor fields q partial (indexed input pieces) }
+    // So does what means the total of pieces with indexes from a first one on: of all pieces of a job by a joiner.
+    ensures whole_by { (fields : List Field) (q : TreeForm) (first : ℕ) (input : List ℕ) (pieces : List Piece) (partial : Partial)
+        → first + length pieces < 2 ^ 32
+        → meaning partial ≡ total (mean fields q []) both (mean_from fields q first input pieces) (length pieces)
+        → StandsFor fields q partial (indexed_from first input pieces) }
     // So does what a front comes to, and behind it the pieces of the rest, with indexes from a first one on.
     ensures behind { (fields : List Field) (q : TreeForm) (front : List IndexedPiece) (first : ℕ) (rest : List ℕ) (pieces : List Piece) (partial : Partial)
         → first + length pieces < 2 ^ 32
