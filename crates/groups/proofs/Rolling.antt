@@ -1,5 +1,5 @@
 -- A table of another set, made of the groups of a finer table.
-use Rattle.std.proofs.Common.{◌≡◌, ◌+◌, ◌<◌, ◌^◌, ℕ, Bool, true, false, ◌||◌, ◌&&◌, cond, List, [], ◌∷◌, ◌++◌, map, length, Option, Some, None, unwrap_or, Vec, Global, refl, sym, ap, subst, ◌∙◌, arith, append_assoc, length-append}
+use Rattle.std.proofs.Common.{◌≡◌, ◌+◌, ◌<◌, ◌^◌, ℕ, Bool, filter, true, false, ◌||◌, ◌&&◌, cond, List, [], ◌∷◌, ◌++◌, map, length, Option, Some, None, unwrap_or, Vec, Global, refl, sym, ap, subst, ◌∙◌, arith, append_assoc, length-append}
 use Rattle.std.proofs.Props.{props}
 use Rattle.std.proofs.lemmas.List.{length-map}
 use Rattle.std.specs.List.{list_any, IsDistinct, AllByRecursion}
@@ -15,7 +15,7 @@ use Rattle.groups.specs.Inside.Accumulator.{accumulator_state}
 use Rattle.groups.specs.Inside.Group.{GroupState, group_state, no_group, join}
 use Rattle.groups.specs.Bags.{SameBag}
 use Rattle.groups.specs.Rolled.{rolled, AreAmong, finer_keys, finer_members}
-use Rattle.groups.specs.Inside.Table.{Contents, IsTableOf, IsEnlarged, IsFittingNew, enlarged, join_options, joined_states, entries_by_key, contents_of}
+use Rattle.groups.specs.Inside.Table.{Contents, IsTableOf, IsEnlarged, IsFittingNew, IsPut, TakesEach, enlarged, join_options, joined_entries, joined_states, entries_by_key, contents_of}
 use Rattle.groups.proofs.Order.{key_total, same_key-Decides, key_eq-ties}
 use Rattle.groups.proofs.Entries.{Entries, key_eq, find-first}
 use Rattle.groups.proofs.Distinct.{distinct-shown}
@@ -217,7 +217,7 @@ rolled-all finer set fs t table left all rows v d none is r =
     (subst (λ (xs : List Row). IsTableOf set fs table xs)
     (sym (append-nil r.done) ∙ ap (λ es. r.done ++ spread finer rows (firsts es)) (sym none) ∙ r.whole) r.is_table)
 
--- ---- what is kept of a group, by the groups of a finer table
+-- ---- all groups, put to one
 
 members-all : (rows : List Row) → members [] [] rows ≡ rows
 members-all [] = refl
@@ -228,6 +228,79 @@ group_state-bag fs l m s =
     ap (group_state fs) (sym (members-all l))
     ∙ ap (λ (o : Option GroupState). unwrap_or o (group_state fs [])) (group_at-bag [] fs [] l m s)
     ∙ ap (group_state fs) (members-all m)
+
+joined-spread : (finer : List ℕ) (fs : List AggregateFunction) (t : Contents) (rows done : List Row) (es : Entries) → IsTableOf finer fs t rows
+    → AllByRecursion (λ e. fin.get t (data_of e.0.items) ≡ Some e.1) es → joined_entries (group_state fs done) es ≡ group_state fs (done ++ spread finer rows (firsts es))
+joined-spread finer fs t rows done [] is each = ap (group_state fs) (sym (append-nil done))
+joined-spread finer fs t rows done (e ∷ es) is each =
+    let m = members finer (data_of e.0.items) rows in
+    let g = group-of finer fs t rows (data_of e.0.items) e.1 is each.0 in
+    ap (λ (h : GroupState). joined_entries (join (group_state fs done) h) es) (sym g.1)
+    ∙ ap (λ (h : GroupState). joined_entries h es) (sym (group_state-append fs done m))
+    ∙ joined-spread finer fs t rows (done ++ m) es is each.1
+    ∙ ap (group_state fs) (append_assoc done m (spread finer rows (firsts es)))
+
+takes-spread : (finer : List ℕ) (fs : List AggregateFunction) (t : Contents) (rows done : List Row) (es : Entries) → IsTableOf finer fs t rows
+    → AllByRecursion (λ e. fin.get t (data_of e.0.items) ≡ Some e.1) es → length done + length (spread finer rows (firsts es)) < 2 ^ 63 → TakesEach (group_state fs done) es
+takes-spread finer fs t rows done [] is each few = tt
+takes-spread finer fs t rows done (e ∷ es) is each few =
+    let m = members finer (data_of e.0.items) rows in
+    let rest = spread finer rows (firsts es) in
+    let a = length-append m rest in
+    let b = length-append done m in
+    let g = group-of finer fs t rows (data_of e.0.items) e.1 is each.0 in
+    subst (λ (h : GroupState). (length done + h.lines < 2 ^ 63) × (length h.parts ≡ length (map (λ f. accumulator_state f done) fs)) × TakesEach (join (group_state fs done) h) es) g.1 (
+      omega (arith, few, a),
+      length-map fs (λ f. accumulator_state f m) ∙ sym (length-map fs (λ f. accumulator_state f done)),
+      subst (λ (h : GroupState). TakesEach h es) (group_state-append fs done m) (takes-spread finer fs t rows (done ++ m) es is each.1 (omega (arith, few, a, b))),
+    )
+
+pub takes-prop : (g : GroupState) (es : Entries) → IsProp (TakesEach g es)
+takes-prop g [] = Prim.hlevel props
+takes-prop g (e ∷ es) = let p = takes-prop (join g e.1) es in Prim.hlevel (props, p)
+
+-- a group without members takes the groups of a table of few records
+pub takes-all : (finer : List ℕ) (functions : List FilteredFunction) (filters : List (Row → Bool)) (t : Contents) (es : Entries) (rows : List Row) → contents_of es ≡ t → IsDistinct key_eq (keys_of es)
+    → length rows < 2 ^ 63 → IsTableOf finer (map (bound filters) functions) t rows → TakesEach (no_group functions) es
+takes-all finer functions filters t es rows v d few is =
+    let fs = map (bound filters) functions in
+    let whole = length-bag (spread finer rows (firsts es)) rows (spread-entries finer fs es t rows v d is) in
+    subst (λ (g : GroupState). TakesEach g es) (sym (no_group-is filters functions)) (takes-spread finer fs t rows [] es is (get-each es t v d) (omega (arith, few, whole)))
+
+pub joined_entries-append : (g : GroupState) (xs ys : Entries) → joined_entries g (xs ++ ys) ≡ joined_entries (joined_entries g xs) ys
+joined_entries-append g [] ys = refl
+joined_entries-append g (x ∷ xs) ys = joined_entries-append (join g x.1) xs ys
+
+pub takes-append : (g : GroupState) (xs ys : Entries) → TakesEach g (xs ++ ys) → TakesEach g xs × TakesEach (joined_entries g xs) ys
+takes-append g [] ys h = (tt, h)
+takes-append g (x ∷ xs) ys h = let more = takes-append (join g x.1) xs ys h.2 in ((h.0, h.1, more.0), more.1)
+
+all-kept : (rows : List Row) → filter (λ (row : Row). true) rows ≡ rows
+all-kept [] = refl
+all-kept (row ∷ rows) = ap (λ (xs : List Row). row ∷ xs) (all-kept rows)
+
+one-at : (fs : List AggregateFunction) (b : Bool) (group : GroupState) (rows : List Row) → group ≡ group_state fs rows
+    → cond b (Some group) None ≡ cond (b || false) (Some (group_state fs (filter (λ (row : Row). b) rows))) None
+one-at fs true group rows is = ap Some (is ∙ ap (group_state fs) (sym (all-kept rows)))
+one-at fs false group rows is = refl
+
+-- a table with one group, of the empty key
+table-of_one : (fs : List AggregateFunction) (t : Contents) (group : GroupState) (rows : List Row) → group ≡ group_state fs rows → ((k : Key) → IsPut fin.empty t [] group k) → IsTableOf [] fs t rows
+table-of_one fs t group rows is h k =
+    h k
+    ∙ ap (λ (o : Option GroupState). cond (same_key k []) (join_options o (Some group)) o) (fin.get-empty key_order k)
+    ∙ one-at fs (same_key k []) group rows is
+
+-- what all groups of a table come to is the one group of the empty set
+pub rolled-to_one : (finer : List ℕ) (functions : List FilteredFunction) (filters : List (Row → Bool)) (t table : Contents) (es : Entries) (rows : List Row) → contents_of es ≡ t → IsDistinct key_eq (keys_of es)
+    → IsTableOf finer (map (bound filters) functions) t rows → ((k : Key) → IsPut fin.empty table [] (joined_entries (no_group functions) es) k) → IsTableOf [] (map (bound filters) functions) table rows
+rolled-to_one finer functions filters t table es rows v d is h =
+    let fs = map (bound filters) functions in
+    let group = ap (λ (g : GroupState). joined_entries g es) (no_group-is filters functions) ∙ joined-spread finer fs t rows [] es is (get-each es t v d)
+    ∙ group_state-bag fs (spread finer rows (firsts es)) rows (spread-entries finer fs es t rows v d is) in
+    table-of_one fs table (joined_entries (no_group functions) es) rows group h
+
+-- ---- what is kept of a group, by the groups of a finer table
 
 kept-at : (set : List ℕ) (fs : List AggregateFunction) (t : Contents) (rows : List Row) (q : Key) → IsTableOf set fs t rows → group_state fs (members set q rows) ≡ unwrap_or (fin.get t q) (group_state fs [])
 kept-at set fs t rows q is = sym (ap (λ (o : Option GroupState). unwrap_or o (group_state fs [])) (is q) ∙ group_state-at fs (has_key set q rows) (members set q rows) (no_members set q rows))

@@ -1,12 +1,10 @@
 -- Walks over the groups of shards: what groups and walks have together, whichever walk gives the next group.
-use Rattle.std.proofs.Common.{◌≡◌, ◌+◌, ◌<◌, ℕ, zero, suc, List, [], ◌∷◌, ◌++◌, set, length, get_or, map, Vec, Global, refl, sym, ap, ◌∙◌, append-nil, append_assoc, arith}
-use Rattle.values.specs.declared.value.Value.{Value}
+use Rattle.std.proofs.Common.{◌≡◌, ◌+◌, ◌<◌, ℕ, zero, suc, List, [], ◌∷◌, ◌++◌, set, length, get_or, map, refl, sym, ap, ◌∙◌, append-nil, append_assoc, arith}
 use Rattle.values.specs.Datum.{data_of}
 use Rattle.groups.specs.Bags.{SameBag, weigh}
-use Rattle.groups.specs.GroupSummaries.{GroupSummary, group_summary_in}
-use Rattle.groups.specs.declared.group.Group.{Group}
+use Rattle.groups.specs.GroupSummaries.{GroupSummary}
 use Rattle.groups.specs.declared.walk.Walk.{Walk}
-use Rattle.groups.specs.Inside.Group.{GroupState, state_summary}
+use Rattle.groups.specs.Inside.Group.{state_summary}
 use Rattle.groups.specs.Inside.Table.{entries_by_key}
 use Rattle.groups.specs.Inside.Walks.{entries_left}
 use Rattle.groups.proofs.Bags.{weigh-append}

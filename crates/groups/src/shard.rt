@@ -31,7 +31,7 @@ impl Shard {
     ghost use Rattle.values.specs.Datum.{data_of};
     ghost use Rattle.groups.specs.Groups.{Key, project, same_key};
     ghost use Rattle.groups.specs.Inside.Shards.{contents_in, entries_in};
-    ghost use Rattle.groups.specs.Inside.Table.{CanJoin, IsFitting, IsJoined, IsPut, IsTaken, IsWithPart};
+    ghost use Rattle.groups.specs.Inside.Table.{CanJoin, IsFitting, IsJoined, IsPut, IsTaken, IsWithPart, TakesEach, joined_entries};
 
     /// The shard that has no group.
     pub(crate) fn new(alloc: Global) -> Shard
@@ -108,6 +108,17 @@ impl Shard {
         let Shard { groups } = other;
         for (key, part) in groups {
             self.put_group(key, part)?;
+        }
+        Ok(())
+    }
+
+    /// Puts copies of what is kept of all groups to a group, whatever their keys. After an error the group is of no use.
+    pub(crate) fn put_copies_to(&self, group: &mut Accumulators) -> Result<(), AllocError>
+        requires { TakesEach group.old (entries_in self.now) }
+        ensures { OnOk result (group.new ≡ joined_entries group.old (entries_in self.now)) }
+    {
+        for (_key, part) in &self.groups {
+            group.absorb_copies(part)?;
         }
         Ok(())
     }

@@ -253,6 +253,9 @@ impl Table {
         ensures rolled { IfOk result (λ table. (filters : List (Row → Bool)) (rows : List Row)
             → IsTableOf finer.now (map (bound filters) functions.now) self.now rows → IsTableOf set.now (map (bound filters) functions.now) table rows) }
     {
+        if set.is_empty() {
+            return self.rolled_to_one(functions);
+        }
         let indices = indices_in(self.alloc, finer, set)?;
         let mut rolled = Table::new(self.alloc, set, functions)?;
         for shard in &self.shards {
@@ -266,6 +269,21 @@ impl Table {
             }
         }
         Ok(rolled)
+    }
+
+    /// The table under the empty set. Its one group takes what is kept of each group, and no key is searched.
+    fn rolled_to_one(&self, functions: &[FilteredFunction]) -> Result<Table, AllocError>
+        requires few { ∥ ((finer : List ℕ) × IsOfFew finer functions.now self.now) ∥₁ }
+        ensures rolled { IfOk result (λ table. (finer : List ℕ) (filters : List (Row → Bool)) (rows : List Row)
+            → IsTableOf finer (map (bound filters) functions.now) self.now rows → IsTableOf [] (map (bound filters) functions.now) table rows) }
+    {
+        let mut group = Accumulators::new(self.alloc, functions)?;
+        for shard in &self.shards {
+            shard.put_copies_to(&mut group)?;
+        }
+        let mut one = Table::without_groups(self.alloc, 1)?;
+        one.put_to_group(Vec::new(self.alloc), group)?;
+        Ok(one)
     }
 
     /// The number of its groups: of the different keys of its records, and 1 under the empty set.

@@ -1,5 +1,5 @@
 -- A table of groups, apart from where it lies in memory, and what it is for a table to be that of a list of records.
-use Rattle.std.specs.Prelude.{◌≡◌, ◌+◌, ◌<◌, ◌≤◌, ◌^◌, ℕ, Bool, cond, List, map, length, [], ◌∷◌, Option, Some, None, IfSome, unwrap_or, if◌then◌else◌}
+use Rattle.std.specs.Prelude.{⊤, ◌≡◌, ◌+◌, ◌<◌, ◌≤◌, ◌^◌, ℕ, Bool, cond, List, map, length, [], ◌∷◌, Option, Some, None, IfSome, unwrap_or, if◌then◌else◌}
 use Rattle.std.specs.declared.alloc.Global.{Global}
 use Rattle.std.specs.declared.vec.Vec.{Vec}
 use Rattle.std.specs.Coded.{Coded}
@@ -109,6 +109,16 @@ with_part functions old (taken.Copies members) = enlarged functions old members.
 -- at the key k the table has one more part of the group of a key, put to what it had or to nothing
 abbrev pub IsWithPart : List FilteredFunction → Contents → Contents → Key → Part → Key → Type 0
 IsWithPart functions old new key part k = fin.get new k ≡ cond (same_key k key) (Some (with_part functions (fin.get old k) part)) (fin.get old k)
+
+-- what is kept of a group after the parts of all entries
+abbrev pub joined_entries : GroupState → List (Vec Value Global × GroupState) → GroupState
+joined_entries group [] = group
+joined_entries group (e ∷ entries) = joined_entries (join group e.1) entries
+
+-- a group takes the parts of all entries, one after the other
+abbrev pub TakesEach : GroupState → List (Vec Value Global × GroupState) → Type 0
+TakesEach group [] = ⊤
+TakesEach group (e ∷ entries) = (group.lines + e.1.lines < 2 ^ 63) × (length e.1.parts ≡ length group.parts) × TakesEach (join group e.1) entries
 
 -- each group of the other table is a part that the group of its key takes, where there is one
 abbrev pub CanJoin : Contents → Contents → Type 0

@@ -1,4 +1,4 @@
-use Rattle.std.proofs.Common.{◌≡◌, [], ◌∷◌, ◌++◌, List, refl, ap, sym, subst, ◌∙◌, map, arith}
+use Rattle.std.proofs.Common.{◌≡◌, ◌∷◌, ◌++◌, List, ap, sym, subst, map, arith}
 use Rattle.groups.specs.GroupSummaries.{group_summary_in}
 use Rattle.groups.specs.Inside.Finished.{AreFinished}
 use Rattle.groups.specs.Inside.Shards.{all_entries}

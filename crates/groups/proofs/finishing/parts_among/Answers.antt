@@ -1,4 +1,4 @@
-use Rattle.std.proofs.Common.{◌≡◌, ◌∙◌, IfOk, get_or, sym, subst, arith}
+use Rattle.std.proofs.Common.{IfOk, get_or, sym, subst, arith}
 use Rattle.groups.specs.Inside.Finished.{IsFinished}
 use Rattle.groups.specs.declared.shard.Shard.{Shard}
 use Rattle.groups.proofs.InParts.{finished-each}

@@ -1,4 +1,4 @@
-use Rattle.std.proofs.Common.{◌≡◌, ◌∙◌, map, length-set, arith}
+use Rattle.std.proofs.Common.{◌∙◌, map, length-set, arith}
 use Rattle.groups.specs.GroupSummaries.{group_summary_in}
 use Rattle.groups.proofs.Walks.{turned}
 use Rattle.groups.proofs.walk.put_turn.Goals as goal

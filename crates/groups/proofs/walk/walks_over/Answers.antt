@@ -1,4 +1,4 @@
-use Rattle.std.proofs.Common.{◌≡◌, [], ◌∷◌, ◌++◌, ap, sym, append_assoc, ◌∙◌}
+use Rattle.std.proofs.Common.{◌≡◌, ◌∷◌, ◌++◌, ap, sym, append_assoc, ◌∙◌}
 use Rattle.groups.specs.Inside.Shards.{all_entries}
 use Rattle.groups.specs.Inside.Walks.{entries_left}
 use Rattle.groups.specs.declared.walk.Walk.{Walk}

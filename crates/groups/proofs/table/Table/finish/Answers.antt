@@ -1,8 +1,8 @@
-use Rattle.std.proofs.Common.{ℕ, ◌≡◌, ◌++◌, List, Vec, Global, map, ap, sym, ◌∙◌}
+use Rattle.std.proofs.Common.{ℕ, ◌≡◌, ◌++◌, List, Vec, Global, map, ap, ◌∙◌}
 use Rattle.std.proofs.lemmas.Result.{IfOk-weaker}
-use Rattle.groups.specs.Bags.{SameBag, weigh}
+use Rattle.groups.specs.Bags.{weigh}
 use Rattle.groups.specs.Functions.{AggregateFunction}
-use Rattle.groups.specs.GroupSummaries.{group_summaries, group_summary_in}
+use Rattle.groups.specs.GroupSummaries.{group_summary_in}
 use Rattle.groups.specs.Rows.{Row}
 use Rattle.groups.specs.declared.group.Group.{Group}
 use Rattle.groups.specs.Inside.Shards.{all_entries}

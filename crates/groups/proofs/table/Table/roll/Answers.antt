@@ -1,5 +1,6 @@
-use Rattle.std.proofs.Common.{◌≡◌, ◌+◌, ◌++◌, [], ◌∷◌, List, Some, Vec, Global, drop, map, refl, sym, ap, subst, ◌∙◌}
-use Rattle.std.proofs.Math.Logic.{∥∥₁_elim}
+use Rattle.std.proofs.Common.{◌≡◌, ◌+◌, ◌++◌, [], ◌∷◌, ℕ, arith, List, Some, Vec, Global, drop, map, refl, sym, ap, subst, ◌∙◌}
+use Rattle.std.proofs.Math.Logic.{∥∥₁_elim, ∥∥₁_map}
+use Rattle.std.proofs.lemmas.Result.{IfOk-weaker}
 use Rattle.std.proofs.lemmas.List.{drop_more, drop_all}
 use Rattle.std.proofs.lemmas.Map.Iter.{rest_more, rest_all}
 use Rattle.std.specs.List.{IsDistinct, AllByRecursion}
@@ -13,15 +14,28 @@ use Rattle.groups.specs.Functions.{bound}
 use Rattle.groups.specs.Inside.Group.{GroupState}
 use Rattle.groups.specs.Inside.Shards.{AreApart, all_entries, contents_of_shards, entries_in}
 use Rattle.groups.specs.Rolled.{rolled}
-use Rattle.groups.specs.Inside.Table.{IsEnlarged}
+use Rattle.groups.specs.Inside.Table.{IsEnlarged, IsTableOf}
 use Rattle.groups.specs.declared.shard.Shard.{Shard}
 use Rattle.groups.proofs.Entries.{Entries, key_eq}
 use Rattle.groups.proofs.Rolling.{IsRolled, fitting-prop, get-each, rolled-step, rolled-fitting, rolled-all}
 use Rattle.groups.proofs.Shards.{distinct-all}
+use Rattle.groups.proofs.Walks.{none_left}
 use Rattle.groups.proofs.table.Table.roll.Goals as goal
 
 distinct-read : (shards inside : List Shard) → shards ≡ inside → AreApart inside → IsDistinct key_eq (keys_of (all_entries shards))
 distinct-read shards inside is apart = subst (λ (ss : List Shard). IsDistinct key_eq (keys_of (all_entries ss))) (sym is) (distinct-all inside apart)
+
+pub rolled_to_one-requires : goal.rolled_to_one-requires
+rolled_to_one-requires c = record { few = ∥∥₁_map c.requires.few (λ few. (c.args.finer.now, few)) }
+
+pub returns-then-is_empty : goal.returns-then-is_empty
+returns-then-is_empty c =
+    let none : c.args.set.now ≡ [] = none_left c.args.set.now (let f = c.if-is_empty.ensures in grind (arith, f)) in
+    record {
+      rolled = IfOk-weaker c.rolled_to_one.result _ _
+          (λ table h filters rows is. subst (λ (set : List ℕ). IsTableOf set (map (bound filters) c.args.functions.now) table rows) (sym none) (h c.args.finer.now filters rows is))
+          c.rolled_to_one.ensures.rolled;
+    }
 
 pub loop-shard-init : goal.loop-shard-init
 loop-shard-init c =
