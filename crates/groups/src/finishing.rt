@@ -15,16 +15,17 @@ use std::thread;
 use std::thread::Threads;
 
 /// The groups of all shards, one shard after the other, each of which is finished by a thread of its own where one can be
-/// started.
+/// started. The list has room for so many groups from the start.
 pub(crate) fn groups_among<H: Threads + Sync>(
     rt: &H,
     alloc: Global,
+    room: usize,
     shards: Vec<Shard>,
 ) -> Result<Vec<Group>, AllocError>
     ensures { IfOk result (λ groups. map group_summary_in groups.items ≡ map state_summary (entries_by_key (all_entries shards.items))) }
 {
     let parts = parts_among(rt, alloc, shards)?;
-    joined(alloc, parts)
+    joined(alloc, room, parts)
 }
 
 /// The groups of each shard.
@@ -54,15 +55,17 @@ fn groups_of(alloc: Global, shard: Shard) -> Result<Vec<Group>, AllocError>
     Ok(groups)
 }
 
-/// The groups of all parts, one part after the other, where each part was made.
+/// The groups of all parts, one part after the other, where each part was made, in a list with room for so many groups from
+/// the start.
 fn joined(
     alloc: Global,
+    room: usize,
     parts: Vec<Result<Vec<Group>, AllocError>>,
 ) -> Result<Vec<Group>, AllocError>
     ensures { IfOk result (λ groups. (shards : List Shard) → AreFinished shards parts.items
         → map group_summary_in groups.items ≡ map state_summary (entries_by_key (all_entries shards))) }
 {
-    let mut groups = Vec::new(alloc);
+    let mut groups = Vec::with_capacity(alloc, room)?;
     for part in parts {
         let mut part = part?;
         groups.append(&mut part)?;

@@ -310,10 +310,11 @@ impl Table {
         ensures groups { IfOk result (λ groups. (set : List ℕ) (functions : List AggregateFunction) (rows : List Row)
             → IsTableOf set functions self rows → SameBag (map group_summary_in groups.items) (group_summaries set functions rows)) }
     {
+        let count = self.len();
         let Table { alloc, shards, .. } = self;
         let turns = fewest(shards.as_slice());
         let mut walks = walks_over(alloc, shards)?;
-        let mut groups = Vec::new(alloc);
+        let mut groups = Vec::with_capacity(alloc, count)?;
         for _ in 0..turns {
             put_turn(alloc, &mut groups, &mut walks)?;
         }
@@ -336,11 +337,12 @@ impl Table {
         ensures groups { IfOk result (λ groups. (set : List ℕ) (functions : List AggregateFunction) (rows : List Row)
             → IsTableOf set functions self rows → SameBag (map group_summary_in groups.items) (group_summaries set functions rows)) }
     {
-        if hands < self.shards.len() || self.len() < FEWEST {
+        let count = self.len();
+        if hands < self.shards.len() || count < FEWEST {
             return self.finish();
         }
         let Table { alloc, shards, .. } = self;
-        groups_among(rt, alloc, shards)
+        groups_among(rt, alloc, count, shards)
     }
 
     /// Puts one more part to the group of a record's key.

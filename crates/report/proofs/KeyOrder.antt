@@ -2,7 +2,6 @@
 use Rattle.std.proofs.Common.{◌≡◌, ◌⊎◌, inl, inr, ◌+◌, ◌<◌, ℕ, zero, suc, true, false, List, [], ◌∷◌, drop, get_or, length, map, option_map, slice_index_or, unwrap_or, Option, Some, None, Bor, refl, sym, ap, subst, ◌∙◌, ◌*◌, ◌-◌, ◌^◌, add-one, arith, ◌≤◌}
 use Rattle.std.proofs.Math.Logic.{∥∥₁_elim}
 use Rattle.std.specs.Coded.{Coded-set, coded_list, coded_option, coded_ℕ}
-use Rattle.std.proofs.Math.Nat.{one-le-pow, pow-succ', pow-zero}
 use Rattle.std.proofs.lemmas.Bool.{cases_order}
 use Rattle.std.proofs.lemmas.Bool.Decides.{nat_tests}
 use Rattle.std.proofs.lemmas.List.{at_drop_more}
@@ -84,34 +83,6 @@ digits-less (suc n) m k [] [] less bytes = digits-less n (256 * m) (256 * k) [] 
 digits-less (suc n) m k [] (c ∷ t) less bytes = digits-less n (256 * m) (256 * k + c) [] t (omega (arith, less)) bytes
 digits-less (suc n) m k (b ∷ s) [] less bytes = digits-less n (256 * m + b) (256 * k) s [] (omega (arith, less, bytes 0)) (rest_bytes b s bytes)
 digits-less (suc n) m k (b ∷ s) (c ∷ t) less bytes = digits-less n (256 * m + b) (256 * k + c) s t (omega (arith, less, bytes 0)) (rest_bytes b s bytes)
-
--- so many digits are no more than more of them
-pub more_digits : (i n : ℕ) → i ≤ n → 256 ^ i ≤ 256 ^ n
-more_digits zero n h = let a = one-le-pow n 256 (omega arith) in let b = pow-zero 256 in omega (arith, a, b)
-more_digits (suc i) zero h = absurd (omega (arith, h))
-more_digits (suc i) (suc n) h =
-    let a = more_digits i n (omega (arith, h)) in
-    let b = pow-succ' 256 i in
-    let c = pow-succ' 256 n in
-    omega (arith, a, b, c)
-
-one_digit : (m n i : ℕ) (s : List ℕ) → with_digits m (suc n) (drop i s) ≡ with_digits (256 * m + get_or s i 0) n (drop (suc i) s)
-unfolding with_digits
-one_digit m n zero [] = let same : 256 * m ≡ 256 * m + 0 = omega arith in ap (λ k. with_digits k n []) same
-one_digit m n (suc i) [] = let same : 256 * m ≡ 256 * m + 0 = omega arith in ap (λ k. with_digits k n []) same
-one_digit m n zero (b ∷ s) = refl
-one_digit m n (suc i) (b ∷ s) = one_digit m n i s
-
--- a turn of the loop over the digits
-pub digits-next : (m i b : ℕ) (s : List ℕ) → i < 16 → b ≡ get_or s i 0 → with_digits (256 * m + b) (16 - (i + 1)) (drop (i + 1) s) ≡ with_digits m (16 - i) (drop i s)
-digits-next m i b s below is =
-    let left : 16 - i ≡ suc (15 - i) = omega (arith, below) in
-    let less : 16 - (i + 1) ≡ 15 - i = omega (arith, below) in
-    (λ k. with_digits (256 * m + is k) (less k) (drop (add-one i k) s)) ∙ sym (one_digit m (15 - i) i s) ∙ ap (λ n. with_digits m n (drop i s)) (sym left)
-
-pub digits-end : (m i : ℕ) (s : List ℕ) → 16 ≤ i → with_digits m (16 - i) (drop i s) ≡ m
-unfolding with_digits
-digits-end m i s h = let none : 16 - i ≡ 0 = omega (arith, h) in ap (λ n. with_digits m n (drop i s)) none
 
 less-is : (m k : ℕ) → m < k → nat_cmp m k ≡ Less
 less-is m k h = grind (arith, nat_tests)

@@ -3,6 +3,7 @@ pub mod Sameness
 pub mod Places
 pub mod Totals
 pub mod Rows
+mod Digits
 pub mod KeyOrder
 pub mod Maps
 pub mod Wide

@@ -11,7 +11,7 @@ ghost use Rattle.report.specs.Inside.Sources.{cells_at};
 use crate::arranging::shown_among;
 use crate::parts::{joined, part_len};
 use crate::source::{Source, sources_by_set};
-use crate::text::{begun, ended, put_groups};
+use crate::text::{begun, ended, put_groups, report_on};
 use crate::view::PlanView;
 use csv::WriterBuilder;
 use groups::Group;
@@ -43,6 +43,9 @@ pub fn report_among<H: Threads + Sync>(
     requires hands { 0 < hands }
     ensures { IfOk result (λ text. text.items ≡ report_of (fields_of_plan plan.now) (form_of_plan plan.now) groups.now.found) }
 {
+    if hands == 1 {
+        return report_on(alloc, groups, plan);
+    }
     let view = PlanView::new(alloc, plan)?;
     let shown = shown_among(rt, alloc, groups, &view, hands)?;
     let sources = sources_by_set(alloc, &view)?;

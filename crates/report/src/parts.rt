@@ -26,9 +26,21 @@ pub(crate) fn joined<T: Drop>(
     ensures items { IfOk result (λ whole. whole.items ≡ list.items ++ flat_map items_of parts.items) }
 {
     let mut whole = list;
+    whole.reserve(items_in(parts.as_slice()))?;
     for part in parts {
         let mut part = part?;
         whole.append(&mut part)?;
     }
     Ok(whole)
+}
+
+/// How many items the parts have together that were made.
+fn items_in<T: Drop>(parts: &[Result<Vec<T>, AllocError>]) -> usize {
+    let mut count: usize = 0;
+    for part in parts {
+        if let Ok(part) = part {
+            count = count.saturating_add(part.len());
+        }
+    }
+    count
 }

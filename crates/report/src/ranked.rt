@@ -41,12 +41,10 @@ fn digits_of(text: &[u8]) -> u128
     ensures number { result ≡ with_digits 0 16 text.now }
     ensures bytes { AreBytes text.now }
 {
-    let mut number = 0;
-    for place in 0..FRONT {
-        let byte = text.get(place).copied().unwrap_or(0);
-        number = 256 * number + u128::from(byte);
-    }
-    number
+    let len = text.len().min(FRONT);
+    let mut front = [0; FRONT];
+    front[..len].copy_from_slice(&text[..len]);
+    u128::from_be_bytes(front)
 }
 
 /// The front of a key: the first bytes of the text that it begins with as one number. In front of texts there are truth

@@ -21,11 +21,15 @@ use crate::row::ReportRow;
 use crate::source::{Source, sources_at, sources_by_set};
 use crate::view::PlanView;
 use csv::{ByteRecord, Writer, WriterBuilder};
-use groups::Group;
+use groups::{Cell, Group};
 use query_plan::{Plan, header};
 use std::alloc::{AllocError, Global};
 use std::io::Write;
 use tables::Groups;
+use values::Value;
+
+/// How many rows are written at a time.
+const FEW: usize = 64;
 
 /// The bytes of a report: CSV (RFC 4180, section 2) with commas, line feeds, and quotes where they are needed. The
 /// first row holds the header of each item of SELECT. NULL is `\N`, and a text that begins with `\` has one more in
@@ -86,7 +90,29 @@ pub(crate) fn put_groups(
     ensures between { OnOk result (IsBetweenRows writer.new) }
     ensures appends { OnOk result (Appends (text_written ⟦<Vec<u8> as Write>⟧.contents writer.old) (text_written ⟦<Vec<u8> as Write>⟧.contents writer.new) (rows_bytes (map (λ r. cells_at sources.now (row_of r.now)) groups.now))) }
 {
-    let mut fields = ByteRecord::new(alloc);
+    let mut start = 0;
+    while start < groups.len() {
+        let stop = start + FEW.min(groups.len() - start);
+        put_few(writer, alloc, sources, &groups[start..stop])?;
+        start = stop;
+    }
+    Ok(())
+}
+
+/// Writes the rows of a few groups. Groups in order lie anywhere in memory: all are looked at first, one right after the
+/// other, so that the processor fetches them side by side, and does not wait for each before it is written.
+fn put_few(
+    writer: &mut Writer<Vec<u8>>,
+    alloc: Global,
+    sources: &[Vec<Source>],
+    groups: &[&(usize, Group)],
+) -> Result<(), AllocError>
+    requires between { IsBetweenRows writer.old }
+    requires within { All (λ r. (row_of r.now).0 < length sources.now) groups.now }
+    ensures between { OnOk result (IsBetweenRows writer.new) }
+    ensures appends { OnOk result (Appends (text_written ⟦<Vec<u8> as Write>⟧.contents writer.old) (text_written ⟦<Vec<u8> as Write>⟧.contents writer.new) (rows_bytes (map (λ r. cells_at sources.now (row_of r.now)) groups.now))) }
+{
+    let mut fields = ByteRecord::with_capacity(alloc, longest_text(groups), 0)?;
     for found in groups {
         let (index, group) = found;
         put_group(
@@ -98,6 +124,39 @@ pub(crate) fn put_groups(
         )?;
     }
     Ok(())
+}
+
+/// How many bytes the longest text has that the groups have in their keys and cells.
+fn longest_text(groups: &[&(usize, Group)]) -> usize {
+    let mut longest = 0;
+    for found in groups {
+        let (_, group) = found;
+        longest = longest.max(longest_in(group));
+    }
+    longest
+}
+
+/// How many bytes the longest text has that a group has in its key and cells.
+fn longest_in(group: &Group) -> usize {
+    let in_key = group.key.iter().map(text_len).max().unwrap_or(0);
+    let in_cells = group.cells.iter().map(cell_len).max().unwrap_or(0);
+    in_key.max(in_cells)
+}
+
+/// How many bytes a value has where it is a text, and 0 where it is none.
+fn text_len(value: &Value) -> usize {
+    match value {
+        Value::Text(text) => text.len(),
+        Value::Bool(_) | Value::Int(_) | Value::Null => 0,
+    }
+}
+
+/// The same of the value of a cell; an average has no text.
+fn cell_len(cell: &Cell) -> usize {
+    match cell {
+        Cell::Plain(value) => text_len(value),
+        Cell::Ratio(_, _) => 0,
+    }
 }
 
 /// What a writer has written.

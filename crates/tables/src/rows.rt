@@ -42,11 +42,20 @@ pub(crate) fn rows_of<J: Joiner>(
 fn flattened(alloc: Global, groups: Vec<Vec<Group>>) -> Result<Vec<(usize, Group)>, AllocError>
     ensures { IfOk result (λ rows. map row_of rows.items ≡ rows_from 0 groups.items) }
 {
-    let mut rows = Vec::new(alloc);
+    let mut rows = Vec::with_capacity(alloc, count_of(groups.as_slice()))?;
     for (index, of_set) in groups.into_iter().enumerate() {
         put_groups(&mut rows, index, of_set)?;
     }
     Ok(rows)
+}
+
+/// How many groups the sets have together.
+fn count_of(groups: &[Vec<Group>]) -> usize {
+    let mut count: usize = 0;
+    for of_set in groups {
+        count = count.saturating_add(of_set.len());
+    }
+    count
 }
 
 /// Puts the groups of one set to those of the sets before.

@@ -10,7 +10,7 @@ pub loop-part-init : goal.loop-part-init
 loop-part-init c = λ shards are. (
   shards,
   subst (λ (parts : List Part). AreFinished shards parts) (sym c.into_iter-part-iterator.ensures.into_iter_gives.0) are,
-  ap (λ gs. map group_summary_in gs ++ summaries (all_entries shards)) c.new-groups.ensures.items,
+  ap (λ gs. map group_summary_in gs ++ summaries (all_entries shards)) c.in_ok-groups.ensures.items,
 )
 
 pub loop-part-preserved : goal.loop-part-preserved

@@ -1,4 +1,4 @@
-use Rattle.std.proofs.Common.{Bor, ℕ, Some, map, take}
+use Rattle.std.proofs.Common.{◌-◌, ◌≤◌, Bor, ℕ, Some, length, map, take}
 use Rattle.std.specs.Io.KnownBytes.{Appends}
 use Rattle.csv.specs.Writing.{text_written}
 use Rattle.groups.specs.declared.group.Group.{Group}
@@ -9,8 +9,13 @@ use Rattle.report.specs.Text.{rows_bytes}
 use Rattle.report.proofs.text.put_groups.Given as goal
 
 -- the rows so far stand behind what was there
-abbrev pub invariant-loop-found : goal.invariant-loop-found
-invariant-loop-found l = record {
+abbrev pub invariant-loop-start : goal.invariant-loop-start
+invariant-loop-start l = record {
   between : IsBetweenRows l.writer;
-  appends : Appends (text_written (λ v. Some v.items) l.fn.writer) (text_written (λ v. Some v.items) l.writer) (rows_bytes (map (λ (r : Bor (ℕ × Group)). cells_at l.sources (row_of r.now)) (take l.found-index l.groups)));
+  within : l.start ≤ length l.groups;
+  appends : Appends (text_written (λ v. Some v.items) l.fn.writer) (text_written (λ v. Some v.items) l.writer) (rows_bytes (map (λ (r : Bor (ℕ × Group)). cells_at l.sources (row_of r.now)) (take l.start l.groups)));
 }
+
+-- each turn writes a row
+abbrev pub decreases-loop-start : goal.decreases-loop-start
+decreases-loop-start l = length l.groups - l.start
