@@ -32,25 +32,24 @@ number-digits s bytes at =
     let n14 : ℕ = 256 * n13 + get_or s 14 0 in
     let n15 : ℕ = 256 * n14 + get_or s 15 0 in
     let digits : with_digits 0 16 s ≡ n15 =
-        one_digit 0 15 0 s
-        ∙ one_digit n0 14 1 s
-        ∙ one_digit n1 13 2 s
-        ∙ one_digit n2 12 3 s
-        ∙ one_digit n3 11 4 s
-        ∙ one_digit n4 10 5 s
-        ∙ one_digit n5 9 6 s
-        ∙ one_digit n6 8 7 s
-        ∙ one_digit n7 7 8 s
-        ∙ one_digit n8 6 9 s
-        ∙ one_digit n9 5 10 s
-        ∙ one_digit n10 4 11 s
-        ∙ one_digit n11 3 12 s
-        ∙ one_digit n12 2 13 s
-        ∙ one_digit n13 1 14 s
-        ∙ one_digit n14 0 15 s in
+    one_digit 0 15 0 s
+    ∙ one_digit n0 14 1 s
+    ∙ one_digit n1 13 2 s
+    ∙ one_digit n2 12 3 s
+    ∙ one_digit n3 11 4 s
+    ∙ one_digit n4 10 5 s
+    ∙ one_digit n5 9 6 s
+    ∙ one_digit n6 8 7 s
+    ∙ one_digit n7 7 8 s
+    ∙ one_digit n8 6 9 s
+    ∙ one_digit n9 5 10 s
+    ∙ one_digit n10 4 11 s
+    ∙ one_digit n11 3 12 s
+    ∙ one_digit n12 2 13 s
+    ∙ one_digit n13 1 14 s
+    ∙ one_digit n14 0 15 s in
     let sum : from_be_bytes w128 bytes ≡ n15 = omega (arith, at 0 (omega arith), at 1 (omega arith), at 2 (omega arith), at 3 (omega arith), at 4 (omega arith), at 5 (omega arith), at 6 (omega arith), at 7 (omega arith), at 8 (omega arith), at 9 (omega arith), at 10 (omega arith), at 11 (omega arith), at 12 (omega arith), at 13 (omega arith), at 14 (omega arith), at 15 (omega arith)) in
     sum ∙ sym digits
-
 
 zeros : (k i : ℕ) → slice_index (replicate k 0) i ≡ 0
 zeros zero i = refl
