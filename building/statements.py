@@ -12,6 +12,9 @@ import subprocess
 from trees import SOURCES, TOP, crates, is_program, log_of, out_of, run, stands_on, words_of
 
 TARGET = "x86_64-unknown-linux-gnu"
+# The processors that a program may be compiled for, and the one of these that is not asked for by name.
+CPUS = ("x86-64", "x86-64-v2", "x86-64-v3")
+USUAL_CPU = "x86-64-v2"
 
 
 def folder_of(name):
@@ -53,10 +56,11 @@ def toolchain():
 
 
 class Statements:
-    """Crates, each of which is proved once, in its own folder."""
+    """Crates, each of which is proved once, in its own folder; a program is compiled for a processor."""
 
-    def __init__(self, kit):
-        self.kit, self.words, self.crates, self.begun = kit, words_of(), crates(), {}
+    def __init__(self, kit, cpu):
+        self.kit, self.cpu = kit, cpu
+        self.words, self.crates, self.begun = words_of(), crates(), {}
         self.version = subprocess.run(["rt", "version"], stdout=subprocess.PIPE, check=True).stdout
 
     def stamp(self, name):
@@ -67,6 +71,8 @@ class Statements:
             for file in files_of(crate):
                 with open(file, "rb") as it:
                     made_from.update(repr((os.path.relpath(file, TOP), it.read())).encode())
+        if is_program(name):
+            made_from.update(self.cpu.encode())
         return made_from.hexdigest()
 
     def is_proved(self, name):
@@ -90,7 +96,8 @@ class Statements:
         for it in [f"{self.kit}/rlibs", *[folder_of(it) for it in stands_on(name, self.crates)[:-1]]]:
             words += ["-L", f"dependency={it}"]
         if is_program(name):
-            words += ["--toolchain", f"{self.kit}/toolchain", "--backend", "llvm", "-o", f"{program_of(name)}.o"]
+            words += ["--toolchain", f"{self.kit}/toolchain", "--backend", "llvm", "--cpu", self.cpu]
+            words += ["-o", f"{program_of(name)}.o"]
         else:
             words += ["--statements", "-o", library_of(name)]
         return run(words, f"{TOP}/crates/{name}", name)
