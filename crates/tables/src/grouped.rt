@@ -80,27 +80,12 @@ impl Groups {
         if hands == 1 || rows.len() < FEWEST {
             return;
         }
-        let size = rows.len().div_ceil(hands);
-        thread::for_each_chunk_mut(
+        thread::for_each_mut(
             rt,
             rows.as_mut_slice(),
-            size,
-            &|start: usize, part: &mut [(usize, Group)]| { empty_from(alloc, part, start / hands) },
+            hands,
+            &|_place: usize, row: &mut (usize, Group)| { empty(alloc, &mut row.1) },
         );
-    }
-}
-
-/// Takes away what the groups of a part have, whose memory is given back, from a place on, and then from the first group
-/// on. Parts that begin at different places are less likely to wait for one another: groups that one thread made lie at
-/// about the same places of all parts, and whoever gives memory back waits for others who give back memory that the
-/// same thread took.
-fn empty_from(alloc: Global, part: &mut [(usize, Group)], place: usize) {
-    let (front, back) = part.split_at_mut(place.min(part.len()));
-    for row in back {
-        empty(alloc, &mut row.1);
-    }
-    for row in front {
-        empty(alloc, &mut row.1);
     }
 }
 
