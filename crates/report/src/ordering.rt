@@ -53,7 +53,7 @@ pub(crate) fn in_order<'a>(
     ensures { IfOk result (λ v. map (λ r. row_of r.now) v.items ≡ in_order (before (fields_of_plan plan.now) (form_of_plan plan.now)) (map (λ r. row_of r.now) rows.entry.items)) }
 {
     let ranked = rank(alloc, plan, rows.as_slice())?;
-    let ordered = sorted(plan, ranked)?;
+    let ordered = sorted(plan, ranked);
     groups_in(alloc, ordered)
 }
 
@@ -114,7 +114,7 @@ fn part_in_order<'a>(
     ensures { IfOk result (λ v. AreRanked (ranked (fields_of_plan plan.now) (form_of_plan plan.now)) (map (λ r. row_of r.now) rows.now) v.items) }
 {
     let ranked = rank(alloc, plan, rows)?;
-    sorted(plan, ranked)
+    Ok(sorted(plan, ranked))
 }
 
 /// The groups beside what their rows are put in order by.
@@ -141,18 +141,15 @@ fn rank<'a>(
     Ok(ranked)
 }
 
-/// The groups in the order of what stands beside them.
-fn sorted<'a>(
-    plan: &PlanView<'_>,
-    ranked: Vec<RankedRow<'a>>,
-) -> Result<Vec<RankedRow<'a>>, AllocError>
-    ensures permutation { IfOk result (λ v. IsPermutation ranked.entry.items v.items) }
-    ensures sorted { IfOk result (λ v. IsSortedBy (λ a b. is_lt (by_rank (form_of_plan plan.now).keys (ranked_in a) (ranked_in b))) v.items) }
+/// The groups in the order of what stands beside them, in which no two are equal.
+fn sorted<'a>(plan: &PlanView<'_>, ranked: Vec<RankedRow<'a>>) -> Vec<RankedRow<'a>>
+    ensures permutation { IsPermutation ranked.entry.items result.items }
+    ensures sorted { IsSortedBy (λ a b. is_lt (by_rank (form_of_plan plan.now).keys (ranked_in a) (ranked_in b))) result.items }
 {
     let keys = plan.query().tree().keys.as_slice();
     let mut ranked = ranked;
-    ranked.sort_by(|a, b| compare_ranked(keys, a, b))?;
-    Ok(ranked)
+    ranked.sort_unstable_by(|a, b| compare_ranked(keys, a, b));
+    ranked
 }
 
 /// The groups alone, in the order in which they stand.

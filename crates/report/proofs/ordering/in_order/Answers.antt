@@ -17,7 +17,7 @@ returns c =
     let fields = fields_of_plan c.args.plan.now in
     let t = form_of_plan c.args.plan.now in
     let found = map row_at c.args.rows.items in
-    let sorted = c.in_ok-ordered.ordered.items in
+    let sorted = c.sorted-ordered.result.items in
     let are = c.in_ok-ranked.ensures ∙ (λ i. map (ranked fields t) (map row_at (c.as_slice.ensures.value i))) in
-    let there = ranks-moved ranked_in fields t found c.in_ok-ranked.ranked.items sorted are c.in_ok-ordered.ensures.permutation in
-    IfOk-weaker c.groups_in.result _ _ (λ v e. e ∙ sorted-ranks ranked_in fields t found sorted there c.in_ok-ordered.ensures.sorted c.requires) c.groups_in.ensures
+    let there = ranks-moved ranked_in fields t found c.in_ok-ranked.ranked.items sorted are c.sorted-ordered.ensures.permutation in
+    IfOk-weaker c.groups_in.result _ _ (λ v e. e ∙ sorted-ranks ranked_in fields t found sorted there c.sorted-ordered.ensures.sorted c.requires) c.groups_in.ensures
