@@ -4,8 +4,8 @@ ghost use Rattle.pool.specs.Totals.{sum_below};
 ghost use Rattle.pool.specs.Settled.{AreAll};
 
 use pool::{
-    Book, Deal, Hand, Next, Outcome, PoolFault, Share, Work, alone, fan_deal, fan_deal_onto,
-    fan_on, fan_out, settled,
+    Book, Deal, Hand, Next, Outcome, PoolFault, Share, Work, alone, fan_deal_onto, fan_on, fan_out,
+    settled,
 };
 use std::alloc::{AllocError, Global};
 use std::marker::{Brand, Send, Sync};
@@ -380,11 +380,11 @@ fn deal_in_turn<L: Ledger + Send + Sync, R: Threads + Wait + Sync>(
     let Ok((book, shares)) = Book::<L>::new(alloc, blank, 4) else {
         return Err(PoolFault::OutOfMemory);
     };
-    let (first, shares) = fan_deal(rt, alloc, &Ones, 100, 100, &book, 200, shares)?;
-    let (second, shares) = fan_deal(rt, alloc, &Ones, 100, 100, &book, 200, shares)?;
+    let (first, shares) = fan_deal_onto(rt, alloc, &Ones, 0, 100, 100, &book, 200, shares)?;
+    let (second, shares) = fan_deal_onto(rt, alloc, &Ones, 0, 100, 100, &book, 200, shares)?;
     let right = is_right(&first, 100, 100) && is_right(&second, 100, 100);
     if third {
-        let (last, _) = fan_deal(rt, alloc, &Ones, 100, 99, &book, 200, shares)?;
+        let (last, _) = fan_deal_onto(rt, alloc, &Ones, 0, 100, 99, &book, 200, shares)?;
         return Ok(right && is_right(&last, 100, 99));
     }
     let sum = book.close(shares);

@@ -2,8 +2,8 @@
 //!
 //! A `Work` has pieces with the numbers 0, 1, 2 and so on. Each gives a part, parts combine in any order, and each has
 //! a weight. `fan_out` and `alone` do the pieces below a number, and answer their combination, or `Over` where their
-//! weights add up to more than a limit. `fan_deal` does so over a book that may serve several deals, one after the
-//! other, and `fan_deal_onto` onto a part that was made before.
+//! weights add up to more than a limit. `fan_deal_onto` does so onto a part that was made before, over a book that may
+//! serve several deals, one after the other.
 //!
 //! Pieces are dealt. A `Deal` puts each piece into one of as many deques as there are workers, in turn, before any
 //! worker begins. A `Hand` is one worker's end of the deal. It takes the first piece of its own deque, and once that is
@@ -33,4 +33,4 @@ pub use deal::{Hand, Next, settled};
 pub use dealing::Deal;
 pub use laws::{Outcome, PoolFault, Work};
 pub use single::alone;
-pub use threads::{fan_deal, fan_deal_onto, fan_on, fan_out};
+pub use threads::{fan_deal_onto, fan_on, fan_out};

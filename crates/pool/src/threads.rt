@@ -1,5 +1,5 @@
 //! The hands of a deal, each on a thread of its own.
-ghost use Rattle.std.specs.Prelude.{◌≡◌, ℕ, ◌+◌, ◌-◌, ◌^◌, ◌<◌, ◌≤◌, ◌⊎◌, ◌++◌, ◌∷◌, [], All, IfOk, IfErr, IfSome, IfNone, IsOkAnd, OnOk, vec_len, length, List};
+ghost use Rattle.std.specs.Prelude.{◌≡◌, ℕ, ◌+◌, ◌-◌, ◌^◌, ◌<◌, ◌≤◌, ◌⊎◌, ◌++◌, ◌∷◌, [], All, IfOk, IfErr, IfSome, IfNone, IsOkAnd, MatchResult, OnOk, vec_len, length, List};
 ghost use Rattle.pool.specs.Totals.{gathered, sum_below, sum_list, total, once_below};
 ghost use Rattle.pool.specs.Outcomes.{Decides};
 ghost use Rattle.pool.specs.Dealing.{times};
@@ -80,18 +80,21 @@ fn put_done<P: Drop, L: Ledger>(
     put_last(&mut all.parts, part)
 }
 
-/// One more worker's, unless it ran out of memory.
+/// What the others gave back and one more worker's, unless one of them met a fault: that of the others comes first.
 fn with_done<P: Drop, L: Ledger>(
-    gathered: Gathered<P, L>,
+    others: Result<Gathered<P, L>, PoolFault>,
     done: Result<Done<P, L>, AllocError>,
 ) -> Result<Gathered<P, L>, PoolFault>
-    ensures more { IfOk result (λ g. IsOkAnd done (λ d. (g.hands.items ≡ gathered.hands.items ++ d.hand ∷ []) × (g.shares.items ≡ gathered.shares.items ++ d.share ∷ []) × (g.parts.items ≡ gathered.parts.items ++ d.part ∷ []))) }
-    ensures fault { IfErr result (λ e. e ≡ PoolFault.OutOfMemory) }
+    ensures more { IfOk result (λ g. IsOkAnd others (λ o. IsOkAnd done (λ d. (g.hands.items ≡ o.hands.items ++ d.hand ∷ []) × (g.shares.items ≡ o.shares.items ++ d.share ∷ []) × (g.parts.items ≡ o.parts.items ++ d.part ∷ [])))) }
+    ensures fault { IfErr result (λ e. MatchResult others (λ _. e ≡ PoolFault.OutOfMemory) (λ f. e ≡ f)) }
 {
+    let mut all = match others {
+        Ok(all) => all,
+        Err(fault) => return Err(fault),
+    };
     let Ok(done) = done else {
         return Err(PoolFault::OutOfMemory);
     };
-    let mut all = gathered;
     if put_done(&mut all, done).is_err() {
         return Err(PoolFault::OutOfMemory);
     }
@@ -120,23 +123,19 @@ fn spread<'s, E, W: Work + Sync, L: Ledger + Send + Sync, R: Threads + Wait + Sy
     };
     if hands.is_empty() {
         let part = first;
-        let others = nothing(crew.alloc);
-        return with_done(others, go_on(crew, Done { hand, share, part }));
+        return with_done(
+            Ok(nothing(crew.alloc)),
+            go_on(crew, Done { hand, share, part }),
+        );
     }
     if hand.pieces() == 0 {
-        let others = match spread(scope, crew, first, hands, shares) {
-            Ok(others) => others,
-            Err(fault) => return Err(fault),
-        };
+        let others = spread(scope, crew, first, hands, shares);
         return with_done(others, work_off(crew, hand, share));
     }
     let Some(handle) = start(scope, crew, hand, share) else {
         return Err(PoolFault::ThreadNotStarted);
     };
-    let others = match spread(scope, crew, first, hands, shares) {
-        Ok(others) => others,
-        Err(fault) => return Err(fault),
-    };
+    let others = spread(scope, crew, first, hands, shares);
     with_done(others, handle.join(crew.rt))
 }
 
@@ -211,11 +210,10 @@ fn finish_all<W: Work, L: Ledger, R: Wait>(
     let Some(done) = last_done(&mut gathered) else {
         return Ok(nothing(crew.alloc));
     };
-    let others = match finish_all(crew, gathered) {
-        Ok(others) => others,
-        Err(fault) => return Err(fault),
-    };
-    with_done(others, go_on(crew, done))
+    match finish_all(crew, gathered) {
+        Ok(others) => with_done(Ok(others), go_on(crew, done)),
+        Err(fault) => Err(fault),
+    }
 }
 
 /// All parts, combined: what the first began with, and the pieces in all lists. No piece is in them twice.
@@ -363,52 +361,14 @@ fn fan_onto<W: Work + Sync, L: Ledger + Send + Sync, R: Threads + Wait + Sync>(
     Ok(concluded)
 }
 
-/// Does the pieces below a number, at most 1,048,576, by the hands of a new deal, as many as there are shares, over a
-/// book that may have been reported to before: hand 0 works on the calling thread, each other hand on a thread of its
-/// own. So one book serves several deals, one after the other. With one hand, or no piece, no thread is started.
+/// Does the pieces below a number, at most 1,048,576, onto a part that was made before, by the hands of a new deal, as many
+/// as there are shares, over a book that may have been reported to before: hand 0 works on the calling thread and goes on
+/// with that part, each other hand on a thread of its own. So one book serves several deals, one after the other. With one
+/// hand, or no piece, no thread is started.
 ///
-/// A worker may stop once the book's number is above `stop`. It answers the combination of all parts, or `Over` where
-/// they weigh more than `limit`, and the shares in their order. No share grows by more than the weights of all pieces.
-///
-/// It asks for 1 to 64 shares, and that the loads of all pieces, with the sum of any share, add up to less than 2^63.
-/// All threads have ended when it answers.
-///
-/// Example: with 100 pieces of the weight 1, `fan_deal(rt, alloc, &work, 100, 100, &book, 200, shares)` answers
-/// `Whole` and the shares; `fan_deal(rt, alloc, &work, 100, 99, &book, 200, shares)` answers `Over` and the shares.
-///
-/// # Errors
-///
-/// `ThreadNotStarted` where a thread could not be started, and else `OutOfMemory`. The shares are then given up.
-pub fn fan_deal<W: Work + Sync, L: Ledger + Send + Sync, R: Threads + Wait + Sync>(
-    rt: &R,
-    alloc: Global,
-    work: &W,
-    pieces: u32,
-    limit: u64,
-    book: &Book<L>,
-    stop: u128,
-    shares: Vec<Share<L>>,
-) -> Result<(Outcome<W::Part>, Vec<Share<L>>), PoolFault>
-    requires pieces { pieces ≤ 1048576 }
-    requires hands { (1 ≤ vec_len shares) × (vec_len shares ≤ 64) }
-    requires loads { sum_below (λ i. W.load_of work.now (W.piece_meaning work.now i)) pieces < 2 ^ 63 }
-    requires room { All (λ s. sum_below (λ i. W.load_of work.now (W.piece_meaning work.now i)) pieces + s.sum < 2 ^ 63) shares.items }
-    ensures decided { IfOk result (λ r. Decides W.meaning (total (W.unit_meaning work.now) (W.combined work.now) (W.piece_meaning work.now) pieces) (sum_below (λ i. W.weight_of work.now (W.piece_meaning work.now i)) pieces) limit r.0) }
-    ensures count { IfOk result (λ r. vec_len r.1 ≡ vec_len shares) }
-    // No share has grown by more than the weights of all pieces.
-    ensures grown { IfOk result (λ r. (most : ℕ) → All (λ s. s.sum ≤ most) shares.items
-        → All (λ s. s.sum ≤ most + sum_below (λ i. W.weight_of work.now (W.piece_meaning work.now i)) pieces) r.1.items) }
-    ensures alone { (vec_len shares ≡ 1) ⊎ (pieces ≡ 0) → IfErr result (λ e. e ≡ PoolFault.OutOfMemory) }
-{
-    let Ok(part) = work.unit() else {
-        return Err(PoolFault::OutOfMemory);
-    };
-    fan_deal_onto(rt, alloc, work, part, pieces, limit, book, stop, shares)
-}
-
-/// As `fan_deal`, but the first hand goes on with a part that was made before, and the answer is that part and all
-/// pieces combined, or `Over` where the weight of the part and those of the pieces add up to more than `limit`. What
-/// the part weighs is not reported to the book.
+/// A worker may stop once the book's number is above `stop`. The answer is the part and all pieces, combined, or `Over`
+/// where the weight of the part and those of the pieces add up to more than `limit`, and the shares in their order. What
+/// the part weighs is not reported to the book. No share grows by more than the weights of all pieces.
 ///
 /// It asks for a part of this work whose load and the loads of all pieces add up to less than 2^63, for 1 to 64 shares,
 /// and that the loads of all pieces, with the sum of any share, add up to less than 2^63. All threads have ended when
@@ -482,13 +442,17 @@ fn with_book<L: Ledger + Send + Sync, W: Work + Sync, R: Threads + Wait + Sync>(
     ensures decided { IfOk result (Decides W.meaning (total (W.unit_meaning work.now) (W.combined work.now) (W.piece_meaning work.now) pieces) (sum_below (λ i. W.weight_of work.now (W.piece_meaning work.now i)) pieces) limit) }
     ensures alone { (hands ≡ 1) ⊎ (pieces ≡ 0) → IfErr result (λ e. e ≡ PoolFault.OutOfMemory) }
 {
+    let Ok(part) = work.unit() else {
+        return Err(PoolFault::OutOfMemory);
+    };
     let Ok((book, shares)) = Book::<L>::new(alloc, blank, hands) else {
         return Err(PoolFault::OutOfMemory);
     };
-    let (outcome, shares) = match fan_deal(
+    let (outcome, shares) = match fan_deal_onto(
         rt,
         alloc,
         work,
+        part,
         pieces,
         limit,
         &book,

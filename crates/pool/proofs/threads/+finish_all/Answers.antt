@@ -11,15 +11,15 @@ go_on-requires-after_bounds g t c κs within =
     let place = length c.last_done.new.gathered.hands.items in
     (r.0 place, r.1 place, under_way_last r.0 (g.W.Work.combined c.args.crew.now.work.now) (g.W.Work.piece_meaning c.args.crew.now.work.now) (g.W.Work.weight_of c.args.crew.now.work.now) (g.W.Work.load_of c.args.crew.now.work.now) (λ s. s.sum) g.W.Work.meaning c.args.gathered.hands.items c.last_done.new.gathered.hands.items c.in-Some.done.hand c.args.gathered.shares.items c.last_done.new.gathered.shares.items c.in-Some.done.share c.args.gathered.parts.items c.last_done.new.gathered.parts.items c.in-Some.done.part c.in-Some.ensures.hands c.in-Some.ensures.shares c.in-Some.ensures.parts r.2)
 
-pub returns-clause-did : goal.returns-clause-did
-returns-clause-did g t c = λ begin fits under_way.
+pub returns-in-Ok-clause-did : goal.returns-in-Ok-clause-did
+returns-in-Ok-clause-did g t c = λ begin fits under_way.
     let place = length c.last_done.new.gathered.hands.items in
     let others = c.in-Ok.ensures.did begin fits (under_way_front begin (g.W.Work.combined c.args.crew.now.work.now) (g.W.Work.piece_meaning c.args.crew.now.work.now) (g.W.Work.weight_of c.args.crew.now.work.now) (g.W.Work.load_of c.args.crew.now.work.now) (λ s. s.sum) g.W.Work.meaning c.args.gathered.hands.items c.last_done.new.gathered.hands.items c.in-Some.done.hand c.args.gathered.shares.items c.last_done.new.gathered.shares.items c.in-Some.done.share c.args.gathered.parts.items c.last_done.new.gathered.parts.items c.in-Some.done.part c.in-Some.ensures.hands c.in-Some.ensures.shares c.in-Some.ensures.parts under_way) in
     if_both c.with_done.result c.go_on.result c.with_done.ensures.more (c.go_on.ensures.did (begin place) (fits place) (under_way_last begin (g.W.Work.combined c.args.crew.now.work.now) (g.W.Work.piece_meaning c.args.crew.now.work.now) (g.W.Work.weight_of c.args.crew.now.work.now) (g.W.Work.load_of c.args.crew.now.work.now) (λ s. s.sum) g.W.Work.meaning c.args.gathered.hands.items c.last_done.new.gathered.hands.items c.in-Some.done.hand c.args.gathered.shares.items c.last_done.new.gathered.shares.items c.in-Some.done.share c.args.gathered.parts.items c.last_done.new.gathered.parts.items c.in-Some.done.part c.in-Some.ensures.hands c.in-Some.ensures.shares c.in-Some.ensures.parts under_way))
     (λ all d is did. rw (c.in-Some.ensures.hands, c.in-Some.ensures.shares, is.0, is.1, is.2)
     (did_more (g.W.Work.combined c.args.crew.now.work.now) (g.W.Work.piece_meaning c.args.crew.now.work.now) (g.W.Work.weight_of c.args.crew.now.work.now) (λ s. s.sum) g.W.Work.meaning begin c.last_done.new.gathered.hands.items c.last_done.new.gathered.shares.items c.in-Ok.others.hands.items c.in-Ok.others.shares.items c.in-Ok.others.parts.items c.in-Some.done.hand c.in-Some.done.share d.hand d.share d.part others did))
 
-pub returns-clause-spent : goal.returns-clause-spent
-returns-clause-spent g t c =
+pub returns-in-Ok-clause-spent : goal.returns-in-Ok-clause-spent
+returns-in-Ok-clause-spent g t c =
     if_both c.with_done.result c.go_on.result c.with_done.ensures.more (c.go_on.ensures.spent c.requires.never)
     (λ all d is spent. rw is.0 (spent_more c.in-Ok.others.hands.items d.hand c.in-Ok.ensures.spent spent))
