@@ -4,7 +4,7 @@ use Rattle.std.specs.Io.KnownBytes.{Appends}
 use Rattle.std.specs.List.{enumerate_from, flat_map}
 use Rattle.values.specs.Schema.{Field, schema_of}
 use Rattle.query_tree.specs.Syntax.{TreeForm}
-use Rattle.query_check.specs.Sets.{sets_of}
+use Rattle.query_resolution.specs.Sets.{sets_of}
 use Rattle.query_check.specs.Typing.{IsTyped}
 use Rattle.query_print.specs.Canonical.{canonical_text, set_text}
 use Rattle.query_derivation.specs.Derivation.{Derives}

@@ -1,8 +1,8 @@
 -- The order of the records does not matter to a table.
 use Rattle.std.proofs.Common.{◌≡◌, ◌≢◌, ◌+◌, ℕ, ℤ, ◌+ℤ◌, Bool, true, false, cond, List, [], ◌∷◌, ◌++◌, length, map, filter, Option, Some, None, refl, sym, ap, ◌∙◌, arith}
 use Rattle.std.proofs.lemmas.Int.{ints}
-use Rattle.query_check.specs.declared.function.ColumnFunction.{ColumnFunction}
-use Rattle.query_check.specs.declared.function.ColumnFunction.TheVariants as function
+use Rattle.query_resolution.specs.declared.function.ColumnFunction.{ColumnFunction}
+use Rattle.query_resolution.specs.declared.function.ColumnFunction.TheVariants as function
 use Rattle.groups.specs.Rows.{Row, column_values, column_numbers}
 use Rattle.groups.specs.Functions.{AggregateFunction, total, least, greatest}
 use Rattle.groups.specs.Groups.{Key, members, same_key}

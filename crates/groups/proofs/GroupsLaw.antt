@@ -6,8 +6,8 @@ use Rattle.std.specs.FinMap.Entries.{by_order}
 use Rattle.std.specs.Ordering.{is_eq}
 use Rattle.std.specs.FinMap as fin
 use Rattle.values.specs.Datum.{whole}
-use Rattle.query_check.specs.declared.function.ColumnFunction.{ColumnFunction}
-use Rattle.query_check.specs.declared.function.ColumnFunction.TheVariants as function
+use Rattle.query_resolution.specs.declared.function.ColumnFunction.{ColumnFunction}
+use Rattle.query_resolution.specs.declared.function.ColumnFunction.TheVariants as function
 use Rattle.groups.specs.Rows.{Row, column_numbers, column_values}
 use Rattle.groups.specs.Functions.{AggregateFunction, plain, agg, value_over, filtered, total, sum_of, average_of}
 use Rattle.groups.specs.Groups.{Key, project, key_order, same_key, keys, members}

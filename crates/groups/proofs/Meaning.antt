@@ -9,10 +9,10 @@ use Rattle.std.proofs.lemmas.List.Folds.{list_any-append}
 use Rattle.std.specs.List.{list_any}
 use Rattle.std.specs.FinMap as fin
 use Rattle.values.specs.Order.{value_order}
-use Rattle.query_check.specs.Columns.{distinct}
-use Rattle.query_check.specs.declared.function.ColumnFunction.{ColumnFunction}
-use Rattle.query_check.specs.declared.function.ColumnFunction.TheVariants as function
-use Rattle.query_check.specs.declared.function.FilteredFunction.{FilteredFunction}
+use Rattle.query_resolution.specs.Columns.{distinct}
+use Rattle.query_resolution.specs.declared.function.ColumnFunction.{ColumnFunction}
+use Rattle.query_resolution.specs.declared.function.ColumnFunction.TheVariants as function
+use Rattle.query_resolution.specs.declared.function.FilteredFunction.{FilteredFunction}
 use Rattle.groups.specs.Rows.{Row, value_at, is_present, number_of, column_values, column_numbers}
 use Rattle.groups.specs.Functions.{AggregateFunction, bound, filter_at, total, least, greatest}
 use Rattle.groups.specs.Groups.{Key, project, key_order, same_key, keys, members}

@@ -7,7 +7,7 @@ use Rattle.std.specs.Map.{keys_of}
 use Rattle.std.specs.FinMap as fin
 use Rattle.values.specs.Datum.{data_of}
 use Rattle.values.specs.declared.value.Value.{Value}
-use Rattle.query_check.specs.declared.function.FilteredFunction.{FilteredFunction}
+use Rattle.query_resolution.specs.declared.function.FilteredFunction.{FilteredFunction}
 use Rattle.groups.specs.Rows.{Row}
 use Rattle.groups.specs.Functions.{AggregateFunction, bound}
 use Rattle.groups.specs.Groups.{Key, project, key_order, same_key, members}

@@ -10,7 +10,7 @@ use Rattle.std.specs.FinSet as set
 use Rattle.values.specs.Datum.{Datum, whole, text, boolean, null, data_of, datum_of}
 use Rattle.values.specs.Order.{value_order}
 use Rattle.values.specs.declared.value.Value.{Value}
-use Rattle.query_check.specs.Columns.{distinct}
+use Rattle.query_resolution.specs.Columns.{distinct}
 use Rattle.groups.specs.Rows.{is_present, present}
 use Rattle.groups.specs.Functions.{same_value}
 use Rattle.groups.specs.Inside.Values.{Values, set_of, values_in}

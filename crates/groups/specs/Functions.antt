@@ -4,10 +4,10 @@ use Rattle.std.specs.List.{find, list_all}
 use Rattle.std.specs.Ordering.{eq_by_cmp, is_lt, is_gt}
 use Rattle.values.specs.Datum.{Datum, whole, null}
 use Rattle.values.specs.Order.{value_order}
-use Rattle.query_check.specs.Columns.{distinct}
-use Rattle.query_check.specs.declared.function.ColumnFunction.{ColumnFunction}
-use Rattle.query_check.specs.declared.function.ColumnFunction.TheVariants as function
-use Rattle.query_check.specs.declared.function.FilteredFunction.{FilteredFunction}
+use Rattle.query_resolution.specs.Columns.{distinct}
+use Rattle.query_resolution.specs.declared.function.ColumnFunction.{ColumnFunction}
+use Rattle.query_resolution.specs.declared.function.ColumnFunction.TheVariants as function
+use Rattle.query_resolution.specs.declared.function.FilteredFunction.{FilteredFunction}
 use Rattle.groups.specs.Rows.{Row, column_values, column_numbers}
 
 -- a value, or for an average a sum and how many numbers were added

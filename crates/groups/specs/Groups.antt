@@ -6,7 +6,7 @@ use Rattle.std.specs.Ordering.{eq_by_cmp}
 use Rattle.std.specs.Cmp.Lexicographic.{slice_cmp}
 use Rattle.values.specs.Datum.{Datum}
 use Rattle.values.specs.Order.{value_order}
-use Rattle.query_check.specs.Columns.{distinct}
+use Rattle.query_resolution.specs.Columns.{distinct}
 use Rattle.groups.specs.Rows.{Row, value_at}
 
 -- the values in the columns of a grouping set

@@ -8,7 +8,7 @@ use crate::cell::Cell;
 use crate::distinct_values::DistinctValues;
 use crate::extreme::{is_greater, is_less};
 use crate::total::Total;
-use query_check::{ColumnFunction, FilteredFunction};
+use query_resolution::{ColumnFunction, FilteredFunction};
 use std::alloc::{AllocError, Global};
 use values::Value;
 

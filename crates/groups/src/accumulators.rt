@@ -5,7 +5,7 @@ ghost use Rattle.groups.specs.Cells.{summary_of};
 
 use crate::accumulator::Accumulator;
 use crate::cell::Cell;
-use query_check::FilteredFunction;
+use query_resolution::FilteredFunction;
 use std::alloc::{AllocError, Global};
 use std::marker::Model;
 use values::Value;

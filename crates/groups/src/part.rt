@@ -3,7 +3,7 @@ ghost use Rattle.std.specs.Prelude.{◌≡◌, Some, OnOk};
 ghost use Rattle.groups.specs.Inside.Table.{IsTaken, with_part};
 
 use crate::accumulators::Accumulators;
-use query_check::FilteredFunction;
+use query_resolution::FilteredFunction;
 use std::alloc::AllocError;
 use values::Value;
 

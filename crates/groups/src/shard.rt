@@ -9,7 +9,7 @@ ghost use Rattle.groups.specs.Inside.Keys.{key_eq};
 use crate::accumulators::Accumulators;
 use crate::key::key_of;
 use crate::part::Part;
-use query_check::FilteredFunction;
+use query_resolution::FilteredFunction;
 use std::alloc::{AllocError, Global};
 use std::collections::HashMap;
 use values::Value;

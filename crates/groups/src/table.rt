@@ -12,7 +12,7 @@ use crate::part::Part;
 use crate::place::{SHARDS, place_of};
 use crate::shard::Shard;
 use crate::walk::{fewest, put_rest, put_turn, walks_over};
-use query_check::FilteredFunction;
+use query_resolution::FilteredFunction;
 use std::alloc::{AllocError, Global};
 use std::marker::{Model, Sync};
 use std::mem;

@@ -3,8 +3,8 @@
 //! This crate is the whole public surface of the language. The crates below it have its parts: the
 //! syntax tree (`query_tree`), the tokens (`query_tokens`), the grammar (`query_derivation` defines
 //! it; `query_leaves`, `query_predicates` and `query_grammar` read it), the canonical text
-//! (`query_print`), typing (`query_check`), the truth of predicates (`query_truth`), and queries with
-//! their plans (`query_plan`).
+//! (`query_print`), what its parts are resolved to (`query_resolution`), typing (`query_check`), the
+//! truth of predicates (`query_truth`), and queries with their plans (`query_plan`).
 #![tactic(auto)]
 
 mod laws;
@@ -14,9 +14,9 @@ mod printing;
 pub use laws::derives_one;
 pub use parsing::parse;
 pub use printing::print;
-pub use query_check::{ColumnFunction, FilteredFunction};
 pub use query_fault::QueryFault;
 pub use query_plan::{Plan, Query, check, filter_holds, filter_texts, header, holds, set_text};
+pub use query_resolution::{ColumnFunction, FilteredFunction};
 pub use query_tree::{
     Aggregate, Expression, GroupingElement, Item, Key, Literal, Operand, Predicate, SetFunction,
     Text, Tree,

@@ -9,9 +9,9 @@ use Rattle.query_tree.specs.declared.predicate.Literal.TheVariants as constant
 use Rattle.query_tree.specs.Syntax.{ExpressionForm, ItemForm, PredicateForm, TreeForm, name, function, over_all, over_filtered, expression, literal, compare, column, set}
 use Rattle.query_fault.specs.declared.QueryFault.TheVariants as faults
 use Rattle.query_check.specs.declared.scope.Clause.TheVariants as clause
-use Rattle.query_check.specs.declared.function.ColumnFunction.TheVariants as at
+use Rattle.query_resolution.specs.declared.function.ColumnFunction.TheVariants as at
 use Rattle.query_check.specs.Faults.{clauses_fault, query_fault, records_fault, rows_fault, select_fault}
-use Rattle.query_check.specs.Functions.{filters_of, indexed_functions}
+use Rattle.query_resolution.specs.Functions.{filters_of, indexed_functions}
 use Rattle.query_check.specs.Standing.{Stands}
 
 -- a text, a whole number and a truth value

@@ -9,18 +9,18 @@ use Rattle.std.proofs.lemmas.List.Folds.{find_at}
 use Rattle.std.proofs.lemmas.Option.{slice_get_past}
 use Rattle.values.specs.Schema.{Field}
 use Rattle.query_tree.specs.Syntax.{ExpressionForm, FunctionForm, OperandForm, PredicateForm, PredicateForms, ItemForm, KeyForm, TreeForm, name, grouping, function, over_all, over_filtered, expression, literal, or_of, and_of, not_of, truth_test, compare, between, member, null_test, column, no_parts, part}
-use Rattle.query_check.specs.declared.function.ColumnFunction.{ColumnFunction}
+use Rattle.query_resolution.specs.declared.function.ColumnFunction.{ColumnFunction}
 use Rattle.query_check.specs.declared.scope.Clause.{Clause}
 use Rattle.query_check.specs.declared.scope.Clause.TheVariants as clause
-use Rattle.query_check.specs.Columns.{distinct}
-use Rattle.query_check.specs.Sets.{grouping_places}
-use Rattle.query_check.specs.Same.{same_predicate}
-use Rattle.query_check.specs.Functions.{PlannedFunction, aggregate_of, column_function, different_filters, expression_functions, filter_of, filters_of, functions_of, indexed, operand_functions, parts_functions, planned_function, predicate_functions, same_planned, set_functions}
+use Rattle.query_resolution.specs.Columns.{distinct}
+use Rattle.query_resolution.specs.Sets.{grouping_places}
+use Rattle.query_resolution.specs.Same.{same_predicate}
+use Rattle.query_resolution.specs.Functions.{PlannedFunction, aggregate_of, column_function, different_filters, expression_functions, filter_of, filters_of, functions_of, indexed, operand_functions, parts_functions, planned_function, predicate_functions, same_planned, set_functions}
 use Rattle.query_check.specs.Typing.{AreTypedParts, IsTyped, IsTypedClause, IsTypedExpression, IsTypedFunction, IsTypedOperand, IsTypedPredicate, key_expression}
 use Rattle.query_check.specs.Filters.{AreTypedFilters, LeadBack, filters_at}
-use Rattle.query_check.proofs.Distinct.{any_distinct}
-use Rattle.query_check.proofs.Rows.{or_true}
-use Rattle.query_check.proofs.SameTrees.{predicate_itself, predicates_are_same}
+use Rattle.query_resolution.proofs.Distinct.{any_distinct}
+use Rattle.query_resolution.proofs.Rows.{or_true}
+use Rattle.query_resolution.proofs.SameTrees.{predicate_itself, predicates_are_same}
 
 -- ---- what holds of each element
 

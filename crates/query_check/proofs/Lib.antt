@@ -1,16 +1,6 @@
 pub mod Examples
-pub mod SetExamples
-pub mod Rows
-pub mod Places
-pub mod Distinct
-pub mod SameTrees
 pub mod FilterLemmas
-pub mod Expansions
-pub mod Products
-pub mod DistinctSets
-pub mod DistinctLaw
-pub mod Counts
-pub mod RollupCube
+pub mod Limits
 pub mod Headers
 pub mod TypedLemmas
 pub mod WholeLemmas

@@ -17,14 +17,14 @@ use Rattle.query_fault.specs.declared.QueryFault.{QueryFault}
 use Rattle.query_fault.specs.declared.QueryFault.TheVariants.{UnknownColumn, TypesDisagree, NotGrouped, FunctionNotAllowed}
 use Rattle.query_check.specs.declared.scope.Clause.{Clause}
 use Rattle.query_check.specs.declared.scope.Clause.TheVariants as clause
-use Rattle.query_check.specs.Columns.{column_kind, kind_at, place_of, places_of}
-use Rattle.query_check.specs.Sets.{grouping_names, grouping_places}
+use Rattle.query_resolution.specs.Columns.{column_kind, kind_at, place_of, places_of}
+use Rattle.query_resolution.specs.Sets.{grouping_names, grouping_places}
 use Rattle.query_check.specs.Typing.{IsColumn}
 use Rattle.query_check.specs.Faults.{first_fault, fault_unless, column_fault, grouped_at_fault, grouped_fault, name_fault, is_integer, is_ordered, is_truth, argument_fault, aggregate_fault, may_stand, function_fault, grouping_fault, expression_fault, predicate_fault}
-use Rattle.query_check.specs.Functions.{aggregate_of}
+use Rattle.query_resolution.specs.Functions.{aggregate_of}
 use Rattle.query_check.specs.Standing.{AreOfTwoKinds, IsFilterIn, IsOfOtherKind, IsWrittenIn, Stands, StandsIn, argument_names, names, outer_names}
-use Rattle.query_check.proofs.Rows.{or_true}
-use Rattle.query_check.proofs.Distinct.{any_distinct}
+use Rattle.query_resolution.proofs.Rows.{or_true}
+use Rattle.query_resolution.proofs.Distinct.{any_distinct}
 use Rattle.query_check.proofs.TypedLemmas.{holds, test_from_stands}
 
 -- ---- tests in a row

@@ -21,9 +21,9 @@ use Rattle.query_fault.specs.declared.QueryFault.{QueryFault}
 use Rattle.query_fault.specs.declared.QueryFault.TheVariants.{TypesDisagree, OverLimit, RepeatedHeader, OutOfMemory}
 use Rattle.query_check.specs.declared.scope.Clause.{Clause}
 use Rattle.query_check.specs.declared.scope.Clause.TheVariants as clause
-use Rattle.query_check.specs.Columns.{column_kind, place_of}
-use Rattle.query_check.specs.Sets.{expanded, grouping_names, grouping_places}
-use Rattle.query_check.specs.Functions.{functions_of}
+use Rattle.query_resolution.specs.Columns.{column_kind, place_of}
+use Rattle.query_resolution.specs.Sets.{expanded, grouping_names, grouping_places}
+use Rattle.query_resolution.specs.Functions.{functions_of}
 use Rattle.query_check.specs.Typing.{HasKind, IsColumn, IsTypedAggregate, IsTypedName, IsTypedOperand, MayStand, aggregate_kind, key_expression, literal_kind, operand_kind}
 use Rattle.query_check.specs.Faults.{Answers, first_fault, column_fault, name_fault, is_truth, expression_fault, operand_fault, same_kind, agreement_fault, between_agreement, member_agreement, predicate_fault, parts_fault, clause_fault, header_fault, limit_fault, group_fault, records_fault, select_fault, rows_fault, clauses_fault, query_fault}
 use Rattle.query_check.specs.Standing.{AreOfTwoKinds, Disagrees, IsAtomIn, Stands, StandsIn, StandsTwice, atoms, operands, parts_atoms}

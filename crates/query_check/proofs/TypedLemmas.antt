@@ -15,10 +15,10 @@ use Rattle.query_fault.specs.declared.QueryFault.{QueryFault}
 use Rattle.query_fault.specs.declared.QueryFault.TheVariants.{FunctionNotAllowed}
 use Rattle.query_check.specs.declared.scope.Clause.{Clause}
 use Rattle.query_check.specs.declared.scope.Clause.TheVariants as clause
-use Rattle.query_check.specs.Columns.{column_kind, kind_at, place_of}
+use Rattle.query_resolution.specs.Columns.{column_kind, kind_at, place_of}
 use Rattle.query_check.specs.Typing.{IsGrouped, IsTypedName, HasKind, IsTypedAggregate, MayStand, IsTypedFunction, IsTypedGrouping, IsTypedExpression, IsTypedOperand, IsOfOneKind, IsTypedPredicate, AreTypedParts, IsTypedClause, literal_kind, operand_kind}
 use Rattle.query_check.specs.Faults.{first_fault, fault_unless, column_fault, grouped_at_fault, grouped_fault, name_fault, is_integer, is_ordered, is_truth, argument_fault, aggregate_fault, may_stand, function_fault, grouping_fault, expression_fault, operand_fault, same_kind, agreement_fault, predicate_fault, parts_fault, clause_fault}
-use Rattle.query_check.proofs.Rows.{or_true}
+use Rattle.query_resolution.proofs.Rows.{or_true}
 
 -- ---- faults in a row
 

@@ -1,5 +1,5 @@
 -- A whole query is typed exactly where it has no fault.
-use Rattle.std.proofs.Common.{◌≡◌, ◌≢◌, ◌∙◌, ℕ, suc, ◌+◌, ◌<◌, ◌≤◌, nat_lt, Bool, true, false, not, ◌||◌, List, [], ◌∷◌, ◌++◌, length, take, map, get_or, Option, None, Result, Ok, Err, OnOk, IfErr, AllPairs, refl, sym, ap, subst, append_assoc, length-append, arith}
+use Rattle.std.proofs.Common.{◌≡◌, ◌≢◌, ◌∙◌, ℕ, suc, ◌+◌, ◌<◌, ◌≤◌, nat_lt, Bool, true, false, not, ◌||◌, List, [], ◌∷◌, ◌++◌, length, take, map, get_or, Option, Some, None, Result, Ok, Err, OnOk, IfErr, AllPairs, refl, sym, ap, subst, append_assoc, length-append, arith}
 use Rattle.std.specs.Prelude.{is_some}
 use Rattle.std.specs.List.{enumerate_from, flat_map, list_any}
 use Rattle.std.specs.Option.{option_or}
@@ -17,13 +17,22 @@ use Rattle.query_print.specs.Canonical.{header_text}
 use Rattle.query_fault.specs.declared.QueryFault.{QueryFault}
 use Rattle.query_fault.specs.declared.QueryFault.TheVariants.{OutOfMemory, OverLimit, RepeatedHeader}
 use Rattle.query_check.specs.declared.scope.Clause.TheVariants as clause
-use Rattle.query_check.specs.Columns.{group_names, groups_names, place_of}
-use Rattle.query_check.specs.Sets.{expanded, grouping_names, grouping_places}
-use Rattle.query_check.specs.Functions.{functions_of}
+use Rattle.query_resolution.specs.Columns.{group_names, groups_names, place_of}
+use Rattle.query_resolution.specs.Sets.{expanded, grouping_names, grouping_places}
+use Rattle.query_resolution.specs.Functions.{functions_of}
 use Rattle.query_check.specs.Typing.{IsColumn, IsTyped, IsTypedExpression, key_expression}
 use Rattle.query_check.specs.Faults.{Answers, clause_fault, column_fault, expression_fault, first_fault, header_fault, limit_fault, query_fault, names_fault, group_fault, groups_fault, clauses_fault, records_fault, rows_fault, select_fault}
-use Rattle.query_check.proofs.Rows.{first_fault_append}
 use Rattle.query_check.proofs.TypedLemmas.{all_from_none, both_none, clause_from_none, expression_from_none, holds, none_from_all, none_from_clause, none_from_expression, none_of_both, passes}
+
+-- Of three tests in a row it is the same which two are taken first.
+or_in_a_row : {A : Type 0} (a b c : Option A) → option_or a (option_or b c) ≡ option_or (option_or a b) c
+or_in_a_row None b c = refl
+or_in_a_row (Some x) b c = refl
+
+-- The first fault of two lists in a row.
+first_fault_append : {A : Type 0} (f : A → Option QueryFault) (xs ys : List A) → first_fault f (xs ++ ys) ≡ option_or (first_fault f xs) (first_fault f ys)
+first_fault_append f [] ys = refl
+first_fault_append f (x ∷ xs) ys = ap (option_or (f x)) (first_fault_append f xs ys) ∙ or_in_a_row (f x) (first_fault f xs) (first_fault f ys)
 
 -- ---- headers
 

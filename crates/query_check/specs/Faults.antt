@@ -15,9 +15,9 @@ use Rattle.query_fault.specs.declared.QueryFault.{QueryFault}
 use Rattle.query_fault.specs.declared.QueryFault.TheVariants.{UnknownColumn, TypesDisagree, NotGrouped, OverLimit, FunctionNotAllowed, RepeatedHeader, OutOfMemory}
 use Rattle.query_check.specs.declared.scope.Clause.{Clause}
 use Rattle.query_check.specs.declared.scope.Clause.TheVariants as clause
-use Rattle.query_check.specs.Columns.{column_kind, place_of}
-use Rattle.query_check.specs.Sets.{expanded, grouping_places}
-use Rattle.query_check.specs.Functions.{functions_of}
+use Rattle.query_resolution.specs.Columns.{column_kind, place_of}
+use Rattle.query_resolution.specs.Sets.{expanded, grouping_places}
+use Rattle.query_resolution.specs.Functions.{functions_of}
 use Rattle.query_check.specs.Typing.{key_expression, literal_kind, operand_kind}
 
 -- The first fault of the elements of a list, from left to right.

@@ -1,11 +1,4 @@
-pub mod Columns
-pub mod Sets
-pub mod Laws
-pub mod Same
-pub mod Functions
 pub mod Typing
-pub mod Planning
 pub mod Filters
 pub mod Faults
 pub mod Standing
-pub mod Resolution

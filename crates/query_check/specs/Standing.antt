@@ -12,9 +12,9 @@ use Rattle.query_fault.specs.declared.QueryFault.{QueryFault}
 use Rattle.query_fault.specs.declared.QueryFault.TheVariants as faults
 use Rattle.query_check.specs.declared.scope.Clause.{Clause}
 use Rattle.query_check.specs.declared.scope.Clause.TheVariants as clause
-use Rattle.query_check.specs.Columns.{column_kind}
-use Rattle.query_check.specs.Sets.{expanded, grouping_names}
-use Rattle.query_check.specs.Functions.{aggregate_of, functions_of}
+use Rattle.query_resolution.specs.Columns.{column_kind}
+use Rattle.query_resolution.specs.Sets.{expanded, grouping_names}
+use Rattle.query_resolution.specs.Functions.{aggregate_of, functions_of}
 use Rattle.query_check.specs.Typing.{IsColumn, MayStand, key_expression, operand_kind}
 
 -- ---- what stands in a query

@@ -14,9 +14,9 @@ use Rattle.query_tree.specs.Syntax.{ExpressionForm, FunctionForm, OperandForm, P
 use Rattle.query_print.specs.Canonical.{header_text}
 use Rattle.query_check.specs.declared.scope.Clause.{Clause}
 use Rattle.query_check.specs.declared.scope.Clause.TheVariants as clause
-use Rattle.query_check.specs.Columns.{column_kind, place_of}
-use Rattle.query_check.specs.Sets.{expanded, grouping_names, grouping_places}
-use Rattle.query_check.specs.Functions.{functions_of}
+use Rattle.query_resolution.specs.Columns.{column_kind, place_of}
+use Rattle.query_resolution.specs.Sets.{expanded, grouping_names, grouping_places}
+use Rattle.query_resolution.specs.Functions.{functions_of}
 
 -- ---- names
 

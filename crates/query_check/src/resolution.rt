@@ -7,23 +7,22 @@ ghost use Rattle.std.specs.Option.{option_map};
 ghost use Rattle.values.specs.Schema.{fields_of};
 ghost use Rattle.query_tree.specs.Syntax.{expression_form, element_form, item_form, key_form, predicate_form, tree_form};
 ghost use Rattle.query_print.specs.Canonical.{header_text};
-ghost use Rattle.query_check.specs.Functions.{indexed_functions};
-ghost use Rattle.query_check.specs.Sets.{expanded};
+ghost use Rattle.query_resolution.specs.Functions.{indexed_functions};
+ghost use Rattle.query_resolution.specs.Sets.{expanded};
 ghost use Rattle.query_check.specs.Typing.{IsTyped, key_expression};
 ghost use Rattle.query_check.specs.Faults.{Answers, clause_fault, clauses_fault, expression_fault, first_fault, headers_fault, limit_fault, query_fault, records_fault, rows_fault, select_fault};
 ghost use Rattle.query_check.specs.Standing.{Stands};
 ghost use Rattle.query_fault.specs.declared.QueryFault.TheVariants.{OutOfMemory, RepeatedHeader};
-ghost use Rattle.query_check.specs.Resolution.{resolution_of};
+ghost use Rattle.query_resolution.specs.Resolution.{resolution_of};
 
-use crate::counting::set_count;
-use crate::expansion::grouping_sets;
-use crate::function::FilteredFunction;
-use crate::names::{check_groups, grouping_places};
-use crate::planning::indexed_functions;
+use crate::names::check_groups;
 use crate::scope::{Clause, Scope};
 use crate::typing::{check_expression, check_predicate};
 use query_fault::QueryFault;
 use query_print::header;
+use query_resolution::{
+    FilteredFunction, grouping_places, grouping_sets, indexed_functions, set_count,
+};
 use query_tree::{Expression, GroupingElement, Item, Key, Predicate, Text, Tree};
 use std::alloc::{AllocError, Global};
 use std::marker::Model;
@@ -47,7 +46,7 @@ pub struct Resolved {
 }
 
 impl Model for Resolved {
-    ghost use Rattle.query_check.specs.Resolution.{Resolution, contents};
+    ghost use Rattle.query_resolution.specs.Resolution.{Resolution, contents};
 
     ghost Value = { Resolution };
 
@@ -55,7 +54,7 @@ impl Model for Resolved {
 }
 
 impl Resolved {
-    ghost use Rattle.query_check.specs.Resolution.{contents};
+    ghost use Rattle.query_resolution.specs.Resolution.{contents};
 
     /// The places of the grouping columns, from 0, in the order in which GROUP BY first names them.
     pub fn grouping(&self) -> &[usize]
@@ -164,7 +163,7 @@ fn check_limit(most: u64, count: u64) -> Result<(), QueryFault>
 }
 
 /// Whether GROUP BY stands for few enough sets.
-#[tactic(auto, using(crate::proofs::Counts::answers_capped))]
+#[tactic(auto, using(crate::proofs::Limits::answers_capped))]
 fn check_set_count(groups: &[GroupingElement]) -> Result<(), QueryFault>
     ensures fault { Answers result (limit_fault 256 (length (expanded (map element_form groups.now)))) }
 {

@@ -7,9 +7,9 @@ ghost use Rattle.query_tree.specs.Syntax.{expression_form, function_form, operan
 ghost use Rattle.query_check.specs.Typing.{aggregate_kind, literal_kind, operand_kind};
 ghost use Rattle.query_check.specs.Faults.{agreement_fault, aggregate_fault, Answers, argument_fault, between_agreement, column_fault, expression_fault, first_fault, function_fault, grouped_fault, grouping_fault, is_integer, is_ordered, may_stand, name_fault, operand_fault, parts_fault, predicate_fault, same_kind, truth_fault};
 
-use crate::columns::{column_kind, place_of};
 use crate::scope::{Clause, Scope};
 use query_fault::QueryFault;
+use query_resolution::{column_kind, place_of};
 use query_tree::{Aggregate, Expression, Literal, Operand, Predicate, SetFunction, Text};
 use values::{Column, Kind};
 

@@ -2,12 +2,12 @@
 
 ghost use Rattle.std.specs.Prelude.{◌≡◌, ◌≢◌, IfErr, IfOk, OnOk, Some};
 ghost use Rattle.query_check.specs.Faults.{query_fault};
-ghost use Rattle.query_check.specs.Resolution.{resolution_of};
+ghost use Rattle.query_resolution.specs.Resolution.{resolution_of};
 ghost use Rattle.query_check.specs.Standing.{Stands};
 ghost use Rattle.query_check.specs.Typing.{IsTyped};
 ghost use Rattle.query_fault.specs.declared.QueryFault.TheVariants.{OutOfMemory};
 ghost use Rattle.query_tree.specs.Syntax.{tree_form};
-ghost use Rattle.query_check.specs.Functions.{filters_of};
+ghost use Rattle.query_resolution.specs.Functions.{filters_of};
 ghost use Rattle.query_truth.specs.Binding.{AreConditionsOf, IsConditionOf};
 ghost use Rattle.values.specs.Schema.{fields_of};
 ghost use Rattle.query_plan.specs.Form.{form_of};
@@ -15,8 +15,9 @@ ghost use Rattle.query_plan.specs.Planned.{fields_of_plan, form_of_plan};
 
 use crate::plan::Plan;
 use crate::query::Query;
-use query_check::{Resolved, check_tree, filters};
+use query_check::{Resolved, check_tree};
 use query_fault::QueryFault;
+use query_resolution::filters;
 use query_tree::Tree;
 use query_truth::{Condition, bind_filters, bind_where};
 use std::alloc::{AllocError, Global};

@@ -2,7 +2,7 @@
 
 ghost use Rattle.std.specs.Prelude.{◌≡◌, ◌<◌, length};
 ghost use Rattle.values.specs.Fit.{Fits};
-ghost use Rattle.query_check.specs.Functions.{filter_at, functions_of};
+ghost use Rattle.query_resolution.specs.Functions.{filter_at, functions_of};
 ghost use Rattle.query_truth.specs.Kept.{filter_truth, where_truth};
 ghost use Rattle.query_plan.specs.Planned.{fields_of_plan, form_of_plan};
 

@@ -1,14 +1,15 @@
 //! A query that is typed under a schema, and what its names stand for there.
 
 ghost use Rattle.std.specs.Prelude.{◌≡◌};
-ghost use Rattle.query_check.specs.Resolution.{resolution_of};
+ghost use Rattle.query_resolution.specs.Resolution.{resolution_of};
 ghost use Rattle.query_check.specs.Typing.{IsTyped};
-ghost use Rattle.query_check.specs.Functions.{filters_of};
+ghost use Rattle.query_resolution.specs.Functions.{filters_of};
 ghost use Rattle.query_truth.specs.Binding.{AreConditionsOf, IsConditionOf};
 ghost use Rattle.query_plan.specs.Form.{form_of};
 
 use crate::query::Query;
-use query_check::{FilteredFunction, Resolved, filters_law};
+use query_check::{Resolved, filters_law};
+use query_resolution::FilteredFunction;
 use query_truth::{Condition, bound_truth, condition_truth_at, mark_conditions};
 use std::alloc::AllocError;
 use values::{Record, Schema, Truth, Value};
@@ -36,9 +37,9 @@ impl Plan {
     ghost use Rattle.std.specs.List.{list_all};
     ghost use Rattle.values.specs.Datum.{Datum, data_of};
     ghost use Rattle.values.specs.Fit.{Fits};
-    ghost use Rattle.query_check.specs.Resolution.{contents};
-    ghost use Rattle.query_check.specs.Sets.{grouping_places, sets_of};
-    ghost use Rattle.query_check.specs.Functions.{filter_at, filters_of, functions_of, indexed_functions};
+    ghost use Rattle.query_resolution.specs.Resolution.{contents};
+    ghost use Rattle.query_resolution.specs.Sets.{grouping_places, sets_of};
+    ghost use Rattle.query_resolution.specs.Functions.{filter_at, filters_of, functions_of, indexed_functions};
     ghost use Rattle.query_truth.specs.Kept.{filter_truth, passes, record_value, where_truth};
     ghost use Rattle.query_truth.specs.Meaning.{condition_truth, is_safe};
     ghost use Rattle.query_truth.specs.Truth.{truth};

@@ -1,15 +1,15 @@
 //! The texts of a plan.
 
 ghost use Rattle.std.specs.Prelude.{◌≡◌, ◌<◌, IfOk, Some, length, map, option_map, slice_get, string_bytes};
-ghost use Rattle.query_check.specs.Sets.{sets_of};
-ghost use Rattle.query_check.specs.Functions.{filters_of};
-ghost use Rattle.query_check.specs.Planning.{filter_forms};
+ghost use Rattle.query_resolution.specs.Sets.{sets_of};
+ghost use Rattle.query_resolution.specs.Functions.{filters_of};
+ghost use Rattle.query_resolution.specs.Planning.{filter_forms};
 ghost use Rattle.query_print.specs.Canonical.{header_text, predicate_text, set_text};
 ghost use Rattle.query_plan.specs.Planned.{fields_of_plan, form_of_plan};
 
 use crate::plan::Plan;
-use query_check::filters;
 use query_print::predicate_text;
+use query_resolution::filters;
 use query_tree::Predicate;
 use std::alloc::{AllocError, Global};
 

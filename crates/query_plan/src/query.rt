@@ -2,10 +2,10 @@
 
 ghost use Rattle.std.specs.Prelude.{◌≡◌, ℕ, List, length, min};
 ghost use Rattle.query_tree.specs.Syntax.{tree_form};
-ghost use Rattle.query_check.specs.Sets.{expanded};
+ghost use Rattle.query_resolution.specs.Sets.{expanded};
 ghost use Rattle.query_derivation.specs.Derivation.{Derives};
 
-use query_check::set_count;
+use query_resolution::set_count;
 use query_tree::Tree;
 
 /// A query that some text derives within the limits. `parse` makes one of a text.

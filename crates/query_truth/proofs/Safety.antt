@@ -18,7 +18,7 @@ use Rattle.query_tree.specs.declared.predicate.Literal.{Literal}
 use Rattle.query_tree.specs.declared.predicate.Literal.TheVariants as constant
 use Rattle.query_tree.specs.Syntax.{OperandForm, name, grouping, function, over_all, over_filtered, expression, literal}
 use Rattle.query_check.specs.declared.scope.Clause.TheVariants as clause
-use Rattle.query_check.specs.Columns.{column_kind, kind_at, place_of}
+use Rattle.query_resolution.specs.Columns.{column_kind, kind_at, place_of}
 use Rattle.query_check.specs.Typing.{IsOfOneKind, IsTypedOperand, literal_kind, operand_kind}
 use Rattle.query_truth.specs.Kept.{column_value, record_value}
 use Rattle.query_truth.specs.declared.condition.Source.{Source}

@@ -6,7 +6,7 @@ use Rattle.values.specs.declared.truth.Truth.TheVariants.{True}
 use Rattle.values.specs.Datum.{Datum, null}
 use Rattle.values.specs.Schema.{Field}
 use Rattle.query_tree.specs.Syntax.{PredicateForm, TreeForm, name, grouping, function}
-use Rattle.query_check.specs.Columns.{place_of}
+use Rattle.query_resolution.specs.Columns.{place_of}
 use Rattle.query_truth.specs.Truth.{Valuation, same_truth, truth}
 
 -- the value of the column of a name in a record, NULL where there is no such column

@@ -10,7 +10,7 @@ ghost use Rattle.query_truth.specs.Meaning.{is_there};
 ghost use Rattle.query_truth.specs.Binding.{AreSafeWhereTyped, ForEachRecord, GivesColumn, GivesOperand, GivesParts, GivesPredicate, IsSafeWhereTyped, IsThereWhereTyped};
 
 use crate::condition::{Condition, Source};
-use query_check::place_of;
+use query_resolution::place_of;
 use query_tree::{Expression, Literal, Operand, Predicate, Text};
 use std::alloc::{AllocError, Global};
 use values::{Column, Op, Value};

@@ -5,7 +5,7 @@ ghost use Rattle.std.specs.List.{list_all};
 ghost use Rattle.values.specs.declared.truth.Truth.TheVariants.{True};
 ghost use Rattle.values.specs.Datum.{data_of};
 ghost use Rattle.values.specs.Schema.{fields_of};
-ghost use Rattle.query_check.specs.Planning.{filter_forms};
+ghost use Rattle.query_resolution.specs.Planning.{filter_forms};
 ghost use Rattle.query_truth.specs.Binding.{AreConditionsOf};
 ghost use Rattle.query_truth.specs.Meaning.{condition_truth, is_safe};
 ghost use Rattle.query_truth.specs.Truth.{same_truth};

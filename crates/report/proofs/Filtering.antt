@@ -6,9 +6,9 @@ use Rattle.std.proofs.lemmas.List.Elements.{All-filter}
 use Rattle.std.proofs.lemmas.List.Kept.{AllPairs-filter}
 use Rattle.values.specs.Schema.{Field}
 use Rattle.query_tree.specs.Syntax.{TreeForm}
-use Rattle.query_check.specs.Columns.{kind_at}
-use Rattle.query_check.specs.Functions.{functions_of}
-use Rattle.query_check.specs.Sets.{sets_of}
+use Rattle.query_resolution.specs.Columns.{kind_at}
+use Rattle.query_resolution.specs.Functions.{functions_of}
+use Rattle.query_resolution.specs.Sets.{sets_of}
 use Rattle.groups.specs.Bags.{SameBag, weigh}
 use Rattle.tables.specs.Fitting.{AreFitting, HasType, IsHeld, set_of}
 use Rattle.tables.specs.Found.{Found}

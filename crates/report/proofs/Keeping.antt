@@ -9,10 +9,10 @@ use Rattle.std.proofs.lemmas.List.Elements.{All-from_recursion, recursion_from_A
 use Rattle.values.specs.Schema.{Field}
 use Rattle.query_tree.specs.Syntax.{PredicateForm, TreeForm}
 use Rattle.query_check.specs.declared.scope.Clause.TheVariants as clause
-use Rattle.query_check.specs.Columns.{kind_at}
+use Rattle.query_resolution.specs.Columns.{kind_at}
 use Rattle.query_check.specs.Faults.{query_fault}
-use Rattle.query_check.specs.Functions.{functions_of}
-use Rattle.query_check.specs.Sets.{grouping_places, sets_of}
+use Rattle.query_resolution.specs.Functions.{functions_of}
+use Rattle.query_resolution.specs.Sets.{grouping_places, sets_of}
 use Rattle.query_check.specs.Typing.{IsTyped, IsTypedClause, IsTypedPredicate}
 use Rattle.query_check.proofs.WholeLemmas.{none_from_typed, typed_from_none}
 use Rattle.groups.specs.declared.group.Group.{Group}

@@ -8,7 +8,7 @@ use Rattle.std.specs.Option.{option_map_or}
 use Rattle.std.proofs.lemmas.Bool.Decides.{nat_tests}
 use Rattle.values.specs.Datum.{Datum, null}
 use Rattle.values.specs.Order.{value_order}
-use Rattle.query_check.specs.Columns.{distinct}
+use Rattle.query_resolution.specs.Columns.{distinct}
 use Rattle.groups.specs.Groups.{Key}
 use Rattle.report.specs.Shown.{value_in}
 

@@ -4,8 +4,8 @@ use Rattle.std.specs.Global.{Vec}
 use Rattle.std.proofs.lemmas.List.{get_or-map, length-map}
 use Rattle.values.specs.Schema.{Field}
 use Rattle.query_tree.specs.Syntax.{TreeForm}
-use Rattle.query_check.specs.Resolution.{contents}
-use Rattle.query_check.specs.Sets.{sets_of}
+use Rattle.query_resolution.specs.Resolution.{contents}
+use Rattle.query_resolution.specs.Sets.{sets_of}
 use Rattle.tables.specs.Fitting.{set_of}
 use Rattle.groups.specs.declared.group.Group.{Group}
 use Rattle.tables.specs.Found.{Found, row_of}

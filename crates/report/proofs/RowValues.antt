@@ -21,12 +21,12 @@ use Rattle.query_tree.specs.declared.expression.Expression.TheOpen as layer
 use Rattle.query_tree.specs.declared.expression.Expression.TheFolds.{fold-roll-Predicate}
 use Rattle.query_tree.specs.declared.expression.Expression.TheViews.{roll-Predicate}
 use Rattle.query_tree.specs.Syntax.{ExpressionForm, FunctionForm, OperandForm, PredicateForm, TreeForm, column, expression_step, function_step, member, operand_form, operand_step, predicate_form, predicate_step, name, grouping, function, over_all, over_filtered, expression, literal}
-use Rattle.query_check.specs.declared.function.ColumnFunction.{ColumnFunction}
-use Rattle.query_check.specs.declared.function.ColumnFunction.TheVariants as at
+use Rattle.query_resolution.specs.declared.function.ColumnFunction.{ColumnFunction}
+use Rattle.query_resolution.specs.declared.function.ColumnFunction.TheVariants as at
 use Rattle.query_check.specs.declared.scope.Clause.TheVariants as clause
-use Rattle.query_check.specs.Columns.{column_kind, kind_at, place_of}
-use Rattle.query_check.specs.Functions.{PlannedFunction, column_function, functions_of, same_function, same_planned}
-use Rattle.query_check.specs.Sets.{sets_of}
+use Rattle.query_resolution.specs.Columns.{column_kind, kind_at, place_of}
+use Rattle.query_resolution.specs.Functions.{PlannedFunction, column_function, functions_of, same_function, same_planned}
+use Rattle.query_resolution.specs.Sets.{sets_of}
 use Rattle.query_check.specs.Typing.{IsOfOneKind, IsTypedExpression, IsTypedOperand, IsTypedPredicate, MayStand, aggregate_kind, expression_kind, literal_kind, operand_kind}
 use Rattle.query_truth.specs.Meaning.{comparable, is_truth_value}
 use Rattle.query_truth.specs.Truth.{literal_value, operand_value}

@@ -15,9 +15,9 @@ use Rattle.values.specs.Datum.{Datum, null}
 use Rattle.values.specs.Order.{value_order}
 use Rattle.values.specs.Schema.{Field}
 use Rattle.query_tree.specs.Syntax.{KeyForm, TreeForm}
-use Rattle.query_check.specs.Columns.{places_of}
-use Rattle.query_check.specs.Sets.{grouping_names, grouping_places, sets_of}
-use Rattle.query_check.proofs.DistinctSets.{names_kept, set_of_names, sets_by_names}
+use Rattle.query_resolution.specs.Columns.{places_of}
+use Rattle.query_resolution.specs.Sets.{grouping_names, grouping_places, sets_of}
+use Rattle.query_resolution.proofs.DistinctSets.{names_kept, set_of_names, sets_by_names}
 use Rattle.groups.specs.declared.group.Group.{Group}
 use Rattle.groups.specs.Groups.{key_order}
 use Rattle.groups.specs.Bags.{SameBag}

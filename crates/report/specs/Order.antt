@@ -9,7 +9,7 @@ use Rattle.values.specs.Datum.{Datum}
 use Rattle.values.specs.Order.{value_order}
 use Rattle.values.specs.Schema.{Field}
 use Rattle.query_tree.specs.Syntax.{KeyForm, TreeForm}
-use Rattle.query_check.specs.Sets.{grouping_places}
+use Rattle.query_resolution.specs.Sets.{grouping_places}
 use Rattle.query_check.specs.Typing.{key_expression}
 use Rattle.query_truth.specs.Truth.{is_null}
 use Rattle.tables.specs.Fitting.{set_of}

@@ -5,8 +5,8 @@ use Rattle.std.specs.Option.{option_map_or, option_and_then}
 use Rattle.values.specs.Datum.{Datum, whole, null}
 use Rattle.values.specs.Schema.{Field}
 use Rattle.query_tree.specs.Syntax.{ExpressionForm, FunctionForm, TreeForm, name, grouping, function}
-use Rattle.query_check.specs.Columns.{place_of}
-use Rattle.query_check.specs.Functions.{place_among}
+use Rattle.query_resolution.specs.Columns.{place_of}
+use Rattle.query_resolution.specs.Functions.{place_among}
 use Rattle.groups.specs.Functions.{Summary, plain}
 use Rattle.groups.specs.Groups.{Key}
 use Rattle.tables.specs.Found.{Found}

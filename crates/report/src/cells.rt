@@ -13,8 +13,8 @@ ghost use Rattle.report.specs.Shown.{grouping_number, grouping_shown, is_rolled_
 use crate::source::{Source, key_place, source_of};
 use crate::view::PlanView;
 use groups::{Cell, Group};
-use query_check::place_of;
 use query_plan::{Expression, Text};
+use query_resolution::place_of;
 use std::alloc::AllocError;
 use values::{Column, Value};
 

@@ -4,7 +4,7 @@ ghost use Rattle.std.specs.Option.{option_map_or};
 ghost use Rattle.values.specs.Datum.{null};
 ghost use Rattle.values.specs.Schema.{fields_of};
 ghost use Rattle.query_tree.specs.Syntax.{expression_form};
-ghost use Rattle.query_check.specs.Sets.{sets_of};
+ghost use Rattle.query_resolution.specs.Sets.{sets_of};
 ghost use Rattle.query_plan.specs.Planned.{fields_of_plan, form_of_plan};
 ghost use Rattle.groups.specs.Functions.{Summary, plain};
 ghost use Rattle.groups.specs.Groups.{Key};
@@ -13,8 +13,8 @@ ghost use Rattle.report.specs.Inside.Sources.{AreSourcesOf, AreSourcesOfEach, Is
 
 use crate::cells::grouping_value;
 use crate::view::PlanView;
-use query_check::place_of;
 use query_plan::{Expression, Text};
+use query_resolution::place_of;
 use std::alloc::{AllocError, Global};
 use values::{Column, Value};
 

@@ -1,11 +1,11 @@
 //! A plan as the rows of a report are shown under it.
 ghost use Rattle.std.specs.Prelude.{◌≡◌};
-ghost use Rattle.query_check.specs.Functions.{functions_of};
-ghost use Rattle.query_check.specs.Planning.{planned_forms};
+ghost use Rattle.query_resolution.specs.Functions.{functions_of};
+ghost use Rattle.query_resolution.specs.Planning.{planned_forms};
 ghost use Rattle.query_plan.specs.Planned.{fields_of_plan, form_of_plan};
 
-use query_check::{Planned, planned_functions, planned_place};
 use query_plan::{Plan, Query, SetFunction};
+use query_resolution::{Planned, planned_functions, planned_place};
 use std::alloc::{AllocError, Global};
 use std::marker::Model;
 use values::Schema;
@@ -31,10 +31,10 @@ impl<'a> Model for PlanView<'a> {
 
 impl<'a> PlanView<'a> {
     ghost use Rattle.std.specs.Prelude.{◌≡◌, IfOk};
-    ghost use Rattle.query_check.specs.Functions.{place_among};
+    ghost use Rattle.query_resolution.specs.Functions.{place_among};
     ghost use Rattle.query_tree.specs.Syntax.{function_form};
-    ghost use Rattle.query_check.specs.Resolution.{contents};
-    ghost use Rattle.query_check.specs.Sets.{sets_of};
+    ghost use Rattle.query_resolution.specs.Resolution.{contents};
+    ghost use Rattle.query_resolution.specs.Sets.{sets_of};
     ghost use Rattle.query_check.specs.Typing.{IsTyped};
     ghost use Rattle.query_plan.specs.Form.{form_of};
     ghost use Rattle.query_plan.specs.Planned.{fields_of_plan, form_of_plan};

@@ -5,8 +5,8 @@ use Rattle.std.specs.Option.{option_and_then}
 use Rattle.values.specs.Schema.{Field}
 use Rattle.query_tree.specs.Syntax.{PredicateForm, TreeForm}
 use Rattle.query_check.specs.Filters.{filters_at}
-use Rattle.query_check.specs.Functions.{PlannedFunction, filters_of, functions_of, indexed, indexed_functions}
-use Rattle.query_check.specs.Same.{same_predicate}
+use Rattle.query_resolution.specs.Functions.{PlannedFunction, filters_of, functions_of, indexed, indexed_functions}
+use Rattle.query_resolution.specs.Same.{same_predicate}
 use Rattle.query_check.proofs.FilterLemmas.{indexes_lead_back}
 use Rattle.query_truth.specs.Kept.{passes}
 use Rattle.groups.specs.Functions.{bound, filter_at}

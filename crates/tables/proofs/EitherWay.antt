@@ -5,7 +5,7 @@ use Rattle.groups.specs.Functions.{AggregateFunction}
 use Rattle.groups.specs.Inside.Group.{GroupState}
 use Rattle.groups.specs.Inside.Table.{AreGroupsWithin, CanJoin, Contents, IsFitting, IsTableOf}
 use Rattle.groups.specs.Rows.{Row}
-use Rattle.query_check.specs.declared.function.FilteredFunction.{FilteredFunction}
+use Rattle.query_resolution.specs.declared.function.FilteredFunction.{FilteredFunction}
 use Rattle.groups.proofs.AnyOrder.{table-same}
 use Rattle.tables.proofs.Bags.{weigh-append}
 

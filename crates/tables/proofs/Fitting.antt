@@ -9,8 +9,8 @@ use Rattle.std.specs.List.{AllByRecursion, AllPairs, AllZip, IsDistinct, enumera
 use Rattle.values.specs.Schema.{Field}
 use Rattle.query_tree.specs.Syntax.{TreeForm}
 use Rattle.groups.specs.Functions.{AggregateFunction, Summary}
-use Rattle.query_check.specs.Functions.{PlannedFunction, functions_of}
-use Rattle.query_check.specs.Sets.{sets_of}
+use Rattle.query_resolution.specs.Functions.{PlannedFunction, functions_of}
+use Rattle.query_resolution.specs.Sets.{sets_of}
 use Rattle.groups.specs.Rows.{Row}
 use Rattle.groups.specs.Groups.{Key, keys, members, project, same_key}
 use Rattle.groups.specs.Bags.{SameBag, weigh}

@@ -9,7 +9,7 @@ use Rattle.lines.specs.Input.{good, refused}
 use Rattle.lines.specs.Lines.{lines}
 use Rattle.query_tree.specs.Syntax.{TreeForm}
 use Rattle.tables.specs.Functions.{aggregate_functions}
-use Rattle.query_check.specs.Sets.{grouping_places}
+use Rattle.query_resolution.specs.Sets.{grouping_places}
 use Rattle.query_truth.specs.Kept.{kept}
 use Rattle.groups.specs.Bags.{SameBag}
 use Rattle.groups.specs.Rows.{Row}

@@ -8,7 +8,7 @@ use Rattle.values.specs.Schema.{Field}
 use Rattle.query_tree.specs.Syntax.{TreeForm}
 use Rattle.groups.specs.Functions.{AggregateFunction}
 use Rattle.tables.specs.Functions.{aggregate_functions}
-use Rattle.query_check.specs.Sets.{sets_of}
+use Rattle.query_resolution.specs.Sets.{sets_of}
 use Rattle.query_truth.specs.Kept.{kept}
 use Rattle.groups.specs.Rows.{Row}
 use Rattle.groups.specs.Groups.{Key, keys, members}

@@ -13,7 +13,7 @@ use Rattle.lines.specs.Lines.{line_feed, lines, without_empty_last}
 use Rattle.lines.specs.Taken.{taken}
 use Rattle.query_tree.specs.Syntax.{TreeForm}
 use Rattle.tables.specs.Functions.{aggregate_functions}
-use Rattle.query_check.specs.Sets.{grouping_places}
+use Rattle.query_resolution.specs.Sets.{grouping_places}
 use Rattle.query_truth.specs.Kept.{is_kept, kept}
 use Rattle.groups.specs.Rows.{Row}
 use Rattle.groups.specs.Inside.Table.{Contents, IsTableOf}

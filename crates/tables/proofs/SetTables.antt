@@ -10,10 +10,10 @@ use Rattle.std.specs.List.Sorted.{IsPermutation}
 use Rattle.values.specs.Schema.{Field}
 use Rattle.query_tree.specs.Syntax.{TreeForm}
 use Rattle.groups.specs.Functions.{AggregateFunction}
-use Rattle.query_check.specs.Columns.{places_of}
-use Rattle.query_check.specs.Resolution.{contents}
-use Rattle.query_check.specs.Sets.{grouping_places, sets_of}
-use Rattle.query_check.proofs.DistinctSets.{names_kept, set_of_names, sets_by_names}
+use Rattle.query_resolution.specs.Columns.{places_of}
+use Rattle.query_resolution.specs.Resolution.{contents}
+use Rattle.query_resolution.specs.Sets.{grouping_places, sets_of}
+use Rattle.query_resolution.proofs.DistinctSets.{names_kept, set_of_names, sets_by_names}
 use Rattle.groups.specs.declared.group.Group.{Group}
 use Rattle.groups.specs.Rolled.{AreAmong}
 use Rattle.groups.specs.Rows.{Row}

@@ -11,9 +11,9 @@ use Rattle.values.specs.Datum.{Datum, boolean, whole, text, null}
 use Rattle.values.specs.Fit.{Holds}
 use Rattle.values.specs.Schema.{Field}
 use Rattle.lines.specs.Taken.{is_int64}
-use Rattle.query_check.specs.declared.function.ColumnFunction.{ColumnFunction}
-use Rattle.query_check.specs.declared.function.ColumnFunction.TheVariants as function
-use Rattle.query_check.specs.Columns.{kind_at}
+use Rattle.query_resolution.specs.declared.function.ColumnFunction.{ColumnFunction}
+use Rattle.query_resolution.specs.declared.function.ColumnFunction.TheVariants as function
+use Rattle.query_resolution.specs.Columns.{kind_at}
 use Rattle.groups.specs.Functions.{Summary, plain, ratio}
 use Rattle.tables.specs.Fitting.{IsAverage, IsCount, IsHeld, IsOfColumn, IsSum, HasType}
 

@@ -13,12 +13,12 @@ use Rattle.values.specs.Schema.{Field, names_of}
 use Rattle.query_tree.specs.declared.expression.Aggregate.{Aggregate}
 use Rattle.query_tree.specs.declared.expression.Aggregate.TheVariants as aggregate
 use Rattle.query_tree.specs.Syntax.{FunctionForm, PredicateForm, TreeForm}
-use Rattle.query_check.specs.declared.function.ColumnFunction.{ColumnFunction}
-use Rattle.query_check.specs.declared.function.ColumnFunction.TheVariants as function
-use Rattle.query_check.specs.Columns.{kind_at, place_of, places_of}
-use Rattle.query_check.specs.Functions.{PlannedFunction, aggregate_of, column_function, filter_of, functions_of, planned_function, same_planned, set_functions}
-use Rattle.query_check.specs.Sets.{grouping_names, grouping_places, ordered_set, sets_of}
-use Rattle.query_check.proofs.DistinctSets.{names_kept, set_of_names, sets_by_names}
+use Rattle.query_resolution.specs.declared.function.ColumnFunction.{ColumnFunction}
+use Rattle.query_resolution.specs.declared.function.ColumnFunction.TheVariants as function
+use Rattle.query_resolution.specs.Columns.{kind_at, place_of, places_of}
+use Rattle.query_resolution.specs.Functions.{PlannedFunction, aggregate_of, column_function, filter_of, functions_of, planned_function, same_planned, set_functions}
+use Rattle.query_resolution.specs.Sets.{grouping_names, grouping_places, ordered_set, sets_of}
+use Rattle.query_resolution.proofs.DistinctSets.{names_kept, set_of_names, sets_by_names}
 use Rattle.groups.specs.Rows.{Row, column_values, is_present, column_numbers, value_at}
 use Rattle.groups.specs.Functions.{AggregateFunction, Summary, plain, agg, average_of, filtered, sum_of, value_over}
 use Rattle.groups.specs.Bags.{SameBag}

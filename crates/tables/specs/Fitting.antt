@@ -8,11 +8,11 @@ use Rattle.values.specs.Schema.{Field}
 use Rattle.query_tree.specs.Syntax.{TreeForm}
 use Rattle.query_plan.specs.declared.plan.Plan.{Plan}
 use Rattle.query_plan.specs.Planned.{fields_of_plan, form_of_plan}
-use Rattle.query_check.specs.declared.function.ColumnFunction.{ColumnFunction}
-use Rattle.query_check.specs.declared.function.ColumnFunction.TheVariants as function
-use Rattle.query_check.specs.Columns.{kind_at}
-use Rattle.query_check.specs.Functions.{functions_of}
-use Rattle.query_check.specs.Sets.{sets_of}
+use Rattle.query_resolution.specs.declared.function.ColumnFunction.{ColumnFunction}
+use Rattle.query_resolution.specs.declared.function.ColumnFunction.TheVariants as function
+use Rattle.query_resolution.specs.Columns.{kind_at}
+use Rattle.query_resolution.specs.Functions.{functions_of}
+use Rattle.query_resolution.specs.Sets.{sets_of}
 use Rattle.groups.specs.Functions.{Summary, plain, ratio}
 use Rattle.tables.specs.Found.{Found}
 

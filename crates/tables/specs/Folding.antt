@@ -6,8 +6,8 @@ use Rattle.values.specs.Schema.{Field}
 use Rattle.lines.specs.declared.fault.LineFault.{LineFault}
 use Rattle.lines.specs.Taken.{taken}
 use Rattle.query_tree.specs.Syntax.{TreeForm}
-use Rattle.query_check.specs.Sets.{grouping_places}
-use Rattle.query_check.specs.Functions.{indexed_functions}
+use Rattle.query_resolution.specs.Sets.{grouping_places}
+use Rattle.query_resolution.specs.Functions.{indexed_functions}
 use Rattle.query_truth.specs.Kept.{kept}
 use Rattle.groups.specs.Rows.{Row}
 use Rattle.groups.specs.Inside.Table.{Contents, IsOfFew, IsTableOf, TakesOne}

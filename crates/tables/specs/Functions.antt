@@ -3,7 +3,7 @@ use Rattle.std.specs.Prelude.{Bool, ℕ, List, map, option_map}
 use Rattle.values.specs.Schema.{Field}
 use Rattle.query_tree.specs.Syntax.{TreeForm}
 use Rattle.query_print.specs.Canonical.{predicate_text}
-use Rattle.query_check.specs.Functions.{PlannedFunction, filters_of, functions_of}
+use Rattle.query_resolution.specs.Functions.{PlannedFunction, filters_of, functions_of}
 use Rattle.query_truth.specs.Kept.{passes}
 use Rattle.groups.specs.Functions.{AggregateFunction}
 use Rattle.groups.specs.Rows.{Row}

@@ -13,8 +13,8 @@ use Rattle.lines.specs.Input.{answers, good, refused}
 use Rattle.lines.specs.Lines.{lines}
 use Rattle.lines.specs.Taken.{taken}
 use Rattle.query_tree.specs.Syntax.{TreeForm}
-use Rattle.query_check.specs.Functions.{indexed_functions}
-use Rattle.query_check.specs.Sets.{grouping_places, sets_of}
+use Rattle.query_resolution.specs.Functions.{indexed_functions}
+use Rattle.query_resolution.specs.Sets.{grouping_places, sets_of}
 use Rattle.query_truth.specs.Kept.{is_kept, kept}
 use Rattle.groups.specs.Bags.{weigh}
 use Rattle.groups.specs.Groups.{members}

@@ -6,9 +6,9 @@ use Rattle.values.specs.Schema.{Field}
 use Rattle.lines.specs.declared.pieces.Piece.{Piece}
 use Rattle.lines.specs.Pieces.{bytes_of}
 use Rattle.query_tree.specs.Syntax.{TreeForm}
-use Rattle.query_check.specs.declared.function.FilteredFunction.{FilteredFunction}
-use Rattle.query_check.specs.Functions.{indexed_functions}
-use Rattle.query_check.specs.Sets.{grouping_places, sets_of}
+use Rattle.query_resolution.specs.declared.function.FilteredFunction.{FilteredFunction}
+use Rattle.query_resolution.specs.Functions.{indexed_functions}
+use Rattle.query_resolution.specs.Sets.{grouping_places, sets_of}
 use Rattle.query_truth.specs.Kept.{kept}
 use Rattle.groups.specs.Bags.{weigh}
 use Rattle.groups.specs.Functions.{AggregateFunction}

@@ -3,8 +3,8 @@ use Rattle.std.specs.Prelude.{◌≡◌, ℕ, List, [], ◌∷◌, length, map}
 use Rattle.values.specs.Schema.{Field}
 use Rattle.lines.specs.Input.{good, refused}
 use Rattle.query_tree.specs.Syntax.{TreeForm}
-use Rattle.query_check.specs.Sets.{grouping_places, sets_of}
-use Rattle.query_check.specs.Functions.{indexed_functions}
+use Rattle.query_resolution.specs.Sets.{grouping_places, sets_of}
+use Rattle.query_resolution.specs.Functions.{indexed_functions}
 use Rattle.query_truth.specs.Kept.{kept}
 use Rattle.groups.specs.Rows.{Row}
 use Rattle.groups.specs.Bags.{SameBag}

@@ -1,6 +1,6 @@
 -- What partial results and groups are under a plan: under its columns and its query.
 use Rattle.std.specs.Prelude.{List, map, ℕ}
-use Rattle.query_check.specs.Sets.{grouping_places}
+use Rattle.query_resolution.specs.Sets.{grouping_places}
 use Rattle.query_truth.specs.Kept.{kept}
 use Rattle.groups.specs.declared.group.Group.{Group}
 use Rattle.groups.specs.Bags.{SameBag}

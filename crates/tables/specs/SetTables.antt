@@ -1,6 +1,6 @@
 -- Tables of grouping sets, rolled out of one another. Private calls alone speak of them.
 use Rattle.std.specs.Prelude.{◌≢◌, ◌<◌, ◌^◌, Bool, ℕ, List, All, length, map}
-use Rattle.query_check.specs.declared.function.FilteredFunction.{FilteredFunction}
+use Rattle.query_resolution.specs.declared.function.FilteredFunction.{FilteredFunction}
 use Rattle.groups.specs.Functions.{AggregateFunction, bound}
 use Rattle.groups.specs.Rolled.{AreAmong}
 use Rattle.groups.specs.Rows.{Row}

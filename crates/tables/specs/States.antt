@@ -1,7 +1,7 @@
 -- What a partial result and the groups of an input hold, apart from where it lies in memory.
 use Rattle.std.specs.Prelude.{ℕ, List}
 use Rattle.lines.specs.declared.fault.LineFault.{LineFault}
-use Rattle.query_check.specs.declared.function.FilteredFunction.{FilteredFunction}
+use Rattle.query_resolution.specs.declared.function.FilteredFunction.{FilteredFunction}
 use Rattle.groups.specs.Inside.Table.{Contents}
 use Rattle.tables.specs.Found.{Found}
 use Rattle.tables.specs.Notes.{Noted}

@@ -5,7 +5,7 @@ ghost use Rattle.groups.specs.Functions.{AggregateFunction, bound};
 ghost use Rattle.groups.specs.GroupSummaries.{group_summaries, group_summary_in};
 ghost use Rattle.groups.specs.Inside.Table.{AreGroupsWithin, CanJoin, IsTableOf};
 ghost use Rattle.groups.specs.Rows.{Row};
-ghost use Rattle.query_check.specs.declared.function.FilteredFunction.{FilteredFunction};
+ghost use Rattle.query_resolution.specs.declared.function.FilteredFunction.{FilteredFunction};
 
 use groups::{Group, Table};
 use query_plan::FilteredFunction;

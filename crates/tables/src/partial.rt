@@ -45,8 +45,8 @@ impl Model for Partial {
     ghost use Rattle.std.specs.Coded.{codes};
     ghost use Rattle.std.specs.Prelude.{map, string_bytes};
     ghost use Rattle.lines.specs.contracts.fault.LineFault as line_fault;
-    ghost use Rattle.query_check.specs.contracts.function.FilteredFunction as filtered_function;
-    ghost use Rattle.query_check.specs.Resolution.{contents};
+    ghost use Rattle.query_resolution.specs.contracts.function.FilteredFunction as filtered_function;
+    ghost use Rattle.query_resolution.specs.Resolution.{contents};
     ghost use Rattle.groups.specs.Inside.Table.{coded_contents};
     ghost use Rattle.tables.specs.Notes.{notes_in};
     ghost use Rattle.tables.specs.States.{PartialState};

@@ -1,6 +1,6 @@
 //! What two partial results have the same that can be merged.
 ghost use Rattle.std.specs.Prelude.{◌≡◌, IfOk, IsTrue, ◌↔◌, map, string_bytes};
-ghost use Rattle.query_check.specs.Resolution.{contents};
+ghost use Rattle.query_resolution.specs.Resolution.{contents};
 
 use query_plan::{FilteredFunction, Plan, filter_texts};
 use std::alloc::{AllocError, Global};
@@ -15,8 +15,8 @@ pub(crate) struct Shape {
 
 impl Shape {
     ghost use Rattle.query_plan.specs.Planned.{fields_of_plan, form_of_plan};
-    ghost use Rattle.query_check.specs.Sets.{sets_of};
-    ghost use Rattle.query_check.specs.Functions.{indexed_functions};
+    ghost use Rattle.query_resolution.specs.Sets.{sets_of};
+    ghost use Rattle.query_resolution.specs.Functions.{indexed_functions};
     ghost use Rattle.tables.specs.Functions.{filter_texts};
 
     /// The shape of a plan.

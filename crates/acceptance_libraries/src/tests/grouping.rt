@@ -6,7 +6,7 @@ ghost use Rattle.groups.specs.Rows.{Row, IsNarrow, IsNarrowRow, is_present, valu
 ghost use Rattle.groups.specs.Inside.Table.{IsTableOf};
 
 use groups::{Cell, Group, Table};
-use query_check::{ColumnFunction, FilteredFunction};
+use query_resolution::{ColumnFunction, FilteredFunction};
 use std::alloc::{AllocError, Global};
 use std::test::Fail;
 use values::Value;

@@ -1,7 +1,8 @@
 //! What no clause says: that a query is checked and resolved where memory is ample.
 
 use query::QueryFault;
-use query_check::{ColumnFunction, FilteredFunction, check_tree, set_count};
+use query_check::check_tree;
+use query_resolution::{ColumnFunction, FilteredFunction, set_count};
 use query_tree::{Aggregate, Expression, GroupingElement, Item, SetFunction, Text, Tree};
 use std::alloc::{AllocError, Global};
 use std::test::Fail;

@@ -1,6 +1,6 @@
 //! What a query finds in an input, by the definitions' plain program: slow, over lists, without tables.
 ghost use Rattle.std.specs.Prelude.{◌<◌, length};
-ghost use Rattle.query_check.specs.Functions.{functions_of};
+ghost use Rattle.query_resolution.specs.Functions.{functions_of};
 ghost use Rattle.query_plan.specs.Planned.{fields_of_plan, form_of_plan};
 
 use lines::{LineFault, LineRefusal, lines_of, read_record};

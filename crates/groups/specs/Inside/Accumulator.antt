@@ -6,8 +6,8 @@ use Rattle.std.specs.Option.{option_map_or}
 use Rattle.std.specs.Coded.{Coded, code_by, coded×, coded_ℕ, coded_ℤ}
 use Rattle.values.specs.Datum.{Datum, datum_of, whole, null}
 use Rattle.values.specs.Order.{value_order}
-use Rattle.query_check.specs.declared.function.ColumnFunction.{ColumnFunction}
-use Rattle.query_check.specs.declared.function.ColumnFunction.TheVariants as function
+use Rattle.query_resolution.specs.declared.function.ColumnFunction.{ColumnFunction}
+use Rattle.query_resolution.specs.declared.function.ColumnFunction.TheVariants as function
 use Rattle.groups.specs.Rows.{Row, value_at, present, numbers, column_values, column_numbers}
 use Rattle.groups.specs.Functions.{AggregateFunction, Summary, plain, ratio, total, least, greatest}
 use Rattle.groups.specs.Inside.Coding.{coded_datum}

@@ -3,7 +3,7 @@ use Rattle.std.specs.Prelude.{◌<◌, ℕ, List, [], ◌∷◌, length, map}
 use Rattle.values.specs.Datum.{data_of}
 use Rattle.query_tree.specs.Syntax.{ExpressionForm, PredicateForm, PredicateForms}
 use Rattle.query_check.specs.declared.scope.Clause.TheVariants as clause
-use Rattle.query_check.specs.Sets.{grouping_places, sets_of}
+use Rattle.query_resolution.specs.Sets.{grouping_places, sets_of}
 use Rattle.query_check.specs.Typing.{AreTypedParts, IsTypedPredicate}
 use Rattle.query_truth.specs.Truth.{Valuation}
 use Rattle.query_plan.specs.declared.plan.Plan.{Plan}

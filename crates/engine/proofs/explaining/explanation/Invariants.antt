@@ -1,6 +1,6 @@
 use Rattle.std.proofs.Common.{◌≡◌, ◌++◌, string_bytes}
 use Rattle.std.specs.Prelude.{codes}
-use Rattle.query_check.specs.Sets.{sets_of}
+use Rattle.query_resolution.specs.Sets.{sets_of}
 use Rattle.query_print.specs.Canonical.{canonical_text}
 use Rattle.query_plan.specs.Planned.{fields_of_plan, form_of_plan}
 use Rattle.engine.proofs.Explained.{lines_from}

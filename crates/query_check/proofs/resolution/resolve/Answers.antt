@@ -4,11 +4,11 @@ use Rattle.std.specs.List.{flat_map}
 use Rattle.values.specs.Schema.{Field, fields_of}
 use Rattle.query_tree.specs.declared.group.GroupingElement.{GroupingElement}
 use Rattle.query_tree.specs.Syntax.{element_form, tree_form}
-use Rattle.query_check.specs.declared.function.FilteredFunction.{FilteredFunction}
-use Rattle.query_check.specs.Columns.{distinct, group_names, places_of}
-use Rattle.query_check.specs.Sets.{expanded, grouping_places, ordered_set, same_columns, sets_of}
-use Rattle.query_check.specs.Functions.{indexed_functions}
-use Rattle.query_check.specs.Resolution.{contents, Resolution}
+use Rattle.query_resolution.specs.declared.function.FilteredFunction.{FilteredFunction}
+use Rattle.query_resolution.specs.Columns.{distinct, group_names, places_of}
+use Rattle.query_resolution.specs.Sets.{expanded, grouping_places, ordered_set, same_columns, sets_of}
+use Rattle.query_resolution.specs.Functions.{indexed_functions}
+use Rattle.query_resolution.specs.Resolution.{contents, Resolution}
 use Rattle.query_check.proofs.resolution.resolve.Goals as goal
 
 pub returns-clause-resolved : goal.returns-clause-resolved

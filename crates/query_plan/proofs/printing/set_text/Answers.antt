@@ -3,8 +3,8 @@ use Rattle.std.proofs.lemmas.List.{get_or-map, length-map}
 use Rattle.std.proofs.lemmas.Option.{slice_get-get_or}
 use Rattle.std.proofs.lemmas.Result.{IfOk-weaker}
 use Rattle.std.specs.Global.{Vec}
-use Rattle.query_check.specs.Resolution.{contents}
-use Rattle.query_check.specs.Sets.{sets_of}
+use Rattle.query_resolution.specs.Resolution.{contents}
+use Rattle.query_resolution.specs.Sets.{sets_of}
 use Rattle.query_print.specs.Canonical.{set_text}
 use Rattle.query_plan.specs.Planned.{fields_of_plan, form_of_plan}
 use Rattle.query_plan.proofs.printing.set_text.Goals as goal

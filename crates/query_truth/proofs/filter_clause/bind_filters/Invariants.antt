@@ -1,6 +1,6 @@
 use Rattle.std.proofs.Common.{take}
 use Rattle.values.specs.Schema.{fields_of}
-use Rattle.query_check.specs.Planning.{filter_forms}
+use Rattle.query_resolution.specs.Planning.{filter_forms}
 use Rattle.query_truth.specs.Binding.{AreConditionsOf}
 use Rattle.query_truth.proofs.filter_clause.bind_filters.Given as goal
 

@@ -1,6 +1,6 @@
 use Rattle.std.proofs.Common.{◌≡◌, ◌++◌, ◌<◌, Bor, ℕ, length, map}
 use Rattle.std.specs.List.{AllByRecursion}
-use Rattle.query_check.specs.Sets.{sets_of}
+use Rattle.query_resolution.specs.Sets.{sets_of}
 use Rattle.query_plan.specs.Planned.{fields_of_plan, form_of_plan}
 use Rattle.groups.specs.declared.group.Group.{Group}
 use Rattle.tables.specs.Found.{row_of}

@@ -4,7 +4,7 @@ use Rattle.query_tree.specs.declared.expression.Predicate.{Predicate}
 use Rattle.query_tree.specs.declared.predicate.Literal.{Literal}
 use Rattle.query_tree.specs.Syntax.{member, operand_form, predicate_form, predicate_forms}
 use Rattle.query_check.specs.declared.scope.Clause.TheVariants as clause
-use Rattle.query_check.specs.Sets.{grouping_places}
+use Rattle.query_resolution.specs.Sets.{grouping_places}
 use Rattle.query_check.specs.Typing.{IsTypedPredicate}
 use Rattle.query_truth.specs.Meaning.{is_truth_value}
 use Rattle.query_truth.specs.Truth.{truth, truths}

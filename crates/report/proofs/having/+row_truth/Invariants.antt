@@ -2,7 +2,7 @@ use Rattle.std.proofs.Common.{◌≡◌, drop, fold, map}
 use Rattle.values.specs.Truth.{conjunction, disjunction}
 use Rattle.query_tree.specs.Syntax.{predicate_form, predicate_forms}
 use Rattle.query_check.specs.declared.scope.Clause.TheVariants as clause
-use Rattle.query_check.specs.Sets.{grouping_places}
+use Rattle.query_resolution.specs.Sets.{grouping_places}
 use Rattle.query_check.specs.Typing.{AreTypedParts}
 use Rattle.query_truth.specs.Truth.{all_of, any_of, truths}
 use Rattle.query_plan.specs.Planned.{fields_of_plan, form_of_plan}

@@ -1,6 +1,6 @@
 use Rattle.values.specs.Datum.{datum_of}
 use Rattle.query_tree.specs.Syntax.{operand_form}
-use Rattle.query_check.specs.Sets.{grouping_places}
+use Rattle.query_resolution.specs.Sets.{grouping_places}
 use Rattle.query_plan.specs.Planned.{fields_of_plan, form_of_plan}
 use Rattle.tables.specs.Found.{row_of}
 use Rattle.report.proofs.RowValues.{are-comparable}

@@ -2,7 +2,7 @@ use Rattle.std.proofs.Common.{◌∙◌, ap, map}
 use Rattle.std.specs.List.{list_all}
 use Rattle.values.specs.Datum.{Datum, datum_of}
 use Rattle.query_tree.specs.Syntax.{operand_form}
-use Rattle.query_check.specs.Sets.{grouping_places}
+use Rattle.query_resolution.specs.Sets.{grouping_places}
 use Rattle.query_truth.specs.Meaning.{comparable}
 use Rattle.query_truth.specs.Truth.{operand_value}
 use Rattle.query_plan.specs.Planned.{fields_of_plan, form_of_plan}

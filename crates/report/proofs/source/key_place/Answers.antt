@@ -4,7 +4,7 @@ use Rattle.std.proofs.lemmas.Iterator.{YieldsList-from_slice}
 use Rattle.std.proofs.lemmas.Iterator.Search.{position_from_yields_List}
 use Rattle.values.specs.Datum.{null}
 use Rattle.values.specs.Schema.{fields_of}
-use Rattle.query_check.specs.Columns.{place_of}
+use Rattle.query_resolution.specs.Columns.{place_of}
 use Rattle.report.specs.Shown.{value_in}
 use Rattle.report.proofs.source.key_place.Goals as goal
 

@@ -1,8 +1,8 @@
 use Rattle.std.proofs.Common.{◌≡◌, ◌∙◌, ◌+◌, ◌<◌, ◌≤◌, ℕ, List, [], length, get_or, take, take_all, ap, subst, sym, arith}
 use Rattle.std.specs.Global.{Vec}
 use Rattle.std.proofs.lemmas.List.{get_or-map, length-map}
-use Rattle.query_check.specs.Resolution.{contents}
-use Rattle.query_check.specs.Sets.{sets_of}
+use Rattle.query_resolution.specs.Resolution.{contents}
+use Rattle.query_resolution.specs.Sets.{sets_of}
 use Rattle.query_plan.specs.Planned.{fields_of_plan, form_of_plan}
 use Rattle.report.specs.declared.source.Source.{Source}
 use Rattle.report.specs.Inside.Sources.{AreSourcesOf, AreSourcesOfEach}

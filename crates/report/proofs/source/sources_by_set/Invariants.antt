@@ -1,5 +1,5 @@
 use Rattle.std.proofs.Common.{take}
-use Rattle.query_check.specs.Resolution.{contents}
+use Rattle.query_resolution.specs.Resolution.{contents}
 use Rattle.report.specs.Inside.Sources.{AreSourcesOfEach}
 use Rattle.report.proofs.source.sources_by_set.Given as goal
 

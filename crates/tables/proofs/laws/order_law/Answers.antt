@@ -1,7 +1,7 @@
 use Rattle.std.proofs.Common.{◌∙◌, sym}
 use Rattle.lines.specs.Input.{good, refused}
 use Rattle.lines.specs.Lines.{lines}
-use Rattle.query_check.specs.Sets.{grouping_places}
+use Rattle.query_resolution.specs.Sets.{grouping_places}
 use Rattle.query_truth.specs.Kept.{is_kept, kept}
 use Rattle.tables.specs.Functions.{aggregate_functions}
 use Rattle.tables.specs.Notes.{note_of}

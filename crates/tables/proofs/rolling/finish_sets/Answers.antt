@@ -5,7 +5,7 @@ use Rattle.std.proofs.lemmas.List.Elements.{All-head, All-tail}
 use Rattle.groups.specs.declared.group.Group.{Group}
 use Rattle.groups.specs.Functions.{bound}
 use Rattle.groups.specs.Inside.Table.{IsTableOf}
-use Rattle.query_check.specs.Resolution.{contents}
+use Rattle.query_resolution.specs.Resolution.{contents}
 use Rattle.tables.specs.Sets.{AreGroupsOf}
 use Rattle.tables.specs.SetTables.{IsMade}
 use Rattle.tables.proofs.SetTables.{groups-more, none-same, not-true}

@@ -1,5 +1,5 @@
 use Rattle.std.proofs.Common.{All, Bool, List, drop, map, take}
-use Rattle.query_check.specs.Resolution.{contents}
+use Rattle.query_resolution.specs.Resolution.{contents}
 use Rattle.groups.specs.Functions.{bound}
 use Rattle.groups.specs.Rows.{Row}
 use Rattle.tables.specs.Sets.{AreGroupsOf}

@@ -1,9 +1,9 @@
 use Rattle.std.proofs.Common.{All, List, ◌≡◌, map, ap, sym, subst, ◌∙◌}
 use Rattle.std.proofs.Math.Logic.{∥∥₁_map}
 use Rattle.std.proofs.lemmas.Result.{IfOk-weaker}
-use Rattle.query_check.specs.declared.function.FilteredFunction.{FilteredFunction}
-use Rattle.query_check.specs.Resolution.{contents}
-use Rattle.query_check.specs.Sets.{grouping_places, sets_of}
+use Rattle.query_resolution.specs.declared.function.FilteredFunction.{FilteredFunction}
+use Rattle.query_resolution.specs.Resolution.{contents}
+use Rattle.query_resolution.specs.Sets.{grouping_places, sets_of}
 use Rattle.query_plan.specs.Planned.{fields_of_plan, form_of_plan}
 use Rattle.query_truth.specs.Kept.{kept}
 use Rattle.groups.specs.Bags.{SameBag}

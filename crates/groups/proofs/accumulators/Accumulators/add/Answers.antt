@@ -1,8 +1,8 @@
 use Rattle.std.proofs.Common.{None, ◌≡◌, ◌+◌, ◌<◌, ◌^◌, List, set, length, map, sym, ap, subst, ◌∙◌, arith, add-one, length-set}
 use Rattle.std.proofs.lemmas.List.{length-map}
 use Rattle.values.specs.Datum.{data_of}
-use Rattle.query_check.specs.declared.function.ColumnFunction.TheVariants.{CountRows}
-use Rattle.query_check.specs.declared.function.FilteredFunction.{FilteredFunction}
+use Rattle.query_resolution.specs.declared.function.ColumnFunction.TheVariants.{CountRows}
+use Rattle.query_resolution.specs.declared.function.FilteredFunction.{FilteredFunction}
 use Rattle.groups.specs.Inside.Accumulator.{AccumulatorState, state_in, IsWithin}
 use Rattle.groups.specs.Inside.Group.{GroupState, all_with_row, IsSound}
 use Rattle.groups.proofs.Keeping.{all_with_row-sound, more-sound, sound-set, unbounded-within, taken_from, taken_from-step, taken_from-all, taken_from-within, taken_from-room}

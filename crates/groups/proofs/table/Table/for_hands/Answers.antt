@@ -1,6 +1,6 @@
 use Rattle.std.proofs.Common.{◌≡◌, ◌≢◌, ◌==◌, true, Bool, ℕ, List, [], length, map, Result, Ok, Err, IfOk, arith, eq-eqb}
 use Rattle.std.proofs.lemmas.Result.{IfOk-weaker}
-use Rattle.query_check.specs.declared.function.FilteredFunction.{FilteredFunction}
+use Rattle.query_resolution.specs.declared.function.FilteredFunction.{FilteredFunction}
 use Rattle.std.specs.FinMap as fin
 use Rattle.groups.specs.Functions.{bound}
 use Rattle.groups.specs.Groups.{Key}

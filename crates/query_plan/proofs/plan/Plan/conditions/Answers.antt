@@ -4,7 +4,7 @@ use Rattle.std.specs.Coded.{Coded-set, coded_bool}
 use Rattle.std.specs.List.{list_all}
 use Rattle.std.proofs.lemmas.List.Elements.{recursion_from_All}
 use Rattle.query_check.specs.declared.scope.Clause.TheVariants as clause
-use Rattle.query_check.specs.Functions.{filters_of}
+use Rattle.query_resolution.specs.Functions.{filters_of}
 use Rattle.query_check.specs.Typing.{IsTypedPredicate}
 use Rattle.query_truth.specs.declared.condition.Condition.{Condition}
 use Rattle.query_truth.specs.Meaning.{condition_truth, is_safe}

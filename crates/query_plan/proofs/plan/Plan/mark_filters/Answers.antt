@@ -1,6 +1,6 @@
 use Rattle.std.proofs.Common.{◌∙◌, List, map, ap}
 use Rattle.values.specs.Datum.{Datum, data_of}
-use Rattle.query_check.specs.Functions.{filters_of}
+use Rattle.query_resolution.specs.Functions.{filters_of}
 use Rattle.query_tree.specs.Syntax.{PredicateForm}
 use Rattle.query_truth.specs.Kept.{passes}
 use Rattle.query_plan.specs.Planned.{fields_of_plan, form_of_plan}

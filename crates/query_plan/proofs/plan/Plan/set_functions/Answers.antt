@@ -1,6 +1,6 @@
 use Rattle.std.proofs.Common.{◌∙◌, ap}
 use Rattle.std.proofs.Math.Logic.{∥∥₁_elim}
-use Rattle.query_check.specs.Resolution.{Resolution}
+use Rattle.query_resolution.specs.Resolution.{Resolution}
 use Rattle.query_plan.proofs.FunctionCodes.{functions-same}
 use Rattle.query_plan.proofs.plan.Plan.set_functions.Goals as goal
 

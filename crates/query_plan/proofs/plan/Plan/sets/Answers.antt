@@ -2,8 +2,8 @@ use mathlib.Core.List.{is_set}
 use native.Mathlib.Nat.{ℕ_set}
 use Rattle.std.proofs.Common.{◌≡◌, ◌∙◌, ap}
 use Rattle.std.proofs.Math.Logic.{∥∥₁_elim}
-use Rattle.query_check.specs.Resolution.{Resolution, contents}
-use Rattle.query_check.specs.Sets.{sets_of}
+use Rattle.query_resolution.specs.Resolution.{Resolution, contents}
+use Rattle.query_resolution.specs.Sets.{sets_of}
 use Rattle.query_plan.specs.Planned.{fields_of_plan, form_of_plan}
 use Rattle.query_plan.proofs.plan.Plan.sets.Goals as goal
 

@@ -3,10 +3,10 @@ use Rattle.std.proofs.Math.Logic.{∥∥₁_elim}
 use Rattle.std.specs.Coded.{Coded-set, coded_option, coded_ℕ}
 use Rattle.std.specs.Option.{option_and_then}
 use Rattle.values.specs.Schema.{Field, fields_of}
-use Rattle.query_check.specs.declared.planning.Planned.{Planned}
+use Rattle.query_resolution.specs.declared.planning.Planned.{Planned}
 use Rattle.query_tree.specs.Syntax.{function_form}
-use Rattle.query_check.specs.Functions.{PlannedFunction, functions_of, place_among, planned_function, same_planned}
-use Rattle.query_check.specs.Planning.{planned_forms}
+use Rattle.query_resolution.specs.Functions.{PlannedFunction, functions_of, place_among, planned_function, same_planned}
+use Rattle.query_resolution.specs.Planning.{planned_forms}
 use Rattle.query_plan.specs.declared.plan.Plan.{Plan}
 use Rattle.query_plan.specs.Planned.{fields_of_plan, form_of_plan}
 use Rattle.report.proofs.view.PlanView.function_place.Goals as goal

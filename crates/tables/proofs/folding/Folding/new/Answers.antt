@@ -1,7 +1,7 @@
 use Rattle.std.proofs.Common.{◌≡◌, [], List, map, sym, ap, subst, ◌∙◌}
 use Rattle.groups.specs.Functions.{AggregateFunction, bound}
 use Rattle.groups.specs.Inside.Table.{Contents, IsTableOf}
-use Rattle.query_check.specs.Sets.{grouping_places}
+use Rattle.query_resolution.specs.Sets.{grouping_places}
 use Rattle.query_plan.specs.Planned.{fields_of_plan, form_of_plan}
 use Rattle.tables.specs.Functions.{aggregate_functions, filters_kept}
 use Rattle.tables.proofs.Bound.{bound-functions}

@@ -7,7 +7,7 @@ use Rattle.lines.specs.Taken.{taken}
 use Rattle.tables.specs.declared.folding.Folding.{Folding}
 use Rattle.tables.specs.Folding.{HasRead, good_of}
 use Rattle.query_truth.specs.Kept.{kept}
-use Rattle.query_check.specs.Sets.{grouping_places}
+use Rattle.query_resolution.specs.Sets.{grouping_places}
 use Rattle.groups.specs.Functions.{AggregateFunction}
 use Rattle.groups.specs.Inside.Table.{IsTableOf}
 use Rattle.tables.specs.Functions.{filters_kept}

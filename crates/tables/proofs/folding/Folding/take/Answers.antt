@@ -3,8 +3,8 @@ use Rattle.groups.specs.Functions.{AggregateFunction, bound}
 use Rattle.groups.specs.Rows.{IsNarrowRow, Row}
 use Rattle.groups.specs.Inside.Table.{IsTableOf}
 use Rattle.values.specs.Datum.{data_of}
-use Rattle.query_check.specs.Functions.{filters_of}
-use Rattle.query_check.specs.Sets.{grouping_places}
+use Rattle.query_resolution.specs.Functions.{filters_of}
+use Rattle.query_resolution.specs.Sets.{grouping_places}
 use Rattle.query_plan.specs.Planned.{fields_of_plan, form_of_plan}
 use Rattle.query_truth.specs.Kept.{is_kept, kept}
 use Rattle.tables.specs.Functions.{aggregate_functions, filters_kept}

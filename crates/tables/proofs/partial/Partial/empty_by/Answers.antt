@@ -1,8 +1,8 @@
 use Rattle.std.proofs.Common.{List, [], sym, subst, arith}
 use Rattle.query_plan.specs.Planned.{fields_of_plan, form_of_plan}
-use Rattle.query_check.specs.Functions.{indexed_functions}
-use Rattle.query_check.specs.Sets.{grouping_places}
-use Rattle.query_check.specs.declared.function.FilteredFunction.{FilteredFunction}
+use Rattle.query_resolution.specs.Functions.{indexed_functions}
+use Rattle.query_resolution.specs.Sets.{grouping_places}
+use Rattle.query_resolution.specs.declared.function.FilteredFunction.{FilteredFunction}
 use Rattle.groups.specs.Inside.Table.{AreGroupsWithin}
 use Rattle.groups.proofs.Meaning.{table-within}
 use Rattle.tables.specs.Functions.{aggregate_functions}

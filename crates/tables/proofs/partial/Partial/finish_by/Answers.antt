@@ -5,7 +5,7 @@ use Rattle.groups.specs.Rows.{Row}
 use Rattle.groups.specs.Functions.{AggregateFunction}
 use Rattle.groups.specs.Inside.Table.{IsTableOf}
 use Rattle.query_plan.specs.Planned.{fields_of_plan, form_of_plan}
-use Rattle.query_check.specs.Sets.{grouping_places, sets_of}
+use Rattle.query_resolution.specs.Sets.{grouping_places, sets_of}
 use Rattle.query_truth.specs.Kept.{kept}
 use Rattle.tables.specs.Found.{Found, row_of}
 use Rattle.tables.specs.Functions.{aggregate_functions, filters_kept}

@@ -1,7 +1,7 @@
 use Rattle.std.proofs.Common.{◌≡◌, ◌+◌, ◌<◌, ◌≤◌, ◌^◌, ◌++◌, List, All, sym, ap, subst, ◌∙◌, arith}
 use Rattle.groups.specs.Rows.{Row}
-use Rattle.query_check.specs.Sets.{grouping_places}
-use Rattle.query_check.specs.declared.function.FilteredFunction.{FilteredFunction}
+use Rattle.query_resolution.specs.Sets.{grouping_places}
+use Rattle.query_resolution.specs.declared.function.FilteredFunction.{FilteredFunction}
 use Rattle.groups.specs.Inside.Table.{AreGroupsWithin, IsTableOf}
 use Rattle.groups.proofs.Meaning.{within-can_join}
 use Rattle.tables.specs.Functions.{aggregate_functions}

@@ -1,7 +1,7 @@
 use Rattle.std.proofs.Common.{◌≤◌, List, All, sym, subst, arith}
 use Rattle.groups.specs.Inside.Table.{IsTableOf}
 use Rattle.groups.specs.Rows.{Row}
-use Rattle.query_check.specs.Sets.{grouping_places}
+use Rattle.query_resolution.specs.Sets.{grouping_places}
 use Rattle.query_truth.specs.Kept.{kept}
 use Rattle.tables.specs.Functions.{aggregate_functions}
 use Rattle.tables.specs.Notes.{notes_in}

@@ -4,9 +4,9 @@ use Rattle.std.proofs.lemmas.Result.{IfOk-weaker}
 use Rattle.groups.specs.Functions.{AggregateFunction, bound}
 use Rattle.groups.specs.Inside.Table.{IsOfFew, IsTableOf}
 use Rattle.query_plan.specs.Planned.{fields_of_plan, form_of_plan}
-use Rattle.query_check.specs.declared.function.FilteredFunction.{FilteredFunction}
-use Rattle.query_check.specs.Functions.{indexed_functions}
-use Rattle.query_check.specs.Sets.{grouping_places}
+use Rattle.query_resolution.specs.declared.function.FilteredFunction.{FilteredFunction}
+use Rattle.query_resolution.specs.Functions.{indexed_functions}
+use Rattle.query_resolution.specs.Sets.{grouping_places}
 use Rattle.query_truth.specs.Kept.{kept}
 use Rattle.tables.specs.Functions.{aggregate_functions, filters_kept}
 use Rattle.tables.specs.Partials.{StandsFor}

@@ -1,7 +1,0 @@
-use Rattle.std.proofs.Common.{◌≡◌, take}
-use Rattle.std.specs.Prelude.{◌==◌}
-use Rattle.query_check.specs.Columns.{distinct}
-use Rattle.query_check.proofs.names.distinct_places.Given as goal
-
-abbrev pub invariant-loop-place : goal.invariant-loop-place
-invariant-loop-place l = l.found.items ≡ distinct (λ a b. a == b) (take l.place-index l.places)

@@ -1,8 +1,0 @@
-use Rattle.std.proofs.Common.{◌≡◌, take}
-use Rattle.query_check.specs.Columns.{distinct}
-use Rattle.query_check.specs.Functions.{same_planned}
-use Rattle.query_check.specs.Planning.{planned_forms}
-use Rattle.query_check.proofs.planning.distinct_functions.Given as goal
-
-abbrev pub invariant-loop-function : goal.invariant-loop-function
-invariant-loop-function l = planned_forms l.found.items ≡ distinct same_planned (take l.function-index (planned_forms l.functions))

@@ -1,0 +1,11 @@
+pub mod SetExamples
+pub mod Rows
+pub mod Places
+pub mod Distinct
+pub mod SameTrees
+pub mod Expansions
+pub mod Products
+pub mod DistinctSets
+pub mod DistinctLaw
+pub mod Counts
+pub mod RollupCube

@@ -1,0 +1,10 @@
+use Rattle.std.proofs.Common.{◌≡◌, ◌++◌, drop, map}
+use Rattle.values.specs.Schema.{fields_of}
+use Rattle.query_tree.specs.Syntax.{element_form, element_forms}
+use Rattle.query_resolution.specs.Columns.{places_of}
+use Rattle.query_resolution.specs.Sets.{group_sets, groups_sets, ordered_set}
+use Rattle.query_resolution.specs.Resolution.{contents}
+use Rattle.query_resolution.proofs.expansion.+group_sets.Given as goal
+
+abbrev pub invariant-loop-group : goal.invariant-loop-group
+invariant-loop-group l = contents l.sets.items ++ map (ordered_set l.grouping) (map (places_of (fields_of l.columns)) (groups_sets (element_forms (map element_form (drop l.group-index l.group-items))))) ≡ map (ordered_set l.grouping) (map (places_of (fields_of l.columns)) (group_sets (element_form l.fn.group)))

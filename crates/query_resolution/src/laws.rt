@@ -1,0 +1,32 @@
+//! Laws of grouping sets and of predicates that are the same, with no work to do.
+
+ghost use Rattle.std.specs.Prelude.{◌≡◌, ℕ, List, true, Decides};
+ghost use Rattle.values.specs.Schema.{Field};
+ghost use Rattle.query_tree.specs.Syntax.{TreeForm, PredicateForm};
+ghost use Rattle.query_resolution.specs.Sets.{cube_sets, expanded_sets, rollup_sets, sets_of};
+ghost use Rattle.query_resolution.specs.Laws.{AreDistinct, IsCube, IsRollup};
+ghost use Rattle.query_resolution.specs.Same.{same_predicate};
+
+/// A law: ROLLUP stands for the sets of its first n units, of its first n-1, and so on to the empty set,
+/// ISO/IEC 9075-2 `<rollup list>`.
+pub fn rollup_law()
+    ensures { (units : List (List (List ℕ))) → IsRollup units (rollup_sets units) }
+{}
+
+/// A law: CUBE stands for the sets of all subsets of its units, by falling binary numbers whose highest digit is the
+/// first unit, ISO/IEC 9075-2 `<cube list>`.
+pub fn cube_law()
+    ensures { (units : List (List (List ℕ))) → IsCube units (cube_sets units) }
+{}
+
+/// A law: GROUP BY DISTINCT keeps of the expanded list each set that has not the columns of an earlier one, in order.
+/// So no two of its sets have the same columns, and each set of the expanded list has its columns in one of them,
+/// ISO/IEC 9075-2 `<group by clause>`.
+pub fn distinct_law()
+    ensures { (fields : List Field) (t : TreeForm) → t.distinct_sets ≡ true → AreDistinct (expanded_sets fields t) (sets_of fields t) }
+{}
+
+/// A law: two predicates are the same exactly where their trees are equal.
+pub fn same_predicate_law()
+    ensures { (p q : PredicateForm) → Decides (same_predicate p q) (p ≡ q) }
+{}

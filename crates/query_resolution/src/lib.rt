@@ -1,0 +1,25 @@
+//! What the parts of a query are resolved to under a schema: names to the places of their columns, GROUP BY to grouping
+//! columns and grouping sets, and the set functions of its clauses to the different ones and their different filters.
+//! Whether a query is typed is not asked here.
+#![tactic(auto)]
+
+mod columns;
+mod counting;
+mod expansion;
+mod function;
+mod grouping;
+mod joining;
+mod laws;
+mod planning;
+mod product;
+mod repeats;
+mod sameness;
+
+pub use columns::{column_kind, place_of};
+pub use counting::set_count;
+pub use expansion::grouping_sets;
+pub use function::{ColumnFunction, FilteredFunction, column_function};
+pub use grouping::grouping_places;
+pub use laws::{cube_law, distinct_law, rollup_law, same_predicate_law};
+pub use planning::{Planned, filters, indexed_functions, planned_functions, planned_place};
+pub use sameness::is_same_predicate;
