@@ -366,45 +366,26 @@ fn workers_meet(rt: HostRuntime) -> Result<(), Fail> {
     Ok(())
 }
 
-/// Whether deals of a hundred pieces, one after the other over one book of four shares, are decided rightly: two with the
-/// limit 100, after which the book closes with 200; and, where it is asked for, a third one with the limit 99 in place of
-/// closing.
-fn deal_in_turn<L: Ledger + Send + Sync, R: Threads + Wait + Sync>(
+/// Whether two deals of a hundred pieces, one after the other over one book of four shares, are decided rightly: the first
+/// from nothing on, and the second onto a part, with a limit. Where that is not passed, the book closes with 200.
+fn deal_twice<L: Ledger + Send + Sync, R: Threads + Wait + Sync>(
     rt: &R,
     alloc: Global,
-    third: bool,
+    part: u64,
+    limit: u64,
     blank: Blank,
 ) -> Result<bool, PoolFault>
-    requires { (blank.name ≡ L.name) × (blank.parts ≡ L.parts) × (L.parts ≡ 4) }
+    requires part { part < 10 }
+    requires book { (blank.name ≡ L.name) × (blank.parts ≡ L.parts) × (L.parts ≡ 4) }
 {
     let Ok((book, shares)) = Book::<L>::new(alloc, blank, 4) else {
         return Err(PoolFault::OutOfMemory);
     };
     let (first, shares) = fan_deal_onto(rt, alloc, &Ones, 0, 100, 100, &book, 200, shares)?;
-    let (second, shares) = fan_deal_onto(rt, alloc, &Ones, 0, 100, 100, &book, 200, shares)?;
-    let right = is_right(&first, 100, 100) && is_right(&second, 100, 100);
-    if third {
-        let (last, _) = fan_deal_onto(rt, alloc, &Ones, 0, 100, 99, &book, 200, shares)?;
-        return Ok(right && is_right(&last, 100, 99));
-    }
+    let (second, shares) = fan_deal_onto(rt, alloc, &Ones, part, 100, limit, &book, 200, shares)?;
+    let right = is_right(&first, 100, 100) && is_right(&second, part + 100, limit);
     let sum = book.close(shares);
-    Ok(right && sum == 200)
-}
-
-/// What `fan_deal_onto` makes of the part 5 and a hundred pieces of weight 1, and what the four shares then hold.
-fn onto_five<L: Ledger + Send + Sync, R: Threads + Wait + Sync>(
-    rt: &R,
-    alloc: Global,
-    limit: u64,
-    blank: Blank,
-) -> Result<(Outcome<u64>, u128), PoolFault>
-    requires { (blank.name ≡ L.name) × (blank.parts ≡ L.parts) × (L.parts ≡ 4) }
-{
-    let Ok((book, shares)) = Book::<L>::new(alloc, blank, 4) else {
-        return Err(PoolFault::OutOfMemory);
-    };
-    let (outcome, shares) = fan_deal_onto(rt, alloc, &Ones, 5, 100, limit, &book, 105, shares)?;
-    Ok((outcome, book.close(shares)))
+    Ok(right && (limit < part + 100 || sum == 200))
 }
 
 /// Workers that stop after their first piece leave the others to the calling thread.
@@ -424,19 +405,9 @@ fn hundred_pieces(rt: HostRuntime) -> Result<(), Fail> {
         assert!(rt; is_right(&outcome, 100, limit));
         assert!(rt; limit < 100 || all && sum == 100);
     }
-    for third in [false, true] {
-        let right = deal_in_turn::<Brand, HostRuntime>(&rt, rt.alloc(), third, Blank::new(4))?;
+    for (part, limit) in [(0, 100), (0, 99), (5, 105), (5, 104)] {
+        let right = deal_twice::<Brand, HostRuntime>(&rt, rt.alloc(), part, limit, Blank::new(4))?;
         assert!(rt; right);
-    }
-    for limit in [105, 104] {
-        let (outcome, sum) = onto_five::<Brand, HostRuntime>(
-            &rt,
-            rt.alloc(),
-            limit,
-            Blank::new(4),
-        )?;
-        assert!(rt; is_right(&outcome, 105, limit));
-        assert!(rt; limit < 105 || sum == 100);
     }
     Ok(())
 }
@@ -623,7 +594,7 @@ fn refusal_of_book(rt: HostRuntime) {
     }
 }
 
-/// The pieces are done by `alone` and by `fan_out`, and over one book by two deals and by one onto a part.
+/// The pieces are done by `alone` and by `fan_out`, and by two deals over one book, of which the second goes onto a part.
 #[test]
 fn refusal_of_fan_out(rt: HostRuntime) {
     let numbers = Numbers { alloc: rt.alloc() };
@@ -636,13 +607,8 @@ fn refusal_of_fan_out(rt: HostRuntime) {
         Err(PoolFault::OutOfMemory) => {}
         Err(PoolFault::ThreadNotStarted) => {}
     }
-    match deal_in_turn::<Brand, HostRuntime>(&rt, rt.alloc(), false, Blank::new(4)) {
+    match deal_twice::<Brand, HostRuntime>(&rt, rt.alloc(), 5, 105, Blank::new(4)) {
         Ok(right) => assert!(rt; right),
-        Err(PoolFault::OutOfMemory) => {}
-        Err(PoolFault::ThreadNotStarted) => {}
-    }
-    match onto_five::<Brand, HostRuntime>(&rt, rt.alloc(), 105, Blank::new(4)) {
-        Ok((outcome, sum)) => assert!(rt; is_right(&outcome, 105, 105) && sum == 100),
         Err(PoolFault::OutOfMemory) => {}
         Err(PoolFault::ThreadNotStarted) => {}
     }

@@ -1,7 +1,4 @@
 use Rattle.acceptance_pool.proofs.tests.refusal_of_fan_out.Given as goal
 
-abbrev pub ghosts-deal_in_turn : goal.ghosts-deal_in_turn
-ghosts-deal_in_turn g a = record { name = a.blank.name; parts = a.blank.parts }
-
-abbrev pub ghosts-onto_five : goal.ghosts-onto_five
-ghosts-onto_five g a = record { name = a.blank.name; parts = a.blank.parts }
+abbrev pub ghosts-deal_twice : goal.ghosts-deal_twice
+ghosts-deal_twice g a = record { name = a.blank.name; parts = a.blank.parts }
