@@ -375,9 +375,11 @@ fn deal_twice<L: Ledger + Send + Sync, R: Threads + Wait + Sync>(
     limit: u64,
     blank: Blank,
 ) -> Result<bool, PoolFault>
-    requires part { part < 10 }
-    requires book { (blank.name ≡ L.name) × (blank.parts ≡ L.parts) × (L.parts ≡ 4) }
+    requires { (blank.name ≡ L.name) × (blank.parts ≡ L.parts) × (L.parts ≡ 4) }
 {
+    if part > 9 {
+        return Ok(false);
+    }
     let Ok((book, shares)) = Book::<L>::new(alloc, blank, 4) else {
         return Err(PoolFault::OutOfMemory);
     };
