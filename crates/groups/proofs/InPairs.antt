@@ -13,6 +13,11 @@ get_or-of f [] i e = refl
 get_or-of f (p ∷ ps) zero e = refl
 get_or-of f (p ∷ ps) (suc i) e = get_or-of f ps i e
 
+-- the shards of one pair more, and then others
+pub one-more : (f : Pair → Shard) (ps : List Pair) (p : Pair) (ss : List Shard) → map f (ps ++ p ∷ []) ++ ss ≡ map f ps ++ f p ∷ ss
+one-more f [] p ss = refl
+one-more f (q ∷ ps) p ss = ap (λ ts. f q ∷ ts) (one-more f ps p ss)
+
 -- where each shard can take the other one, each pair can be joined
 pub can-join-pairs : (ps : List Pair) (ss ts : List Shard) → map (λ p. p.shard) ps ≡ ss → map (λ p. p.other) ps ≡ ts → CanJoinEach ss ts → All CanJoinPair ps
 can-join-pairs ps ss ts a b each = λ i e l.

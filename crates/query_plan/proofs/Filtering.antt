@@ -68,6 +68,10 @@ at_map f [] i = refl
 at_map f (x ∷ xs) zero = refl
 at_map f (x ∷ xs) (suc i) = at_map f xs i
 
+-- What stands at a place within a mapped list.
+pub mapped_at : {A B : Type 0} (f : A → B) (xs : List A) (i : ℕ) (x : A) → i < length xs → x ≡ get_or xs i x → slice_get (map f xs) i ≡ Some (f x)
+mapped_at f xs i x within is = at_map f xs i ∙ ap (option_map f) (slice_get-get_or xs i x within ∙ ap Some (sym is))
+
 -- What a test of options comes to, behind a map.
 then_map : {A B C : Type 0} (g : B → Option C) (f : A → B) (o : Option A) → option_and_then g (option_map f o) ≡ option_and_then (λ x. g (f x)) o
 then_map g f None = refl
@@ -108,12 +112,17 @@ worth_read fields values ps index o t here worth =
     some_worth fields values None t h = absurd cc
     some_worth fields values (Some p) t h = cc
 
+-- A place of a set function is below their number, with indexes too.
+pub place_within : (fields : List Field) (t : TreeForm) (place : ℕ) (xs : List FilteredFunction) → xs ≡ indexed_functions fields t → place < length (functions_of fields t) → place < length xs
+place_within fields t place xs same below =
+    let n = length-map (functions_of fields t) (indexed (filters_of fields t)) in
+    let m = ap length same in
+    omega (arith, n, m, below)
+
 -- The set function at a place is there.
 pub read_at : (fields : List Field) (t : TreeForm) (place : ℕ) (xs : List FilteredFunction) (d : FilteredFunction) → xs ≡ indexed_functions fields t → place < length (functions_of fields t) → slice_get (indexed_functions fields t) place ≡ Some (get_or xs place d)
 read_at fields t place xs d same below =
-    let n = length-map (functions_of fields t) (indexed (filters_of fields t)) in
-    let m = ap length same in
-    ap (λ (ys : List FilteredFunction). slice_get ys place) (sym same) ∙ slice_get-get_or xs place d (omega (arith, n, m, below))
+    ap (λ (ys : List FilteredFunction). slice_get ys place) (sym same) ∙ slice_get-get_or xs place d (place_within fields t place xs same below)
 
 -- Without an index there is no filter, and all records pass.
 pub no_filter : (fields : List Field) (t : TreeForm) (place : ℕ) (x : FilteredFunction) (values : List Datum) → slice_get (indexed_functions fields t) place ≡ Some x → LeadBack fields t → x.filter ≡ None → True ≡ filter_truth fields (filter_at fields t place) values

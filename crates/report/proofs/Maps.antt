@@ -1,6 +1,6 @@
 -- Lists, one more at a time.
-use Rattle.std.proofs.Common.{◌≡◌, ◌+◌, ℕ, zero, suc, List, [], ◌∷◌, ◌++◌, take, drop, map, slice_get, option_map, Some, refl, sym, ap, arith, ◌∙◌, add-one}
-use Rattle.std.proofs.lemmas.List.{map-append}
+use Rattle.std.proofs.Common.{◌≡◌, ◌+◌, ◌<◌, ℕ, zero, suc, List, [], ◌∷◌, ◌++◌, take, drop, map, slice_get, option_map, Some, get_or, length, refl, sym, ap, arith, ◌∙◌, add-one}
+use Rattle.std.proofs.lemmas.List.{map-append, map_more, map_push}
 use Rattle.std.specs.List.{AllByRecursion}
 
 next : {X Y : Type 0} (f : X → Y) (xs : List X) (i : ℕ) (y : Y) → Some y ≡ option_map f (slice_get xs i) → map f (take (suc i) xs) ≡ map f (take i xs) ++ y ∷ []
@@ -11,6 +11,13 @@ next {X} {Y} f (x ∷ xs) (suc i) y e = ap (λ (zs : List Y). f x ∷ zs) (next 
 -- a turn of a loop that goes by places
 pub map-next : {X Y : Type 0} (f : X → Y) (xs : List X) (i : ℕ) (y : Y) → Some y ≡ option_map f (slice_get xs i) → map f (take (i + 1) xs) ≡ map f (take i xs) ++ y ∷ []
 map-next {X} f xs i y e = ap (λ (n : ℕ). map f (take n xs)) (add-one i) ∙ next f xs i y e
+
+-- the same where what the turn pushes is told by what it is made of
+pub map-pushed : {X Y Z : Type 0} (g : Y → Z) (f : X → Z) (xs : List X) (i : ℕ) (x : X) (ys new : List Y) (y : Y) → i < length xs → x ≡ get_or xs i x
+    → new ≡ ys ++ y ∷ [] → g y ≡ f x → map g ys ≡ map f (take i xs) → map g new ≡ map f (take (i + 1) xs)
+map-pushed {X} {Y} {Z} g f xs i x ys new y lt is pushed same told =
+    ap (map g) pushed ∙ map_push g ys y ∙ ap (λ (zs : List Z). zs ++ g y ∷ []) told
+    ∙ ap (λ (z : Z). map f (take i xs) ++ z ∷ []) (same ∙ ap f is) ∙ sym (map_more f xs i x lt)
 
 none-first : {X : Type 0} (xs : List X) (n : ℕ) → xs ≡ [] → take n xs ≡ []
 none-first [] zero e = refl

@@ -1,7 +1,9 @@
-use Rattle.std.proofs.Common.{◌≡◌, ◌∙◌, Bor, IfOk, None, Some, ap, map, rules, sym, ℕ}
+use Rattle.std.proofs.Common.{◌≡◌, ◌∙◌, ◌++◌, arith, Bor, IfOk, List, None, Some, ap, map, rules, sym, ℕ}
 use Rattle.std.specs.Option.{option_map}
+use Rattle.std.proofs.lemmas.Grind.{common_steps}
 use Rattle.std.proofs.lemmas.Iterator.{YieldsList-from_slice}
 use Rattle.std.proofs.lemmas.Iterator.Consumers.{map_from_collect}
+use Rattle.std.proofs.lemmas.List.{append-nil, at_drop_all}
 use Rattle.std.proofs.lemmas.Result.{IfOk-weaker}
 use Rattle.query_tree.specs.Syntax.{TreeForm, predicate_form}
 use Rattle.query_plan.specs.Planned.{fields_of_plan, form_of_plan}
@@ -37,3 +39,13 @@ row_truth-requires-clause-typed c =
     let written : t.having_condition ≡ Some (predicate_form c.in-Some.having) =
     ap (λ (f : TreeForm). f.having_condition) (sym (c.tree.ensures.form ∙ c.query.ensures.query)) ∙ ap (option_map predicate_form) c.in-Some.is in
     having-typed (fields_of_plan c.args.plan.now) t (predicate_form c.in-Some.having) c.query.ensures.typed written
+
+pub loop-found-preserved : goal.loop-found-preserved
+loop-found-preserved c = grind (arith, common_steps)
+
+pub returns : goal.returns
+returns c =
+    let shown = map (λ (r : Bor (ℕ × Group)). row_of r.now) c.loop-found.true_rows.items in
+    sym (append-nil shown)
+    ∙ sym (at_drop_all (λ (rows : List (ℕ × Group)). shown ++ rows_having_true (fields_of_plan c.args.plan.now) (form_of_plan c.args.plan.now) (map row_of rows)) c.args.rows.now c.loop-found.found-index c.loop-found-test.false)
+    ∙ c.loop-found.invariant

@@ -1,4 +1,5 @@
 use Rattle.std.proofs.Common.{◌≡◌, ◌∙◌, List, map, ap, sym, ℕ, take_all}
+use Rattle.values.specs.Datum.{datum_of}
 use Rattle.query_tree.specs.Syntax.{KeyForm, TreeForm, key_form}
 use Rattle.query_tree.specs.declared.tree.Key.{Key}
 use Rattle.query_check.specs.Typing.{key_expression}
@@ -7,9 +8,17 @@ use Rattle.tables.specs.Found.{row_of}
 use Rattle.tables.specs.Fitting.{set_of}
 use Rattle.report.specs.Having.{cell_value}
 use Rattle.report.specs.Shown.{expression_shown}
-use Rattle.report.proofs.Maps.{map-twice}
+use Rattle.report.proofs.Maps.{map-pushed, map-twice}
 use Rattle.report.proofs.RowSets.{set-of-row}
 use Rattle.report.proofs.keys.key_values.Goals as goal
+
+pub loop-key-preserved : goal.loop-key-preserved
+loop-key-preserved c =
+    let t = form_of_plan c.args.plan.now in
+    let row = row_of c.args.found.now in
+    let value = λ (s : List ℕ) (k : Key). cell_value (expression_shown (fields_of_plan c.args.plan.now) t s row.1.key row.1.cells (key_expression t.items (key_form k).expression)) in
+    map-pushed datum_of (value c.index-sets-index.result.items) c.as_slice-keys.result.now c.loop-key.key-index c.key-item.result c.loop-key.values.items c.push.new.self.items c.in_ok-key_value.field-0
+    c.loop-key-test.true c.key-item.is c.in_ok-push.ensures.items (c.in_ok-key_value.ensures ∙ ap (λ (s : List ℕ). value s c.key-item.result) c.deref.ensures.value) c.loop-key.invariant
 
 pub returns : goal.returns
 returns c =

@@ -5,8 +5,8 @@ use Rattle.groups.specs.Functions.{bound}
 use Rattle.groups.specs.Inside.Table.{IsTableOf}
 use Rattle.groups.specs.Rolled.{AreAmong}
 use Rattle.tables.specs.declared.rolling.SetTable.{SetTable}
-use Rattle.tables.specs.SetTables.{AreTablesOf, HasFiner}
-use Rattle.tables.proofs.SetTables.{table-at}
+use Rattle.tables.specs.SetTables.{AreTablesOf, HasFiner, IsMade}
+use Rattle.tables.proofs.SetTables.{made-last, made-others, table-at}
 use Rattle.tables.proofs.rolling.roll_set.Goals as goal
 
 pub place_of_finer-requires : goal.place_of_finer-requires
@@ -45,3 +45,10 @@ returns-clause-tables c = λ filters rows h.
     subst (λ (ts : List SetTable). AreTablesOf fs ts rows) (sym c.in_ok-push.ensures.items)
     (All-push (λ (t : SetTable). IsTableOf t.set.items fs t.table rows) c.args.tables.now.items new h
     (subst (λ (s : List ℕ). IsTableOf s fs table rows) (sym c.in_ok-set.ensures.items) (c.in_ok-table.ensures.rolled filters rows finer)))
+
+pub returns-clause-made : goal.returns-clause-made
+returns-clause-made c = subst (IsMade c.args.set.now) (sym c.in_ok-push.ensures.items) (made-last c.args.set.now c.args.tables.now.items (record { set = c.in_ok-set.set; table = c.in_ok-table.table }) c.in_ok-set.ensures.items)
+
+pub returns-clause-others : goal.returns-clause-others
+returns-clause-others c = λ other made.
+    subst (IsMade other) (sym c.in_ok-push.ensures.items) (made-others other c.args.tables.now.items (record { set = c.in_ok-set.set; table = c.in_ok-table.table }) made)

@@ -40,3 +40,9 @@ returns-clause-table c =
     let at = placed-at c.args.set.now c.args.tables.now.items c.as_slice.result.now c.place_of_table-place.result c.as_slice.ensures.value e.within e.there e.none c.requires.made in
     IfOk-weaker c.roll.result _ _ (λ table rolled filters rows h.
     rolled filters rows (table-of (map (bound filters) c.args.functions.now) c.args.tables.now.items c.place_of_table-place.result c.index-copied.result.now c.args.set.now rows at.0 c.index-copied.ensures at.1 h)) c.roll.ensures.rolled
+
+pub returns-then-is_last-clause-table : goal.returns-then-is_last-clause-table
+returns-then-is_last-clause-table c = λ filters rows h.
+    let e = c.place_of_table-place.ensures in
+    let at = placed-at c.args.set.now c.args.tables.now.items c.as_slice.result.now c.place_of_table-place.result c.as_slice.ensures.value e.within e.there e.none c.requires.made in
+    table-of (map (bound filters) c.args.functions.now) c.args.tables.now.items c.place_of_table-place.result c.remove-table.result c.args.set.now rows at.0 c.remove-table.ensures.value at.1 h

@@ -6,12 +6,18 @@ use Rattle.query_resolution.specs.declared.function.ColumnFunction.TheVariants.{
 use Rattle.query_resolution.specs.declared.function.FilteredFunction.{FilteredFunction}
 use Rattle.query_resolution.specs.Functions.{filter_at, filters_of}
 use Rattle.query_plan.specs.Planned.{fields_of_plan, form_of_plan}
-use Rattle.query_plan.proofs.Filtering.{as_many, filter_read, index_below, no_filter, read_at, worth_read}
+use Rattle.query_plan.proofs.Filtering.{as_many, filter_read, index_below, no_filter, place_within, read_at, worth_read}
 use Rattle.query_plan.proofs.plan.Plan.filter_truth.Goals as goal
 
 -- What is read past the end, which is never.
 abbrev past : FilteredFunction
 past = record { function = CountRows; filter = None }
+
+pub bounds : goal.bounds
+bounds c = place_within (fields_of_plan c.args.self.now) (form_of_plan c.args.self.now) c.args.place c.set_functions.result.now c.set_functions.ensures.functions c.requires.place
+
+pub bounds-set_functions-place : goal.bounds-set_functions-place
+bounds-set_functions-place c = place_within (fields_of_plan c.args.self.now) (form_of_plan c.args.self.now) c.args.place c.set_functions.result.now c.set_functions.ensures.functions c.requires.place
 
 pub condition_truth_at-requires-clause-place : goal.condition_truth_at-requires-clause-place
 condition_truth_at-requires-clause-place c =
