@@ -90,8 +90,9 @@ fn written<H: Threads + Sync>(rt: &H, alloc: Global, plan: &Plan) -> Result<Text
 #[test]
 fn writes_the_report_and_the_list(rt: HostRuntime) -> Result<(), Fail> {
     let plan = plan_if_any(rt.alloc()).expect(&rt, "a plan");
-    let written = written(&rt, rt.alloc(), &plan)?;
+    let answer = written(&rt, rt.alloc(), &plan);
     drop(plan);
+    let written = answer?;
     assert_eq!(rt; written.report.as_slice(), REPORT);
     assert_eq!(rt; written.report_by_hands.as_slice(), REPORT);
     assert_eq!(rt; written.report_of_rows.as_slice(), REPORT);
