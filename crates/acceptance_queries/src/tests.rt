@@ -1,5 +1,0 @@
-//! A module for each subject.
-
-mod counts;
-mod plans;
-mod queries;
