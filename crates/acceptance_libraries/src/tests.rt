@@ -1,11 +1,5 @@
-//! A module for each subject.
+//! A module for each library.
 
-mod counts;
 mod grouping;
-mod plans;
-mod queries;
-mod reading;
 mod reports;
 mod resolution;
-mod rounds;
-mod schemas;

@@ -1,6 +1,6 @@
 //! What no clause says: that a query is checked and resolved where memory is ample.
 
-use super::queries::is_out_of_memory;
+use query::QueryFault;
 use query_check::check_tree;
 use query_resolution::{ColumnFunction, FilteredFunction, set_count};
 use query_tree::{Aggregate, Expression, GroupingElement, Item, SetFunction, Text, Tree};
@@ -113,4 +113,11 @@ fn refusal_of_distinct_sets(rt: HostRuntime) {
         }
     }
     drop(tree);
+}
+
+fn is_out_of_memory(fault: &QueryFault) -> bool {
+    match fault {
+        QueryFault::OutOfMemory => true,
+        _ => false,
+    }
 }

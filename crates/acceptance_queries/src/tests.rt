@@ -1,0 +1,5 @@
+//! A module for each subject.
+
+mod counts;
+mod plans;
+mod queries;
