@@ -31,7 +31,7 @@ const FEWEST: usize = 4_096;
 ///
 /// Example: the table that has taken the records `'x'`, `'y'` and `'x'`, grouped by their one column with `COUNT(*)`,
 /// has two groups: that of `'x'` with 2 members, and that of `'y'` with 1.
-#[derive(Debug, Drop)]
+#[derive(Debug)]
 pub struct Table {
     alloc: Global,
     /// The groups, each in the shard of its key's place. Either there are several shards, so that tables can be put
@@ -45,6 +45,19 @@ pub struct Table {
     ghost some: { 0 < vec_len shards },
     ghost few: { vec_len shards ≤ 4 },
     ghost apart: { AreApart shards.items } by { Prim.hlevel props },
+}
+
+// By a call, so that whoever gives a table up does not have to look into it.
+impl Drop for Table {
+    fn drop(self) {
+        let Table {
+            alloc: _,
+            shards,
+            scratch,
+        } = self;
+        drop(shards);
+        drop(scratch);
+    }
 }
 
 impl Model for Table {
@@ -311,7 +324,12 @@ impl Table {
             → IsTableOf set functions self rows → SameBag (map group_summary_in groups.items) (group_summaries set functions rows)) }
     {
         let count = self.len();
-        let Table { alloc, shards, .. } = self;
+        let Table {
+            alloc,
+            shards,
+            scratch,
+        } = self;
+        drop(scratch);
         let turns = fewest(shards.as_slice());
         let mut walks = walks_over(alloc, shards)?;
         let mut groups = Vec::with_capacity(alloc, count)?;
@@ -341,7 +359,12 @@ impl Table {
         if hands < self.shards.len() || count < FEWEST {
             return self.finish();
         }
-        let Table { alloc, shards, .. } = self;
+        let Table {
+            alloc,
+            shards,
+            scratch,
+        } = self;
+        drop(scratch);
         groups_among(rt, alloc, count, shards)
     }
 
@@ -387,8 +410,14 @@ impl Table {
         requires { CanJoin self other }
         ensures { IfOk result (λ table. (k : Key) → IsJoined self other table k) }
     {
+        let Table {
+            alloc: _,
+            shards,
+            scratch,
+        } = other;
+        drop(scratch);
         let mut joined = self;
-        for shard in other.shards {
+        for shard in shards {
             joined.absorb_shard(shard)?;
         }
         Ok(joined)
@@ -407,7 +436,13 @@ impl Table {
             shards,
             scratch,
         } = self;
-        let shards = join_shards(shards, other.shards)?;
+        let Table {
+            alloc: _,
+            shards: other_shards,
+            scratch: other_scratch,
+        } = other;
+        drop(other_scratch);
+        let shards = join_shards(shards, other_shards)?;
         Ok(Table {
             alloc,
             shards,
@@ -434,7 +469,13 @@ impl Table {
             shards,
             scratch,
         } = self;
-        let shards = join_shards_among(rt, alloc, hands, shards, other.shards)?;
+        let Table {
+            alloc: _,
+            shards: other_shards,
+            scratch: other_scratch,
+        } = other;
+        drop(other_scratch);
+        let shards = join_shards_among(rt, alloc, hands, shards, other_shards)?;
         Ok(Table {
             alloc,
             shards,

@@ -347,7 +347,6 @@ fn buffer_of(alloc: Global, size: usize) -> Result<Vec<u8>, AllocError>
 ///
 /// Example: of a line of 3,000,000 bytes and the line `ab` behind it, the rounds joined are the first 1,048,577 bytes
 /// of the long line, its line feed, and `ab` with its line feed, where it has one.
-#[derive(Drop)]
 pub struct Rounds<R: Read + Drop> {
     reader: R,
     held: Held,
@@ -358,6 +357,24 @@ pub struct Rounds<R: Read + Drop> {
     given: usize,
     over: bool,
     failed: bool,
+}
+
+// By a call, so that whoever gives an input up does not have to look into it.
+impl<R: Read + Drop> Drop for Rounds<R> {
+    fn drop(self) {
+        let Rounds {
+            reader,
+            held,
+            aim: _,
+            size: _,
+            taken: _,
+            given: _,
+            over: _,
+            failed: _,
+        } = self;
+        drop(reader);
+        drop(held);
+    }
 }
 
 impl<R: Read + Drop> Model for Rounds<R> {

@@ -118,7 +118,6 @@ pub enum Next {
 ///
 /// Example: where 4 pieces were dealt to 2 hands and hand 0 alone is asked, it answers the pieces 0 and 2, which are
 /// its own, and then 1, which it steals.
-#[derive(Drop)]
 pub struct Hand {
     number: usize,
     hands: usize,
@@ -126,6 +125,22 @@ pub struct Hand {
     own: Own,
     others: Vec<Reach>,
     spent: bool,
+}
+
+// By a call, so that whoever gives a hand up does not have to look into it.
+impl Drop for Hand {
+    fn drop(self) {
+        let Hand {
+            number: _,
+            hands: _,
+            pieces: _,
+            own,
+            others,
+            spent: _,
+        } = self;
+        drop(own);
+        drop(others);
+    }
 }
 
 impl Model for Hand {

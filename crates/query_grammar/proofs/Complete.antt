@@ -1,6 +1,7 @@
 -- Queries that derive from tokens are read.
 use Rattle.std.proofs.Common.{arith, ◌≡◌, Bool, List, [], ◌∷◌, Option, Some, None, Result, Ok, Err, refl, sym, ◌∙◌}
-use Rattle.std.specs.Prelude.{codes, MatchResult}
+use Rattle.std.specs.Prelude.{codes, Box, MatchResult}
+use Rattle.std.specs.Global.{Global}
 use Rattle.query_tokens.specs.declared.token.Token.{Token}
 use Rattle.query_tokens.specs.declared.token.Token.TheVariants as tokens
 use Rattle.query_tokens.specs.declared.token.Word.TheVariants as w
@@ -138,8 +139,8 @@ unfolding whole_at
 whole_c ts q d = rw (query_c d nil_ends_query) refl
 
 -- What is derived is read.
-pub read : (ts : List Token) (r : Result Tree GrammarFault) → Gives tree_form r (whole_at ts) → (q : TreeForm) → Derives ts q → MatchResult r (λ t. tree_form t ≡ q) (λ e. e ≡ faults.OutOfMemory)
-read ts (Ok t) e q d = some_is (tree_form t) q (sym e ∙ whole_c ts q d)
+pub read : (ts : List Token) (r : Result (Box Tree Global) GrammarFault) → Gives (λ t. tree_form t.value) r (whole_at ts) → (q : TreeForm) → Derives ts q → MatchResult r (λ t. tree_form t.value ≡ q) (λ e. e ≡ faults.OutOfMemory)
+read ts (Ok t) e q d = some_is (tree_form t.value) q (sym e ∙ whole_c ts q d)
 read ts (Err faults.OutOfMemory) e q d = refl
 read ts (Err faults.OverLimit) e q d = absurd (let k = whole_c ts q d in cc)
 read ts (Err (faults.Unexpected n)) e q d = absurd (let k = whole_c ts q d in cc)

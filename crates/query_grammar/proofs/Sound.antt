@@ -1,6 +1,7 @@
 -- Queries that are read from tokens derive from them.
 use Rattle.std.proofs.Common.{arith, rules, length, ◌<◌, ◌≡◌, ℕ, Bool, true, false, cond, List, [], ◌∷◌, Option, Some, None, Result, Ok, Err, refl, sym, ap, subst, ◌∙◌, inl, inr}
-use Rattle.std.specs.Prelude.{codes, IfOk}
+use Rattle.std.specs.Prelude.{codes, Box, IfOk}
+use Rattle.std.specs.Global.{Global}
 use Rattle.std.specs.Str.{bytes_eq}
 use Rattle.std.proofs.lemmas.Slice.Eq.{bytes_eq-Decides}
 use Rattle.query_tokens.specs.declared.token.Token.{Token}
@@ -201,6 +202,6 @@ whole_s ts q e =
     subst (λ (y : TreeForm). IsQuery ts y []) k.1 (subst (λ us. IsQuery ts b.0.0 us) k.0 (query_s ts b.0 b.1))
 
 -- What is read is derived.
-pub derived : (ts : List Token) (r : Result Tree GrammarFault) → Gives tree_form r (whole_at ts) → IfOk r (λ t. Derives ts (tree_form t))
-derived ts (Ok t) e = whole_s ts (tree_form t) e
+pub derived : (ts : List Token) (r : Result (Box Tree Global) GrammarFault) → Gives (λ t. tree_form t.value) r (whole_at ts) → IfOk r (λ t. Derives ts (tree_form t.value))
+derived ts (Ok t) e = whole_s ts (tree_form t.value) e
 derived ts (Err e) h = tt

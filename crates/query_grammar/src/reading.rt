@@ -87,8 +87,8 @@ fn rows(
 
 /// A query in front, and what stands behind it.
 #[tactic(auto, unfolding(crate::specs::QuerySteps::query_at))]
-fn query(alloc: Global, tokens: &[Token]) -> Result<(Tree, &[Token]), GrammarFault>
-    ensures exact { Gives (λ x. (tree_form x.0, x.1.now)) result (query_at tokens.now) }
+fn query(alloc: Global, tokens: &[Token]) -> Result<(Box<Tree>, &[Token]), GrammarFault>
+    ensures exact { Gives (λ x. (tree_form x.0.value, x.1.now)) result (query_at tokens.now) }
 {
     let (items, rest) = select(alloc, tokens)?;
     let (items, (records, rest)) = keep(items, records(alloc, rest))?;
@@ -103,13 +103,13 @@ fn query(alloc: Global, tokens: &[Token]) -> Result<(Tree, &[Token]), GrammarFau
         having_condition,
         keys,
     };
-    Ok((tree, rest))
+    Ok((Box::new(alloc, tree)?, rest))
 }
 
 /// The query that all of the tokens are.
 #[tactic(auto, unfolding(crate::specs::QuerySteps::whole_at))]
-fn whole(alloc: Global, tokens: &[Token]) -> Result<Tree, GrammarFault>
-    ensures { Gives tree_form result (whole_at tokens.now) }
+fn whole(alloc: Global, tokens: &[Token]) -> Result<Box<Tree>, GrammarFault>
+    ensures { Gives (λ tree. tree_form tree.value) result (whole_at tokens.now) }
 {
     let (tree, rest) = query(alloc, tokens)?;
     if !rest.is_empty() {
@@ -130,11 +130,11 @@ fn whole(alloc: Global, tokens: &[Token]) -> Result<Tree, GrammarFault>
 /// `Unexpected` with the number of the tokens that are left where the first of them does not continue
 /// a query, 0 where the end does not; `OverLimit` at the first token that is too much; `OutOfMemory`,
 /// which says nothing of the tokens.
-pub fn read_query(alloc: Global, tokens: &[Token]) -> Result<Tree, GrammarFault>
+pub fn read_query(alloc: Global, tokens: &[Token]) -> Result<Box<Tree>, GrammarFault>
     // What is read is derived.
-    ensures derived { IfOk result (λ tree. Derives tokens.now (tree_form tree)) }
+    ensures derived { IfOk result (λ tree. Derives tokens.now (tree_form tree.value)) }
     // What is derived is read, and no other, unless memory runs out.
-    ensures read { (q : TreeForm) → Derives tokens.now q → MatchResult result (λ tree. tree_form tree ≡ q) (λ fault. fault ≡ OutOfMemory) }
+    ensures read { (q : TreeForm) → Derives tokens.now q → MatchResult result (λ tree. tree_form tree.value ≡ q) (λ fault. fault ≡ OutOfMemory) }
 {
     whole(alloc, tokens)
 }

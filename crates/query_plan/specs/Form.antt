@@ -4,4 +4,4 @@ use Rattle.query_tree.specs.Syntax.{TreeForm, tree_form}
 
 -- The form of the tree of a query.
 abbrev pub form_of : Query → TreeForm
-form_of query = tree_form query.tree
+form_of query = tree_form query.tree.value

@@ -19,7 +19,7 @@ use values::{Record, Schema, Truth, Value};
 ///
 /// Example: the plan of `SELECT shop, COUNT(*) FROM lines GROUP BY shop` under the columns
 /// `shop:text,cents:int` has the one grouping set of the place 0, and one set function.
-#[derive(Debug, Drop)]
+#[derive(Debug)]
 pub struct Plan {
     query: Query,
     schema: Schema,
@@ -30,6 +30,24 @@ pub struct Plan {
     ghost resolution: { ∥ resolved ≡ resolution_of schema (form_of query) ∥₁ },
     ghost condition_is: { ∥ IsConditionOf schema (form_of query).where_condition condition ∥₁ },
     ghost filters_are: { ∥ AreConditionsOf schema (filters_of schema (form_of query)) filters.items ∥₁ },
+}
+
+// By a call, so that whoever gives a plan up does not have to look into it.
+impl Drop for Plan {
+    fn drop(self) {
+        let Plan {
+            query,
+            schema,
+            resolved,
+            condition,
+            filters,
+        } = self;
+        drop(query);
+        drop(schema);
+        drop(resolved);
+        drop(condition);
+        drop(filters);
+    }
 }
 
 impl Plan {

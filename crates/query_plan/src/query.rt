@@ -11,10 +11,18 @@ use query_tree::Tree;
 /// A query that some text derives within the limits. `parse` makes one of a text.
 ///
 /// Example: `parse(alloc, "SELECT COUNT(*) FROM lines")` answers one, with a tree of one item.
-#[derive(Debug, Drop)]
+#[derive(Debug)]
 pub struct Query {
-    tree: Tree,
-    ghost derived: { ∥ ((text : List ℕ) × Derives text (tree_form tree)) ∥₁ },
+    tree: Box<Tree>,
+    ghost derived: { ∥ ((text : List ℕ) × Derives text (tree_form tree.value)) ∥₁ },
+}
+
+// By a call, so that whoever gives a query up does not have to look into it.
+impl Drop for Query {
+    fn drop(self) {
+        let Query { tree } = self;
+        drop(tree);
+    }
 }
 
 impl Query {
@@ -24,9 +32,9 @@ impl Query {
     ///
     /// Example: of the tree of one item `COUNT(*)` and no other clause it makes the query of the text
     /// `SELECT COUNT(*) FROM lines`.
-    pub fn new(tree: Tree) -> Query
-        requires { ∥ ((text : List ℕ) × Derives text (tree_form tree)) ∥₁ }
-        ensures { form_of result ≡ tree_form tree }
+    pub fn new(tree: Box<Tree>) -> Query
+        requires { ∥ ((text : List ℕ) × Derives text (tree_form tree.value)) ∥₁ }
+        ensures { form_of result ≡ tree_form tree.value }
     {
         Query { tree }
     }

@@ -12,7 +12,7 @@ use std::alloc::{AllocError, Global};
 use values::{Record, Truth};
 
 /// The lines of a piece, as far as they have been read.
-#[derive(Debug, Drop)]
+#[derive(Drop)]
 pub(crate) struct Folding {
     /// The table of the good records that are kept, by all grouping columns.
     pub(crate) table: Table,

@@ -26,7 +26,7 @@ use std::marker::Model;
 ///
 /// Example: an input is cut behind its third line, and a result made of each of the two pieces, with the indexes 0 and
 /// 1; merged either way round and finished, they give the groups and the refused lines of the input.
-#[derive(Debug, Drop)]
+#[derive(Debug)]
 pub struct Partial {
     alloc: Global,
     shape: Shape,
@@ -39,6 +39,23 @@ pub struct Partial {
     ghost within: { AreGroupsWithin lines shape.functions.items table } by { Prim.hlevel props },
     ghost counted: { lines_noted (notes_in notes) ≡ lines },
     ghost numbered: { All IsWellNumbered (notes_in notes) } by { Prim.hlevel props },
+}
+
+// By a call, so that whoever gives a result up does not have to look into it.
+impl Drop for Partial {
+    fn drop(self) {
+        let Partial {
+            alloc: _,
+            shape,
+            table,
+            lines: _,
+            refused: _,
+            notes,
+        } = self;
+        drop(shape);
+        drop(table);
+        drop(notes);
+    }
 }
 
 impl Model for Partial {
@@ -277,15 +294,23 @@ impl Partial {
             refused,
             mut notes,
         } = self;
-        let mut other = other;
-        notes.append(&mut other.notes)?;
-        let joined = joiner.join(table, other.table)?;
+        let Partial {
+            alloc: _,
+            shape: other_shape,
+            table: other_table,
+            lines: other_lines,
+            refused: other_refused,
+            notes: mut other_notes,
+        } = other;
+        drop(other_shape);
+        notes.append(&mut other_notes)?;
+        let joined = joiner.join(table, other_table)?;
         Ok(Partial {
             alloc,
             shape,
             table: joined,
-            lines: lines + other.lines,
-            refused: refused + other.refused,
+            lines: lines + other_lines,
+            refused: refused + other_refused,
             notes,
         })
     }
@@ -336,10 +361,19 @@ impl Partial {
             refused,
             notes,
         } = self;
-        let lines = before + rest.lines;
-        let joined = joiner.join(table, rest.table)?;
+        let Partial {
+            alloc: _,
+            shape: rest_shape,
+            table: rest_table,
+            lines: rest_lines,
+            refused: rest_refused,
+            notes: rest_notes,
+        } = rest;
+        drop(rest_shape);
+        let lines = before + rest_lines;
+        let joined = joiner.join(table, rest_table)?;
         let mut numbered = number(alloc, notes)?;
-        number_behind(&mut numbered, before, rest.notes)?;
+        number_behind(&mut numbered, before, rest_notes)?;
         let notes = one_note(
             alloc,
             Note {
@@ -353,7 +387,7 @@ impl Partial {
             shape,
             table: joined,
             lines,
-            refused: refused + rest.refused,
+            refused: refused + rest_refused,
             notes,
         })
     }
@@ -423,6 +457,7 @@ impl Partial {
         ensures shape { IfOk result (HaveOneShape self) }
         ensures lines { IfOk result (λ partial. partial.lines ≡ self.lines) }
         ensures refused { IfOk result (λ partial. partial.refused ≡ self.refused) }
+        ensures fewer { IfOk result (λ partial. partial.refused ≤ partial.lines) }
     {
         let Partial {
             alloc,
@@ -509,10 +544,13 @@ impl Partial {
     {
         let Partial {
             alloc,
+            shape,
             table,
+            lines: _,
+            refused: _,
             notes,
-            ..
         } = self;
+        drop(shape);
         let rows = rows_of(alloc, joiner, plan, table)?;
         let refused = number(alloc, notes)?;
         members_law();

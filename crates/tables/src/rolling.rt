@@ -18,7 +18,7 @@ use query_plan::FilteredFunction;
 use std::alloc::{AllocError, Global};
 
 /// The table of a grouping set.
-#[derive(Debug, Drop)]
+#[derive(Drop)]
 struct SetTable {
     /// The places of its columns.
     set: Vec<usize>,

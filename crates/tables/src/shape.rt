@@ -6,11 +6,25 @@ use query_plan::{FilteredFunction, Plan, filter_texts};
 use std::alloc::{AllocError, Global};
 
 /// The grouping sets of a query, its different set functions, and the canonical texts of their different filters.
-#[derive(Debug, Drop)]
+#[derive(Debug)]
 pub(crate) struct Shape {
     pub(crate) sets: Vec<Vec<usize>>,
     pub(crate) functions: Vec<FilteredFunction>,
     pub(crate) filters: Vec<String>,
+}
+
+// By a call, so that whoever gives a shape up does not have to look into it.
+impl Drop for Shape {
+    fn drop(self) {
+        let Shape {
+            sets,
+            functions,
+            filters,
+        } = self;
+        drop(sets);
+        drop(functions);
+        drop(filters);
+    }
 }
 
 impl Shape {

@@ -6,7 +6,6 @@ use Rattle.query_plan.specs.declared.plan.Plan.{Plan}
 use Rattle.query_plan.specs.Planned.{fields_of_plan, form_of_plan}
 use Rattle.tables.specs.Means.{IsMean, meaning}
 use Rattle.tables.specs.Partials.{one_piece}
-use Rattle.tables.specs.States.{PartialState}
 use Rattle.tables.proofs.Means.{mean-from_stands}
 use Rattle.tables.proofs.Sharing.{hands_sync, job_by_sync}
 use Rattle.gathering.proofs.Pooled.{IsJobOf, few-loads, grown-by, refused-whole, room-beside, stands-behind, under-of, under-same, weights-counted}
@@ -48,10 +47,9 @@ fan_deal_onto-requires-clause-room g c κs within =
     let of = subst (IsJobOf c.args.plan.now c.args.round.now pieces.items) (sym c.new-job.ensures.job)
     record { plan_is = c.new.ensures.plan; input_is = c.new.ensures.input; pieces_are = c.new.ensures.pieces ∙ c.as_slice.ensures.value } in
     let count : c.len-2.result ≡ length pieces.items = grind (arith, c.len-2.ensures, pieces.ok) in
-    let v = c.before-2 in
-    let fewer = v.inside.fewer in
-    let refused = ap (λ (s : PartialState). s.refused) v.view_is in
-    let lines = ap (λ (s : PartialState). s.lines) v.view_is in
+    let fewer = c.in_ok-front.ensures.fewer in
+    let refused = c.in_ok-front.ensures.refused in
+    let lines = c.in_ok-front.ensures.lines in
     room-beside (λ share. share.sum) c.args.shares.items c.args.before.refused _
     (few-loads c.args.plan.now job.plan.now c.args.round.now job.input.now pieces.items job.pieces.now c.len-2.result c.args.before.refused
     of.plan_is of.input_is of.pieces_are count
@@ -74,10 +72,9 @@ decided-requires g c =
     of.plan_is of.input_is of.pieces_are count c.job_law.ensures.refused c.in_ok-pieces.ensures.lines in
     let same = c.in_ok-front.ensures.refused in
     let all = c.args.before.refused + length (refused (fields_of_plan plan) round) in
-    let v = c.before-2 in
-    let fewer = v.inside.fewer in
-    let refused_is = ap (λ (s : PartialState). s.refused) v.view_is in
-    let lines_are = ap (λ (s : PartialState). s.lines) v.view_is in
+    let fewer = c.in_ok-front.ensures.fewer in
+    let refused_is = c.in_ok-front.ensures.refused in
+    let lines_are = c.in_ok-front.ensures.lines in
     let short = c.requires.short in
     let few = few-refused (fields_of_plan plan) round in
     let limit = c.limit_of-limit.ensures in
