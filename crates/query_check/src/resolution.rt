@@ -38,11 +38,25 @@ const MOST_SET_FUNCTIONS: u64 = 64;
 ///
 /// Example: `SELECT COUNT(*) FROM lines GROUP BY ROLLUP (r, d)` is resolved under the columns `d:text,r:text` to the
 /// grouping columns 1 and 0, the sets of 1 and 0, of 1, and of none, and the one set function `CountRows`.
-#[derive(Debug, Drop)]
+#[derive(Debug)]
 pub struct Resolved {
     grouping: Vec<usize>,
     sets: Vec<Vec<usize>>,
     functions: Vec<FilteredFunction>,
+}
+
+// By a call, so that whoever gives it up does not have to look into it.
+impl Drop for Resolved {
+    fn drop(self) {
+        let Resolved {
+            grouping,
+            sets,
+            functions,
+        } = self;
+        drop(grouping);
+        drop(sets);
+        drop(functions);
+    }
 }
 
 impl Model for Resolved {

@@ -77,8 +77,8 @@ fn resolve(
 {
     let resolved = check_tree(alloc, tree, schema)?;
     let columns = schema.columns();
-    let condition = bind_where(alloc, columns, &tree.where_condition)?;
     let filters = filter_conditions(alloc, columns, tree)?;
+    let condition = bind_where(alloc, columns, &tree.where_condition)?;
     Ok((resolved, condition, filters))
 }
 

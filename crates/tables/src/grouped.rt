@@ -23,13 +23,21 @@ const FEWEST: usize = 4_096;
 ///
 /// Example: under `GROUP BY ROLLUP (shop)`, over one record of the shop `'Quay'`, there are the group with the key
 /// `'Quay'` beside the index 0, and that with the empty key beside the index 1.
-#[derive(Debug, Drop)]
+#[derive(Debug)]
 pub struct Groups {
-    // What lies in one piece of memory goes before the many small pieces of the groups: behind these the allocator would
-    // look at each of them.
     refused: Vec<(u64, LineFault)>,
     rows: Vec<(usize, Group)>,
     ghost fit: { FitSomePlan (map row_of rows.items) } by { Prim.hlevel props },
+}
+
+// By a call, so that whoever gives groups up does not have to look into them. What lies in one piece of memory goes before
+// the many small pieces of the groups: behind these the allocator would look at each of them.
+impl Drop for Groups {
+    fn drop(self) {
+        let Groups { refused, rows } = self;
+        drop(refused);
+        drop(rows);
+    }
 }
 
 impl Model for Groups {
