@@ -47,7 +47,7 @@ pub struct Table {
     ghost apart: { AreApart shards.items } by { Prim.hlevel props },
 }
 
-// By a call, so that whoever gives a table up does not have to look into it.
+// A function of its own: a derived one is written out, and proved, wherever a table is given up.
 impl Drop for Table {
     fn drop(self) {
         let Table {

@@ -30,10 +30,7 @@ fn main(rt: HostRuntime) -> anyhow::Result<()> {
     let options = Options::new(4, 1_048_576, None).context("a number is out of range")?;
     let plan = plan(alloc)?;
     let (mut out, mut err) = (rt.stdout(), rt.stderr());
-    let alone = run_alone(alloc, &plan, options, input, &mut out, &mut err);
-    let shared = run(&rt, alloc, &plan, options, input, &mut out, &mut err);
-    drop(plan);
-    alone?;
-    shared?;
+    run_alone(alloc, &plan, options, input, &mut out, &mut err)?;
+    run(&rt, alloc, &plan, options, input, &mut out, &mut err)?;
     Ok(())
 }

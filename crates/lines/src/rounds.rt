@@ -359,7 +359,7 @@ pub struct Rounds<R: Read + Drop> {
     failed: bool,
 }
 
-// By a call, so that whoever gives an input up does not have to look into it.
+// A function of its own: a derived one is written out, and proved, wherever an input is given up.
 impl<R: Read + Drop> Drop for Rounds<R> {
     fn drop(self) {
         let Rounds {

@@ -127,7 +127,7 @@ pub struct Hand {
     spent: bool,
 }
 
-// By a call, so that whoever gives a hand up does not have to look into it.
+// A function of its own: a derived one is written out, and proved, wherever a hand is given up.
 impl Drop for Hand {
     fn drop(self) {
         let Hand {

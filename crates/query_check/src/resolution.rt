@@ -45,7 +45,7 @@ pub struct Resolved {
     functions: Vec<FilteredFunction>,
 }
 
-// By a call, so that whoever gives it up does not have to look into it.
+// A function of its own: a derived one is written out, and proved, wherever one is given up.
 impl Drop for Resolved {
     fn drop(self) {
         let Resolved {

@@ -52,11 +52,7 @@ pub fn check(alloc: Global, query: Query, schema: Schema) -> Result<Plan, QueryF
         Ok((resolved, condition, filters)) => {
             Ok(Plan::new(query, schema, resolved, condition, filters))
         }
-        Err(fault) => {
-            // By a call: a drop in place is proved in place, for each form of a query, which takes minutes.
-            drop(query);
-            Err(fault)
-        }
+        Err(fault) => Err(fault),
     }
 }
 

@@ -32,7 +32,7 @@ pub struct Plan {
     ghost filters_are: { ∥ AreConditionsOf schema (filters_of schema (form_of query)) filters.items ∥₁ },
 }
 
-// By a call, so that whoever gives a plan up does not have to look into it.
+// A function of its own: a derived one is written out, and proved, wherever a plan is given up.
 impl Drop for Plan {
     fn drop(self) {
         let Plan {

@@ -17,7 +17,7 @@ pub struct Query {
     ghost derived: { ∥ ((text : List ℕ) × Derives text (tree_form tree.value)) ∥₁ },
 }
 
-// By a call, so that whoever gives a query up does not have to look into it.
+// A function of its own: a derived one is written out, and proved, wherever a query is given up.
 impl Drop for Query {
     fn drop(self) {
         let Query { tree } = self;

@@ -30,8 +30,8 @@ pub struct Groups {
     ghost fit: { FitSomePlan (map row_of rows.items) } by { Prim.hlevel props },
 }
 
-// By a call, so that whoever gives groups up does not have to look into them. What lies in one piece of memory goes before
-// the many small pieces of the groups: behind these the allocator would look at each of them.
+// A function of its own: a derived one is written out, and proved, wherever groups are given up. What lies in one piece of
+// memory goes before the many small pieces of the groups: behind these the allocator would look at each of them.
 impl Drop for Groups {
     fn drop(self) {
         let Groups { refused, rows } = self;

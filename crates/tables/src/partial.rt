@@ -41,7 +41,7 @@ pub struct Partial {
     ghost numbered: { All IsWellNumbered (notes_in notes) } by { Prim.hlevel props },
 }
 
-// By a call, so that whoever gives a result up does not have to look into it.
+// A function of its own: a derived one is written out, and proved, wherever a result is given up.
 impl Drop for Partial {
     fn drop(self) {
         let Partial {

@@ -13,7 +13,7 @@ pub(crate) struct Shape {
     pub(crate) filters: Vec<String>,
 }
 
-// By a call, so that whoever gives a shape up does not have to look into it.
+// A function of its own: a derived one is written out, and proved, wherever a shape is given up.
 impl Drop for Shape {
     fn drop(self) {
         let Shape {

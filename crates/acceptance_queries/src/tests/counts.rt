@@ -8,10 +8,7 @@ fn count_of(alloc: Global, groups: &str) -> Result<u64, QueryFault> {
     text.push_str("SELECT COUNT(*) FROM lines GROUP BY ")?;
     text.push_str(groups)?;
     let query = parse(alloc, text.as_str())?;
-    let count = query.set_count();
-    // By a call: a drop in place is proved for each form of a query.
-    drop(query);
-    Ok(count)
+    Ok(query.set_count())
 }
 
 /// Lists of GROUP BY, each with the number of its sets.

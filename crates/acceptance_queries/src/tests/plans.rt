@@ -92,8 +92,6 @@ fn keeps_functions_and_places(rt: HostRuntime) {
     let plan = planned(rt.alloc(), text).expect(&rt, "a plan");
     assert_functions(&rt, &plan);
     assert_places(&rt, &plan);
-    // By a call: a drop in place is proved for each form of a query.
-    drop(plan);
 }
 
 /// Set functions with three different FILTERs, one of them written twice, and one without.

@@ -77,8 +77,6 @@ fn keeps_the_tree(rt: HostRuntime) {
     let text = "SELECT d AS \"D\", COUNT(*) FROM lines";
     let query = parse(rt.alloc(), text).expect(&rt, "a query");
     assert_tree(&rt, &query);
-    // By a call: a drop in place is proved for each form of a query.
-    drop(query);
 }
 
 fn is_name(expression: &Expression, wanted: &str) -> bool {
