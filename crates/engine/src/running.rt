@@ -36,7 +36,7 @@ pub struct Done {
 }
 
 /// What is written of an input, and what that is made of.
-#[derive(Debug, Drop)]
+#[derive(Drop)]
 struct Texts {
     /// The report.
     report: Vec<u8>,

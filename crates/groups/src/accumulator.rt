@@ -13,7 +13,7 @@ use std::alloc::{AllocError, Global};
 use values::Value;
 
 /// What is kept of the members of a group for one set function.
-#[derive(Debug, Drop)]
+#[derive(Drop)]
 pub(crate) enum Accumulator {
     /// `COUNT(*)` without FILTER: the number of records is kept beside.
     Rows,

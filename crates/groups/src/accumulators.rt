@@ -11,7 +11,7 @@ use std::marker::Model;
 use values::Value;
 
 /// What is kept of the members of a group: their number, and for each set function an accumulator.
-#[derive(Debug, Drop)]
+#[derive(Drop)]
 pub(crate) struct Accumulators {
     lines: u64,
     parts: Vec<Accumulator>,

@@ -14,7 +14,7 @@ use values::Value;
 /// The different values of those that were taken, NULL excepted.
 ///
 /// They stand in a box, so that the accumulators of other set functions are small.
-#[derive(Debug, Drop)]
+#[derive(Drop)]
 pub(crate) struct DistinctValues {
     values: Box<HashSet<Value>>,
 }

@@ -8,7 +8,7 @@ use std::alloc::AllocError;
 use values::Value;
 
 /// A part of a group, which a group takes.
-#[derive(Clone, Copy, Debug)]
+#[derive(Clone, Copy)]
 pub(crate) enum Part<'a> {
     /// One member, by its values, and the marks that say which filters keep it.
     Record(&'a [Value], &'a [bool]),

@@ -18,7 +18,7 @@ use values::Value;
 const MOST: usize = 576_460_752_303_423_488;
 
 /// Some groups of a table, each by its key.
-#[derive(Debug, Drop)]
+#[derive(Drop)]
 pub(crate) struct Shard {
     pub(crate) groups: HashMap<Vec<Value>, Accumulators>,
     ghost few: { hash_map_len groups ≤ 2 ^ 59 },

@@ -31,7 +31,6 @@ const FEWEST: usize = 4_096;
 ///
 /// Example: the table that has taken the records `'x'`, `'y'` and `'x'`, grouped by their one column with `COUNT(*)`,
 /// has two groups: that of `'x'` with 2 members, and that of `'y'` with 1.
-#[derive(Debug)]
 pub struct Table {
     alloc: Global,
     /// The groups, each in the shard of its key's place. Either there are several shards, so that tables can be put

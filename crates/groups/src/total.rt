@@ -8,7 +8,7 @@ ghost use Rattle.groups.specs.Rows.{numbers};
 use values::Value;
 
 /// The sum of whole numbers, and how many were added.
-#[derive(Clone, Copy, Debug)]
+#[derive(Clone, Copy)]
 pub(crate) struct Total {
     pub(crate) sum: i128,
     pub(crate) count: u64,

@@ -38,7 +38,6 @@ const MOST_SET_FUNCTIONS: u64 = 64;
 ///
 /// Example: `SELECT COUNT(*) FROM lines GROUP BY ROLLUP (r, d)` is resolved under the columns `d:text,r:text` to the
 /// grouping columns 1 and 0, the sets of 1 and 0, of 1, and of none, and the one set function `CountRows`.
-#[derive(Debug)]
 pub struct Resolved {
     grouping: Vec<usize>,
     sets: Vec<Vec<usize>>,

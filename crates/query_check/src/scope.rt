@@ -6,7 +6,7 @@ use values::Column;
 /// A FILTER is looked at as WHERE is.
 ///
 /// Example: `AVG(q)` may stand in `Clause::Select`, and not in `Clause::Having`.
-#[derive(Clone, Copy, Debug, PartialEq, Eq)]
+#[derive(Clone, Copy, PartialEq, Eq)]
 pub enum Clause {
     /// WHERE: names are columns; no set function and no GROUPING may stand there.
     Where,

@@ -166,8 +166,8 @@ fn operand_kind(columns: &[Column], operand: &Operand) -> Option<Kind>
     match operand {
         Operand::Expression(Expression::Name(name)) => column_kind(columns, name.as_str()),
         Operand::Expression(Expression::Grouping(_)) => Some(Kind::Int),
-        Operand::Expression(Expression::Function(SetFunction { aggregate, .. })) => {
-            aggregate_kind(columns, aggregate)
+        Operand::Expression(Expression::Function(function)) => {
+            aggregate_kind(columns, &function.aggregate)
         }
         Operand::Literal(literal) => Some(literal_kind(literal)),
     }

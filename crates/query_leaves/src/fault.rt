@@ -9,7 +9,7 @@ use std::alloc::{AllocError, AllocFailed};
 ///
 /// Example: of the tokens of `SELECT COUNT(*) FROM table1` the fault is `Unexpected(1)`: the last token is not the
 /// name `lines`.
-#[derive(Debug, Drop)]
+#[derive(Drop)]
 pub enum GrammarFault {
     /// A token does not continue a query: the first of the last so many tokens, or the end where it is 0.
     Unexpected(usize),

@@ -19,7 +19,6 @@ use values::{Record, Schema, Truth, Value};
 ///
 /// Example: the plan of `SELECT shop, COUNT(*) FROM lines GROUP BY shop` under the columns
 /// `shop:text,cents:int` has the one grouping set of the place 0, and one set function.
-#[derive(Debug)]
 pub struct Plan {
     query: Query,
     schema: Schema,

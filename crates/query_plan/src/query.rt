@@ -11,7 +11,6 @@ use query_tree::Tree;
 /// A query that some text derives within the limits. `parse` makes one of a text.
 ///
 /// Example: `parse(alloc, "SELECT COUNT(*) FROM lines")` answers one, with a tree of one item.
-#[derive(Debug)]
 pub struct Query {
     tree: Box<Tree>,
     ghost derived: { ∥ ((text : List ℕ) × Derives text (tree_form tree.value)) ∥₁ },

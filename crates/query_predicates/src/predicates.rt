@@ -120,7 +120,7 @@ pub fn expression(
         return Ok((Expression::Grouping(names), rest));
     }
     let (function, rest) = set_function(alloc, tokens, levels)?;
-    Ok((Expression::Function(function), rest))
+    Ok((Expression::Function(Box::new(alloc, function)?), rest))
 }
 // ---- atoms
 

@@ -1,8 +1,8 @@
 //! Expressions and predicates, which hold one another.
 
 ghost use Rattle.std.specs.Prelude.{◌≡◌, ◌++◌, codes, IfOk, map, OnOk, string_bytes};
-ghost use Rattle.query_print.specs.Canonical.{bracketed_below, expression_text, joined, operand_text, part_texts, predicate_text, tightness};
-ghost use Rattle.query_tree.specs.Syntax.{expression_form, operand_form, predicate_form, predicate_forms};
+ghost use Rattle.query_print.specs.Canonical.{bracketed_below, expression_text, function_text, joined, operand_text, part_texts, predicate_text, tightness};
+ghost use Rattle.query_tree.specs.Syntax.{expression_form, function_form, operand_form, predicate_form, predicate_forms};
 
 use crate::leaves::{
     push_aggregate, push_grouping, push_marked, push_membership, push_op, truth_text,
@@ -37,13 +37,19 @@ pub(crate) fn push_expression(out: &mut String, expression: &Expression) -> Resu
     match expression {
         Expression::Name(name) => push_name(out, name.as_str()),
         Expression::Grouping(names) => push_grouping(out, names),
-        Expression::Function(SetFunction { aggregate, filter }) => {
-            push_aggregate(out, aggregate)?;
-            match filter {
-                None => Ok(()),
-                Some(predicate) => push_filter(out, predicate),
-            }
-        }
+        Expression::Function(function) => push_function(out, function),
+    }
+}
+
+/// Writes a set function at the end, with its FILTER where it has one.
+#[cycle(push_expression)]
+fn push_function(out: &mut String, function: &SetFunction) -> Result<(), AllocError>
+    ensures { OnOk result (string_bytes out.new ≡ string_bytes out.old ++ function_text (function_form function.now)) }
+{
+    push_aggregate(out, &function.aggregate)?;
+    match &function.filter {
+        None => Ok(()),
+        Some(predicate) => push_filter(out, predicate),
     }
 }
 

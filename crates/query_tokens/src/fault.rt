@@ -8,7 +8,7 @@ use std::alloc::{AllocError, AllocFailed};
 /// Why a text spells no tokens.
 ///
 /// Example: of `SELECT ;` it is `NoToken(7)`.
-#[derive(Debug, Drop)]
+#[derive(Drop)]
 pub enum TokenFault {
     /// At this byte, from 0, no token begins: as at `;`, at a text without its last quote, or at a number
     /// that 64 bits do not hold.

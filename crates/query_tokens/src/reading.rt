@@ -21,7 +21,7 @@ use std::alloc::{AllocError, Global};
 /// The tokens of a text, and beside each the byte where it begins.
 ///
 /// Example: those of `COUNT( * )` are a word and three signs, which begin at the bytes 0, 5, 7 and 9.
-#[derive(Debug, Drop)]
+#[derive(Drop)]
 pub struct Tokens {
     /// The tokens in order.
     pub all: Vec<Token>,

@@ -5,7 +5,7 @@ use query_tree::Text;
 /// A reserved word, which is never a name unless it stands in double quotes. It may be spelled in any ASCII case.
 ///
 /// Example: `select`, `Select` and `SELECT` are one word, `Select`.
-#[derive(Clone, Copy, Debug, PartialEq, Eq)]
+#[derive(Clone, Copy, PartialEq, Eq)]
 pub enum Word {
     /// `AND`, between predicates and between the ends of BETWEEN.
     And,
@@ -80,7 +80,7 @@ pub enum Word {
 /// A sign, of one character or two.
 ///
 /// Example: `<=` is the one sign `LessOrEqual`, and `< =` is two, `Less` and `Equal`.
-#[derive(Clone, Copy, Debug, PartialEq, Eq)]
+#[derive(Clone, Copy, PartialEq, Eq)]
 pub enum Sign {
     /// `(`
     Open,
@@ -107,7 +107,7 @@ pub enum Sign {
 /// A token: what a query is made of, but for the white space between them.
 ///
 /// Example: `cents >= 5` is a name, a sign and a whole number.
-#[derive(Debug, Drop)]
+#[derive(Drop)]
 pub enum Token {
     /// A reserved word, in any ASCII case.
     Word(Word),

@@ -115,7 +115,7 @@ function_step f = function_form_of f.aggregate f.filter
 abbrev pub expression_step : Expression-F ExpressionForm OperandForm PredicateForm FunctionForm → ExpressionForm
 expression_step (layer.Name n) = name n
 expression_step (layer.Grouping ns) = grouping ns.items
-expression_step (layer.Function f) = function f
+expression_step (layer.Function f) = function f.value
 
 abbrev pub operand_step : Operand-F ExpressionForm OperandForm PredicateForm FunctionForm → OperandForm
 operand_step (layer.Expression e) = OperandForm.expression e

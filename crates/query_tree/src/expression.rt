@@ -7,7 +7,7 @@ use values::{Op, Truth};
 /// A set function apart from its FILTER, ISO/IEC 9075-2 `<set function specification>`.
 ///
 /// Example: `SUM(cents)` is `Sum` of the name `cents`.
-#[derive(Debug, Drop)]
+#[derive(Drop)]
 pub enum Aggregate {
     /// `COUNT(*)`: the number of records.
     CountRows,
@@ -30,7 +30,7 @@ pub enum Aggregate {
 ///
 /// Example: `COUNT(*) FILTER (WHERE cents > 5)` is `CountRows` with the filter `cents > 5`.
 #[cycle(expression)]
-#[derive(Debug, Drop)]
+#[derive(Drop)]
 pub struct SetFunction {
     /// The function and its argument.
     pub aggregate: Aggregate,
@@ -42,22 +42,22 @@ pub struct SetFunction {
 ///
 /// Example: in `SELECT shop, COUNT(*) FROM lines GROUP BY shop` the items compute a `Name` and a `Function`.
 #[cycle(expression)]
-#[derive(Debug, Drop)]
+#[derive(Drop)]
 pub enum Expression {
     /// A column, or in ORDER BY an alias.
     Name(Text),
     /// `GROUPING(x, y)`, by its columns, ISO/IEC 9075-2 `<grouping operation>`: a number with a binary
     /// digit for each, the last one's lowest, 0 where the row's grouping set has the column, else 1.
     Grouping(Vec<Text>),
-    /// A set function.
-    Function(SetFunction),
+    /// A set function, in a box, since it is several times as long as a name.
+    Function(Box<SetFunction>),
 }
 
 /// An operand of a predicate.
 ///
 /// Example: in `cents > 5` they are the expression `cents` and the literal 5.
 #[cycle(expression)]
-#[derive(Debug, Drop)]
+#[derive(Drop)]
 pub enum Operand {
     /// An expression.
     Expression(Expression),
@@ -70,7 +70,7 @@ pub enum Operand {
 ///
 /// Example: `a AND b OR c` is `Or` of two parts: `And` of the columns `a` and `b`, and the column `c`.
 #[cycle(expression)]
-#[derive(Debug, Drop)]
+#[derive(Drop)]
 pub enum Predicate {
     /// `p OR q OR ..`, two parts or more.
     Or(Vec<Predicate>),

@@ -6,7 +6,7 @@ use crate::text::Text;
 ///
 /// Example: `ROLLUP (a, (b, c))` is `Rollup` of two units, and stands for the grouping sets `(a, b, c)`, `(a)`
 /// and `()`.
-#[derive(Debug, Drop)]
+#[derive(Drop)]
 pub enum GroupingElement {
     /// `x`, `(x, y)` or `()`: one grouping set, ISO/IEC 9075-2 `<ordinary grouping set>` or `<empty grouping set>`.
     /// A single name with or without brackets is the same.

@@ -7,7 +7,7 @@ use crate::text::Text;
 /// An item of SELECT, ISO/IEC 9075-2 `<derived column>`.
 ///
 /// Example: `COUNT(*) AS events` is a set function with the alias `events`.
-#[derive(Debug, Drop)]
+#[derive(Drop)]
 pub struct Item {
     /// What the item computes.
     pub expression: Expression,
@@ -18,7 +18,7 @@ pub struct Item {
 /// A key of ORDER BY, ISO/IEC 9075-2 `<sort specification>`, with the defaults resolved.
 ///
 /// Example: `cents DESC` descends, with NULL first; `cents` alone ascends, with NULL last.
-#[derive(Debug, Drop)]
+#[derive(Drop)]
 pub struct Key {
     /// What the key computes.
     pub expression: Expression,
@@ -32,7 +32,7 @@ pub struct Key {
 ///
 /// Example: `SELECT COUNT(*) FROM lines WHERE member` has one item and a WHERE; it has no element of GROUP BY, no
 /// HAVING and no key.
-#[derive(Debug, Drop)]
+#[derive(Drop)]
 pub struct Tree {
     /// The items of SELECT, one or more, ISO/IEC 9075-2 `<select list>`.
     pub items: Vec<Item>,

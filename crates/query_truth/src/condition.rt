@@ -12,7 +12,7 @@ use values::{Op, Truth, Value, compare};
 ///
 /// Example: under the columns `a:bool,q:int` the operand `q` is `Source::Value(1)`, and the operand 5
 /// is `Source::Literal(Value::Int(5))`.
-#[derive(Debug, Drop)]
+#[derive(Drop)]
 pub enum Source {
     /// The value at this place, from 0.
     Value(usize),
@@ -24,7 +24,7 @@ pub enum Source {
 /// that no name is looked up for each record.
 ///
 /// Example: under the columns `a:bool,q:int` the predicate `a` is `Holds(Source::Value(0))`.
-#[derive(Debug, Drop)]
+#[derive(Drop)]
 pub enum Condition {
     /// `p OR q OR ..`
     Or(Vec<Condition>),

@@ -5,7 +5,7 @@ use groups::Cell;
 ///
 /// Example: for `SELECT shop, COUNT(*) FROM lines GROUP BY shop` the row of the shop `'Quay'` with 2 records has the
 /// cells `'Quay'` and 2.
-#[derive(Debug, Drop)]
+#[derive(Drop)]
 pub struct ReportRow {
     /// One cell for each item of SELECT, in their order.
     pub cells: Vec<Cell>,

@@ -23,7 +23,6 @@ const FEWEST: usize = 4_096;
 ///
 /// Example: under `GROUP BY ROLLUP (shop)`, over one record of the shop `'Quay'`, there are the group with the key
 /// `'Quay'` beside the index 0, and that with the empty key beside the index 1.
-#[derive(Debug)]
 pub struct Groups {
     refused: Vec<(u64, LineFault)>,
     rows: Vec<(usize, Group)>,

@@ -2,7 +2,7 @@
 use lines::LineFault;
 
 /// What is kept of the lines of a piece, beside their groups.
-#[derive(Debug, Drop)]
+#[derive(Drop)]
 pub(crate) struct Note {
     /// The piece's index.
     pub(crate) index: u32,

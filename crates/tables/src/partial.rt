@@ -26,7 +26,6 @@ use std::marker::Model;
 ///
 /// Example: an input is cut behind its third line, and a result made of each of the two pieces, with the indexes 0 and
 /// 1; merged either way round and finished, they give the groups and the refused lines of the input.
-#[derive(Debug)]
 pub struct Partial {
     alloc: Global,
     shape: Shape,

@@ -6,7 +6,6 @@ use query_plan::{FilteredFunction, Plan, filter_texts};
 use std::alloc::{AllocError, Global};
 
 /// The grouping sets of a query, its different set functions, and the canonical texts of their different filters.
-#[derive(Debug)]
 pub(crate) struct Shape {
     pub(crate) sets: Vec<Vec<usize>>,
     pub(crate) functions: Vec<FilteredFunction>,

@@ -33,12 +33,13 @@ fn counting(alloc: Global, distinct_sets: bool) -> Result<Tree, AllocError> {
     sets.push(GroupingElement::Set(names(alloc, &["d", "d"])?))?;
     let mut groups = Vec::new(alloc);
     groups.push(GroupingElement::Sets(sets))?;
+    let function = SetFunction {
+        aggregate: Aggregate::CountRows,
+        filter: None,
+    };
     let mut items = Vec::new(alloc);
     items.push(Item {
-        expression: Expression::Function(SetFunction {
-            aggregate: Aggregate::CountRows,
-            filter: None,
-        }),
+        expression: Expression::Function(Box::new(alloc, function)?),
         alias: None,
     })?;
     Ok(Tree {
