@@ -4,5 +4,7 @@ pub mod Groups
 pub mod Cells
 pub mod Bags
 pub mod GroupSummaries
+pub mod Found
+pub mod Fitting
 pub mod Rolled
 pub mod Inside

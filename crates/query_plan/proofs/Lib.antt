@@ -1,3 +1,4 @@
 mod FunctionCodes
 mod TruthCodes
 mod Filtering
+pub mod Sharing

@@ -13,12 +13,13 @@ use Rattle.query_tree.specs.declared.expression.Aggregate.TheVariants as aggrega
 use Rattle.query_tree.specs.declared.predicate.Literal.TheVariants as constant
 use Rattle.query_tree.specs.Syntax.{KeyForm, PredicateForm, TreeForm, name, grouping, function, over_all, rollup, expression, literal, or_of, not_of, compare, null_test, no_parts, part}
 use Rattle.groups.specs.Functions.{Summary, plain, ratio}
-use Rattle.tables.specs.Found.{Found}
-use Rattle.report.specs.Having.{having_truth, rows_having_true}
-use Rattle.report.specs.Inside.Fronts.{behind_of, front_of, with_digits}
-use Rattle.report.specs.Order.{arranged, under_key}
-use Rattle.report.specs.Report.{refusals_of, report_of, rows_shown}
-use Rattle.report.specs.Shown.{number_of_digits}
+use Rattle.groups.specs.Found.{Found}
+use Rattle.rows.specs.Having.{having_truth, rows_having_true}
+use Rattle.rows.specs.Inside.Fronts.{behind_of, front_of, with_digits}
+use Rattle.rows.specs.Order.{arranged, under_key}
+use Rattle.rows.specs.Order.{rows_shown}
+use Rattle.report.specs.Report.{refusals_of, report_of}
+use Rattle.rows.specs.Shown.{number_of_digits}
 use Rattle.report.specs.Text.{cell_field, marked, report_bytes}
 
 six-is-110 : number_of_digits (false ∷ true ∷ true ∷ []) ≡ 6

@@ -1,20 +1,3 @@
-pub mod Sorting
-pub mod Sameness
-pub mod Places
-pub mod Totals
-pub mod Rows
-mod Digits
-pub mod KeyOrder
-pub mod Maps
-pub mod Wide
 pub mod Written
 mod Examples
-pub mod Filtering
-pub mod RowValues
-pub mod Keeping
-mod Arranged
-mod RowSets
-mod Sources
-mod InParts
 mod OnGroups
-mod Sharing

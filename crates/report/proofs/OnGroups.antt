@@ -6,15 +6,15 @@ use Rattle.query_resolution.specs.Sets.{sets_of}
 use Rattle.query_plan.specs.declared.plan.Plan.{Plan}
 use Rattle.query_plan.specs.Planned.{fields_of_plan, form_of_plan}
 use Rattle.groups.specs.declared.group.Group.{Group}
-use Rattle.tables.specs.Found.{Found, row_of}
-use Rattle.report.specs.declared.source.Source.{Source}
-use Rattle.report.specs.Order.{arranged}
-use Rattle.report.specs.Report.{rows_shown}
-use Rattle.report.specs.Shown.{row_shown}
-use Rattle.report.specs.Inside.Planned.{HasSetUnder}
-use Rattle.report.specs.Inside.Sources.{AreSourcesOfEach, cells_at}
-use Rattle.report.proofs.Maps.{map-twice}
-use Rattle.report.proofs.Sources.{sources-at, sources-count}
+use Rattle.groups.specs.Found.{Found, row_of}
+use Rattle.rows.specs.declared.source.Source.{Source}
+use Rattle.rows.specs.Order.{arranged}
+use Rattle.rows.specs.Order.{rows_shown}
+use Rattle.rows.specs.Shown.{row_shown}
+use Rattle.rows.specs.Planned.{HasSetUnder}
+use Rattle.rows.specs.Sources.{AreSourcesOfEach, cells_at}
+use Rattle.rows.proofs.Maps.{map-twice}
+use Rattle.rows.proofs.Sources.{sources-at, sources-count}
 
 each-shown : (plan : Plan) (sources : List (Vec Source)) (groups : List (Bor (ℕ × Group))) → AreSourcesOfEach plan (sets_of (fields_of_plan plan) (form_of_plan plan)) sources
     → All (λ (r : Bor (ℕ × Group)). HasSetUnder plan (row_of r.now)) groups

@@ -1,5 +1,5 @@
 -- The text of a report, row by row.
-use Rattle.std.proofs.Common.{◌≡◌, ◌∙◌, ℕ, Option, None, Some, List, [], ◌∷◌, ◌++◌, map, ap, sym, append_assoc}
+use Rattle.std.proofs.Common.{◌≡◌, ◌∙◌, ℕ, Option, None, Some, List, [], ◌∷◌, ◌++◌, map, refl, ap, sym, append_assoc}
 use Rattle.std.specs.Io.KnownBytes.{Appends}
 use Rattle.std.specs.List.{flat_map}
 use Rattle.std.proofs.lemmas.List.{append-nil, flat_map_more, map-append}
@@ -8,7 +8,13 @@ use Rattle.csv.specs.Writing.{row_text, default_writer}
 use Rattle.query_tree.specs.Syntax.{ItemForm}
 use Rattle.query_print.specs.Canonical.{header_text}
 use Rattle.groups.specs.Functions.{Summary}
+use Rattle.std.specs.Global.{Vec}
+use Rattle.std.specs.declared.alloc.AllocError.{AllocError}
+use Rattle.std.specs.declared.result.Result.{Result}
+use Rattle.rows.specs.Parts.{AreMade, items_of}
+use Rattle.rows.proofs.InParts.{parts-joined}
 use Rattle.report.specs.Text.{cell_field, report_bytes, rows_bytes}
+use Rattle.report.specs.Inside.Parts.{AreTextsOf, IsTextOf}
 
 -- one more row behind those that were written
 pub written-next : (items : List ItemForm) (old new : Option (List ℕ)) (done more : List (List Summary)) (row : List Summary) → old ≡ Some (report_bytes items done) → Appends old new (row_text default_writer (map cell_field row)) → more ≡ done ++ row ∷ [] → new ≡ Some (report_bytes items more)
@@ -28,6 +34,10 @@ pub rows-append : (rows more : List (List Summary)) → rows_bytes (rows ++ more
 rows-append rows more =
     ap (flat_map (row_text default_writer)) (map-append (map cell_field) rows more)
     ∙ flat_map-append (row_text default_writer) (map (map cell_field) rows) (map (map cell_field) more)
+
+-- texts one after the other have the bytes of all rows
+pub texts-joined : (size : ℕ) (rows : List (List Summary)) (texts : List (Result (Vec ℕ) AllocError)) → AreTextsOf size rows texts → AreMade texts → flat_map items_of texts ≡ rows_bytes rows
+texts-joined = parts-joined IsTextOf refl (λ xs us ys vs e f. (λ i. e i ++ f i) ∙ sym (rows-append xs us))
 
 -- one more row behind those that were written behind what was there
 pub appended-next : (old new next : Option (List ℕ)) (done more : List (List Summary)) (row : List Summary)

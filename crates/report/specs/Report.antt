@@ -1,18 +1,12 @@
 -- The report of a query on the groups that its grouping sets find, and the list of refused lines.
-use Rattle.std.specs.Prelude.{◌<◌, ℕ, ⊤, List, length, map}
+use Rattle.std.specs.Prelude.{◌<◌, ℕ, ⊤, List, length}
 use Rattle.values.specs.Schema.{Field}
 use Rattle.lines.specs.declared.fault.LineFault.{LineFault}
 use Rattle.lines.specs.declared.fault.LineFault.TheVariants.{TooLong, NoJson, NoObject, BadValue}
 use Rattle.query_tree.specs.Syntax.{TreeForm}
-use Rattle.groups.specs.Functions.{Summary}
-use Rattle.tables.specs.Found.{Found}
-use Rattle.report.specs.Order.{arranged}
-use Rattle.report.specs.Shown.{row_shown}
+use Rattle.groups.specs.Found.{Found}
+use Rattle.rows.specs.Order.{rows_shown}
 use Rattle.report.specs.Text.{report_bytes, refused_bytes}
-
--- what a report shows: for each group for which HAVING is True, in the order of the rows, its cells
-abbrev pub rows_shown : List Field → TreeForm → List Found → List (List Summary)
-rows_shown fields t found = map (row_shown fields t) (arranged fields t found)
 
 -- the bytes of the report
 abbrev pub report_of : List Field → TreeForm → List Found → List ℕ

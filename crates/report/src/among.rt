@@ -1,21 +1,18 @@
 //! The bytes of a report, whose rows are put in order and written by several threads.
 ghost use Rattle.std.specs.Prelude.{◌≡◌, ◌<◌, All, IfOk, length, map};
 ghost use Rattle.query_plan.specs.Planned.{fields_of_plan, form_of_plan};
-ghost use Rattle.tables.specs.Found.{row_of};
+ghost use Rattle.groups.specs.Found.{row_of};
 ghost use Rattle.tables.specs.Planned.{AreFittingUnder};
 ghost use Rattle.report.specs.Report.{report_of};
 ghost use Rattle.report.specs.Text.{rows_bytes};
 ghost use Rattle.report.specs.Inside.Parts.{AreTextsOf};
-ghost use Rattle.report.specs.Inside.Sources.{cells_at};
+ghost use Rattle.rows.specs.Sources.{cells_at};
 
-use crate::arranging::shown_among;
-use crate::parts::{joined, part_len};
-use crate::source::{Source, sources_by_set};
 use crate::text::{begun, ended, put_groups, report_on};
-use crate::view::PlanView;
 use csv::WriterBuilder;
 use groups::Group;
 use query_plan::Plan;
+use rows::{PlanView, Source, joined, part_len, shown_among, sources_by_set};
 use std::alloc::{AllocError, Global};
 use std::marker::Sync;
 use std::thread;
@@ -47,7 +44,7 @@ pub fn report_among<H: Threads + Sync>(
         return report_on(alloc, groups, plan);
     }
     let view = PlanView::new(alloc, plan)?;
-    let shown = shown_among(rt, alloc, groups, &view, hands)?;
+    let shown = shown_among(rt, alloc, groups.rows(), &view, hands)?;
     let sources = sources_by_set(alloc, &view)?;
     let size = part_len(shown.len(), hands);
     let texts = texts_among(rt, alloc, sources.as_slice(), shown.as_slice(), size)?;

@@ -4,13 +4,13 @@ ghost use Rattle.std.specs.Fmt.{signed_decimal};
 ghost use Rattle.values.specs.Datum.{data_of, datum_of};
 ghost use Rattle.groups.specs.Cells.{summary_of};
 ghost use Rattle.csv.specs.Records.{fields_of, partial_of};
-ghost use Rattle.report.specs.Inside.Sources.{shown_at};
+ghost use Rattle.rows.specs.Sources.{shown_at};
 ghost use Rattle.report.specs.Text.{cell_field, marked, value_field};
 
-use crate::source::Source;
 use csv::ByteRecord;
 use groups::{Cell, Group};
 use itoa::Buffer;
+use rows::Source;
 use std::alloc::{AllocError, Global};
 use values::Value;
 

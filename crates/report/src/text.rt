@@ -7,22 +7,19 @@ ghost use Rattle.values.specs.Datum.{data_of};
 ghost use Rattle.query_print.specs.Canonical.{header_text};
 ghost use Rattle.query_plan.specs.Planned.{fields_of_plan, form_of_plan};
 ghost use Rattle.groups.specs.Cells.{summary_of};
-ghost use Rattle.tables.specs.Found.{row_of};
+ghost use Rattle.groups.specs.Found.{row_of};
 ghost use Rattle.tables.specs.Planned.{AreFittingUnder};
 ghost use Rattle.report.specs.Inside.Between.{IsBetweenRows};
-ghost use Rattle.report.specs.Inside.Sources.{cells_at, shown_at};
+ghost use Rattle.rows.specs.Sources.{cells_at, shown_at};
 ghost use Rattle.report.specs.Report.{report_of};
-ghost use Rattle.report.specs.Shown.{cells_of};
+ghost use Rattle.rows.specs.Shown.{cells_of};
 ghost use Rattle.report.specs.Text.{cell_field, report_bytes, rows_bytes};
 
-use crate::arranging::shown_groups;
 use crate::fields::{write_cells, write_group};
-use crate::row::ReportRow;
-use crate::source::{Source, sources_at, sources_by_set};
-use crate::view::PlanView;
 use csv::{ByteRecord, Writer, WriterBuilder};
 use groups::{Cell, Group};
 use query_plan::{Plan, header};
+use rows::{PlanView, ReportRow, Source, shown_groups, sources_at, sources_by_set};
 use std::alloc::{AllocError, Global};
 use std::io::Write;
 use tables::Groups;
@@ -71,7 +68,7 @@ pub fn report_on(alloc: Global, groups: &Groups, plan: &Plan) -> Result<Vec<u8>,
     ensures { IfOk result (λ text. text.items ≡ report_of (fields_of_plan plan.now) (form_of_plan plan.now) groups.now.found) }
 {
     let view = PlanView::new(alloc, plan)?;
-    let shown = shown_groups(alloc, groups, &view)?;
+    let shown = shown_groups(alloc, groups.rows(), &view)?;
     let sources = sources_by_set(alloc, &view)?;
     let mut writer = begun(alloc, plan)?;
     put_groups(&mut writer, alloc, sources.as_slice(), shown.as_slice())?;

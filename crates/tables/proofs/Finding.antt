@@ -9,7 +9,7 @@ use Rattle.groups.specs.Groups.{SetGroup, keys, members}
 use Rattle.groups.specs.GroupSummaries.{group_summary, group_summaries, group_summary_in}
 use Rattle.groups.specs.Bags.{SameBag, weigh}
 use Rattle.tables.proofs.Bags.{weigh-append, weigh-map}
-use Rattle.tables.specs.Found.{Found, rows_from}
+use Rattle.groups.specs.Found.{Found, rows_from}
 use Rattle.tables.specs.Results.{all_found, found}
 use Rattle.tables.specs.Sets.{AreGroupsOf}
 

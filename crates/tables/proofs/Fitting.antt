@@ -16,8 +16,8 @@ use Rattle.groups.specs.Groups.{Key, keys, members, project, same_key}
 use Rattle.groups.specs.Bags.{SameBag, weigh}
 use Rattle.groups.proofs.GroupsLaw.{keys-distinct}
 use Rattle.groups.proofs.Order.{same_key-Decides}
-use Rattle.tables.specs.Found.{Found}
-use Rattle.tables.specs.Fitting.{AreFitting, HasType}
+use Rattle.groups.specs.Found.{Found}
+use Rattle.groups.specs.Fitting.{AreFitting, HasType}
 use Rattle.tables.specs.Functions.{aggregate_function, aggregate_functions}
 use Rattle.tables.specs.Results.{all_found, found}
 use Rattle.tables.proofs.Bags.{all-append, all-distinct, all-same, weigh-map}

@@ -14,7 +14,7 @@ use Rattle.groups.specs.Rows.{Row}
 use Rattle.groups.specs.Groups.{Key, keys, members}
 use Rattle.groups.specs.GroupSummaries.{group_summary, group_summaries}
 use Rattle.groups.specs.Bags.{SameBag, weigh}
-use Rattle.tables.specs.Found.{Found}
+use Rattle.groups.specs.Found.{Found}
 use Rattle.tables.specs.Members.{HasEachRecordOnce, members_of_row, rows_of_set}
 use Rattle.tables.specs.Results.{found, query_found}
 use Rattle.tables.proofs.Finding.{set_groups}

@@ -15,7 +15,7 @@ use Rattle.query_resolution.specs.declared.function.ColumnFunction.{ColumnFuncti
 use Rattle.query_resolution.specs.declared.function.ColumnFunction.TheVariants as function
 use Rattle.query_resolution.specs.Columns.{kind_at}
 use Rattle.groups.specs.Functions.{Summary, plain, ratio}
-use Rattle.tables.specs.Fitting.{IsAverage, IsCount, IsHeld, IsOfColumn, IsSum, HasType}
+use Rattle.groups.specs.Fitting.{IsAverage, IsCount, IsHeld, IsOfColumn, IsSum, HasType}
 
 -- ---- truth values that decide
 

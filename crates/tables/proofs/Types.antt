@@ -23,8 +23,8 @@ use Rattle.groups.specs.Rows.{Row, column_values, is_present, column_numbers, va
 use Rattle.groups.specs.Functions.{AggregateFunction, Summary, plain, agg, average_of, filtered, sum_of, value_over}
 use Rattle.groups.specs.Bags.{SameBag}
 use Rattle.groups.specs.Groups.{Key, keys, members, project, same_key}
-use Rattle.tables.specs.Fitting.{IsHeld, HasType}
-use Rattle.tables.specs.Found.{Found}
+use Rattle.groups.specs.Fitting.{IsHeld, HasType}
+use Rattle.groups.specs.Found.{Found}
 use Rattle.tables.specs.Functions.{aggregate_function, aggregate_functions}
 use Rattle.tables.specs.Results.{all_found, found}
 use Rattle.tables.proofs.Bags.{all-append, all-decided, all-distinct, all-everywhere, all-filter, all-filter_map, all-map, find-such}

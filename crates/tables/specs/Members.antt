@@ -8,8 +8,8 @@ use Rattle.query_truth.specs.Kept.{kept}
 use Rattle.groups.specs.Rows.{Row}
 use Rattle.groups.specs.Groups.{members}
 use Rattle.groups.specs.Bags.{SameBag, weigh}
-use Rattle.tables.specs.Fitting.{set_of}
-use Rattle.tables.specs.Found.{Found}
+use Rattle.groups.specs.Fitting.{set_of}
+use Rattle.groups.specs.Found.{Found}
 
 -- the rows of the grouping set with this index
 abbrev pub rows_of_set : ℕ → List Found → List Found

@@ -10,8 +10,8 @@ use Rattle.groups.specs.Rolled.{AreAmong, finer_members}
 use Rattle.groups.specs.Rows.{Row}
 use Rattle.query_plan.specs.declared.plan.Plan.{Plan}
 use Rattle.query_plan.specs.Planned.{fields_of_plan, form_of_plan}
-use Rattle.tables.specs.Fitting.{AreFitting}
-use Rattle.tables.specs.Found.{Found}
+use Rattle.groups.specs.Fitting.{AreFitting}
+use Rattle.groups.specs.Found.{Found}
 use Rattle.tables.specs.Functions.{aggregate_functions}
 use Rattle.tables.specs.Members.{HasEachRecordOnce}
 use Rattle.tables.specs.Partials.{GivesGroups, IsPartialOf, IsResultOf, StandsFor}
@@ -32,6 +32,10 @@ IsResultUnder plan groups input = IsResultOf (fields_of_plan plan) (form_of_plan
 
 abbrev pub AreFittingUnder : Plan → List Found → Type 0
 AreFittingUnder plan found = AreFitting (fields_of_plan plan) (form_of_plan plan) found
+
+-- groups that fit the query of some plan
+abbrev pub FitSomePlan : List Found → Type 0
+FitSomePlan found = ∥ ((plan : Plan) × AreFittingUnder plan found) ∥₁
 
 abbrev pub HasEachRecordOnceUnder : Plan → List Found → List Row → Type 0
 HasEachRecordOnceUnder plan found rows = HasEachRecordOnce (fields_of_plan plan) (form_of_plan plan) found rows

@@ -8,7 +8,7 @@ use Rattle.groups.specs.Functions.{AggregateFunction}
 use Rattle.groups.specs.Rows.{Row}
 use Rattle.groups.specs.Groups.{SetGroup, groups}
 use Rattle.groups.specs.GroupSummaries.{group_summary}
-use Rattle.tables.specs.Found.{Found}
+use Rattle.groups.specs.Found.{Found}
 use Rattle.tables.specs.Functions.{aggregate_functions}
 
 -- what is shown of a group

@@ -1,8 +1,8 @@
 //! The groups of an input, and its refused lines.
 ghost use Rattle.std.specs.Prelude.{◌≡◌, ◌<◌, map};
 ghost use Rattle.std.proofs.Props.{props};
-ghost use Rattle.tables.specs.Fitting.{FitSomePlan};
-ghost use Rattle.tables.specs.Found.{row_of};
+ghost use Rattle.tables.specs.Planned.{FitSomePlan};
+ghost use Rattle.groups.specs.Found.{row_of};
 
 use groups::Group;
 use lines::LineFault;
@@ -41,7 +41,7 @@ impl Drop for Groups {
 
 impl Model for Groups {
     ghost use Rattle.std.specs.Prelude.{map};
-    ghost use Rattle.tables.specs.Found.{row_of};
+    ghost use Rattle.groups.specs.Found.{row_of};
     ghost use Rattle.tables.specs.States.{GroupsState};
 
     ghost Value = { GroupsState };

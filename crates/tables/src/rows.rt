@@ -3,7 +3,7 @@ ghost use Rattle.std.specs.Prelude.{◌≡◌, ◌++◌, ℕ, IfOk, OnOk, List, 
 ghost use Rattle.groups.specs.Rows.{Row};
 ghost use Rattle.groups.specs.GroupSummaries.{group_summary_in};
 ghost use Rattle.groups.specs.Bags.{SameBag};
-ghost use Rattle.tables.specs.Found.{row_of, rows_from};
+ghost use Rattle.groups.specs.Found.{row_of, rows_from};
 ghost use Rattle.query_plan.specs.Planned.{fields_of_plan, form_of_plan};
 ghost use Rattle.tables.specs.Folding.{IsOfFewUnder, IsTableUnder};
 ghost use Rattle.tables.specs.Results.{query_found};

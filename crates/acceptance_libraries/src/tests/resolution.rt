@@ -117,8 +117,5 @@ fn refusal_of_distinct_sets(rt: HostRuntime) {
 }
 
 fn is_out_of_memory(fault: &QueryFault) -> bool {
-    match fault {
-        QueryFault::OutOfMemory => true,
-        _ => false,
-    }
+    matches!(fault, QueryFault::OutOfMemory)
 }

@@ -36,10 +36,7 @@ fn schema_or_refused(rt: &impl Abort, alloc: Global) -> Option<Schema> {
 }
 
 fn is_out_of_memory(fault: &QueryFault) -> bool {
-    match fault {
-        QueryFault::OutOfMemory => true,
-        _ => false,
-    }
+    matches!(fault, QueryFault::OutOfMemory)
 }
 
 /// The query of a text, and `None` for want of memory.

@@ -57,10 +57,7 @@ fn refusal_of_parse_and_print(rt: HostRuntime) {
 }
 
 pub fn is_out_of_memory(fault: &QueryFault) -> bool {
-    match fault {
-        QueryFault::OutOfMemory => true,
-        _ => false,
-    }
+    matches!(fault, QueryFault::OutOfMemory)
 }
 
 /// Asserts that a query has the items `d AS "D", COUNT(*)`, and no GROUP BY.

@@ -4,7 +4,7 @@ use Rattle.query_plan.specs.Planned.{fields_of_plan, form_of_plan}
 use Rattle.lines.specs.Input.{good}
 use Rattle.tables.specs.Results.{query_found}
 use Rattle.report.specs.Report.{NamesColumn, refusals_of}
-use Rattle.report.specs.Shown.{row_shown}
+use Rattle.rows.specs.Shown.{row_shown}
 use Rattle.report.specs.Text.{report_bytes}
 use Rattle.engine.proofs.Named.{refused-named}
 use Rattle.engine.proofs.running.texts_of.Goals as goal

@@ -2,11 +2,11 @@ use Rattle.std.proofs.Common.{◌≡◌, ◌∙◌, ◌*◌, ℕ, Bor, List, IfO
 use Rattle.std.proofs.lemmas.List.{drop-map, length-map, take-map}
 use Rattle.groups.specs.Functions.{Summary}
 use Rattle.groups.specs.declared.group.Group.{Group}
-use Rattle.tables.specs.Found.{row_of}
+use Rattle.groups.specs.Found.{row_of}
 use Rattle.report.specs.Inside.Parts.{IsTextOf}
-use Rattle.report.specs.Inside.Sources.{cells_at}
+use Rattle.rows.specs.Sources.{cells_at}
 use Rattle.report.specs.Text.{rows_bytes}
-use Rattle.report.proofs.InParts.{parts-cover, parts-made}
+use Rattle.rows.proofs.InParts.{parts-cover, parts-made}
 use Rattle.report.proofs.among.texts_among.Goals as goal
 
 pub returns : goal.returns

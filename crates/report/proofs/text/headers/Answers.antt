@@ -1,7 +1,7 @@
 use Rattle.std.proofs.Common.{◌∙◌, [], ◌∷◌, ◌++◌, sym, string_bytes}
 use Rattle.query_print.specs.Canonical.{header_text}
 use Rattle.query_plan.specs.Planned.{form_of_plan}
-use Rattle.report.proofs.Maps.{map-next}
+use Rattle.rows.proofs.Maps.{map-next}
 use Rattle.report.proofs.text.headers.Goals as goal
 
 pub loop-item-preserved : goal.loop-item-preserved

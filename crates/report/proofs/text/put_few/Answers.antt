@@ -2,9 +2,9 @@ use Rattle.std.proofs.Common.{◌≡◌, ◌∙◌, ◌+◌, ◌<◌, Bor, ℕ, 
 use Rattle.std.proofs.lemmas.Option.{slice_get_read}
 use Rattle.csv.specs.Writing.{text_written}
 use Rattle.groups.specs.declared.group.Group.{Group}
-use Rattle.tables.specs.Found.{row_of}
-use Rattle.report.specs.Inside.Sources.{cells_at, shown_at}
-use Rattle.report.proofs.Maps.{map-next}
+use Rattle.groups.specs.Found.{row_of}
+use Rattle.rows.specs.Sources.{cells_at, shown_at}
+use Rattle.rows.proofs.Maps.{map-next}
 use Rattle.report.proofs.Written.{appended-next, appended-none}
 use Rattle.report.proofs.text.put_few.Goals as goal
 

@@ -4,10 +4,10 @@ use Rattle.std.proofs.KnownBytes.{Appends-trans}
 use Rattle.csv.specs.Writing.{text_written}
 use Rattle.groups.specs.declared.group.Group.{Group}
 use Rattle.groups.specs.Functions.{Summary}
-use Rattle.tables.specs.Found.{row_of}
-use Rattle.report.specs.Inside.Sources.{cells_at}
+use Rattle.groups.specs.Found.{row_of}
+use Rattle.rows.specs.Sources.{cells_at}
 use Rattle.report.specs.Text.{rows_bytes}
-use Rattle.report.proofs.Maps.{map-more}
+use Rattle.rows.proofs.Maps.{map-more}
 use Rattle.report.proofs.Written.{rows-append}
 use Rattle.report.proofs.text.put_groups.Goals as goal
 

@@ -2,9 +2,9 @@ use Rattle.std.proofs.Common.{◌-◌, ◌≤◌, Bor, ℕ, Some, length, map, t
 use Rattle.std.specs.Io.KnownBytes.{Appends}
 use Rattle.csv.specs.Writing.{text_written}
 use Rattle.groups.specs.declared.group.Group.{Group}
-use Rattle.tables.specs.Found.{row_of}
+use Rattle.groups.specs.Found.{row_of}
 use Rattle.report.specs.Inside.Between.{IsBetweenRows}
-use Rattle.report.specs.Inside.Sources.{cells_at}
+use Rattle.rows.specs.Sources.{cells_at}
 use Rattle.report.specs.Text.{rows_bytes}
 use Rattle.report.proofs.text.put_groups.Given as goal
 

@@ -2,7 +2,7 @@ use Rattle.std.proofs.Common.{◌≡◌, Some, map, take}
 use Rattle.csv.specs.Writing.{text_written}
 use Rattle.query_plan.specs.Planned.{form_of_plan}
 use Rattle.report.specs.Inside.Between.{IsBetweenRows}
-use Rattle.report.specs.Shown.{cells_of}
+use Rattle.rows.specs.Shown.{cells_of}
 use Rattle.report.specs.Text.{report_bytes}
 use Rattle.report.proofs.text.report_text.Given as goal
 

@@ -1,5 +1,5 @@
 use Rattle.std.proofs.Common.{subst}
-use Rattle.tables.specs.Fitting.{FitSomePlan}
+use Rattle.tables.specs.Planned.{FitSomePlan}
 use Rattle.tables.specs.States.{GroupsState}
 use Rattle.tables.proofs.grouped.Groups.rows.Goals as goal
 

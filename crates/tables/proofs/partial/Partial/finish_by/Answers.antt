@@ -7,7 +7,7 @@ use Rattle.groups.specs.Inside.Table.{IsTableOf}
 use Rattle.query_plan.specs.Planned.{fields_of_plan, form_of_plan}
 use Rattle.query_resolution.specs.Sets.{grouping_places, sets_of}
 use Rattle.query_truth.specs.Kept.{kept}
-use Rattle.tables.specs.Found.{Found, row_of}
+use Rattle.groups.specs.Found.{Found, row_of}
 use Rattle.tables.specs.Functions.{aggregate_functions, filters_kept}
 use Rattle.tables.specs.Notes.{notes_in}
 use Rattle.tables.specs.Partials.{StandsFor}

@@ -1,0 +1,23 @@
+use Rattle.std.proofs.Common.{◌∙◌, ap, map}
+use Rattle.std.specs.List.{list_all}
+use Rattle.values.specs.Datum.{Datum, datum_of}
+use Rattle.query_tree.specs.Syntax.{operand_form}
+use Rattle.query_resolution.specs.Sets.{grouping_places}
+use Rattle.query_truth.specs.Meaning.{comparable}
+use Rattle.query_truth.specs.Truth.{operand_value}
+use Rattle.query_plan.specs.Planned.{fields_of_plan, form_of_plan}
+use Rattle.groups.specs.Found.{row_of}
+use Rattle.rows.specs.Having.{row_value}
+use Rattle.rows.proofs.RowValues.{comparable-literals}
+use Rattle.rows.proofs.having.list_truth.Goals as goal
+
+pub member_truth-requires : goal.member_truth-requires
+member_truth-requires c =
+    let fields = fields_of_plan c.args.plan.now in
+    let t = form_of_plan c.args.plan.now in
+    let row = row_of c.args.found.now in
+    let x = operand_form c.args.operand.now in
+    ap (λ (d : Datum). list_all (comparable d) (map datum_of c.as_slice.result.now)) c.in_ok-value.ensures
+    ∙ ap (λ values. list_all (comparable (operand_value (row_value fields t row) x)) (map datum_of values)) c.as_slice.ensures.value
+    ∙ ap (list_all (comparable (operand_value (row_value fields t row) x))) c.in_ok-values.ensures
+    ∙ comparable-literals fields t row (grouping_places fields t) x c.args.literals.now c.requires.fits c.requires.typed.0 c.requires.typed.1

@@ -1,0 +1,18 @@
+-- What the order of the rows comes to.
+use Rattle.std.specs.Prelude.{◌≡◌, List}
+use Rattle.values.specs.Schema.{Field}
+use Rattle.query_tree.specs.Syntax.{TreeForm}
+use Rattle.groups.specs.Bags.{SameBag}
+use Rattle.groups.specs.Found.{Found}
+use Rattle.rows.specs.Having.{rows_having_true}
+use Rattle.rows.specs.Order.{before, arranged, Ascends}
+
+-- the rows in their order are the one list that has each row for which HAVING is True as often and ascends
+pub record IsTheOrder (fields : List Field) (t : TreeForm) (found : List Found) : Type 0 where
+  pub same : SameBag (rows_having_true fields t found) (arranged fields t found)
+  pub ascends : Ascends (before fields t) (arranged fields t found)
+  pub only : (others : List Found) → SameBag (rows_having_true fields t found) others → Ascends (before fields t) others → others ≡ arranged fields t found
+
+-- the rows in their order do not depend on the order in which they are found
+abbrev pub IsBlind : List Field → TreeForm → List Found → Type 0
+IsBlind fields t found = (others : List Found) → SameBag found others → arranged fields t others ≡ arranged fields t found

@@ -1,0 +1,8 @@
+pub mod Shown
+pub mod Having
+pub mod Order
+pub mod Laws
+pub mod Planned
+pub mod Sources
+pub mod Parts
+pub mod Inside

@@ -1,0 +1,41 @@
+-- What private calls ask and show under a plan: under its columns and its query.
+use Rattle.std.specs.Prelude.{◌<◌, ℕ, List, [], ◌∷◌, length, map}
+use Rattle.values.specs.Datum.{data_of}
+use Rattle.query_tree.specs.Syntax.{ExpressionForm, PredicateForm, PredicateForms}
+use Rattle.query_check.specs.declared.scope.Clause.TheVariants as clause
+use Rattle.query_resolution.specs.Sets.{grouping_places, sets_of}
+use Rattle.query_check.specs.Typing.{AreTypedParts, IsTypedPredicate}
+use Rattle.query_truth.specs.Truth.{Valuation}
+use Rattle.query_plan.specs.declared.plan.Plan.{Plan}
+use Rattle.query_plan.specs.Planned.{fields_of_plan, form_of_plan}
+use Rattle.groups.specs.declared.group.Group.{Group}
+use Rattle.groups.specs.Functions.{Summary}
+use Rattle.groups.specs.Cells.{summary_of}
+use Rattle.groups.specs.Found.{Found}
+use Rattle.groups.specs.Fitting.{AreFitting}
+use Rattle.rows.specs.Having.{row_value}
+use Rattle.rows.specs.Shown.{expression_shown}
+
+-- the row of a group fits the query
+abbrev pub FitsUnder : Plan → Found → Type 0
+FitsUnder plan row = AreFitting (fields_of_plan plan) (form_of_plan plan) (row ∷ [])
+
+-- the index of a row is that of a grouping set
+abbrev pub HasSetUnder : Plan → Found → Type 0
+HasSetUnder plan row = row.0 < length (sets_of (fields_of_plan plan) (form_of_plan plan))
+
+-- a predicate is typed in HAVING
+abbrev pub IsTypedUnder : Plan → PredicateForm → Type 0
+IsTypedUnder plan p = IsTypedPredicate (fields_of_plan plan) (grouping_places (fields_of_plan plan) (form_of_plan plan)) clause.Having p
+
+-- so are the parts of an OR or an AND
+abbrev pub AreTypedUnder : Plan → PredicateForms → Type 0
+AreTypedUnder plan ps = AreTypedParts (fields_of_plan plan) (grouping_places (fields_of_plan plan) (form_of_plan plan)) clause.Having ps
+
+-- the value that a row shows for each expression
+abbrev pub value_under : Plan → Found → Valuation
+value_under plan row = row_value (fields_of_plan plan) (form_of_plan plan) row
+
+-- what a group of a grouping set shows for an expression
+abbrev pub shown_under : Plan → List ℕ → Group → ExpressionForm → Summary
+shown_under plan set group e = expression_shown (fields_of_plan plan) (form_of_plan plan) set (data_of group.key.items) (map summary_of group.cells.items) e

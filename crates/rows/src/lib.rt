@@ -1,0 +1,24 @@
+//! The rows of a report on groups: those of which HAVING is True, what each shows, and the order in which they stand.
+//!
+//! The definitions are in `specs/`: HAVING (`Having`), what a row shows for each item of SELECT (`Shown`), and the order of
+//! the rows (`Order`). It knows nothing of where groups come from, nor of the bytes of a report.
+#![tactic(auto)]
+
+mod arranging;
+mod cells;
+mod having;
+mod keys;
+mod laws;
+mod ordering;
+mod parts;
+mod ranked;
+mod row;
+mod source;
+mod view;
+
+pub use arranging::{arranged_rows, shown_among, shown_groups};
+pub use laws::{arranged_law, order_law};
+pub use parts::{joined, part_len};
+pub use row::ReportRow;
+pub use source::{Source, sources_at, sources_by_set};
+pub use view::PlanView;

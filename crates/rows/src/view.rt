@@ -1,0 +1,90 @@
+//! A plan as the rows of a report are shown under it.
+ghost use Rattle.std.specs.Prelude.{◌≡◌};
+ghost use Rattle.query_resolution.specs.Functions.{functions_of};
+ghost use Rattle.query_resolution.specs.Planning.{planned_forms};
+ghost use Rattle.query_plan.specs.Planned.{fields_of_plan, form_of_plan};
+
+use query_plan::{Plan, Query, SetFunction};
+use query_resolution::{Planned, planned_functions, planned_place};
+use std::alloc::{AllocError, Global};
+use std::marker::Model;
+use values::Schema;
+
+/// A plan, and the different set functions of its query by their trees, which are looked up once for all rows.
+///
+/// Example: one view serves all calls of this crate that make one report.
+#[derive(Drop)]
+pub struct PlanView<'a> {
+    plan: &'a Plan,
+    functions: Vec<Planned<'a>>,
+    ghost functions_are: { ∥ planned_forms functions.items ≡ functions_of (fields_of_plan plan.now) (form_of_plan plan.now) ∥₁ },
+}
+
+impl<'a> Model for PlanView<'a> {
+    ghost use Rattle.query_plan.specs.contracts.plan.Plan as plan_contract;
+    ghost use Rattle.query_plan.specs.declared.plan.Plan.{Plan};
+
+    ghost Value = { Plan };
+
+    ghost coded = { plan_contract.the_row.coded };
+
+    ghost view = { λ v. v.plan.now };
+}
+
+impl<'a> PlanView<'a> {
+    ghost use Rattle.std.specs.Prelude.{◌≡◌, IfOk};
+    ghost use Rattle.query_resolution.specs.Functions.{place_among};
+    ghost use Rattle.query_tree.specs.Syntax.{function_form};
+    ghost use Rattle.query_resolution.specs.Resolution.{contents};
+    ghost use Rattle.query_resolution.specs.Sets.{sets_of};
+    ghost use Rattle.query_check.specs.Typing.{IsTyped};
+    ghost use Rattle.query_plan.specs.Form.{form_of};
+    ghost use Rattle.query_plan.specs.Planned.{fields_of_plan, form_of_plan};
+
+    /// The view of a plan.
+    ///
+    /// Example: `PlanView::new(alloc, &plan)?` is asked for once, before the groups are put in order.
+    ///
+    /// # Errors
+    ///
+    /// `AllocError` where there is no memory for the list of set functions.
+    pub fn new(alloc: Global, plan: &'a Plan) -> Result<PlanView<'a>, AllocError>
+        ensures { IfOk result (λ view. view ≡ plan.now) }
+    {
+        let functions = planned_functions(alloc, plan.schema().columns(), plan.query().tree())?;
+        Ok(PlanView { plan, functions })
+    }
+
+    /// The schema of the plan.
+    pub(crate) fn schema(&self) -> &Schema
+        ensures schema { result.now ≡ fields_of_plan self.now }
+    {
+        self.plan.schema()
+    }
+
+    /// The query of the plan.
+    pub(crate) fn query(&self) -> &Query
+        ensures query { form_of result.now ≡ form_of_plan self.now }
+        ensures typed { ∥ IsTyped (fields_of_plan self.now) (form_of_plan self.now) ∥₁ }
+    {
+        self.plan.query()
+    }
+
+    /// The grouping sets of the plan.
+    pub(crate) fn sets(&self) -> &[Vec<usize>]
+        ensures sets { contents result.now ≡ sets_of (fields_of_plan self.now) (form_of_plan self.now) }
+    {
+        self.plan.sets()
+    }
+
+    /// The place of a set function among those of the plan; `None` where it has no such function. It takes no memory.
+    pub(crate) fn function_place(&self, function: &SetFunction) -> Option<usize>
+        ensures { result ≡ place_among (fields_of_plan self.now) (form_of_plan self.now) (function_form function.now) }
+    {
+        planned_place(
+            self.plan.schema().columns(),
+            self.functions.as_slice(),
+            function,
+        )
+    }
+}
