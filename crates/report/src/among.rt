@@ -8,11 +8,12 @@ ghost use Rattle.report.specs.Text.{rows_bytes};
 ghost use Rattle.report.specs.Inside.Parts.{AreTextsOf};
 ghost use Rattle.rows.specs.Sources.{cells_at};
 
+use crate::parts::joined;
 use crate::text::{begun, ended, put_groups, report_on};
 use csv::WriterBuilder;
 use groups::Group;
 use query_plan::Plan;
-use rows::{PlanView, Source, joined, part_len, shown_among, sources_by_set};
+use rows::{PlanView, Source, part_len, shown_among, sources_by_set};
 use std::alloc::{AllocError, Global};
 use std::marker::Sync;
 use std::thread;

@@ -7,6 +7,7 @@
 mod among;
 mod arranging;
 mod fields;
+mod parts;
 mod refused;
 mod text;
 

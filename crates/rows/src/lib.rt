@@ -18,7 +18,7 @@ mod view;
 
 pub use arranging::{arranged_rows, shown_among, shown_groups};
 pub use laws::{arranged_law, order_law};
-pub use parts::{joined, part_len};
+pub use parts::part_len;
 pub use row::ReportRow;
 pub use source::{Source, sources_at, sources_by_set};
 pub use view::PlanView;

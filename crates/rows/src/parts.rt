@@ -1,9 +1,5 @@
-//! Work on groups in parts, each on a thread of its own.
-ghost use Rattle.std.specs.Prelude.{◌≡◌, ◌<◌, ◌++◌, IfOk, OnOk};
-ghost use Rattle.std.specs.List.{flat_map};
-ghost use Rattle.rows.specs.Parts.{AreMade, items_of};
-
-use std::alloc::AllocError;
+//! How many groups are worked on at a time, where several threads work on them.
+ghost use Rattle.std.specs.Prelude.{◌≡◌, ◌+◌, ◌/◌, ◌%◌, ◌<◌, max, min};
 
 /// How many groups a part has at least, where there is more than one part: the work on fewer is done sooner than a thread
 /// is started.
@@ -15,41 +11,8 @@ const FEWEST: usize = 4_096;
 /// Example: `part_len(40_000, 4)` is 10,000, and `part_len(5_000, 4)` is 4,096.
 pub fn part_len(groups: usize, hands: usize) -> usize
     requires { 0 < hands }
-    ensures { 0 < result }
+    ensures len { result ≡ max 4096 (groups / hands + min 1 (groups % hands)) }
+    ensures some { 0 < result }
 {
     FEWEST.max(groups.div_ceil(hands))
-}
-
-/// A list with these parts behind it, one after the other, where each of them was made.
-///
-/// Example: of the list 1 and the parts 2, 3 and 4 it answers 1, 2, 3, 4.
-///
-/// # Errors
-///
-/// `AllocError` where a part was not made, or there is no memory for the list.
-pub fn joined<T: Drop>(
-    list: Vec<T>,
-    parts: Vec<Result<Vec<T>, AllocError>>,
-) -> Result<Vec<T>, AllocError>
-    ensures made { OnOk result (AreMade parts.items) }
-    ensures items { IfOk result (λ whole. whole.items ≡ list.items ++ flat_map items_of parts.items) }
-{
-    let mut whole = list;
-    whole.reserve(items_in(parts.as_slice()))?;
-    for part in parts {
-        let mut part = part?;
-        whole.append(&mut part)?;
-    }
-    Ok(whole)
-}
-
-/// How many items the parts have together that were made.
-fn items_in<T: Drop>(parts: &[Result<Vec<T>, AllocError>]) -> usize {
-    let mut count: usize = 0;
-    for part in parts {
-        if let Ok(part) = part {
-            count = count.saturating_add(part.len());
-        }
-    }
-    count
 }
