@@ -1,74 +1,90 @@
--- What fan_on knows of the hands once its workers came back.
-use Rattle.std.proofs.Common.{◌≡◌, ℕ, ◌+◌, ◌^◌, ◌<◌, ◌≤◌, List, length, sym, ap, ◌∙◌, subst, arith}
-use mathlib.Core.Option.{some}
-use lib.ListN.{get_elem?}
+-- What is known of the hands once their workers came back.
+use Rattle.std.proofs.Common.{◌≡◌, ℕ, ◌+◌, ◌^◌, ◌<◌, ◌≤◌, ◌⊎◌, List, length, map, sym, ap, ◌∙◌, subst, ⊎_elim, arith}
 use Rattle.pool.specs.Dealing.{times}
-use Rattle.pool.specs.Totals.{total, sum_below, sum_list, once_below}
+use Rattle.pool.specs.Rule.{UpTo}
+use Rattle.pool.specs.Totals.{together, total, sum_below, sum_list, once_below}
 use Rattle.pool.specs.Outcomes.{Decides}
 use Rattle.pool.specs.Lawful.{Lawful}
 use Rattle.pool.specs.Holding.{Holding}
 use Rattle.pool.specs.Settled.{AreAll, AllSpent, joined, pieces_of}
-use Rattle.pool.specs.Fanned.{DidAll, AreUnderWay, CameBack, AreGathered, begun, flat, lists_in, Settles, Outweighs, IsAbove}
+use Rattle.pool.specs.Fanned.{AreReady, DidAll, AreUnderWay, CameBack, begun, Settles, Outweighs, IsAbove}
 use Rattle.pool.specs.declared.laws.Outcome.{Outcome}
 use Rattle.pool.specs.declared.laws.Outcome.TheVariants.{Whole, Over}
-use Rattle.pool.specs.Assembly.{IsNewDeal}
-use Rattle.pool.proofs.Sums.{total_fits}
-use Rattle.pool.proofs.Gather.{sum_list-within}
-use Rattle.pool.proofs.Fans.{did_all, did_back, did_gathered, did_under_way, did_join, flat_joined, begun_all}
+use Rattle.pool.proofs.Sums.{total_fits, total_weight}
+use Rattle.pool.proofs.Fans.{did_all, did_back, did_under_way, did_join}
+use Rattle.pool.proofs.Parts.{each_of, came_room, came_weight, came_whole, came_within, ready_loads, together_fits}
 
-module _ {M S P : Type 0} {fits : M → Type 0} {unit : M} {combined : M → M → M} {piece : ℕ → M} {weight load : M → ℕ} (laws : Lawful fits unit combined piece weight load) (sum : S → ℕ) (meaning : P → M) (first : M) (n : ℕ) (hs : List Holding) (ss : List S)
-    (new : IsNewDeal (pieces_of hs) n hs) (ks : List Holding) (ts : List S) (ps : List P) (did : DidAll (begun first unit) combined piece weight sum meaning hs ss ks ts ps) where
+module _ {M S P : Type 0} {fits : M → Type 0} {unit : M} {combined : M → M → M} {piece : ℕ → M} {weight load : M → ℕ} (laws : Lawful fits unit combined piece weight load) (sum : S → ℕ) (meaning : P → M)
+    (hs : List Holding) (ss : List S) (ps : List P) (ready : AreReady fits unit combined piece load sum meaning hs ss ps)
+    (ks : List Holding) (ts : List S) (qs : List P) (did : DidAll (begun unit (map meaning ps)) combined piece weight sum meaning hs ss ks ts qs) where
   -- also where the list of hands is another that has the same hands
   module _ (ls : List Holding) (same : ls ≡ ks) where
     pub fanned_deal : AreAll ls × (pieces_of ls ≡ pieces_of hs)
-    fanned_deal = let a = did_all combined piece weight sum meaning (begun first unit) hs ss ks ts ps did new.0 in subst (λ l. AreAll l × (pieces_of l ≡ pieces_of hs)) (sym same) (a.1, a.0)
+    fanned_deal = let a = did_all combined piece weight sum meaning (begun unit (map meaning ps)) hs ss ks ts qs did ready.deal.0 in subst (λ l. AreAll l × (pieces_of l ≡ pieces_of hs)) (sym same) (a.1, a.0)
 
     pub fanned_back : CameBack (λ j. weight (piece j)) sum hs ss ls ts
-    fanned_back = subst (λ l. CameBack (λ j. weight (piece j)) sum hs ss l ts) (sym same) (did_back combined piece weight sum meaning (begun first unit) hs ss ks ts ps did (λ i h at. (new.2 i h at).1))
+    fanned_back = subst (λ l. CameBack (λ j. weight (piece j)) sum hs ss l ts) (sym same) (did_back combined piece weight sum meaning (begun unit (map meaning ps)) hs ss ks ts qs did (λ i h at. (ready.deal.2 i h at).1))
 
-    pub fanned_under_way : length ss ≡ n → load first + sum_below (λ j. load (piece j)) (pieces_of hs) < 2 ^ 63 → ((i : ℕ) (s : S) → get_elem? ss i ≡ some s → sum_below (λ j. load (piece j)) (pieces_of hs) + sum s < 2 ^ 63) → AreUnderWay (begun first unit) combined piece weight load sum meaning ls ts ps
-    fanned_under_way count loads room =
-        let all : ℕ = sum_below (λ j. load (piece j)) (pieces_of hs) in
-        let none = laws.unit_load in
-        let each = begun_all (λ m. load m + all < 2 ^ 63) first unit loads (omega (arith, none, loads)) in
-        subst (λ l. AreUnderWay (begun first unit) combined piece weight load sum meaning l ts ps) (sym same) (did_under_way combined piece weight sum meaning (begun first unit) load n hs ss ks ts ps did new count each room)
+    pub fanned_under_way : AreUnderWay (begun unit (map meaning ps)) combined piece weight load sum meaning ls ts qs
+    fanned_under_way =
+        subst (λ l. AreUnderWay (begun unit (map meaning ps)) combined piece weight load sum meaning l ts qs) (sym same)
+        (did_under_way combined piece weight sum meaning (begun unit (map meaning ps)) load (length hs) hs ss ks ts qs did ready.deal ready.shares (ready_loads laws sum meaning hs ss ps ready) ready.room)
 
     -- what they did once they went on, and before
-    pub fanned_twice : (us : List Holding) (vs : List S) (qs : List P) → DidAll (begun first unit) combined piece weight sum meaning ls ts us vs qs → DidAll (begun first unit) combined piece weight sum meaning hs ss us vs qs
-    fanned_twice us vs qs more = did_join combined piece weight sum meaning (begun first unit) hs ss ls ts ps us vs qs (subst (λ l. DidAll (begun first unit) combined piece weight sum meaning hs ss l ts ps) (sym same) did) more
+    pub fanned_twice : (us : List Holding) (vs : List S) (rs : List P) → DidAll (begun unit (map meaning ps)) combined piece weight sum meaning ls ts us vs rs → DidAll (begun unit (map meaning ps)) combined piece weight sum meaning hs ss us vs rs
+    fanned_twice us vs rs more = did_join combined piece weight sum meaning (begun unit (map meaning ps)) hs ss ls ts qs us vs rs (subst (λ l. DidAll (begun unit (map meaning ps)) combined piece weight sum meaning hs ss l ts qs) (sym same) did) more
 
-    pub fanned_once : ((x : ℕ) → times x (joined ks) ≤ once_below x (pieces_of ks)) → (x : ℕ) → times x (joined ls) ≤ once_below x (pieces_of hs)
-    fanned_once apart x =
-        let a = ap (λ l. times x (joined l)) same in
-        let b = ap (once_below x) (did_all combined piece weight sum meaning (begun first unit) hs ss ks ts ps did new.0).0 in
-        let c = apart x in
-        omega (arith, a, b, c)
+  -- the hands have no piece twice, and each where all are spent
+  module _ (apart : (x : ℕ) → UpTo (AllSpent ks) (times x (joined ks)) (once_below x (pieces_of ks))) where
+    dealt : (x : ℕ) → once_below x (pieces_of ks) ≡ once_below x (pieces_of hs)
+    dealt x = ap (once_below x) (did_all combined piece weight sum meaning (begun unit (map meaning ps)) hs ss ks ts qs did ready.deal.0).0
 
-  pub fanned_parts : AreGathered first unit combined piece meaning (lists_in ks) ps
-  fanned_parts = did_gathered combined piece weight sum meaning first unit hs ss ks ts ps did new.0.0
+    at_most_once : (x : ℕ) → times x (joined ks) ≤ once_below x (pieces_of hs)
+    at_most_once x = let a = (apart x).0 in let b = dealt x in omega (arith, a, b)
 
-  pub fanned_flat : ((x : ℕ) → times x (joined ks) ≤ once_below x (pieces_of ks)) → (x : ℕ) → times x (flat (lists_in ks)) ≤ once_below x (pieces_of hs)
-  fanned_flat apart x =
-      let a = ap (times x) (flat_joined ks) in
-      let b = ap (once_below x) (did_all combined piece weight sum meaning (begun first unit) hs ss ks ts ps did new.0).0 in
-      let c = apart x in
-      omega (arith, a, b, c)
+    all_spent : (limit : ℕ) → AllSpent ks ⊎ (limit < weight (together unit combined (map meaning qs))) → weight (together unit combined (map meaning qs)) ≤ limit → AllSpent ks
+    all_spent limit spent few = ⊎_elim (λ (all : AllSpent ks). all) (λ (above : limit < weight (together unit combined (map meaning qs))). absurd (omega (arith, few, above))) spent
 
-  -- the weight of all parts is above the limit
-  pub fanned_over : (result limit : ℕ) → ((x : ℕ) → times x (joined ks) ≤ once_below x (pieces_of ks)) → result ≡ weight first + sum_list (λ j. weight (piece j)) (flat (lists_in ks)) → limit < result → limit < weight first + sum_below (λ j. weight (piece j)) (pieces_of hs)
-  fanned_over result limit apart is above =
-      let most = sum_list-within (λ j. weight (piece j)) (pieces_of hs) (flat (lists_in ks)) (fanned_flat apart) in
-      omega (arith, is, above, most)
+    pub fanned_room : load (together unit combined (map meaning qs)) < 2 ^ 63
+    fanned_room = came_room laws sum meaning hs ss ps ready ks ts qs did at_most_once
 
-  pub fanned_above : (result limit : ℕ) (ls : List Holding) → ls ≡ ks → result ≡ weight first + sum_list (λ j. weight (piece j)) (flat (lists_in ks)) → limit < result → limit < weight first + sum_list (λ j. weight (piece j)) (joined ls)
-  fanned_above result limit ls same is above =
-      let all = ap (sum_list (λ j. weight (piece j))) (flat_joined ks) in
-      let e = ap (λ l. sum_list (λ j. weight (piece j)) (joined l)) same in
-      omega (arith, is, above, all, e)
+    -- what was answered of all parts, combined, where those that the hands began with come to this
+    pub fanned_decided : (first : M) → together unit combined (map meaning ps) ≡ first → (limit : ℕ) (outcome : Outcome P)
+        → Decides meaning (together unit combined (map meaning qs)) (weight (together unit combined (map meaning qs))) limit outcome
+        → AllSpent ks ⊎ (limit < weight (together unit combined (map meaning qs)))
+        → Decides meaning (combined first (total unit combined piece (pieces_of hs))) (weight first + sum_below (λ j. weight (piece j)) (pieces_of hs)) limit outcome
+    fanned_decided first is limit (Whole p) told spent =
+        let each : (x : ℕ) → times x (joined ks) ≡ once_below x (pieces_of hs) = λ x. (apart x).1 (all_spent limit spent told.1) ∙ dealt x in
+        let whole = came_whole laws sum meaning hs ss ps ready ks ts qs did each in
+        let begin = together_fits laws (map meaning ps) (each_of fits meaning ps ready.fit) in
+        let count = ap weight whole ∙ laws.weight_adds _ _ begin (total_fits laws (pieces_of hs)) in
+        let of_all = total_weight laws (pieces_of hs) in
+        let of_first = ap weight is in
+        let few = told.1 in
+        (told.0 ∙ whole ∙ ap (λ m. combined m (total unit combined piece (pieces_of hs))) is, omega (arith, count, of_all, of_first, few))
+    fanned_decided first is limit Over told spent =
+        let within = came_within laws sum meaning hs ss ps ready ks ts qs did at_most_once in
+        let of_first = ap weight is in
+        omega (arith, within, of_first, told)
 
-pub settles_all : {P : Type 0} (outcome : Outcome P) (hs : List Holding) → AllSpent hs → Settles outcome hs
-settles_all (Whole p) hs all = all
-settles_all Over hs all = tt
+    module _ (ls : List Holding) (same : ls ≡ ks) where
+      pub fanned_once : (x : ℕ) → times x (joined ls) ≤ once_below x (pieces_of hs)
+      fanned_once x = subst (λ l. times x (joined l) ≤ once_below x (pieces_of hs)) (sym same) (at_most_once x)
+
+      pub fanned_settled : (limit : ℕ) (outcome : Outcome P) → Decides meaning (together unit combined (map meaning qs)) (weight (together unit combined (map meaning qs))) limit outcome
+          → AllSpent ks ⊎ (limit < weight (together unit combined (map meaning qs))) → Settles outcome ls
+      fanned_settled limit (Whole p) told spent = subst AllSpent (sym same) (all_spent limit spent told.1)
+      fanned_settled limit Over told spent = tt
+
+  pub fanned_above : (ls : List Holding) → ls ≡ ks → (first : M) → together unit combined (map meaning ps) ≡ first → (limit : ℕ) (outcome : Outcome P)
+      → Decides meaning (together unit combined (map meaning qs)) (weight (together unit combined (map meaning qs))) limit outcome
+      → IsAbove (weight first + sum_list (λ j. weight (piece j)) (joined ls)) limit outcome
+  fanned_above ls same first is limit (Whole p) told = tt
+  fanned_above ls same first is limit Over told =
+      let all = came_weight laws sum meaning hs ss ps ready ks ts qs did in
+      let of_first = ap weight is in
+      let joined_are = ap (λ l. sum_list (λ j. weight (piece j)) (joined l)) same in
+      omega (arith, all, of_first, joined_are, told)
 
 -- a part made before that means what the unit means is as none
 module _ {M P : Type 0} {fits : M → Type 0} {unit : M} {combined : M → M → M} {piece : ℕ → M} {weight load : M → ℕ} (laws : Lawful fits unit combined piece weight load) (meaning : P → M) (first : M) (is : first ≡ unit) where

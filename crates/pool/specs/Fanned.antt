@@ -1,24 +1,29 @@
 -- What all workers of a deal do together.
-use Rattle.std.specs.Prelude.{◌≡◌, ℕ, zero, suc, ◌+◌, ◌^◌, ◌<◌, ◌⊎◌, List, [], ◌∷◌, ◌++◌, length}
+use Rattle.std.specs.Prelude.{◌≡◌, ℕ, zero, suc, ◌+◌, ◌^◌, ◌<◌, ◌⊎◌, All, List, [], ◌∷◌, length, map}
 use mathlib.Core.Option.{some}
 use lib.ListN.{get_elem?}
-use Rattle.pool.specs.Totals.{gathered, sum_below, sum_list}
+use Rattle.pool.specs.Totals.{sum_below, sum_list, together}
 use Rattle.pool.specs.Holding.{Holding, numbers_of}
-use Rattle.pool.specs.Settled.{AllSpent, joined}
+use Rattle.pool.specs.Settled.{AllSpent, joined, pieces_of}
+use Rattle.pool.specs.Assembly.{IsNewDeal}
 use Rattle.pool.specs.Done.{Follows, Did, MayGoOn}
 use Rattle.pool.specs.declared.laws.Outcome.{Outcome}
 use Rattle.pool.specs.declared.laws.Outcome.TheVariants.{Whole, Over}
 
--- as many hands as shares. No hand has taken a piece, and each share has room for the loads of all pieces
-abbrev pub AreReady : {S : Type 0} → (ℕ → ℕ) → (S → ℕ) → List Holding → List S → Type 0
-AreReady loads sum hs ss =
-    (length hs ≡ length ss)
-    × ((i : ℕ) (h : Holding) (s : _) → get_elem? hs i ≡ some h → get_elem? ss i ≡ some s → (numbers_of h ≡ []) × (sum_below loads h.pieces + sum s < 2 ^ 63))
+-- what the hand at this place begins with: the meaning at this place, and past the last one the unit
+abbrev pub begun : {M : Type 0} → M → List M → ℕ → M
+begun unit [] i = unit
+begun unit (m ∷ ms) zero = m
+begun unit (m ∷ ms) (suc i) = begun unit ms i
 
--- what the hand at this place began with
-abbrev pub begun : {M : Type 0} → M → M → ℕ → M
-begun first unit zero = first
-begun first unit (suc i) = unit
+-- All hands of a new deal, with as many shares and parts. The parts are those of a work, and have room for the loads of all pieces, and so has each share.
+pub record AreReady {M S P : Type 0} (fits : M → Type 0) (unit : M) (combined : M → M → M) (piece : ℕ → M) (load : M → ℕ) (sum : S → ℕ) (meaning : P → M) (hs : List Holding) (ss : List S) (ps : List P) : Type 0 where
+  pub deal : IsNewDeal (pieces_of hs) (length hs) hs
+  pub shares : length ss ≡ length hs
+  pub parts : length ps ≡ length hs
+  pub fit : All (λ p. fits (meaning p)) ps
+  pub loads : load (together unit combined (map meaning ps)) + sum_below (λ i. load (piece i)) (pieces_of hs) < 2 ^ 63
+  pub room : (i : ℕ) (s : S) → get_elem? ss i ≡ some s → sum_below (λ j. load (piece j)) (pieces_of hs) + sum s < 2 ^ 63
 
 -- each hand went on as `Did` says, from what the hand at its place began with, with its share and its part
 abbrev pub DidAll : {M S P : Type 0} → (ℕ → M) → (M → M → M) → (ℕ → M) → (M → ℕ) → (S → ℕ) → (P → M) → List Holding → List S → List Holding → List S → List P → Type 0
@@ -43,22 +48,6 @@ CameBack weights sum hs ss ks ts =
 -- no thread is needed: but for the first, each hand is of a deal with no piece
 abbrev pub NeedNoThread : List Holding → Type 0
 NeedNoThread hs = (i : ℕ) (h : Holding) → get_elem? hs i ≡ some h → (i ≡ 0) ⊎ (h.pieces ≡ 0)
-
--- the lists, one after the other
-abbrev pub flat : List (List ℕ) → List ℕ
-flat [] = []
-flat (l ∷ ls) = l ++ flat ls
-
--- the lists of these hands
-abbrev pub lists_in : List Holding → List (List ℕ)
-lists_in [] = []
-lists_in (k ∷ ks) = numbers_of k ∷ lists_in ks
-
--- the first part is what it began with and the pieces of its list, combined, and each other the unit and those of its own. Where there is no part, nothing but the unit was begun with
-abbrev pub AreGathered : {M P : Type 0} → M → M → (M → M → M) → (ℕ → M) → (P → M) → List (List ℕ) → List P → Type 0
-AreGathered first unit combined piece meaning [] ps = (ps ≡ []) × (first ≡ unit)
-AreGathered first unit combined piece meaning (l ∷ ls) ps =
-    (p : _) × (ps' : List _) × (ps ≡ p ∷ ps') × (meaning p ≡ gathered first combined piece l) × AreGathered unit unit combined piece meaning ls ps'
 
 -- after Whole each hand has answered Spent
 abbrev pub Settles : {P : Type 0} → Outcome P → List Holding → Type 0

@@ -1,13 +1,11 @@
 //! The hands of a deal, each on a thread of its own.
-ghost use Rattle.std.specs.Prelude.{◌≡◌, ℕ, ◌+◌, ◌-◌, ◌^◌, ◌<◌, ◌≤◌, ◌⊎◌, ◌++◌, ◌∷◌, [], All, IfOk, IfErr, IfSome, IfNone, IsOkAnd, MatchResult, OnOk, vec_len, length, List};
-ghost use Rattle.pool.specs.Totals.{gathered, sum_below, sum_list, total, once_below};
+ghost use Rattle.std.specs.Prelude.{◌≡◌, ℕ, ◌+◌, ◌-◌, ◌^◌, ◌<◌, ◌≤◌, ◌⊎◌, ◌++◌, ◌∷◌, [], All, IfOk, IfErr, IfSome, IfNone, IsOkAnd, MatchResult, OnOk, vec_len, length, map};
+ghost use Rattle.pool.specs.Totals.{sum_below, sum_list, together, total, once_below};
 ghost use Rattle.pool.specs.Outcomes.{Decides};
 ghost use Rattle.pool.specs.Dealing.{times};
 ghost use Rattle.pool.specs.Rule.{UpTo};
-ghost use Rattle.pool.specs.Holding.{Holding, numbers_of};
 ghost use Rattle.pool.specs.Settled.{AreAll, AllSpent, joined, pieces_of};
-ghost use Rattle.pool.specs.Done.{Did};
-ghost use Rattle.pool.specs.Fanned.{AreReady, begun, DidAll, AreUnderWay, CameBack, NeedNoThread, AreGathered, flat, lists_in, Settles, Outweighs, IsAbove};
+ghost use Rattle.pool.specs.Fanned.{AreReady, begun, DidAll, AreUnderWay, CameBack, NeedNoThread, Settles, Outweighs, IsAbove};
 ghost use Rattle.pool.specs.Assembly.{IsNewDeal};
 ghost use mathlib.Core.Option.{some};
 ghost use lib.ListN.{get_elem?};
@@ -17,7 +15,7 @@ use crate::deal::{Hand, apart};
 use crate::dealing::Deal;
 use crate::growing::put_last;
 use crate::laws::{Outcome, PoolFault, Work};
-use crate::worker::{Crew, Done, go_on, start, work_off};
+use crate::worker::{Crew, Done, go_on, start};
 use std::alloc::{AllocError, Global};
 use std::marker::{Brand, Send, Sync};
 use std::sync::Wait;
@@ -25,7 +23,7 @@ use std::sync::ledger::{Blank, Ledger};
 use std::thread;
 use std::thread::{Scope, Threads};
 
-/// What all workers gave back, in the order of their hands.
+/// What all workers have, in the order of their hands.
 #[derive(Drop)]
 pub struct Gathered<P, L: Ledger> {
     pub hands: Vec<Hand>,
@@ -33,36 +31,25 @@ pub struct Gathered<P, L: Ledger> {
     pub parts: Vec<P>,
 }
 
-/// What no worker gives back.
-fn nothing<P, L: Ledger>(alloc: Global) -> Gathered<P, L>
-    ensures hands { result.hands.items ≡ [] }
-    ensures shares { result.shares.items ≡ [] }
-    ensures parts { result.parts.items ≡ [] }
+/// What the last worker has, which is taken from it.
+fn last_done<P, L: Ledger>(gathered: &mut Gathered<P, L>) -> Option<Done<P, L>>
+    requires count { (length gathered.old.hands.items ≡ length gathered.old.shares.items) × (length gathered.old.hands.items ≡ length gathered.old.parts.items) }
+    ensures none { IfNone result ((gathered.old.hands.items ≡ []) × (gathered.old.shares.items ≡ []) × (gathered.old.parts.items ≡ [])) }
+    ensures none_left { IfNone result ((gathered.new.hands.items ≡ []) × (gathered.new.shares.items ≡ []) × (gathered.new.parts.items ≡ [])) }
+    ensures hands { IfSome result (λ d. gathered.old.hands.items ≡ gathered.new.hands.items ++ d.hand ∷ []) }
+    ensures shares { IfSome result (λ d. gathered.old.shares.items ≡ gathered.new.shares.items ++ d.share ∷ []) }
+    ensures parts { IfSome result (λ d. gathered.old.parts.items ≡ gathered.new.parts.items ++ d.part ∷ []) }
 {
-    Gathered {
-        hands: Vec::new(alloc),
-        shares: Vec::new(alloc),
-        parts: Vec::new(alloc),
-    }
-}
-
-/// The last hand, with its share.
-fn last_pair<L: Ledger>(
-    hands: &mut Vec<Hand>,
-    shares: &mut Vec<Share<L>>,
-) -> Option<(Hand, Share<L>)>
-    requires count { length hands.old.items ≡ length shares.old.items }
-    ensures none { IfNone result ((hands.old.items ≡ []) × (shares.old.items ≡ [])) }
-    ensures hands { IfSome result (λ p. hands.old.items ≡ hands.new.items ++ p.0 ∷ []) }
-    ensures shares { IfSome result (λ p. shares.old.items ≡ shares.new.items ++ p.1 ∷ []) }
-{
-    let Some(hand) = hands.pop() else {
+    let Some(hand) = gathered.hands.pop() else {
         return None;
     };
-    let Some(share) = shares.pop() else {
+    let Some(share) = gathered.shares.pop() else {
         unreachable!();
     };
-    Some((hand, share))
+    let Some(part) = gathered.parts.pop() else {
+        unreachable!();
+    };
+    Some(Done { hand, share, part })
 }
 
 /// What one more worker gave back, behind what the others did.
@@ -101,75 +88,57 @@ fn with_done<P: Drop, L: Ledger>(
     Ok(all)
 }
 
-/// Each hand works until it is spent or the book is above the crew's `stop`: the first on the calling thread, from the
-/// part `first` on, each other on its own, from the unit on, and where there is no piece all on the calling one.
+/// Each hand goes on from its part until it is spent or the book is above the crew's `stop`: the first on the calling
+/// thread, each other on its own, and where there is no piece all on the calling one.
 fn spread<'s, E, W: Work + Sync, L: Ledger + Send + Sync, R: Threads + Wait + Sync>(
     scope: &Scope<'s, E>,
     crew: &'s Crew<'s, W, L, R>,
-    first: W::Part,
-    hands: Vec<Hand>,
-    shares: Vec<Share<L>>,
+    ready: Gathered<W::Part, L>,
 ) -> Result<Gathered<W::Part, L>, PoolFault>
-    requires first { W.fits crew.now.work.now (W.meaning first) }
-    requires ready { AreReady (λ i. W.load_of crew.now.work.now (W.piece_meaning crew.now.work.now i)) (λ s. s.sum) hands.items shares.items }
-    requires load { W.load_of crew.now.work.now (W.meaning first) + sum_below (λ i. W.load_of crew.now.work.now (W.piece_meaning crew.now.work.now i)) (pieces_of hands.items) < 2 ^ 63 }
-    ensures did { IfOk result (λ g. DidAll (begun (W.meaning first) (W.unit_meaning crew.now.work.now)) (W.combined crew.now.work.now) (W.piece_meaning crew.now.work.now) (W.weight_of crew.now.work.now) (λ s. s.sum) W.meaning hands.items shares.items g.hands.items g.shares.items g.parts.items) }
-    ensures alone { NeedNoThread hands.items → IfErr result (λ e. e ≡ PoolFault.OutOfMemory) }
+    requires under_way { (begin : ℕ → W.Meaning) × ((i : ℕ) → W.fits crew.now.work.now (begin i)) × AreUnderWay begin (W.combined crew.now.work.now) (W.piece_meaning crew.now.work.now) (W.weight_of crew.now.work.now) (W.load_of crew.now.work.now) (λ s. s.sum) W.meaning ready.hands.items ready.shares.items ready.parts.items }
+    ensures did { (begin : ℕ → W.Meaning) → ((i : ℕ) → W.fits crew.now.work.now (begin i)) → AreUnderWay begin (W.combined crew.now.work.now) (W.piece_meaning crew.now.work.now) (W.weight_of crew.now.work.now) (W.load_of crew.now.work.now) (λ s. s.sum) W.meaning ready.hands.items ready.shares.items ready.parts.items → IfOk result (λ g. DidAll begin (W.combined crew.now.work.now) (W.piece_meaning crew.now.work.now) (W.weight_of crew.now.work.now) (λ s. s.sum) W.meaning ready.hands.items ready.shares.items g.hands.items g.shares.items g.parts.items) }
+    ensures alone { NeedNoThread ready.hands.items → IfErr result (λ e. e ≡ PoolFault.OutOfMemory) }
 {
-    let mut hands = hands;
-    let mut shares = shares;
-    let Some((hand, share)) = last_pair(&mut hands, &mut shares) else {
-        return Ok(nothing(crew.alloc));
+    let mut ready = ready;
+    let Some(done) = last_done(&mut ready) else {
+        return Ok(ready);
     };
-    if hands.is_empty() {
-        let part = first;
-        return with_done(
-            Ok(nothing(crew.alloc)),
-            go_on(crew, Done { hand, share, part }),
-        );
+    if ready.hands.is_empty() || done.hand.pieces() == 0 {
+        let others = spread(scope, crew, ready);
+        return with_done(others, go_on(crew, done));
     }
-    if hand.pieces() == 0 {
-        let others = spread(scope, crew, first, hands, shares);
-        return with_done(others, work_off(crew, hand, share));
-    }
-    let Some(handle) = start(scope, crew, hand, share) else {
+    let Some(handle) = start(scope, crew, done) else {
         return Err(PoolFault::ThreadNotStarted);
     };
-    let others = spread(scope, crew, first, hands, shares);
+    let others = spread(scope, crew, ready);
     with_done(others, handle.join(crew.rt))
 }
 
 /// As `spread`, with a scope of its own.
 fn gather<W: Work + Sync, L: Ledger + Send + Sync, R: Threads + Wait + Sync>(
     crew: &Crew<'_, W, L, R>,
-    first: W::Part,
-    hands: Vec<Hand>,
-    shares: Vec<Share<L>>,
+    ready: Gathered<W::Part, L>,
 ) -> Result<Gathered<W::Part, L>, PoolFault>
-    requires first { W.fits crew.now.work.now (W.meaning first) }
-    requires ready { AreReady (λ i. W.load_of crew.now.work.now (W.piece_meaning crew.now.work.now i)) (λ s. s.sum) hands.items shares.items }
-    requires load { W.load_of crew.now.work.now (W.meaning first) + sum_below (λ i. W.load_of crew.now.work.now (W.piece_meaning crew.now.work.now i)) (pieces_of hands.items) < 2 ^ 63 }
-    ensures did { IfOk result (λ g. DidAll (begun (W.meaning first) (W.unit_meaning crew.now.work.now)) (W.combined crew.now.work.now) (W.piece_meaning crew.now.work.now) (W.weight_of crew.now.work.now) (λ s. s.sum) W.meaning hands.items shares.items g.hands.items g.shares.items g.parts.items) }
-    ensures alone { NeedNoThread hands.items → IfErr result (λ e. e ≡ PoolFault.OutOfMemory) }
+    requires under_way { (begin : ℕ → W.Meaning) × ((i : ℕ) → W.fits crew.now.work.now (begin i)) × AreUnderWay begin (W.combined crew.now.work.now) (W.piece_meaning crew.now.work.now) (W.weight_of crew.now.work.now) (W.load_of crew.now.work.now) (λ s. s.sum) W.meaning ready.hands.items ready.shares.items ready.parts.items }
+    ensures did { (begin : ℕ → W.Meaning) → ((i : ℕ) → W.fits crew.now.work.now (begin i)) → AreUnderWay begin (W.combined crew.now.work.now) (W.piece_meaning crew.now.work.now) (W.weight_of crew.now.work.now) (W.load_of crew.now.work.now) (λ s. s.sum) W.meaning ready.hands.items ready.shares.items ready.parts.items → IfOk result (λ g. DidAll begin (W.combined crew.now.work.now) (W.piece_meaning crew.now.work.now) (W.weight_of crew.now.work.now) (λ s. s.sum) W.meaning ready.hands.items ready.shares.items g.hands.items g.shares.items g.parts.items) }
+    ensures alone { NeedNoThread ready.hands.items → IfErr result (λ e. e ≡ PoolFault.OutOfMemory) }
 {
     thread::scope(
         thread::scope_env(),
         crew.rt,
         move |scope| -> Result<Gathered<W::Part, L>, PoolFault>
-            requires first { W.fits crew.now.work.now (W.meaning first) }
-            requires ready { AreReady (λ i. W.load_of crew.now.work.now (W.piece_meaning crew.now.work.now i)) (λ s. s.sum) hands.items shares.items }
-            requires load { W.load_of crew.now.work.now (W.meaning first) + sum_below (λ i. W.load_of crew.now.work.now (W.piece_meaning crew.now.work.now i)) (pieces_of hands.items) < 2 ^ 63 }
-            ensures did { IfOk result (λ g. DidAll (begun (W.meaning first) (W.unit_meaning crew.entry.now.work.now)) (W.combined crew.entry.now.work.now) (W.piece_meaning crew.entry.now.work.now) (W.weight_of crew.entry.now.work.now) (λ s. s.sum) W.meaning hands.items shares.items g.hands.items g.shares.items g.parts.items) }
-            ensures alone { NeedNoThread hands.items → IfErr result (λ e. e ≡ PoolFault.OutOfMemory) }
-        { spread(scope, crew, first, hands, shares) },
+            requires under_way { (begin : ℕ → W.Meaning) × ((i : ℕ) → W.fits crew.now.work.now (begin i)) × AreUnderWay begin (W.combined crew.now.work.now) (W.piece_meaning crew.now.work.now) (W.weight_of crew.now.work.now) (W.load_of crew.now.work.now) (λ s. s.sum) W.meaning ready.hands.items ready.shares.items ready.parts.items }
+            ensures did { (begin : ℕ → W.Meaning) → ((i : ℕ) → W.fits crew.entry.now.work.now (begin i)) → AreUnderWay begin (W.combined crew.entry.now.work.now) (W.piece_meaning crew.entry.now.work.now) (W.weight_of crew.entry.now.work.now) (W.load_of crew.entry.now.work.now) (λ s. s.sum) W.meaning ready.hands.items ready.shares.items ready.parts.items → IfOk result (λ g. DidAll begin (W.combined crew.entry.now.work.now) (W.piece_meaning crew.entry.now.work.now) (W.weight_of crew.entry.now.work.now) (λ s. s.sum) W.meaning ready.hands.items ready.shares.items g.hands.items g.shares.items g.parts.items) }
+            ensures alone { NeedNoThread ready.hands.items → IfErr result (λ e. e ≡ PoolFault.OutOfMemory) }
+        { spread(scope, crew, ready) },
     )
 }
 
-/// The weights of all parts, added up: those of what the first began with, and of the pieces in all lists. No piece is
-/// in them twice.
+/// The weight of all parts, combined.
 fn weigh<W: Work>(work: &W, parts: &Vec<W::Part>) -> u64
-    requires { (n : ℕ) × (first : W.Meaning) × (lists : List (List ℕ)) × W.fits work.now first × (W.load_of work.now first + sum_below (λ i. W.load_of work.now (W.piece_meaning work.now i)) n < 2 ^ 63) × AreGathered first (W.unit_meaning work.now) (W.combined work.now) (W.piece_meaning work.now) W.meaning lists parts.now.items × ((x : ℕ) → times x (flat lists) ≤ once_below x n) }
-    ensures { (first : W.Meaning) (lists : List (List ℕ)) → W.fits work.now first → AreGathered first (W.unit_meaning work.now) (W.combined work.now) (W.piece_meaning work.now) W.meaning lists parts.now.items → result ≡ W.weight_of work.now first + sum_list (λ i. W.weight_of work.now (W.piece_meaning work.now i)) (flat lists) }
+    requires parts { All (λ p. W.fits work.now (W.meaning p)) parts.now.items }
+    requires room { W.load_of work.now (together (W.unit_meaning work.now) (W.combined work.now) (map W.meaning parts.now.items)) < 2 ^ 63 }
+    ensures { result ≡ W.weight_of work.now (together (W.unit_meaning work.now) (W.combined work.now) (map W.meaning parts.now.items)) }
 {
     let mut sum = 0;
     for part in parts {
@@ -178,24 +147,7 @@ fn weigh<W: Work>(work: &W, parts: &Vec<W::Part>) -> u64
     sum
 }
 
-/// The last worker's.
-fn last_done<P, L: Ledger>(gathered: &mut Gathered<P, L>) -> Option<Done<P, L>>
-    requires count { (length gathered.old.hands.items ≡ length gathered.old.shares.items) × (length gathered.old.hands.items ≡ length gathered.old.parts.items) }
-    ensures none { IfNone result ((gathered.old.hands.items ≡ []) × (gathered.old.shares.items ≡ []) × (gathered.old.parts.items ≡ [])) }
-    ensures hands { IfSome result (λ d. gathered.old.hands.items ≡ gathered.new.hands.items ++ d.hand ∷ []) }
-    ensures shares { IfSome result (λ d. gathered.old.shares.items ≡ gathered.new.shares.items ++ d.share ∷ []) }
-    ensures parts { IfSome result (λ d. gathered.old.parts.items ≡ gathered.new.parts.items ++ d.part ∷ []) }
-{
-    let Some((hand, share)) = last_pair(&mut gathered.hands, &mut gathered.shares) else {
-        return None;
-    };
-    let Some(part) = gathered.parts.pop() else {
-        unreachable!();
-    };
-    Some(Done { hand, share, part })
-}
-
-/// Each hand goes on until it is spent, on the calling thread, from what it began with. No number of the book stops it.
+/// Each hand goes on from its part until it is spent, on the calling thread. No number of the book stops it.
 fn finish_all<W: Work, L: Ledger, R: Wait>(
     crew: &Crew<'_, W, L, R>,
     gathered: Gathered<W::Part, L>,
@@ -208,7 +160,7 @@ fn finish_all<W: Work, L: Ledger, R: Wait>(
 {
     let mut gathered = gathered;
     let Some(done) = last_done(&mut gathered) else {
-        return Ok(nothing(crew.alloc));
+        return Ok(gathered);
     };
     match finish_all(crew, gathered) {
         Ok(others) => with_done(Ok(others), go_on(crew, done)),
@@ -216,16 +168,39 @@ fn finish_all<W: Work, L: Ledger, R: Wait>(
     }
 }
 
-/// All parts, combined: what the first began with, and the pieces in all lists. No piece is in them twice.
+/// All parts as one.
 fn combine_all<W: Work>(work: &W, parts: Vec<W::Part>) -> Result<W::Part, AllocError>
-    requires { (n : ℕ) × (first : W.Meaning) × (lists : List (List ℕ)) × W.fits work.now first × (W.load_of work.now first + sum_below (λ i. W.load_of work.now (W.piece_meaning work.now i)) n < 2 ^ 63) × AreGathered first (W.unit_meaning work.now) (W.combined work.now) (W.piece_meaning work.now) W.meaning lists parts.items × ((x : ℕ) → times x (flat lists) ≤ once_below x n) }
-    ensures { (first : W.Meaning) (lists : List (List ℕ)) → W.fits work.now first → AreGathered first (W.unit_meaning work.now) (W.combined work.now) (W.piece_meaning work.now) W.meaning lists parts.items → IfOk result (λ p. W.meaning p ≡ gathered first (W.combined work.now) (W.piece_meaning work.now) (flat lists)) }
+    requires parts { All (λ p. W.fits work.now (W.meaning p)) parts.items }
+    requires room { W.load_of work.now (together (W.unit_meaning work.now) (W.combined work.now) (map W.meaning parts.items)) < 2 ^ 63 }
+    ensures { IfOk result (λ p. W.meaning p ≡ together (W.unit_meaning work.now) (W.combined work.now) (map W.meaning parts.items)) }
 {
     let mut all = work.unit()?;
     for part in parts {
         all = work.combine(all, part)?;
     }
     Ok(all)
+}
+
+/// As many parts as hands: a part that was made before, and behind it such of no piece.
+fn parts_from<W: Work>(
+    alloc: Global,
+    work: &W,
+    first: W::Part,
+    hands: usize,
+) -> Result<Vec<W::Part>, AllocError>
+    requires first { W.fits work.now (W.meaning first) }
+    requires hands { 1 ≤ hands }
+    ensures count { IfOk result (λ parts. vec_len parts ≡ hands) }
+    ensures parts { IfOk result (λ parts. All (λ p. W.fits work.now (W.meaning p)) parts.items) }
+    ensures together { IfOk result (λ parts. together (W.unit_meaning work.now) (W.combined work.now) (map W.meaning parts.items) ≡ W.meaning first) }
+{
+    let mut parts = Vec::new(alloc);
+    put_last(&mut parts, first)?;
+    for _i in 1..hands {
+        let unit = work.unit()?;
+        put_last(&mut parts, unit)?;
+    }
+    Ok(parts)
 }
 
 /// The hands of a deal have no piece twice, and where all are spent, they have each piece.
@@ -237,30 +212,51 @@ fn keep_apart(hands: &mut Vec<Hand>)
     apart(hands.as_mut_slice());
 }
 
-/// What comes of all pieces and what the first hand began with, once each hand is spent.
+/// The hands of a new deal work, each on a thread of its own, as `gather` says. Where the parts do not weigh more than
+/// `limit` then, each goes on until it is spent, on the calling thread.
+fn work_through<W: Work + Sync, L: Ledger + Send + Sync, R: Threads + Wait + Sync>(
+    crew: Crew<'_, W, L, R>,
+    limit: u64,
+    ready: Gathered<W::Part, L>,
+) -> Result<Gathered<W::Part, L>, PoolFault>
+    requires ready { AreReady (W.fits crew.work.now) (W.unit_meaning crew.work.now) (W.combined crew.work.now) (W.piece_meaning crew.work.now) (W.load_of crew.work.now) (λ s. s.sum) W.meaning ready.hands.items ready.shares.items ready.parts.items }
+    ensures did { IfOk result (λ g. DidAll (begun (W.unit_meaning crew.entry.work.now) (map W.meaning ready.parts.items)) (W.combined crew.entry.work.now) (W.piece_meaning crew.entry.work.now) (W.weight_of crew.entry.work.now) (λ s. s.sum) W.meaning ready.hands.items ready.shares.items g.hands.items g.shares.items g.parts.items) }
+    ensures spent { IfOk result (λ g. AllSpent g.hands.items ⊎ (limit < W.weight_of crew.entry.work.now (together (W.unit_meaning crew.entry.work.now) (W.combined crew.entry.work.now) (map W.meaning g.parts.items)))) }
+    ensures alone { NeedNoThread ready.hands.items → IfErr result (λ e. e ≡ PoolFault.OutOfMemory) }
+{
+    let mut crew = crew;
+    let mut gathered = match gather(&crew, ready) {
+        Ok(gathered) => gathered,
+        Err(fault) => return Err(fault),
+    };
+    keep_apart(&mut gathered.hands);
+    if weigh(crew.work, &gathered.parts) > limit {
+        return Ok(gathered);
+    }
+    crew.stop = u128::MAX;
+    finish_all(&crew, gathered)
+}
+
+/// What comes of all parts: all of them as one, or `Over` where they weigh more than `limit`.
 fn conclude<W: Work, L: Ledger>(
     work: &W,
     limit: u64,
     finished: Gathered<W::Part, L>,
 ) -> Result<(Outcome<W::Part>, Vec<Hand>, Vec<Share<L>>), AllocError>
-    requires deal { AreAll finished.hands.items }
-    requires spent { AllSpent finished.hands.items }
-    requires parts { (first : W.Meaning) × W.fits work.now first × (W.load_of work.now first + sum_below (λ i. W.load_of work.now (W.piece_meaning work.now i)) (pieces_of finished.hands.items) < 2 ^ 63) × AreGathered first (W.unit_meaning work.now) (W.combined work.now) (W.piece_meaning work.now) W.meaning (lists_in finished.hands.items) finished.parts.items }
-    ensures decided { (first : W.Meaning) → W.fits work.now first → AreGathered first (W.unit_meaning work.now) (W.combined work.now) (W.piece_meaning work.now) W.meaning (lists_in finished.hands.items) finished.parts.items → IfOk result (λ r. Decides W.meaning (W.combined work.now first (total (W.unit_meaning work.now) (W.combined work.now) (W.piece_meaning work.now) (pieces_of finished.hands.items))) (W.weight_of work.now first + sum_below (λ i. W.weight_of work.now (W.piece_meaning work.now i)) (pieces_of finished.hands.items)) limit r.0) }
-    ensures same { IfOk result (λ r. (r.1.items ≡ finished.hands.items) × (r.2.items ≡ finished.shares.items)) }
-    ensures once { IfOk result (λ r. (x : ℕ) → times x (joined finished.hands.items) ≡ once_below x (pieces_of finished.hands.items)) }
-    ensures over { (first : W.Meaning) → W.fits work.now first → AreGathered first (W.unit_meaning work.now) (W.combined work.now) (W.piece_meaning work.now) W.meaning (lists_in finished.hands.items) finished.parts.items → IfOk result (λ r. IsAbove (W.weight_of work.now first + sum_list (λ i. W.weight_of work.now (W.piece_meaning work.now i)) (joined r.1.items)) limit r.0) }
+    requires parts { All (λ p. W.fits work.now (W.meaning p)) finished.parts.items }
+    requires room { W.load_of work.now (together (W.unit_meaning work.now) (W.combined work.now) (map W.meaning finished.parts.items)) < 2 ^ 63 }
+    ensures decided { IfOk result (λ r. Decides W.meaning (together (W.unit_meaning work.now) (W.combined work.now) (map W.meaning finished.parts.items)) (W.weight_of work.now (together (W.unit_meaning work.now) (W.combined work.now) (map W.meaning finished.parts.items))) limit r.0) }
+    ensures same { IfOk result (λ r. (r.1 ≡ finished.hands) × (r.2 ≡ finished.shares)) }
 {
     let Gathered {
-        mut hands,
+        hands,
         shares,
         parts,
     } = finished;
-    keep_apart(&mut hands);
-    let part = combine_all(work, parts)?;
-    if work.weight(&part) > limit {
+    if weigh(work, &parts) > limit {
         return Ok((Outcome::Over, hands, shares));
     }
+    let part = combine_all(work, parts)?;
     Ok((Outcome::Whole(part), hands, shares))
 }
 
@@ -306,55 +302,52 @@ pub fn fan_on<W: Work + Sync, L: Ledger + Send + Sync, R: Threads + Wait + Sync>
     let Ok(first) = work.unit() else {
         return Err(PoolFault::OutOfMemory);
     };
-    fan_onto(rt, alloc, work, first, hands, limit, book, stop, shares)
-}
-
-/// As `fan_on`, but the first hand begins with a part that was made before, and what is answered is that part and all
-/// pieces, combined.
-fn fan_onto<W: Work + Sync, L: Ledger + Send + Sync, R: Threads + Wait + Sync>(
-    rt: &R,
-    alloc: Global,
-    work: &W,
-    first: W::Part,
-    hands: Vec<Hand>,
-    limit: u64,
-    book: &Book<L>,
-    stop: u128,
-    shares: Vec<Share<L>>,
-) -> Result<(Outcome<W::Part>, Vec<Hand>, Vec<Share<L>>), PoolFault>
-    requires first { W.fits work.now (W.meaning first) }
-    requires deal { IsNewDeal (pieces_of hands.items) (vec_len hands) hands.items }
-    requires count { vec_len shares ≡ vec_len hands }
-    requires loads { W.load_of work.now (W.meaning first) + sum_below (λ i. W.load_of work.now (W.piece_meaning work.now i)) (pieces_of hands.items) < 2 ^ 63 }
-    requires room { (i : ℕ) (s : _) → get_elem? shares.items i ≡ some s → sum_below (λ i. W.load_of work.now (W.piece_meaning work.now i)) (pieces_of hands.items) + s.sum < 2 ^ 63 }
-    ensures decided { IfOk result (λ r. Decides W.meaning (W.combined work.now (W.meaning first) (total (W.unit_meaning work.now) (W.combined work.now) (W.piece_meaning work.now) (pieces_of hands.items))) (W.weight_of work.now (W.meaning first) + sum_below (λ i. W.weight_of work.now (W.piece_meaning work.now i)) (pieces_of hands.items)) limit r.0) }
-    ensures deal { IfOk result (λ r. AreAll r.1.items × (pieces_of r.1.items ≡ pieces_of hands.items)) }
-    ensures back { IfOk result (λ r. CameBack (λ i. W.weight_of work.now (W.piece_meaning work.now i)) (λ s. s.sum) hands.items shares.items r.1.items r.2.items) }
-    ensures once { IfOk result (λ r. (x : ℕ) → times x (joined r.1.items) ≤ once_below x (pieces_of hands.items)) }
-    ensures settled { IfOk result (λ r. Settles r.0 r.1.items) }
-    ensures over { IfOk result (λ r. IsAbove (W.weight_of work.now (W.meaning first) + sum_list (λ i. W.weight_of work.now (W.piece_meaning work.now i)) (joined r.1.items)) limit r.0) }
-    ensures alone { (vec_len hands ≡ 1) ⊎ (pieces_of hands.items ≡ 0) → IfErr result (λ e. e ≡ PoolFault.OutOfMemory) }
-{
-    let mut crew = Crew {
+    let crew = Crew {
         rt,
         alloc,
         work,
         book,
         stop,
     };
-    let mut gathered = match gather(&crew, first, hands, shares) {
-        Ok(gathered) => gathered,
-        Err(fault) => return Err(fault),
-    };
-    keep_apart(&mut gathered.hands);
-    if weigh(work, &gathered.parts) > limit {
-        let Gathered { hands, shares, .. } = gathered;
-        return Ok((Outcome::Over, hands, shares));
-    }
-    crew.stop = u128::MAX;
-    let Ok(finished) = finish_all(&crew, gathered) else {
+    fan_onto(crew, first, hands, limit, shares)
+}
+
+/// As `fan_on`, but the first hand begins with a part that was made before, and what is answered is that part and all
+/// pieces, combined.
+fn fan_onto<W: Work + Sync, L: Ledger + Send + Sync, R: Threads + Wait + Sync>(
+    crew: Crew<'_, W, L, R>,
+    first: W::Part,
+    hands: Vec<Hand>,
+    limit: u64,
+    shares: Vec<Share<L>>,
+) -> Result<(Outcome<W::Part>, Vec<Hand>, Vec<Share<L>>), PoolFault>
+    requires first { W.fits crew.work.now (W.meaning first) }
+    requires deal { IsNewDeal (pieces_of hands.items) (vec_len hands) hands.items }
+    requires count { vec_len shares ≡ vec_len hands }
+    requires loads { W.load_of crew.work.now (W.meaning first) + sum_below (λ i. W.load_of crew.work.now (W.piece_meaning crew.work.now i)) (pieces_of hands.items) < 2 ^ 63 }
+    requires room { (i : ℕ) (s : _) → get_elem? shares.items i ≡ some s → sum_below (λ i. W.load_of crew.work.now (W.piece_meaning crew.work.now i)) (pieces_of hands.items) + s.sum < 2 ^ 63 }
+    ensures decided { IfOk result (λ r. Decides W.meaning (W.combined crew.entry.work.now (W.meaning first) (total (W.unit_meaning crew.entry.work.now) (W.combined crew.entry.work.now) (W.piece_meaning crew.entry.work.now) (pieces_of hands.items))) (W.weight_of crew.entry.work.now (W.meaning first) + sum_below (λ i. W.weight_of crew.entry.work.now (W.piece_meaning crew.entry.work.now i)) (pieces_of hands.items)) limit r.0) }
+    ensures deal { IfOk result (λ r. AreAll r.1.items × (pieces_of r.1.items ≡ pieces_of hands.items)) }
+    ensures back { IfOk result (λ r. CameBack (λ i. W.weight_of crew.entry.work.now (W.piece_meaning crew.entry.work.now i)) (λ s. s.sum) hands.items shares.items r.1.items r.2.items) }
+    ensures once { IfOk result (λ r. (x : ℕ) → times x (joined r.1.items) ≤ once_below x (pieces_of hands.items)) }
+    ensures settled { IfOk result (λ r. Settles r.0 r.1.items) }
+    ensures over { IfOk result (λ r. IsAbove (W.weight_of crew.entry.work.now (W.meaning first) + sum_list (λ i. W.weight_of crew.entry.work.now (W.piece_meaning crew.entry.work.now i)) (joined r.1.items)) limit r.0) }
+    ensures alone { (vec_len hands ≡ 1) ⊎ (pieces_of hands.items ≡ 0) → IfErr result (λ e. e ≡ PoolFault.OutOfMemory) }
+{
+    let work = crew.work;
+    let Ok(parts) = parts_from(crew.alloc, work, first, hands.len()) else {
         return Err(PoolFault::OutOfMemory);
     };
+    let ready = Gathered {
+        hands,
+        shares,
+        parts,
+    };
+    let mut finished = match work_through(crew, limit, ready) {
+        Ok(finished) => finished,
+        Err(fault) => return Err(fault),
+    };
+    keep_apart(&mut finished.hands);
     let Ok(concluded) = conclude(work, limit, finished) else {
         return Err(PoolFault::OutOfMemory);
     };
@@ -408,17 +401,14 @@ pub fn fan_deal_onto<W: Work + Sync, L: Ledger + Send + Sync, R: Threads + Wait 
     let Ok(deal) = Deal::new(alloc, pieces, shares.len()) else {
         return Err(PoolFault::OutOfMemory);
     };
-    match fan_onto(
+    let crew = Crew {
         rt,
         alloc,
         work,
-        part,
-        deal.into_hands(),
-        limit,
         book,
         stop,
-        shares,
-    ) {
+    };
+    match fan_onto(crew, part, deal.into_hands(), limit, shares) {
         Ok((outcome, _, shares)) => Ok((outcome, shares)),
         Err(fault) => Err(fault),
     }

@@ -1,14 +1,12 @@
 //! One worker: it takes pieces until its hand is spent or the book is above a number, and reports their weights.
-ghost use Rattle.std.specs.Prelude.{◌≡◌, ℕ, ◌+◌, ◌^◌, ◌<◌, ◌-◌, true, IfOk, IfSome, []};
-ghost use Rattle.pool.specs.Totals.{sum_below};
-ghost use Rattle.pool.specs.Holding.{numbers_of};
+ghost use Rattle.std.specs.Prelude.{◌≡◌, ℕ, ◌+◌, ◌^◌, ◌<◌, ◌-◌, true, IfOk, IfSome};
 ghost use Rattle.pool.specs.Done.{Did, MayGoOn};
 
 use crate::book::{Book, Share};
 use crate::deal::{Hand, Next};
 use crate::laws::Work;
 use std::alloc::{AllocError, Global};
-use std::marker::{PhantomData, Send, Sync};
+use std::marker::{Send, Sync};
 use std::snapshot::Snapshot;
 use std::sync::Wait;
 use std::sync::ledger::Ledger;
@@ -24,8 +22,7 @@ pub struct Crew<'a, W, L: Ledger, R> {
     pub stop: u128,
 }
 
-/// What a worker gives back: its hand, its share, and a part: what it began with and the pieces in the hand's list,
-/// combined.
+/// What a worker has: its hand, its share, and a part: what it began with and the pieces in the hand's list, combined.
 #[derive(Drop)]
 pub struct Done<P, L: Ledger> {
     pub hand: Hand,
@@ -33,29 +30,22 @@ pub struct Done<P, L: Ledger> {
     pub part: P,
 }
 
-/// The hand has the same seat, the part is the combination of the pieces in its list, onto the unit, and the share has
-/// grown by their weights.
-pub struct Promised<'a, W, L: Ledger> {
+/// Where a worker could go on with what it was handed, it gives back what it did, as `go_on` says.
+pub struct Promised<'a, W, P, L: Ledger> {
     pub work: &'a W,
-    pub hand: Snapshot<Hand>,
-    pub before: u64,
-    of: PhantomData<L>,
+    pub before: Snapshot<Done<P, L>>,
 }
 
-impl<'a, W, L: Ledger> Drop for Promised<'a, W, L> {
+impl<'a, W, P, L: Ledger> Drop for Promised<'a, W, P, L> {
     fn drop(self) {
-        let Promised {
-            work: _,
-            hand,
-            before: _,
-            of: _,
-        } = self;
-        drop(hand);
+        let Promised { work: _, before } = self;
+        drop(before);
     }
 }
 
-impl<'a, W: Work, L: Ledger> Promise<Result<Done<W::Part, L>, AllocError>> for Promised<'a, W, L> {
-    ghost kept_by = { λ p r. IfOk r (λ d. Did (W.unit_meaning p.work.now) (W.combined p.work.now) (W.piece_meaning p.work.now) (W.weight_of p.work.now) p.hand.value p.before d.hand d.share.sum (W.meaning d.part)) };
+impl<'a, W: Work, L: Ledger> Promise<Result<Done<W::Part, L>, AllocError>>
+    for Promised<'a, W, W::Part, L> {
+    ghost kept_by = { λ p r. (begin : W.Meaning) → W.fits p.work.now begin → MayGoOn begin (W.combined p.work.now) (W.piece_meaning p.work.now) (W.weight_of p.work.now) (W.load_of p.work.now) p.before.value.hand p.before.value.share.sum (W.meaning p.before.value.part) → IfOk r (λ d. Did begin (W.combined p.work.now) (W.piece_meaning p.work.now) (W.weight_of p.work.now) p.before.value.hand p.before.value.share.sum d.hand d.share.sum (W.meaning d.part)) };
 }
 
 /// Does one piece: the part has one more, and the share's sum its weight more. Also answers the book's number after it.
@@ -125,45 +115,29 @@ pub fn go_on<W: Work, L: Ledger, R: Wait>(
     Ok(Done { hand, share, part })
 }
 
-/// All that a worker does with a new hand: as `go_on`, from the unit on.
-pub fn work_off<W: Work, L: Ledger, R: Wait>(
-    crew: &Crew<'_, W, L, R>,
-    hand: Hand,
-    share: Share<L>,
-) -> Result<Done<W::Part, L>, AllocError>
-    requires new { numbers_of hand ≡ [] }
-    requires loads { sum_below (λ i. W.load_of crew.now.work.now (W.piece_meaning crew.now.work.now i)) hand.pieces + share.sum < 2 ^ 63 }
-    ensures { IfOk result (λ d. Did (W.unit_meaning crew.now.work.now) (W.combined crew.now.work.now) (W.piece_meaning crew.now.work.now) (W.weight_of crew.now.work.now) hand share.sum d.hand d.share.sum (W.meaning d.part)) }
-{
-    let part = crew.work.unit()?;
-    go_on(crew, Done { hand, share, part })
-}
-
 /// A worker on a thread of its own.
-pub type Running<'s, W, P, L> = PromisedHandle<Result<Done<P, L>, AllocError>, Promised<'s, W, L>>;
+pub type Running<'s, W, P, L> = PromisedHandle<
+    Result<Done<P, L>, AllocError>,
+    Promised<'s, W, P, L>,
+>;
 
-/// Starts one worker on a thread of its own.
+/// Starts one worker, which goes on with what it is handed, on a thread of its own.
 pub fn start<'s, E, W: Work + Sync, L: Ledger + Send + Sync, R: Wait + Sync>(
     scope: &Scope<'s, E>,
     crew: &'s Crew<'s, W, L, R>,
-    hand: Hand,
-    share: Share<L>,
+    done: Done<W::Part, L>,
 ) -> Option<Running<'s, W, W::Part, L>>
-    requires new { numbers_of hand ≡ [] }
-    requires loads { sum_below (λ i. W.load_of crew.now.work.now (W.piece_meaning crew.now.work.now i)) hand.pieces + share.sum < 2 ^ 63 }
+    requires { (begin : W.Meaning) × W.fits crew.now.work.now begin × MayGoOn begin (W.combined crew.now.work.now) (W.piece_meaning crew.now.work.now) (W.weight_of crew.now.work.now) (W.load_of crew.now.work.now) done.hand done.share.sum (W.meaning done.part) }
     ensures work { IfSome result (λ h. h.promise.work.now ≡ crew.now.work.now) }
-    ensures hand { IfSome result (λ h. h.promise.hand.value ≡ hand) }
-    ensures before { IfSome result (λ h. h.promise.before ≡ share.sum) }
+    ensures before { IfSome result (λ h. h.promise.before.value ≡ done) }
 {
     let promise = Promised {
         work: crew.work,
-        hand: Snapshot::of(&hand),
-        before: share.sum(),
-        of: PhantomData,
+        before: Snapshot::of(&done),
     };
     let run = move || -> Result<Done<W::Part, L>, AllocError>
-        requires { (numbers_of hand ≡ []) × (sum_below (λ i. W.load_of crew.now.work.now (W.piece_meaning crew.now.work.now i)) hand.pieces + share.sum < 2 ^ 63) }
-        ensures { IfOk result (λ d. Did (W.unit_meaning crew.entry.now.work.now) (W.combined crew.entry.now.work.now) (W.piece_meaning crew.entry.now.work.now) (W.weight_of crew.entry.now.work.now) hand share.sum d.hand d.share.sum (W.meaning d.part)) }
-    { work_off(crew, hand, share) };
+        requires { (begin : W.Meaning) × W.fits crew.now.work.now begin × MayGoOn begin (W.combined crew.now.work.now) (W.piece_meaning crew.now.work.now) (W.weight_of crew.now.work.now) (W.load_of crew.now.work.now) done.hand done.share.sum (W.meaning done.part) }
+        ensures { (begin : W.Meaning) → W.fits crew.entry.now.work.now begin → MayGoOn begin (W.combined crew.entry.now.work.now) (W.piece_meaning crew.entry.now.work.now) (W.weight_of crew.entry.now.work.now) (W.load_of crew.entry.now.work.now) done.hand done.share.sum (W.meaning done.part) → IfOk result (λ d. Did begin (W.combined crew.entry.now.work.now) (W.piece_meaning crew.entry.now.work.now) (W.weight_of crew.entry.now.work.now) done.hand done.share.sum d.hand d.share.sum (W.meaning d.part)) }
+    { go_on(crew, done) };
     scope.spawn_with(promise, run).ok()
 }

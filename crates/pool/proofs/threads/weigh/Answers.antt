@@ -1,60 +1,59 @@
-use Rattle.std.proofs.Common.{◌+◌, ◌<◌, ◌++◌, ◌∷◌, [], length, drop, get_or, sym, ap, ◌∙◌, subst, arith}
+use Rattle.std.proofs.Common.{◌+◌, ◌<◌, ◌∷◌, length, drop, get_or, map, sym, ap, ◌∙◌, subst, arith}
 use Rattle.std.proofs.lemmas.List.{drop_more, drop_all}
-use Rattle.pool.specs.Totals.{sum_list}
-use Rattle.pool.proofs.Partway.{partway_start, partway_next, partway_end, its_list, next_fits, next_room, sum_next, sum_room}
+use Rattle.pool.proofs.Parts.{each_of, next_each, next_load, next_weight, none_together, together_fits}
 use Rattle.pool.proofs.threads.weigh.Goals as goal
 
 pub loop-part-init : goal.loop-part-init
-loop-part-init g c first lists its are =
-    let w = g.met.W.Work.lawful c.args.work.now in
-    (first, [], partway_start w g.W.Work.meaning first its lists c.args.parts.now.items are, omega arith)
+loop-part-init g c = (each_of (g.W.Work.fits c.args.work.now) g.W.Work.meaning c.args.parts.now.items c.requires.parts, omega arith, c.requires.room)
 
 pub weight-sum-requires : goal.weight-sum-requires
 weight-sum-requires g c =
     let w = g.met.W.Work.lawful c.args.work.now in
-    let r = c.requires in
-    let inv = c.loop-part.invariant r.1 r.2 r.3 r.5 in
+    let inv = c.loop-part.invariant in
     let v = c.deref-part-items.ensures.value in
     let below : c.loop-part.part-index < length c.args.parts.now.items = subst (λ l. c.loop-part.part-index < length l) v c.loop-part-test.true in
     let here = drop_more c.args.parts.now.items c.loop-part.part-index c.part-item.result below ∙ ap (λ x. x ∷ drop (c.loop-part.part-index + 1) c.args.parts.now.items) (sym (c.part-item.is ∙ ap (λ l. get_or l c.loop-part.part-index c.part-item.result) v)) in
-    (next_fits w g.W.Work.meaning r.1 r.3 r.2 inv.0 inv.1 (drop c.loop-part.part-index c.args.parts.now.items) inv.2 c.part-item.result (drop (c.loop-part.part-index + 1) c.args.parts.now.items) here, next_room w g.W.Work.meaning r.1 r.3 r.2 inv.0 inv.1 (drop c.loop-part.part-index c.args.parts.now.items) inv.2 c.part-item.result (drop (c.loop-part.part-index + 1) c.args.parts.now.items) here r.0 r.6 r.4)
+    let load = next_load w g.W.Work.meaning (drop c.loop-part.part-index c.args.parts.now.items) c.part-item.result (drop (c.loop-part.part-index + 1) c.args.parts.now.items) here inv.0 in
+    let room = inv.2 in
+    ((next_each w g.W.Work.meaning (drop c.loop-part.part-index c.args.parts.now.items) c.part-item.result (drop (c.loop-part.part-index + 1) c.args.parts.now.items) here inv.0).0, omega (arith, load, room))
 
 pub overflow_add-sum : goal.overflow_add-sum
 overflow_add-sum g c =
     let w = g.met.W.Work.lawful c.args.work.now in
-    let r = c.requires in
-    let inv = c.loop-part.invariant r.1 r.2 r.3 r.5 in
+    let inv = c.loop-part.invariant in
     let v = c.deref-part-items.ensures.value in
     let below : c.loop-part.part-index < length c.args.parts.now.items = subst (λ l. c.loop-part.part-index < length l) v c.loop-part-test.true in
     let here = drop_more c.args.parts.now.items c.loop-part.part-index c.part-item.result below ∙ ap (λ x. x ∷ drop (c.loop-part.part-index + 1) c.args.parts.now.items) (sym (c.part-item.is ∙ ap (λ l. get_or l c.loop-part.part-index c.part-item.result) v)) in
-    let room = sum_room w g.W.Work.meaning r.1 r.3 r.2 inv.0 inv.1 (drop c.loop-part.part-index c.args.parts.now.items) inv.2 c.part-item.result (drop (c.loop-part.part-index + 1) c.args.parts.now.items) here r.0 r.6 r.4 c.loop-part.sum inv.3 in
+    let weight = next_weight w g.W.Work.meaning (drop c.loop-part.part-index c.args.parts.now.items) c.part-item.result (drop (c.loop-part.part-index + 1) c.args.parts.now.items) here inv.0 in
+    let most = w.weight_at_most_load _ (together_fits w (map g.W.Work.meaning c.args.parts.now.items) (each_of (g.W.Work.fits c.args.work.now) g.W.Work.meaning c.args.parts.now.items c.requires.parts)) in
+    let room = c.requires.room in
+    let sum = inv.1 in
     let e = c.weight-sum.ensures in
-    omega (arith, room, e)
+    omega (arith, weight, most, room, sum, e)
 
 pub loop-part-preserved : goal.loop-part-preserved
-loop-part-preserved g c first lists its are =
+loop-part-preserved g c =
     let w = g.met.W.Work.lawful c.args.work.now in
-    let inv = c.loop-part.invariant first lists its are in
+    let inv = c.loop-part.invariant in
     let v = c.deref-part-items.ensures.value in
     let below : c.loop-part.part-index < length c.args.parts.now.items = subst (λ l. c.loop-part.part-index < length l) v c.loop-part-test.true in
     let here = drop_more c.args.parts.now.items c.loop-part.part-index c.part-item.result below ∙ ap (λ x. x ∷ drop (c.loop-part.part-index + 1) c.args.parts.now.items) (sym (c.part-item.is ∙ ap (λ l. get_or l c.loop-part.part-index c.part-item.result) v)) in
-    let e = c.weight-sum.ensures in
-    let sum = sum_next w g.W.Work.meaning first its lists inv.0 inv.1 (drop c.loop-part.part-index c.args.parts.now.items) inv.2 c.part-item.result (drop (c.loop-part.part-index + 1) c.args.parts.now.items) here c.loop-part.sum inv.3 in (
-      g.W.Work.unit_meaning c.args.work.now,
-      inv.1 ++ its_list w g.W.Work.meaning first its lists inv.0 inv.1 (drop c.loop-part.part-index c.args.parts.now.items) inv.2 c.part-item.result (drop (c.loop-part.part-index + 1) c.args.parts.now.items) here,
-      partway_next w g.W.Work.meaning first its lists inv.0 inv.1 (drop c.loop-part.part-index c.args.parts.now.items) inv.2 c.part-item.result (drop (c.loop-part.part-index + 1) c.args.parts.now.items) here,
-      omega (arith, sum, e),
+    let weight = next_weight w g.W.Work.meaning (drop c.loop-part.part-index c.args.parts.now.items) c.part-item.result (drop (c.loop-part.part-index + 1) c.args.parts.now.items) here inv.0 in
+    let load = next_load w g.W.Work.meaning (drop c.loop-part.part-index c.args.parts.now.items) c.part-item.result (drop (c.loop-part.part-index + 1) c.args.parts.now.items) here inv.0 in
+    let sum = inv.1 in
+    let room = inv.2 in
+    let e = c.weight-sum.ensures in (
+      (next_each w g.W.Work.meaning (drop c.loop-part.part-index c.args.parts.now.items) c.part-item.result (drop (c.loop-part.part-index + 1) c.args.parts.now.items) here inv.0).1,
+      omega (arith, weight, sum, e),
+      omega (arith, load, room),
     )
 
 pub returns : goal.returns
-returns g c first lists its are =
+returns g c =
     let w = g.met.W.Work.lawful c.args.work.now in
-    let inv = c.loop-part.invariant first lists its are in
     let end = c.loop-part-test.false in
     let count = ap (λ l. length l) c.deref-part-items.ensures.value in
     let gone = drop_all c.loop-part.part-index c.args.parts.now.items (omega (arith, end, count)) in
-    let all = partway_end w g.W.Work.meaning first its lists inv.0 inv.1 (drop c.loop-part.part-index c.args.parts.now.items) inv.2 (ap (λ l. length l) gone) in
-    let lists_are = ap (sum_list (λ i. g.W.Work.weight_of c.args.work.now (g.W.Work.piece_meaning c.args.work.now i))) all.0 in
-    let begin = ap (g.W.Work.weight_of c.args.work.now) all.1 ∙ w.unit_weight in
-    let sum = inv.3 in
-    omega (arith, lists_are, begin, sum)
+    let none = ap (g.W.Work.weight_of c.args.work.now) (none_together w g.W.Work.meaning (drop c.loop-part.part-index c.args.parts.now.items) (ap (λ l. length l) gone)) ∙ w.unit_weight in
+    let sum = (c.loop-part.invariant).1 in
+    omega (arith, none, sum)
