@@ -1,5 +1,6 @@
 -- The parts that hands begin with, and those that they come to.
 use Rattle.std.proofs.Common.{◌≡◌, ℕ, zero, suc, ◌+◌, ◌^◌, ◌<◌, ◌≤◌, List, [], ◌∷◌, ◌++◌, length, map, All, sym, refl, ap, ◌∙◌, subst, arith}
+use Rattle.std.proofs.lemmas.List.{length-map}
 use mathlib.Core.Option.{some, some-injective, some-ne-none}
 use lib.ListN.{get_elem?}
 use Rattle.pool.specs.Dealing.{times}
@@ -30,10 +31,6 @@ pub begun_at : {M P : Type 0} (unit : M) (meaning : P → M) (ps : List P) (i : 
 begun_at unit meaning [] i p at = absurd (some-ne-none p (sym at))
 begun_at unit meaning (q ∷ qs) zero p at = ap meaning (sym (some-injective q p at))
 begun_at unit meaning (q ∷ qs) (suc i) p at = begun_at unit meaning qs i p at
-
-length-meanings : {M P : Type 0} (meaning : P → M) (ps : List P) → length (map meaning ps) ≡ length ps
-length-meanings meaning [] = refl
-length-meanings meaning (p ∷ ps) = ap suc (length-meanings meaning ps)
 
 module _ {M : Type 0} {fits : M → Type 0} {unit : M} {combined : M → M → M} {piece : ℕ → M} {weight load : M → ℕ} (laws : Lawful fits unit combined piece weight load) where
   pub together_fits : (ms : List M) → Each fits ms → fits (together unit combined ms)
@@ -143,7 +140,7 @@ module _ {M : Type 0} {fits : M → Type 0} {unit : M} {combined : M → M → M
 
       module _ (ks : List Holding) (ts : List S) (qs : List P) (did : DidAll (begun unit (map meaning ps)) combined piece weight sum meaning hs ss ks ts qs) where
         came : Each fits (map meaning qs) × (together unit combined (map meaning qs) ≡ combined (together unit combined (map meaning ps)) (gathered unit combined piece (joined ks)))
-        came = did_together (map meaning ps) hs ss ks ts qs (each_of fits meaning ps ready.fit) (length-meanings meaning ps ∙ ready.parts) did
+        came = did_together (map meaning ps) hs ss ks ts qs (each_of fits meaning ps ready.fit) (length-map ps meaning ∙ ready.parts) did
 
         begin_fits : fits (together unit combined (map meaning ps))
         begin_fits = together_fits (map meaning ps) (each_of fits meaning ps ready.fit)

@@ -1,5 +1,5 @@
 -- What all workers of a deal do together.
-use Rattle.std.specs.Prelude.{◌≡◌, ℕ, zero, suc, ◌+◌, ◌^◌, ◌<◌, ◌⊎◌, All, List, [], ◌∷◌, length, map}
+use Rattle.std.specs.Prelude.{◌≡◌, ℕ, suc, ◌+◌, ◌^◌, ◌<◌, ◌⊎◌, All, List, [], ◌∷◌, length, map, slice_index_or}
 use mathlib.Core.Option.{some}
 use lib.ListN.{get_elem?}
 use Rattle.pool.specs.Totals.{sum_below, sum_list, together}
@@ -12,9 +12,7 @@ use Rattle.pool.specs.declared.laws.Outcome.TheVariants.{Whole, Over}
 
 -- what the hand at this place begins with: the meaning at this place, and past the last one the unit
 abbrev pub begun : {M : Type 0} → M → List M → ℕ → M
-begun unit [] i = unit
-begun unit (m ∷ ms) zero = m
-begun unit (m ∷ ms) (suc i) = begun unit ms i
+begun unit ms i = slice_index_or ms i unit
 
 -- All hands of a new deal, with as many shares and parts. The parts are those of a work, and have room for the loads of all pieces, and so has each share.
 pub record AreReady {M S P : Type 0} (fits : M → Type 0) (unit : M) (combined : M → M → M) (piece : ℕ → M) (load : M → ℕ) (sum : S → ℕ) (meaning : P → M) (hs : List Holding) (ss : List S) (ps : List P) : Type 0 where
