@@ -48,24 +48,22 @@ module _ {M S P : Type 0} {fits : M → Type 0} {unit : M} {combined : M → M �
     pub fanned_room : load (together unit combined (map meaning qs)) < 2 ^ 63
     fanned_room = came_room laws sum meaning hs ss ps ready ks ts qs did at_most_once
 
-    -- what was answered of all parts, combined, where those that the hands began with come to this
-    pub fanned_decided : (first : M) → together unit combined (map meaning ps) ≡ first → (limit : ℕ) (outcome : Outcome P)
+    -- what was answered of all parts, combined
+    pub fanned_decided : (limit : ℕ) (outcome : Outcome P)
         → Decides meaning (together unit combined (map meaning qs)) (weight (together unit combined (map meaning qs))) limit outcome
         → AllSpent ks ⊎ (limit < weight (together unit combined (map meaning qs)))
-        → Decides meaning (combined first (total unit combined piece (pieces_of hs))) (weight first + sum_below (λ j. weight (piece j)) (pieces_of hs)) limit outcome
-    fanned_decided first is limit (Whole p) told spent =
+        → Decides meaning (combined (together unit combined (map meaning ps)) (total unit combined piece (pieces_of hs))) (weight (together unit combined (map meaning ps)) + sum_below (λ j. weight (piece j)) (pieces_of hs)) limit outcome
+    fanned_decided limit (Whole p) told spent =
         let each : (x : ℕ) → times x (joined ks) ≡ once_below x (pieces_of hs) = λ x. (apart x).1 (all_spent limit spent told.1) ∙ dealt x in
         let whole = came_whole laws sum meaning hs ss ps ready ks ts qs did each in
         let begin = together_fits laws (map meaning ps) (each_of fits meaning ps ready.fit) in
         let count = ap weight whole ∙ laws.weight_adds _ _ begin (total_fits laws (pieces_of hs)) in
         let of_all = total_weight laws (pieces_of hs) in
-        let of_first = ap weight is in
         let few = told.1 in
-        (told.0 ∙ whole ∙ ap (λ m. combined m (total unit combined piece (pieces_of hs))) is, omega (arith, count, of_all, of_first, few))
-    fanned_decided first is limit Over told spent =
+        (told.0 ∙ whole, omega (arith, count, of_all, few))
+    fanned_decided limit Over told spent =
         let within = came_within laws sum meaning hs ss ps ready ks ts qs did at_most_once in
-        let of_first = ap weight is in
-        omega (arith, within, of_first, told)
+        omega (arith, within, told)
 
     module _ (ls : List Holding) (same : ls ≡ ks) where
       pub fanned_once : (x : ℕ) → times x (joined ls) ≤ once_below x (pieces_of hs)
@@ -76,15 +74,14 @@ module _ {M S P : Type 0} {fits : M → Type 0} {unit : M} {combined : M → M �
       fanned_settled limit (Whole p) told spent = subst AllSpent (sym same) (all_spent limit spent told.1)
       fanned_settled limit Over told spent = tt
 
-  pub fanned_above : (ls : List Holding) → ls ≡ ks → (first : M) → together unit combined (map meaning ps) ≡ first → (limit : ℕ) (outcome : Outcome P)
+  pub fanned_above : (ls : List Holding) → ls ≡ ks → (limit : ℕ) (outcome : Outcome P)
       → Decides meaning (together unit combined (map meaning qs)) (weight (together unit combined (map meaning qs))) limit outcome
-      → IsAbove (weight first + sum_list (λ j. weight (piece j)) (joined ls)) limit outcome
-  fanned_above ls same first is limit (Whole p) told = tt
-  fanned_above ls same first is limit Over told =
+      → IsAbove (weight (together unit combined (map meaning ps)) + sum_list (λ j. weight (piece j)) (joined ls)) limit outcome
+  fanned_above ls same limit (Whole p) told = tt
+  fanned_above ls same limit Over told =
       let all = came_weight laws sum meaning hs ss ps ready ks ts qs did in
-      let of_first = ap weight is in
       let joined_are = ap (λ l. sum_list (λ j. weight (piece j)) (joined l)) same in
-      omega (arith, all, of_first, joined_are, told)
+      omega (arith, all, joined_are, told)
 
 -- a part made before that means what the unit means is as none
 module _ {M P : Type 0} {fits : M → Type 0} {unit : M} {combined : M → M → M} {piece : ℕ → M} {weight load : M → ℕ} (laws : Lawful fits unit combined piece weight load) (meaning : P → M) (first : M) (is : first ≡ unit) where

@@ -193,16 +193,7 @@ lone_total f (u ∷ []) (suc j) v n e = absurd (some-ne-none v (sym e))
 lone_total f (u ∷ w ∷ ws) port v n e = absurd (omega arith)
 
 pub fills : (port : ℕ) (v : View) (x : ℕ) → v.filling ≡ true → v.ends ≡ 0 → v.closed ≡ false → Seated v.known → Pushes Dealt port v (Number x ∷ []) (λ w. w ≡ view_of v.filling v.owner v.ends v.made (v.numbers ++ pieces (Number x ∷ [])) v.known v.closed)
-fills port v x may none opened seated items views h at =
-    let numbers = h.0 in
-    let schedule = h.1 in
-    let left = h.2 in
-    let lists = h.3 in
-    let seat = h.4 in
-    let boss = h.5 in
-    let made = h.6 in
-    let ends = h.7 in
-    let facts = h.8 in
+fills port v x may none opened seated items views (numbers, schedule, left, lists, seat, boss, made, ends, facts) at =
     let mine = facts.each port v at in
     let lone = mine.alone may in
     let w : View = view_of v.filling v.owner v.ends v.made (v.numbers ++ x ∷ []) v.known v.closed in
@@ -236,16 +227,7 @@ fills port v x may none opened seated items views h at =
     )
 
 pub marks : (port : ℕ) (v : View) → Pushes Dealt port v (End ∷ []) (λ w. w ≡ view_of v.filling v.owner (v.ends + 1) v.made v.numbers v.known v.closed)
-marks port v items views h at =
-    let numbers = h.0 in
-    let schedule = h.1 in
-    let left = h.2 in
-    let lists = h.3 in
-    let seat = h.4 in
-    let boss = h.5 in
-    let made = h.6 in
-    let ends = h.7 in
-    let facts = h.8 in
+marks port v items views (numbers, schedule, left, lists, seat, boss, made, ends, facts) at =
     let mine = facts.each port v at in
     let w : View = view_of v.filling v.owner (v.ends + 1) v.made v.numbers v.known v.closed in
     let len : length (set views port w) ≡ length views = length-set views port w in (
@@ -389,12 +371,12 @@ module _ (port : ℕ) (v : View) (hand : ℕ) (list : List ℕ) (is : v.known �
 pub takes : (port : ℕ) (v : View) (hand : ℕ) (list : List ℕ) → v.known ≡ (hand, list) ∷ [] → v.filling ≡ false → 0 < v.ends
     → Takes Dealt port v 1 (TakenFrom v)
 takes port v hand list is not_filling owed [] items views a b h at = absurd (omega arith)
-takes port v hand list is not_filling owed (t ∷ []) items views a b h at = takes_task port v hand list is not_filling owed items views h.0 h.1 h.3 h.4 h.5 h.6 at t h.2 h.7 h.8
+takes port v hand list is not_filling owed (t ∷ []) items views a b (numbers, schedule, left, lists, seat, boss, made, ends, facts) at = takes_task port v hand list is not_filling owed items views numbers schedule lists seat boss made at t left ends facts
 takes port v hand list is not_filling owed (x ∷ y ∷ ys) items views a b h at = absurd (omega arith)
 
 -- who finds no task is owed no mark
 pub finds : (port : ℕ) (v : View) → Finds Dealt port v (v.ends ≡ 0)
-finds port v views h at = let k = h.8 in let a = no_tasks h.2 h.7 k.lie in let b = total_at (λ u. u.ends) views port v at in let c = k.owed in omega arith
+finds port v views (numbers, schedule, left, lists, seat, boss, made, ends, facts) at = let a = no_tasks left ends facts.lie in let b = total_at (λ u. u.ends) views port v at in let c = facts.owed in omega arith
 
 pub finds_few : (port : ℕ) (v : View) → FindsFew Dealt 0 port v (v.ends ≡ 0)
 finds_few port v [] views a h at = finds port v views h at
@@ -432,20 +414,11 @@ module _ (items : List Task) (views : List View) (numbers schedule left : List �
       }
 
 pub seals : (port : ℕ) (v : View) → Forks Dealt port v (view_of false v.owner v.ends v.made v.numbers v.known v.closed) blank
-seals port v items views h at = (h.0, h.1, h.2, h.3, h.4, h.5, h.6, h.7, seals_dealt items views h.0 h.1 h.2 h.3 h.4 h.5 h.6 h.7 port v at h.8)
+seals port v items views (numbers, schedule, left, lists, seat, boss, made, ends, facts) at = (numbers, schedule, left, lists, seat, boss, made, ends, seals_dealt items views numbers schedule left lists seat boss made ends port v at facts)
 
 pub seats : (port : ℕ) (v : View) → v.owner ≡ true → v.filling ≡ false → Seated v.known → 1 < v.ends
     → Forks Dealt port v (view_of v.filling v.owner (v.ends - 1) (v.made + 1) v.numbers v.known v.closed) (view_of false false 1 0 v.numbers ((v.made, []) ∷ []) false)
-seats port v owns sealed seated more items views h at =
-    let numbers = h.0 in
-    let schedule = h.1 in
-    let left = h.2 in
-    let lists = h.3 in
-    let seat = h.4 in
-    let boss = h.5 in
-    let made = h.6 in
-    let ends = h.7 in
-    let facts = h.8 in
+seats port v owns sealed seated more items views (numbers, schedule, left, lists, seat, boss, made, ends, facts) at =
     let mine = facts.each port v at in
     let is_made : v.made ≡ made = (mine.owns owns).1 in
     let l : View = view_of v.filling v.owner (v.ends - 1) (v.made + 1) v.numbers v.known v.closed in
@@ -510,16 +483,7 @@ theirs_move seat lists made from to (p ∷ ps) t = let yes : (seat p.0 == from) 
 -- a hand's seat joins the owner's, behind the owner's own. Where one of both knows that no number is left, so may the owner
 pub lends : (closed : Bool) (port : ℕ) (v : View) (other : ℕ) (w : View) (p : ℕ × List ℕ) (more : List (ℕ × List ℕ)) → v.known ≡ p ∷ more → v.filling ≡ false → w.owner ≡ false → (closed ≡ true → (v.closed ≡ true) ⊎ (w.closed ≡ true)) → (closed ≡ false → v.closed ≡ false)
     → Merges Dealt port v other w (lent_view closed v w) blank
-lends closed port v other w p more is sealed guest shut unshut items views h at two at' =
-    let numbers = h.0 in
-    let schedule = h.1 in
-    let left = h.2 in
-    let lists = h.3 in
-    let seat = h.4 in
-    let boss = h.5 in
-    let made = h.6 in
-    let ends = h.7 in
-    let facts = h.8 in
+lends closed port v other w p more is sealed guest shut unshut items views (numbers, schedule, left, lists, seat, boss, made, ends, facts) at two at' =
     let both : View = lent_view closed v w in
     let vs : List View = set views port both in
     let was : get_elem? views other ≡ some w = ⊎_elim (λ (x : (other ≡ port) × (both ≡ w)). absurd (two x.0)) (λ (x : (other ≢ port) × (get_elem? views other ≡ some w)). x.1) (at_set views port other both w at') in
@@ -581,16 +545,7 @@ elsewhere seat lists made hand j (p ∷ ps) n t = ((λ (e : p.0 ≡ hand). n (ap
 -- the owner of a deque gives a hand its seat again, which it knew beside others
 pub gives_back : (n port : ℕ) (v : View) (p q : ℕ × List ℕ) (more : List (ℕ × List ℕ)) → v.known ≡ p ∷ q ∷ more → (p.0 ≡ q.0 → ⊥) → Apart q.0 more → v.filling ≡ false → n ≤ v.ends
     → Forks Dealt port v (giving_view n v) (given_view n v)
-gives_back n port v p q more is apart others sealed enough items views h at =
-    let numbers = h.0 in
-    let schedule = h.1 in
-    let left = h.2 in
-    let lists = h.3 in
-    let seat = h.4 in
-    let boss = h.5 in
-    let made = h.6 in
-    let ends = h.7 in
-    let facts = h.8 in
+gives_back n port v p q more is apart others sealed enough items views (numbers, schedule, left, lists, seat, boss, made, ends, facts) at =
     let mine = facts.each port v at in
     let t : Theirs seat lists made port (p ∷ q ∷ more) = subst (Theirs seat lists made port) is mine.theirs in
     let l : View = giving_view n v in
@@ -651,14 +606,12 @@ sum_up x lists k (p ∷ ps) up has =
 
 -- the owner of a deque that knows every hand's list: together they have no number more often than it was dealt, and each as often where none is left
 pub learns_within : (port : ℕ) (v : View) → v.owner ≡ true → Seated v.known → Up 0 v.known → v.made ≡ length v.known → Learns Dealt port v (λ items. (x : ℕ) → UpTo (v.closed ≡ true) (held x v.known) (times x v.numbers))
-learns_within port v owns seated up count items views h at x =
-    let lists = h.3 in
-    let facts = h.8 in
+learns_within port v owns seated up count items views (numbers, schedule, left, lists, seat, boss, made, ends, facts) at x =
     let mine = facts.each port v at in
     let a = facts.account x in
-    let b = sum_up x lists 0 v.known up (had h.4 lists h.6 port v.known mine.theirs) in
+    let b = sum_up x lists 0 v.known up (had seat lists made port v.known mine.theirs) in
     let c = ap (times x) (mine.same seated) in
-    let n : 0 + length v.known ≡ h.6 = omega (arith, count, (mine.owns owns).1) in
+    let n : 0 + length v.known ≡ made = omega (arith, count, (mine.owns owns).1) in
     let e = ap (sum_below (λ h. times x (lists h))) n in
     (omega (arith, a, b, c, e), λ shut. let d = ap (times x) (mine.ended shut) in omega (arith, a, b, c, d, e))
 

@@ -203,6 +203,18 @@ fn parts_from<W: Work>(
     Ok(parts)
 }
 
+/// The hands of a new deal of the pieces below a number.
+fn new_hands(alloc: Global, pieces: u32, hands: usize) -> Result<Vec<Hand>, AllocError>
+    requires pieces { pieces ≤ 1048576 }
+    requires hands { (1 ≤ hands) × (hands ≤ 64) }
+    ensures deal { IfOk result (λ hs. IsNewDeal (pieces_of hs.items) (vec_len hs) hs.items) }
+    ensures count { IfOk result (λ hs. vec_len hs ≡ hands) }
+    ensures pieces { IfOk result (λ hs. pieces_of hs.items ≡ pieces) }
+{
+    let deal = Deal::new(alloc, pieces, hands)?;
+    Ok(deal.into_hands())
+}
+
 /// The hands of a deal have no piece twice, and where all are spent, they have each piece.
 fn keep_apart(hands: &mut Vec<Hand>)
     requires { AreAll hands.old.items }
@@ -260,6 +272,34 @@ fn conclude<W: Work, L: Ledger>(
     Ok((Outcome::Whole(part), hands, shares))
 }
 
+/// The hands of a new deal work, as `work_through` says, and what comes of it is decided: the parts that they begin with
+/// and all pieces, combined, or `Over`. The hands and shares come back in their order.
+fn fan_ready<W: Work + Sync, L: Ledger + Send + Sync, R: Threads + Wait + Sync>(
+    crew: Crew<'_, W, L, R>,
+    limit: u64,
+    ready: Gathered<W::Part, L>,
+) -> Result<(Outcome<W::Part>, Vec<Hand>, Vec<Share<L>>), PoolFault>
+    requires ready { AreReady (W.fits crew.work.now) (W.unit_meaning crew.work.now) (W.combined crew.work.now) (W.piece_meaning crew.work.now) (W.load_of crew.work.now) (λ s. s.sum) W.meaning ready.hands.items ready.shares.items ready.parts.items }
+    ensures decided { IfOk result (λ r. Decides W.meaning (W.combined crew.entry.work.now (together (W.unit_meaning crew.entry.work.now) (W.combined crew.entry.work.now) (map W.meaning ready.parts.items)) (total (W.unit_meaning crew.entry.work.now) (W.combined crew.entry.work.now) (W.piece_meaning crew.entry.work.now) (pieces_of ready.hands.items))) (W.weight_of crew.entry.work.now (together (W.unit_meaning crew.entry.work.now) (W.combined crew.entry.work.now) (map W.meaning ready.parts.items)) + sum_below (λ i. W.weight_of crew.entry.work.now (W.piece_meaning crew.entry.work.now i)) (pieces_of ready.hands.items)) limit r.0) }
+    ensures deal { IfOk result (λ r. AreAll r.1.items × (pieces_of r.1.items ≡ pieces_of ready.hands.items)) }
+    ensures back { IfOk result (λ r. CameBack (λ i. W.weight_of crew.entry.work.now (W.piece_meaning crew.entry.work.now i)) (λ s. s.sum) ready.hands.items ready.shares.items r.1.items r.2.items) }
+    ensures once { IfOk result (λ r. (x : ℕ) → times x (joined r.1.items) ≤ once_below x (pieces_of ready.hands.items)) }
+    ensures settled { IfOk result (λ r. Settles r.0 r.1.items) }
+    ensures over { IfOk result (λ r. IsAbove (W.weight_of crew.entry.work.now (together (W.unit_meaning crew.entry.work.now) (W.combined crew.entry.work.now) (map W.meaning ready.parts.items)) + sum_list (λ i. W.weight_of crew.entry.work.now (W.piece_meaning crew.entry.work.now i)) (joined r.1.items)) limit r.0) }
+    ensures alone { (vec_len ready.hands ≡ 1) ⊎ (pieces_of ready.hands.items ≡ 0) → IfErr result (λ e. e ≡ PoolFault.OutOfMemory) }
+{
+    let work = crew.work;
+    let mut finished = match work_through(crew, limit, ready) {
+        Ok(finished) => finished,
+        Err(fault) => return Err(fault),
+    };
+    keep_apart(&mut finished.hands);
+    let Ok(concluded) = conclude(work, limit, finished) else {
+        return Err(PoolFault::OutOfMemory);
+    };
+    Ok(concluded)
+}
+
 /// Does all pieces of a new deal: hand 0 on the calling thread, each other hand on a thread of its own. With one hand,
 /// or no piece, no thread is started.
 ///
@@ -302,6 +342,9 @@ pub fn fan_on<W: Work + Sync, L: Ledger + Send + Sync, R: Threads + Wait + Sync>
     let Ok(first) = work.unit() else {
         return Err(PoolFault::OutOfMemory);
     };
+    let Ok(parts) = parts_from(alloc, work, first, hands.len()) else {
+        return Err(PoolFault::OutOfMemory);
+    };
     let crew = Crew {
         rt,
         alloc,
@@ -309,49 +352,12 @@ pub fn fan_on<W: Work + Sync, L: Ledger + Send + Sync, R: Threads + Wait + Sync>
         book,
         stop,
     };
-    fan_onto(crew, first, hands, limit, shares)
-}
-
-/// As `fan_on`, but the first hand begins with a part that was made before, and what is answered is that part and all
-/// pieces, combined.
-fn fan_onto<W: Work + Sync, L: Ledger + Send + Sync, R: Threads + Wait + Sync>(
-    crew: Crew<'_, W, L, R>,
-    first: W::Part,
-    hands: Vec<Hand>,
-    limit: u64,
-    shares: Vec<Share<L>>,
-) -> Result<(Outcome<W::Part>, Vec<Hand>, Vec<Share<L>>), PoolFault>
-    requires first { W.fits crew.work.now (W.meaning first) }
-    requires deal { IsNewDeal (pieces_of hands.items) (vec_len hands) hands.items }
-    requires count { vec_len shares ≡ vec_len hands }
-    requires loads { W.load_of crew.work.now (W.meaning first) + sum_below (λ i. W.load_of crew.work.now (W.piece_meaning crew.work.now i)) (pieces_of hands.items) < 2 ^ 63 }
-    requires room { (i : ℕ) (s : _) → get_elem? shares.items i ≡ some s → sum_below (λ i. W.load_of crew.work.now (W.piece_meaning crew.work.now i)) (pieces_of hands.items) + s.sum < 2 ^ 63 }
-    ensures decided { IfOk result (λ r. Decides W.meaning (W.combined crew.entry.work.now (W.meaning first) (total (W.unit_meaning crew.entry.work.now) (W.combined crew.entry.work.now) (W.piece_meaning crew.entry.work.now) (pieces_of hands.items))) (W.weight_of crew.entry.work.now (W.meaning first) + sum_below (λ i. W.weight_of crew.entry.work.now (W.piece_meaning crew.entry.work.now i)) (pieces_of hands.items)) limit r.0) }
-    ensures deal { IfOk result (λ r. AreAll r.1.items × (pieces_of r.1.items ≡ pieces_of hands.items)) }
-    ensures back { IfOk result (λ r. CameBack (λ i. W.weight_of crew.entry.work.now (W.piece_meaning crew.entry.work.now i)) (λ s. s.sum) hands.items shares.items r.1.items r.2.items) }
-    ensures once { IfOk result (λ r. (x : ℕ) → times x (joined r.1.items) ≤ once_below x (pieces_of hands.items)) }
-    ensures settled { IfOk result (λ r. Settles r.0 r.1.items) }
-    ensures over { IfOk result (λ r. IsAbove (W.weight_of crew.entry.work.now (W.meaning first) + sum_list (λ i. W.weight_of crew.entry.work.now (W.piece_meaning crew.entry.work.now i)) (joined r.1.items)) limit r.0) }
-    ensures alone { (vec_len hands ≡ 1) ⊎ (pieces_of hands.items ≡ 0) → IfErr result (λ e. e ≡ PoolFault.OutOfMemory) }
-{
-    let work = crew.work;
-    let Ok(parts) = parts_from(crew.alloc, work, first, hands.len()) else {
-        return Err(PoolFault::OutOfMemory);
-    };
     let ready = Gathered {
         hands,
         shares,
         parts,
     };
-    let mut finished = match work_through(crew, limit, ready) {
-        Ok(finished) => finished,
-        Err(fault) => return Err(fault),
-    };
-    keep_apart(&mut finished.hands);
-    let Ok(concluded) = conclude(work, limit, finished) else {
-        return Err(PoolFault::OutOfMemory);
-    };
-    Ok(concluded)
+    fan_ready(crew, limit, ready)
 }
 
 /// Does the pieces below a number, at most 1,048,576, onto a part that was made before, by the hands of a new deal, as many
@@ -398,7 +404,10 @@ pub fn fan_deal_onto<W: Work + Sync, L: Ledger + Send + Sync, R: Threads + Wait 
         → All (λ s. s.sum ≤ most + sum_below (λ i. W.weight_of work.now (W.piece_meaning work.now i)) pieces) r.1.items) }
     ensures alone { (vec_len shares ≡ 1) ⊎ (pieces ≡ 0) → IfErr result (λ e. e ≡ PoolFault.OutOfMemory) }
 {
-    let Ok(deal) = Deal::new(alloc, pieces, shares.len()) else {
+    let Ok(hands) = new_hands(alloc, pieces, shares.len()) else {
+        return Err(PoolFault::OutOfMemory);
+    };
+    let Ok(parts) = parts_from(alloc, work, part, hands.len()) else {
         return Err(PoolFault::OutOfMemory);
     };
     let crew = Crew {
@@ -408,7 +417,12 @@ pub fn fan_deal_onto<W: Work + Sync, L: Ledger + Send + Sync, R: Threads + Wait 
         book,
         stop,
     };
-    match fan_onto(crew, part, deal.into_hands(), limit, shares) {
+    let ready = Gathered {
+        hands,
+        shares,
+        parts,
+    };
+    match fan_ready(crew, limit, ready) {
         Ok((outcome, _, shares)) => Ok((outcome, shares)),
         Err(fault) => Err(fault),
     }
