@@ -4,8 +4,7 @@ ghost use Rattle.query_plan.specs.Planned.{fields_of_plan, form_of_plan};
 ghost use Rattle.groups.specs.Found.{row_of};
 ghost use Rattle.groups.specs.Fitting.{AreFitting};
 ghost use Rattle.rows.specs.Planned.{HasSetUnder};
-ghost use Rattle.rows.specs.Order.{arranged};
-ghost use Rattle.rows.specs.Order.{rows_shown};
+ghost use Rattle.rows.specs.Order.{arranged, rows_shown};
 ghost use Rattle.rows.specs.Shown.{cells_of, row_shown};
 
 use crate::cells::expression_cell;
