@@ -8,15 +8,10 @@ use Rattle.lines.specs.declared.fault.LineFault.{LineFault}
 use Rattle.lines.specs.Input.{good, refused}
 use Rattle.lines.specs.Lines.{lines}
 use Rattle.query_tree.specs.Syntax.{TreeForm}
-use Rattle.tables.specs.Functions.{aggregate_functions}
-use Rattle.query_resolution.specs.Sets.{grouping_places}
 use Rattle.query_truth.specs.Kept.{kept}
 use Rattle.groups.specs.Bags.{SameBag}
 use Rattle.groups.specs.Rows.{Row}
-use Rattle.groups.specs.Inside.Table.{Contents, IsTableOf}
-use Rattle.tables.specs.declared.folding.Folding.{Folding}
 use Rattle.tables.specs.declared.note.Note.{Note}
-use Rattle.tables.specs.Folding.{HasRead}
 use Rattle.tables.specs.Notes.{IsWellNumbered, Noted, lines_noted, note_in, note_of}
 use Rattle.tables.specs.Pieces.{IndexedPiece, all_lines, records_of, refused_within}
 use Rattle.tables.proofs.Merging.{counted-append, lines-append, notes-append, one-note, records-append, refused-append}
@@ -41,17 +36,6 @@ few-kept fields q pieces lines e few =
     let kept = length-kept fields q (records_of fields pieces) in
     let records = few-records fields pieces in
     omega (arith, kept, records, e, few)
-
--- behind the pieces no line has been read
-pub begun : (fields : List Field) (q : TreeForm) (pieces : List IndexedPiece) (table : Contents) (folding : Folding)
-    → IsTableOf (grouping_places fields q) (aggregate_functions fields q) table (kept fields q (records_of fields pieces))
-    → folding.table ≡ table → folding.lines ≡ 0 → folding.refused.items ≡ [] → HasRead fields q (records_of fields pieces) folding []
-begun fields q pieces table folding held same none nothing = record {
-  table = subst (λ (t : Contents). IsTableOf (grouping_places fields q) (aggregate_functions fields q) t (kept fields q (records_of fields pieces ++ []))) (sym same)
-      (subst (λ (rows : List Row). IsTableOf (grouping_places fields q) (aggregate_functions fields q) table (kept fields q rows)) (sym (append-nil (records_of fields pieces))) held);
-  lines = none;
-  refused = nothing;
-}
 
 -- ---- the piece behind the others
 

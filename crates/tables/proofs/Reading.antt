@@ -131,6 +131,17 @@ pub refused-numbers : (fields : List Field) (ls : List (List ℕ)) → All (λ l
 refused-numbers fields ls = All-from_recursion (λ line. line.0 ≤ length ls) (refused_of fields ls)
     (at-most (length ls) (refused_of fields ls) (numbers-below (length ls + 1) 1 (map (taken fields) ls) (let long = length-map ls (taken fields) in omega (arith, long))))
 
+-- behind these records no line has been read
+pub nothing-read : (fields : List Field) (q : TreeForm) (before : List Row) (table : Contents) (folding : Folding)
+    → IsTableOf (grouping_places fields q) (aggregate_functions fields q) table (kept fields q before)
+    → folding.table ≡ table → folding.lines ≡ 0 → folding.refused.items ≡ [] → HasRead fields q before folding []
+nothing-read fields q before table folding held same none nothing = record {
+  table = subst (λ (t : Contents). IsTableOf (grouping_places fields q) (aggregate_functions fields q) t (kept fields q (before ++ []))) (sym same)
+      (subst (λ (rows : List Row). IsTableOf (grouping_places fields q) (aggregate_functions fields q) table (kept fields q rows)) (sym (append-nil before)) held);
+  lines = none;
+  refused = nothing;
+}
+
 -- some lines have been read, and with those that are left they are all
 pub record HasReadSome (fields : List Field) (q : TreeForm) (before : List Row) (folding : Folding) (left all : List (List ℕ)) : Type 0 where
   pub seen : List (List ℕ)

@@ -37,6 +37,12 @@ pub record ReadsMore (fields : List Field) (q : TreeForm) (folding : Folding) (m
   pub has_read : HasRead fields q before folding seen
   pub few : length before + length seen + more < 2 ^ 63
 
+-- the table is that of some records, and with so many more there are fewer than 2^63
+pub record HasRoom (fields : List Field) (q : TreeForm) (table : Contents) (more : ℕ) : Type 0 where
+  pub before : List Row
+  pub is_table : IsTableOf (grouping_places fields q) (aggregate_functions fields q) table (kept fields q before)
+  pub few : length before + more < 2 ^ 63
+
 -- ---- under a plan
 
 -- the table is that of the records that WHERE keeps of these, under all grouping columns
@@ -51,6 +57,9 @@ HasReadUnder plan before folding ls = HasRead (fields_of_plan plan) (form_of_pla
 -- so many lines more can be read
 abbrev pub ReadsMoreUnder : Plan → Folding → ℕ → Type 0
 ReadsMoreUnder plan folding more = ∥ ReadsMore (fields_of_plan plan) (form_of_plan plan) folding more ∥₁
+
+abbrev pub HasRoomUnder : Plan → Contents → ℕ → Type 0
+HasRoomUnder plan table more = ∥ HasRoom (fields_of_plan plan) (form_of_plan plan) table more ∥₁
 
 -- the table is that of some records, fewer than 2^63 with one more
 abbrev pub TakesRecordUnder : Plan → Folding → Type 0

@@ -1,8 +1,9 @@
 //! Reading the lines of a piece.
-ghost use Rattle.std.specs.Prelude.{◌≡◌, ◌++◌, ℕ, List, IfOk, length};
+ghost use Rattle.std.specs.Prelude.{◌≡◌, ◌≤◌, [], All, List, IfOk, length};
 ghost use Rattle.lines.specs.Lines.{lines};
 ghost use Rattle.groups.specs.Rows.{Row};
-ghost use Rattle.tables.specs.Folding.{HasReadUnder, ReadsMoreUnder};
+ghost use Rattle.query_plan.specs.Planned.{fields_of_plan};
+ghost use Rattle.tables.specs.Folding.{HasReadUnder, HasRoomUnder, IsTableUnder, refused_of};
 
 use crate::joining::Joiner;
 use groups::Table;
@@ -25,26 +26,14 @@ pub(crate) struct Folding {
 }
 
 impl Folding {
-    ghost use Rattle.std.specs.Prelude.{◌≡◌, [], ◌∷◌, ◌++◌, ℕ, List, OnOk, IfOk};
+    ghost use Rattle.std.specs.Prelude.{◌≡◌, [], ◌∷◌, ◌++◌, ℕ, List, OnOk};
     ghost use Rattle.values.specs.Fit.{Fits};
     ghost use Rattle.query_plan.specs.Planned.{fields_of_plan};
     ghost use Rattle.groups.specs.Rows.{Row};
     ghost use Rattle.tables.specs.Folding.{HasReadUnder, IsTableUnder, ReadsMoreUnder, TakesRecordUnder};
 
-    /// No line has been read; the joiner will put the table to others.
-    pub(crate) fn new<J: Joiner>(
-        alloc: Global,
-        plan: &Plan,
-        joiner: &J,
-    ) -> Result<Folding, AllocError>
-        ensures { IfOk result (λ folding. HasReadUnder plan.now [] folding []) }
-    {
-        let table = joiner.empty_table(alloc, plan.grouping(), plan.set_functions())?;
-        Ok(Folding::onto(alloc, table))
-    }
-
     /// No line has been read behind the records that a table has.
-    pub(crate) fn onto(alloc: Global, table: Table) -> Folding
+    fn onto(alloc: Global, table: Table) -> Folding
         ensures table { result.table ≡ table }
         ensures lines { result.lines ≡ 0 }
         ensures refused { result.refused.items ≡ [] }
@@ -58,7 +47,7 @@ impl Folding {
     }
 
     /// Reads one more line. After an error what has been read is of no use.
-    pub(crate) fn read(
+    fn read(
         &mut self,
         reader: &mut RecordReader,
         plan: &Plan,
@@ -102,18 +91,31 @@ impl Folding {
     }
 }
 
-/// Reads the lines of a piece behind earlier pieces. After an error what has been read is of no use.
-pub(crate) fn read_lines(
+/// The table of no records of a plan, which the joiner will put to others.
+pub(crate) fn empty_table<J: Joiner>(
     alloc: Global,
     plan: &Plan,
-    folding: Folding,
+    joiner: &J,
+) -> Result<Table, AllocError>
+    ensures { IfOk result (λ table. IsTableUnder plan.now table []) }
+{
+    joiner.empty_table(alloc, plan.grouping(), plan.set_functions())
+}
+
+/// Reads the lines of a piece behind the records that a table has.
+pub(crate) fn read_onto(
+    alloc: Global,
+    plan: &Plan,
+    table: Table,
     piece: &[u8],
 ) -> Result<Folding, AllocError>
-    requires { ReadsMoreUnder plan.now folding (length (lines piece.now)) }
-    ensures { IfOk result (λ done. (before : List Row) (seen : List (List ℕ)) → HasReadUnder plan.now before folding seen
-        → HasReadUnder plan.now before done (seen ++ lines piece.now)) }
+    requires { HasRoomUnder plan.now table (length (lines piece.now)) }
+    ensures read { IfOk result (λ folding. (before : List Row) → IsTableUnder plan.now table before → HasReadUnder plan.now before folding (lines piece.now)) }
+    ensures lines { IfOk result (λ folding. folding.lines ≡ length (lines piece.now)) }
+    ensures refused { IfOk result (λ folding. length folding.refused.items ≡ length (refused_of (fields_of_plan plan.now) (lines piece.now))) }
+    ensures numbered { IfOk result (λ folding. All (λ line. line.0 ≤ folding.lines) folding.refused.items) }
 {
-    let mut folding = folding;
+    let mut folding = Folding::onto(alloc, table);
     let mut reader = RecordReader::new(alloc);
     for line in lines_of(piece) {
         folding.read(&mut reader, plan, line)?;

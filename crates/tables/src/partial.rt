@@ -5,7 +5,7 @@ ghost use Rattle.std.proofs.Props.{props};
 ghost use Rattle.tables.specs.Notes.{IsWellNumbered, lines_noted, notes_in};
 ghost use Rattle.groups.specs.Inside.Table.{AreGroupsWithin};
 
-use crate::folding::{Folding, read_lines};
+use crate::folding::{Folding, empty_table, read_onto};
 use crate::grouped::Groups;
 use crate::joining::{CallingThread, Joiner};
 use crate::laws::members_law;
@@ -116,11 +116,11 @@ impl Partial {
         ensures stands { IfOk result (λ partial. StandsForUnder plan.now partial []) }
     {
         let shape = Shape::of(alloc, plan)?;
-        let folding = Folding::new(alloc, plan, joiner)?;
+        let table = empty_table(alloc, plan, joiner)?;
         Ok(Partial {
             alloc,
             shape,
-            table: folding.table,
+            table,
             lines: 0,
             refused: 0,
             notes: Vec::new(alloc),
@@ -147,13 +147,13 @@ impl Partial {
             StandsForUnder plan.now partial (record { index = index; bytes = piece.now } ∷ [])) }
     {
         let shape = Shape::of(alloc, plan)?;
-        let folding = Folding::new(alloc, plan, &CallingThread)?;
+        let empty = empty_table(alloc, plan, &CallingThread)?;
         let Folding {
             table,
             lines,
             refused,
             ..
-        } = read_lines(alloc, plan, folding, piece)?;
+        } = read_onto(alloc, plan, empty, piece)?;
         let count = refused.len() as u64;
         let notes = one_note(
             alloc,
@@ -199,8 +199,7 @@ impl Partial {
             refused,
             mut notes,
         } = self;
-        let folding = Folding::onto(alloc, table);
-        let folding = read_lines(alloc, plan, folding, piece)?;
+        let folding = read_onto(alloc, plan, table, piece)?;
         let more = folding.refused.len() as u64;
         notes.push(Note {
             index,
@@ -419,8 +418,7 @@ impl Partial {
             notes,
         } = self;
         let mut numbered = number(alloc, notes)?;
-        let folding = Folding::onto(alloc, table);
-        let folding = read_lines(alloc, plan, folding, rest)?;
+        let folding = read_onto(alloc, plan, table, rest)?;
         put_behind(&mut numbered, before, folding.refused.as_slice())?;
         let lines = before + folding.lines;
         let notes = one_note(

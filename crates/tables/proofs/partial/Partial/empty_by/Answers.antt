@@ -15,14 +15,14 @@ invariant_of-result g c =
     let fields = fields_of_plan c.args.plan.now in
     let q = form_of_plan c.args.plan.now in
     let shape = c.in_ok-shape.shape in
-    let table = c.in_ok-folding.folding.table in
-    let none = no-notes c.new-2.result.items c.new-2.ensures.items in (
+    let table = c.in_ok-table.table in
+    let none = no-notes c.new.result.items c.new.ensures.items in (
       omega arith,
       (
         omega arith,
         (
           subst (λ (fs : List FilteredFunction). AreGroupsWithin 0 fs table) (sym c.in_ok-shape.ensures.functions)
-              (table-within (grouping_places fields q) (indexed_functions fields q) (aggregate_functions fields q) table [] 0 (as-many fields q) c.in_ok-folding.ensures.table (omega arith)),
+              (table-within (grouping_places fields q) (indexed_functions fields q) (aggregate_functions fields q) table [] 0 (as-many fields q) c.in_ok-table.ensures (omega arith)),
           (
             none.0,
             (none.1, tt),

@@ -1,4 +1,3 @@
-use native.Mathlib.Nat.{ℕ_set}
 use Rattle.std.proofs.Common.{◌≡◌, ◌+◌, ◌≤◌, ◌++◌, [], List, All, length, map, sym, ap, subst, ◌∙◌, arith}
 use Rattle.std.proofs.Math.Logic.{∥∥₁_elim, ∥∥₁_map}
 use Rattle.std.proofs.Props.{props}
@@ -12,17 +11,17 @@ use Rattle.query_plan.specs.Planned.{fields_of_plan, form_of_plan}
 use Rattle.query_resolution.specs.Functions.{indexed_functions}
 use Rattle.query_resolution.specs.Sets.{grouping_places}
 use Rattle.query_truth.specs.Kept.{kept}
-use Rattle.tables.specs.Folding.{HasRead, good_of, refused_of}
+use Rattle.tables.specs.Folding.{good_of}
 use Rattle.tables.specs.Notes.{notes_in}
 use Rattle.tables.specs.Partials.{StandsFor}
-use Rattle.tables.specs.Pieces.{IndexedPiece, records_of}
+use Rattle.tables.specs.Pieces.{records_of}
 use Rattle.tables.specs.States.{PartialState}
 use Rattle.tables.specs.Functions.{aggregate_functions}
 use Rattle.tables.proofs.Bound.{as-many}
 use Rattle.tables.proofs.Following.{count-behind, followed-note, lines-behind, lines-within, numbers-behind, records-behind, refused-behind, whole-lines}
-use Rattle.tables.proofs.Growing.{begun, few-records}
+use Rattle.tables.proofs.Growing.{few-records}
 use Rattle.tables.proofs.Merging.{one-note}
-use Rattle.tables.proofs.Reading.{length-kept_behind, length-refused_of, well-numbered}
+use Rattle.tables.proofs.Reading.{length-kept_behind, length-refused_of}
 use Rattle.tables.proofs.partial.Partial.fold_behind.Goals as goal
 
 pub number-requires-clause-few : goal.number-requires-clause-few
@@ -31,50 +30,29 @@ number-requires-clause-few c = let counted = c.self.inside.counted in let few = 
 pub number-requires-clause-numbered : goal.number-requires-clause-numbered
 number-requires-clause-numbered c = c.self.inside.numbered
 
-pub read_lines-requires : goal.read_lines-requires
-read_lines-requires c =
+pub read_onto-requires : goal.read_onto-requires
+read_onto-requires c =
     let fields = fields_of_plan c.args.plan.now in
     let q = form_of_plan c.args.plan.now in
     ∥∥₁_map c.requires.of_plan (λ s.
     let p = subst (λ (v : PartialState). StandsFor fields q v s.0) (sym c.self.view_is) s.1 in
     let few = few-records fields s.0 in
     let count = s.1.lines in
-    record {
-      before = records_of fields s.0;
-      seen = [];
-      has_read = begun fields q s.0 c.self.inside.table c.onto-folding.result p.table c.onto-folding.ensures.table c.onto-folding.ensures.lines c.onto-folding.ensures.refused;
-      few = omega (arith, few, count, c.requires.few);
-    })
+    record { before = records_of fields s.0; is_table = p.table; few = omega (arith, few, count, c.requires.few) })
 
 pub put_behind-requires : goal.put_behind-requires
 put_behind-requires c =
-    let fields = fields_of_plan c.args.plan.now in
-    let q = form_of_plan c.args.plan.now in
-    let self = c.self.inside in
     let folding = c.in_ok-folding.folding in
-    let ls = lines c.args.rest.now in
-    let same : self.lines ≡ c.args.self.lines = ap (λ (v : PartialState). v.lines) c.self.view_is in
-    let read : (s : (pieces : List IndexedPiece) × StandsFor fields q c.args.self pieces) → HasRead fields q (records_of fields s.0) folding ls = λ s.
-    let p = subst (λ (v : PartialState). StandsFor fields q v s.0) (sym c.self.view_is) s.1 in
-    c.in_ok-folding.ensures (records_of fields s.0) []
-    (begun fields q s.0 self.table c.onto-folding.result p.table c.onto-folding.ensures.table c.onto-folding.ensures.lines c.onto-folding.ensures.refused) in
-    let count : folding.lines ≡ length ls = ∥∥₁_elim c.requires.of_plan (ℕ_set _ _) (λ s. (read s).lines) in
-    let well : All (λ line. line.0 ≤ folding.lines) folding.refused.items =
-    ∥∥₁_elim c.requires.of_plan (hlevel props) (λ s. well-numbered fields folding.lines folding.refused.items ls (read s).lines (read s).refused) in
-    let here : All (λ line. line.0 ≤ folding.lines) c.as_slice.result.now = All-same (λ line. line.0 ≤ folding.lines) _ folding.refused.items c.as_slice.ensures.value well in
+    let same : c.self.inside.lines ≡ c.args.self.lines = ap (λ (v : PartialState). v.lines) c.self.view_is in
+    let read = c.in_ok-folding.ensures in
+    let count = read.lines in
+    let here : All (λ line. line.0 ≤ folding.lines) c.as_slice.result.now = All-same (λ line. line.0 ≤ folding.lines) _ folding.refused.items c.as_slice.ensures.value read.numbered in
     λ k d l. let w = here k d l in omega (arith, w, count, same, c.requires.few)
 
 pub overflow_add-lines : goal.overflow_add-lines
 overflow_add-lines c =
-    let fields = fields_of_plan c.args.plan.now in
-    let q = form_of_plan c.args.plan.now in
-    let self = c.self.inside in
-    let folding = c.in_ok-folding.folding in
-    let same : self.lines ≡ c.args.self.lines = ap (λ (v : PartialState). v.lines) c.self.view_is in
-    let count : folding.lines ≡ length (lines c.args.rest.now) = ∥∥₁_elim c.requires.of_plan (ℕ_set _ _) (λ s.
-    let p = subst (λ (v : PartialState). StandsFor fields q v s.0) (sym c.self.view_is) s.1 in
-    (c.in_ok-folding.ensures (records_of fields s.0) []
-    (begun fields q s.0 self.table c.onto-folding.result p.table c.onto-folding.ensures.table c.onto-folding.ensures.lines c.onto-folding.ensures.refused)).lines) in
+    let same : c.self.inside.lines ≡ c.args.self.lines = ap (λ (v : PartialState). v.lines) c.self.view_is in
+    let count = c.in_ok-folding.ensures.lines in
     omega (arith, count, same, c.requires.few)
 
 pub invariant_of-result : goal.invariant_of-result
@@ -85,18 +63,13 @@ invariant_of-result c =
     let folding = c.in_ok-folding.folding in
     let ls = lines c.args.rest.now in
     let same : self.lines ≡ c.args.self.lines = ap (λ (v : PartialState). v.lines) c.self.view_is in
-    let read : (s : (pieces : List IndexedPiece) × StandsFor fields q c.args.self pieces) → HasRead fields q (records_of fields s.0) folding ls = λ s.
-    let p = subst (λ (v : PartialState). StandsFor fields q v s.0) (sym c.self.view_is) s.1 in
-    c.in_ok-folding.ensures (records_of fields s.0) []
-    (begun fields q s.0 self.table c.onto-folding.result p.table c.onto-folding.ensures.table c.onto-folding.ensures.lines c.onto-folding.ensures.refused) in
-    let count : folding.lines ≡ length ls = ∥∥₁_elim c.requires.of_plan (ℕ_set _ _) (λ s. (read s).lines) in
-    let listed : length folding.refused.items ≡ length (refused_of fields ls) = ∥∥₁_elim c.requires.of_plan (ℕ_set _ _) (λ s. ap length (read s).refused) in
-    let well : All (λ line. line.0 ≤ folding.lines) folding.refused.items =
-    ∥∥₁_elim c.requires.of_plan (hlevel props) (λ s. well-numbered fields folding.lines folding.refused.items ls (read s).lines (read s).refused) in
+    let read = c.in_ok-folding.ensures in
+    let count = read.lines in
+    let listed = read.refused in
     let found = c.in_ok-numbered.numbered.items in
     let low : All (λ line. line.0 ≤ self.lines) found = subst (λ n. All (λ line. line.0 ≤ n) found) self.counted (lines-within (notes_in self.notes) found self.numbered c.in_ok-numbered.ensures) in
     let behind = c.in_ok-put_behind.ensures ∙ ap (λ ls. found ++ map (λ line. (self.lines + line.0, line.1)) ls) c.as_slice.ensures.value in
-    let within = numbers-behind self.lines folding.lines found folding.refused.items c.put_behind.new.numbered.items low well behind in
+    let within = numbers-behind self.lines folding.lines found folding.refused.items c.put_behind.new.numbered.items low read.numbered behind in
     let notes = one-note c.in_ok-notes.notes.items _ c.in_ok-notes.ensures within in (
       omega (arith, count, same, c.requires.few),
       (
@@ -105,9 +78,8 @@ invariant_of-result c =
         (
           ∥∥₁_elim c.requires.of_plan (hlevel props) (λ s.
               let p = subst (λ (v : PartialState). StandsFor fields q v s.0) (sym c.self.view_is) s.1 in
-              let r = read s in
               subst (λ (fs : List FilteredFunction). AreGroupsWithin (self.lines + folding.lines) fs folding.table) (sym p.functions)
-              (table-within (grouping_places fields q) (indexed_functions fields q) (aggregate_functions fields q) folding.table (kept fields q (records_of fields s.0 ++ good_of fields ls)) (self.lines + folding.lines) (as-many fields q) r.table
+              (table-within (grouping_places fields q) (indexed_functions fields q) (aggregate_functions fields q) folding.table (kept fields q (records_of fields s.0 ++ good_of fields ls)) (self.lines + folding.lines) (as-many fields q) (read.read (records_of fields s.0) p.table).table
               (let few = length-kept_behind fields q (records_of fields s.0) ls in let records = few-records fields s.0 in let before = p.lines in omega (arith, few, records, before, count)))),
           (
             notes.0,
@@ -127,8 +99,7 @@ returns c = record {
       let p = subst (λ (v : PartialState). StandsFor fields q v pieces) (sym c.self.view_is) given.stands in
       let folding = c.in_ok-folding.folding in
       let rest = c.args.rest.now in
-      let read = c.in_ok-folding.ensures (records_of fields pieces) []
-      (begun fields q pieces self.table c.onto-folding.result p.table c.onto-folding.ensures.table c.onto-folding.ensures.lines c.onto-folding.ensures.refused) in
+      let read = c.in_ok-folding.ensures.read (records_of fields pieces) p.table in
       let found = c.in_ok-numbered.numbered.items in
       let all = c.put_behind.new.numbered.items in
       let behind = c.in_ok-put_behind.ensures ∙ ap (λ ls. found ++ map (λ line. (self.lines + line.0, line.1)) ls) c.as_slice.ensures.value in

@@ -1,4 +1,3 @@
-use native.Mathlib.Nat.{ℕ_set}
 use Rattle.std.proofs.Common.{◌≡◌, ◌+◌, ◌++◌, ◌∷◌, [], List, length, map, sym, ap, subst, ◌∙◌, arith}
 use Rattle.std.proofs.Math.Logic.{∥∥₁_elim, ∥∥₁_map}
 use Rattle.std.proofs.Props.{props}
@@ -14,49 +13,36 @@ use Rattle.query_resolution.specs.Functions.{indexed_functions}
 use Rattle.query_resolution.specs.Sets.{grouping_places}
 use Rattle.query_truth.specs.Kept.{kept}
 use Rattle.tables.specs.declared.note.Note.{Note}
-use Rattle.tables.specs.Folding.{HasRead, good_of, refused_of}
-use Rattle.tables.specs.Notes.{IsWellNumbered, Noted, note_in, note_of}
+use Rattle.tables.specs.Folding.{good_of}
+use Rattle.tables.specs.Notes.{Noted, note_in, note_of}
 use Rattle.tables.specs.Partials.{StandsFor}
 use Rattle.tables.specs.Pieces.{IndexedPiece, records_of}
 use Rattle.tables.specs.States.{PartialState}
 use Rattle.tables.specs.Functions.{aggregate_functions}
 use Rattle.tables.proofs.Bound.{as-many}
-use Rattle.tables.proofs.Growing.{begun, few-records, lines-more, notes-more, one-noted_more, records-more, refused-more}
-use Rattle.tables.proofs.Reading.{length-kept_behind, length-refused_of, well-numbered}
+use Rattle.tables.proofs.Growing.{few-records, lines-more, notes-more, one-noted_more, records-more, refused-more}
+use Rattle.tables.proofs.Reading.{length-kept_behind, length-refused_of}
 use Rattle.tables.proofs.partial.Partial.fold_onto.Goals as goal
 
-pub read_lines-requires : goal.read_lines-requires
-read_lines-requires c =
+pub read_onto-requires : goal.read_onto-requires
+read_onto-requires c =
     let fields = fields_of_plan c.args.plan.now in
     let q = form_of_plan c.args.plan.now in
     ∥∥₁_map c.requires.of_plan (λ s.
     let p = subst (λ (v : PartialState). StandsFor fields q v s.0) (sym c.self.view_is) s.1 in
     let few = few-records fields s.0 in
     let count = s.1.lines in
-    record {
-      before = records_of fields s.0;
-      seen = [];
-      has_read = begun fields q s.0 c.self.inside.table c.onto-folding.result p.table c.onto-folding.ensures.table c.onto-folding.ensures.lines c.onto-folding.ensures.refused;
-      few = omega (arith, few, count, c.requires.few);
-    })
+    record { before = records_of fields s.0; is_table = p.table; few = omega (arith, few, count, c.requires.few) })
 
 pub overflow_add-result : goal.overflow_add-result
 overflow_add-result c =
-    let fields = fields_of_plan c.args.plan.now in
-    let q = form_of_plan c.args.plan.now in
-    let self = c.self.inside in
-    let folding = c.in_ok-folding.folding in
-    let ls = lines c.args.piece.now in
-    let same : self.lines ≡ c.args.self.lines = ap (λ (v : PartialState). v.lines) c.self.view_is in
-    let read : (s : (pieces : List IndexedPiece) × StandsFor fields q c.args.self pieces) → HasRead fields q (records_of fields s.0) folding ls = λ s.
-    let p = subst (λ (v : PartialState). StandsFor fields q v s.0) (sym c.self.view_is) s.1 in
-    c.in_ok-folding.ensures (records_of fields s.0) []
-    (begun fields q s.0 self.table c.onto-folding.result p.table c.onto-folding.ensures.table c.onto-folding.ensures.lines c.onto-folding.ensures.refused) in
-    let count : folding.lines ≡ length ls = ∥∥₁_elim c.requires.of_plan (ℕ_set _ _) (λ s. (read s).lines) in
-    let listed : length folding.refused.items ≡ length (refused_of fields ls) = ∥∥₁_elim c.requires.of_plan (ℕ_set _ _) (λ s. ap length (read s).refused) in
-    let fewer = self.fewer in
+    let same : c.self.inside.lines ≡ c.args.self.lines = ap (λ (v : PartialState). v.lines) c.self.view_is in
+    let read = c.in_ok-folding.ensures in
+    let count = read.lines in
+    let listed = read.refused in
+    let fewer = c.self.inside.fewer in
     let n = c.len-more.ensures in
-    let m = length-refused_of fields ls in
+    let m = length-refused_of (fields_of_plan c.args.plan.now) (lines c.args.piece.now) in
     omega (arith, n, listed, m, count, fewer, same, c.requires.few)
 
 pub invariant_of-result : goal.invariant_of-result
@@ -67,15 +53,11 @@ invariant_of-result c =
     let folding = c.in_ok-folding.folding in
     let ls = lines c.args.piece.now in
     let same : self.lines ≡ c.args.self.lines = ap (λ (v : PartialState). v.lines) c.self.view_is in
-    let read : (s : (pieces : List IndexedPiece) × StandsFor fields q c.args.self pieces) → HasRead fields q (records_of fields s.0) folding ls = λ s.
-    let p = subst (λ (v : PartialState). StandsFor fields q v s.0) (sym c.self.view_is) s.1 in
-    c.in_ok-folding.ensures (records_of fields s.0) []
-    (begun fields q s.0 self.table c.onto-folding.result p.table c.onto-folding.ensures.table c.onto-folding.ensures.lines c.onto-folding.ensures.refused) in
-    let count : folding.lines ≡ length ls = ∥∥₁_elim c.requires.of_plan (ℕ_set _ _) (λ s. (read s).lines) in
-    let listed : length folding.refused.items ≡ length (refused_of fields ls) = ∥∥₁_elim c.requires.of_plan (ℕ_set _ _) (λ s. ap length (read s).refused) in
+    let read = c.in_ok-folding.ensures in
+    let count = read.lines in
+    let listed = read.refused in
     let note : Note = record { index = c.args.index; lines = folding.lines; refused = folding.refused } in
-    let well : IsWellNumbered (note_in note) = ∥∥₁_elim c.requires.of_plan (hlevel props) (λ s. well-numbered fields folding.lines folding.refused.items ls (read s).lines (read s).refused) in
-    let noted = one-noted_more self.notes.items c.push.new.self.items note self.lines c.in_ok-push.ensures.items self.counted self.numbered well in (
+    let noted = one-noted_more self.notes.items c.push.new.self.items note self.lines c.in_ok-push.ensures.items self.counted self.numbered read.numbered in (
       omega (arith, count, same, c.requires.few),
       (
         (let fewer = self.fewer in let n = c.len-more.ensures in let m = length-refused_of fields ls in
@@ -83,9 +65,8 @@ invariant_of-result c =
         (
           ∥∥₁_elim c.requires.of_plan (hlevel props) (λ s.
               let p = subst (λ (v : PartialState). StandsFor fields q v s.0) (sym c.self.view_is) s.1 in
-              let r = read s in
               subst (λ (fs : List FilteredFunction). AreGroupsWithin (self.lines + folding.lines) fs folding.table) (sym p.functions)
-              (table-within (grouping_places fields q) (indexed_functions fields q) (aggregate_functions fields q) folding.table (kept fields q (records_of fields s.0 ++ good_of fields ls)) (self.lines + folding.lines) (as-many fields q) r.table
+              (table-within (grouping_places fields q) (indexed_functions fields q) (aggregate_functions fields q) folding.table (kept fields q (records_of fields s.0 ++ good_of fields ls)) (self.lines + folding.lines) (as-many fields q) (read.read (records_of fields s.0) p.table).table
               (let few = length-kept_behind fields q (records_of fields s.0) ls in let records = few-records fields s.0 in let before = p.lines in omega (arith, few, records, before, count)))),
           (
             noted.0,
@@ -103,8 +84,7 @@ returns-clause-stands c = λ pieces given.
     let p = subst (λ (v : PartialState). StandsFor fields q v pieces) (sym c.self.view_is) given in
     let folding = c.in_ok-folding.folding in
     let bytes = c.args.piece.now in
-    let read = c.in_ok-folding.ensures (records_of fields pieces) []
-    (begun fields q pieces self.table c.onto-folding.result p.table c.onto-folding.ensures.table c.onto-folding.ensures.lines c.onto-folding.ensures.refused) in
+    let read = c.in_ok-folding.ensures.read (records_of fields pieces) p.table in
     record {
       sets = p.sets;
       functions = p.functions;

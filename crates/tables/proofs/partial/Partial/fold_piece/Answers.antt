@@ -15,14 +15,13 @@ use Rattle.tables.specs.Functions.{aggregate_functions}
 use Rattle.tables.proofs.Bound.{as-many}
 use Rattle.tables.proofs.Growing.{lines-more, notes-more, records-more, refused-more}
 use Rattle.tables.proofs.Merging.{one-note}
-use Rattle.tables.proofs.Reading.{length-good_of, length-kept, length-lines, length-refused_of, well-numbered}
+use Rattle.tables.proofs.Reading.{length-good_of, length-kept, length-lines, length-refused_of}
 use Rattle.tables.proofs.partial.Partial.fold_piece.Goals as goal
 
-pub read_lines-requires : goal.read_lines-requires
-read_lines-requires c = ∣ record {
+pub read_onto-requires : goal.read_onto-requires
+read_onto-requires c = ∣ record {
   before = [];
-  seen = [];
-  has_read = c.in_ok-folding.ensures;
+  is_table = c.in_ok-empty.ensures;
   few = (let short = length-lines c.args.piece.now in omega (arith, short, c.requires));
 } ∣₁
 
@@ -32,16 +31,16 @@ invariant_of-result c =
     let q = form_of_plan c.args.plan.now in
     let shape = c.in_ok-shape.shape in
     let ls = lines c.args.piece.now in
-    let read = c.in_ok-table.ensures [] [] c.in_ok-folding.ensures in
+    let read = c.in_ok-table.ensures.read [] c.in_ok-empty.ensures in
     let folding = c.in_ok-table.field-0 in
     let good = length-good_of fields ls in
     let few = length-kept fields q (good_of fields ls) in
     let count = read.lines in
     let short = length-lines c.args.piece.now in
-    let notes = one-note c.in_ok-notes.notes.items _ c.in_ok-notes.ensures (well-numbered fields folding.lines folding.refused.items ls read.lines read.refused) in (
+    let notes = one-note c.in_ok-notes.notes.items _ c.in_ok-notes.ensures c.in_ok-table.ensures.numbered in (
       omega (arith, count, short, c.requires),
       (
-        (let n = c.len-count.ensures in let r = ap length read.refused in let m = length-refused_of fields ls in let ok = folding.refused.ok in grind (arith, n, r, m, count, ok)),
+        (let n = c.len-count.ensures in let r = c.in_ok-table.ensures.refused in let m = length-refused_of fields ls in let ok = folding.refused.ok in grind (arith, n, r, m, count, ok)),
         (
           subst (λ (fs : List FilteredFunction). AreGroupsWithin folding.lines fs folding.table) (sym c.in_ok-shape.ensures.functions)
               (table-within (grouping_places fields q) (indexed_functions fields q) (aggregate_functions fields q) folding.table (kept fields q (good_of fields ls)) folding.lines (as-many fields q) read.table (omega (arith, good, few, count))),
@@ -59,7 +58,7 @@ returns c =
     let q = form_of_plan c.args.plan.now in
     let bytes = c.args.piece.now in
     let folding = c.in_ok-table.field-0 in
-    let read = c.in_ok-table.ensures [] [] c.in_ok-folding.ensures in
+    let read = c.in_ok-table.ensures.read [] c.in_ok-empty.ensures in
     record {
       stands = record {
         sets = c.in_ok-shape.ensures.sets;
