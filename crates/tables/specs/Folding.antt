@@ -30,12 +30,12 @@ pub record HasRead (fields : List Field) (q : TreeForm) (before : List Row) (fol
   pub lines : folding.lines ≡ length ls
   pub refused : folding.refused.items ≡ refused_of fields ls
 
--- some lines have been read, and with so many more there are, with the records of earlier pieces, fewer than 2^63
-pub record ReadsMore (fields : List Field) (q : TreeForm) (folding : Folding) (more : ℕ) : Type 0 where
+-- some lines have been read, and with one more there are, with the records of earlier pieces, fewer than 2^63
+pub record ReadsOneMore (fields : List Field) (q : TreeForm) (folding : Folding) : Type 0 where
   pub before : List Row
   pub seen : List (List ℕ)
   pub has_read : HasRead fields q before folding seen
-  pub few : length before + length seen + more < 2 ^ 63
+  pub few : length before + length seen + 1 < 2 ^ 63
 
 -- the table is that of some records, and with so many more there are fewer than 2^63
 pub record HasRoom (fields : List Field) (q : TreeForm) (table : Contents) (more : ℕ) : Type 0 where
@@ -54,10 +54,11 @@ IsTableUnder plan table rows =
 abbrev pub HasReadUnder : Plan → List Row → Folding → List (List ℕ) → Type 0
 HasReadUnder plan before folding ls = HasRead (fields_of_plan plan) (form_of_plan plan) before folding ls
 
--- so many lines more can be read
-abbrev pub ReadsMoreUnder : Plan → Folding → ℕ → Type 0
-ReadsMoreUnder plan folding more = ∥ ReadsMore (fields_of_plan plan) (form_of_plan plan) folding more ∥₁
+-- one line more can be read
+abbrev pub ReadsOneMoreUnder : Plan → Folding → Type 0
+ReadsOneMoreUnder plan folding = ∥ ReadsOneMore (fields_of_plan plan) (form_of_plan plan) folding ∥₁
 
+-- so many lines can be read onto the table
 abbrev pub HasRoomUnder : Plan → Contents → ℕ → Type 0
 HasRoomUnder plan table more = ∥ HasRoom (fields_of_plan plan) (form_of_plan plan) table more ∥₁
 

@@ -30,7 +30,7 @@ impl Folding {
     ghost use Rattle.values.specs.Fit.{Fits};
     ghost use Rattle.query_plan.specs.Planned.{fields_of_plan};
     ghost use Rattle.groups.specs.Rows.{Row};
-    ghost use Rattle.tables.specs.Folding.{HasReadUnder, IsTableUnder, ReadsMoreUnder, TakesRecordUnder};
+    ghost use Rattle.tables.specs.Folding.{HasReadUnder, IsTableUnder, ReadsOneMoreUnder, TakesRecordUnder};
 
     /// No line has been read behind the records that a table has.
     fn onto(alloc: Global, table: Table) -> Folding
@@ -53,7 +53,7 @@ impl Folding {
         plan: &Plan,
         line: &[u8],
     ) -> Result<(), AllocError>
-        requires { ReadsMoreUnder plan.now self.old 1 }
+        requires { ReadsOneMoreUnder plan.now self.old }
         ensures { OnOk result ((before : List Row) (seen : List (List ℕ)) → HasReadUnder plan.now before self.old seen
             → HasReadUnder plan.now before self.new (seen ++ line.now ∷ [])) }
     {
