@@ -1,0 +1,117 @@
+//! Times the work of threads apart from reading: holds a file whole, and makes one result of its pieces, of 1,048,576
+//! bytes or more, by 1 to 64 threads. Its words are the columns, the query, the file and the number of threads. It prints
+//! how many lines there are, how many of them are refused, and how many rows the groups come to; and on standard error
+//! the nanoseconds from the first piece until the groups are finished. There is one thread where the fourth word is no
+//! number; where a word is missing, or the columns or the query are refused, it prints nothing.
+//!
+//! Example: under `d:text,q:int`, by the query `SELECT d, SUM(q) AS s FROM lines GROUP BY d`, over the lines
+//! `{"d":"x","q":5}` and `[1]`, it prints `2 lines, 1 refused, 1 groups`.
+#![tactic(auto)]
+
+ghost use Rattle.std.specs.Prelude.{◌≤◌, ◌<◌, ◌^◌, IfSome, length};
+ghost use Rattle.tables.specs.Planned.{IsPartialUnder};
+
+use lines::cut;
+use pool::{Outcome, fan_out};
+use query::{Plan, check, parse};
+use std::alloc::Global;
+use std::io::{Eprint, Print};
+use std::marker::Sync;
+use std::sync::Wait;
+use std::thread::Threads;
+use std::time::{Clock, Instant};
+use std::{env, fs, io};
+use tables::{Hands, Job, JobBy, Partial, job_law};
+use values::Schema;
+
+/// The least bytes of a piece, but perhaps of the last one.
+const PIECE: usize = 1_048_576;
+
+/// The most pieces that are shared among threads.
+const MOST_PIECES: usize = 1_048_576;
+
+/// The greatest length of an input, in bytes.
+const LONGEST: usize = 0x7fff_ffff_ffff_ffff;
+
+/// The plan of a query over columns; `None` where one of them is refused.
+fn plan_of(alloc: Global, columns: &str, query: &str) -> Option<Plan> {
+    let schema = Schema::parse(alloc, columns).ok()?;
+    let query = parse(alloc, query).ok()?;
+    check(alloc, query, schema).ok()
+}
+
+/// The result of a plan over an input, by so many threads; `None` where it has more than
+/// 1,048,576 pieces, memory runs out, or a thread cannot be started.
+fn result_of<R: Threads + Wait + Sync>(
+    rt: &R,
+    alloc: Global,
+    plan: &Plan,
+    input: &[u8],
+    hands: usize,
+) -> Option<Partial>
+    requires short { length input.now < 2 ^ 63 }
+    requires hands { (1 ≤ hands) × (hands ≤ 64) }
+    ensures of_plan { IfSome result (IsPartialUnder plan.now) }
+{
+    let Ok(pieces) = cut(alloc, input, PIECE) else {
+        return None;
+    };
+    if pieces.len() > MOST_PIECES {
+        return None;
+    }
+    job_law();
+    let joiner = Hands { rt, count: hands };
+    let job = JobBy::new(Job::new(alloc, plan, input, pieces.as_slice()), &joiner, 1);
+    match fan_out(rt, alloc, &job, pieces.len() as u32, hands, u64::MAX) {
+        Ok(Outcome::Whole(result)) => Some(result),
+        Ok(Outcome::Over) | Err(_) => None,
+    }
+}
+
+/// Works on the pieces of an input and finishes the groups, and prints what came of it and how long it took.
+fn work<R: Threads + Wait + Clock + Print + Eprint + Sync>(
+    rt: &R,
+    alloc: Global,
+    plan: &Plan,
+    input: &[u8],
+    hands: usize,
+) -> io::Result<()>
+    requires short { length input.now < 2 ^ 63 }
+    requires hands { (1 ≤ hands) × (hands ≤ 64) }
+{
+    let start = Instant::now(rt)?;
+    let Some(result) = result_of(rt, alloc, plan, input, hands) else {
+        return Ok(());
+    };
+    let (lines, refused) = (result.lines(), result.refused());
+    let Ok(groups) = result.finish_by(&Hands { rt, count: hands }, plan) else {
+        return Ok(());
+    };
+    let taken = start.elapsed(rt)?.as_nanos();
+    println!(rt;
+        "{lines} lines, {refused} refused, {} groups",
+        groups.rows().len()
+    )?;
+    eprintln!(rt; "{taken}")
+}
+
+fn main(rt: HostRuntime) -> io::Result<()> {
+    let mut words = env::args(&rt)?.skip(1);
+    let (Some(columns), Some(query), Some(path), Some(hands)) = (
+        words.next(),
+        words.next(),
+        words.next(),
+        words.next(),
+    ) else {
+        return Ok(());
+    };
+    let Some(plan) = plan_of(rt.alloc(), columns.as_str(), query.as_str()) else {
+        return Ok(());
+    };
+    let hands = hands.as_str().parse::<usize>().unwrap_or(1).clamp(1, 64);
+    let input = fs::read(&rt, path.as_str())?;
+    if input.len() > LONGEST {
+        return Ok(());
+    }
+    work(&rt, rt.alloc(), &plan, input.as_slice(), hands)
+}
