@@ -1,5 +1,5 @@
 -- What a pool makes of all pieces of a job stands for them.
-use Rattle.std.proofs.Common.{◌≡◌, ◌+◌, ◌≤◌, ◌<◌, ◌^◌, ℕ, List, [], length, subst, arith}
+use Rattle.std.proofs.Common.{◌≡◌, ◌∙◌, ◌+◌, ◌≤◌, ◌<◌, ◌^◌, ℕ, List, [], length, sym, subst, arith}
 use Rattle.values.specs.Schema.{Field}
 use Rattle.lines.specs.declared.pieces.Piece.{Piece}
 use Rattle.pool.specs.declared.laws.Outcome.{Outcome}
@@ -9,10 +9,12 @@ use Rattle.pool.specs.Totals.{sum_below, total}
 use Rattle.query_tree.specs.Syntax.{TreeForm}
 use Rattle.query_plan.specs.declared.plan.Plan.{Plan}
 use Rattle.query_plan.specs.Planned.{fields_of_plan, form_of_plan}
+use Rattle.tables.specs.declared.job.Job.{Job}
 use Rattle.tables.specs.declared.partial.Partial.{Partial}
 use Rattle.tables.specs.Means.{both, indexed_from, mean, mean_from, meaning}
 use Rattle.tables.specs.Partials.{StandsFor}
 use Rattle.tables.specs.Planned.{IsPartialUnder}
+use Rattle.gathering.proofs.Pooled.{IsJobOf}
 
 -- what a pool decides of so many pieces of a job, with indexes from a first one on
 abbrev pub DecidesAll : Plan → ℕ → List ℕ → List Piece → ℕ → ℕ → Outcome Partial → Type 0
@@ -20,18 +22,23 @@ DecidesAll plan first input pieces n limit outcome =
     Decides meaning (total (mean (fields_of_plan plan) (form_of_plan plan) []) both (mean_from (fields_of_plan plan) (form_of_plan plan) first input pieces) n)
     (sum_below (λ i. (mean_from (fields_of_plan plan) (form_of_plan plan) first input pieces i).refused) n) limit outcome
 
-pub stands-for : (plan p : Plan) (first : ℕ) (input b : List ℕ) (pieces ps : List Piece) (n limit : ℕ) (outcome : Outcome Partial) (partial : Partial)
-    → p ≡ plan → first ≡ 1 → b ≡ input → ps ≡ pieces → n ≡ length pieces → length pieces ≤ 1048576
+-- a job that was made of a plan, an input and pieces, and handed on, is over these
+pub is-job : (plan : Plan) (input : List ℕ) (pieces ps : List Piece) (made job : Job)
+    → job ≡ made → made.plan.now ≡ plan → made.input.now ≡ input → made.pieces.now ≡ ps → ps ≡ pieces → IsJobOf plan input pieces job
+is-job plan input pieces ps made job is e f g h = subst (IsJobOf plan input pieces) (sym is) record { plan_is = e; input_is = f; pieces_are = g ∙ h }
+
+pub stands-for : (plan : Plan) (input : List ℕ) (pieces : List Piece) (job : Job) (first n limit : ℕ) (outcome : Outcome Partial) (partial : Partial)
+    → IsJobOf plan input pieces job → first ≡ 1 → n ≡ length pieces → length pieces ≤ 1048576
     → ((fields : List Field) (q : TreeForm) (first : ℕ) (input : List ℕ) (pieces : List Piece) (partial : Partial)
     → first + length pieces < 2 ^ 32
     → meaning partial ≡ total (mean fields q []) both (mean_from fields q first input pieces) (length pieces)
     → StandsFor fields q partial (indexed_from first input pieces))
-    → outcome ≡ Whole partial → DecidesAll p first b ps n limit outcome → IsPartialUnder plan partial
-stands-for plan p first input b pieces ps n limit outcome partial e a f g h few law is d =
-    let d1 = subst (λ (x : Plan). DecidesAll x first b ps n limit outcome) e d in
-    let d2 = subst (λ (x : ℕ). DecidesAll plan x b ps n limit outcome) a d1 in
-    let d3 = subst (λ (x : List ℕ). DecidesAll plan 1 x ps n limit outcome) f d2 in
-    let d4 = subst (λ (x : List Piece). DecidesAll plan 1 input x n limit outcome) g d3 in
-    let d5 = subst (λ (x : ℕ). DecidesAll plan 1 input pieces x limit outcome) h d4 in
+    → outcome ≡ Whole partial → DecidesAll job.plan.now first job.input.now job.pieces.now n limit outcome → IsPartialUnder plan partial
+stands-for plan input pieces job first n limit outcome partial of e count few law is d =
+    let d1 = subst (λ (x : Plan). DecidesAll x first job.input.now job.pieces.now n limit outcome) of.plan_is d in
+    let d2 = subst (λ (x : ℕ). DecidesAll plan x job.input.now job.pieces.now n limit outcome) e d1 in
+    let d3 = subst (λ (x : List ℕ). DecidesAll plan 1 x job.pieces.now n limit outcome) of.input_is d2 in
+    let d4 = subst (λ (x : List Piece). DecidesAll plan 1 input x n limit outcome) of.pieces_are d3 in
+    let d5 = subst (λ (x : ℕ). DecidesAll plan 1 input pieces x limit outcome) count d4 in
     let whole = subst (DecidesAll plan 1 input pieces (length pieces) limit) is d5 in
     ∣ (indexed_from 1 input pieces, law (fields_of_plan plan) (form_of_plan plan) 1 input pieces partial (omega (arith, few)) whole.0) ∣₁

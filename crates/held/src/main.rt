@@ -1,7 +1,7 @@
 //! Times the work of threads apart from reading: holds a file whole, and makes one result of its pieces, of 1,048,576
 //! bytes or more, by 1 to 64 threads. Its words are the columns, the query, the file and the number of threads. It prints
-//! how many lines there are, how many of them are refused, and how many rows the groups come to; and on standard error
-//! the nanoseconds from the first piece until the groups are finished. There is one thread where the fourth word is no
+//! how many lines there are, how many of them are refused, and how many groups there are; and on standard error the
+//! nanoseconds from the first piece until the groups are finished. There is one thread where the fourth word is no
 //! number; where a word is missing, or the columns or the query are refused, it prints nothing.
 //!
 //! Example: under `d:text,q:int`, by the query `SELECT d, SUM(q) AS s FROM lines GROUP BY d`, over the lines
