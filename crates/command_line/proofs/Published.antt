@@ -1,11 +1,10 @@
 -- What clap publishes of a parse, said of the program's command.
-use Rattle.std.proofs.Common.{◌≡◌, ◌∙◌, ap, ap₂, subst, sym, refl, true, false, List, []}
+use Rattle.std.proofs.Common.{◌≡◌, ◌∙◌, ap, subst, sym, refl, true, false, List, [], ◌∷◌}
 use Rattle.clap.specs.declared.builder.arg.Arg.{Arg}
-use Rattle.clap.specs.declared.builder.command.Command.{Command}
 use Rattle.clap.specs.declared.error.Error.{Error}
 use Rattle.clap.specs.declared.parser.matches.ArgMatches.{ArgMatches}
-use Rattle.clap.specs.Words.{AddsArg, App, HasKind, HasMatchesOf, Rule, Text}
-use Rattle.clap.specs.Words.{app_of, fault_of, first_of, first_value, found_of, is_simple}
+use Rattle.clap.specs.Words.{App, HasKind, HasMatchesOf, Text}
+use Rattle.clap.specs.Words.{fault_of, first_of, first_value, found_of, is_simple}
 use Rattle.clap.specs.Words.{is_simple_and_free, matches_of, rows_of, rule_of, with_rule}
 use Rattle.clap.proofs.OnLiterals.{clap_on_literals}
 use Rattle.clap.proofs.WalkLemmas.{first_value-rows}
@@ -21,11 +20,15 @@ command-is_simple_and_free : is_simple_and_free command ≡ true
 unfolding clap_on_literals
 command-is_simple_and_free = refl
 
--- a command that gained an argument has one more rule
-pub app_of-added : (old new : Command) (a : Arg) (app : App) (rule : Rule)
-    → AddsArg old a new → app_of old ≡ app → rule_of a ≡ rule → a.global ≡ false
-    → app_of new ≡ with_rule app rule
-app_of-added old new a app rule adds is_app is_rule local = adds.shape local ∙ ap₂ with_rule is_app is_rule
+-- a command that gains the rules of some arguments, one after the other
+unfoldable pub with_each : App → List Arg → App
+with_each app [] = app
+with_each app (argument ∷ rest) = with_each (with_rule app (rule_of argument)) rest
+
+-- arguments of which no subcommand has one
+unfoldable pub AreLocal : List Arg → Type 0
+AreLocal [] = Unit {0}
+AreLocal (argument ∷ rest) = (argument.global ≡ false) × AreLocal rest
 
 -- the matches are those that clap publishes for the words
 pub rows_of-matches : (app : App) (words : List Text) (m : ArgMatches)

@@ -104,20 +104,19 @@ fn program_command<'a>(alloc: Global) -> Result<Command<'a>, Error>
     ensures ok { IfOk result (λ c. app_of c ≡ command) }
     ensures err { IfErr result (λ e. kind_of e ≡ ErrorKind.OutOfMemory) }
 {
-    let columns = required_option(alloc, "columns", "SPEC", COLUMNS_HELP);
-    let command = described_command(alloc).arg(columns)?;
-    let query = required_option(alloc, "query", "TEXT", QUERY_HELP);
-    let command = command.arg(query)?;
-    let workers = defaulted_option(alloc, "workers", "N", "4", WORKERS_HELP);
-    let command = command.arg(workers)?;
-    let piece = defaulted_option(alloc, "piece", "BYTES", "1048576", PIECE_HELP);
-    let command = command.arg(piece)?;
-    let max_refused = number_option(alloc, "max-refused", "N", MAX_REFUSED_HELP);
-    let command = command.arg(max_refused)?;
-    let explain = flag(alloc, "explain", EXPLAIN_HELP);
-    let command = command.arg(explain)?;
-    let file = required_word(alloc, "file", "FILE", FILE_HELP);
-    let command = command.arg(file)?;
+    let arguments = [
+        required_option(alloc, "columns", "SPEC", COLUMNS_HELP),
+        required_option(alloc, "query", "TEXT", QUERY_HELP),
+        defaulted_option(alloc, "workers", "N", "4", WORKERS_HELP),
+        defaulted_option(alloc, "piece", "BYTES", "1048576", PIECE_HELP),
+        number_option(alloc, "max-refused", "N", MAX_REFUSED_HELP),
+        flag(alloc, "explain", EXPLAIN_HELP),
+        required_word(alloc, "file", "FILE", FILE_HELP),
+    ];
+    let mut command = described_command(alloc);
+    for argument in arguments {
+        command = command.arg(argument)?;
+    }
     Ok(command)
 }
 

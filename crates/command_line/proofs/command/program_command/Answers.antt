@@ -1,12 +1,39 @@
-use Rattle.command_line.proofs.Published.{app_of-added}
+use Rattle.std.proofs.Common.{◌∙◌, ap, ap₂, subst, sym}
+use Rattle.std.proofs.lemmas.List.{nil_from_length}
+use Rattle.std.specs.Array.Iter.{array_into_iter_items}
+use Rattle.clap.specs.Words.{app_of, with_rule}
+use Rattle.command_line.proofs.Published.{AreLocal, with_each}
 use Rattle.command_line.proofs.command.program_command.Goals as goal
 
+pub loop-argument-init : goal.loop-argument-init
+unfolding with_each AreLocal
+loop-argument-init c =
+    let are = c.into_iter-argument-iterator.ensures.into_iter_gives.0 in
+    let one = ap₂ with_rule c.described_command-command.ensures c.required_option.ensures.rule in
+    let two = ap₂ with_rule one c.required_option-2.ensures.rule in
+    let three = ap₂ with_rule two c.defaulted_option.ensures.rule in
+    let four = ap₂ with_rule three c.defaulted_option-2.ensures.rule in
+    let five = ap₂ with_rule four c.number_option.ensures.rule in
+    let six = ap₂ with_rule five c.flag.ensures.rule in
+    record {
+      whole = ap (with_each (app_of c.described_command-command.result)) are ∙ ap₂ with_rule six c.required_word.ensures.rule;
+      local = subst AreLocal (sym are) (c.required_option.ensures.local, (c.required_option-2.ensures.local, (c.defaulted_option.ensures.local,
+          (c.defaulted_option-2.ensures.local, (c.number_option.ensures.local, (c.flag.ensures.local, (c.required_word.ensures.local, tt)))))));
+    }
+
+pub loop-argument-preserved : goal.loop-argument-preserved
+unfolding with_each AreLocal
+loop-argument-preserved c =
+    let i = c.loop-argument.invariant in
+    let rest = array_into_iter_items c.next.new.self in
+    let are = c.in-Some.ensures.steps in
+    let local = subst AreLocal are i.local in
+    let added = c.in_ok-command.ensures.shape local.0 in
+    record {
+      whole = ap (λ app. with_each app rest) added ∙ ap (with_each (app_of c.loop-argument.command)) (sym are) ∙ i.whole;
+      local = local.1;
+    }
+
 pub returns-clause-ok : goal.returns-clause-ok
-returns-clause-ok c =
-    let one = app_of-added _ _ _ _ _ c.in_ok-command.ensures c.described_command.ensures c.required_option-columns.ensures.rule c.required_option-columns.ensures.local in
-    let two = app_of-added _ _ _ _ _ c.in_ok-command-2.ensures one c.required_option-query.ensures.rule c.required_option-query.ensures.local in
-    let three = app_of-added _ _ _ _ _ c.in_ok-command-3.ensures two c.defaulted_option-workers.ensures.rule c.defaulted_option-workers.ensures.local in
-    let four = app_of-added _ _ _ _ _ c.in_ok-command-4.ensures three c.defaulted_option-piece.ensures.rule c.defaulted_option-piece.ensures.local in
-    let five = app_of-added _ _ _ _ _ c.in_ok-command-5.ensures four c.number_option-max_refused.ensures.rule c.number_option-max_refused.ensures.local in
-    let six = app_of-added _ _ _ _ _ c.in_ok-command-6.ensures five c.flag-explain.ensures.rule c.flag-explain.ensures.local in
-    app_of-added _ _ _ _ _ c.in_ok-command-7.ensures six c.required_word-file.ensures.rule c.required_word-file.ensures.local
+unfolding with_each
+returns-clause-ok c = ap (with_each (app_of c.loop-argument.command)) (sym (nil_from_length _ c.in-None.ensures.steps.0)) ∙ c.loop-argument.invariant.whole
