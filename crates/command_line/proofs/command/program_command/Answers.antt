@@ -17,8 +17,16 @@ loop-argument-init c =
     let six = ap₂ with_rule five c.flag.ensures.rule in
     record {
       whole = ap (with_each (app_of c.described_command-command.result)) are ∙ ap₂ with_rule six c.required_word.ensures.rule;
-      local = subst AreLocal (sym are) (c.required_option.ensures.local, (c.required_option-2.ensures.local, (c.defaulted_option.ensures.local,
-          (c.defaulted_option-2.ensures.local, (c.number_option.ensures.local, (c.flag.ensures.local, (c.required_word.ensures.local, tt)))))));
+      local = subst AreLocal (sym are) (
+        c.required_option.ensures.local,
+        (
+          c.required_option-2.ensures.local,
+          (
+            c.defaulted_option.ensures.local,
+            (c.defaulted_option-2.ensures.local, (c.number_option.ensures.local, (c.flag.ensures.local, (c.required_word.ensures.local, tt)))),
+          ),
+        ),
+      );
     }
 
 pub loop-argument-preserved : goal.loop-argument-preserved
