@@ -1,5 +1,5 @@
 -- What clap publishes of a parse, said of the program's command.
-use Rattle.std.proofs.Common.{◌≡◌, ◌∙◌, ap, subst, sym, refl, true, false, List, [], ◌∷◌}
+use Rattle.std.proofs.Common.{◌≡◌, ◌∙◌, ap, subst, sym, refl, true, false, List, []}
 use Rattle.clap.specs.declared.builder.arg.Arg.{Arg}
 use Rattle.clap.specs.declared.error.Error.{Error}
 use Rattle.clap.specs.declared.parser.matches.ArgMatches.{ArgMatches}
@@ -20,15 +20,13 @@ command-is_simple_and_free : is_simple_and_free command ≡ true
 unfolding clap_on_literals
 command-is_simple_and_free = refl
 
--- a command that gains the rules of some arguments, one after the other
-unfoldable pub with_each : App → List Arg → App
-with_each app [] = app
-with_each app (argument ∷ rest) = with_each (with_rule app (rule_of argument)) rest
+-- a command that gains the rule of an argument
+abbrev pub with_argument : App → Arg → App
+with_argument app argument = with_rule app (rule_of argument)
 
--- arguments of which no subcommand has one
-unfoldable pub AreLocal : List Arg → Type 0
-AreLocal [] = Unit {0}
-AreLocal (argument ∷ rest) = (argument.global ≡ false) × AreLocal rest
+-- no subcommand has the argument
+abbrev pub IsLocal : Arg → Type 0
+IsLocal argument = argument.global ≡ false
 
 -- the matches are those that clap publishes for the words
 pub rows_of-matches : (app : App) (words : List Text) (m : ArgMatches)

@@ -1,13 +1,14 @@
 use Rattle.std.proofs.Common.{◌≡◌}
 use Rattle.std.specs.Array.Iter.{array_into_iter_items}
+use Rattle.std.specs.List.{AllByRecursion, fold}
 use Rattle.clap.specs.Words.{app_of}
 use Rattle.command_line.specs.Command.{command}
-use Rattle.command_line.proofs.Published.{AreLocal, with_each}
+use Rattle.command_line.proofs.Published.{IsLocal, with_argument}
 use Rattle.command_line.proofs.command.program_command.Given as goal
 
 -- the command so far, and then the arguments that are left
 abbrev pub invariant-loop-argument : goal.invariant-loop-argument
 invariant-loop-argument l = record {
-  whole : with_each (app_of l.command) (array_into_iter_items l.argument-iterator) ≡ command;
-  local : AreLocal (array_into_iter_items l.argument-iterator);
+  whole : fold with_argument (app_of l.command) (array_into_iter_items l.argument-iterator) ≡ command;
+  local : AllByRecursion IsLocal (array_into_iter_items l.argument-iterator);
 }
