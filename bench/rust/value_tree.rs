@@ -1,17 +1,21 @@
 //! A Rust program of the shape that `jlreport` is held against: each line is read as a JSON value tree,
 //! its columns are taken out of the tree, and each worker has one hashed table of the finest grouping
-//! set, which is rolled up at the end. It uses `std` alone: its JSON reader stands for `serde_json` (a
-//! `BTreeMap` for an object, numbers parsed, strings owned and checked as UTF-8), and its queues, a
-//! locked `VecDeque` for each worker that others steal from, stand for `crossbeam_deque`.
+//! set, from keys, lists of values, to what is kept of a group, a list of accumulators. The tables are
+//! joined and rolled up at the end, and the rows are written in the order of their keys. The columns, the
+//! grouping columns and the set functions are data, as those of any query are. It uses `std` alone: its
+//! JSON reader stands for `serde_json` (a `BTreeMap` for an object, numbers parsed, strings owned and
+//! checked as UTF-8), and its queues, a locked `VecDeque` for each worker that others steal from, stand
+//! for `crossbeam_deque`.
 //!
 //! Usage: value_tree WORKERS FILE [shop]. It answers, over the lines of `bench/generate`,
 //! SELECT shop, kind, COUNT(*) AS events, SUM(cents) AS cents FROM lines GROUP BY ROLLUP (shop, kind)
-//! on standard output, or the same of the shop alone where that word is given, its rows in no order that
-//! is said, and writes to standard error the milliseconds that reading the file and all the rest took,
-//! and how many lines are refused.
+//! on standard output, or the same of the shop alone where that word is given, to the byte as `jlreport`
+//! does, and writes to standard error the milliseconds that reading the file and all the rest took, and
+//! how many lines are refused.
 
 use std::collections::{BTreeMap, HashMap, VecDeque};
 use std::io::Write;
+use std::mem;
 use std::sync::Mutex;
 use std::thread;
 use std::time::Instant;
@@ -263,75 +267,152 @@ fn value_of(line: &[u8]) -> Option<Value> {
     reader.peek().is_none().then_some(value)
 }
 
-/// A member of an object, moved out of it.
-fn member(members: &mut BTreeMap<String, Value>, name: &str) -> Value {
-    match members.get_mut(name) {
-        Some(value) => std::mem::replace(value, Value::Null),
-        None => Value::Null,
-    }
+/// The type of a column.
+#[derive(Clone, Copy)]
+enum Type {
+    Int,
+    Text,
+    Bool,
 }
 
-/// A text or NULL.
-fn text_of(value: Value) -> Option<Option<String>> {
-    match value {
-        Value::Null => Some(None),
-        Value::Text(text) => Some(Some(text)),
+/// The columns of the lines.
+const COLUMNS: [(&str, Type); 5] = [
+    ("day", Type::Text),
+    ("shop", Type::Text),
+    ("kind", Type::Text),
+    ("cents", Type::Int),
+    ("member", Type::Bool),
+];
+
+/// A value of a column, in the order in which rows have them: NULL behind all others.
+#[derive(Clone, PartialEq, Eq, Hash, PartialOrd, Ord)]
+enum Datum {
+    Bool(bool),
+    Whole(i64),
+    Text(String),
+    Null,
+}
+
+/// The value of a column of this type, where it is of the type or NULL.
+fn datum_of(value: Value, of: Type) -> Option<Datum> {
+    match (value, of) {
+        (Value::Null, _) => Some(Datum::Null),
+        (Value::Bool(truth), Type::Bool) => Some(Datum::Bool(truth)),
+        (Value::Whole(number), Type::Int) => Some(Datum::Whole(number)),
+        (Value::Text(text), Type::Text) => Some(Datum::Text(text)),
         _ => None,
     }
 }
 
-/// The values of a line that the columns day, shop, kind, cents and member take; the first and the last
-/// are only checked.
-fn record_of(line: &[u8]) -> Option<(Key, Option<i64>)> {
+/// Puts the values that the columns take of a line, moved out of its tree, in the place of those of another.
+fn read_record(line: &[u8], record: &mut Vec<Datum>) -> Option<()> {
     let Value::Object(mut members) = value_of(line)? else {
         return None;
     };
-    text_of(member(&mut members, "day"))?;
-    let shop = text_of(member(&mut members, "shop"))?;
-    let kind = text_of(member(&mut members, "kind"))?;
-    let cents = match member(&mut members, "cents") {
-        Value::Null => None,
-        Value::Whole(number) => Some(number),
-        _ => return None,
-    };
-    match member(&mut members, "member") {
-        Value::Null | Value::Bool(_) => Some(([shop, kind], cents)),
-        _ => None,
+    record.clear();
+    for (name, of) in COLUMNS {
+        let value = match members.get_mut(name) {
+            Some(value) => mem::replace(value, Value::Null),
+            None => Value::Null,
+        };
+        record.push(datum_of(value, of)?);
+    }
+    Some(())
+}
+
+/// A set function, by the place of its column.
+#[derive(Clone, Copy)]
+enum Function {
+    CountRows,
+    Sum(usize),
+}
+
+/// A query: ROLLUP of the columns at some places, and set functions.
+struct Query {
+    grouping: Vec<usize>,
+    functions: Vec<Function>,
+}
+
+impl Query {
+    fn is_argument(&self, place: usize) -> bool {
+        self.functions
+            .iter()
+            .any(|function| matches!(function, Function::Sum(at) if *at == place))
     }
 }
 
-/// A key: a value, or NULL, for each column of the grouping set.
-type Key = [Option<String>; 2];
+/// What is kept of the members of a group for one set function.
+#[derive(Clone)]
+enum Accumulator {
+    Rows,
+    Sum { sum: i128, count: u64 },
+}
 
 /// What is kept of a group.
-#[derive(Default)]
+#[derive(Clone)]
 struct Group {
-    events: u64,
-    numbers: u64,
-    cents: i128,
+    lines: u64,
+    parts: Vec<Accumulator>,
 }
 
 impl Group {
+    fn new(functions: &[Function]) -> Group {
+        let part = |function: &Function| match function {
+            Function::CountRows => Accumulator::Rows,
+            Function::Sum(_) => Accumulator::Sum { sum: 0, count: 0 },
+        };
+        Group {
+            lines: 0,
+            parts: functions.iter().map(part).collect(),
+        }
+    }
+
+    fn take(&mut self, functions: &[Function], record: &[Datum]) {
+        self.lines += 1;
+        for (part, function) in self.parts.iter_mut().zip(functions) {
+            if let (Accumulator::Sum { sum, count }, Function::Sum(place)) = (part, function)
+                && let Datum::Whole(number) = record[*place]
+            {
+                *sum += i128::from(number);
+                *count += 1;
+            }
+        }
+    }
+
     fn absorb(&mut self, other: &Group) {
-        self.events += other.events;
-        self.numbers += other.numbers;
-        self.cents += other.cents;
+        self.lines += other.lines;
+        for (part, other) in self.parts.iter_mut().zip(&other.parts) {
+            if let (Accumulator::Sum { sum, count }, Accumulator::Sum { sum: s, count: c }) =
+                (part, other)
+            {
+                *sum += s;
+                *count += c;
+            }
+        }
     }
 }
 
-/// What one worker has made of its pieces: groups of shop and kind, or of the shop alone.
-struct Part {
-    shop_alone: bool,
-    groups: HashMap<Key, Group>,
+/// The groups of a grouping set, by their keys.
+type Groups = HashMap<Vec<Datum>, Group>;
+
+/// What one worker has made of its pieces: groups of all grouping columns.
+struct Part<'a> {
+    query: &'a Query,
+    groups: Groups,
     refused: u64,
+    /// The values of a line, and those of its key. Both keep their memory from line to line.
+    record: Vec<Datum>,
+    key: Vec<Datum>,
 }
 
-impl Part {
-    fn new(shop_alone: bool) -> Part {
+impl<'a> Part<'a> {
+    fn new(query: &'a Query) -> Part<'a> {
         Part {
-            shop_alone,
+            query,
             groups: HashMap::new(),
             refused: 0,
+            record: Vec::new(),
+            key: Vec::new(),
         }
     }
 
@@ -345,25 +426,39 @@ impl Part {
     }
 
     fn take(&mut self, line: &[u8]) {
-        let Some((mut key, cents)) = record_of(line) else {
+        if read_record(line, &mut self.record).is_none() {
             self.refused += 1;
             return;
-        };
-        if self.shop_alone {
-            key[1] = None;
         }
-        let group = self.groups.entry(key).or_default();
-        group.events += 1;
-        if let Some(cents) = cents {
-            group.numbers += 1;
-            group.cents += i128::from(cents);
+        self.key.clear();
+        for place in &self.query.grouping {
+            let value = if self.query.is_argument(*place) {
+                self.record[*place].clone()
+            } else {
+                mem::replace(&mut self.record[*place], Datum::Null)
+            };
+            self.key.push(value);
+        }
+        let functions = &self.query.functions[..];
+        match self.groups.get_mut(&self.key[..]) {
+            Some(group) => group.take(functions, &self.record),
+            None => {
+                let mut group = Group::new(functions);
+                group.take(functions, &self.record);
+                self.groups.insert(mem::take(&mut self.key), group);
+            }
         }
     }
 
     fn absorb(&mut self, other: Part) {
         self.refused += other.refused;
         for (key, group) in other.groups {
-            self.groups.entry(key).or_default().absorb(&group);
+            match self.groups.get_mut(&key[..]) {
+                Some(own) => own.absorb(&group),
+                None => {
+                    self.groups.insert(key, group);
+                }
+            }
         }
     }
 }
@@ -414,8 +509,8 @@ fn next_piece<'a>(queues: &[Mutex<VecDeque<&'a [u8]>>], worker: usize) -> Option
 }
 
 /// What one worker makes of the pieces that it gets.
-fn work(queues: &[Mutex<VecDeque<&[u8]>>], worker: usize, shop_alone: bool) -> Part {
-    let mut part = Part::new(shop_alone);
+fn work<'a>(queues: &[Mutex<VecDeque<&[u8]>>], worker: usize, query: &'a Query) -> Part<'a> {
+    let mut part = Part::new(query);
     while let Some(piece) = next_piece(queues, worker) {
         part.fold(piece);
     }
@@ -423,7 +518,7 @@ fn work(queues: &[Mutex<VecDeque<&[u8]>>], worker: usize, shop_alone: bool) -> P
 }
 
 /// What all workers make of an input.
-fn whole(input: &[u8], workers: usize, shop_alone: bool) -> Part {
+fn whole<'a>(input: &[u8], workers: usize, query: &'a Query) -> Part<'a> {
     let pieces = pieces_of(input);
     let share = pieces.len().div_ceil(workers).max(1);
     let queues: Vec<_> = (0..workers)
@@ -436,9 +531,9 @@ fn whole(input: &[u8], workers: usize, shop_alone: bool) -> Part {
     let queues = &queues[..];
     thread::scope(|scope| {
         let others: Vec<_> = (1..workers)
-            .map(|worker| scope.spawn(move || work(queues, worker, shop_alone)))
+            .map(|worker| scope.spawn(move || work(queues, worker, query)))
             .collect();
-        let mut all = work(queues, 0, shop_alone);
+        let mut all = work(queues, 0, query);
         for other in others {
             all.absorb(other.join().unwrap());
         }
@@ -446,38 +541,52 @@ fn whole(input: &[u8], workers: usize, shop_alone: bool) -> Part {
     })
 }
 
-/// A field of CSV.
-fn field(value: &Option<String>) -> String {
+/// Writes a field of CSV.
+fn put_field(out: &mut Vec<u8>, value: &Datum) {
     match value {
-        None => "\\N".to_owned(),
-        Some(text) if text.contains([',', '"', '\n', '\r']) || text.is_empty() => {
-            format!("\"{}\"", text.replace('"', "\"\""))
+        Datum::Null => out.extend_from_slice(b"\\N"),
+        Datum::Bool(truth) => write!(out, "{truth}").unwrap(),
+        Datum::Whole(number) => write!(out, "{number}").unwrap(),
+        Datum::Text(text) if text.contains([',', '"', '\n', '\r']) || text.is_empty() => {
+            write!(out, "\"{}\"", text.replace('"', "\"\"")).unwrap();
         }
-        Some(text) => text.clone(),
+        Datum::Text(text) => out.extend_from_slice(text.as_bytes()),
     }
 }
 
-/// Writes the rows of one grouping set.
-fn put_rows(out: &mut Vec<u8>, groups: &HashMap<Key, Group>, shop_alone: bool) {
-    for (key, group) in groups {
-        let cents = match group.numbers {
-            0 => "\\N".to_owned(),
-            _ => group.cents.to_string(),
-        };
-        let (shop, kind) = (field(&key[0]), field(&key[1]));
-        if shop_alone {
-            writeln!(out, "{shop},{},{cents}", group.events).unwrap();
-        } else {
-            writeln!(out, "{shop},{kind},{},{cents}", group.events).unwrap();
+/// Writes the rows of one grouping set, in the order of their keys.
+fn put_rows(out: &mut Vec<u8>, query: &Query, groups: &Groups) {
+    let mut rows: Vec<_> = groups.iter().collect();
+    rows.sort_unstable_by(|(first, _), (second, _)| first.cmp(second));
+    for (key, group) in rows {
+        for index in 0..query.grouping.len() {
+            put_field(out, key.get(index).unwrap_or(&Datum::Null));
+            out.push(b',');
         }
+        for (index, part) in group.parts.iter().enumerate() {
+            if index > 0 {
+                out.push(b',');
+            }
+            match part {
+                Accumulator::Rows => write!(out, "{}", group.lines).unwrap(),
+                Accumulator::Sum { count: 0, .. } => out.extend_from_slice(b"\\N"),
+                Accumulator::Sum { sum, .. } => write!(out, "{sum}").unwrap(),
+            }
+        }
+        out.push(b'\n');
     }
 }
 
-/// The groups of a coarser set, whose keys are those that `coarser` makes of the finest ones.
-fn rolled(groups: &HashMap<Key, Group>, coarser: impl Fn(&Key) -> Key) -> HashMap<Key, Group> {
-    let mut rolled: HashMap<Key, Group> = HashMap::new();
-    for (key, group) in groups {
-        rolled.entry(coarser(key)).or_default().absorb(group);
+/// The groups of the set of the first columns of a finer one.
+fn rolled(finer: &Groups, columns: usize) -> Groups {
+    let mut rolled = Groups::new();
+    for (key, group) in finer {
+        match rolled.get_mut(&key[..columns]) {
+            Some(own) => own.absorb(group),
+            None => {
+                rolled.insert(key[..columns].to_vec(), group.clone());
+            }
+        }
     }
     rolled
 }
@@ -489,27 +598,27 @@ fn main() {
         .and_then(|word| word.parse().ok())
         .expect("WORKERS");
     let path = words.next().expect("FILE");
-    let shop_alone = words.next().is_some();
+    let query = Query {
+        grouping: if words.next().is_some() { vec![1] } else { vec![1, 2] },
+        functions: vec![Function::CountRows, Function::Sum(3)],
+    };
     let begin = Instant::now();
     let input = std::fs::read(path).expect("FILE is read");
     let read = begin.elapsed();
-    let part = whole(&input, workers.max(1), shop_alone);
-    let shops = if shop_alone {
-        HashMap::new()
-    } else {
-        rolled(&part.groups, |key| [key[0].clone(), None])
-    };
-    let finer = if shop_alone { &part.groups } else { &shops };
-    let mut all = rolled(finer, |_| [None, None]);
-    all.entry([None, None]).or_default();
-    let (mut out, sets) = if shop_alone {
-        (b"shop,events,cents\n".to_vec(), vec![&part.groups, &all])
-    } else {
-        let sets = vec![&part.groups, &shops, &all];
-        (b"shop,kind,events,cents\n".to_vec(), sets)
-    };
-    for groups in sets {
-        put_rows(&mut out, groups, shop_alone);
+    let part = whole(&input, workers.max(1), &query);
+    let mut sets = vec![part.groups];
+    for columns in (0..query.grouping.len()).rev() {
+        sets.push(rolled(&sets[sets.len() - 1], columns));
+    }
+    let all = sets.last_mut().expect("the empty set");
+    all.entry(Vec::new()).or_insert_with(|| Group::new(&query.functions));
+    let mut out = Vec::new();
+    for place in &query.grouping {
+        write!(out, "{},", COLUMNS[*place].0).unwrap();
+    }
+    out.extend_from_slice(b"events,cents\n");
+    for groups in &sets {
+        put_rows(&mut out, &query, groups);
     }
     std::io::stdout().write_all(&out).expect("standard output");
     let rest = begin.elapsed() - read;

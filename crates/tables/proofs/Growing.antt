@@ -10,7 +10,6 @@ use Rattle.lines.specs.Lines.{lines}
 use Rattle.query_tree.specs.Syntax.{TreeForm}
 use Rattle.query_truth.specs.Kept.{kept}
 use Rattle.groups.specs.Bags.{SameBag}
-use Rattle.groups.specs.Rows.{Row}
 use Rattle.tables.specs.declared.note.Note.{Note}
 use Rattle.tables.specs.Notes.{IsWellNumbered, Noted, lines_noted, note_in, note_of}
 use Rattle.tables.specs.Pieces.{IndexedPiece, all_lines, records_of, refused_within}

@@ -1,15 +1,16 @@
 -- Tables of grouping sets, rolled out of one another.
-use Rattle.std.proofs.Common.{◌≡◌, ◌≢◌, ◌==◌, ◌<◌, ◌≤◌, ℕ, zero, suc, Bool, true, false, ◌||◌, not, List, [], ◌∷◌, ◌++◌, All, Vec, Global, length, slice_index_or, get_or, nat_eq, nat_lt, refl, sym, ap, subst, ◌∙◌, arith, append_assoc}
+use Rattle.std.proofs.Common.{◌≡◌, ◌≢◌, ◌==◌, ◌<◌, ◌≤◌, ℕ, zero, suc, IfOk, IfSome, Result, Ok, Err, Option, Some, map, take, Bool, true, false, ◌||◌, not, List, [], ◌∷◌, ◌++◌, All, Vec, Global, length, slice_index_or, get_or, nat_eq, nat_lt, refl, sym, ap, subst, ◌∙◌, arith, append_assoc}
 use Rattle.std.proofs.lemmas.Bool.Decides.{Decides-eqb}
-use Rattle.std.proofs.lemmas.List.Elements.{All-from_recursion, All-map, recursion_from_All}
+use Rattle.std.proofs.lemmas.List.Elements.{All-cons, All-from_recursion, All-map, recursion_from_All}
 use Rattle.std.proofs.lemmas.Slice.Eq.{slice_eq-Decides}
 use Rattle.std.specs.Bool.{Decides}
 use Rattle.std.specs.Cmp.Lexicographic.{pointwise}
 use Rattle.std.specs.List.{AllByRecursion, list_any, remove}
 use Rattle.std.specs.List.Sorted.{IsPermutation}
+use Rattle.std.specs.Result.{result_ok}
 use Rattle.values.specs.Schema.{Field}
 use Rattle.query_tree.specs.Syntax.{TreeForm}
-use Rattle.groups.specs.Functions.{AggregateFunction}
+use Rattle.groups.specs.Functions.{AggregateFunction, bound}
 use Rattle.query_resolution.specs.Columns.{places_of}
 use Rattle.query_resolution.specs.Resolution.{contents}
 use Rattle.query_resolution.specs.Sets.{grouping_places, sets_of}
@@ -17,9 +18,11 @@ use Rattle.query_resolution.proofs.DistinctSets.{names_kept, set_of_names, sets_
 use Rattle.groups.specs.declared.group.Group.{Group}
 use Rattle.groups.specs.Rolled.{AreAmong}
 use Rattle.groups.specs.Rows.{Row}
-use Rattle.groups.specs.Inside.Table.{IsTableOf}
+use Rattle.groups.specs.Inside.Table.{Contents, IsTableOf}
+use Rattle.query_resolution.specs.declared.function.FilteredFunction.{FilteredFunction}
+use Rattle.tables.specs.declared.rolling.Roll.{Roll}
 use Rattle.tables.specs.declared.rolling.SetTable.{SetTable}
-use Rattle.tables.specs.SetTables.{AreTablesOf, HasFiner, IsMade}
+use Rattle.tables.specs.SetTables.{AreRolled, AreTablesOf, HasFiner, IsMade, IsMadeOrRolled}
 use Rattle.tables.specs.Sets.{AreGroupsOf, AreGroupsOfSet}
 use Rattle.tables.proofs.Bags.{all-everywhere, all-filter, all-map}
 
@@ -202,3 +205,86 @@ permuted xs ys zs e p = subst (λ (ls : List (List ℕ)). IsPermutation ls zs) e
 -- the set of the only table is made
 pub first-made : (set : List ℕ) (tables : List SetTable) (table : SetTable) → tables ≡ table ∷ [] → table.set.items ≡ set → IsMade set tables
 first-made set tables table is same none = (subst (λ (ts : List SetTable). All (λ (t : SetTable). t.set.items ≢ set) ts) is none) 0 table (omega arith) same
+
+-- ---- rolls
+
+-- what is to become of a roll: where it has a table, that is the table of its set over the records whose tables the others are
+abbrev pub IsRolledOutOf : List FilteredFunction → List SetTable → Roll → Type 0
+IsRolledOutOf functions tables roll = IfSome roll.table (λ table. (filters : List (Row → Bool)) (rows : List Row)
+    → AreTablesOf (map (bound filters) functions) tables rows → IsTableOf roll.set.items (map (bound filters) functions) table rows)
+
+abbrev IsOther : List ℕ → Roll → Type 0
+IsOther set roll = roll.set.items ≢ set
+
+any-rolled : (rolls : List Roll) (set : List ℕ) → list_any (λ (roll : Roll). pointwise nat_eq roll.set.items set) rolls ≡ true → AllByRecursion (IsOther set) rolls → ⊥
+any-rolled [] set h none = cc
+any-rolled (roll ∷ rolls) set h none =
+    elim (pointwise nat_eq roll.set.items set) as (λ b. pointwise nat_eq roll.set.items set ≡ b → (b || list_any (λ (r : Roll). pointwise nat_eq r.set.items set) rolls) ≡ true → ⊥) [
+      | true ↦ λ e g. none.0 ((same-Decides roll.set.items set (pointwise nat_eq roll.set.items set) refl).0 e)
+      | false ↦ λ e g. any-rolled rolls set g none.1
+    ] refl h
+
+-- a set that one of the rolls is of has a roll
+pub rolled-there : (tables : List SetTable) (rolls : List Roll) (set : List ℕ) (b : Bool) → b ≡ list_any (λ (roll : Roll). pointwise nat_eq roll.set.items set) rolls → b ≡ true
+    → IsMadeOrRolled set tables rolls
+rolled-there tables rolls set b e h none others = any-rolled rolls set (sym e ∙ h) (recursion_from_All (IsOther set) rolls others)
+
+-- and so has that of the last one
+pub rolled-last : (set : List ℕ) (tables : List SetTable) (rolls : List Roll) (roll : Roll) → roll.set.items ≡ set → IsMadeOrRolled set tables (rolls ++ roll ∷ [])
+rolled-last set tables rolls roll e none others = last (IsOther set) rolls roll (recursion_from_All (IsOther set) (rolls ++ roll ∷ []) others) e
+
+-- where a roll comes to others, those that are there stay
+pub rolled-others : (set : List ℕ) (tables : List SetTable) (rolls : List Roll) (roll : Roll) → IsMadeOrRolled set tables rolls → IsMadeOrRolled set tables (rolls ++ roll ∷ [])
+rolled-others set tables rolls roll h none others =
+    h none (All-from_recursion (IsOther set) rolls (firsts (IsOther set) rolls (roll ∷ []) (recursion_from_All (IsOther set) (rolls ++ roll ∷ []) others)))
+
+-- where the table of the first roll comes to others, no table and no roll is lost
+pub made-next : (set : List ℕ) (tables : List SetTable) (table : SetTable) (roll : Roll) (rolls : List Roll) → table.set.items ≡ roll.set.items
+    → IsMadeOrRolled set tables (roll ∷ rolls) → IsMadeOrRolled set (tables ++ table ∷ []) rolls
+made-next set tables table roll rolls e h none others =
+    let P : SetTable → Type 0 = λ x. x.set.items ≢ set in
+    let all = recursion_from_All P (tables ++ table ∷ []) none in
+    h (All-from_recursion P tables (firsts P tables (table ∷ []) all)) (All-cons (IsOther set) roll rolls (λ is. last P tables table all (e ∙ is)) others)
+
+-- where no roll is left, all have tables
+pub made-all : (set : List ℕ) (tables : List SetTable) (rolls : List Roll) → rolls ≡ [] → IsMadeOrRolled set tables rolls → IsMade set tables
+made-all set tables rolls e h none = h none (subst (λ (rs : List Roll). All (IsOther set) rs) (sym e) (λ k d l. absurd (omega (arith, l))))
+
+-- where the table of a set stands somewhere, it is there
+pub made-at : (set : List ℕ) (tables : List SetTable) (place : ℕ) → place < length tables → ((d : SetTable) → (slice_index_or tables place d).set.items ≡ set) → IsMade set tables
+made-at set [] place lt at none = omega (arith, lt)
+made-at set (table ∷ tables) place lt at none = none place table lt (at table)
+
+-- the table of a roll is that of the records
+pub rolled-table : (functions : List FilteredFunction) (tables : List SetTable) (roll : Roll) (made : SetTable) → made.set.items ≡ roll.set.items → roll.table ≡ Some made.table
+    → IsRolledOutOf functions tables roll → (filters : List (Row → Bool)) (rows : List Row) → AreTablesOf (map (bound filters) functions) tables rows
+    → IsTableOf made.set.items (map (bound filters) functions) made.table rows
+rolled-table functions tables roll made set table is filters rows h =
+    subst (λ (s : List ℕ). IsTableOf s (map (bound filters) functions) made.table rows) (sym set)
+    (subst (λ (o : Option Contents). IfSome o (λ table. (filters : List (Row → Bool)) (rows : List Row)
+    → AreTablesOf (map (bound filters) functions) tables rows → IsTableOf roll.set.items (map (bound filters) functions) table rows)) table is filters rows h)
+
+-- what holds of a value that may not have been made holds where it is kept
+pub some-of_ok : {A E : Type 0} (P : A → Type 0) (r : Result A E) → IfOk r P → IfSome (result_ok r) P
+some-of_ok P (Ok x) h = h
+some-of_ok P (Err e) h = tt
+
+-- the front of a list
+pub take-front : (n : ℕ) (xs ys : List Roll) → length xs ≡ n → take n (xs ++ ys) ≡ xs
+take-front zero [] ys e = refl
+take-front zero (x ∷ xs) ys e = absurd (omega (arith, e))
+take-front (suc n) [] ys e = absurd (omega (arith, e))
+take-front (suc n) (x ∷ xs) ys e = ap (λ rs. x ∷ rs) (take-front n xs ys (omega (arith, e)))
+
+-- rolling changes no set
+pub rolled-same : (functions : List FilteredFunction) (set : List ℕ) (tables : List SetTable) (olds news : List Roll) → length news ≡ length olds → AreRolled functions tables olds news
+    → IsMadeOrRolled set tables olds → IsMadeOrRolled set tables news
+rolled-same functions set tables olds news n each h none others = h none (λ i d l e. others i d (omega (arith, l, n)) ((each i d l).0 ∙ e))
+
+-- what was rolled is what is to become of each roll
+pub rolled-each : (functions : List FilteredFunction) (tables : List SetTable) (olds news : List Roll) → length news ≡ length olds → AreRolled functions tables olds news
+    → All (IsRolledOutOf functions tables) news
+rolled-each functions tables olds news n each = λ i d l.
+    let roll = each i d (omega (arith, l, n)) in
+    subst (λ (s : List ℕ). IfSome (slice_index_or news i d).table (λ table. (filters : List (Row → Bool)) (rows : List Row)
+    → AreTablesOf (map (bound filters) functions) tables rows → IsTableOf s (map (bound filters) functions) table rows)) (sym roll.0) roll.1

@@ -1,19 +1,22 @@
 //! Two tables of records, put together.
-ghost use Rattle.std.specs.Prelude.{◌≡◌, ◌<◌, ◌⊎◌, ◌+◌, ◌++◌, [], Bool, ℕ, IfOk, List, map};
+ghost use Rattle.std.specs.Prelude.{◌≡◌, ◌<◌, ◌⊎◌, ◌+◌, ◌++◌, [], All, Bool, ℕ, IfOk, List, map};
 ghost use Rattle.groups.specs.Bags.{SameBag};
 ghost use Rattle.groups.specs.Functions.{AggregateFunction, bound};
 ghost use Rattle.groups.specs.GroupSummaries.{group_summaries, group_summary_in};
 ghost use Rattle.groups.specs.Inside.Table.{AreGroupsWithin, CanJoin, IsTableOf};
 ghost use Rattle.groups.specs.Rows.{Row};
+ghost use Rattle.tables.specs.SetTables.{AreOfFew, AreRolled, HasFiner, HasRolled};
 ghost use Rattle.query_resolution.specs.declared.function.FilteredFunction.{FilteredFunction};
 
+use crate::rolling::{Roll, SetTable};
 use groups::{Group, Table};
 use query_plan::FilteredFunction;
 use std::alloc::{AllocError, Global};
 use std::marker::Sync;
+use std::thread;
 use std::thread::Threads;
 
-/// Who puts two tables of groups together, begins them and finishes them.
+/// Who puts two tables of groups together, begins them, rolls them and finishes them.
 ///
 /// Example: `CallingThread` does it alone, and `Hands` by several threads.
 pub trait Joiner {
@@ -57,6 +60,19 @@ pub trait Joiner {
         ensures within { IfOk result (λ table. (functions : List FilteredFunction) (m n : ℕ)
             → AreGroupsWithin m functions first → AreGroupsWithin n functions second → AreGroupsWithin (m + n) functions table) };
 
+    /// Makes the tables of some rolls, each out of one of these tables, and leaves no table in a roll where there was no
+    /// memory for it.
+    ///
+    /// These are tables of one list of fewer than 2^63 records for these set functions, and of each roll one of them has the
+    /// columns of its set.
+    ///
+    /// Example: out of the table of the set of two columns come, by two rolls, those of the one and of the other.
+    fn roll_each(&self, tables: &[SetTable], rolls: &mut [Roll], functions: &[FilteredFunction])
+        requires ready { Self.ready self.now }
+        requires few { ∥ AreOfFew functions.now tables.now ∥₁ }
+        requires finer { All (λ roll. HasFiner roll.set.items tables.now) rolls.old }
+        ensures rolled { AreRolled functions.now tables.now rolls.old rolls.new };
+
     /// The groups of a table, as `Table::finish` gives them, in no order that is said.
     ///
     /// Example: `joiner.finish(table)?` gives the groups that `table.finish()?` gives.
@@ -95,6 +111,12 @@ impl Joiner for CallingThread {
         let (mut joined, other) = larger_first(first, second);
         joined.absorb(other)?;
         Ok(joined)
+    }
+
+    fn roll_each(&self, tables: &[SetTable], rolls: &mut [Roll], functions: &[FilteredFunction]) {
+        for place in 0..rolls.len() {
+            rolls[place].roll(tables, functions);
+        }
     }
 
     fn finish(&self, table: Table) -> Result<Vec<Group>, AllocError> {
@@ -136,6 +158,18 @@ impl<'a, H: Threads + Sync> Joiner for Hands<'a, H> {
         let (mut joined, other) = larger_first(first, second);
         joined.absorb_among(self.rt, self.count, other)?;
         Ok(joined)
+    }
+
+    fn roll_each(&self, tables: &[SetTable], rolls: &mut [Roll], functions: &[FilteredFunction]) {
+        thread::for_each_mut(
+            self.rt,
+            rolls,
+            self.count,
+            &|_place: usize, roll: &mut Roll|
+                requires { ∥ AreOfFew functions.now tables.now ∥₁ × HasFiner roll.now.set.items tables.now }
+                ensures { HasRolled functions.entry.now tables.entry.now roll.entry.now roll.exit.now }
+            { roll.roll(tables, functions) },
+        );
     }
 
     fn finish(&self, table: Table) -> Result<Vec<Group>, AllocError> {

@@ -21,3 +21,4 @@ pub use job::{Job, JobBy};
 pub use joining::{CallingThread, Hands, Joiner};
 pub use laws::{job_law, meaning_law, members_law, order_law};
 pub use partial::Partial;
+pub use rolling::{Roll, SetTable};

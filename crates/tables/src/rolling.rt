@@ -1,5 +1,5 @@
 //! The groups of each grouping set, rolled out of the table of all grouping columns.
-ghost use Rattle.std.specs.Prelude.{◌≡◌, ◌≢◌, ◌≤◌, ◌<◌, ◌↔◌, Bool, true, false, ℕ, nat_eq, All, IfOk, OnOk, IsTrue, List, length, map, slice_index_or};
+ghost use Rattle.std.specs.Prelude.{◌≡◌, ◌≢◌, ◌≤◌, ◌<◌, ◌↔◌, ◌∷◌, ◌++◌, [], Some, Bool, true, false, ℕ, nat_eq, All, IfOk, OnOk, IsTrue, List, length, map, slice_index_or};
 ghost use Rattle.std.specs.Cmp.Lexicographic.{pointwise};
 ghost use Rattle.std.specs.List.{list_any};
 ghost use Rattle.std.specs.List.Sorted.{IsPermutation};
@@ -8,7 +8,7 @@ ghost use Rattle.groups.specs.Functions.{AggregateFunction, bound};
 ghost use Rattle.groups.specs.Rows.{Row};
 ghost use Rattle.groups.specs.Rolled.{AreAmong};
 ghost use Rattle.groups.specs.Inside.Table.{IsOfFew, IsTableOf};
-ghost use Rattle.tables.specs.SetTables.{AreOfFew, AreTablesOf, HasFiner, IsMade};
+ghost use Rattle.tables.specs.SetTables.{AreOfFew, AreTablesOf, HasFiner, HasRolled, IsMade, IsMadeOrRolled};
 ghost use Rattle.tables.specs.Sets.{AreGroupsOf};
 
 use crate::joining::Joiner;
@@ -18,11 +18,40 @@ use query_plan::FilteredFunction;
 use std::alloc::{AllocError, Global};
 
 /// The table of a grouping set.
+///
+/// Example: a query with GROUP BY ROLLUP of two columns has three of them: of both columns, of the first one, and of
+/// the empty set.
 #[derive(Drop)]
-struct SetTable {
-    /// The places of its columns.
+pub struct SetTable {
+    /// The places of the columns of the set, from 0.
+    pub set: Vec<usize>,
+    /// The groups of the records under the set.
+    pub table: Table,
+}
+
+/// A grouping set whose table is to be rolled out of others, and the table where that was done.
+///
+/// Example: `Joiner::roll_each` gets some, and leaves in each the table, or none where there was no memory for it.
+#[derive(Drop)]
+pub struct Roll {
     set: Vec<usize>,
-    table: Table,
+    table: Option<Table>,
+}
+
+impl Roll {
+    /// Makes the table, out of the one with the fewest groups that has the columns of the set.
+    ///
+    /// These are tables of one list of fewer than 2^63 records for these set functions, and one of them has the columns of
+    /// the set.
+    ///
+    /// Example: a joiner that works alone calls it for one roll after the other.
+    pub fn roll(&mut self, tables: &[SetTable], functions: &[FilteredFunction])
+        requires few { ∥ AreOfFew functions.now tables.now ∥₁ }
+        requires finer { HasFiner self.old.set.items tables.now }
+        ensures rolled { HasRolled functions.now tables.now self.old self.new }
+    {
+        self.table = rolled_out(tables, self.set.as_slice(), functions).ok();
+    }
 }
 
 /// The groups of each grouping set of a list, in the order of the list; those of one set in no order that is said.
@@ -43,18 +72,21 @@ pub(crate) fn groups_of_sets<J: Joiner>(
         → AreGroupsOf (contents sets.now) (map (bound filters) functions.now) groups.items rows) }
 {
     let order = longest_first(alloc, sets)?;
-    let tables = tables_of_sets(alloc, grouping, order.as_slice(), functions, finest)?;
+    let tables = tables_of_sets(alloc, joiner, grouping, order.as_slice(), functions, finest)?;
     finish_sets(alloc, joiner, sets, functions, tables)
 }
 
-/// A table for each different set of a list, and the one of all grouping columns.
-fn tables_of_sets(
+/// A table for each different set of a list, and the one of all grouping columns. The sets of as many columns are rolled by
+/// the joiner at once, those of more columns first.
+fn tables_of_sets<J: Joiner>(
     alloc: Global,
+    joiner: &J,
     grouping: &[usize],
     sets: &[Vec<usize>],
     functions: &[FilteredFunction],
     finest: Table,
 ) -> Result<Vec<SetTable>, AllocError>
+    requires ready { J.ready joiner.now }
     requires among { All (λ set. AreAmong set.items grouping.now) sets.now }
     requires few { ∥ IsOfFew grouping.now functions.now finest ∥₁ }
     ensures tables { IfOk result (λ tables. (filters : List (Row → Bool)) (rows : List Row) → IsTableOf grouping.now (map (bound filters) functions.now) finest rows
@@ -62,9 +94,12 @@ fn tables_of_sets(
     ensures sets { IfOk result (λ tables. All (λ set. IsMade set.items tables.items) sets.now) }
 {
     let mut tables = first_table(alloc, grouping, finest)?;
-    for set in sets {
-        roll_set(alloc, &mut tables, set.as_slice(), functions)?;
+    for place in 1..sets.len() {
+        if sets[place].len() < sets[place - 1].len() {
+            roll_sets(alloc, joiner, &mut tables, &sets[..place], functions)?;
+        }
     }
+    roll_sets(alloc, joiner, &mut tables, sets, functions)?;
     Ok(tables)
 }
 
@@ -93,29 +128,104 @@ fn longest_first(alloc: Global, sets: &[Vec<usize>]) -> Result<Vec<Vec<usize>>, 
     Ok(order)
 }
 
-/// Makes the table of a set where it is not there, out of the one with the fewest groups that has its columns. After an
+/// Makes the tables of those sets of a list that have none. The joiner rolls them out of those that are there. After an
 /// error the tables are of no use.
-fn roll_set(
+fn roll_sets<J: Joiner>(
     alloc: Global,
+    joiner: &J,
     tables: &mut Vec<SetTable>,
-    set: &[usize],
+    sets: &[Vec<usize>],
     functions: &[FilteredFunction],
 ) -> Result<(), AllocError>
+    requires ready { J.ready joiner.now }
     requires few { ∥ AreOfFew functions.now tables.old.items ∥₁ }
-    requires finer { HasFiner set.now tables.old.items }
+    requires finer { All (λ set. HasFiner set.items tables.old.items) sets.now }
     ensures tables { OnOk result ((filters : List (Row → Bool)) (rows : List Row)
         → AreTablesOf (map (bound filters) functions.now) tables.old.items rows → AreTablesOf (map (bound filters) functions.now) tables.new.items rows) }
-    ensures made { OnOk result (IsMade set.now tables.new.items) }
+    ensures made { OnOk result (All (λ set. IsMade set.items tables.new.items) sets.now) }
     ensures others { OnOk result ((other : List ℕ) → IsMade other tables.old.items → IsMade other tables.new.items) }
 {
-    if place_of_table(tables.as_slice(), set) < tables.len() {
+    let mut rolls = rolls_of(alloc, tables.as_slice(), sets)?;
+    joiner.roll_each(tables.as_slice(), rolls.as_mut_slice(), functions);
+    for roll in rolls {
+        put_rolled(tables, roll)?;
+    }
+    Ok(())
+}
+
+/// A roll for each set of a list that has no table, once for each such set.
+fn rolls_of(
+    alloc: Global,
+    tables: &[SetTable],
+    sets: &[Vec<usize>],
+) -> Result<Vec<Roll>, AllocError>
+    ensures finer { IfOk result (λ rolls. All (λ set. HasFiner set.items tables.now) sets.now → All (λ roll. HasFiner roll.set.items tables.now) rolls.items) }
+    ensures there { IfOk result (λ rolls. All (λ set. IsMadeOrRolled set.items tables.now rolls.items) sets.now) }
+{
+    let mut rolls = Vec::with_capacity(alloc, sets.len())?;
+    for set in sets {
+        put_roll(alloc, tables, &mut rolls, set.as_slice())?;
+    }
+    Ok(rolls)
+}
+
+/// Puts a roll for a set behind others, where it has neither a table nor a roll.
+fn put_roll(
+    alloc: Global,
+    tables: &[SetTable],
+    rolls: &mut Vec<Roll>,
+    set: &[usize],
+) -> Result<(), AllocError>
+    ensures finer { OnOk result (HasFiner set.now tables.now → All (λ roll. HasFiner roll.set.items tables.now) rolls.old.items
+        → All (λ roll. HasFiner roll.set.items tables.now) rolls.new.items) }
+    ensures there { OnOk result (IsMadeOrRolled set.now tables.now rolls.new.items) }
+    ensures others { OnOk result ((other : List ℕ) → IsMadeOrRolled other tables.now rolls.old.items → IsMadeOrRolled other tables.now rolls.new.items) }
+{
+    if place_of_table(tables, set) < tables.len() {
         return Ok(());
     }
-    let finer = &tables[place_of_finer(tables.as_slice(), set)];
-    let table = finer.table.roll(finer.set.as_slice(), set, functions)?;
+    if is_rolled(rolls.as_slice(), set) {
+        return Ok(());
+    }
     let set = Vec::from_slice(alloc, set)?;
-    tables.push(SetTable { set, table })?;
+    rolls.push(Roll { set, table: None })?;
     Ok(())
+}
+
+/// Whether one of the rolls is that of a set.
+fn is_rolled(rolls: &[Roll], set: &[usize]) -> bool
+    ensures { result ≡ list_any (λ roll. pointwise nat_eq roll.set.items set.now) rolls.now }
+{
+    rolls.iter().any(|roll| roll.set.as_slice() == set)
+}
+
+/// Puts the table of a roll to others, where it was made.
+fn put_rolled(tables: &mut Vec<SetTable>, roll: Roll) -> Result<(), AllocError>
+    ensures { OnOk result ((made : SetTable) × (made.set.items ≡ roll.set.items) × (roll.table ≡ Some made.table) × (tables.new.items ≡ tables.old.items ++ made ∷ [])) }
+{
+    let Roll { set, table } = roll;
+    match table {
+        Some(table) => {
+            tables.push(SetTable { set, table })?;
+            Ok(())
+        }
+        None => Err(AllocError),
+    }
+}
+
+/// The table of a set, out of the one with the fewest groups that has its columns.
+fn rolled_out(
+    tables: &[SetTable],
+    set: &[usize],
+    functions: &[FilteredFunction],
+) -> Result<Table, AllocError>
+    requires few { ∥ AreOfFew functions.now tables.now ∥₁ }
+    requires finer { HasFiner set.now tables.now }
+    ensures rolled { IfOk result (λ table. (filters : List (Row → Bool)) (rows : List Row)
+        → AreTablesOf (map (bound filters) functions.now) tables.now rows → IsTableOf set.now (map (bound filters) functions.now) table rows) }
+{
+    let finer = &tables[place_of_finer(tables, set)];
+    finer.table.roll(finer.set.as_slice(), set, functions)
 }
 
 /// Where the table of a set stands, and the number of the tables where there is none.

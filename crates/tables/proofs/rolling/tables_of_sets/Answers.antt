@@ -1,34 +1,45 @@
-use Rattle.std.proofs.Common.{All, Vec, Global, ℕ, sym, subst, arith}
+use Rattle.std.proofs.Common.{Vec, Global, ℕ, map, take, slice_index_or, sym, subst}
 use Rattle.std.proofs.Math.Logic.{∥∥₁_map}
-use Rattle.std.proofs.lemmas.List.{take_all}
-use Rattle.std.proofs.lemmas.List.Elements.{All-more, All-weaker}
+use Rattle.std.proofs.lemmas.List.Elements.{All-take}
+use Rattle.groups.specs.Functions.{bound}
 use Rattle.groups.specs.Rolled.{AreAmong}
-use Rattle.tables.specs.SetTables.{IsMade}
+use Rattle.tables.specs.declared.rolling.SetTable.{SetTable}
+use Rattle.tables.specs.SetTables.{AreTablesOf, IsMade}
 use Rattle.tables.proofs.SetTables.{finer-there}
 use Rattle.tables.proofs.rolling.tables_of_sets.Goals as goal
+use Rattle.tables.proofs.rolling.tables_of_sets.Goals.{then-len+in_ok-roll_sets, else-len}
 
-pub roll_set-requires-clause-few : goal.roll_set-requires-clause-few
-roll_set-requires-clause-few c = ∥∥₁_map c.requires.few (λ p. record { filters = p.filters; rows = p.rows; are_tables = c.loop-set.invariant.tables p.filters p.rows p.is_table; few = p.few })
+pub roll_sets-requires-clause-few : goal.roll_sets-requires-clause-few
+roll_sets-requires-clause-few g c = ∥∥₁_map c.requires.few (λ p. record { filters = p.filters; rows = p.rows; are_tables = c.loop-place.invariant.tables p.filters p.rows p.is_table; few = p.few })
 
-pub roll_set-requires-clause-finer : goal.roll_set-requires-clause-finer
-roll_set-requires-clause-finer c =
-    let item = c.set-item.result in
-    let among : AreAmong item.items c.args.grouping.now = subst (λ (set : Vec ℕ Global). AreAmong set.items c.args.grouping.now) (sym c.set-item.is) (c.requires.among c.loop-set.set-index item c.loop-set-test.true) in
-    finer-there c.as_slice.result.now c.args.grouping.now c.loop-set.tables.items (subst (λ set. AreAmong set c.args.grouping.now) (sym c.as_slice.ensures.value) among) c.loop-set.invariant.finest
+pub roll_sets-requires-clause-finer : goal.roll_sets-requires-clause-finer
+roll_sets-requires-clause-finer g c = λ k d l.
+    let sets = take c.loop-place.place c.args.sets.now in
+    finer-there (slice_index_or sets k d).items c.args.grouping.now c.loop-place.tables.items
+    (All-take (λ (set : Vec ℕ Global). AreAmong set.items c.args.grouping.now) c.loop-place.place c.args.sets.now c.requires.among k d l) c.loop-place.invariant.finest
 
-pub loop-set-preserved : goal.loop-set-preserved
-loop-set-preserved c =
-    let i = c.loop-set.set-index in
-    let item = c.set-item.result in
-    let new = c.roll_set.new.tables.items in
-    let made : IsMade item.items new = subst (λ set. IsMade set new) c.as_slice.ensures.value c.in_ok-roll_set.ensures.made in
-    record {
-      tables = λ filters rows table. c.in_ok-roll_set.ensures.tables filters rows (c.loop-set.invariant.tables filters rows table);
-      finest = c.in_ok-roll_set.ensures.others c.args.grouping.now c.loop-set.invariant.finest;
-      made = All-more (λ (set : Vec ℕ Global). IsMade set.items new) c.args.sets.now i item c.loop-set-test.true
-          (All-weaker (λ (set : Vec ℕ Global). IsMade set.items c.loop-set.tables.items) (λ (set : Vec ℕ Global). IsMade set.items new) (λ set. c.in_ok-roll_set.ensures.others set.items) _ c.loop-set.invariant.made)
-          (subst (λ (set : Vec ℕ Global). IsMade set.items new) c.set-item.is made);
-    }
+pub loop-place-preserved : goal.loop-place-preserved
+loop-place-preserved g c =
+    let fs = c.args.functions.now in
+    let before = c.loop-place.invariant in
+    elim c.if-len.branch [
+      | then-len+in_ok-roll_sets w ↦ record {
+        tables = λ filters rows table. subst (λ (ts : Vec SetTable Global). AreTablesOf (map (bound filters) fs) ts.items rows) (sym w.tables-is)
+            (w.in_ok-roll_sets.ensures.tables filters rows (before.tables filters rows table));
+        finest = subst (λ (ts : Vec SetTable Global). IsMade c.args.grouping.now ts.items) (sym w.tables-is) (w.in_ok-roll_sets.ensures.others c.args.grouping.now before.finest);
+      }
+      | else-len w ↦ record {
+        tables = λ filters rows table. subst (λ (ts : Vec SetTable Global). AreTablesOf (map (bound filters) fs) ts.items rows) (sym w.tables-is) (before.tables filters rows table);
+        finest = subst (λ (ts : Vec SetTable Global). IsMade c.args.grouping.now ts.items) (sym w.tables-is) before.finest;
+      }
+    ]
 
-pub returns-clause-sets : goal.returns-clause-sets
-returns-clause-sets c = subst (All (λ (set : Vec ℕ Global). IsMade set.items c.loop-set.tables.items)) (take_all c.loop-set.set-index c.args.sets.now (omega (arith, c.loop-set-test.false))) c.loop-set.invariant.made
+pub roll_sets-requires-2-clause-few : goal.roll_sets-requires-2-clause-few
+roll_sets-requires-2-clause-few g c = ∥∥₁_map c.requires.few (λ p. record { filters = p.filters; rows = p.rows; are_tables = c.loop-place.invariant.tables p.filters p.rows p.is_table; few = p.few })
+
+pub roll_sets-requires-2-clause-finer : goal.roll_sets-requires-2-clause-finer
+roll_sets-requires-2-clause-finer g c = λ k d l.
+    finer-there (slice_index_or c.args.sets.now k d).items c.args.grouping.now c.loop-place.tables.items (c.requires.among k d l) c.loop-place.invariant.finest
+
+pub returns-clause-tables : goal.returns-clause-tables
+returns-clause-tables g c = λ filters rows table. c.in_ok-roll_sets-2.ensures.tables filters rows (c.loop-place.invariant.tables filters rows table)

@@ -16,7 +16,7 @@ use Rattle.tables.specs.declared.note.Note.{Note}
 use Rattle.tables.specs.Folding.{good_of}
 use Rattle.tables.specs.Notes.{Noted, note_in, note_of}
 use Rattle.tables.specs.Partials.{StandsFor}
-use Rattle.tables.specs.Pieces.{IndexedPiece, records_of}
+use Rattle.tables.specs.Pieces.{records_of}
 use Rattle.tables.specs.States.{PartialState}
 use Rattle.tables.specs.Functions.{aggregate_functions}
 use Rattle.tables.proofs.Bound.{as-many}
