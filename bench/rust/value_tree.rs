@@ -599,7 +599,11 @@ fn main() {
         .expect("WORKERS");
     let path = words.next().expect("FILE");
     let query = Query {
-        grouping: if words.next().is_some() { vec![1] } else { vec![1, 2] },
+        grouping: if words.next().is_some() {
+            vec![1]
+        } else {
+            vec![1, 2]
+        },
         functions: vec![Function::CountRows, Function::Sum(3)],
     };
     let begin = Instant::now();
@@ -611,7 +615,8 @@ fn main() {
         sets.push(rolled(&sets[sets.len() - 1], columns));
     }
     let all = sets.last_mut().expect("the empty set");
-    all.entry(Vec::new()).or_insert_with(|| Group::new(&query.functions));
+    all.entry(Vec::new())
+        .or_insert_with(|| Group::new(&query.functions));
     let mut out = Vec::new();
     for place in &query.grouping {
         write!(out, "{},", COLUMNS[*place].0).unwrap();
