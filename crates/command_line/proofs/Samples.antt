@@ -1,7 +1,7 @@
 -- What clap publishes for words that are written out: the clauses on the words are not empty.
 use Rattle.std.proofs.Common.{◌≡◌, refl, List, [], ◌∷◌, Some, None, codes}
 use Rattle.clap.proofs.OnLiterals.{clap_on_literals}
-use Rattle.clap.specs.declared.error.kind.ErrorKind.TheVariants.{DisplayHelp, MissingRequiredArgument, TooManyValues, ValueValidation}
+use Rattle.clap.specs.declared.error.kind.ErrorKind.TheVariants.{DisplayHelp, DisplayVersion, MissingRequiredArgument, TooManyValues, ValueValidation}
 use Rattle.clap.specs.Words.{Text, fault_of, matches_of, one_of}
 use Rattle.command_line.specs.Command.{IsSet, command, value_of}
 
@@ -105,3 +105,12 @@ without_file-fault = refl
 help-fault : fault_of command (codes "jlreport" ∷ codes "--help" ∷ []) ≡ DisplayHelp ∷ []
 unfolding clap_on_literals
 help-fault = refl
+
+-- words that ask for the version, and nothing more is asked of them
+version-fault : fault_of command (codes "jlreport" ∷ codes "--version" ∷ []) ≡ DisplayVersion ∷ []
+unfolding clap_on_literals
+version-fault = refl
+
+version_letter-fault : fault_of command (codes "jlreport" ∷ codes "-V" ∷ []) ≡ DisplayVersion ∷ []
+unfolding clap_on_literals
+version_letter-fault = refl

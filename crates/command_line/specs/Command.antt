@@ -31,11 +31,15 @@ flag name = record (new_rule name) { long = Some name; action = Some SetTrue }
 abbrev pub required_word : Text → Rule
 required_word name = record (new_rule name) { value_names = 1; action = Some Set; required = true }
 
+-- a command that has a version, which `--version` and `-V` ask for
+abbrev pub with_version : App → App
+with_version app = record app { top = record app.top { has_version = true } }
+
 -- `jlreport --columns <SPEC> --query <TEXT> [--workers <N>] [--piece <BYTES>] [--max-refused <N>] [--explain] <FILE>`,
--- with 4 workers and pieces of 1,048,576 bytes where they are not given
+-- with 4 workers and pieces of 1,048,576 bytes where they are not given; `--help` and `--version` ask for a text instead
 abbrev pub command : App
 command =
-    with_rule (with_rule (with_rule (with_rule (with_rule (with_rule (with_rule (new_app (codes "jlreport"))
+    with_rule (with_rule (with_rule (with_rule (with_rule (with_rule (with_rule (with_version (new_app (codes "jlreport")))
     (required_option (codes "columns")))
     (required_option (codes "query")))
     (number_option (codes "workers") (codes "4" ∷ [])))

@@ -2,7 +2,7 @@
 ghost use Rattle.std.specs.Prelude.{◌≡◌, ◌↔◌, [], ℕ, IfErr, IfOk, IfSome, IsNone, Some, codes, true};
 ghost use Rattle.clap.specs.Walk.{texts};
 ghost use Rattle.clap.specs.Words.{app_of, fault_of, found_of, kind_of, new_app, one_text};
-ghost use Rattle.command_line.specs.Command.{IsNumberOf, IsSet, command, value_of};
+ghost use Rattle.command_line.specs.Command.{IsNumberOf, IsSet, command, value_of, with_version};
 ghost use Rattle.command_line.specs.Numbers.{IsNumberIn};
 ghost use Rattle.command_line.specs.Ranges.{AreInRange};
 ghost use Rattle.command_line.specs.Refusal.{IsRefusalOf};
@@ -16,6 +16,9 @@ use crate::words::{Settings, WordsFault};
 use clap::error::ErrorKind;
 use clap::{ArgMatches, Command, Error};
 use std::alloc::Global;
+
+/// What `--version` shows behind the program's name.
+const VERSION: &str = "1.1.0";
 
 /// What stands at the top of the help.
 const ABOUT: &str = "Answers one SQL aggregate query over a file of JSON lines";
@@ -43,14 +46,23 @@ const EXPLAIN_HELP: &str =
 /// What help says of the file.
 const FILE_HELP: &str = "The file to read, with one JSON object on each line";
 
-/// What stands at the end of the help.
+/// What stands at the end of the help that `-h` shows.
+const SUMMARY: &str =
+    "The report goes to standard output, as CSV in which \\N is NULL; the refused lines go to standard
+error. The status is 0, or 1 where lines were refused; 2 to 5 say what went wrong.
+
+Example:
+  jlreport --columns shop:text,cents:int --query 'SELECT shop, SUM(cents) AS cents
+    FROM lines GROUP BY shop ORDER BY cents DESC NULLS LAST' examples/events.jsonl";
+
+/// What stands at the end of the help that `--help` shows.
 const DETAILS: &str = "Columns:
   A column is NAME:TYPE, with TYPE int (whole numbers of 64 bits), text (strings) or bool. It takes
   the member NAME of the object on a line. A line fits where each column's member is of its type, is
   null or is missing; other members are ignored. A NAME has ASCII letters, digits and _, no digit
   first. There are 1 to 32 columns with different names, joined by commas without spaces.
 
-Query (docs/LANGUAGE.md says all of it):
+Query (LANGUAGE.md, named below, says all of it):
   SELECT ITEM, .. FROM lines [WHERE PRED] [GROUP BY [DISTINCT] GROUP, ..] [HAVING PRED]
     [ORDER BY KEY, ..]
 
@@ -76,7 +88,7 @@ Output:
   then a line for each grouping set, as its number from 0 and its columns.
 
 Exit status:
-  0  there is a report, and no line is refused; or an explanation or help was asked for
+  0  there is a report, and no line is refused; or an explanation, help or the version was asked for
   1  there is a report, and some lines are refused
   2  the words, the columns or the query are refused
   3  the file cannot be opened or read, or the output cannot be written
@@ -88,15 +100,26 @@ Examples:
     'SELECT shop, SUM(cents) FROM lines GROUP BY ROLLUP (shop)' examples/events.jsonl
   jlreport --columns shop:text,member:bool --query \\
     'SELECT shop, COUNT(*) AS n FROM lines WHERE member GROUP BY shop HAVING COUNT(*) > 5
-     ORDER BY n DESC' examples/events.jsonl";
+     ORDER BY n DESC' examples/events.jsonl
+
+Read on:
+  man jlreport. These pages stand in docs/ of the sources, and where the program is installed as
+  PREFIX/bin/jlreport, in PREFIX/share/doc/jlreport (mostly /usr/local/share/doc/jlreport):
+    LANGUAGE.md  the columns, the lines and the query language, also for who comes from SQL
+    COOKBOOK.md  questions to a log, each with its query and its report
+    FAULTS.md    each fault, when it comes and what to do, and what is no fault
+    SCALE.md     how far one machine goes, and how reports over parts of a file are joined
+    examples/    the files of all examples";
 
 /// The command without its arguments, with the texts that help shows around them.
 fn described_command<'a>(alloc: Global) -> Command<'a>
-    ensures { app_of result ≡ new_app (codes "jlreport") }
+    ensures { app_of result ≡ with_version (new_app (codes "jlreport")) }
 {
     Command::new(alloc, "jlreport")
+        .version(VERSION)
         .about(ABOUT)
-        .after_help(DETAILS)
+        .after_help(SUMMARY)
+        .after_long_help(DETAILS)
 }
 
 /// The command of the program.
@@ -157,8 +180,8 @@ fn options_of(matches: &ArgMatches<'_>) -> Option<Options>
 ///
 /// # Errors
 ///
-/// `WordsFault::Clap` where the words have a fault under the command, where they ask for help, and
-/// where memory runs out; `WordsFault::Range` where they have none, and a number is out of its
+/// `WordsFault::Clap` where the words have a fault under the command, where they ask for help or for
+/// the version, and where memory runs out; `WordsFault::Range` where they have none, and a number is out of its
 /// range. `WordsFault::NotUtf8` is never answered.
 pub fn settings<'a>(alloc: Global, words: &'a [&'a str]) -> Result<Settings<'a>, WordsFault>
     ensures columns { IfOk result (λ s.

@@ -31,7 +31,8 @@ pub struct Settings<'a> {
 /// is `Clap`.
 #[derive(Debug, Drop)]
 pub enum WordsFault {
-    /// What `clap` answers in place of settings. Its kind tells a refusal, help and want of memory.
+    /// What `clap` answers in place of settings. Its kind says which it is: a refusal, help,
+    /// the version, or want of memory.
     Clap(Error),
     /// The number of workers or the size of a piece is none that `Options::new` takes.
     Range,

@@ -111,11 +111,11 @@ fn run_status(fault: &RunFault) -> u8
 }
 
 /// Does what the words ask for, and answers the status that the program ends with: 0 where no line
-/// is refused or where help or an explanation is asked for, 1 where some are, 2 where the words,
-/// the schema or the query are refused, 3 where the file cannot be opened or read or a text cannot
-/// be written, 4 where memory runs out or a thread cannot be started, 5 where more lines are
-/// refused than may be. The report, the explanation and help go to `out`; the refused lines and
-/// what went wrong go to `err`. Where what went wrong cannot be written there, the status alone
+/// is refused or where help, the version or an explanation is asked for, 1 where some are, 2 where
+/// the words, the schema or the query are refused, 3 where the file cannot be opened or read or a
+/// text cannot be written, 4 where memory runs out or a thread cannot be started, 5 where more
+/// lines are refused than may be. The report, the explanation, help and the version go to `out`;
+/// the refused lines and what went wrong go to `err`. Where what went wrong cannot be written there, the status alone
 /// tells it.
 ///
 /// `opener` answers the reader of the file of a path, or `None` where it cannot be opened. It has
@@ -229,8 +229,8 @@ fn ended<E: Write>(alloc: Global, ending: &Ending, err: &mut E) -> u8
     }
 }
 
-/// Says what `clap` answers in place of settings: help on standard output, a fault of the words on
-/// standard error.
+/// Says what `clap` answers in place of settings: help and the version on standard output, a fault of
+/// the words on standard error.
 fn answered<O: Write, E: Write>(
     alloc: Global,
     error: &clap::Error,
