@@ -1,4 +1,4 @@
-//! A Rust program of the shape that `jlreport` is held against: each line is read as a JSON value tree,
+//! The simple way that `bench/beside` times, which is slow Rust: each line is read as a JSON value tree,
 //! its columns are taken out of the tree, and each worker has one hashed table of the finest grouping
 //! set, from keys, lists of values, to what is kept of a group, a list of accumulators. The tables are
 //! joined and rolled up at the end, and the rows are written in the order of their keys. The columns, the
@@ -7,11 +7,10 @@
 //! checked as UTF-8), and its queues, a locked `VecDeque` for each worker that others steal from, stand
 //! for `crossbeam_deque`.
 //!
-//! Usage: value_tree WORKERS FILE [shop]. It answers, over the lines of `bench/generate`,
+//! Usage: value_tree WORKERS FILE. It answers, over the lines of `bench/generate`,
 //! SELECT shop, kind, COUNT(*) AS events, SUM(cents) AS cents FROM lines GROUP BY ROLLUP (shop, kind)
-//! on standard output, or the same of the shop alone where that word is given, to the byte as `jlreport`
-//! does, and writes to standard error the milliseconds that reading the file and all the rest took, and
-//! how many lines are refused.
+//! on standard output, to the byte as `jlreport` does, and writes to standard error the milliseconds that
+//! reading the file and all the rest took, and how many lines are refused.
 
 use std::collections::{BTreeMap, HashMap, VecDeque};
 use std::io::Write;
@@ -547,10 +546,14 @@ fn put_field(out: &mut Vec<u8>, value: &Datum) {
         Datum::Null => out.extend_from_slice(b"\\N"),
         Datum::Bool(truth) => write!(out, "{truth}").unwrap(),
         Datum::Whole(number) => write!(out, "{number}").unwrap(),
-        Datum::Text(text) if text.contains([',', '"', '\n', '\r']) || text.is_empty() => {
-            write!(out, "\"{}\"", text.replace('"', "\"\"")).unwrap();
+        Datum::Text(text) => {
+            let slash = if text.starts_with('\\') { "\\" } else { "" };
+            if text.contains([',', '"', '\n', '\r']) {
+                write!(out, "\"{slash}{}\"", text.replace('"', "\"\"")).unwrap();
+            } else {
+                write!(out, "{slash}{text}").unwrap();
+            }
         }
-        Datum::Text(text) => out.extend_from_slice(text.as_bytes()),
     }
 }
 
@@ -599,11 +602,7 @@ fn main() {
         .expect("WORKERS");
     let path = words.next().expect("FILE");
     let query = Query {
-        grouping: if words.next().is_some() {
-            vec![1]
-        } else {
-            vec![1, 2]
-        },
+        grouping: vec![1, 2],
         functions: vec![Function::CountRows, Function::Sum(3)],
     };
     let begin = Instant::now();
