@@ -6,7 +6,7 @@ use Rattle.pool.specs.Totals.{together, total, sum_below, sum_list, once_below}
 use Rattle.pool.specs.Outcomes.{Decides}
 use Rattle.pool.specs.Lawful.{Lawful}
 use Rattle.pool.specs.Holding.{Holding}
-use Rattle.pool.specs.Settled.{AreAll, AllSpent, joined, pieces_of}
+use Rattle.pool.specs.Settled.{AreAll, AllSpent, HaveEachOnce, HaveNoneTwice, joined, pieces_of}
 use Rattle.pool.specs.Fanned.{AreReady, DidAll, AreUnderWay, CameBack, begun, Settles, Outweighs, IsAbove}
 use Rattle.pool.specs.declared.laws.Outcome.{Outcome}
 use Rattle.pool.specs.declared.laws.Outcome.TheVariants.{Whole, Over}
@@ -66,12 +66,12 @@ module _ {M S P : Type 0} {fits : M → Type 0} {unit : M} {combined : M → M �
         omega (arith, within, told)
 
     module _ (ls : List Holding) (same : ls ≡ ks) where
-      pub fanned_once : (x : ℕ) → times x (joined ls) ≤ once_below x (pieces_of hs)
-      fanned_once x = subst (λ l. times x (joined l) ≤ once_below x (pieces_of hs)) (sym same) (at_most_once x)
+      pub fanned_once : HaveNoneTwice ls
+      fanned_once = subst HaveNoneTwice (sym same) (λ x. (apart x).0)
 
       pub fanned_settled : (limit : ℕ) (outcome : Outcome P) → Decides meaning (together unit combined (map meaning qs)) (weight (together unit combined (map meaning qs))) limit outcome
           → AllSpent ks ⊎ (limit < weight (together unit combined (map meaning qs))) → Settles outcome ls
-      fanned_settled limit (Whole p) told spent = subst AllSpent (sym same) (all_spent limit spent told.1)
+      fanned_settled limit (Whole p) told spent = let all = all_spent limit spent told.1 in subst (λ l. AllSpent l × HaveEachOnce l) (sym same) (all, λ x. (apart x).1 all)
       fanned_settled limit Over told spent = tt
 
   pub fanned_above : (ls : List Holding) → ls ≡ ks → (limit : ℕ) (outcome : Outcome P)

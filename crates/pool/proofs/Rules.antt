@@ -320,7 +320,6 @@ module _ (port : ℕ) (v : View) (hand : ℕ) (list : List ℕ) (is : v.known �
               let here : Ascends (lists' hand ++ xs) = subst (λ (s : State). Ascends (s.lists hand ++ s.deque)) (after-snoc schedule hand (begin numbers) ∙ ap (step hand) facts.reached) run in
               let list_up : Ascends (list ++ x ∷ []) = subst Ascends theirs'.1 (ascends_front (lists' hand) xs here) in
               subst AllAscend (sym now) (list_up, tt)),
-          (schedule, xs, lists, subst (λ n. after schedule (begin n) ≡ state (x ∷ xs) lists) (sym (mine.same (subst Seated (sym is) tt))) facts.reached, had seat lists made port v.known mine.theirs),
         ),
       )
 
@@ -353,7 +352,7 @@ module _ (port : ℕ) (v : View) (hand : ℕ) (list : List ℕ) (is : v.known �
                 (λ j u other e. facts.each j u e));
           },
         ),
-        (refl, (schedule, lists, subst (λ n. after schedule (begin n) ≡ state [] lists) (sym (mine.same (subst Seated (sym is) tt))) facts.reached, had seat lists made port v.known mine.theirs)),
+        refl,
       )
 
   takes_task : (t : Task) (left : List ℕ) (ends : ℕ) → DealtBy (t ∷ items) views numbers schedule left lists seat boss made ends → (w : View) × Dealt items (set views port w) × TakenFrom v (t ∷ []) w

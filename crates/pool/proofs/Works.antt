@@ -50,7 +50,7 @@ mod_small a k h = rw add-zero (mod-eq_of_lt h)
 pub holding_within : (h : Holding) (z : ℕ) → IsHolding h → times z (numbers_of h) ≤ once_below z h.pieces
 holding_within h z is =
     let s : h.own.seen.numbers ≡ dealt h.hands ((h.number + 0) % h.hands) h.pieces = is.2 ∙ ap (λ n. dealt h.hands n h.pieces) (sym (mod_small h.number h.hands is.0)) in
-    (round_within h.number h.hands h.pieces z 0 (h.own.seen ∷ h.others) (is.1, s, is.6, is.4) (omega (arith, is.3))).0
+    (round_within h.number h.hands h.pieces z 0 (h.own.seen ∷ h.others) (is.1, s, is.5, is.4) (omega (arith, is.3))).0
 
 lists_grown : (ss : List Seen) (r x : ℕ) (old s : Seen) → get_elem? ss r ≡ some old → s.list ≡ old.list ++ x ∷ [] → Grown (lists_of ss) x (lists_of (set ss r s))
 lists_grown [] r x old s at e = absurd (some-ne-none old (sym at))
@@ -142,7 +142,7 @@ module _ {M : Type 0} {fits : M → Type 0} {unit : M} {combined : M → M → M
   -- a hand that is spent has what it had
   pub did_nothing : (h k : Holding) (s : ℕ) (m : M) → MayGoOn begin combined piece weight load h s m → Answers h k Spent → IsHolding k → Did begin combined piece weight h s k s m
   did_nothing h k s m may answer holding =
-      let same : numbers_of k ≡ numbers_of h = ap numbers_of answer.0 in
+      let same : numbers_of k ≡ numbers_of h = ap numbers_of answer in
       let c = ap (sum_list (λ i. weight (piece i))) same in
       record { follows = follows_next h k Spent answer holding; part = may.part ∙ ap (gathered begin combined piece) (sym same); sum = omega (arith, c) }
 

@@ -4,7 +4,7 @@ use mathlib.Core.Option.{some}
 use lib.ListN.{get_elem?}
 use Rattle.pool.specs.Totals.{sum_below, sum_list, together}
 use Rattle.pool.specs.Holding.{Holding, numbers_of}
-use Rattle.pool.specs.Settled.{AllSpent, joined, pieces_of}
+use Rattle.pool.specs.Settled.{AllSpent, HaveEachOnce, joined, pieces_of}
 use Rattle.pool.specs.Assembly.{IsNewDeal}
 use Rattle.pool.specs.Done.{Follows, Did, MayGoOn}
 use Rattle.pool.specs.declared.laws.Outcome.{Outcome}
@@ -43,13 +43,19 @@ CameBack weights sum hs ss ks ts =
     × ((i : ℕ) (h : Holding) (s : _) (k : Holding) (t : _) → get_elem? hs i ≡ some h → get_elem? ss i ≡ some s → get_elem? ks i ≡ some k → get_elem? ts i ≡ some t
     → Follows h k × (sum t ≡ sum s + sum_list weights (numbers_of k)))
 
+-- the shares came back in their order: each has grown by the weights of the pieces in the list of the hand at its place
+abbrev pub Reported : {S : Type 0} → (ℕ → ℕ) → (S → ℕ) → List S → List Holding → List S → Type 0
+Reported weights sum ss ks ts =
+    (length ks ≡ length ss) × (length ts ≡ length ss)
+    × ((i : ℕ) (s : _) (k : Holding) (t : _) → get_elem? ss i ≡ some s → get_elem? ks i ≡ some k → get_elem? ts i ≡ some t → sum t ≡ sum s + sum_list weights (numbers_of k))
+
 -- no thread is needed: but for the first, each hand is of a deal with no piece
 abbrev pub NeedNoThread : List Holding → Type 0
 NeedNoThread hs = (i : ℕ) (h : Holding) → get_elem? hs i ≡ some h → (i ≡ 0) ⊎ (h.pieces ≡ 0)
 
--- after Whole each hand has answered Spent
+-- after Whole each hand has answered Spent, and each piece is in the list of one hand, once
 abbrev pub Settles : {P : Type 0} → Outcome P → List Holding → Type 0
-Settles (Whole p) hs = AllSpent hs
+Settles (Whole p) hs = AllSpent hs × HaveEachOnce hs
 Settles Over hs = Unit {0}
 
 -- after Over, the pieces in the hands' lists weigh more than the limit

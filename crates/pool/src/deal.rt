@@ -1,9 +1,9 @@
 //! Hands, which take numbers from their own deque, and then from those of the others.
-ghost use Rattle.std.specs.Prelude.{length, ◌%◌, ◌↔◌, All, IsTrue, ◌≡◌, ℕ, List, ◌+◌, ◌-◌, ◌<◌, ◌≤◌, true, false, [], ◌∷◌, ◌++◌, MatchOption, IfOk, IfSome, IfNone};
-ghost use Rattle.pool.specs.Seen.{Seen, WasEmpty, Took, with_seen, now_closed, Looked, IsThief};
+ghost use Rattle.std.specs.Prelude.{◌≢◌, length, ◌%◌, ◌↔◌, All, IsTrue, ◌≡◌, ℕ, List, ◌+◌, ◌-◌, ◌<◌, ◌≤◌, true, false, [], ◌∷◌, ◌++◌, MatchOption, IfOk, IfSome, IfNone};
+ghost use Rattle.pool.specs.Seen.{Seen, Took, with_seen, now_closed, Looked, IsThief};
 ghost use Rattle.pool.specs.Holding.{Steals, IsHolding, InOrder, new_holding};
 ghost use Rattle.pool.specs.Answered.{Answers};
-ghost use Rattle.pool.specs.Settled.{list_from, Reaches, AllReach, told, AreAll, AllSpent, joined, pieces_of, KnowsAbove};
+ghost use Rattle.pool.specs.Settled.{list_from, Reaches, AllReach, told, AreAll, AllSpent, HaveEachOnce, HaveNoneTwice, HaveThoseGone, IsClosed, joined, pieces_of, KnowsAbove};
 ghost use Rattle.pool.specs.Totals.{once_below};
 ghost use Rattle.pool.specs.Rule.{held, UpTo, Seated, Apart, lent_view, giving_view, given_view};
 ghost use Rattle.pool.specs.Dealing.{times};
@@ -64,7 +64,7 @@ impl Own {
     /// The first number of the deque. None, where only end marks are left: from then on there is none for good.
     fn take(&mut self) -> Option<u32>
         requires { self.old.closed ≡ false }
-        ensures { MatchOption result ((self.new ≡ now_closed self.old) × WasEmpty self.old.seen) (λ x. (s : Seen) × Took self.old.seen x s × (self.new ≡ with_seen self.old s)) }
+        ensures { MatchOption result (self.new ≡ now_closed self.old) (λ x. (s : Seen) × Took self.old.seen x s × (self.new ≡ with_seen self.old s)) }
     {
         let Some(packed) = self.worker.pop_as::<Taken>() else {
             unreachable!();
@@ -168,7 +168,7 @@ fn steal(others: &mut Vec<Reach>) -> Option<u32>
 
 /// The first of its own deque, unless it was found to have none before.
 fn own_first(own: &mut Own) -> Option<u32>
-    ensures none { IfNone result ((own.new ≡ now_closed own.old) × (own.old.closed ≡ false → WasEmpty own.old.seen)) }
+    ensures none { IfNone result (own.new ≡ now_closed own.old) }
     ensures some { IfSome result (λ x. (s : Seen) × Took own.old.seen x s × (own.new ≡ with_seen own.old s) × (own.old.closed ≡ false)) }
 {
     if own.closed {
@@ -186,6 +186,7 @@ impl Hand {
         ensures answer { Answers self.old self.new result }
         ensures holding { IsHolding self.new }
         ensures order { InOrder self.new }
+        ensures memory { result ≢ Next.Memory }
     {
         if let Some(x) = own_first(&mut self.own) {
             return Next::Piece(x);
@@ -241,12 +242,13 @@ impl Hand {
     }
 }
 
-/// No piece of the deque of the hand d is in the lists more than once, and each is in one where all hands are spent.
+/// No piece of the deque of the hand d is in the lists more than once, and each is in one where that hand knows that none
+/// is left there.
 fn apart_of(hands: &mut [Hand], d: usize)
     requires deal { AreAll hands.old }
     requires low { d < length hands.old }
     ensures same { hands.new ≡ hands.old }
-    ensures apart { (x : ℕ) → x % length hands.old ≡ d → UpTo (AllSpent hands.old) (times x (joined hands.old)) (once_below x (pieces_of hands.old)) }
+    ensures apart { (x : ℕ) → x % length hands.old ≡ d → UpTo (IsClosed d hands.old) (times x (joined hands.old)) (once_below x (pieces_of hands.old)) }
 {
     let (before, rest) = hands.split_at_mut(d);
     let Some((mine, after)) = rest.split_first_mut() else {
@@ -255,12 +257,12 @@ fn apart_of(hands: &mut [Hand], d: usize)
     mine.apart(before, after);
 }
 
-/// The hands of a deal have no piece twice, and none that the deal does not have; where all have answered Spent, they
-/// have each piece. It takes no memory.
+/// The hands of a deal have no piece twice, and none that the deal does not have; and they have each piece that was dealt
+/// to a hand that knows that none is left in its deque. It takes no memory.
 pub fn apart(hands: &mut [Hand])
     requires deal { AreAll hands.old }
     ensures same { hands.new ≡ hands.old }
-    ensures apart { (x : ℕ) → UpTo (AllSpent hands.old) (times x (joined hands.old)) (once_below x (pieces_of hands.old)) }
+    ensures apart { (x : ℕ) → UpTo (IsClosed (x % length hands.old) hands.old) (times x (joined hands.old)) (once_below x (pieces_of hands.old)) }
 {
     for d in 0..hands.len() {
         apart_of(hands, d);
@@ -279,21 +281,20 @@ fn all_spent(hands: &[Hand]) -> bool
     true
 }
 
-/// Whether each hand of the deal has answered Spent. Then what they were given, joined, is each piece exactly once.
-/// It takes no memory, and leaves the hands as they were. It asks for all hands of one deal, from hand 0 on.
+/// Whether each hand of the deal has answered Spent. Then what they were given, joined, is each piece exactly once; and
+/// whatever it answers, no piece is in two hands. It takes no memory, and leaves the hands as they were. It asks for all hands of one deal, from hand 0 on.
 ///
 /// Example: of a new deal it answers `false`; of one without a piece it answers `true` once each hand was asked.
 pub fn settled(hands: &mut [Hand]) -> bool
     requires deal { AreAll hands.old }
     ensures same { hands.new ≡ hands.old }
     ensures answer { IsTrue result ↔ AllSpent hands.old }
-    ensures whole { IsTrue result → (x : ℕ) → times x (joined hands.old) ≡ once_below x (pieces_of hands.old) }
+    ensures whole { IsTrue result → HaveEachOnce hands.old }
+    ensures once { HaveNoneTwice hands.old }
+    ensures gone { HaveThoseGone hands.old }
 {
-    if !all_spent(hands) {
-        return false;
-    }
     apart(hands);
-    true
+    all_spent(hands)
 }
 
 /// A hand that has taken nothing.

@@ -1,6 +1,7 @@
 //! What a pool works on, and what it answers.
 ghost use Rattle.std.specs.Prelude.{◌≡◌, ℕ, ◌+◌, ◌^◌, ◌<◌, IfOk};
 ghost use Rattle.pool.specs.Lawful.{Lawful};
+ghost use Rattle.pool.specs.declared.laws.PoolFault.TheVariants.{OutOfMemory};
 
 use std::alloc::AllocError;
 
@@ -24,6 +25,14 @@ pub enum PoolFault {
     OutOfMemory,
     /// A thread could not be started.
     ThreadNotStarted,
+}
+
+impl From<AllocError> for PoolFault {
+    ghost from_gives = { λ _ fault. fault ≡ OutOfMemory };
+
+    fn from(_error: AllocError) -> PoolFault {
+        PoolFault::OutOfMemory
+    }
 }
 
 /// Numbered pieces, each of which gives a part. Parts combine, in whatever order and grouping.

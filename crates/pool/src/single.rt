@@ -18,14 +18,9 @@ pub fn alone<W: Work>(work: &W, pieces: u32, limit: u64) -> Result<Outcome<W::Pa
     requires loads { sum_below (λ i. W.load_of work.now (W.piece_meaning work.now i)) pieces < 2 ^ 63 }
     ensures { MatchResult result (Decides W.meaning (total (W.unit_meaning work.now) (W.combined work.now) (W.piece_meaning work.now) pieces) (sum_below (λ i. W.weight_of work.now (W.piece_meaning work.now i)) pieces) limit) (λ e. e ≡ PoolFault.OutOfMemory) }
 {
-    let Ok(mut part) = work.unit() else {
-        return Err(PoolFault::OutOfMemory);
-    };
+    let mut part = work.unit()?;
     for i in 0..pieces {
-        let Ok(both) = work.add(part, i) else {
-            return Err(PoolFault::OutOfMemory);
-        };
-        part = both;
+        part = work.add(part, i)?;
     }
     if work.weight(&part) > limit {
         return Ok(Outcome::Over);

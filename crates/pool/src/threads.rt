@@ -4,8 +4,8 @@ ghost use Rattle.pool.specs.Totals.{sum_below, sum_list, together, total, once_b
 ghost use Rattle.pool.specs.Outcomes.{Decides};
 ghost use Rattle.pool.specs.Dealing.{times};
 ghost use Rattle.pool.specs.Rule.{UpTo};
-ghost use Rattle.pool.specs.Settled.{AreAll, AllSpent, joined, pieces_of};
-ghost use Rattle.pool.specs.Fanned.{AreReady, begun, DidAll, AreUnderWay, CameBack, NeedNoThread, Settles, Outweighs, IsAbove};
+ghost use Rattle.pool.specs.Settled.{AreAll, AllSpent, HaveNoneTwice, joined, pieces_of};
+ghost use Rattle.pool.specs.Fanned.{AreReady, begun, DidAll, AreUnderWay, CameBack, NeedNoThread, Settles, Outweighs, IsAbove, Reported};
 ghost use Rattle.pool.specs.Assembly.{IsNewDeal};
 ghost use mathlib.Core.Option.{some};
 ghost use lib.ListN.{get_elem?};
@@ -75,16 +75,8 @@ fn with_done<P: Drop, L: Ledger>(
     ensures more { IfOk result (λ g. IsOkAnd others (λ o. IsOkAnd done (λ d. (g.hands.items ≡ o.hands.items ++ d.hand ∷ []) × (g.shares.items ≡ o.shares.items ++ d.share ∷ []) × (g.parts.items ≡ o.parts.items ++ d.part ∷ [])))) }
     ensures fault { IfErr result (λ e. MatchResult others (λ _. e ≡ PoolFault.OutOfMemory) (λ f. e ≡ f)) }
 {
-    let mut all = match others {
-        Ok(all) => all,
-        Err(fault) => return Err(fault),
-    };
-    let Ok(done) = done else {
-        return Err(PoolFault::OutOfMemory);
-    };
-    if put_done(&mut all, done).is_err() {
-        return Err(PoolFault::OutOfMemory);
-    }
+    let mut all = others?;
+    put_done(&mut all, done?)?;
     Ok(all)
 }
 
@@ -237,10 +229,7 @@ fn work_through<W: Work + Sync, L: Ledger + Send + Sync, R: Threads + Wait + Syn
     ensures alone { NeedNoThread ready.hands.items → IfErr result (λ e. e ≡ PoolFault.OutOfMemory) }
 {
     let mut crew = crew;
-    let mut gathered = match gather(&crew, ready) {
-        Ok(gathered) => gathered,
-        Err(fault) => return Err(fault),
-    };
+    let mut gathered = gather(&crew, ready)?;
     keep_apart(&mut gathered.hands);
     if weigh(crew.work, &gathered.parts) > limit {
         return Ok(gathered);
@@ -283,21 +272,58 @@ fn fan_ready<W: Work + Sync, L: Ledger + Send + Sync, R: Threads + Wait + Sync>(
     ensures decided { IfOk result (λ r. Decides W.meaning (W.combined crew.entry.work.now (together (W.unit_meaning crew.entry.work.now) (W.combined crew.entry.work.now) (map W.meaning ready.parts.items)) (total (W.unit_meaning crew.entry.work.now) (W.combined crew.entry.work.now) (W.piece_meaning crew.entry.work.now) (pieces_of ready.hands.items))) (W.weight_of crew.entry.work.now (together (W.unit_meaning crew.entry.work.now) (W.combined crew.entry.work.now) (map W.meaning ready.parts.items)) + sum_below (λ i. W.weight_of crew.entry.work.now (W.piece_meaning crew.entry.work.now i)) (pieces_of ready.hands.items)) limit r.0) }
     ensures deal { IfOk result (λ r. AreAll r.1.items × (pieces_of r.1.items ≡ pieces_of ready.hands.items)) }
     ensures back { IfOk result (λ r. CameBack (λ i. W.weight_of crew.entry.work.now (W.piece_meaning crew.entry.work.now i)) (λ s. s.sum) ready.hands.items ready.shares.items r.1.items r.2.items) }
-    ensures once { IfOk result (λ r. (x : ℕ) → times x (joined r.1.items) ≤ once_below x (pieces_of ready.hands.items)) }
+    ensures once { IfOk result (λ r. HaveNoneTwice r.1.items) }
     ensures settled { IfOk result (λ r. Settles r.0 r.1.items) }
     ensures over { IfOk result (λ r. IsAbove (W.weight_of crew.entry.work.now (together (W.unit_meaning crew.entry.work.now) (W.combined crew.entry.work.now) (map W.meaning ready.parts.items)) + sum_list (λ i. W.weight_of crew.entry.work.now (W.piece_meaning crew.entry.work.now i)) (joined r.1.items)) limit r.0) }
     ensures alone { (vec_len ready.hands ≡ 1) ⊎ (pieces_of ready.hands.items ≡ 0) → IfErr result (λ e. e ≡ PoolFault.OutOfMemory) }
 {
     let work = crew.work;
-    let mut finished = match work_through(crew, limit, ready) {
-        Ok(finished) => finished,
-        Err(fault) => return Err(fault),
-    };
+    let mut finished = work_through(crew, limit, ready)?;
     keep_apart(&mut finished.hands);
-    let Ok(concluded) = conclude(work, limit, finished) else {
-        return Err(PoolFault::OutOfMemory);
-    };
+    let concluded = conclude(work, limit, finished)?;
     Ok(concluded)
+}
+
+/// Does all pieces of a new deal onto a part that was made before: hand 0 on the calling thread, which goes on with that
+/// part, each other hand on a thread of its own.
+fn fan_onto<W: Work + Sync, L: Ledger + Send + Sync, R: Threads + Wait + Sync>(
+    rt: &R,
+    alloc: Global,
+    work: &W,
+    part: W::Part,
+    hands: Vec<Hand>,
+    limit: u64,
+    book: &Book<L>,
+    stop: u128,
+    shares: Vec<Share<L>>,
+) -> Result<(Outcome<W::Part>, Vec<Hand>, Vec<Share<L>>), PoolFault>
+    requires part { W.fits work.now (W.meaning part) }
+    requires deal { IsNewDeal (pieces_of hands.items) (vec_len hands) hands.items }
+    requires count { vec_len shares ≡ vec_len hands }
+    requires loads { W.load_of work.now (W.meaning part) + sum_below (λ i. W.load_of work.now (W.piece_meaning work.now i)) (pieces_of hands.items) < 2 ^ 63 }
+    requires room { (i : ℕ) (s : _) → get_elem? shares.items i ≡ some s → sum_below (λ i. W.load_of work.now (W.piece_meaning work.now i)) (pieces_of hands.items) + s.sum < 2 ^ 63 }
+    ensures decided { IfOk result (λ r. Decides W.meaning (W.combined work.now (W.meaning part) (total (W.unit_meaning work.now) (W.combined work.now) (W.piece_meaning work.now) (pieces_of hands.items))) (W.weight_of work.now (W.meaning part) + sum_below (λ i. W.weight_of work.now (W.piece_meaning work.now i)) (pieces_of hands.items)) limit r.0) }
+    ensures deal { IfOk result (λ r. AreAll r.1.items × (pieces_of r.1.items ≡ pieces_of hands.items)) }
+    ensures back { IfOk result (λ r. CameBack (λ i. W.weight_of work.now (W.piece_meaning work.now i)) (λ s. s.sum) hands.items shares.items r.1.items r.2.items) }
+    ensures once { IfOk result (λ r. HaveNoneTwice r.1.items) }
+    ensures settled { IfOk result (λ r. Settles r.0 r.1.items) }
+    ensures over { IfOk result (λ r. IsAbove (W.weight_of work.now (W.meaning part) + sum_list (λ i. W.weight_of work.now (W.piece_meaning work.now i)) (joined r.1.items)) limit r.0) }
+    ensures alone { (vec_len hands ≡ 1) ⊎ (pieces_of hands.items ≡ 0) → IfErr result (λ e. e ≡ PoolFault.OutOfMemory) }
+{
+    let parts = parts_from(alloc, work, part, hands.len())?;
+    let crew = Crew {
+        rt,
+        alloc,
+        work,
+        book,
+        stop,
+    };
+    let ready = Gathered {
+        hands,
+        shares,
+        parts,
+    };
+    fan_ready(crew, limit, ready)
 }
 
 /// Does all pieces of a new deal: hand 0 on the calling thread, each other hand on a thread of its own. With one hand,
@@ -334,30 +360,13 @@ pub fn fan_on<W: Work + Sync, L: Ledger + Send + Sync, R: Threads + Wait + Sync>
     ensures decided { IfOk result (λ r. Decides W.meaning (total (W.unit_meaning work.now) (W.combined work.now) (W.piece_meaning work.now) (pieces_of hands.items)) (sum_below (λ i. W.weight_of work.now (W.piece_meaning work.now i)) (pieces_of hands.items)) limit r.0) }
     ensures deal { IfOk result (λ r. AreAll r.1.items × (pieces_of r.1.items ≡ pieces_of hands.items)) }
     ensures back { IfOk result (λ r. CameBack (λ i. W.weight_of work.now (W.piece_meaning work.now i)) (λ s. s.sum) hands.items shares.items r.1.items r.2.items) }
-    ensures once { IfOk result (λ r. (x : ℕ) → times x (joined r.1.items) ≤ once_below x (pieces_of hands.items)) }
+    ensures once { IfOk result (λ r. HaveNoneTwice r.1.items) }
     ensures settled { IfOk result (λ r. Settles r.0 r.1.items) }
     ensures over { IfOk result (λ r. Outweighs (λ i. W.weight_of work.now (W.piece_meaning work.now i)) limit r.0 r.1.items) }
     ensures alone { (vec_len hands ≡ 1) ⊎ (pieces_of hands.items ≡ 0) → IfErr result (λ e. e ≡ PoolFault.OutOfMemory) }
 {
-    let Ok(first) = work.unit() else {
-        return Err(PoolFault::OutOfMemory);
-    };
-    let Ok(parts) = parts_from(alloc, work, first, hands.len()) else {
-        return Err(PoolFault::OutOfMemory);
-    };
-    let crew = Crew {
-        rt,
-        alloc,
-        work,
-        book,
-        stop,
-    };
-    let ready = Gathered {
-        hands,
-        shares,
-        parts,
-    };
-    fan_ready(crew, limit, ready)
+    let unit = work.unit()?;
+    fan_onto(rt, alloc, work, unit, hands, limit, book, stop, shares)
 }
 
 /// Does the pieces below a number, at most 1,048,576, onto a part that was made before, by the hands of a new deal, as many
@@ -366,16 +375,17 @@ pub fn fan_on<W: Work + Sync, L: Ledger + Send + Sync, R: Threads + Wait + Sync>
 /// hand, or no piece, no thread is started.
 ///
 /// A worker may stop once the book's number is above `stop`. The answer is the part and all pieces, combined, or `Over`
-/// where the weight of the part and those of the pieces add up to more than `limit`, and the shares in their order. What
-/// the part weighs is not reported to the book. No share grows by more than the weights of all pieces.
+/// where the weight of the part and those of the pieces add up to more than `limit`; the hands of the deal; and the shares.
+/// Hands and shares come in their order, and each share has grown by the weights of the pieces in its hand's list. No piece
+/// is in two lists, and after `Whole` each is in one. What the part weighs is not reported to the book.
 ///
 /// It asks for a part of this work whose load and the loads of all pieces add up to less than 2^63, for 1 to 64 shares,
 /// and that the loads of all pieces, with the sum of any share, add up to less than 2^63. All threads have ended when
 /// it answers.
 ///
 /// Example: where a part is a number, which is its weight too, parts are added, and each of 100 pieces is 1,
-/// `fan_deal_onto(rt, alloc, &work, 5, 100, 105, &book, 105, shares)` answers `Whole(105)` and the shares;
-/// `fan_deal_onto(rt, alloc, &work, 5, 100, 104, &book, 105, shares)` answers `Over` and the shares.
+/// `fan_deal_onto(rt, alloc, &work, 5, 100, 105, &book, 105, shares)` answers `Whole(105)`, the hands, which are settled,
+/// and the shares; `fan_deal_onto(rt, alloc, &work, 5, 100, 104, &book, 105, shares)` answers `Over`, hands and shares.
 ///
 /// # Errors
 ///
@@ -391,41 +401,22 @@ pub fn fan_deal_onto<W: Work + Sync, L: Ledger + Send + Sync, R: Threads + Wait 
     book: &Book<L>,
     stop: u128,
     shares: Vec<Share<L>>,
-) -> Result<(Outcome<W::Part>, Vec<Share<L>>), PoolFault>
+) -> Result<(Outcome<W::Part>, Vec<Hand>, Vec<Share<L>>), PoolFault>
     requires part { W.fits work.now (W.meaning part) }
     requires pieces { pieces ≤ 1048576 }
     requires hands { (1 ≤ vec_len shares) × (vec_len shares ≤ 64) }
     requires loads { W.load_of work.now (W.meaning part) + sum_below (λ i. W.load_of work.now (W.piece_meaning work.now i)) pieces < 2 ^ 63 }
     requires room { All (λ s. sum_below (λ i. W.load_of work.now (W.piece_meaning work.now i)) pieces + s.sum < 2 ^ 63) shares.items }
     ensures decided { IfOk result (λ r. Decides W.meaning (W.combined work.now (W.meaning part) (total (W.unit_meaning work.now) (W.combined work.now) (W.piece_meaning work.now) pieces)) (W.weight_of work.now (W.meaning part) + sum_below (λ i. W.weight_of work.now (W.piece_meaning work.now i)) pieces) limit r.0) }
-    ensures count { IfOk result (λ r. vec_len r.1 ≡ vec_len shares) }
-    // No share has grown by more than the weights of all pieces.
-    ensures grown { IfOk result (λ r. (most : ℕ) → All (λ s. s.sum ≤ most) shares.items
-        → All (λ s. s.sum ≤ most + sum_below (λ i. W.weight_of work.now (W.piece_meaning work.now i)) pieces) r.1.items) }
+    ensures deal { IfOk result (λ r. AreAll r.1.items × (pieces_of r.1.items ≡ pieces)) }
+    ensures reported { IfOk result (λ r. Reported (λ i. W.weight_of work.now (W.piece_meaning work.now i)) (λ s. s.sum) shares.items r.1.items r.2.items) }
+    ensures once { IfOk result (λ r. HaveNoneTwice r.1.items) }
+    ensures settled { IfOk result (λ r. Settles r.0 r.1.items) }
+    ensures over { IfOk result (λ r. IsAbove (W.weight_of work.now (W.meaning part) + sum_list (λ i. W.weight_of work.now (W.piece_meaning work.now i)) (joined r.1.items)) limit r.0) }
     ensures alone { (vec_len shares ≡ 1) ⊎ (pieces ≡ 0) → IfErr result (λ e. e ≡ PoolFault.OutOfMemory) }
 {
-    let Ok(hands) = new_hands(alloc, pieces, shares.len()) else {
-        return Err(PoolFault::OutOfMemory);
-    };
-    let Ok(parts) = parts_from(alloc, work, part, hands.len()) else {
-        return Err(PoolFault::OutOfMemory);
-    };
-    let crew = Crew {
-        rt,
-        alloc,
-        work,
-        book,
-        stop,
-    };
-    let ready = Gathered {
-        hands,
-        shares,
-        parts,
-    };
-    match fan_ready(crew, limit, ready) {
-        Ok((outcome, _, shares)) => Ok((outcome, shares)),
-        Err(fault) => Err(fault),
-    }
+    let hands = new_hands(alloc, pieces, shares.len())?;
+    fan_onto(rt, alloc, work, part, hands, limit, book, stop, shares)
 }
 
 /// `fan_out` with a book of the ledger L.
@@ -446,26 +437,19 @@ fn with_book<L: Ledger + Send + Sync, W: Work + Sync, R: Threads + Wait + Sync>(
     ensures decided { IfOk result (Decides W.meaning (total (W.unit_meaning work.now) (W.combined work.now) (W.piece_meaning work.now) pieces) (sum_below (λ i. W.weight_of work.now (W.piece_meaning work.now i)) pieces) limit) }
     ensures alone { (hands ≡ 1) ⊎ (pieces ≡ 0) → IfErr result (λ e. e ≡ PoolFault.OutOfMemory) }
 {
-    let Ok(part) = work.unit() else {
-        return Err(PoolFault::OutOfMemory);
-    };
-    let Ok((book, shares)) = Book::<L>::new(alloc, blank, hands) else {
-        return Err(PoolFault::OutOfMemory);
-    };
-    let (outcome, shares) = match fan_deal_onto(
+    let unit = work.unit()?;
+    let (book, shares) = Book::<L>::new(alloc, blank, hands)?;
+    let (outcome, _, shares) = fan_deal_onto(
         rt,
         alloc,
         work,
-        part,
+        unit,
         pieces,
         limit,
         &book,
         limit as u128,
         shares,
-    ) {
-        Ok((outcome, shares)) => (outcome, shares),
-        Err(fault) => return Err(fault),
-    };
+    )?;
     book.close(shares);
     Ok(outcome)
 }

@@ -4,13 +4,13 @@ use Rattle.std.proofs.lemmas.Nat.{mod_below}
 use Rattle.pool.specs.Dealing.{times}
 use Rattle.pool.specs.Rule.{UpTo}
 use Rattle.pool.specs.Totals.{once_below}
-use Rattle.pool.specs.Settled.{joined, pieces_of, AreAll, AllSpent}
+use Rattle.pool.specs.Settled.{joined, pieces_of, AreAll, IsClosed}
 use Rattle.pool.proofs.deal.apart.Goals as goal
 
 pub loop-d-preserved : goal.loop-d-preserved
 loop-d-preserved c =
     let inv = c.loop-d.invariant in
-    let fact = subst (λ l. (x : ℕ) → x % length l ≡ c.loop-d.d → UpTo (AllSpent l) (times x (joined l)) (once_below x (pieces_of l))) inv.0 c.apart_of.ensures.apart in (
+    let fact : (x : ℕ) → x % length c.args.hands.now ≡ c.loop-d.d → UpTo (IsClosed (x % length c.args.hands.now) c.args.hands.now) (times x (joined c.args.hands.now)) (once_below x (pieces_of c.args.hands.now)) = λ x ours. subst (λ d. UpTo (IsClosed d c.args.hands.now) (times x (joined c.args.hands.now)) (once_below x (pieces_of c.args.hands.now))) (sym ours) (subst (λ l. (x : ℕ) → x % length l ≡ c.loop-d.d → UpTo (IsClosed c.loop-d.d l) (times x (joined l)) (once_below x (pieces_of l))) inv.0 c.apart_of.ensures.apart x ours) in (
       c.apart_of.ensures.same ∙ inv.0,
       λ x below. ⊎_elim (λ (e : x % length c.args.hands.now ≡ c.loop-d.d). fact x e) (λ (n : x % length c.args.hands.now ≢ c.loop-d.d). inv.1 x (omega (arith, n, below))) (cases_eq (x % length c.args.hands.now) c.loop-d.d),
     )

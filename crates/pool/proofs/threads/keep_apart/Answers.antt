@@ -4,6 +4,7 @@ use Rattle.pool.specs.Dealing.{times}
 use Rattle.pool.specs.Rule.{UpTo}
 use Rattle.pool.specs.Totals.{once_below}
 use Rattle.pool.specs.Settled.{AreAll, AllSpent, joined, pieces_of}
+use Rattle.pool.proofs.Deals.{apart_spent}
 use Rattle.pool.proofs.threads.keep_apart.Goals as goal
 
 pub apart-requires : goal.apart-requires
@@ -17,4 +18,4 @@ returns-clause-same c =
     with_items_is c.args.hands.now c.apart.new.hands (omega (arith, n, ok)) ∙ e
 
 pub returns-clause-apart : goal.returns-clause-apart
-returns-clause-apart c = subst (λ l. (x : ℕ) → UpTo (AllSpent l) (times x (joined l)) (once_below x (pieces_of l))) c.as_mut_slice.ensures.value c.apart.ensures.apart
+returns-clause-apart c = subst (λ l. (x : ℕ) → UpTo (AllSpent l) (times x (joined l)) (once_below x (pieces_of l))) c.as_mut_slice.ensures.value (apart_spent _ (subst AreAll (sym c.as_mut_slice.ensures.value) c.requires) c.apart.ensures.apart)
