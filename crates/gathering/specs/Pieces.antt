@@ -4,11 +4,16 @@ use Rattle.std.specs.Io.KnownBytes.{Consumes}
 use Rattle.std.specs.declared.alloc.Global.{Global}
 use Rattle.std.specs.declared.vec.Vec.{Vec}
 use Rattle.values.specs.Schema.{Field}
+use Rattle.lines.specs.declared.pieces.Piece.{Piece}
 use Rattle.lines.specs.Pieces.{AreWholeLines}
 use Rattle.lines.specs.Rounds.{HasMoved, RoundState, RoundsState}
 use Rattle.lines.specs.Trim.{trim}
 use Rattle.pool.specs.declared.laws.Outcome.{Outcome}
 use Rattle.pool.specs.declared.laws.Outcome.TheVariants.{Whole, Over}
+use Rattle.pool.specs.Holding.{Holding}
+use Rattle.pool.specs.Settled.{AreAll, HaveEachOnce, pieces_of}
+use Rattle.tables.specs.Means.{indexed}
+use Rattle.tables.specs.Pieces.{IsCutInto}
 use Rattle.gathering.specs.Gathered.{IsWhole}
 use Rattle.query_tree.specs.Syntax.{TreeForm}
 use Rattle.tables.specs.declared.partial.Partial.{Partial}
@@ -19,6 +24,12 @@ use Rattle.tables.specs.States.{PartialState}
 abbrev pub IsUnder : ℕ → ℕ → Outcome Partial → Type 0
 IsUnder count limit (Whole partial) = count ≤ limit
 IsUnder count limit Over = limit < count
+
+-- a round is cut into these pieces, which were dealt to these hands, all hands of one deal to so many workers, and each piece is in the list of one of them, once
+pub record IsTaken (workers : ℕ) (round : List ℕ) (pieces : List Piece) (hands : List Holding) : Type 0 where
+  pub cut : IsCutInto round (indexed round pieces)
+  pub deal : AreAll hands × (length hands ≡ workers) × (pieces_of hands ≡ length pieces)
+  pub once : HaveEachOnce hands
 
 -- a result stands for whatever another one stands for, where that is whole lines, with the rest behind it
 pub record StandsBehind (fields : List Field) (q : TreeForm) (before : PartialState) (rest : List ℕ) (partial : PartialState) : Type 0 where

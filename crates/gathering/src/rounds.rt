@@ -7,10 +7,10 @@ ghost use Rattle.lines.specs.Pieces.{AreWholeLines};
 ghost use Rattle.tables.specs.Partials.{StandsForInput};
 ghost use Rattle.gathering.specs.Gathered.{IsWhole, limit_number};
 ghost use Rattle.gathering.specs.Faults.{IsWant, Refuses, Stops};
-ghost use Rattle.gathering.specs.Pieces.{IsAhead, StandsBehind, most_turns};
+ghost use Rattle.gathering.specs.Pieces.{IsAhead, IsTaken, StandsBehind, most_turns};
 
 use crate::fault::GatherFault;
-use crate::working::{round_among, within_limit};
+use crate::working::{Worked, round_among, within_limit};
 use command_line::Options;
 use lines::{ReadFault, Round, Rounds, Waiter};
 use pool::{Book, Share};
@@ -195,7 +195,7 @@ fn work_ahead<L: Ledger + Send + Sync, R: Read + Drop + Send, H: Threads + Wait 
     let Beside { read, kept, worked } = round_beside(
         rt, alloc, plan, options, whole, rounds, &round, book, shares,
     );
-    let (whole, shares) = worked?;
+    let Worked { whole, shares, .. } = worked?;
     let found = read?;
     Ok(Ahead {
         whole,
@@ -224,8 +224,8 @@ struct Beside<L: Ledger, R: Read + Drop> {
     read: Result<bool, ReadFault>,
     /// The input, read on.
     kept: Rounds<R>,
-    /// The result over the round and those before it, and the shares.
-    worked: Result<(Partial, Vec<Share<L>>), GatherFault>,
+    /// What came of the round.
+    worked: Result<Worked<L>, GatherFault>,
 }
 
 /// Works on a round behind the rounds before it, as `round_among` does, and meanwhile reads the next one on a thread of its
@@ -246,10 +246,11 @@ fn round_beside<L: Ledger + Send + Sync, R: Read + Drop + Send, H: Threads + Wai
     requires hands { (1 ≤ vec_len shares) × (vec_len shares ≤ 64) }
     requires reported { All (λ share. share.sum ≤ before.refused) shares.items }
     ensures read { HasMoved rounds result.read result.kept }
-    ensures whole { IfOk result.worked (λ r. StandsBehind (fields_of_plan plan.now) (form_of_plan plan.now) before round.now.bytes r.0) }
-    ensures limit { IfOk result.worked (λ r. r.0.refused ≤ limit_number options.max_refused) }
-    ensures hands { IfOk result.worked (λ r. vec_len r.1 ≡ vec_len shares) }
-    ensures reported { IfOk result.worked (λ r. All (λ share. share.sum ≤ r.0.refused) r.1.items) }
+    ensures whole { IfOk result.worked (λ r. StandsBehind (fields_of_plan plan.now) (form_of_plan plan.now) before round.now.bytes r.whole) }
+    ensures limit { IfOk result.worked (λ r. r.whole.refused ≤ limit_number options.max_refused) }
+    ensures taken { IfOk result.worked (λ r. IsTaken (vec_len shares) round.now.bytes r.pieces.items r.hands.items) }
+    ensures hands { IfOk result.worked (λ r. vec_len r.shares ≡ vec_len shares) }
+    ensures reported { IfOk result.worked (λ r. All (λ share. share.sum ≤ r.whole.refused) r.shares.items) }
     ensures fault { IfErr result.worked (λ fault. IsWant fault
         ⊎ Refuses fault options.max_refused (before.refused + length (refused (fields_of_plan plan.now) round.now.bytes))) }
 {
@@ -272,7 +273,7 @@ fn round_beside<L: Ledger + Send + Sync, R: Read + Drop + Send, H: Threads + Wai
     let ((read, kept), worked) = join(
         rt,
         move || read_on(rounds, waiter),
-        move || -> Result<(Partial, Vec<Share<L>>), GatherFault>
+        move || -> Result<Worked<L>, GatherFault>
             requires front { (front : List ℕ) × StandsForInput (fields_of_plan plan.now) (form_of_plan plan.now) before front × AreWholeLines front }
             requires short { before.lines + length round.now.bytes < 2 ^ 63 }
             requires hands { (1 ≤ vec_len shares) × (vec_len shares ≤ 64) }

@@ -5,14 +5,15 @@ ghost use Rattle.lines.specs.Pieces.{AreWholeLines};
 ghost use Rattle.pool.specs.declared.laws.Outcome.TheVariants as Outcome;
 ghost use Rattle.query_plan.specs.Planned.{fields_of_plan, form_of_plan};
 ghost use Rattle.tables.specs.Partials.{StandsForInput};
-ghost use Rattle.gathering.specs.Pieces.{IsUnder, StandsBehind};
+ghost use Rattle.gathering.specs.Pieces.{IsTaken, IsUnder, StandsBehind};
 ghost use Rattle.gathering.specs.Gathered.{limit_number};
 ghost use Rattle.gathering.specs.Faults.{IsWant, Refuses};
 
 use crate::cutting::pieces_of;
 use crate::fault::GatherFault;
 use command_line::Options;
-use pool::{Book, Outcome, Share, fan_deal_onto};
+use lines::Piece;
+use pool::{Book, Hand, Outcome, Share, fan_deal_onto};
 use query_plan::Plan;
 use std::alloc::Global;
 use std::marker::{Send, Sync};
@@ -32,9 +33,22 @@ pub(crate) fn within_limit(options: Options, count: u64) -> Result<(), GatherFau
     }
 }
 
+/// What came of a round.
+#[derive(Drop)]
+pub(crate) struct Worked<L: Ledger> {
+    /// The result over the rounds before and this one.
+    pub(crate) whole: Partial,
+    /// The pieces that the round was cut into.
+    pub(crate) pieces: Vec<Piece>,
+    /// The hands that these were dealt to.
+    pub(crate) hands: Vec<Hand>,
+    pub(crate) shares: Vec<Share<L>>,
+}
+
 /// The result of a query over the rounds before and a round behind them, worked on in pieces by as many threads as there
 /// are shares, the calling one among them, which goes on with the result over the rounds before; and the shares. Those
-/// rounds are whole lines, and no share has reported more lines than were refused in them.
+/// rounds are whole lines, and no share has reported more lines than were refused in them. The pieces come back, and the
+/// hands, in whose lists each piece is once.
 pub(crate) fn round_among<L: Ledger + Send + Sync, H: Threads + Wait + Sync>(
     rt: &H,
     alloc: Global,
@@ -44,29 +58,30 @@ pub(crate) fn round_among<L: Ledger + Send + Sync, H: Threads + Wait + Sync>(
     round: &[u8],
     book: &Book<L>,
     shares: Vec<Share<L>>,
-) -> Result<(Partial, Vec<Share<L>>), GatherFault>
+) -> Result<Worked<L>, GatherFault>
     requires front { (front : List ℕ) × StandsForInput (fields_of_plan plan.now) (form_of_plan plan.now) before front × AreWholeLines front }
     requires short { before.lines + length round.now < 2 ^ 63 }
     requires hands { (1 ≤ vec_len shares) × (vec_len shares ≤ 64) }
     requires reported { All (λ share. share.sum ≤ before.refused) shares.items }
-    ensures whole { IfOk result (λ r. StandsBehind (fields_of_plan plan.now) (form_of_plan plan.now) before round.now r.0) }
-    ensures limit { IfOk result (λ r. r.0.refused ≤ limit_number options.max_refused) }
-    ensures hands { IfOk result (λ r. vec_len r.1 ≡ vec_len shares) }
-    ensures reported { IfOk result (λ r. All (λ share. share.sum ≤ r.0.refused) r.1.items) }
+    ensures whole { IfOk result (λ r. StandsBehind (fields_of_plan plan.now) (form_of_plan plan.now) before round.now r.whole) }
+    ensures limit { IfOk result (λ r. r.whole.refused ≤ limit_number options.max_refused) }
+    ensures taken { IfOk result (λ r. IsTaken (vec_len shares) round.now r.pieces.items r.hands.items) }
+    ensures hands { IfOk result (λ r. vec_len r.shares ≡ vec_len shares) }
+    ensures reported { IfOk result (λ r. All (λ share. share.sum ≤ r.whole.refused) r.shares.items) }
     ensures fault { IfErr result (λ fault. IsWant fault
         ⊎ Refuses fault options.max_refused (before.refused + length (refused (fields_of_plan plan.now) round.now))) }
 {
     let pieces = pieces_of(alloc, round, options.piece())?;
     let front = before.in_one_piece()?;
     job_law();
-    let hands = Hands {
+    let joiner = Hands {
         rt,
         count: shares.len(),
     };
     // The front is the piece of index 0.
-    let job = JobBy::new(Job::new(alloc, plan, round, pieces.as_slice()), &hands, 1);
+    let job = JobBy::new(Job::new(alloc, plan, round, pieces.as_slice()), &joiner, 1);
     let limit = limit_of(options);
-    match fan_deal_onto(
+    let (outcome, hands, shares) = fan_deal_onto(
         rt,
         alloc,
         &job,
@@ -76,13 +91,14 @@ pub(crate) fn round_among<L: Ledger + Send + Sync, H: Threads + Wait + Sync>(
         book,
         limit as u128,
         shares,
-    ) {
-        Ok((outcome, shares)) => {
-            let partial = decided(options, outcome)?;
-            Ok((partial, shares))
-        }
-        Err(fault) => Err(GatherFault::from(fault)),
-    }
+    )?;
+    let whole = decided(options, outcome)?;
+    Ok(Worked {
+        whole,
+        pieces,
+        hands,
+        shares,
+    })
 }
 
 /// The limit of refused lines as a number: the greatest one where there is no limit.

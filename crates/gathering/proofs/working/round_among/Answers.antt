@@ -1,10 +1,13 @@
-use Rattle.std.proofs.Common.{◌≡◌, ◌∙◌, ◌+◌, inr, length, sym, ap, subst, arith}
+use Rattle.std.proofs.Common.{◌≡◌, ◌∙◌, ◌+◌, ℕ, inr, length, sym, ap, subst, arith}
 use Rattle.std.proofs.lemmas.Result.{err_from_is_err_and}
 use denote.Param.Send.{sendable}
 use Rattle.lines.specs.Input.{refused}
+use Rattle.pool.specs.Fanned.{Settles}
+use Rattle.pool.specs.Totals.{sum_below}
+use Rattle.pool.proofs.Shares.{grown_within}
 use Rattle.query_plan.specs.declared.plan.Plan.{Plan}
 use Rattle.query_plan.specs.Planned.{fields_of_plan, form_of_plan}
-use Rattle.tables.specs.Means.{IsMean, meaning}
+use Rattle.tables.specs.Means.{IsMean, mean_from, meaning}
 use Rattle.tables.specs.Partials.{one_piece}
 use Rattle.tables.proofs.Means.{mean-from_stands}
 use Rattle.tables.proofs.Sharing.{hands_sync, job_by_sync}
@@ -78,11 +81,11 @@ decided-requires g c =
     let short = c.requires.short in
     let few = few-refused (fields_of_plan plan) round in
     let limit = c.limit_of-limit.ensures in
-    let under = under-of front job.plan.now first job.input.now job.pieces.now n _ all c.in-Ok.outcome (omega (arith, weights, same)) c.in-Ok.ensures.decided in
-    (all, omega (arith, fewer, refused_is, lines_are, short, few), under-same all _ _ c.in-Ok.outcome (omega (arith, limit)) under)
+    let under = under-of front job.plan.now first job.input.now job.pieces.now n _ all c.in_ok-outcome.outcome (omega (arith, weights, same)) c.in_ok-outcome.ensures.decided in
+    (all, omega (arith, fewer, refused_is, lines_are, short, few), under-same all _ _ c.in_ok-outcome.outcome (omega (arith, limit)) under)
 
-pub returns-in_err-partial-in-Ok-clause-fault : goal.returns-in_err-partial-in-Ok-clause-fault
-returns-in_err-partial-in-Ok-clause-fault g c =
+pub returns-in_err-whole-clause-fault : goal.returns-in_err-whole-clause-fault
+returns-in_err-whole-clause-fault g c =
     let plan = c.args.plan.now in
     let round = c.args.round.now in
     let pieces = c.in_ok-pieces.pieces in
@@ -98,12 +101,12 @@ returns-in_err-partial-in-Ok-clause-fault g c =
     let same = c.in_ok-front.ensures.refused in
     let all = c.args.before.refused + length (refused (fields_of_plan plan) round) in
     let limit = c.limit_of-limit.ensures in
-    let under = under-of front job.plan.now first job.input.now job.pieces.now n _ all c.in-Ok.outcome (omega (arith, weights, same)) c.in-Ok.ensures.decided in
-    let p = err_from_is_err_and c.from_residual-in_err-partial-in-Ok.result c.from_residual-in_err-partial-in-Ok.ensures.1 in
-    rw (p.1, p.2) (inr (c.in_err-partial-in-Ok.ensures.fault all (under-same all _ _ c.in-Ok.outcome (omega (arith, limit)) under)))
+    let under = under-of front job.plan.now first job.input.now job.pieces.now n _ all c.in_ok-outcome.outcome (omega (arith, weights, same)) c.in_ok-outcome.ensures.decided in
+    let p = err_from_is_err_and c.from_residual-in_err-whole.result c.from_residual-in_err-whole.ensures.1 in
+    rw (p.1, p.2) (inr (c.in_err-whole.ensures.fault all (under-same all _ _ c.in_ok-outcome.outcome (omega (arith, limit)) under)))
 
-pub returns-in-Ok-clause-whole : goal.returns-in-Ok-clause-whole
-returns-in-Ok-clause-whole g c =
+pub returns-clause-whole : goal.returns-clause-whole
+returns-clause-whole g c =
     let plan = c.args.plan.now in
     let round = c.args.round.now in
     let pieces = c.in_ok-pieces.pieces in
@@ -114,24 +117,39 @@ returns-in-Ok-clause-whole g c =
     let of = subst (IsJobOf plan round pieces.items) (sym c.new-job.ensures.job)
     record { plan_is = c.new.ensures.plan; input_is = c.new.ensures.input; pieces_are = c.new.ensures.pieces ∙ c.as_slice.ensures.value } in
     let count : n ≡ length pieces.items = grind (arith, c.len-2.ensures, pieces.ok) in
-    stands-behind c.args.before front plan job.plan.now first round job.input.now pieces.items job.pieces.now n _ c.in-Ok.outcome c.in_ok-partial-in-Ok.partial
+    stands-behind c.args.before front plan job.plan.now first round job.input.now pieces.items job.pieces.now n _ c.in_ok-outcome.outcome c.in_ok-whole.whole
     of.plan_is c.new-job.ensures.first of.input_is of.pieces_are count c.in_ok-pieces.ensures.few c.job_law.ensures.behind c.in_ok-pieces.ensures.cut c.in_ok-front.ensures.stands
-    c.in_ok-partial-in-Ok.ensures.whole c.in-Ok.ensures.decided
+    c.in_ok-whole.ensures.whole c.in_ok-outcome.ensures.decided
 
-pub returns-in-Ok-clause-limit : goal.returns-in-Ok-clause-limit
-returns-in-Ok-clause-limit g c =
+pub returns-clause-limit : goal.returns-clause-limit
+returns-clause-limit g c =
     let job = c.new-job.result.job in
-    let r = refused-whole c.in_ok-front.front job.plan.now c.new-job.result.first job.input.now job.pieces.now c.len-2.result _ c.in-Ok.outcome c.in_ok-partial-in-Ok.partial
-    c.in_ok-partial-in-Ok.ensures.whole c.in-Ok.ensures.decided in
+    let r = refused-whole c.in_ok-front.front job.plan.now c.new-job.result.first job.input.now job.pieces.now c.len-2.result _ c.in_ok-outcome.outcome c.in_ok-whole.whole
+    c.in_ok-whole.ensures.whole c.in_ok-outcome.ensures.decided in
     let few = r.1 in
     let limit = c.limit_of-limit.ensures in
     omega (arith, few, limit)
 
-pub returns-in-Ok-clause-reported : goal.returns-in-Ok-clause-reported
-returns-in-Ok-clause-reported g c =
+pub returns-clause-reported : goal.returns-clause-reported
+returns-clause-reported g c =
     let job = c.new-job.result.job in
-    let r = refused-whole c.in_ok-front.front job.plan.now c.new-job.result.first job.input.now job.pieces.now c.len-2.result _ c.in-Ok.outcome c.in_ok-partial-in-Ok.partial
-    c.in_ok-partial-in-Ok.ensures.whole c.in-Ok.ensures.decided in
+    let first = c.new-job.result.first in
+    let pooled = c.in_ok-outcome.ensures in
+    let r = refused-whole c.in_ok-front.front job.plan.now first job.input.now job.pieces.now c.len-2.result _ c.in_ok-outcome.outcome c.in_ok-whole.whole
+    c.in_ok-whole.ensures.whole pooled.decided in
     let count = r.0 in
     let same = c.in_ok-front.ensures.refused in
-    grown-by (λ share. share.sum) c.in-Ok.shares.items _ _ (omega (arith, count, same)) (c.in-Ok.ensures.grown c.args.before.refused c.requires.reported)
+    let weights : ℕ → ℕ = λ i. (mean_from (fields_of_plan job.plan.now) (form_of_plan job.plan.now) first job.input.now job.pieces.now i).refused in
+    let dealt = ap (sum_below weights) pooled.deal.1 in
+    grown-by (λ share. share.sum) c.in_ok-outcome.shares.items _ _ (omega (arith, count, same, dealt))
+    (grown_within weights (λ share. share.sum) c.args.shares.items c.in_ok-outcome.hands.items c.in_ok-outcome.shares.items pooled.deal.0 pooled.reported c.args.before.refused c.requires.reported)
+
+pub returns-clause-taken : goal.returns-clause-taken
+returns-clause-taken g c =
+    let pieces = c.in_ok-pieces.pieces in
+    let pooled = c.in_ok-outcome.ensures in
+    let count : c.len-2.result ≡ length pieces.items = grind (arith, c.len-2.ensures, pieces.ok) in
+    let shares = c.args.shares.ok in
+    let hands = pooled.reported.0 in
+    let settled = subst (λ outcome. Settles outcome c.in_ok-outcome.hands.items) c.in_ok-whole.ensures.whole pooled.settled in
+    record { cut = c.in_ok-pieces.ensures.cut; deal = (pooled.deal.0, omega (arith, hands, shares), pooled.deal.1 ∙ count); once = settled.1 }
