@@ -1,8 +1,7 @@
 //! Passing over a JSON value that no column takes.
-ghost use Rattle.std.specs.Prelude.{◌≡◌, ◌<◌, Some, length, IfSome};
-ghost use Rattle.json.specs.Json.{items, members, value};
-ghost use Rattle.serde_json.specs.Data.{Data, Items, Members, no_members};
-ghost use Rattle.serde_json.specs.Read.{converted, of_items, of_json, of_members};
+ghost use Rattle.std.specs.Prelude.{◌<◌, length, IfSome};
+ghost use Rattle.serde_json.specs.Data.{Data, Items, Members};
+ghost use Rattle.lines.specs.Meant.{AreItems, AreMembers, IsValue};
 
 use crate::tokens::numerals::has_value;
 use json::{Reader, Token};
@@ -10,7 +9,7 @@ use json::{Reader, Token};
 /// Passes a value that nests at most `depth` deep; `None` says nothing of the tokens.
 #[cycle(pass)]
 pub(crate) fn pass(reader: &mut Reader<'_>, depth: usize) -> Option<()>
-    ensures passed { IfSome result (λ _. (d : Data) × (converted of_json (value depth reader.old) ≡ Some (d, reader.new))) }
+    ensures passed { IfSome result (λ _. (d : Data) × IsValue depth reader.old d reader.new) }
     ensures shorter { IfSome result (λ _. length reader.new < length reader.old) }
 {
     match reader.next()? {
@@ -25,7 +24,7 @@ pub(crate) fn pass(reader: &mut Reader<'_>, depth: usize) -> Option<()>
 /// Passes the items of an array, up to its closing bracket.
 #[cycle(pass)]
 fn pass_items(reader: &mut Reader<'_>, depth: usize) -> Option<()>
-    ensures passed { IfSome result (λ _. (ds : Items) × (converted of_items (items (value depth) (length reader.old) reader.old) ≡ Some (ds, reader.new))) }
+    ensures passed { IfSome result (λ _. (ds : Items) × AreItems depth reader.old ds reader.new) }
     ensures shorter { IfSome result (λ _. length reader.new < length reader.old) }
 {
     'items: while !reader.take_end_array() {
@@ -37,7 +36,7 @@ fn pass_items(reader: &mut Reader<'_>, depth: usize) -> Option<()>
 /// Passes the members of an object, up to its closing brace.
 #[cycle(pass)]
 fn pass_members(reader: &mut Reader<'_>, depth: usize) -> Option<()>
-    ensures passed { IfSome result (λ _. (found : Members) × (converted (λ ms. of_members ms no_members) (members (value depth) (length reader.old) reader.old) ≡ Some (found, reader.new))) }
+    ensures passed { IfSome result (λ _. (ms : Members) × AreMembers depth reader.old ms reader.new) }
     ensures shorter { IfSome result (λ _. length reader.new < length reader.old) }
 {
     'members: while let Some(_) = reader.next_key().ok()? {

@@ -1,10 +1,9 @@
 //! Taking the columns' values out of the members of an object, token by token.
 ghost use Rattle.std.specs.Prelude.{◌≡◌, ◌≢◌, ◌<◌, ◌≤◌, ℕ, Some, All, get_or, length, map, set, string_bytes, IfSome, MatchOption};
-ghost use Rattle.json.specs.Json.{members, value};
 ghost use Rattle.serde_json.specs.Data.{Data, Members, no_members};
-ghost use Rattle.serde_json.specs.Read.{converted, of_json, of_members};
 ghost use Rattle.values.specs.Datum.{datum_of, data_of};
 ghost use Rattle.values.specs.Schema.{Field, IsSchema, fields_of};
+ghost use Rattle.lines.specs.Meant.{AreMembers, IsValue};
 ghost use Rattle.lines.specs.Taken.{data_taken, datum_taken};
 
 use crate::tokens::numerals::whole_number;
@@ -24,7 +23,7 @@ pub(crate) fn take_members(
 ) -> Option<Vec<Value>>
     requires { IsSchema (fields_of columns.now) }
     ensures taken { IfSome result (λ v. (found : Members)
-        × (converted (λ ms. of_members ms no_members) (members (value 126) (length reader.old) reader.old) ≡ Some (found, reader.new))
+        × AreMembers 126 reader.old found reader.new
         × (map (λ d. Some d) (data_of v.items) ≡ data_taken (fields_of columns.now) found)) }
 {
     let mut values = missing_values(columns, spare)?;
@@ -94,7 +93,7 @@ fn place_between(columns: &[Column], name: &str, low: usize, high: usize) -> Opt
 /// Takes the value of a member as a column of this type takes it; `None` says nothing of the member.
 fn take_value(kind: Kind, reader: &mut Reader<'_>, spare: &mut Spare) -> Option<Value>
     ensures taken { IfSome result (λ v. (d : Data)
-        × (converted of_json (value 126 reader.old) ≡ Some (d, reader.new))
+        × IsValue 126 reader.old d reader.new
         × (datum_taken kind d ≡ Some (datum_of v))) }
     ensures shorter { IfSome result (λ v. length reader.new < length reader.old) }
 {

@@ -1,4 +1,4 @@
-use Rattle.std.proofs.Common.{◌≡◌, ◌<◌, ◌≤◌, ◌+◌, ◌-◌, ◌^◌, IsTrue, IsFalse, vec_capacity, vec_len}
+use Rattle.std.proofs.Common.{◌<◌, ◌≤◌, ◌+◌, ◌-◌, ◌^◌, IsTrue, IsFalse, vec_capacity, vec_len}
 use Rattle.std.specs.Io.KnownBytes.{IsAtEnd, Keeps}
 use Rattle.lines.specs.Holding.{IsHeld, left_of}
 use Rattle.lines.specs.Trim.{trimmed_len}

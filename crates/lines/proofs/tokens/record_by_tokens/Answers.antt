@@ -1,15 +1,15 @@
-use Rattle.std.proofs.Common.{rules, ◌≡◌, [], ◌∷◌, length, Some, Ok, sym, ap, ◌∙◌, arith}
+use Rattle.std.proofs.Common.{rules, ◌≡◌, [], ◌∷◌, Some, Ok, sym, ap, ◌∙◌, arith}
 use Rattle.std.specs.Str.{IsUtf8}
 use Rattle.json.specs.Token.{Token}
 use Rattle.json.specs.Lex.{tokens}
-use Rattle.json.specs.Json.{members, value}
 use Rattle.json.specs.Reads.{token_of}
-use Rattle.serde_json.specs.Data.{object, no_members}
-use Rattle.serde_json.specs.Read.{converted, of_json, of_members, read}
+use Rattle.serde_json.specs.Data.{object}
+use Rattle.serde_json.specs.Read.{read}
 use Rattle.values.specs.Datum.{data_of}
 use Rattle.values.specs.Schema.{fields_of}
 use Rattle.lines.specs.Taken.{all_taken, data_taken, record_of}
-use Rattle.lines.proofs.Converting.{read-object, whole_read}
+use Rattle.lines.specs.Meant.{AreMembers}
+use Rattle.lines.proofs.Meaning.{first-object, read-one}
 use Rattle.lines.proofs.Fitting.{fits-taken}
 use Rattle.lines.proofs.Readings.{taken-utf8}
 use Rattle.lines.proofs.Taking.{all_taken-somes}
@@ -23,9 +23,8 @@ returns-in-None-clause-ok c =
     let whole : c.in_ok-reader.reader ≡ tokens c.in_ok-text.text.now = grind arith in
     let first : c.in_ok-reader.reader ≡ Token.begin_object ∷ r = c.in_ok-next.ensures.value ∙ ap (λ k. token_of k ∷ r) c.in-BeginObject.is in
     let all : tokens c.args.line.now ≡ Token.begin_object ∷ r = ap tokens (sym text) ∙ sym whole ∙ first in
-    let last : converted (λ ms. of_members ms no_members) (members (value 126) (length r) r) ≡ Some (found.0, []) = found.1 ∙ ap (λ ts. Some (found.0, ts)) c.in-None.ensures.value.0 in
-    let is : read c.args.line.now ≡ Some (object found.0) =
-    whole_read (value 127 (tokens c.args.line.now)) (object found.0) (ap (λ ts. converted of_json (value 127 ts)) all ∙ read-object 127 r [] found.0 (omega arith) last) in
+    let last : AreMembers 126 r found.0 [] = rw (← c.in-None.ensures.value.0) found.1 in
+    let is : read c.args.line.now ≡ Some (object found.0) = read-one c.args.line.now (object found.0) (rw all (first-object 127 r [] found.0 (omega arith) last)) in
     let utf8 : IsUtf8 c.args.line.now = search rules in
     taken-utf8 c.args.schema.now c.args.line.now c.requires utf8
     ∙ ap (record_of c.args.schema.now) is

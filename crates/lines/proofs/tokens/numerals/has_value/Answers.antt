@@ -1,21 +1,12 @@
-use Rattle.std.proofs.Common.{◌≡◌, drop, get_or, true, false, ◌==◌, is_some, sym, ap, ◌∙◌, arith, take_all, length-drop}
-use Rattle.fast_float.specs.Text.{scan}
-use Rattle.serde_json.specs.Read.{number_of, number_from}
+use Rattle.lines.proofs.Numerals.{number-behind_minus, number-no_minus}
 use Rattle.lines.proofs.tokens.numerals.has_value.Goals as goal
 
 pub returns-then-has_minus : goal.returns-then-has_minus
-unfolding number_of
 returns-then-has_minus c given =
-    let s = c.as_bytes-bytes.result.now in
-    let signed : (get_or s 0 0 == 45) ≡ true = sym c.if-has_minus.ensures.value in
-    let parts : c.scan.result ≡ scan (drop 1 s) = c.scan.ensures.parts ∙ ap scan (take_all _ (drop 1 s) (omega (arith, length-drop 1 s))) in
-    let read : number_from true (scan (drop 1 s)) ≡ number_of s = rw signed in
-    sym (ap is_some (ap (number_from true) parts ∙ read ∙ ap number_of c.as_bytes-bytes.ensures.value)) ∙ c.negative_has_value.ensures given
+    let bytes = c.as_bytes-bytes.result.now in
+    rw (← c.as_bytes-bytes.ensures.value, number-behind_minus bytes c.scan.result c.if-has_minus.ensures.value c.scan.ensures.parts) (c.negative_has_value.ensures given)
 
 pub returns-else-has_minus : goal.returns-else-has_minus
-unfolding number_of
 returns-else-has_minus c given =
-    let s = c.as_bytes-bytes.result.now in
-    let unsigned : (get_or s 0 0 == 45) ≡ false = sym c.if-has_minus.ensures.value in
-    let read : number_from false (scan s) ≡ number_of s = rw unsigned in
-    sym (ap is_some (ap (number_from false) c.scan-else-has_minus.ensures.parts ∙ read ∙ ap number_of c.as_bytes-bytes.ensures.value)) ∙ c.positive_has_value.ensures given
+    let bytes = c.as_bytes-bytes.result.now in
+    rw (← c.as_bytes-bytes.ensures.value, number-no_minus bytes c.scan-else-has_minus.result c.if-has_minus.ensures.value c.scan-else-has_minus.ensures.parts) (c.positive_has_value.ensures given)

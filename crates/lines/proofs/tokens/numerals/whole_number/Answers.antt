@@ -1,25 +1,12 @@
-use Rattle.std.proofs.Common.{◌≡◌, drop, get_or, true, false, ◌==◌, IfSome, Some, option_and_then, subst, sym, ap, ◌∙◌, arith, take_all, length-drop}
-use Rattle.fast_float.specs.Text.{scan}
-use Rattle.serde_json.specs.Find.{as_integer}
-use Rattle.serde_json.specs.Read.{number_of, number_from}
+use Rattle.lines.proofs.Numerals.{number-behind_minus, number-no_minus}
 use Rattle.lines.proofs.tokens.numerals.whole_number.Goals as goal
 
 pub returns-then-has_minus : goal.returns-then-has_minus
-unfolding number_of
 returns-then-has_minus c =
-    let s = c.as_bytes-bytes.result.now in
-    let signed : (get_or s 0 0 == 45) ≡ true = sym c.if-has_minus.ensures.value in
-    let parts : c.scan.result ≡ scan (drop 1 s) = c.scan.ensures.parts ∙ ap scan (take_all _ (drop 1 s) (omega (arith, length-drop 1 s))) in
-    let read : number_from true (scan (drop 1 s)) ≡ number_of s = rw signed in
-    let same : number_from true c.scan.result ≡ number_of c.args.text.now = ap (number_from true) parts ∙ read ∙ ap number_of c.as_bytes-bytes.ensures.value in
-    subst (λ o. IfSome c.whole_negative.result (λ n. option_and_then as_integer o ≡ Some n)) same c.whole_negative.ensures
+    let bytes = c.as_bytes-bytes.result.now in
+    rw (← c.as_bytes-bytes.ensures.value, number-behind_minus bytes c.scan.result c.if-has_minus.ensures.value c.scan.ensures.parts) c.whole_negative.ensures
 
 pub returns-else-has_minus : goal.returns-else-has_minus
-unfolding number_of
 returns-else-has_minus c =
-    let s = c.as_bytes-bytes.result.now in
-    let unsigned : (get_or s 0 0 == 45) ≡ false = sym c.if-has_minus.ensures.value in
-    let read : number_from false (scan s) ≡ number_of s = rw unsigned in
-    let same : number_from false c.scan-else-has_minus.result ≡ number_of c.args.text.now =
-    ap (number_from false) c.scan-else-has_minus.ensures.parts ∙ read ∙ ap number_of c.as_bytes-bytes.ensures.value in
-    subst (λ o. IfSome c.whole_positive.result (λ n. option_and_then as_integer o ≡ Some n)) same c.whole_positive.ensures
+    let bytes = c.as_bytes-bytes.result.now in
+    rw (← c.as_bytes-bytes.ensures.value, number-no_minus bytes c.scan-else-has_minus.result c.if-has_minus.ensures.value c.scan-else-has_minus.ensures.parts) c.whole_positive.ensures

@@ -1,7 +1,8 @@
-use Rattle.std.proofs.Common.{◌≡◌, ℕ, ◌+◌, ◌*◌, ◌≤◌, length}
-use Rattle.json.specs.Json.{items, members, value, parse_map}
+use Rattle.std.proofs.Common.{◌+◌, ◌*◌, ◌≤◌, length}
+use Rattle.json.specs.Json.{items, members, value}
 use Rattle.serde_json.specs.Data.{Items, Members, no_members}
-use Rattle.serde_json.specs.Read.{of_items, of_members, converted}
+use Rattle.serde_json.specs.Read.{of_items, of_members}
+use Rattle.lines.proofs.Meaning.{IsAt}
 use Rattle.lines.proofs.tokens.passing.+pass.Given as goal
 
 abbrev pub decreases-pass : goal.decreases-pass
@@ -13,26 +14,22 @@ decreases-pass_items l = 2 * l.depth + 1
 abbrev pub decreases-pass_members : goal.decreases-pass_members
 decreases-pass_members l = 2 * l.depth + 1
 
--- the items so far stand before what is read behind them, and there are at most `turns` more
+-- `back` puts the items so far before those that are left
 abbrev pub invariant-pass_items-items : goal.invariant-pass_items-items
 invariant-pass_items-items l = record {
-  turns : ℕ;
-  before : Items → Items;
-  enough : length l.reader ≤ turns;
-  read : converted of_items (items (value l.depth) (length l.initial.reader) l.initial.reader) ≡ parse_map before (converted of_items (items (value l.depth) turns l.reader));
+  back : Items → Items;
+  at : IsAt (items (value l.depth)) l.initial.reader of_items l.reader of_items back;
   not_longer : length l.reader ≤ length l.initial.reader;
 }
 
 abbrev pub decreases-pass_items-items : goal.decreases-pass_items-items
 decreases-pass_items-items l = length l.reader
 
--- the members so far are `found`, and there are at most `turns` more
+-- the members so far are `found`
 abbrev pub invariant-pass_members-members : goal.invariant-pass_members-members
 invariant-pass_members-members l = record {
-  turns : ℕ;
   found : Members;
-  enough : length l.reader ≤ turns;
-  read : converted (λ ms. of_members ms no_members) (members (value l.depth) (length l.initial.reader) l.initial.reader) ≡ converted (λ ms. of_members ms found) (members (value l.depth) turns l.reader);
+  at : IsAt (members (value l.depth)) l.initial.reader (λ ms. of_members ms no_members) l.reader (λ ms. of_members ms found) (λ ms. ms);
   not_longer : length l.reader ≤ length l.initial.reader;
 }
 

@@ -1,22 +1,20 @@
-use Rattle.std.proofs.Common.{◌≡◌, ◌-◌, length, Some, refl, ap, ◌∙◌, arith}
+use Rattle.std.proofs.Common.{◌≡◌, length, Some, None, ap, ◌∙◌, arith}
 use Rattle.std.proofs.lemmas.List.{length-map}
-use Rattle.json.specs.Json.{read_key, value}
-use Rattle.json.proofs.Grammar.{read_key-shorter}
+use Rattle.json.specs.Json.{members, read_key, value}
 use Rattle.serde_json.specs.Data.{no_members, put}
+use Rattle.serde_json.specs.Read.{of_members}
 use Rattle.values.specs.Datum.{datum_of, data_of}
 use Rattle.values.specs.Schema.{field_of, fields_of}
 use Rattle.lines.specs.Taken.{data_taken, datum_taken, member_of}
 use Rattle.lines.proofs.Taking.{somes}
-use Rattle.lines.proofs.Converting.{member_read, members_over}
+use Rattle.lines.proofs.Meaning.{begins, member-next, members-closed}
 use Rattle.lines.proofs.Placing.{taken-other, taken-place}
 use Rattle.lines.proofs.tokens.taking.take_members.Goals as goal
 
 pub members-init : goal.members-init
 members-init c = record {
-  turns = length c.args.reader.now;
   found = no_members;
-  enough = omega arith;
-  read = refl;
+  at = begins (members (value 126)) c.args.reader.now (λ ms. of_members ms no_members);
   taken = c.in_ok-values.ensures;
   next_within = omega arith;
 }
@@ -31,51 +29,39 @@ put_at-requires c =
 
 pub members-preserved-in-Some-place_found_from : goal.members-preserved-in-Some-place_found_from
 members-preserved-in-Some-place_found_from c =
-    let p = value 126 in
-    let l = c.members in
-    let so_far = l.invariant in
-    let k = c.in-Some.name.now in
-    let s = c.next_key.new.self in
-    let named : read_key l.reader ≡ Some (Some k, s) = grind arith in
-    let done = c.in_ok-value-in-Some-place_found_from.ensures in
-    let d = done.taken.0 in
-    let r = c.take_value.new.reader in
-    let less = read_key-shorter l.reader (Some k) s named in
-    let lesser = done.shorter in
-    let found = c.in-Some-place_found_from.ensures in
+    let loop = c.members in
+    let found = loop.invariant.found in
+    let name = c.in-Some.name.now in
+    let behind = c.next_key.new.self in
+    let key : read_key loop.reader ≡ Some (Some name, behind) = grind arith in
+    let value_taken = c.in_ok-value-in-Some-place_found_from.ensures in
+    let d = value_taken.taken.0 in
+    let place = c.in-Some-place_found_from.ensures in
+    let column = c.index-columns-place.is in
     record {
-      turns = so_far.turns - 1;
-      found = put k d so_far.found;
-      enough = omega (arith, so_far.enough);
-      read = so_far.read ∙ member_read p so_far.found so_far.turns k l.reader s r d (omega (arith, so_far.enough)) named done.taken.1;
-      taken = rw (c.put_at.ensures) (taken-place c.args.columns.now l.values.items so_far.found k d so_far.taken c.in-Some-place_found_from.place c.index-columns-place.result c.in_ok-value-in-Some-place_found_from.value c.requires.names_differ found.0 c.index-columns-place.is found.1 (ap (λ column. datum_taken column.kind d) c.index-columns-place.is ∙ done.taken.2));
-      next_within = omega (arith, found.0);
+      found = put name d found;
+      at = member-next (value 126) c.args.reader.now loop.reader found name behind c.take_value.new.reader d loop.invariant.at key value_taken.taken.1 value_taken.shorter;
+      taken = rw (c.put_at.ensures) (taken-place c.args.columns.now loop.values.items found name d loop.invariant.taken c.in-Some-place_found_from.place c.index-columns-place.result c.in_ok-value-in-Some-place_found_from.value c.requires.names_differ place.0 column place.1 (ap (λ column. datum_taken column.kind d) column ∙ value_taken.taken.2));
+      next_within = omega (arith, place.0);
     }
 
 pub members-preserved : goal.members-preserved
 members-preserved c =
-    let p = value 126 in
-    let l = c.members in
-    let so_far = l.invariant in
-    let k = c.in-Some.name.now in
-    let s = c.next_key.new.self in
-    let named : read_key l.reader ≡ Some (Some k, s) = grind arith in
-    let done = c.in_ok-pass-in-None.ensures in
-    let d = done.passed.0 in
-    let r = c.pass.new.reader in
-    let less = read_key-shorter l.reader (Some k) s named in
-    let lesser = done.shorter in
+    let loop = c.members in
+    let found = loop.invariant.found in
+    let name = c.in-Some.name.now in
+    let behind = c.next_key.new.self in
+    let key : read_key loop.reader ≡ Some (Some name, behind) = grind arith in
+    let passed = c.in_ok-pass-in-None.ensures in
     record {
-      turns = so_far.turns - 1;
-      found = put k d so_far.found;
-      enough = omega (arith, so_far.enough);
-      read = so_far.read ∙ member_read p so_far.found so_far.turns k l.reader s r d (omega (arith, so_far.enough)) named done.passed.1;
-      taken = taken-other c.args.columns.now l.values.items so_far.found k d so_far.taken c.in-None.ensures;
-      next_within = so_far.next_within;
+      found = put name passed.passed.0 found;
+      at = member-next (value 126) c.args.reader.now loop.reader found name behind c.pass.new.reader passed.passed.0 loop.invariant.at key passed.passed.1 passed.shorter;
+      taken = taken-other c.args.columns.now loop.values.items found name passed.passed.0 loop.invariant.taken c.in-None.ensures;
+      next_within = loop.invariant.next_within;
     }
 
 pub returns : goal.returns
 returns c =
-    let l = c.members in
-    let so_far = l.invariant in
-    record { taken = (so_far.found, so_far.read ∙ members_over (value 126) so_far.found so_far.turns l.reader c.next_key.new.self so_far.enough (grind arith), so_far.taken) }
+    let loop = c.members in
+    let closed : read_key loop.reader ≡ Some (None, c.next_key.new.self) = grind arith in
+    record { taken = (loop.invariant.found, members-closed (value 126) c.args.reader.now loop.reader loop.invariant.found c.next_key.new.self loop.invariant.at closed, loop.invariant.taken) }

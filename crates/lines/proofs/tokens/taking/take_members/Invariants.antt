@@ -1,17 +1,16 @@
-use Rattle.std.proofs.Common.{◌≡◌, ℕ, ◌≤◌, length}
+use Rattle.std.proofs.Common.{◌≤◌, length}
 use Rattle.json.specs.Json.{members, value}
 use Rattle.serde_json.specs.Data.{Members, no_members}
-use Rattle.serde_json.specs.Read.{of_members, converted}
+use Rattle.serde_json.specs.Read.{of_members}
+use Rattle.lines.proofs.Meaning.{IsAt}
 use Rattle.lines.proofs.Placing.{AreTaken}
 use Rattle.lines.proofs.tokens.taking.take_members.Given as goal
 
--- the members so far are `found`, and there are at most `turns` more
+-- the members so far are `found`, and the values are what the columns take of them
 abbrev pub invariant-members : goal.invariant-members
 invariant-members l = record {
-  turns : ℕ;
   found : Members;
-  enough : length l.reader ≤ turns;
-  read : converted (λ ms. of_members ms no_members) (members (value 126) (length l.initial.reader) l.initial.reader) ≡ converted (λ ms. of_members ms found) (members (value 126) turns l.reader);
+  at : IsAt (members (value 126)) l.initial.reader (λ ms. of_members ms no_members) l.reader (λ ms. of_members ms found) (λ ms. ms);
   taken : AreTaken l.columns l.values.items found;
   next_within : l.next ≤ length l.columns;
 }

@@ -2,15 +2,14 @@ use Rattle.std.proofs.Common.{rules, ◌≡◌, ◌∷◌, ℤ, pos, negsuc, tru
 use Rattle.std.specs.Int.{w128}
 use Rattle.std.proofs.lemmas.Bool.Decides.{nat_tests}
 use Rattle.std.proofs.lemmas.Int.{to_z-of_z}
-use Rattle.json.specs.Json.{value}
 use Rattle.json.specs.Reads.{token_of}
 use Rattle.serde_json.specs.Data.{Num, null, boolean, number, string}
 use Rattle.serde_json.specs.Find.{as_integer}
-use Rattle.serde_json.specs.Read.{number_of, converted, of_json}
+use Rattle.serde_json.specs.Read.{number_of}
 use Rattle.values.specs.declared.schema.Kind.TheVariants as kind
 use Rattle.values.specs.Datum.{whole, text}
 use Rattle.lines.specs.Taken.{datum_taken, int64_taken, is_int64}
-use Rattle.lines.proofs.Converting.{read-boolean, read-null, read-number, read-string}
+use Rattle.lines.proofs.Meaning.{first-boolean, first-null, first-number, first-string}
 use Rattle.lines.proofs.Placing.{null_taken}
 use Rattle.lines.proofs.tokens.taking.take_value.Goals as goal
 
@@ -26,7 +25,7 @@ pub returns-in_default-Null-clause-taken : goal.returns-in_default-Null-clause-t
 returns-in_default-Null-clause-taken c =
     let first = c.in_ok-next.ensures.value ∙ ap (λ k. token_of k ∷ c.next.new.self) c.in_default-Null.is-1 in (
       null,
-      ap (λ ts. converted of_json (value 126 ts)) first ∙ read-null 126 c.next.new.self,
+      rw first (first-null 126 c.next.new.self),
       null_taken c.args.kind,
     )
 
@@ -41,7 +40,7 @@ returns-in_ok-whole_number-in-Int-Number-clause-taken c =
     let n = whole_taken (number_of s) z c.in_ok-whole_number-in-Int-Number.ensures fits in
     let first = c.in_ok-next.ensures.value ∙ ap (λ k. token_of k ∷ c.next.new.self) c.in-Int-Number.is-1 in (
       number n.0,
-      ap (λ ts. converted of_json (value 126 ts)) first ∙ read-number 126 s n.0 c.next.new.self n.1,
+      rw first (first-number 126 s n.0 c.next.new.self n.1),
       ap (λ k. datum_taken k (number n.0)) c.in-Int-Number.is-0 ∙ n.2 ∙ ap (λ x. Some (whole x)) (sym same),
     )
 
@@ -52,7 +51,7 @@ returns-in_ok-copy-in-Text-String-clause-taken c =
     let first = c.in_ok-next.ensures.value ∙ ap (λ k. token_of k ∷ c.next.new.self) c.in-Text-String.is-1 in
     let copied : string_bytes c.in_ok-copy-in-Text-String.field-0 ≡ s = c.in_ok-copy-in-Text-String.ensures in (
       string s,
-      ap (λ ts. converted of_json (value 126 ts)) first ∙ read-string 126 s c.next.new.self,
+      rw first (first-string 126 s c.next.new.self),
       ap (λ k. datum_taken k (string s)) c.in-Text-String.is-0 ∙ ap (λ x. Some (text x)) (sym copied),
     )
 
@@ -61,6 +60,6 @@ returns-in-Bool-Bool-clause-taken c =
     let b = c.in-Bool-Bool.truth in
     let first = c.in_ok-next.ensures.value ∙ ap (λ k. token_of k ∷ c.next.new.self) c.in-Bool-Bool.is-1 in (
       boolean b,
-      ap (λ ts. converted of_json (value 126 ts)) first ∙ read-boolean 126 b c.next.new.self,
+      rw first (first-boolean 126 b c.next.new.self),
       ap (λ k. datum_taken k (boolean b)) c.in-Bool-Bool.is-0,
     )
