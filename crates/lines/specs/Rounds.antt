@@ -1,11 +1,12 @@
 -- What contracts see of an input that is read in rounds.
-use Rattle.std.specs.Prelude.{◌≡◌, ◌⊎◌, ◌↔◌, ℕ, ◌+◌, ◌^◌, ◌<◌, ◌≤◌, Bool, true, false, List, length, Option, Result, Ok, IsErr}
+use Rattle.std.specs.Prelude.{◌≡◌, ◌⊎◌, ◌↔◌, ℕ, ◌+◌, ◌^◌, ◌<◌, ◌≤◌, Bool, true, false, List, [], length, Option, Result, Ok, IsErr}
 use Rattle.std.specs.Io.KnownBytes.{Consumes, IsAtEnd, Keeps}
 use Rattle.lines.specs.declared.fault.ReadFault.{ReadFault}
 use Rattle.lines.specs.Pieces.{EndsInFeed}
 
--- the reader; what is left to give, where the reader's bytes are known; the round that was given last; the greatest length of a round; how many bytes were given in
--- all; whether the last round was given; and whether reading has failed
+-- the reader; what is left to give, where the reader's bytes are known; the round that the last call gave, and no byte before the first call, where the last one
+-- gave none, and once the round was handed out; the greatest length of a round; how many bytes were given in all; whether the last round was given; and whether
+-- reading has failed
 pub record RoundsState (R : Type 0) : Type 0 where
   pub reader : R
   pub left : Option (List ℕ)
@@ -29,10 +30,11 @@ pub record HasGiven {R : Type 0} (old new : RoundsState R) : Type 0 where
   pub last : new.over ≡ true → IsAtEnd new.left
   pub given : new.given ≡ old.given + length new.round
 
--- nothing was left, and that stays so
+-- nothing was left, and that stays so; there is no round
 pub record HasNothing {R : Type 0} (old new : RoundsState R) : Type 0 where
   pub left : IsAtEnd old.left
   pub same : Keeps old.left new.left
+  pub round : new.round ≡ []
   pub given : new.given ≡ old.given
   pub over : new.over ≡ old.over
 
@@ -41,6 +43,7 @@ pub record HasMoved {R : Type 0} (old : RoundsState R) (found : Result Bool Read
   pub round : found ≡ Ok true → HasGiven old new
   pub none : found ≡ Ok false → HasNothing old new
   pub fault : IsErr found ↔ (new.failed ≡ true)
+  pub lost : IsErr found → new.round ≡ []
   pub failed : old.failed ≡ true → IsErr found
   pub over : old.over ≡ true → old.failed ≡ false → found ≡ Ok false
   pub size : new.size ≡ old.size

@@ -96,3 +96,13 @@ pub(crate) fn release(held: &mut Held)
     held.filled -= held.cut;
     held.cut = 0;
 }
+
+/// Lets go all that is held.
+pub(crate) fn let_go(held: &mut Held)
+    ensures buffer { held.new.buffer ≡ held.old.buffer }
+    ensures cut { held.new.cut ≡ 0 }
+    ensures filled { held.new.filled ≡ 0 }
+{
+    held.cut = 0;
+    held.filled = 0;
+}

@@ -6,7 +6,7 @@ ghost use Rattle.lines.specs.Rounds.{HasMoved};
 ghost use Rattle.lines.specs.Trim.{trim, trimmed_len};
 
 use crate::fault::ReadFault;
-use crate::held::{TRIMMED_LEN, pass, release, settle};
+use crate::held::{TRIMMED_LEN, let_go, pass, release, settle};
 use crate::holding::Held;
 use std::alloc::{AllocError, Global};
 use std::io::Read;
@@ -466,6 +466,7 @@ impl<R: Read + Drop> Rounds<R> {
             return Err(ReadFault);
         }
         if self.over {
+            let_go(&mut self.held);
             return Ok(false);
         }
         let (aim, size) = (self.aim, self.size);
@@ -487,15 +488,15 @@ impl<R: Read + Drop> Rounds<R> {
                 Ok(true)
             }
             Err(fault) => {
-                self.held.cut = 0;
-                self.held.filled = 0;
+                let_go(&mut self.held);
                 self.failed = true;
                 Err(fault)
             }
         }
     }
 
-    /// The round that was given last; empty before the first one, and once it was handed out.
+    /// The round that the last call of [`Rounds::advance`] gave. It is empty before the first call, where the last one
+    /// gave none, and once the round was handed out.
     pub fn round(&self) -> &[u8]
         ensures { result.now ≡ self.now.round }
     {
