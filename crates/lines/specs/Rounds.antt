@@ -5,8 +5,8 @@ use Rattle.lines.specs.declared.fault.ReadFault.{ReadFault}
 use Rattle.lines.specs.Pieces.{EndsInFeed}
 
 -- the reader; what is left to give, where the reader's bytes are known; the round that the last call gave, and no byte before the first call, where the last one
--- gave none, and once the round was handed out; the greatest length of a round; how many bytes were given in all; whether the last round was given; and whether
--- reading has failed
+-- gave none, and once the round was handed out; the greatest length of a round; how many bytes were given in all; whether the last round was given; whether
+-- reading has failed; the bytes that the reader still has, where they are known; how many bytes it gave in all; and whether a read of it answered an error
 pub record RoundsState (R : Type 0) : Type 0 where
   pub reader : R
   pub left : Option (List ℕ)
@@ -15,6 +15,9 @@ pub record RoundsState (R : Type 0) : Type 0 where
   pub given : ℕ
   pub over : Bool
   pub failed : Bool
+  pub unread : Option (List ℕ)
+  pub taken : ℕ
+  pub erred : Bool
 
 -- a round that was handed out, and the greatest length of a round in its buffer
 pub record RoundState : Type 0 where
@@ -38,12 +41,24 @@ pub record HasNothing {R : Type 0} (old new : RoundsState R) : Type 0 where
   pub given : new.given ≡ old.given
   pub over : new.over ≡ old.over
 
+-- what was read of a reader: where its bytes are known, those that it has no more; and they are counted
+pub record HasRead (old new : Option (List ℕ)) (taken counted : ℕ) : Type 0 where
+  pub bytes : List ℕ
+  pub lost : Consumes old new bytes
+  pub count : counted ≡ taken + length bytes
+
+-- why reading fails: a read answered an error, or the reader gave 2^63 bytes
+abbrev pub HasCause : (erred : Bool) (taken : ℕ) → Type 0
+HasCause erred taken = (erred ≡ true) ⊎ (2 ^ 63 ≤ taken)
+
 -- what a call does that may give a round
 pub record HasMoved {R : Type 0} (old : RoundsState R) (found : Result Bool ReadFault) (new : RoundsState R) : Type 0 where
   pub round : found ≡ Ok true → HasGiven old new
   pub none : found ≡ Ok false → HasNothing old new
   pub fault : IsErr found ↔ (new.failed ≡ true)
+  pub cause : IsErr found → HasCause new.erred new.taken
   pub lost : IsErr found → new.round ≡ []
+  pub read : HasRead old.unread new.unread old.taken new.taken
   pub failed : old.failed ≡ true → IsErr found
   pub over : old.over ≡ true → old.failed ≡ false → found ≡ Ok false
   pub size : new.size ≡ old.size

@@ -10,6 +10,7 @@ mod laws;
 mod pieces;
 mod reading;
 mod rounds;
+mod source;
 mod splitting;
 mod tokens;
 mod tree;

@@ -2,20 +2,18 @@
 ghost use Rattle.std.specs.Prelude.{◌≡◌, [], ◌+◌, ◌-◌, ◌<◌, ◌≤◌, ◌^◌, ◌⊎◌, max, true, false, zero, IsTrue, IsFalse, IsErr, Ok, Err, None, Some, IfErr, IfOk, IfSome, OnOk, length, option_map, take, drop, vec_capacity, vec_len};
 ghost use Rattle.std.specs.Io.KnownBytes.{Consumes, IsAtEnd, Keeps};
 ghost use Rattle.lines.specs.Holding.{IsBetween, IsHeld, left_behind, left_of, open_part, whole_lines};
-ghost use Rattle.lines.specs.Rounds.{HasMoved};
+ghost use Rattle.lines.specs.Rounds.{HasCause, HasMoved, HasRead};
 ghost use Rattle.lines.specs.Trim.{trim, trimmed_len};
 
 use crate::fault::ReadFault;
 use crate::held::{TRIMMED_LEN, let_go, pass, release, settle};
 use crate::holding::Held;
+use crate::source::Source;
 use std::alloc::{AllocError, Global};
 use std::io::Read;
 use std::marker::Model;
 use std::mem;
 use std::sync::atomic::{AtomicBool, Ordering};
-
-/// The number of bytes that an input stays below.
-const INPUT_LIMIT: usize = 0x8000_0000_0000_0000;
 
 /// The room for bytes that are read beyond a round, so that no read has to be small.
 const SPARE: usize = 65_536;
@@ -51,22 +49,6 @@ impl Waiter for Nobody {
     }
 }
 
-/// One read into the buffer from place `at` on. It answers how many bytes the reader gave.
-fn read_at<R: Read>(reader: &mut R, buffer: &mut [u8], at: usize) -> Result<usize, ReadFault>
-    requires { at < length buffer.old }
-    ensures length { length buffer.new ≡ length buffer.old }
-    ensures front { take at buffer.new ≡ take at buffer.old }
-    ensures fits { IfOk result (λ n. at + n ≤ length buffer.new) }
-    ensures bytes { IfOk result (λ n. Consumes (R.remaining reader.old) (R.remaining reader.new)
-        (take n (drop at buffer.new))) }
-    ensures end { IfOk result (λ n. n ≡ 0 → IsAtEnd (R.remaining reader.new)) }
-{
-    match reader.read(&mut buffer[at..]) {
-        Ok(count) => Ok(count),
-        Err(_) => Err(ReadFault),
-    }
-}
-
 /// Makes room behind the first `filled` bytes, where there is none: the buffer gets longer, up to `most` bytes, for
 /// which it has the memory already. So memory that no byte comes to is never touched.
 fn make_room(buffer: &mut Vec<u8>, filled: usize, most: usize)
@@ -89,61 +71,69 @@ fn make_room(buffer: &mut Vec<u8>, filled: usize, most: usize)
 }
 
 /// One read behind what is held, into a buffer of at most `most` bytes. It answers how many bytes the reader gave.
-fn read_more<R: Read>(reader: &mut R, held: &mut Held, most: usize) -> Result<usize, ReadFault>
+fn read_more<R: Read + Drop>(
+    source: &mut Source<R>,
+    held: &mut Held,
+    most: usize,
+) -> Result<usize, ReadFault>
     requires held { IsHeld held.old }
     requires len { vec_len held.old.buffer ≤ most }
     requires room { held.old.filled < most }
     requires capacity { most ≤ vec_capacity held.old.buffer }
+    requires limit { source.old.taken < 2 ^ 63 }
     ensures held { OnOk result (IsHeld held.new) }
-    ensures left { OnOk result (Keeps (left_of held.old (R.remaining reader.old)) (left_of held.new (R.remaining reader.new))) }
+    ensures left { OnOk result (Keeps (left_of held.old (R.remaining source.old.reader)) (left_of held.new (R.remaining source.new.reader))) }
     ensures len { vec_len held.new.buffer ≤ most }
     ensures capacity { most ≤ vec_capacity held.new.buffer }
     ensures cut { held.new.cut ≡ held.old.cut }
     ensures filled { IfOk result (λ n. held.new.filled ≡ held.old.filled + n) }
-    ensures end { IfOk result (λ n. n ≡ 0 → IsAtEnd (R.remaining reader.new)) }
+    ensures end { IfOk result (λ n. n ≡ 0 → IsAtEnd (R.remaining source.new.reader)) }
+    ensures taken { IfOk result (λ n. source.new.taken ≡ source.old.taken + n) }
+    ensures limit { OnOk result (source.new.taken < 2 ^ 63) }
+    ensures read { HasRead (R.remaining source.old.reader) (R.remaining source.new.reader)
+        source.old.taken source.new.taken }
+    ensures cause { IsErr result → HasCause source.new.erred source.new.taken }
 {
     make_room(&mut held.buffer, held.filled, most);
-    let count = read_at(reader, held.buffer.as_mut_slice(), held.filled)?;
+    let count = source.read(held.buffer.as_mut_slice(), held.filled)?;
     held.filled += count;
     Ok(count)
 }
 
 /// Reads until the whole lines come near to `aim` bytes or the input is at its end, and counts the bytes. It
 /// answers whether the input is at its end.
-fn fill<R: Read>(
-    reader: &mut R,
+fn fill<R: Read + Drop>(
+    source: &mut Source<R>,
     held: &mut Held,
     aim: usize,
     size: usize,
-    taken: &mut usize,
 ) -> Result<bool, ReadFault>
     requires held { IsHeld held.old }
     requires within { held.old.cut ≤ aim }
     requires aim { aim ≤ size }
     requires len { vec_len held.old.buffer ≤ size + 65536 }
     requires room { size + 65536 ≤ vec_capacity held.old.buffer }
-    requires limit { taken.old < 2 ^ 63 }
+    requires limit { source.old.taken < 2 ^ 63 }
     ensures held { OnOk result (IsHeld held.new) }
-    ensures left { OnOk result (Keeps (left_of held.old (R.remaining reader.old)) (left_of held.new (R.remaining reader.new))) }
+    ensures left { OnOk result (Keeps (left_of held.old (R.remaining source.old.reader)) (left_of held.new (R.remaining source.new.reader))) }
     ensures len { vec_len held.new.buffer ≤ size + 65536 }
     ensures room { size + 65536 ≤ vec_capacity held.new.buffer }
     ensures within { OnOk result (held.new.cut ≤ aim) }
-    ensures taken { OnOk result (held.new.filled + taken.old ≤ held.old.filled + taken.new) }
-    ensures limit { OnOk result (taken.new < 2 ^ 63) }
-    ensures end { IfOk result (λ ended. IsTrue ended → IsAtEnd (R.remaining reader.new)) }
+    ensures taken { OnOk result (held.new.filled + source.old.taken ≤ held.old.filled + source.new.taken) }
+    ensures limit { OnOk result (source.new.taken < 2 ^ 63) }
+    ensures read { HasRead (R.remaining source.old.reader) (R.remaining source.new.reader)
+        source.old.taken source.new.taken }
+    ensures cause { IsErr result → HasCause source.new.erred source.new.taken }
+    ensures end { IfOk result (λ ended. IsTrue ended → IsAtEnd (R.remaining source.new.reader)) }
     ensures few { IfOk result (λ ended. IsTrue ended
         → (held.new.filled ≤ held.new.cut + trimmed_len) × (held.new.filled ≤ size)) }
     ensures whole { IfOk result (λ ended. IsFalse ended → aim ≤ held.new.cut + trimmed_len) }
 {
     settle(held, aim);
     while held.cut + TRIMMED_LEN < aim {
-        let count = read_more(reader, held, size + SPARE)?;
+        let count = read_more(source, held, size + SPARE)?;
         if count == 0 {
             return Ok(true);
-        }
-        *taken += count;
-        if *taken >= INPUT_LIMIT {
-            return Err(ReadFault);
         }
         settle(held, aim);
     }
@@ -153,12 +143,11 @@ fn fill<R: Read>(
 /// Reads as `fill` does, first for about `FIRST` bytes and then for more, until the whole lines come near to `aim` bytes,
 /// or are waited for, or the input is at its end. It answers whether the input is at its end, and to how many bytes the
 /// whole lines were to come near at last.
-fn fill_for<R: Read, W: Waiter>(
-    reader: &mut R,
+fn fill_for<R: Read + Drop, W: Waiter>(
+    source: &mut Source<R>,
     held: &mut Held,
     aim: usize,
     size: usize,
-    taken: &mut usize,
     waiter: &W,
 ) -> Result<(bool, usize), ReadFault>
     requires held { IsHeld held.old }
@@ -166,38 +155,40 @@ fn fill_for<R: Read, W: Waiter>(
     requires aim { aim ≤ size }
     requires len { vec_len held.old.buffer ≤ size + 65536 }
     requires room { size + 65536 ≤ vec_capacity held.old.buffer }
-    requires limit { taken.old < 2 ^ 63 }
+    requires limit { source.old.taken < 2 ^ 63 }
     ensures held { OnOk result (IsHeld held.new) }
-    ensures left { OnOk result (Keeps (left_of held.old (R.remaining reader.old)) (left_of held.new (R.remaining reader.new))) }
+    ensures left { OnOk result (Keeps (left_of held.old (R.remaining source.old.reader)) (left_of held.new (R.remaining source.new.reader))) }
     ensures len { vec_len held.new.buffer ≤ size + 65536 }
     ensures room { size + 65536 ≤ vec_capacity held.new.buffer }
     ensures within { IfOk result (λ r. held.new.cut ≤ r.1) }
     ensures near { IfOk result (λ r. r.1 ≤ aim) }
     ensures long { IfOk result (λ r. trimmed_len < aim → trimmed_len < r.1) }
-    ensures taken { OnOk result (held.new.filled + taken.old ≤ held.old.filled + taken.new) }
-    ensures limit { OnOk result (taken.new < 2 ^ 63) }
-    ensures end { IfOk result (λ r. IsTrue r.0 → IsAtEnd (R.remaining reader.new)) }
+    ensures taken { OnOk result (held.new.filled + source.old.taken ≤ held.old.filled + source.new.taken) }
+    ensures limit { OnOk result (source.new.taken < 2 ^ 63) }
+    ensures read { HasRead (R.remaining source.old.reader) (R.remaining source.new.reader)
+        source.old.taken source.new.taken }
+    ensures cause { IsErr result → HasCause source.new.erred source.new.taken }
+    ensures end { IfOk result (λ r. IsTrue r.0 → IsAtEnd (R.remaining source.new.reader)) }
     ensures few { IfOk result (λ r. IsTrue r.0
         → (held.new.filled ≤ held.new.cut + trimmed_len) × (held.new.filled ≤ size)) }
     ensures whole { IfOk result (λ r. IsFalse r.0 → r.1 ≤ held.new.cut + trimmed_len) }
 {
     let mut near = aim.min(held.cut.max(FIRST));
-    let mut ended = fill(reader, held, near, size, taken)?;
+    let mut ended = fill(source, held, near, size)?;
     while !ended && near < aim && !waiter.is_waiting() {
         near = aim.min(near.saturating_add(STEP));
-        ended = fill(reader, held, near, size, taken)?;
+        ended = fill(source, held, near, size)?;
     }
     Ok((ended, near))
 }
 
 /// Lets go the round before, and holds the next round in front, of about `aim` bytes and at most `size`. It answers
 /// whether it is the last.
-fn turn<R: Read, W: Waiter>(
-    reader: &mut R,
+fn turn<R: Read + Drop, W: Waiter>(
+    source: &mut Source<R>,
     held: &mut Held,
     aim: usize,
     size: usize,
-    taken: &mut usize,
     waiter: &W,
 ) -> Result<bool, ReadFault>
     requires held { IsHeld held.old }
@@ -205,9 +196,9 @@ fn turn<R: Read, W: Waiter>(
     requires aim { aim ≤ size }
     requires len { vec_len held.old.buffer ≤ size + 65536 }
     requires room { size + 65536 ≤ vec_capacity held.old.buffer }
-    requires limit { taken.old < 2 ^ 63 }
-    ensures round { OnOk result (Consumes (left_behind held.old (R.remaining reader.old))
-        (left_behind held.new (R.remaining reader.new)) (whole_lines held.new)) }
+    requires limit { source.old.taken < 2 ^ 63 }
+    ensures round { OnOk result (Consumes (left_behind held.old (R.remaining source.old.reader))
+        (left_behind held.new (R.remaining source.new.reader)) (whole_lines held.new)) }
     ensures len { vec_len held.new.buffer ≤ size + 65536 }
     ensures room { size + 65536 ≤ vec_capacity held.new.buffer }
     ensures held { IfOk result (λ ended. IsFalse ended → IsHeld held.new) }
@@ -215,12 +206,15 @@ fn turn<R: Read, W: Waiter>(
     ensures none { OnOk result (held.new.cut ≡ 0 → IsHeld held.new) }
     ensures within { OnOk result ((held.new.cut ≤ held.new.filled) × (held.new.cut ≤ size)) }
     ensures filled { OnOk result (held.new.filled ≤ vec_len held.new.buffer) }
-    ensures all { IfOk result (λ ended. IsTrue ended → (held.new.cut ≡ held.new.filled) × IsAtEnd (R.remaining reader.new)) }
-    ensures taken { OnOk result (held.new.filled + taken.old ≤ held.old.filled - held.old.cut + taken.new) }
-    ensures limit { OnOk result (taken.new < 2 ^ 63) }
+    ensures all { IfOk result (λ ended. IsTrue ended → (held.new.cut ≡ held.new.filled) × IsAtEnd (R.remaining source.new.reader)) }
+    ensures taken { OnOk result (held.new.filled + source.old.taken ≤ held.old.filled - held.old.cut + source.new.taken) }
+    ensures limit { OnOk result (source.new.taken < 2 ^ 63) }
+    ensures read { HasRead (R.remaining source.old.reader) (R.remaining source.new.reader)
+        source.old.taken source.new.taken }
+    ensures cause { IsErr result → HasCause source.new.erred source.new.taken }
 {
     release(held);
-    let (ended, near) = fill_for(reader, held, aim, size, taken, waiter)?;
+    let (ended, near) = fill_for(source, held, aim, size, waiter)?;
     if ended {
         held.cut = held.filled;
     } else if !held.full {
@@ -348,12 +342,11 @@ fn buffer_of(alloc: Global, size: usize) -> Result<Vec<u8>, AllocError>
 /// Example: of a line of 3,000,000 bytes and the line `ab` behind it, the rounds joined are the first 1,048,577 bytes
 /// of the long line, its line feed, and `ab` with its line feed, where it has one.
 pub struct Rounds<R: Read + Drop> {
-    reader: R,
+    source: Source<R>,
     held: Held,
     /// How many bytes the next round has, about.
     aim: usize,
     size: usize,
-    taken: usize,
     given: usize,
     over: bool,
     failed: bool,
@@ -363,16 +356,15 @@ pub struct Rounds<R: Read + Drop> {
 impl<R: Read + Drop> Drop for Rounds<R> {
     fn drop(self) {
         let Rounds {
-            reader,
+            source,
             held,
             aim: _,
             size: _,
-            taken: _,
             given: _,
             over: _,
             failed: _,
         } = self;
-        drop(reader);
+        drop(source);
         drop(held);
     }
 }
@@ -384,17 +376,20 @@ impl<R: Read + Drop> Model for Rounds<R> {
     ghost Value = { RoundsState R };
 
     ghost view = { λ inside. record {
-      reader = inside.reader;
-      left = left_behind inside.held (R.remaining inside.reader);
+      reader = inside.source.reader;
+      left = left_behind inside.held (R.remaining inside.source.reader);
       round = whole_lines inside.held;
       size = inside.size;
       given = inside.given;
       over = inside.over;
       failed = inside.failed;
+      unread = R.remaining inside.source.reader;
+      taken = inside.source.taken;
+      erred = inside.source.erred;
     } };
 
     ghost invariant = { λ inside.
-        IsBetween inside.held (R.remaining inside.reader) inside.aim inside.size inside.taken inside.given inside.over inside.failed };
+        IsBetween inside.held (R.remaining inside.source.reader) inside.aim inside.size inside.source.taken inside.given inside.over inside.failed inside.source.erred };
 }
 
 impl<R: Read + Drop> Rounds<R> {
@@ -416,6 +411,9 @@ impl<R: Read + Drop> Rounds<R> {
           given = 0;
           over = false;
           failed = false;
+          unread = R.remaining reader;
+          taken = 0;
+          erred = false;
         }) }
     {
         let buffer = buffer_of(alloc, size)?;
@@ -426,11 +424,10 @@ impl<R: Read + Drop> Rounds<R> {
             full: false,
         };
         Ok(Rounds {
-            reader,
+            source: Source::new(reader),
             held,
             aim: size.min(FIRST),
             size,
-            taken: 0,
             given: 0,
             over: false,
             failed: false,
@@ -470,14 +467,7 @@ impl<R: Read + Drop> Rounds<R> {
             return Ok(false);
         }
         let (aim, size) = (self.aim, self.size);
-        match turn(
-            &mut self.reader,
-            &mut self.held,
-            aim,
-            size,
-            &mut self.taken,
-            waiter,
-        ) {
+        match turn(&mut self.source, &mut self.held, aim, size, waiter) {
             Ok(ended) => {
                 self.aim = size;
                 if self.held.cut == 0 {

@@ -2,6 +2,7 @@ use Rattle.std.proofs.Common.{◌≡◌, ◌<◌, ◌≤◌, ◌+◌, ℕ, min, 
 use Rattle.std.proofs.KnownBytes.{Keeps-trans}
 use Rattle.lines.specs.Holding.{left_of}
 use Rattle.lines.specs.Trim.{trimmed_len}
+use Rattle.lines.proofs.Account.{HasRead-trans}
 use Rattle.lines.proofs.rounds.fill_for.Goals as goal
 
 not_beyond : (next aim far : ℕ) → next ≡ min aim far → next ≤ aim
@@ -23,25 +24,25 @@ loop-ended-preserved g c =
     let filled = c.in_ok-ended-2.ensures in
     record {
       held = filled.held;
-      left = Keeps-trans (left_of c.args.held.now (rest c.args.reader.now)) (left_of was.held (rest was.reader)) (left_of next.held (rest next.reader)) was.invariant.left filled.left;
+      left = Keeps-trans (left_of c.args.held.now (rest c.args.source.now.reader)) (left_of was.held (rest was.source.reader)) (left_of next.held (rest next.source.reader)) was.invariant.left filled.left;
       len = filled.len;
       room = filled.room;
       within = filled.within;
       near = not_beyond _ _ _ c.min-near-in-loop-ended.ensures;
       long = λ h. stays-long _ _ _ _ c.saturating_add.ensures c.min-near-in-loop-ended.ensures (was.invariant.long h) h;
-      taken = counted c.args.held.now.filled was.held.filled _ _ was.taken _ was.invariant.taken filled.taken;
+      taken = counted c.args.held.now.filled was.held.filled _ _ was.source.taken _ was.invariant.taken filled.taken;
       limit = filled.limit;
+      read = HasRead-trans (rest c.args.source.now.reader) (rest was.source.reader) (rest next.source.reader) c.args.source.now.taken was.source.taken next.source.taken
+          was.invariant.read c.fill-in-loop-ended.ensures.read;
       end = filled.end;
       few = filled.few;
       whole = filled.whole;
     }
 
--- the invariant says what `ensures` asks, however the loop ends
-pub returns-else-not-is_waiting : goal.returns-else-not-is_waiting
-returns-else-not-is_waiting g c = c.loop-ended.invariant
-
-pub returns-else-near-aim : goal.returns-else-near-aim
-returns-else-near-aim g c = c.loop-ended.invariant
-
-pub returns-after-loop-ended : goal.returns-after-loop-ended
-returns-after-loop-ended g c = c.loop-ended.invariant
+-- where the second fill fails, bytes were read by both
+pub returns-in_err-ended-2-clause-read : goal.returns-in_err-ended-2-clause-read
+returns-in_err-ended-2-clause-read g c =
+    let was = c.loop-ended in
+    let rest = g.R.Read.remaining in
+    let next = c.fill-in-loop-ended.new in
+    HasRead-trans (rest c.args.source.now.reader) (rest was.source.reader) (rest next.source.reader) c.args.source.now.taken was.source.taken next.source.taken was.invariant.read c.fill-in-loop-ended.ensures.read

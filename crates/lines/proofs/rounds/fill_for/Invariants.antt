@@ -1,6 +1,7 @@
 use Rattle.std.proofs.Common.{◌<◌, ◌≤◌, ◌+◌, ◌-◌, ◌^◌, IsTrue, IsFalse, vec_capacity, vec_len}
 use Rattle.std.specs.Io.KnownBytes.{IsAtEnd, Keeps}
 use Rattle.lines.specs.Holding.{IsHeld, left_of}
+use Rattle.lines.specs.Rounds.{HasRead}
 use Rattle.lines.specs.Trim.{trimmed_len}
 use Rattle.lines.proofs.rounds.fill_for.Given as goal
 
@@ -8,15 +9,16 @@ use Rattle.lines.proofs.rounds.fill_for.Given as goal
 abbrev pub invariant-loop-ended : goal.invariant-loop-ended
 invariant-loop-ended g l = record {
   held : IsHeld l.held;
-  left : Keeps (left_of l.fn.held (g.R.Read.remaining l.fn.reader)) (left_of l.held (g.R.Read.remaining l.reader));
+  left : Keeps (left_of l.fn.held (g.R.Read.remaining l.fn.source.reader)) (left_of l.held (g.R.Read.remaining l.source.reader));
   len : vec_len l.held.buffer ≤ l.size + 65536;
   room : l.size + 65536 ≤ vec_capacity l.held.buffer;
   within : l.held.cut ≤ l.near;
   near : l.near ≤ l.aim;
   long : trimmed_len < l.aim → trimmed_len < l.near;
-  taken : l.held.filled + l.fn.taken ≤ l.fn.held.filled + l.taken;
-  limit : l.taken < 2 ^ 63;
-  end : IsTrue l.ended → IsAtEnd (g.R.Read.remaining l.reader);
+  taken : l.held.filled + l.fn.source.taken ≤ l.fn.held.filled + l.source.taken;
+  limit : l.source.taken < 2 ^ 63;
+  read : HasRead (g.R.Read.remaining l.fn.source.reader) (g.R.Read.remaining l.source.reader) l.fn.source.taken l.source.taken;
+  end : IsTrue l.ended → IsAtEnd (g.R.Read.remaining l.source.reader);
   few : IsTrue l.ended → (l.held.filled ≤ l.held.cut + trimmed_len) × (l.held.filled ≤ l.size);
   whole : IsFalse l.ended → l.near ≤ l.held.cut + trimmed_len;
 }

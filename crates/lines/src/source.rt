@@ -1,0 +1,67 @@
+//! A reader, and the account of what it answered.
+ghost use Rattle.std.specs.Prelude.{◌≡◌, ◌+◌, ◌<◌, ◌≤◌, ◌^◌, false, zero, IsErr, IfErr, IfOk, OnOk, length, take, drop};
+ghost use Rattle.std.specs.Io.KnownBytes.{Consumes, IsAtEnd};
+ghost use Rattle.lines.specs.Rounds.{HasCause, HasRead};
+
+use crate::fault::ReadFault;
+use std::io::Read;
+
+/// The number of bytes that an input stays below.
+const INPUT_LIMIT: usize = 0x8000_0000_0000_0000;
+
+/// A reader, beside the account of what it answered. Nothing but a read changes these.
+#[derive(Drop)]
+pub(crate) struct Source<R: Read + Drop> {
+    reader: R,
+    /// How many bytes it gave.
+    taken: usize,
+    /// Whether a read answered an error.
+    erred: bool,
+}
+
+impl<R: Read + Drop> Source<R> {
+    /// A reader that was not asked yet.
+    pub(crate) fn new(reader: R) -> Source<R>
+        ensures reader { result.reader ≡ reader }
+        ensures taken { result.taken ≡ 0 }
+        ensures erred { result.erred ≡ false }
+    {
+        Source {
+            reader,
+            taken: 0,
+            erred: false,
+        }
+    }
+
+    /// One read into the buffer from place `at` on. It answers how many bytes the reader gave.
+    ///
+    /// No clause can name what the reader answered. So it is left to these lines that `erred` is told of an error alone.
+    pub(crate) fn read(&mut self, buffer: &mut [u8], at: usize) -> Result<usize, ReadFault>
+        requires room { at < length buffer.old }
+        requires limit { self.old.taken < 2 ^ 63 }
+        ensures length { length buffer.new ≡ length buffer.old }
+        ensures front { take at buffer.new ≡ take at buffer.old }
+        ensures fits { IfOk result (λ n. at + n ≤ length buffer.new) }
+        ensures bytes { IfOk result (λ n. Consumes (R.remaining self.old.reader) (R.remaining self.new.reader)
+            (take n (drop at buffer.new))) }
+        ensures end { IfOk result (λ n. n ≡ 0 → IsAtEnd (R.remaining self.new.reader)) }
+        ensures taken { IfOk result (λ n. self.new.taken ≡ self.old.taken + n) }
+        ensures below { OnOk result (self.new.taken < 2 ^ 63) }
+        ensures read { HasRead (R.remaining self.old.reader) (R.remaining self.new.reader) self.old.taken self.new.taken }
+        ensures cause { IsErr result → HasCause self.new.erred self.new.taken }
+    {
+        match self.reader.read(&mut buffer[at..]) {
+            Ok(count) => {
+                self.taken += count;
+                if self.taken >= INPUT_LIMIT {
+                    return Err(ReadFault);
+                }
+                Ok(count)
+            }
+            Err(_) => {
+                self.erred = true;
+                Err(ReadFault)
+            }
+        }
+    }
+}
