@@ -1,5 +1,5 @@
 //! A reader, and the account of what it answered.
-ghost use Rattle.std.specs.Prelude.{◌≡◌, ◌+◌, ◌<◌, ◌≤◌, ◌^◌, false, zero, IsErr, IfErr, IfOk, OnOk, length, take, drop};
+ghost use Rattle.std.specs.Prelude.{◌≡◌, ◌+◌, ◌<◌, ◌≤◌, ◌^◌, false, IsErr, IfOk, OnOk, length, take, drop};
 ghost use Rattle.std.specs.Io.KnownBytes.{Consumes, IsAtEnd};
 ghost use Rattle.lines.specs.Rounds.{HasCause, HasRead};
 
@@ -35,7 +35,8 @@ impl<R: Read + Drop> Source<R> {
 
     /// One read into the buffer from place `at` on. It answers how many bytes the reader gave.
     ///
-    /// No clause can name what the reader answered. So it is left to these lines that `erred` is told of an error alone.
+    /// No clause can name what the reader answered: that `erred` is set where it answered an error, and nowhere else, is
+    /// left to these lines.
     pub(crate) fn read(&mut self, buffer: &mut [u8], at: usize) -> Result<usize, ReadFault>
         requires room { at < length buffer.old }
         requires limit { self.old.taken < 2 ^ 63 }
