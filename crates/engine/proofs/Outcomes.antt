@@ -132,24 +132,36 @@ leaves-stopped limit fields q known out err gathering.OutOfMemory h a b = (a, b)
 leaves-stopped limit fields q known out err gathering.ThreadNotStarted h a b = (a, b)
 leaves-stopped limit fields q known out err (gathering.TooManyRefused most) h a b = (h.0, h.1, a, b)
 
+-- what is within the limit of a trimmed input is so of the input
+within-trimmed : (limit : Option ℕ) (fields : List Field) (input : List ℕ)
+    → IsWithin limit (length (refused fields (trim input))) → IsWithin limit (length (refused fields input))
+within-trimmed limit fields input few = subst (λ (found : List (ℕ × LineFault)). IsWithin limit (length found)) (refused-trim fields input) few
+
 fault-leaves : (limit : Option ℕ) (fields : List Field) (q : TreeForm) (bytes : List ℕ) (known oo on eo en : Option (List ℕ)) (fault : RunFault) → IfSome known (λ input. bytes ≡ trim input)
+    → IsWithin limit (length (refused fields bytes))
     → LeavesOfInput fault fields q bytes oo on eo en → Leaves fault limit fields q known oo on eo en
-fault-leaves limit fields q bytes known oo on eo en Reading same h = absurd h
-fault-leaves limit fields q bytes known oo on eo en OutOfMemory same h = h
-fault-leaves limit fields q bytes known oo on eo en ThreadNotStarted same h = absurd h
-fault-leaves limit fields q bytes known oo on eo en (TooManyRefused most) same h = absurd h
-fault-leaves limit fields q bytes known oo on eo en WritingReport same h =
-    (of-known (λ input. AppendsBeginning oo on (report fields q input)) bytes known (λ input. subst (λ (text : List ℕ). AppendsBeginning oo on text) (report-trimmed fields q input)) same h.0, h.1)
-fault-leaves limit fields q bytes known oo on eo en WritingRefused same h =
-    of-known (λ input. Appends oo on (report fields q input) × AppendsBeginning eo en (refusals fields input)) bytes known
-    (λ input both. (subst (λ (text : List ℕ). Appends oo on text) (report-trimmed fields q input) both.0, subst (λ (text : List ℕ). AppendsBeginning eo en text) (refusals-trimmed fields input) both.1))
-    same h
+fault-leaves limit fields q bytes known oo on eo en Reading same few h = absurd h
+fault-leaves limit fields q bytes known oo on eo en OutOfMemory same few h = h
+fault-leaves limit fields q bytes known oo on eo en ThreadNotStarted same few h = absurd h
+fault-leaves limit fields q bytes known oo on eo en (TooManyRefused most) same few h = absurd h
+fault-leaves limit fields q bytes known oo on eo en WritingReport same few h =
+    (of-known (λ input. IsWithin limit (length (refused fields input)) × AppendsBeginning oo on (report fields q input)) bytes known
+    (λ input both. (within-trimmed limit fields input both.0, subst (λ (text : List ℕ). AppendsBeginning oo on text) (report-trimmed fields q input) both.1))
+    same (few, h.0), h.1)
+fault-leaves limit fields q bytes known oo on eo en WritingRefused same few h =
+    of-known (λ input. IsWithin limit (length (refused fields input)) × Appends oo on (report fields q input) × AppendsBeginning eo en (refusals fields input)) bytes known
+    (λ input all. (within-trimmed limit fields input all.0, subst (λ (text : List ℕ). Appends oo on text) (report-trimmed fields q input) all.1, subst (λ (text : List ℕ). AppendsBeginning eo en text) (refusals-trimmed fields input) all.2))
+    same (few, h.0, h.1)
 
 pub leaves-known : (r : Result Done RunFault) (limit : Option ℕ) (fields : List Field) (q : TreeForm) (known : Option (List ℕ)) (partial : PartialState) (oo on eo en : Option (List ℕ)) → IsWhole fields q known partial
+    → partial.refused ≤ limit_number limit
     → IfErr r (λ fault. (input : List ℕ) → StandsForInput fields q partial input → LeavesOfInput fault fields q input oo on eo en)
     → IfErr r (λ fault. Leaves fault limit fields q known oo on eo en)
-leaves-known (Ok done) limit fields q known partial oo on eo en w h = tt
-leaves-known (Err fault) limit fields q known partial oo on eo en w h = fault-leaves limit fields q w.bytes known oo on eo en fault w.trimmed (h w.bytes w.stands)
+leaves-known (Ok done) limit fields q known partial oo on eo en w few h = tt
+leaves-known (Err fault) limit fields q known partial oo on eo en w few h =
+    fault-leaves limit fields q w.bytes known oo on eo en fault w.trimmed
+    (within limit partial.refused (length (refused fields w.bytes)) few (sym (refused-of-input fields q partial w.bytes w.stands)))
+    (h w.bytes w.stands)
 
 -- where no thread is wanted for the result, none is wanted for the run
 pub thread-gathered : (fault : GatherFault) → fault ≢ gathering.ThreadNotStarted → fault_of_gathering fault ≢ ThreadNotStarted

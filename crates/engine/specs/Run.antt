@@ -34,8 +34,9 @@ Hinders fault = ⊤
 abbrev pub IsDecided : {X : Type 0} → Result X RunFault → Option ℕ → ℕ → Type 0
 IsDecided result limit count = IfErr result (λ fault. Hinders fault → ⊥) → (IsOk result ↔ IsWithin limit count)
 
--- what a fault says, and what it leaves of the two outputs: nothing was written, or a beginning of the report and nothing of the list, or the report and
--- a beginning of the list
+-- what a fault says, and what it leaves of the two outputs. Nothing was written where a read failed, memory or a thread was refused, or more lines are
+-- refused than the limit. Where a write failed, not more lines are refused than the limit: a beginning of the report was written and nothing of the list,
+-- or the report and a beginning of the list
 abbrev pub Leaves :
     RunFault → Option ℕ → List Field → TreeForm → Option (List ℕ) → (out_old out_new err_old err_new : Option (List ℕ)) → Type 0
 Leaves Reading limit fields q input out_old out_new err_old err_new = Keeps out_old out_new × Keeps err_old err_new
@@ -45,9 +46,13 @@ Leaves (TooManyRefused most) limit fields q input out_old out_new err_old err_ne
     (limit ≡ Some most) × IfSome input (λ bytes. most < length (refused fields bytes))
     × Keeps out_old out_new × Keeps err_old err_new
 Leaves WritingReport limit fields q input out_old out_new err_old err_new =
-    IfSome input (λ bytes. AppendsBeginning out_old out_new (report fields q bytes)) × Keeps err_old err_new
+    IfSome input (λ bytes. IsWithin limit (length (refused fields bytes))
+        × AppendsBeginning out_old out_new (report fields q bytes))
+    × Keeps err_old err_new
 Leaves WritingRefused limit fields q input out_old out_new err_old err_new =
-    IfSome input (λ bytes. Appends out_old out_new (report fields q bytes) × AppendsBeginning err_old err_new (refusals fields bytes))
+    IfSome input (λ bytes. IsWithin limit (length (refused fields bytes))
+        × Appends out_old out_new (report fields q bytes)
+        × AppendsBeginning err_old err_new (refusals fields bytes))
 
 -- ---- in the code
 

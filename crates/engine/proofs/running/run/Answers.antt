@@ -35,7 +35,7 @@ pub returns-clause-fault : goal.returns-clause-fault
 returns-clause-fault g c =
     leaves-known c.write_whole.result c.args.options.max_refused (fields_of_plan c.args.plan.now) (form_of_plan c.args.plan.now) (g.R.Read.remaining c.args.reader) c.in_ok-whole.whole
     (g.O.Write.contents c.args.out.now) (g.O.Write.contents c.write_whole.new.out) (g.E.Write.contents c.args.err.now) (g.E.Write.contents c.write_whole.new.err)
-    c.in_ok-whole.ensures.whole c.write_whole.ensures.fault
+    c.in_ok-whole.ensures.whole c.in_ok-whole.ensures.limit c.write_whole.ensures.fault
 
 pub returns-clause-started : goal.returns-clause-started
 returns-clause-started g c = λ one.
