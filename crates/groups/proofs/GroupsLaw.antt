@@ -95,7 +95,8 @@ entries-bag (e ∷ es) d f =
 
 -- ---- the table of its groups
 
-found : (g : Key → GroupState) (q : Key) (ks : List Key) → fin.find key_order q (map (λ k. (k, g k)) ks) ≡ cond (list_any (same_key q) ks) (Some (g q)) None
+-- what is found at a key among the entries of some keys
+pub found : (g : Key → GroupState) (q : Key) (ks : List Key) → fin.find key_order q (map (λ k. (k, g k)) ks) ≡ cond (list_any (same_key q) ks) (Some (g q)) None
 found g q [] = refl
 found g q (k ∷ ks) = ap (cond (same_key q k) (Some (g k))) (found g q ks)
     ∙ elim (same_key q k) as (λ b. same_key q k ≡ b → cond b (Some (g k)) (cond (list_any (same_key q) ks) (Some (g q)) None) ≡ cond (b || list_any (same_key q) ks) (Some (g q)) None) [
@@ -103,7 +104,8 @@ found g q (k ∷ ks) = ap (cond (same_key q k) (Some (g k))) (found g q ks)
       | false ↦ λ e. refl
     ] refl
 
-abbrev group : List ℕ → List AggregateFunction → List Row → Key → Key × GroupState
+-- what a table has of a key
+abbrev pub group : List ℕ → List AggregateFunction → List Row → Key → Key × GroupState
 group set fs rows k = (k, group_state fs (members set k rows))
 
 table-is : (set : List ℕ) (fs : List AggregateFunction) (t : Contents) (rows : List Row) → IsTableOf set fs t rows → t ≡ fin.from_entries (map (group set fs rows) (keys set rows))
@@ -116,7 +118,8 @@ unfolding IsDistinct
 keys-distinct [] rows = (tt, tt)
 keys-distinct (p ∷ ps) rows = distinct-is same_key (map (project (p ∷ ps)) rows)
 
-firsts : (set : List ℕ) (fs : List AggregateFunction) (rows : List Row) (ks : List Key) → ks ≡ map (λ e. e.0) (map (group set fs rows) ks)
+-- the keys of the entries of some keys are these
+pub firsts : (set : List ℕ) (fs : List AggregateFunction) (rows : List Row) (ks : List Key) → ks ≡ map (λ e. e.0) (map (group set fs rows) ks)
 firsts set fs rows [] = refl
 firsts set fs rows (k ∷ ks) = ap (λ xs. k ∷ xs) (firsts set fs rows ks)
 

@@ -13,6 +13,7 @@ pub mod GroupsLaw
 pub mod Covering
 pub mod Rolled
 pub mod AnyOrder
+pub mod SameRecords
 pub mod Rolling
 pub mod Shards
 pub mod InPairs

@@ -1,5 +1,10 @@
--- What a table keeps of its groups, and what private calls compute. No promise rests on it: a table is begun, grows, is put to another one and is
--- finished by public calls, and what it gives then is said in the words of the other files.
+-- What a table keeps of its groups, and what private calls compute.
+--
+-- A table that is not finished is said in words of `Table` and `Group`, and in those of `Accumulator`, `Values` and `Coding`, on which these stand: the public
+-- calls of `Table` say by them that a table is that of some records, and how it grows, is put to another one and is rolled; `order_law` and `roll_law` are laws on
+-- such tables; and in `tables` a partial result has one (`PartialState`, `StandsFor`, `Mean`), which a `Joiner` puts to another. What a finished table gives,
+-- and so what a result over an input is, `Table::finish` and the calls above it say in the words of the other files alone. Of `Keys`, `Shards`,
+-- `Pairs`, `Walks` and `Finished` private calls alone speak.
 pub mod Values
 pub mod Coding
 pub mod Accumulator

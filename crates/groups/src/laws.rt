@@ -17,6 +17,18 @@ pub fn order_law()
         → SameBag rows others → IsTableOf set functions table rows → IsTableOf set functions table others }
 {}
 
+/// The same records in any other order have the same keys under each grouping set, each key has the same members, and of
+/// each group the same is shown.
+pub fn records_law()
+    ensures keys { (set : List ℕ) (rows others : List Row)
+        → SameBag rows others → SameBag (keys set rows) (keys set others) }
+    ensures members { (set : List ℕ) (key : Key) (rows others : List Row)
+        → SameBag rows others → SameBag (members set key rows) (members set key others) }
+    ensures groups { (set : List ℕ) (functions : List AggregateFunction) (rows others : List Row)
+        → SameBag rows others
+        → SameBag (group_summaries set functions rows) (group_summaries set functions others) }
+{}
+
 /// Under each grouping set a record is a member of exactly one group, and the numbers of members add up to that of the
 /// records.
 pub fn members_law()

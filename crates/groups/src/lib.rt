@@ -25,5 +25,5 @@ mod walk;
 
 pub use cell::Cell;
 pub use group::Group;
-pub use laws::{members_law, order_law, roll_law};
+pub use laws::{members_law, order_law, records_law, roll_law};
 pub use table::Table;

@@ -1,4 +1,5 @@
--- What private calls ask and show under a plan: under its columns and its query.
+-- What calls ask and show under a plan: under its columns and its query. Of these `shown_groups` and `shown_among`, which are public, promise `HasSetUnder`
+-- of each group that they answer; the others private calls alone speak of.
 use Rattle.std.specs.Prelude.{◌<◌, ℕ, List, [], ◌∷◌, length, map}
 use Rattle.values.specs.Datum.{data_of}
 use Rattle.query_tree.specs.Syntax.{ExpressionForm, PredicateForm, PredicateForms}
