@@ -17,15 +17,21 @@ use Rattle.tables.specs.Sets.{AreGroupsOf}
 abbrev pub set_groups : List Row → ℕ × List ℕ → List SetGroup
 set_groups rows s = map (λ key. record { index = s.0; key = key; members = members s.1 key rows }) (keys s.1 rows)
 
+-- the rows of one grouping set weigh what the summaries of its groups weigh, beside the index of the set
+weigh-set : (f : Found → ℕ) (n : ℕ) (set : List ℕ) (fs : List AggregateFunction) (rows : List Row)
+    → weigh f (map (found fs) (set_groups rows (n, set))) ≡ weigh (λ r. f (n, r)) (group_summaries set fs rows)
+weigh-set f n set fs rows =
+    weigh-map f (found fs) (set_groups rows (n, set))
+    ∙ weigh-map (λ g. f (found fs g)) (λ key. record { index = n; key = key; members = members set key rows }) (keys set rows)
+    ∙ sym (weigh-map (λ r. f (n, r)) (λ key. group_summary fs key (members set key rows)) (keys set rows))
+
 one-set : (f : Found → ℕ) (n : ℕ) (set : List ℕ) (fs : List AggregateFunction) (gs : List Group) (rows : List Row) → SameBag (map group_summary_in gs) (group_summaries set fs rows)
     → weigh f (map (λ g. (n, group_summary_in g)) gs) ≡ weigh f (map (found fs) (set_groups rows (n, set)))
 one-set f n set fs gs rows same =
     weigh-map f (λ g. (n, group_summary_in g)) gs
     ∙ sym (weigh-map (λ r. f (n, r)) group_summary_in gs)
     ∙ same (λ r. f (n, r))
-    ∙ weigh-map (λ r. f (n, r)) (λ key. group_summary fs key (members set key rows)) (keys set rows)
-    ∙ sym (weigh-map (λ g. f (found fs g)) (λ key. record { index = n; key = key; members = members set key rows }) (keys set rows))
-    ∙ sym (weigh-map f (found fs) (set_groups rows (n, set)))
+    ∙ sym (weigh-set f n set fs rows)
 
 found-from : (f : Found → ℕ) (n : ℕ) (sets : List (List ℕ)) (fs : List AggregateFunction) (groups : List (Vec Group Global)) (rows : List Row) → AreGroupsOf sets fs groups rows
     → weigh f (rows_from n groups) ≡ weigh f (map (found fs) (flat_map (set_groups rows) (enumerate_from n sets)))
@@ -45,3 +51,31 @@ found-from f n (s ∷ sets) fs (g ∷ groups) rows h =
 pub all-found : (sets : List (List ℕ)) (fs : List AggregateFunction) (groups : List (Vec Group Global)) (rows : List Row) → AreGroupsOf sets fs groups rows
     → SameBag (rows_from 0 groups) (all_found sets fs rows)
 all-found sets fs groups rows h = λ f. found-from f 0 sets fs groups rows h
+
+-- ---- the rows of two lists of records
+
+-- what the rows of a front set and of those behind it weigh
+weigh-sets : (f : Found → ℕ) (fs : List AggregateFunction) (rows : List Row) (n : ℕ) (set : List ℕ) (sets : List (List ℕ))
+    → weigh f (map (found fs) (flat_map (set_groups rows) (enumerate_from n (set ∷ sets))))
+    ≡ weigh (λ r. f (n, r)) (group_summaries set fs rows) + weigh f (map (found fs) (flat_map (set_groups rows) (enumerate_from (n + 1) sets)))
+weigh-sets f fs rows n set sets =
+    let rest = flat_map (set_groups rows) (enumerate_from (n + 1) sets) in
+    let a = ap (weigh f) (map-append (found fs) (set_groups rows (n, set)) rest) ∙ weigh-append f (map (found fs) (set_groups rows (n, set))) (map (found fs) rest) in
+    let b = weigh-set f n set fs rows in
+    omega (arith, a, b)
+
+same-from : (f : Found → ℕ) (fs : List AggregateFunction) (rows others : List Row) → ((set : List ℕ) → SameBag (group_summaries set fs rows) (group_summaries set fs others))
+    → (n : ℕ) (sets : List (List ℕ))
+    → weigh f (map (found fs) (flat_map (set_groups rows) (enumerate_from n sets))) ≡ weigh f (map (found fs) (flat_map (set_groups others) (enumerate_from n sets)))
+same-from f fs rows others same n [] = refl
+same-from f fs rows others same n (set ∷ sets) =
+    let a = weigh-sets f fs rows n set sets in
+    let b = weigh-sets f fs others n set sets in
+    let c = same set (λ r. f (n, r)) in
+    let d = same-from f fs rows others same (n + 1) sets in
+    omega (arith, a, b, c, d)
+
+-- where under each set the summaries of the groups of two lists of records are the same, so are the rows of all groups
+pub found-same : (fs : List AggregateFunction) (rows others : List Row) → ((set : List ℕ) → SameBag (group_summaries set fs rows) (group_summaries set fs others))
+    → (sets : List (List ℕ)) → SameBag (all_found sets fs rows) (all_found sets fs others)
+found-same fs rows others same sets = λ f. same-from f fs rows others same 0 sets

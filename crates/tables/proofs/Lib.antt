@@ -9,6 +9,7 @@ pub mod Merging
 pub mod Finding
 pub mod Members
 pub mod Fitting
+pub mod OneFit
 pub mod Cutting
 pub mod SameBags
 pub mod Numbered

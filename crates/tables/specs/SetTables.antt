@@ -29,6 +29,10 @@ HasFiner set tables = All (λ (table : SetTable). AreAmong set table.set.items �
 
 -- ---- rolls
 
+-- the set whose table a roll is to make
+abbrev pub set_of_roll : Roll → List ℕ
+set_of_roll roll = roll.set.items
+
 -- the roll is of the same set as before; where it has a table, that is the table of the set over the records whose tables the others are
 abbrev pub HasRolled : List FilteredFunction → List SetTable → Roll → Roll → Type 0
 HasRolled functions tables old new = (new.set.items ≡ old.set.items) × IfSome new.table (λ table. (filters : List (Row → Bool)) (rows : List Row)

@@ -29,6 +29,8 @@ pub struct Job<'a> {
 }
 
 impl<'a> Job<'a> {
+    ghost use Rattle.tables.specs.Jobs.{input_of_job, pieces_of_job, plan_of_job};
+
     /// The job of a plan over the pieces of an input, whose starts and stops are counted in bytes, from 0. It takes no
     /// memory; the results take theirs from `alloc`.
     ///
@@ -41,9 +43,9 @@ impl<'a> Job<'a> {
         requires short { length input.now < 2 ^ 63 }
         requires ordered { All (λ piece. piece.start ≤ piece.stop) pieces.now }
         requires within { All (λ piece. piece.stop ≤ length input.now) pieces.now }
-        ensures plan { result.plan.now ≡ plan.now }
-        ensures input { result.input.now ≡ input.now }
-        ensures pieces { result.pieces.now ≡ pieces.now }
+        ensures plan { plan_of_job result ≡ plan.now }
+        ensures input { input_of_job result ≡ input.now }
+        ensures pieces { pieces_of_job result ≡ pieces.now }
     {
         Job {
             alloc,
@@ -66,9 +68,9 @@ impl<'a> Job<'a> {
 }
 
 impl<'a> Work for Job<'a> {
-    ghost use Rattle.std.specs.Prelude.{[]};
     ghost use Rattle.query_plan.specs.Planned.{fields_of_plan, form_of_plan};
-    ghost use Rattle.tables.specs.Means.{IsMean, Mean, both, mean, mean_at, meaning};
+    ghost use Rattle.tables.specs.Jobs.{IsMeanUnder, mean_of_piece, no_mean, input_of_job, pieces_of_job, plan_of_job};
+    ghost use Rattle.tables.specs.Means.{Mean, both, meaning};
     ghost use Rattle.tables.specs.Laws.{means_lawful};
 
     type Part = Partial;
@@ -77,11 +79,11 @@ impl<'a> Work for Job<'a> {
 
     ghost meaning = { λ part. meaning part };
 
-    ghost fits = { λ job m. IsMean (fields_of_plan job.plan.now) (form_of_plan job.plan.now) m };
+    ghost fits = { λ job m. IsMeanUnder job m };
 
-    ghost unit_meaning = { λ job. mean (fields_of_plan job.plan.now) (form_of_plan job.plan.now) [] };
+    ghost unit_meaning = { λ job. no_mean job };
 
-    ghost piece_meaning = { λ job i. mean_at (fields_of_plan job.plan.now) (form_of_plan job.plan.now) job.input.now job.pieces.now i };
+    ghost piece_meaning = { λ job i. mean_of_piece job i };
 
     ghost combined = { λ job a b. both a b };
 
@@ -89,7 +91,8 @@ impl<'a> Work for Job<'a> {
 
     ghost load_of = { λ job m. m.lines };
 
-    ghost lawful = { λ job. means_lawful (fields_of_plan job.plan.now) (form_of_plan job.plan.now) job.input.now job.pieces.now };
+    ghost lawful = { λ job. means_lawful (fields_of_plan (plan_of_job job)) (form_of_plan (plan_of_job job))
+        (input_of_job job) (pieces_of_job job) };
 
     fn unit(&self) -> Result<Partial, AllocError> {
         Partial::empty(self.alloc, self.plan)
@@ -129,13 +132,15 @@ pub struct JobBy<'a, J: Joiner> {
 }
 
 impl<'a, J: Joiner> JobBy<'a, J> {
+    ghost use Rattle.tables.specs.Jobs.{first_of_job, joined_job};
+
     /// The job with this joiner, which can join, whose first piece has the index `first`. It takes no memory.
     ///
     /// Example: `JobBy::new(job, &CallingThread, 0)` is a work like `job`.
     pub fn new(job: Job<'a>, joiner: &'a J, first: u32) -> JobBy<'a, J>
         requires ready { J.ready joiner.now }
-        ensures job { result.job ≡ job.entry }
-        ensures first { result.first ≡ first }
+        ensures job { joined_job result ≡ job.entry }
+        ensures first { first_of_job result ≡ first }
     {
         JobBy { job, joiner, first }
     }
@@ -149,9 +154,9 @@ impl<'a, J: Joiner> JobBy<'a, J> {
 }
 
 impl<'a, J: Joiner> Work for JobBy<'a, J> {
-    ghost use Rattle.std.specs.Prelude.{[]};
     ghost use Rattle.query_plan.specs.Planned.{fields_of_plan, form_of_plan};
-    ghost use Rattle.tables.specs.Means.{IsMean, Mean, both, mean, mean_from, meaning};
+    ghost use Rattle.tables.specs.Jobs.{IsMeanUnder, mean_of_piece_from, no_mean, first_of_job, input_of_job, joined_job, pieces_of_job, plan_of_job};
+    ghost use Rattle.tables.specs.Means.{Mean, both, meaning};
     ghost use Rattle.tables.specs.Laws.{means_lawful_from};
 
     type Part = Partial;
@@ -160,11 +165,11 @@ impl<'a, J: Joiner> Work for JobBy<'a, J> {
 
     ghost meaning = { λ part. meaning part };
 
-    ghost fits = { λ it m. IsMean (fields_of_plan it.job.plan.now) (form_of_plan it.job.plan.now) m };
+    ghost fits = { λ it m. IsMeanUnder (joined_job it) m };
 
-    ghost unit_meaning = { λ it. mean (fields_of_plan it.job.plan.now) (form_of_plan it.job.plan.now) [] };
+    ghost unit_meaning = { λ it. no_mean (joined_job it) };
 
-    ghost piece_meaning = { λ it i. mean_from (fields_of_plan it.job.plan.now) (form_of_plan it.job.plan.now) it.first it.job.input.now it.job.pieces.now i };
+    ghost piece_meaning = { λ it i. mean_of_piece_from (first_of_job it) (joined_job it) i };
 
     ghost combined = { λ it a b. both a b };
 
@@ -172,7 +177,8 @@ impl<'a, J: Joiner> Work for JobBy<'a, J> {
 
     ghost load_of = { λ it m. m.lines };
 
-    ghost lawful = { λ it. means_lawful_from (fields_of_plan it.job.plan.now) (form_of_plan it.job.plan.now) it.first it.job.input.now it.job.pieces.now };
+    ghost lawful = { λ it. means_lawful_from (fields_of_plan (plan_of_job (joined_job it))) (form_of_plan (plan_of_job (joined_job it)))
+        (first_of_job it) (input_of_job (joined_job it)) (pieces_of_job (joined_job it)) };
 
     fn unit(&self) -> Result<Partial, AllocError> {
         Partial::empty_by(self.job.alloc, self.job.plan, self.joiner)

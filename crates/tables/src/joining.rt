@@ -5,7 +5,7 @@ ghost use Rattle.groups.specs.Functions.{AggregateFunction, bound};
 ghost use Rattle.groups.specs.GroupSummaries.{group_summaries, group_summary_in};
 ghost use Rattle.groups.specs.Inside.Table.{AreGroupsWithin, CanJoin, IsTableOf};
 ghost use Rattle.groups.specs.Rows.{Row};
-ghost use Rattle.tables.specs.SetTables.{AreOfFew, AreRolled, HasFiner, HasRolled};
+ghost use Rattle.tables.specs.SetTables.{AreOfFew, AreRolled, HasFiner, HasRolled, set_of_roll};
 ghost use Rattle.query_resolution.specs.declared.function.FilteredFunction.{FilteredFunction};
 
 use crate::rolling::{Roll, SetTable};
@@ -70,7 +70,7 @@ pub trait Joiner {
     fn roll_each(&self, tables: &[SetTable], rolls: &mut [Roll], functions: &[FilteredFunction])
         requires ready { Self.ready self.now }
         requires few { ∥ AreOfFew functions.now tables.now ∥₁ }
-        requires finer { All (λ roll. HasFiner roll.set.items tables.now) rolls.old }
+        requires finer { All (λ roll. HasFiner (set_of_roll roll) tables.now) rolls.old }
         ensures rolled { AreRolled functions.now tables.now rolls.old rolls.new };
 
     /// The groups of a table, as `Table::finish` gives them, in no order that is said.

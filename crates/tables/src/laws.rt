@@ -12,12 +12,22 @@ ghost use Rattle.tables.specs.Members.{HasEachRecordOnce};
 ghost use Rattle.tables.specs.Partials.{GivesGroups, StandsFor};
 ghost use Rattle.tables.specs.Means.{both, indexed, indexed_from, mean, mean_at, mean_from, meaning};
 ghost use Rattle.tables.specs.Pieces.{IndexedPiece, all_lines, refused_within};
+ghost use Rattle.tables.specs.Results.{query_found};
 
 /// A law, with no work to do: a result stands for the same pieces in any other order.
 pub fn order_law()
     ensures { (fields : List Field) (q : TreeForm) (partial : Partial) (pieces others : List IndexedPiece)
         → SameBag pieces others → StandsFor fields q partial pieces → StandsFor fields q partial others }
 {}
+
+/// A law: in the same records in any other order a query finds the same: each row of its groups as often. So the rows that
+/// a report shows are one list, whatever the order of the records, by `arranged_law` of `rows`.
+pub fn records_law()
+    ensures { (fields : List Field) (q : TreeForm) (rows others : List Row) → SameBag rows others
+        → SameBag (query_found fields q rows) (query_found fields q others) }
+{
+    groups::records_law();
+}
 
 /// A law: where groups are those that a query finds in a list of records, each record that WHERE keeps is a member of
 /// exactly one row of each grouping set.

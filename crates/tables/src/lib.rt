@@ -19,6 +19,6 @@ pub use grouped::Groups;
 pub use groups::{Cell, Group};
 pub use job::{Job, JobBy};
 pub use joining::{CallingThread, Hands, Joiner};
-pub use laws::{job_law, meaning_law, members_law, order_law};
+pub use laws::{job_law, meaning_law, members_law, order_law, records_law};
 pub use partial::Partial;
 pub use rolling::{Roll, SetTable};

@@ -495,8 +495,7 @@ impl Partial {
         requires of_plan { IsPartialUnder plan.now self }
         ensures rows { IfOk result (λ groups. (pieces : List IndexedPiece) → StandsForUnder plan.now self pieces
             → GivesGroupsUnder plan.now groups (records_of (fields_of_plan plan.now) pieces)) }
-        ensures fit { IfOk result (λ groups. (pieces : List IndexedPiece) → StandsForUnder plan.now self pieces
-            → AreFittingUnder plan.now groups.found) }
+        ensures fit { IfOk result (λ groups. AreFittingUnder plan.now groups.found) }
         // Each record that WHERE keeps is a member of one row of each grouping set.
         ensures members { IfOk result (λ groups. (pieces : List IndexedPiece) → StandsForUnder plan.now self pieces
             → HasEachRecordOnceUnder plan.now groups.found (records_of (fields_of_plan plan.now) pieces)) }
@@ -528,8 +527,7 @@ impl Partial {
         requires of_plan { IsPartialUnder plan.now self }
         ensures rows { IfOk result (λ groups. (pieces : List IndexedPiece) → StandsForUnder plan.now self pieces
             → GivesGroupsUnder plan.now groups (records_of (fields_of_plan plan.now) pieces)) }
-        ensures fit { IfOk result (λ groups. (pieces : List IndexedPiece) → StandsForUnder plan.now self pieces
-            → AreFittingUnder plan.now groups.found) }
+        ensures fit { IfOk result (λ groups. AreFittingUnder plan.now groups.found) }
         ensures members { IfOk result (λ groups. (pieces : List IndexedPiece) → StandsForUnder plan.now self pieces
             → HasEachRecordOnceUnder plan.now groups.found (records_of (fields_of_plan plan.now) pieces)) }
         ensures numbered { IfOk result (λ groups. (pieces : List IndexedPiece) → StandsForUnder plan.now self pieces

@@ -8,7 +8,7 @@ ghost use Rattle.groups.specs.Functions.{AggregateFunction, bound};
 ghost use Rattle.groups.specs.Rows.{Row};
 ghost use Rattle.groups.specs.Rolled.{AreAmong};
 ghost use Rattle.groups.specs.Inside.Table.{IsOfFew, IsTableOf};
-ghost use Rattle.tables.specs.SetTables.{AreOfFew, AreTablesOf, HasFiner, HasRolled, IsMade, IsMadeOrRolled};
+ghost use Rattle.tables.specs.SetTables.{AreOfFew, AreTablesOf, HasFiner, HasRolled, IsMade, IsMadeOrRolled, set_of_roll};
 ghost use Rattle.tables.specs.Sets.{AreGroupsOf};
 
 use crate::joining::Joiner;
@@ -47,7 +47,7 @@ impl Roll {
     /// Example: a joiner that works alone calls it for one roll after the other.
     pub fn roll(&mut self, tables: &[SetTable], functions: &[FilteredFunction])
         requires few { ∥ AreOfFew functions.now tables.now ∥₁ }
-        requires finer { HasFiner self.old.set.items tables.now }
+        requires finer { HasFiner (set_of_roll self.old) tables.now }
         ensures rolled { HasRolled functions.now tables.now self.old self.new }
     {
         self.table = rolled_out(tables, self.set.as_slice(), functions).ok();

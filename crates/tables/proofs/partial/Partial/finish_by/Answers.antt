@@ -1,5 +1,5 @@
 use Rattle.std.proofs.Common.{◌∙◌, List, map, sym, subst}
-use Rattle.std.proofs.Math.Logic.{∥∥₁_map}
+use Rattle.std.proofs.Math.Logic.{∥∥₁_elim, ∥∥₁_map}
 use Rattle.groups.specs.Bags.{SameBag}
 use Rattle.groups.specs.Rows.{Row}
 use Rattle.groups.specs.Functions.{AggregateFunction}
@@ -18,6 +18,7 @@ use Rattle.tables.proofs.Bound.{bound-functions}
 use Rattle.tables.proofs.Cutting.{cut-records, cut-refused}
 use Rattle.tables.proofs.Fitting.{found-fit}
 use Rattle.tables.proofs.Growing.{few-kept}
+use Rattle.tables.proofs.OneFit.{fitting-prop}
 use Rattle.tables.proofs.Numbered.{lines-in_order, lines-numbered, numbered-in_order}
 use Rattle.tables.proofs.Taken.{kept-fits}
 use Rattle.tables.proofs.partial.Partial.finish_by.Goals as goal
@@ -57,15 +58,16 @@ returns-clause-rows g c = λ pieces given.
     (c.in_ok-rows.ensures (records_of fields pieces) p.table)
 
 pub returns-clause-fit : goal.returns-clause-fit
-returns-clause-fit g c = λ pieces given.
+returns-clause-fit g c =
     let fields = fields_of_plan c.args.plan.now in
     let q = form_of_plan c.args.plan.now in
-    let p = subst (λ (v : PartialState). StandsFor fields q v pieces) (sym c.self.view_is) given in
-    let rows = kept fields q (records_of fields pieces) in
+    ∥∥₁_elim c.requires.of_plan (fitting-prop fields q c.new.result.found) (λ s.
+    let p = subst (λ (v : PartialState). StandsFor fields q v s.0) (sym c.self.view_is) s.1 in
+    let rows = kept fields q (records_of fields s.0) in
     let found = all_found (sets_of fields q) (aggregate_functions fields q) rows in
     found-fit fields q rows c.new.result.found
-    (subst (λ (fs : List Found). SameBag fs found) (sym c.new.ensures.rows) (c.in_ok-rows.ensures (records_of fields pieces) p.table))
-    (kept-fits fields q pieces)
+    (subst (λ (fs : List Found). SameBag fs found) (sym c.new.ensures.rows) (c.in_ok-rows.ensures (records_of fields s.0) p.table))
+    (kept-fits fields q s.0))
 
 pub returns-clause-members : goal.returns-clause-members
 returns-clause-members g c = λ pieces given.

@@ -1,0 +1,12 @@
+use Rattle.query_resolution.specs.Sets.{sets_of}
+use Rattle.query_truth.specs.Kept.{is_kept, kept}
+use Rattle.groups.proofs.Bags.{bag-filter}
+use Rattle.tables.specs.Functions.{aggregate_functions}
+use Rattle.tables.proofs.Finding.{found-same}
+use Rattle.tables.proofs.laws.records_law.Goals as goal
+
+pub returns : goal.returns
+returns c = λ fields q rows others same.
+    found-same (aggregate_functions fields q) (kept fields q rows) (kept fields q others)
+    (λ set. c.records_law.ensures.groups set (aggregate_functions fields q) (kept fields q rows) (kept fields q others) (bag-filter (is_kept fields q) rows others same))
+    (sets_of fields q)
