@@ -144,10 +144,12 @@ fault-leaves limit fields q bytes known oo on eo en Reading same few h = absurd 
 fault-leaves limit fields q bytes known oo on eo en OutOfMemory same few h = h
 fault-leaves limit fields q bytes known oo on eo en ThreadNotStarted same few h = absurd h
 fault-leaves limit fields q bytes known oo on eo en (TooManyRefused most) same few h = absurd h
-fault-leaves limit fields q bytes known oo on eo en WritingReport same few h =
-    (of-known (λ input. IsWithin limit (length (refused fields input)) × AppendsBeginning oo on (report fields q input)) bytes known
-    (λ input both. (within-trimmed limit fields input both.0, subst (λ (text : List ℕ). AppendsBeginning oo on text) (report-trimmed fields q input) both.1))
-    same (few, h.0), h.1)
+fault-leaves limit fields q bytes known oo on eo en WritingReport same few h = (
+  of-known (λ input. IsWithin limit (length (refused fields input)) × AppendsBeginning oo on (report fields q input)) bytes known
+      (λ input both. (within-trimmed limit fields input both.0, subst (λ (text : List ℕ). AppendsBeginning oo on text) (report-trimmed fields q input) both.1))
+      same (few, h.0),
+  h.1,
+)
 fault-leaves limit fields q bytes known oo on eo en WritingRefused same few h =
     of-known (λ input. IsWithin limit (length (refused fields input)) × Appends oo on (report fields q input) × AppendsBeginning eo en (refusals fields input)) bytes known
     (λ input all. (within-trimmed limit fields input all.0, subst (λ (text : List ℕ). Appends oo on text) (report-trimmed fields q input) all.1, subst (λ (text : List ℕ). AppendsBeginning eo en text) (refusals-trimmed fields input) all.2))

@@ -47,12 +47,12 @@ Leaves (TooManyRefused most) limit fields q input out_old out_new err_old err_ne
     × Keeps out_old out_new × Keeps err_old err_new
 Leaves WritingReport limit fields q input out_old out_new err_old err_new =
     IfSome input (λ bytes. IsWithin limit (length (refused fields bytes))
-        × AppendsBeginning out_old out_new (report fields q bytes))
+    × AppendsBeginning out_old out_new (report fields q bytes))
     × Keeps err_old err_new
 Leaves WritingRefused limit fields q input out_old out_new err_old err_new =
     IfSome input (λ bytes. IsWithin limit (length (refused fields bytes))
-        × Appends out_old out_new (report fields q bytes)
-        × AppendsBeginning err_old err_new (refusals fields bytes))
+    × Appends out_old out_new (report fields q bytes)
+    × AppendsBeginning err_old err_new (refusals fields bytes))
 
 -- ---- in the code
 

@@ -10,7 +10,7 @@ use report::{report_among, report_on};
 use std::alloc::{AllocError, Global};
 use std::marker::Sync;
 use std::thread::Threads;
-use tables::{Groups, Partial};
+use tables::{CallingThread, Groups, Hands, Partial};
 
 /// Those who finish the groups of a report and write its rows.
 pub(crate) trait Writers {
@@ -27,8 +27,7 @@ pub(crate) trait Writers {
     fn groups(&self, plan: &Plan, whole: Partial) -> Result<Groups, AllocError>
         requires ready { Self.ready self.now }
         requires of_plan { IsPartialUnder plan.now whole }
-        ensures fit { IfOk result (λ groups. (pieces : List IndexedPiece) → StandsForUnder plan.now whole pieces
-            → AreFittingUnder plan.now groups.found) }
+        ensures fit { IfOk result (λ groups. AreFittingUnder plan.now groups.found) }
         ensures whole { IfOk result (λ groups. (input : List ℕ) (pieces : List IndexedPiece) → StandsForUnder plan.now whole pieces
             → IsCutInto input pieces → IsResultUnder plan.now groups input) };
 
@@ -36,9 +35,6 @@ pub(crate) trait Writers {
     fn give_back(&self, alloc: Global, groups: Groups)
         requires ready { Self.ready self.now };
 }
-
-/// The calling thread alone.
-pub(crate) struct CallingThread;
 
 impl Writers for CallingThread {
     ghost use Rattle.std.specs.Prelude.{⊤};
@@ -58,13 +54,6 @@ impl Writers for CallingThread {
     }
 }
 
-/// As many threads as there are hands, the calling one among them.
-#[derive(Drop)]
-pub(crate) struct Hands<'a, H> {
-    pub(crate) rt: &'a H,
-    pub(crate) count: usize,
-}
-
 impl<'a, H: Threads + Sync> Writers for Hands<'a, H> {
     ghost use Rattle.std.specs.Prelude.{◌<◌};
     ghost use denote.Param.Send.{IsSync};
@@ -76,11 +65,7 @@ impl<'a, H: Threads + Sync> Writers for Hands<'a, H> {
     }
 
     fn groups(&self, plan: &Plan, whole: Partial) -> Result<Groups, AllocError> {
-        let hands = tables::Hands {
-            rt: self.rt,
-            count: self.count,
-        };
-        whole.finish_by(&hands, plan)
+        whole.finish_by(self, plan)
     }
 
     fn give_back(&self, alloc: Global, groups: Groups) {

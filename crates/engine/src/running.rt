@@ -10,7 +10,7 @@ ghost use Rattle.tables.specs.Partials.{StandsForInput};
 ghost use Rattle.engine.specs.Run.{IsDecided, IsWithin, Leaves, LeavesOfInput, refusals, report};
 
 use crate::fault::RunFault;
-use crate::reporting::{CallingThread, Hands, Writers};
+use crate::reporting::Writers;
 use crate::writing::put_both;
 use command_line::Options;
 use gathering::{gather, gather_alone};
@@ -21,7 +21,7 @@ use std::io::{Read, Write};
 use std::marker::{Send, Sync};
 use std::sync::Wait;
 use std::thread::Threads;
-use tables::{Groups, Partial};
+use tables::{CallingThread, Groups, Hands, Partial};
 
 /// The counts of an input.
 ///

@@ -23,7 +23,7 @@ returns-clause-report g c = λ input whole.
     let q = form_of_plan c.args.plan.now in
     let groups = c.in_ok-groups.groups in
     let is = c.in_ok-groups.ensures.whole input whole.pieces whole.stands whole.cut in
-    let fit = c.in_ok-groups.ensures.fit whole.pieces whole.stands in
+    let fit = c.in_ok-groups.ensures.fit in
     let blind = c.arranged_law.ensures fields q groups.found fit
     (query_found fields q (good fields input)) is.rows in
     c.in_ok-report.ensures ∙ ap (λ rows. report_bytes q.items (map (row_shown fields q) rows)) (sym blind)
