@@ -62,6 +62,9 @@ fn filter(
     ensures shorter { IfOk result (λ x. length x.1.now < length tokens.now) }
 {
     let rest = expect_sign(tokens, Sign::Open)?;
+    if levels == 0 {
+        return Err(GrammarFault::OverLimit);
+    }
     let rest = expect_word(rest, Word::Where)?;
     let (inner, rest) = predicate(alloc, rest, levels)?;
     keep(inner, expect_sign(rest, Sign::Close))

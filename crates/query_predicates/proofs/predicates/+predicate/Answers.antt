@@ -6,6 +6,8 @@ use Rattle.query_tree.specs.Syntax.{predicate_form}
 use Rattle.query_leaves.specs.Fronts.{is_word}
 use Rattle.query_predicates.specs.PredicateSteps.{negation_at, conjunction_at, predicate_at}
 use Rattle.query_leaves.proofs.More.{unread_goes, unread_ends, unread_fails}
+use Rattle.query_predicates.proofs.Levels.{no_filter}
+use Rattle.std.proofs.Common.{rules}
 use Rattle.query_predicates.proofs.predicates.+predicate.Goals as goal
 
 pub more_negations-returns-in_err-part-clause-exact : goal.more_negations-returns-in_err-part-clause-exact
@@ -41,3 +43,6 @@ more_conjunctions-loop-behind-preserved t c =
 
 pub more_conjunctions-returns-clause-exact : goal.more_conjunctions-returns-clause-exact
 more_conjunctions-returns-clause-exact t c = unread_ends (is_word Or) (conjunction_at (predicate_at c.args.levels)) (map predicate_form c.loop-behind.parts.items) c.loop-behind.rest.now _ c.loop-behind.invariant.unread c.in_default.ensures.exact
+
+pub filter-returns-then-levels-eq0-clause-exact : goal.filter-returns-then-levels-eq0-clause-exact
+filter-returns-then-levels-eq0-clause-exact t c = no_filter c.args.levels c.args.tokens.now (search rules)
