@@ -2,3 +2,4 @@ pub mod Derivation
 pub mod Grammar
 pub mod Leaves
 pub mod Predicates
+pub mod Prefixes

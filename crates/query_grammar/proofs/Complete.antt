@@ -1,12 +1,12 @@
 -- Queries that derive from tokens are read.
-use Rattle.std.proofs.Common.{arith, ◌≡◌, Bool, List, [], ◌∷◌, Option, Some, None, Result, Ok, Err, refl, sym, ◌∙◌}
+use Rattle.std.proofs.Common.{arith, ◌≡◌, Bool, List, [], ◌∷◌, Option, None, Result, Ok, Err, refl, sym, ◌∙◌}
 use Rattle.std.specs.Prelude.{codes, Box, MatchResult}
 use Rattle.std.specs.Global.{Global}
 use Rattle.query_tokens.specs.declared.token.Token.{Token}
 use Rattle.query_tokens.specs.declared.token.Token.TheVariants as tokens
 use Rattle.query_tokens.specs.declared.token.Word.TheVariants as w
 use Rattle.query_tokens.specs.declared.token.Sign.TheVariants as s
-use Rattle.query_tokens.proofs.Inversions.{some_is}
+use Rattle.query_leaves.proofs.Inversions.{ok_is}
 use Rattle.query_tree.specs.declared.tree.Tree.{Tree}
 use Rattle.query_tree.specs.Syntax.{ExpressionForm, PredicateForm, ElementForm, ItemForm, KeyForm, TreeForm, tree_form}
 use Rattle.query_leaves.specs.declared.fault.GrammarFault.{GrammarFault}
@@ -15,8 +15,8 @@ use Rattle.query_leaves.specs.Fronts.{is_word, is_sign, after}
 use Rattle.query_leaves.specs.Steps.{Gives, name_at}
 use Rattle.query_grammar.specs.GroupSteps.{group_at}
 use Rattle.query_grammar.specs.QuerySteps.{alias_at, item_at, items_at, from_at, clause_at, groups_at, select_at, records_at, rows_at, query_at, whole_at, set_quantifier_at, elements_at}
-use Rattle.query_predicates.specs.ExpressionSteps.{expression_at}
-use Rattle.query_predicates.specs.PredicateSteps.{predicate_at}
+use Rattle.query_predicates.specs.ExpressionSteps.{expression_at, begins_expression}
+use Rattle.query_predicates.specs.PredicateSteps.{inside_of, any_front}
 use Rattle.query_derivation.specs.Predicates.{IsExpression, IsPredicate}
 use Rattle.query_derivation.specs.Grammar.{IsItem, IsWhere, IsGroup, IsGroupBy, IsHaving, IsOrderBy, IsQuery, Derives, IsSetQuantifier}
 use Rattle.query_leaves.proofs.CompleteLists.{repeated_follow, repeated_c, unlimited_c}
@@ -30,8 +30,8 @@ record EndsItem (r : List Token) : Type 0 where
   no_filter : EndsFunction r
   no_as : after (is_word w.As) r ≡ None
 
-item_expression_c : {ts r : List Token} {e : ExpressionForm} → IsExpression (IsPredicate 64) ts e r → EndsFunction r → expression_at (predicate_at 64) ts ≡ Some (e, r)
-item_expression_c i q = expression_c (IsPredicate 64) (predicate_at 64) (bracketed_c 64) i q
+item_expression_c : {ts r : List Token} {e : ExpressionForm} → IsExpression (IsPredicate 64) ts e r → EndsFunction r → expression_at (inside_of 64) ts ≡ Ok (e, r)
+item_expression_c i q = expression_c (IsPredicate 64) (inside_of 64) (bracketed_c 64) i q
 
 comma_ends_item : (ts : List Token) → EndsItem (tokens.Sign s.Comma ∷ ts)
 comma_ends_item ts = record { no_filter = refl; no_as = refl }
@@ -39,12 +39,12 @@ comma_ends_item ts = record { no_filter = refl; no_as = refl }
 from_ends_item : (ts : List Token) → EndsItem (tokens.Word w.From ∷ ts)
 from_ends_item ts = record { no_filter = refl; no_as = refl }
 
-item_c : (ts r : List Token) (i : ItemForm) → IsItem ts i r → EndsItem r → item_at ts ≡ Some (i, r)
+item_c : (ts r : List Token) (i : ItemForm) → IsItem ts i r → EndsItem r → item_at ts ≡ Ok (i, r)
 unfolding item_at alias_at name_at
 item_c _ _ _ (IsItem.plain e) q = rw (item_expression_c e q.no_filter, q.no_as) refl
 item_c _ _ _ (IsItem.named e) q = rw (item_expression_c e refl) refl
 
-from_c : (r : List Token) → from_at (tokens.Word w.From ∷ tokens.Name (codes "lines") ∷ r) ≡ Some r
+from_c : (r : List Token) → from_at (tokens.Word w.From ∷ tokens.Name (codes "lines") ∷ r) ≡ Ok r
 unfolding from_at name_at
 from_c r = refl
 
@@ -53,7 +53,7 @@ record EndsWhere (r : List Token) : Type 0 where
   predicate : EndsPredicate r
   no_where : after (is_word w.Where) r ≡ None
 
-where_c : {ts r : List Token} {p : Option PredicateForm} → IsWhere ts p r → EndsWhere r → clause_at w.Where ts ≡ Some (p, r)
+where_c : {ts r : List Token} {p : Option PredicateForm} → IsWhere ts p r → EndsWhere r → clause_at w.Where ts ≡ Ok (p, r)
 unfolding clause_at
 where_c IsWhere.none q = rw q.no_where refl
 where_c (IsWhere.condition {ts} {r} {p} i) q = rw (predicate_c 65 ts r p i q.predicate) refl
@@ -70,14 +70,14 @@ unfolding set_quantifier_at
 set_quantifier_c IsSetQuantifier.none q = rw q refl
 set_quantifier_c IsSetQuantifier.distinct q = refl
 
-groups_c : {ts r : List Token} {d : Bool} {gs : List ElementForm} → IsGroupBy ts d gs r → EndsGroups r → groups_at ts ≡ Some ((d, gs), r)
+groups_c : {ts r : List Token} {d : Bool} {gs : List ElementForm} → IsGroupBy ts d gs r → EndsGroups r → groups_at ts ≡ Ok ((d, gs), r)
 unfolding groups_at elements_at
 groups_c IsGroupBy.none q = rw q.no_group refl
 groups_c (IsGroupBy.groups {ts} {us} {mid} {r} {d} {g} {gs} quantifier p b) q =
     rw (
       set_quantifier_c quantifier (group_begins 16 us mid g p),
       group_c 16 us mid g p,
-      unlimited_c (tokens.Sign s.Comma) (is_sign s.Comma) (IsGroup 16) (group_at 16) (λ _. Unit {0}) refl (λ _. tt) (λ us v x j _. group_c 16 us v x j) (group_short 16) b tt q.no_comma,
+      unlimited_c (tokens.Sign s.Comma) (is_sign s.Comma) any_front (IsGroup 16) (group_at 16) (λ _. Unit {0}) refl (λ _. tt) (λ us v x j _. group_c 16 us v x j) (group_short 16) b tt q.no_comma,
     ) refl
 
 -- WHERE ends where GROUP BY begins, written or not.
@@ -90,7 +90,7 @@ record EndsHaving (r : List Token) : Type 0 where
   ends_groups : EndsGroups r
   no_having : after (is_word w.Having) r ≡ None
 
-having_c : {ts r : List Token} {p : Option PredicateForm} → IsHaving ts p r → EndsHaving r → clause_at w.Having ts ≡ Some (p, r)
+having_c : {ts r : List Token} {p : Option PredicateForm} → IsHaving ts p r → EndsHaving r → clause_at w.Having ts ≡ Ok (p, r)
 unfolding clause_at
 having_c IsHaving.none q = rw q.no_having refl
 having_c (IsHaving.condition {ts} {r} {p} i) q = rw (predicate_c 65 ts r p i q.ends_groups.ends_where.predicate) refl
@@ -113,14 +113,14 @@ keys_begin (IsOrderBy.keys {ts} p b) q = record {
   no_having = refl;
 }
 
-query_c : {ts r : List Token} {q : TreeForm} → IsQuery ts q r → EndsQuery r → query_at ts ≡ Some (q, r)
+query_c : {ts r : List Token} {q : TreeForm} → IsQuery ts q r → EndsQuery r → query_at ts ≡ Ok (q, r)
 unfolding query_at select_at records_at rows_at items_at
 query_c (IsQuery.query {ts} {mid} {after_from} {after_where} {after_groups} {after_having} {r} {i} {is} {p} {h} {d} {gs} {ks} first others few d_where d_groups d_having d_keys) q =
     let behind_groups : EndsHaving after_having = keys_begin d_keys q in
     let behind_where : EndsGroups after_groups = having_begins d_having behind_groups in
     rw (
       item_c ts mid i first (repeated_follow (tokens.Sign s.Comma) IsItem EndsItem comma_ends_item others (from_ends_item _)),
-      repeated_c (tokens.Sign s.Comma) (is_sign s.Comma) IsItem item_at EndsItem refl comma_ends_item item_c others 63 (omega arith) (from_ends_item _) refl,
+      repeated_c (tokens.Sign s.Comma) (is_sign s.Comma) begins_expression IsItem item_at EndsItem refl comma_ends_item item_c others 63 (omega arith) (from_ends_item _) refl,
       from_c after_from,
       where_c d_where (groups_begin d_groups behind_where),
       groups_c d_groups behind_where,
@@ -134,17 +134,17 @@ nil_ends_query = record {
   ends_keys = nil_ends_keys;
 }
 
-whole_c : (ts : List Token) (q : TreeForm) → Derives ts q → whole_at ts ≡ Some q
+pub whole_c : (ts : List Token) (q : TreeForm) → Derives ts q → whole_at ts ≡ Ok q
 unfolding whole_at
 whole_c ts q d = rw (query_c d nil_ends_query) refl
 
 -- What is derived is read.
 pub read : (ts : List Token) (r : Result (Box Tree Global) GrammarFault) → Gives (λ t. tree_form t.value) r (whole_at ts) → (q : TreeForm) → Derives ts q → MatchResult r (λ t. tree_form t.value ≡ q) (λ e. e ≡ faults.OutOfMemory)
-read ts (Ok t) e q d = some_is (tree_form t.value) q (sym e ∙ whole_c ts q d)
+read ts (Ok t) e q d = ok_is (tree_form t.value) q (sym e ∙ whole_c ts q d)
 read ts (Err faults.OutOfMemory) e q d = refl
-read ts (Err faults.OverLimit) e q d = absurd (let k = whole_c ts q d in cc)
+read ts (Err (faults.OverLimit n)) e q d = absurd (let k = whole_c ts q d in cc)
 read ts (Err (faults.Unexpected n)) e q d = absurd (let k = whole_c ts q d in cc)
 
 -- No tokens derive two queries: what they derive is what is read of them.
 pub one : (ts : List Token) (p q : TreeForm) → Derives ts p → Derives ts q → p ≡ q
-one ts p q d e = some_is p q (sym (whole_c ts p d) ∙ whole_c ts q e)
+one ts p q d e = ok_is p q (sym (whole_c ts p d) ∙ whole_c ts q e)

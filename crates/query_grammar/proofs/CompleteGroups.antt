@@ -1,24 +1,25 @@
 -- Units, sets and groups that derive from tokens are read.
-use Rattle.std.proofs.Common.{arith, ◌≡◌, ℕ, zero, suc, List, ◌∷◌, Some, None, refl}
+use Rattle.std.proofs.Common.{arith, ◌≡◌, ℕ, zero, suc, List, ◌∷◌, Bool, Some, None, Ok, refl}
 use Rattle.query_tokens.specs.declared.token.Token.{Token}
 use Rattle.query_tokens.specs.declared.token.Token.TheVariants as tokens
 use Rattle.query_tokens.specs.declared.token.Word.TheVariants as w
 use Rattle.query_tokens.specs.declared.token.Sign.TheVariants as s
 use Rattle.query_tree.specs.Syntax.{ElementForm, sets, element_forms}
 use Rattle.query_leaves.specs.Fronts.{is_word, is_sign, after}
-use Rattle.query_leaves.specs.Steps.{Reader, name_at}
+use Rattle.query_leaves.specs.Steps.{Reader, expected, name_at, begins_name}
+use Rattle.query_predicates.specs.PredicateSteps.{any_front}
 use Rattle.query_derivation.specs.Leaves.{Derivation, IsRepeated, IsName}
 use Rattle.query_leaves.proofs.CompleteLists.{Shrinks, repeated_short, unlimited_c}
 use Rattle.query_leaves.proofs.CompleteLeaves.{name_c, name_short}
-use Rattle.query_grammar.specs.GroupSteps.{enclosed_at, unit_at, units_at, nothing_at, set_at, element_at, sets_at, group_at}
+use Rattle.query_grammar.specs.GroupSteps.{enclosed_at, begins_unit, unit_at, units_at, nothing_at, set_at, element_at, sets_at, group_at}
 use Rattle.query_derivation.specs.Grammar.{IsUnit, IsSet, IsElement, IsGroup}
 
 -- Parts in brackets that are read whatever stands behind them, as many as there are.
-enclosed_c : {A : Type 0} (P : Derivation A) (f : Reader A) → ((ts r : List Token) (x : A) → P ts x r → f ts ≡ Some (x, r)) → Shrinks P
+enclosed_c : {A : Type 0} (begins : List Token → Bool) (P : Derivation A) (f : Reader A) → ((ts r : List Token) (x : A) → P ts x r → f ts ≡ Ok (x, r)) → Shrinks P
     → {ts mid r : List Token} {x : A} {xs : List A} → P ts x mid → IsRepeated (tokens.Sign s.Comma) P mid xs (tokens.Sign s.Close ∷ r)
-    → enclosed_at f (tokens.Sign s.Open ∷ ts) ≡ Some (x ∷ xs, r)
-enclosed_c P f complete short {ts} {mid} {r} {x} {xs} p b =
-    rw (complete ts mid x p, unlimited_c (tokens.Sign s.Comma) (is_sign s.Comma) P f (λ _. Unit {0}) refl (λ _. tt) (λ us v y q _. complete us v y q) short b tt refl) refl
+    → enclosed_at begins f (tokens.Sign s.Open ∷ ts) ≡ Ok (x ∷ xs, r)
+enclosed_c begins P f complete short {ts} {mid} {r} {x} {xs} p b =
+    rw (complete ts mid x p, unlimited_c (tokens.Sign s.Comma) (is_sign s.Comma) begins P f (λ _. Unit {0}) refl (λ _. tt) (λ us v y q _. complete us v y q) short b tt refl) refl
 
 -- ---- units and sets
 
@@ -26,20 +27,24 @@ no_name : (ts : List Token) → name_at (tokens.Sign s.Open ∷ ts) ≡ None
 unfolding name_at
 no_name ts = refl
 
-unit_c : (ts r : List Token) (ns : List (List ℕ)) → IsUnit ts ns r → unit_at ts ≡ Some (ns, r)
+name_front : (n : List ℕ) (r : List Token) → name_at (tokens.Name n ∷ r) ≡ Some (n, r)
+unfolding name_at
+name_front n r = refl
+
+unit_c : (ts r : List Token) (ns : List (List ℕ)) → IsUnit ts ns r → unit_at ts ≡ Ok (ns, r)
 unfolding unit_at
-unit_c _ _ _ (IsUnit.column {n} {r}) = rw (name_c (tokens.Name n ∷ r) r n IsName.name) refl
+unit_c _ _ _ (IsUnit.column {n} {r}) = rw (name_front n r) refl
 unit_c _ _ _ (IsUnit.columns {mid} {r} {n} {ns} b) =
-    rw (no_name (tokens.Name n ∷ mid), enclosed_c IsName name_at name_c name_short (IsName.name {n = n} {r = mid}) b) refl
+    rw (no_name (tokens.Name n ∷ mid), enclosed_c begins_name IsName (expected name_at) name_c name_short (IsName.name {n = n} {r = mid}) b) refl
 
 unit_short : Shrinks IsUnit
 unit_short _ _ _ IsUnit.column = omega arith
 unit_short _ _ _ (IsUnit.columns b) = omega (arith, repeated_short (tokens.Sign s.Comma) IsName name_short b)
 
 units_c : {ts mid r : List Token} {u : List (List ℕ)} {us : List (List (List ℕ))} → IsUnit ts u mid → IsRepeated (tokens.Sign s.Comma) IsUnit mid us (tokens.Sign s.Close ∷ r)
-    → units_at (tokens.Sign s.Open ∷ ts) ≡ Some (u ∷ us, r)
+    → units_at (tokens.Sign s.Open ∷ ts) ≡ Ok (u ∷ us, r)
 unfolding units_at
-units_c p b = enclosed_c IsUnit unit_at unit_c unit_short p b
+units_c p b = enclosed_c begins_unit IsUnit unit_at unit_c unit_short p b
 
 unit_some : {ts r : List Token} {ns : List (List ℕ)} → IsUnit ts ns r → nothing_at ts ≡ None
 unfolding nothing_at
@@ -50,7 +55,7 @@ nothing_c : (r : List Token) → nothing_at (tokens.Sign s.Open ∷ tokens.Sign 
 unfolding nothing_at
 nothing_c r = refl
 
-set_c : {ts r : List Token} {ns : List (List ℕ)} → IsSet ts ns r → set_at ts ≡ Some (ns, r)
+set_c : {ts r : List Token} {ns : List (List ℕ)} → IsSet ts ns r → set_at ts ≡ Ok (ns, r)
 unfolding set_at
 set_c (IsSet.none {r}) = rw (nothing_c r) refl
 set_c (IsSet.unit {ts} {r} {ns} p) = rw (unit_some p, unit_c ts r ns p) refl
@@ -75,9 +80,9 @@ set_begins (IsSet.unit (IsUnit.columns b)) = record { no_rollup = refl; no_cube 
 -- What reads the bracketed elements behind GROUPING.
 abbrev ReadsSets : Derivation ElementForm → Reader ElementForm → Type 0
 ReadsSets IsInner nested = (ts mid r : List Token) (g : ElementForm) (gs : List ElementForm) → IsInner ts g mid → IsRepeated (tokens.Sign s.Comma) IsInner mid gs (tokens.Sign s.Close ∷ r)
-    → nested (tokens.Word w.Sets ∷ tokens.Sign s.Open ∷ ts) ≡ Some (sets (element_forms (g ∷ gs)), r)
+    → nested (tokens.Word w.Sets ∷ tokens.Sign s.Open ∷ ts) ≡ Ok (sets (element_forms (g ∷ gs)), r)
 
-element_c : (IsInner : Derivation ElementForm) (nested : Reader ElementForm) → ReadsSets IsInner nested → {ts r : List Token} {g : ElementForm} → IsElement IsInner ts g r → element_at nested ts ≡ Some (g, r)
+element_c : (IsInner : Derivation ElementForm) (nested : Reader ElementForm) → ReadsSets IsInner nested → {ts r : List Token} {g : ElementForm} → IsElement IsInner ts g r → element_at nested ts ≡ Ok (g, r)
 unfolding element_at
 element_c IsInner nested reads (IsElement.set p) = rw ((set_begins p).no_rollup, (set_begins p).no_cube, (set_begins p).no_grouping, set_c p) refl
 element_c IsInner nested reads (IsElement.rollup p b) = rw (units_c p b) refl
@@ -109,11 +114,11 @@ unfolding IsGroup
 group_short zero ts r g p = element_short (λ ts g r. ⊥) (λ ts r g p. absurd p) ts r g p
 group_short (suc n) ts r g p = element_short (IsGroup n) (group_short n) ts r g p
 
-sets_c : (n : ℕ) → ((ts r : List Token) (g : ElementForm) → IsGroup n ts g r → group_at n ts ≡ Some (g, r)) → ReadsSets (IsGroup n) (sets_at (suc n))
+sets_c : (n : ℕ) → ((ts r : List Token) (g : ElementForm) → IsGroup n ts g r → group_at n ts ≡ Ok (g, r)) → ReadsSets (IsGroup n) (sets_at (suc n))
 unfolding sets_at
-sets_c n complete ts mid r g gs p b = rw (enclosed_c (IsGroup n) (group_at n) complete (group_short n) p b) refl
+sets_c n complete ts mid r g gs p b = rw (enclosed_c any_front (IsGroup n) (group_at n) complete (group_short n) p b) refl
 
-pub group_c : (n : ℕ) (ts r : List Token) (g : ElementForm) → IsGroup n ts g r → group_at n ts ≡ Some (g, r)
+pub group_c : (n : ℕ) (ts r : List Token) (g : ElementForm) → IsGroup n ts g r → group_at n ts ≡ Ok (g, r)
 unfolding IsGroup
 group_c zero ts r g p = element_c (λ ts g r. ⊥) (sets_at zero) (λ ts mid r g gs q b. absurd q) p
 group_c (suc n) ts r g p = element_c (IsGroup n) (sets_at (suc n)) (sets_c n (group_c n)) p

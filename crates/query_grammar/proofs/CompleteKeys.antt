@@ -1,5 +1,5 @@
 -- Keys that derive from tokens are read.
-use Rattle.std.proofs.Common.{arith, length, ◌≤◌, ◌≡◌, Bool, List, [], ◌∷◌, Some, None, refl}
+use Rattle.std.proofs.Common.{arith, length, ◌≤◌, ◌≡◌, Bool, List, [], ◌∷◌, None, Ok, refl}
 use Rattle.query_tokens.specs.declared.token.Token.{Token}
 use Rattle.query_tokens.specs.declared.token.Token.TheVariants as tokens
 use Rattle.query_tokens.specs.declared.token.Word.TheVariants as w
@@ -9,7 +9,8 @@ use Rattle.query_leaves.specs.Fronts.{is_word, is_sign, after}
 use Rattle.query_leaves.proofs.CompleteLists.{Shrinks, repeated_follow, unlimited_c}
 use Rattle.query_predicates.proofs.CompleteExpressions.{EndsFunction, expression_c, expression_short}
 use Rattle.query_predicates.proofs.CompletePredicates.{predicate_short, bracketed_c}
-use Rattle.query_predicates.specs.PredicateSteps.{predicate_at}
+use Rattle.query_predicates.specs.PredicateSteps.{inside_of}
+use Rattle.query_predicates.specs.ExpressionSteps.{begins_expression}
 use Rattle.query_derivation.specs.Predicates.{IsPredicate}
 use Rattle.query_grammar.specs.KeySteps.{direction_at, null_ordering_at, key_at, keys_at}
 use Rattle.query_derivation.specs.Grammar.{IsDirection, IsNullOrdering, IsKey, IsOrderBy}
@@ -37,7 +38,7 @@ direction_c IsDirection.none q = rw (q.no_desc, q.no_asc) refl
 direction_c IsDirection.ascending q = refl
 direction_c IsDirection.descending q = refl
 
-null_ordering_c : {ts r : List Token} {d n : Bool} → IsNullOrdering d ts n r → EndsKey r → null_ordering_at d ts ≡ Some (n, r)
+null_ordering_c : {ts r : List Token} {d n : Bool} → IsNullOrdering d ts n r → EndsKey r → null_ordering_at d ts ≡ Ok (n, r)
 unfolding null_ordering_at
 null_ordering_c IsNullOrdering.none q = rw q.no_nulls refl
 null_ordering_c IsNullOrdering.first q = refl
@@ -60,9 +61,9 @@ direction_filter IsDirection.none q = q
 direction_filter IsDirection.ascending q = refl
 direction_filter IsDirection.descending q = refl
 
-key_c : (ts r : List Token) (k : KeyForm) → IsKey ts k r → EndsKey r → key_at ts ≡ Some (k, r)
+key_c : (ts r : List Token) (k : KeyForm) → IsKey ts k r → EndsKey r → key_at ts ≡ Ok (k, r)
 unfolding key_at
-key_c _ _ _ (IsKey.key e d n) q = rw (expression_c (IsPredicate 64) (predicate_at 64) (bracketed_c 64) e (direction_filter d (null_ordering_filter n q)), direction_c d (null_ordering_begins n q), null_ordering_c n q) refl
+key_c _ _ _ (IsKey.key e d n) q = rw (expression_c (IsPredicate 64) (inside_of 64) (bracketed_c 64) e (direction_filter d (null_ordering_filter n q)), direction_c d (null_ordering_begins n q), null_ordering_c n q) refl
 
 direction_short : {ts r : List Token} {d : Bool} → IsDirection ts d r → length r ≤ length ts
 direction_short IsDirection.none = omega arith
@@ -80,13 +81,13 @@ key_short _ _ _ (IsKey.key {ts} {u} {v} {r} {e} p d n) = omega (arith, expressio
 comma_ends : (ts : List Token) → EndsKey (tokens.Sign s.Comma ∷ ts)
 comma_ends ts = record { no_filter = refl; direction = record { no_asc = refl; no_desc = refl }; no_nulls = refl }
 
-pub keys_c : {ts r : List Token} {ks : List KeyForm} → IsOrderBy ts ks r → EndsKeys r → keys_at ts ≡ Some (ks, r)
+pub keys_c : {ts r : List Token} {ks : List KeyForm} → IsOrderBy ts ks r → EndsKeys r → keys_at ts ≡ Ok (ks, r)
 unfolding keys_at
 keys_c IsOrderBy.none q = rw q.no_order refl
 keys_c (IsOrderBy.keys {ts} {mid} {r} {k} {ks} p b) q =
     rw (
       key_c ts mid k p (repeated_follow (tokens.Sign s.Comma) IsKey EndsKey comma_ends b q.key),
-      unlimited_c (tokens.Sign s.Comma) (is_sign s.Comma) IsKey key_at EndsKey refl comma_ends key_c key_short b q.key q.no_comma,
+      unlimited_c (tokens.Sign s.Comma) (is_sign s.Comma) begins_expression IsKey key_at EndsKey refl comma_ends key_c key_short b q.key q.no_comma,
     ) refl
 
 pub nil_ends_keys : EndsKeys []

@@ -4,3 +4,4 @@ pub mod Complete
 pub mod SoundGroups
 pub mod SoundKeys
 pub mod Sound
+mod LocalQuery

@@ -1,14 +1,14 @@
 -- What the functions of keys read in front of tokens, one definition for each function, as it computes it. No public
 -- contract rests on this file: what tokens derive is said in Grammar.
-use Rattle.std.specs.Prelude.{Bool, true, false, List, [], Some, None}
+use Rattle.std.specs.Prelude.{Bool, true, false, List, [], Ok}
 use Rattle.query_tokens.specs.declared.token.Token.{Token}
 use Rattle.query_tokens.specs.declared.token.Word.TheVariants as w
-use Rattle.query_tokens.specs.Options.{◌>>=◌, choose}
+use Rattle.query_tokens.specs.Options.{choose}
 use Rattle.query_tree.specs.Syntax.{KeyForm}
 use Rattle.query_leaves.specs.Fronts.{is_word, after}
-use Rattle.query_leaves.specs.Steps.{Reader}
-use Rattle.query_predicates.specs.ExpressionSteps.{expression_at}
-use Rattle.query_predicates.specs.PredicateSteps.{predicate_at}
+use Rattle.query_leaves.specs.Steps.{◌>>=◌, Reader, expected}
+use Rattle.query_predicates.specs.ExpressionSteps.{expression_at, begins_expression}
+use Rattle.query_predicates.specs.PredicateSteps.{inside_of}
 use Rattle.query_grammar.specs.GroupSteps.{all_at}
 
 -- Whether DESC is written, and what stands behind it or behind ASC.
@@ -17,14 +17,14 @@ direction_at ts = choose (after (is_word w.Desc) ts) (choose (after (is_word w.A
 
 -- Whether NULL is first: as it is written, else exactly under DESC.
 unfoldable pub null_ordering_at : Bool → Reader Bool
-null_ordering_at descending ts = choose (after (is_word w.Nulls) ts) (Some (descending, ts)) (λ a.
-    choose (after (is_word w.First) a) (choose (after (is_word w.Last) a) None (λ r. Some (false, r))) (λ r. Some (true, r)))
+null_ordering_at descending ts = choose (after (is_word w.Nulls) ts) (Ok (descending, ts)) (λ a.
+    choose (after (is_word w.First) a) (expected (after (is_word w.Last)) a >>= λ r. Ok (false, r)) (λ r. Ok (true, r)))
 
 -- A key.
 unfoldable pub key_at : Reader KeyForm
-key_at ts = expression_at (predicate_at 64) ts >>= λ e. null_ordering_at (direction_at e.1).0 (direction_at e.1).1 >>= λ n.
-    Some (record { expression = e.0; descending = (direction_at e.1).0; nulls_first = n.0 }, n.1)
+key_at ts = expression_at (inside_of 64) ts >>= λ e. null_ordering_at (direction_at e.1).0 (direction_at e.1).1 >>= λ n.
+    Ok (record { expression = e.0; descending = (direction_at e.1).0; nulls_first = n.0 }, n.1)
 
 -- The keys of ORDER BY, or none.
 unfoldable pub keys_at : Reader (List KeyForm)
-keys_at ts = choose (after (is_word w.Order) ts) (Some ([], ts)) (λ a. choose (after (is_word w.By) a) None (λ b. all_at key_at b))
+keys_at ts = choose (after (is_word w.Order) ts) (Ok ([], ts)) (λ a. expected (after (is_word w.By)) a >>= λ b. all_at begins_expression key_at b)

@@ -1,38 +1,39 @@
 -- What the functions of items and whole queries read in front of tokens, one definition for each function,
 -- as it computes it. No public contract rests on this file: what tokens derive is said in Grammar.
-use Rattle.std.specs.Prelude.{ℕ, Bool, true, false, List, [], ◌∷◌, Option, Some, None, cond, codes}
+use Rattle.std.specs.Prelude.{ℕ, Bool, true, false, List, [], ◌∷◌, Option, Some, None, Result, Ok, cond, codes}
 use Rattle.std.specs.Str.{bytes_eq}
 use Rattle.query_tokens.specs.declared.token.Token.{Token}
 use Rattle.query_tokens.specs.declared.token.Word.{Word}
 use Rattle.query_tokens.specs.declared.token.Word.TheVariants as w
-use Rattle.query_tokens.specs.Options.{◌>>=◌, choose}
+use Rattle.query_tokens.specs.Options.{choose}
 use Rattle.query_tree.specs.Syntax.{PredicateForm, ElementForm, ItemForm, KeyForm, TreeForm}
 use Rattle.query_leaves.specs.Fronts.{is_word, after}
-use Rattle.query_leaves.specs.Steps.{Reader, listed_at, name_at}
-use Rattle.query_predicates.specs.ExpressionSteps.{expression_at}
-use Rattle.query_predicates.specs.PredicateSteps.{predicate_at}
+use Rattle.query_leaves.specs.Steps.{◌>>=◌, Reader, stuck, expected, listed_at, name_at}
+use Rattle.query_leaves.specs.declared.fault.GrammarFault.{GrammarFault}
+use Rattle.query_predicates.specs.ExpressionSteps.{expression_at, begins_expression}
+use Rattle.query_predicates.specs.PredicateSteps.{predicate_at, inside_of, any_front}
 use Rattle.query_grammar.specs.GroupSteps.{all_at, group_at}
 use Rattle.query_grammar.specs.KeySteps.{keys_at}
 
 -- An alias, or none.
 unfoldable pub alias_at : Reader (Option (List ℕ))
-alias_at ts = choose (after (is_word w.As) ts) (Some (None, ts)) (λ a. name_at a >>= λ n. Some (Some n.0, n.1))
+alias_at ts = choose (after (is_word w.As) ts) (Ok (None, ts)) (λ a. expected name_at a >>= λ n. Ok (Some n.0, n.1))
 
 -- An item.
 unfoldable pub item_at : Reader ItemForm
-item_at ts = expression_at (predicate_at 64) ts >>= λ e. alias_at e.1 >>= λ a. Some (record { expression = e.0; alias = a.0 }, a.1)
+item_at ts = expression_at (inside_of 64) ts >>= λ e. alias_at e.1 >>= λ a. Ok (record { expression = e.0; alias = a.0 }, a.1)
 
 -- The items of SELECT.
 unfoldable pub items_at : Reader (List ItemForm)
-items_at ts = listed_at item_at 63 ts
+items_at ts = listed_at begins_expression item_at 63 ts
 
 -- What stands behind FROM and the name `lines`.
-unfoldable pub from_at : List Token → Option (List Token)
-from_at ts = choose (after (is_word w.From) ts) None (λ a. name_at a >>= λ n. cond (bytes_eq n.0 (codes "lines")) (Some n.1) None)
+unfoldable pub from_at : List Token → Result (List Token) GrammarFault
+from_at ts = expected (after (is_word w.From)) ts >>= λ a. expected name_at a >>= λ n. cond (bytes_eq n.0 (codes "lines")) (Ok n.1) (stuck a)
 
 -- The predicate of WHERE or HAVING behind its word, or none.
 unfoldable pub clause_at : Word → Reader (Option PredicateForm)
-clause_at word ts = choose (after (is_word word) ts) (Some (None, ts)) (λ a. predicate_at 65 a >>= λ p. Some (Some p.0, p.1))
+clause_at word ts = choose (after (is_word word) ts) (Ok (None, ts)) (λ a. predicate_at 65 a >>= λ p. Ok (Some p.0, p.1))
 
 -- Whether DISTINCT is written, and what stands behind it.
 unfoldable pub set_quantifier_at : List Token → Bool × List Token
@@ -40,34 +41,34 @@ set_quantifier_at ts = choose (after (is_word w.Distinct) ts) (false, ts) (λ r.
 
 -- What stands behind GROUP BY: whether DISTINCT is written, and the elements.
 unfoldable pub elements_at : Reader (Bool × List ElementForm)
-elements_at ts = all_at (group_at 16) (set_quantifier_at ts).1 >>= λ gs. Some (((set_quantifier_at ts).0, gs.0), gs.1)
+elements_at ts = all_at any_front (group_at 16) (set_quantifier_at ts).1 >>= λ gs. Ok (((set_quantifier_at ts).0, gs.0), gs.1)
 
 -- Whether GROUP BY DISTINCT is written, and the elements of GROUP BY, or none.
 unfoldable pub groups_at : Reader (Bool × List ElementForm)
-groups_at ts = choose (after (is_word w.Group) ts) (Some ((false, []), ts)) (λ a. choose (after (is_word w.By) a) None (λ b. elements_at b))
+groups_at ts = choose (after (is_word w.Group) ts) (Ok ((false, []), ts)) (λ a. expected (after (is_word w.By)) a >>= λ b. elements_at b)
 
 -- The items of SELECT, and what stands behind FROM.
 unfoldable pub select_at : Reader (List ItemForm)
-select_at ts = choose (after (is_word w.Select) ts) None (λ a. items_at a >>= λ is. from_at is.1 >>= λ rest. Some (is.0, rest))
+select_at ts = expected (after (is_word w.Select)) ts >>= λ a. items_at a >>= λ is. from_at is.1 >>= λ rest. Ok (is.0, rest)
 
 -- WHERE and GROUP BY, which say of the records.
 unfoldable pub records_at : Reader (Option PredicateForm × Bool × List ElementForm)
-records_at ts = clause_at w.Where ts >>= λ p. groups_at p.1 >>= λ gs. Some ((p.0, gs.0.0, gs.0.1), gs.1)
+records_at ts = clause_at w.Where ts >>= λ p. groups_at p.1 >>= λ gs. Ok ((p.0, gs.0.0, gs.0.1), gs.1)
 
 -- HAVING and ORDER BY, which say of the rows.
 unfoldable pub rows_at : Reader (Option PredicateForm × List KeyForm)
-rows_at ts = clause_at w.Having ts >>= λ h. keys_at h.1 >>= λ ks. Some ((h.0, ks.0), ks.1)
+rows_at ts = clause_at w.Having ts >>= λ h. keys_at h.1 >>= λ ks. Ok ((h.0, ks.0), ks.1)
 
 -- A query.
 unfoldable pub query_at : Reader TreeForm
 query_at ts = select_at ts >>= λ is. records_at is.1 >>= λ a. rows_at a.1 >>= λ b.
-    Some (record { items = is.0; where_condition = a.0.0; distinct_sets = a.0.1; groups = a.0.2; having_condition = b.0.0; keys = b.0.1 }, b.1)
+    Ok (record { items = is.0; where_condition = a.0.0; distinct_sets = a.0.1; groups = a.0.2; having_condition = b.0.0; keys = b.0.1 }, b.1)
 
 -- What was read, where nothing is left.
-abbrev pub at_end : List Token → TreeForm → Option TreeForm
-at_end [] q = Some q
-at_end (x ∷ ts) q = None
+abbrev pub at_end : List Token → TreeForm → Result TreeForm GrammarFault
+at_end [] q = Ok q
+at_end (x ∷ ts) q = stuck (x ∷ ts)
 
 -- A query that all of the tokens are.
-unfoldable pub whole_at : List Token → Option TreeForm
+unfoldable pub whole_at : List Token → Result TreeForm GrammarFault
 whole_at ts = query_at ts >>= λ x. at_end x.1 x.0

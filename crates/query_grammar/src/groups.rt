@@ -5,11 +5,14 @@ ghost use Rattle.query_tokens.specs.declared.token.Sign.TheVariants.{Comma};
 ghost use Rattle.query_tree.specs.Syntax.{element_form};
 ghost use Rattle.query_leaves.specs.Fronts.{is_sign};
 ghost use Rattle.query_leaves.specs.Steps.{Gives, with_front, more};
+ghost use Rattle.query_predicates.specs.PredicateSteps.{any_front};
 ghost use Rattle.query_grammar.specs.GroupSteps.{sets_at, group_at};
 ghost use Rattle.query_grammar.specs.QuerySteps.{elements_at, groups_at, set_quantifier_at};
 
 use crate::units::{set, units};
-use query_leaves::{GrammarFault, after_sign, after_word, expect_sign, expect_word, keep};
+use query_leaves::{
+    GrammarFault, after_sign, after_word, expect_sign, expect_word, keep, over_limit,
+};
 use query_tokens::{Sign, Token, Word};
 use query_tree::GroupingElement;
 use std::alloc::Global;
@@ -56,7 +59,7 @@ fn grouping_sets(
     ensures shorter { IfOk result (λ x. length x.1.now < length tokens.now) }
 {
     if levels == 0 {
-        return Err(GrammarFault::OverLimit);
+        return Err(over_limit(tokens));
     }
     let rest = expect_word(tokens, Word::Sets)?;
     let rest = expect_sign(rest, Sign::Open)?;
@@ -74,7 +77,7 @@ fn more_groups(
     tokens: &[Token],
     levels: u32,
 ) -> Result<(Vec<GroupingElement>, &[Token]), GrammarFault>
-    ensures exact { Gives (λ x. (map element_form x.0.items, x.1.now)) result (with_front (element_form first ∷ []) (more (is_sign Comma) (group_at levels) (length tokens.now) tokens.now)) }
+    ensures exact { Gives (λ x. (map element_form x.0.items, x.1.now)) result (with_front (element_form first ∷ []) (more (is_sign Comma) any_front (group_at levels) (length tokens.now) tokens.now)) }
     ensures shorter { IfOk result (λ x. length x.1.now ≤ length tokens.now) }
 {
     let mut all = Vec::new(alloc);

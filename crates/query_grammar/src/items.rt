@@ -43,6 +43,7 @@ struct SelectItems;
 
 impl Listed for SelectItems {
     ghost use Rattle.query_tree.specs.Syntax.{ItemForm, item_form};
+    ghost use Rattle.query_predicates.specs.ExpressionSteps.{begins_expression};
     ghost use Rattle.query_grammar.specs.QuerySteps.{item_at};
 
     type Part = Item;
@@ -52,6 +53,8 @@ impl Listed for SelectItems {
     ghost form = { item_form };
 
     ghost reader = { item_at };
+
+    ghost front = { begins_expression };
 
     fn begins(tokens: &[Token]) -> bool {
         begins_expression(tokens)

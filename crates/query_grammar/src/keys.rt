@@ -64,6 +64,7 @@ struct SortKeys;
 
 impl Listed for SortKeys {
     ghost use Rattle.query_tree.specs.Syntax.{KeyForm, key_form};
+    ghost use Rattle.query_predicates.specs.ExpressionSteps.{begins_expression};
     ghost use Rattle.query_grammar.specs.KeySteps.{key_at};
 
     type Part = Key;
@@ -73,6 +74,8 @@ impl Listed for SortKeys {
     ghost form = { key_form };
 
     ghost reader = { key_at };
+
+    ghost front = { begins_expression };
 
     fn begins(tokens: &[Token]) -> bool {
         begins_expression(tokens)

@@ -1,10 +1,11 @@
 //! Reads a query.
 
-ghost use Rattle.std.specs.Prelude.{◌≡◌, ◌<◌, ◌≤◌, length, map, IfOk, MatchResult};
+ghost use Rattle.std.specs.Prelude.{◌≡◌, ◌<◌, ◌≤◌, ◌-◌, ℕ, Err, length, map, IfOk, MatchResult};
 ghost use Rattle.std.specs.Option.{option_map};
 ghost use Rattle.query_tree.specs.Syntax.{TreeForm, tree_form, element_form, item_form, key_form, predicate_form};
-ghost use Rattle.query_leaves.specs.declared.fault.GrammarFault.TheVariants.{OutOfMemory};
+ghost use Rattle.query_leaves.specs.declared.fault.GrammarFault.TheVariants.{OutOfMemory, Unexpected};
 ghost use Rattle.query_derivation.specs.Grammar.{Derives};
+ghost use Rattle.query_derivation.specs.Prefixes.{IsUnexpectedWithin};
 ghost use Rattle.query_leaves.specs.Steps.{Gives};
 ghost use Rattle.query_grammar.specs.QuerySteps.{from_at, clause_at, select_at, records_at, rows_at, query_at, whole_at};
 
@@ -135,6 +136,8 @@ pub fn read_query(alloc: Global, tokens: &[Token]) -> Result<Box<Tree>, GrammarF
     ensures derived { IfOk result (λ tree. Derives tokens.now (tree_form tree.value)) }
     // What is derived is read, and no other, unless memory runs out.
     ensures read { (q : TreeForm) → Derives tokens.now q → MatchResult result (λ tree. tree_form tree.value ≡ q) (λ fault. fault ≡ OutOfMemory) }
+    // A token that is not expected, or the end, continues no query.
+    ensures unexpected { (left : ℕ) → result ≡ Err (Unexpected left) → IsUnexpectedWithin tokens.now (length tokens.now - left) }
 {
     whole(alloc, tokens)
 }

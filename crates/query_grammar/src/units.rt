@@ -36,7 +36,7 @@ struct GroupingUnits;
 
 impl Listed for GroupingUnits {
     ghost use Rattle.std.specs.Prelude.{List, ℕ};
-    ghost use Rattle.query_grammar.specs.GroupSteps.{unit_at};
+    ghost use Rattle.query_grammar.specs.GroupSteps.{unit_at, begins_unit};
 
     type Part = Vec<Text>;
 
@@ -46,6 +46,9 @@ impl Listed for GroupingUnits {
 
     ghost reader = { unit_at };
 
+    ghost front = { begins_unit };
+
+    #[tactic(auto, unfolding(crate::specs::GroupSteps::begins_unit))]
     fn begins(tokens: &[Token]) -> bool {
         matches!(tokens, [Token::Name(_), ..] | [Token::Sign(Sign::Open), ..])
     }

@@ -1,5 +1,5 @@
 -- Leaves that derive from tokens are read.
-use Rattle.std.proofs.Common.{arith, length, ◌<◌, ◌≡◌, ℕ, Bool, List, ◌∷◌, Some, None, refl}
+use Rattle.std.proofs.Common.{arith, length, ◌<◌, ◌≡◌, ℕ, Bool, List, ◌∷◌, Some, None, Ok, refl}
 use Rattle.values.specs.declared.comparison.Op.{Op}
 use Rattle.values.specs.declared.truth.Truth.{Truth}
 use Rattle.query_tokens.specs.declared.token.Token.{Token}
@@ -10,22 +10,22 @@ use Rattle.query_tree.specs.declared.expression.Aggregate.{Aggregate}
 use Rattle.query_tree.specs.declared.predicate.Literal.{Literal}
 use Rattle.query_leaves.specs.Fronts.{is_word, after}
 use Rattle.query_derivation.specs.Leaves.{IsRepeated, IsName, IsAggregate, IsLiteral, IsOp, IsTruthValue, IsMark}
-use Rattle.query_leaves.specs.Steps.{name_at}
-use Rattle.query_leaves.specs.LeafSteps.{closed_name_at, argument_at, counted_at, count_at, aggregate_at, arguments_at, literal_at, literals_at, op_at, truth_at, mark_at}
+use Rattle.query_leaves.specs.Steps.{expected, name_at, begins_name}
+use Rattle.query_leaves.specs.LeafSteps.{closed_name_at, argument_at, counted_at, count_at, aggregate_at, arguments_at, literal_at, begins_literal, literals_at, op_at, truth_at, mark_at}
 use Rattle.query_leaves.proofs.CompleteLists.{Shrinks, bracketed_c}
 
 -- ---- names and set functions
 
-pub name_c : (ts r : List Token) (n : List ℕ) → IsName ts n r → name_at ts ≡ Some (n, r)
+pub name_c : (ts r : List Token) (n : List ℕ) → IsName ts n r → expected name_at ts ≡ Ok (n, r)
 unfolding name_at
 name_c _ _ _ IsName.name = refl
 
 pub arguments_c : {n : List ℕ} {mid r : List Token} {ns : List (List ℕ)} → IsRepeated (tokens.Sign s.Comma) IsName mid ns (tokens.Sign s.Close ∷ r) → length ns < 8
-    → arguments_at (tokens.Sign s.Open ∷ tokens.Name n ∷ mid) ≡ Some (n ∷ ns, r)
+    → arguments_at (tokens.Sign s.Open ∷ tokens.Name n ∷ mid) ≡ Ok (n ∷ ns, r)
 unfolding arguments_at
-arguments_c {n} {mid} b few = bracketed_c IsName name_at name_c 7 (IsName.name {n = n} {r = mid}) b (omega arith)
+arguments_c {n} {mid} b few = bracketed_c begins_name IsName (expected name_at) name_c 7 (IsName.name {n = n} {r = mid}) b (omega arith)
 
-pub aggregate_c : {ts r : List Token} {f : Aggregate} → IsAggregate ts f r → aggregate_at ts ≡ Some (f, r)
+pub aggregate_c : {ts r : List Token} {f : Aggregate} → IsAggregate ts f r → aggregate_at ts ≡ Ok (f, r)
 unfolding aggregate_at count_at counted_at argument_at closed_name_at name_at
 aggregate_c IsAggregate.count_rows = refl
 aggregate_c IsAggregate.count = refl
@@ -71,10 +71,14 @@ literal_c _ _ _ IsLiteral.text = refl
 literal_c _ _ _ IsLiteral.yes = refl
 literal_c _ _ _ IsLiteral.no = refl
 
+-- The literals of a list.
+listed_literal_c : (ts r : List Token) (a : Literal) → IsLiteral ts a r → expected literal_at ts ≡ Ok (a, r)
+listed_literal_c ts r a p = rw (literal_c ts r a p) refl
+
 pub literals_c : {ts mid r : List Token} {a : Literal} {ls : List Literal} → IsLiteral ts a mid → IsRepeated (tokens.Sign s.Comma) IsLiteral mid ls (tokens.Sign s.Close ∷ r) → length ls < 64
-    → literals_at (tokens.Sign s.Open ∷ ts) ≡ Some (a ∷ ls, r)
+    → literals_at (tokens.Sign s.Open ∷ ts) ≡ Ok (a ∷ ls, r)
 unfolding literals_at
-literals_c a b few = bracketed_c IsLiteral literal_at literal_c 63 a b (omega arith)
+literals_c a b few = bracketed_c begins_literal IsLiteral (expected literal_at) listed_literal_c 63 a b (omega arith)
 
 pub op_c : {ts r : List Token} {o : Op} → IsOp ts o r → op_at ts ≡ Some (o, r)
 unfolding op_at
@@ -93,7 +97,7 @@ op_no_is IsOp.le = refl
 op_no_is IsOp.gt = refl
 op_no_is IsOp.ge = refl
 
-pub truth_c : {ts r : List Token} {t : Truth} → IsTruthValue ts t r → truth_at ts ≡ Some (t, r)
+pub truth_c : {ts r : List Token} {t : Truth} → IsTruthValue ts t r → truth_at ts ≡ Ok (t, r)
 unfolding truth_at
 truth_c IsTruthValue.yes = refl
 truth_c IsTruthValue.no = refl

@@ -1,6 +1,9 @@
 pub mod Heads
+pub mod Inversions
 pub mod More
 pub mod CompleteLists
 pub mod CompleteLeaves
 pub mod SoundLists
 pub mod SoundLeaves
+pub mod Local
+pub mod LocalLeaves

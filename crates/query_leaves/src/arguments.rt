@@ -1,7 +1,7 @@
 //! Reads names with commas between them, and the bracketed names behind GROUPING.
 
 ghost use Rattle.std.specs.Prelude.{◌<◌, ℕ, length, IfOk};
-ghost use Rattle.query_leaves.specs.Steps.{Gives, name_at};
+ghost use Rattle.query_leaves.specs.Steps.{Gives};
 ghost use Rattle.query_leaves.specs.LeafSteps.{arguments_at};
 
 use crate::fault::GrammarFault;
@@ -22,7 +22,7 @@ pub struct Names;
 
 impl Listed for Names {
     ghost use Rattle.std.specs.Prelude.{List, ℕ};
-    ghost use Rattle.query_leaves.specs.Steps.{name_at};
+    ghost use Rattle.query_leaves.specs.Steps.{expected, name_at, begins_name};
 
     type Part = Text;
 
@@ -30,7 +30,9 @@ impl Listed for Names {
 
     ghost form = { λ n. n };
 
-    ghost reader = { name_at };
+    ghost reader = { expected name_at };
+
+    ghost front = { begins_name };
 
     fn begins(tokens: &[Token]) -> bool {
         name(tokens).is_some()

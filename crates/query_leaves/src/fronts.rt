@@ -2,9 +2,9 @@
 
 ghost use Rattle.std.specs.Prelude.{◌≡◌, ◌<◌, length, IfOk, IfSome};
 ghost use Rattle.query_tokens.specs.Options.{Tells};
-ghost use Rattle.query_leaves.specs.declared.fault.GrammarFault.TheVariants.{Unexpected};
+ghost use Rattle.query_leaves.specs.declared.fault.GrammarFault.TheVariants.{OverLimit, Unexpected};
 ghost use Rattle.query_leaves.specs.Fronts.{is_word, is_sign, after};
-ghost use Rattle.query_leaves.specs.Steps.{Gives, name_at};
+ghost use Rattle.query_leaves.specs.Steps.{Gives, expected, name_at};
 
 use crate::fault::GrammarFault;
 use query_tokens::{Sign, Token, Word};
@@ -64,6 +64,15 @@ pub fn unexpected(tokens: &[Token]) -> GrammarFault
     GrammarFault::Unexpected(tokens.len())
 }
 
+/// The fault that what stands before these tokens is too much: `OverLimit` with their number.
+///
+/// Example: of the tokens of `shop)` it answers `OverLimit(2)`.
+pub fn over_limit(tokens: &[Token]) -> GrammarFault
+    ensures { result ≡ OverLimit (length tokens.now) }
+{
+    GrammarFault::OverLimit(tokens.len())
+}
+
 /// What stands behind a reserved word that has to stand in front.
 ///
 /// Example: of the tokens of `BY shop` and `Word::By` it answers those of `shop`; with `Word::Sets` it answers
@@ -73,7 +82,7 @@ pub fn unexpected(tokens: &[Token]) -> GrammarFault
 ///
 /// `Unexpected` with the number of the tokens, where another token or none stands in front.
 pub fn expect_word(tokens: &[Token], word: Word) -> Result<&[Token], GrammarFault>
-    ensures exact { Gives (λ x. x.now) result (after (is_word word) tokens.now) }
+    ensures exact { Gives (λ x. x.now) result (expected (after (is_word word)) tokens.now) }
     ensures shorter { IfOk result (λ x. length x.now < length tokens.now) }
 {
     match after_word(tokens, word) {
@@ -91,7 +100,7 @@ pub fn expect_word(tokens: &[Token], word: Word) -> Result<&[Token], GrammarFaul
 ///
 /// `Unexpected` with the number of the tokens, where another token or none stands in front.
 pub fn expect_sign(tokens: &[Token], sign: Sign) -> Result<&[Token], GrammarFault>
-    ensures exact { Gives (λ x. x.now) result (after (is_sign sign) tokens.now) }
+    ensures exact { Gives (λ x. x.now) result (expected (after (is_sign sign)) tokens.now) }
     ensures shorter { IfOk result (λ x. length x.now < length tokens.now) }
 {
     match after_sign(tokens, sign) {
@@ -109,7 +118,7 @@ pub fn expect_sign(tokens: &[Token], sign: Sign) -> Result<&[Token], GrammarFaul
 ///
 /// `Unexpected` with the number of the tokens, where another token or none stands in front.
 pub fn expect_name(tokens: &[Token]) -> Result<(&Text, &[Token]), GrammarFault>
-    ensures exact { Gives (λ x. (x.0.now, x.1.now)) result (name_at tokens.now) }
+    ensures exact { Gives (λ x. (x.0.now, x.1.now)) result (expected name_at tokens.now) }
     ensures shorter { IfOk result (λ x. length x.1.now < length tokens.now) }
 {
     match name(tokens) {

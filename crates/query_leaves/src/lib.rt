@@ -17,7 +17,9 @@ mod operators;
 
 pub use arguments::{Names, grouping_names};
 pub use fault::GrammarFault;
-pub use fronts::{after_sign, after_word, expect_name, expect_sign, expect_word, name, unexpected};
+pub use fronts::{
+    after_sign, after_word, expect_name, expect_sign, expect_word, name, over_limit, unexpected,
+};
 pub use functions::aggregate;
 pub use keeping::keep;
 pub use lists::{Listed, more_parts};

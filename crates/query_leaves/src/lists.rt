@@ -1,12 +1,13 @@
 //! Reads lists, whose parts stand with commas between them.
 
-ghost use Rattle.std.specs.Prelude.{◌<◌, ◌≤◌, ◌∷◌, [], length, map, IfOk};
+ghost use Rattle.std.specs.Prelude.{◌≡◌, ◌<◌, ◌≤◌, ◌∷◌, [], Bool, List, length, map, IfOk};
+ghost use Rattle.query_tokens.specs.declared.token.Token.{Token};
 ghost use Rattle.query_tokens.specs.declared.token.Sign.TheVariants.{Comma};
 ghost use Rattle.query_leaves.specs.Fronts.{is_sign};
-ghost use Rattle.query_leaves.specs.Steps.{Gives, IsRefusal, Reader, with_front, more};
+ghost use Rattle.query_leaves.specs.Steps.{Gives, Reader, excess, with_front, more};
 
 use crate::fault::GrammarFault;
-use crate::fronts::{after_sign, unexpected};
+use crate::fronts::{after_sign, over_limit, unexpected};
 use query_tokens::{Sign, Token};
 use std::alloc::Global;
 
@@ -24,9 +25,12 @@ pub trait Listed {
 
     ghost reader: { Reader Form };
 
+    ghost front: { List Token → Bool };
+
     /// Whether a part begins in front of these tokens. Where a list has as many parts as it may have, this decides
     /// which fault another one is.
-    fn begins(tokens: &[Token]) -> bool;
+    fn begins(tokens: &[Token]) -> bool
+        ensures { result ≡ front tokens.now };
 
     /// A part, and what stands behind it.
     ///
@@ -41,10 +45,10 @@ pub trait Listed {
 
 /// The fault of a part too many: the limit where one begins, else the token.
 fn excess<L: Listed>(tokens: &[Token]) -> GrammarFault
-    ensures { IsRefusal result }
+    ensures { result ≡ excess L.front tokens.now }
 {
     if L::begins(tokens) {
-        return GrammarFault::OverLimit;
+        return over_limit(tokens);
     }
     unexpected(tokens)
 }
@@ -65,7 +69,7 @@ pub fn more_parts<L: Listed>(
     tokens: &[Token],
     most_others: usize,
 ) -> Result<(Vec<L::Part>, &[Token]), GrammarFault>
-    ensures exact { Gives (λ x. (map L.form x.0.items, x.1.now)) result (with_front (L.form first ∷ []) (more (is_sign Comma) L.reader most_others tokens.now)) }
+    ensures exact { Gives (λ x. (map L.form x.0.items, x.1.now)) result (with_front (L.form first ∷ []) (more (is_sign Comma) L.front L.reader most_others tokens.now)) }
     ensures shorter { IfOk result (λ x. length x.1.now ≤ length tokens.now) }
 {
     let mut all = Vec::new(alloc);

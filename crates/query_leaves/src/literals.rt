@@ -45,7 +45,8 @@ pub struct Literals;
 
 impl Listed for Literals {
     ghost use Rattle.query_tree.specs.declared.predicate.Literal.{Literal};
-    ghost use Rattle.query_leaves.specs.LeafSteps.{literal_at};
+    ghost use Rattle.query_leaves.specs.Steps.{expected};
+    ghost use Rattle.query_leaves.specs.LeafSteps.{literal_at, begins_literal};
 
     type Part = Literal;
 
@@ -53,8 +54,11 @@ impl Listed for Literals {
 
     ghost form = { λ a. a };
 
-    ghost reader = { literal_at };
+    ghost reader = { expected literal_at };
 
+    ghost front = { begins_literal };
+
+    #[tactic(auto, unfolding(crate::specs::LeafSteps::literal_at))]
     fn begins(tokens: &[Token]) -> bool {
         matches!(
             tokens,

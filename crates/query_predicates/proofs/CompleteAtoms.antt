@@ -1,5 +1,5 @@
 -- Atoms that derive from tokens are read, and the truth tests behind them.
-use Rattle.std.proofs.Common.{arith, length, ◌<◌, ◌≡◌, ℕ, Bool, List, ◌∷◌, Some, None, refl, ◌∙◌}
+use Rattle.std.proofs.Common.{arith, length, ◌<◌, ◌≡◌, ℕ, Bool, List, ◌∷◌, None, Ok, refl, ◌∙◌}
 use Rattle.values.specs.declared.comparison.Op.{Op}
 use Rattle.values.specs.declared.truth.Truth.{Truth}
 use Rattle.query_tokens.specs.declared.token.Token.{Token}
@@ -11,8 +11,8 @@ use Rattle.query_tree.specs.declared.predicate.Literal.{Literal}
 use Rattle.query_tree.specs.Syntax.{ExpressionForm, OperandForm, PredicateForm, truth_test, compare, between, member, null_test, column}
 use Rattle.query_leaves.specs.Fronts.{is_word, is_sign, after}
 use Rattle.query_leaves.specs.LeafSteps.{literal_at, op_at}
-use Rattle.query_leaves.specs.Steps.{Reader, name_at}
-use Rattle.query_predicates.specs.ExpressionSteps.{expression_at}
+use Rattle.query_leaves.specs.Steps.{name_at}
+use Rattle.query_predicates.specs.ExpressionSteps.{Inside, expression_at}
 use Rattle.query_predicates.specs.AtomSteps.{operand_at, member_after, between_after, negated_after, column_of, atom_after, test_after, is_after, tested_atom_at}
 use Rattle.query_derivation.specs.Leaves.{Derivation, IsRepeated, IsAggregate, IsLiteral, IsOp, IsTruthValue, IsMark}
 use Rattle.query_derivation.specs.Predicates.{IsFunction, IsExpression, IsOperand, IsAtom}
@@ -34,7 +34,7 @@ pub record EndsTest (r : List Token) : Type 0 where
   pub no_between : after (is_word w.Between) r ≡ None
   pub no_is : after (is_word w.Is) r ≡ None
 
-module _ (IsInner : Derivation PredicateForm) (inner : Reader PredicateForm) (inner_c : IsComplete IsInner inner) where
+module _ (IsInner : Derivation PredicateForm) (inside : Inside) (inside_c : IsComplete IsInner inside) where
   -- ---- operands
 
   expression_no_literal : {ts r : List Token} {e : ExpressionForm} → IsExpression IsInner ts e r → literal_at ts ≡ None
@@ -44,9 +44,9 @@ module _ (IsInner : Derivation PredicateForm) (inner : Reader PredicateForm) (in
   expression_no_literal (IsExpression.function (IsFunction.plain f)) = aggregate_no_literal f
   expression_no_literal (IsExpression.function (IsFunction.filtered f i)) = aggregate_no_literal f
 
-  operand_c : {ts r : List Token} {x : OperandForm} → IsOperand IsInner ts x r → EndsFunction r → operand_at inner ts ≡ Some (x, r)
+  operand_c : {ts r : List Token} {x : OperandForm} → IsOperand IsInner ts x r → EndsFunction r → operand_at inside ts ≡ Ok (x, r)
   unfolding operand_at
-  operand_c (IsOperand.expression e) q = rw (expression_no_literal e, expression_c IsInner inner inner_c e q) refl
+  operand_c (IsOperand.expression e) q = rw (expression_no_literal e, expression_c IsInner inside inside_c e q) refl
   operand_c (IsOperand.literal {ts} {r} {a} p) q = rw (literal_c ts r a p) refl
 
   aggregate_begins : {ts r : List Token} {f : Aggregate} → IsAggregate ts f r → BeginsAtom ts
@@ -86,50 +86,50 @@ module _ (IsInner : Derivation PredicateForm) (inner : Reader PredicateForm) (in
   op_no_filter IsOp.ge = refl
 
   -- An atom that its first tokens make complete is read, and then its truth test.
-  compare_c : {ts u v r : List Token} {x y : OperandForm} {o : Op} → IsOperand IsInner ts x u → IsOp u o v → IsOperand IsInner v y r → EndsFunction r → tested_atom_at inner ts ≡ test_after (compare x o y) r
+  compare_c : {ts u v r : List Token} {x y : OperandForm} {o : Op} → IsOperand IsInner ts x u → IsOp u o v → IsOperand IsInner v y r → EndsFunction r → tested_atom_at inside ts ≡ test_after (compare x o y) r
   unfolding tested_atom_at atom_after
   compare_c x o y q = rw (operand_c x (op_no_filter o), op_no_is o, op_c o, operand_c y q) refl
 
   between_c : {ts u v mid r : List Token} {x y z : OperandForm} {n : Bool} → IsOperand IsInner ts x u → IsMark u n (tokens.Word w.Between ∷ v) → IsOperand IsInner v y (tokens.Word w.And ∷ mid) → IsOperand IsInner mid z r
-      → EndsFunction r → tested_atom_at inner ts ≡ test_after (between x n y z) r
+      → EndsFunction r → tested_atom_at inside ts ≡ test_after (between x n y z) r
   unfolding tested_atom_at atom_after negated_after between_after op_at
   between_c x IsMark.none y z q = rw (operand_c x refl, operand_c y refl, operand_c z q) refl
   between_c x IsMark.not y z q = rw (operand_c x refl, operand_c y refl, operand_c z q) refl
 
   member_c : {ts u v mid r : List Token} {x : OperandForm} {n : Bool} {a : Literal} {ls : List Literal}
       → IsOperand IsInner ts x u → IsMark u n (tokens.Word w.In ∷ tokens.Sign s.Open ∷ v) → IsLiteral v a mid → IsRepeated (tokens.Sign s.Comma) IsLiteral mid ls (tokens.Sign s.Close ∷ r) → length ls < 64
-      → tested_atom_at inner ts ≡ test_after (member x n (a ∷ ls)) r
+      → tested_atom_at inside ts ≡ test_after (member x n (a ∷ ls)) r
   unfolding tested_atom_at atom_after negated_after member_after op_at
   member_c x IsMark.none a b few = rw (operand_c x refl, literals_c a b few) refl
   member_c x IsMark.not a b few = rw (operand_c x refl, literals_c a b few) refl
 
-  null_c : {ts u r : List Token} {x : OperandForm} {n : Bool} → IsOperand IsInner ts x (tokens.Word w.Is ∷ u) → IsMark u n (tokens.Word w.Null ∷ r) → tested_atom_at inner ts ≡ test_after (null_test x n) r
+  null_c : {ts u r : List Token} {x : OperandForm} {n : Bool} → IsOperand IsInner ts x (tokens.Word w.Is ∷ u) → IsMark u n (tokens.Word w.Null ∷ r) → tested_atom_at inside ts ≡ test_after (null_test x n) r
   unfolding tested_atom_at is_after
   null_c x n = rw (operand_c x refl, mark_c n refl) refl
 
   -- An operand that is a bare name.
-  name_c : (n : List ℕ) (r : List Token) → operand_at inner (tokens.Name n ∷ r) ≡ Some (OperandForm.expression (ExpressionForm.name n), r)
+  name_c : (n : List ℕ) (r : List Token) → operand_at inside (tokens.Name n ∷ r) ≡ Ok (OperandForm.expression (ExpressionForm.name n), r)
   unfolding operand_at expression_at literal_at name_at
   name_c n r = refl
 
-  column_c : (n : List ℕ) (r : List Token) → EndsTest r → tested_atom_at inner (tokens.Name n ∷ r) ≡ Some (column n, r)
+  column_c : (n : List ℕ) (r : List Token) → EndsTest r → tested_atom_at inside (tokens.Name n ∷ r) ≡ Ok (column n, r)
   unfolding tested_atom_at atom_after column_of test_after
   column_c n r q = rw (name_c n r, q.no_is, q.no_op, q.no_not, q.no_in, q.no_between, q.no_is) refl
 
-  column_test_c : (n : List ℕ) {u v r : List Token} {m : Bool} {t : Truth} → IsMark u m v → IsTruthValue v t r → tested_atom_at inner (tokens.Name n ∷ tokens.Word w.Is ∷ u) ≡ Some (truth_test (column n) m t, r)
+  column_test_c : (n : List ℕ) {u v r : List Token} {m : Bool} {t : Truth} → IsMark u m v → IsTruthValue v t r → tested_atom_at inside (tokens.Name n ∷ tokens.Word w.Is ∷ u) ≡ Ok (truth_test (column n) m t, r)
   unfolding tested_atom_at is_after column_of
   column_test_c n {u} m t = rw (name_c n (tokens.Word w.Is ∷ u), mark_c m (truth_no_not t), truth_no_null t, truth_c t) refl
 
-  pub test_none : (p : PredicateForm) (r : List Token) → after (is_word w.Is) r ≡ None → test_after p r ≡ Some (p, r)
+  pub test_none : (p : PredicateForm) (r : List Token) → after (is_word w.Is) r ≡ None → test_after p r ≡ Ok (p, r)
   unfolding test_after
   test_none p r e = rw e refl
 
-  pub test_some : (p : PredicateForm) {u v r : List Token} {n : Bool} {t : Truth} → IsMark u n v → IsTruthValue v t r → test_after p (tokens.Word w.Is ∷ u) ≡ Some (truth_test p n t, r)
+  pub test_some : (p : PredicateForm) {u v r : List Token} {n : Bool} {t : Truth} → IsMark u n v → IsTruthValue v t r → test_after p (tokens.Word w.Is ∷ u) ≡ Ok (truth_test p n t, r)
   unfolding test_after
   test_some p m t = rw (mark_c m (truth_no_not t), truth_c t) refl
 
   -- An atom without a truth test.
-  pub atom_c : {ts r : List Token} {p : PredicateForm} → IsAtom IsInner ts p r → EndsTest r → tested_atom_at inner ts ≡ Some (p, r)
+  pub atom_c : {ts r : List Token} {p : PredicateForm} → IsAtom IsInner ts p r → EndsTest r → tested_atom_at inside ts ≡ Ok (p, r)
   atom_c (IsAtom.compare x o y) q = compare_c x o y q.no_filter ∙ test_none _ _ q.no_is
   atom_c (IsAtom.between x n y z) q = between_c x n y z q.no_filter ∙ test_none _ _ q.no_is
   atom_c (IsAtom.member x n a b few) q = member_c x n a b few ∙ test_none _ _ q.no_is
@@ -137,7 +137,7 @@ module _ (IsInner : Derivation PredicateForm) (inner : Reader PredicateForm) (in
   atom_c (IsAtom.column {n} {r}) q = column_c n r q
 
   -- An atom with its truth test.
-  pub atom_test_c : {ts u v r : List Token} {p : PredicateForm} {n : Bool} {t : Truth} → IsAtom IsInner ts p (tokens.Word w.Is ∷ u) → IsMark u n v → IsTruthValue v t r → tested_atom_at inner ts ≡ Some (truth_test p n t, r)
+  pub atom_test_c : {ts u v r : List Token} {p : PredicateForm} {n : Bool} {t : Truth} → IsAtom IsInner ts p (tokens.Word w.Is ∷ u) → IsMark u n v → IsTruthValue v t r → tested_atom_at inside ts ≡ Ok (truth_test p n t, r)
   atom_test_c (IsAtom.compare x o y) m t = compare_c x o y refl ∙ test_some _ m t
   atom_test_c (IsAtom.between x n y z) m t = between_c x n y z refl ∙ test_some _ m t
   atom_test_c (IsAtom.member x n a b few) m t = member_c x n a b few ∙ test_some _ m t

@@ -1,14 +1,14 @@
 -- Predicates that derive from tokens are read.
-use Rattle.std.proofs.Common.{arith, ◌≡◌, ℕ, zero, suc, List, [], ◌∷◌, Some, None, refl}
+use Rattle.std.proofs.Common.{arith, ◌≡◌, ℕ, zero, suc, List, [], ◌∷◌, true, None, Ok, refl}
 use Rattle.query_tokens.specs.declared.token.Token.{Token}
 use Rattle.query_tokens.specs.declared.token.Token.TheVariants as tokens
 use Rattle.query_tokens.specs.declared.token.Word.TheVariants as w
 use Rattle.query_tokens.specs.declared.token.Sign.TheVariants as s
 use Rattle.query_tree.specs.Syntax.{PredicateForm}
 use Rattle.query_leaves.specs.Fronts.{is_word, after}
-use Rattle.query_leaves.specs.Steps.{Reader}
 use Rattle.query_leaves.specs.LeafSteps.{op_at}
-use Rattle.query_predicates.specs.PredicateSteps.{test_at, negation_at, conjunction_at, disjunction_at, predicate_at}
+use Rattle.query_predicates.specs.ExpressionSteps.{Inside}
+use Rattle.query_predicates.specs.PredicateSteps.{test_at, negation_at, conjunction_at, disjunction_at, predicate_at, any_front, has_level, inside_of}
 use Rattle.query_derivation.specs.Leaves.{Derivation}
 use Rattle.query_derivation.specs.Predicates.{IsPrimary, IsTest, IsNegation, IsConjunction, IsDisjunction, IsPredicate}
 use Rattle.query_leaves.proofs.CompleteLists.{Shrinks, repeated_short, repeated_follow, unlimited_c}
@@ -56,41 +56,41 @@ nil_ends = record { conjunction = record { test = record { no_filter = refl; no_
 
 -- ---- predicates
 
-module _ (IsInner : Derivation PredicateForm) (inner : Reader PredicateForm) (inner_c : IsComplete IsInner inner) where
-  test_c : {ts r : List Token} {p : PredicateForm} → IsTest IsInner ts p r → EndsTest r → test_at inner ts ≡ Some (p, r)
+module _ (IsInner : Derivation PredicateForm) (inside : Inside) (inside_c : IsComplete IsInner inside) where
+  test_c : {ts r : List Token} {p : PredicateForm} → IsTest IsInner ts p r → EndsTest r → test_at inside ts ≡ Ok (p, r)
   unfolding test_at
-  test_c (IsTest.plain (IsPrimary.brackets {ts} {r} {p} i)) q = rw (inner_c ts r p i, test_none IsInner inner inner_c p r q.no_is) refl
-  test_c (IsTest.plain (IsPrimary.atom a)) q = rw ((atom_begins IsInner inner inner_c a).no_open, atom_c IsInner inner inner_c a q) refl
-  test_c (IsTest.test {u = u} (IsPrimary.brackets {ts} {p = p} i) m t) q = rw (inner_c ts (tokens.Word w.Is ∷ u) p i, test_some IsInner inner inner_c p m t) refl
-  test_c (IsTest.test (IsPrimary.atom a) m t) q = rw ((atom_begins IsInner inner inner_c a).no_open, atom_test_c IsInner inner inner_c a m t) refl
+  test_c (IsTest.plain (IsPrimary.brackets {ts} {r} {p} i)) q = rw ((inside_c ts r p i).read, test_none IsInner inside inside_c p r q.no_is) refl
+  test_c (IsTest.plain (IsPrimary.atom a)) q = rw ((atom_begins IsInner inside inside_c a).no_open, atom_c IsInner inside inside_c a q) refl
+  test_c (IsTest.test {u = u} (IsPrimary.brackets {ts} {p = p} i) m t) q = rw ((inside_c ts (tokens.Word w.Is ∷ u) p i).read, test_some IsInner inside inside_c p m t) refl
+  test_c (IsTest.test (IsPrimary.atom a) m t) q = rw ((atom_begins IsInner inside inside_c a).no_open, atom_test_c IsInner inside inside_c a m t) refl
 
   primary_no_not : {ts r : List Token} {p : PredicateForm} → IsPrimary IsInner ts p r → after (is_word w.Not) ts ≡ None
   primary_no_not (IsPrimary.brackets i) = refl
-  primary_no_not (IsPrimary.atom a) = (atom_begins IsInner inner inner_c a).no_not
+  primary_no_not (IsPrimary.atom a) = (atom_begins IsInner inside inside_c a).no_not
 
   test_no_not : {ts r : List Token} {p : PredicateForm} → IsTest IsInner ts p r → after (is_word w.Not) ts ≡ None
   test_no_not (IsTest.plain i) = primary_no_not i
   test_no_not (IsTest.test i m t) = primary_no_not i
 
-  negation_c : {ts r : List Token} {p : PredicateForm} → IsNegation IsInner ts p r → EndsTest r → negation_at inner ts ≡ Some (p, r)
+  negation_c : {ts r : List Token} {p : PredicateForm} → IsNegation IsInner ts p r → EndsTest r → negation_at inside ts ≡ Ok (p, r)
   unfolding negation_at
   negation_c (IsNegation.plain i) q = rw (test_no_not i, test_c i q) refl
   negation_c (IsNegation.not i) q = rw (test_c i q) refl
 
-  conjunction_c : Shrinks (IsNegation IsInner) → {ts r : List Token} {p : PredicateForm} → IsConjunction IsInner ts p r → EndsConjunction r → conjunction_at inner ts ≡ Some (p, r)
+  conjunction_c : Shrinks (IsNegation IsInner) → {ts r : List Token} {p : PredicateForm} → IsConjunction IsInner ts p r → EndsConjunction r → conjunction_at inside ts ≡ Ok (p, r)
   unfolding conjunction_at
   conjunction_c short (IsConjunction.parts {ts} {mid} {r} {p} {ps} i b) q =
       rw (
         negation_c i (repeated_follow (tokens.Word w.And) (IsNegation IsInner) EndsTest and_ends b q.test),
-        unlimited_c (tokens.Word w.And) (is_word w.And) (IsNegation IsInner) (negation_at inner) EndsTest refl and_ends (λ _ _ _ j k. negation_c j k) short b q.test q.no_and,
+        unlimited_c (tokens.Word w.And) (is_word w.And) any_front (IsNegation IsInner) (negation_at inside) EndsTest refl and_ends (λ _ _ _ j k. negation_c j k) short b q.test q.no_and,
       ) refl
 
-  disjunction_c : Shrinks (IsNegation IsInner) → Shrinks (IsConjunction IsInner) → {ts r : List Token} {p : PredicateForm} → IsDisjunction IsInner ts p r → EndsPredicate r → disjunction_at inner ts ≡ Some (p, r)
+  disjunction_c : Shrinks (IsNegation IsInner) → Shrinks (IsConjunction IsInner) → {ts r : List Token} {p : PredicateForm} → IsDisjunction IsInner ts p r → EndsPredicate r → disjunction_at inside ts ≡ Ok (p, r)
   unfolding disjunction_at
   disjunction_c short short_parts (IsDisjunction.parts {ts} {mid} {r} {p} {ps} i b) q =
       rw (
         conjunction_c short i (repeated_follow (tokens.Word w.Or) (IsConjunction IsInner) EndsConjunction or_ends b q.conjunction),
-        unlimited_c (tokens.Word w.Or) (is_word w.Or) (IsConjunction IsInner) (conjunction_at inner) EndsConjunction refl or_ends (λ _ _ _ j k. conjunction_c short j k) short_parts b q.conjunction q.no_or,
+        unlimited_c (tokens.Word w.Or) (is_word w.Or) any_front (IsConjunction IsInner) (conjunction_at inside) EndsConjunction refl or_ends (λ _ _ _ j k. conjunction_c short j k) short_parts b q.conjunction q.no_or,
       ) refl
 
 -- ---- what a predicate takes
@@ -119,13 +119,19 @@ unfolding IsPredicate
 predicate_short zero ts r p i = absurd i
 predicate_short (suc n) ts r p i = disjunction_short (IsPredicate n) (predicate_short n) ts r p i
 
-pub predicate_c : (n : ℕ) (ts r : List Token) (p : PredicateForm) → IsPredicate n ts p r → EndsPredicate r → predicate_at n ts ≡ Some (p, r)
+-- Where a predicate derives, a level of brackets is left.
+level_left : (n : ℕ) (ts r : List Token) (p : PredicateForm) → IsPredicate n ts p r → has_level n ≡ true
+unfolding IsPredicate has_level
+level_left zero ts r p i = absurd i
+level_left (suc n) ts r p i = refl
+
+pub predicate_c : (n : ℕ) (ts r : List Token) (p : PredicateForm) → IsPredicate n ts p r → EndsPredicate r → predicate_at n ts ≡ Ok (p, r)
 unfolding IsPredicate predicate_at
 predicate_c zero ts r p i q = absurd i
 predicate_c (suc n) ts r p i q =
-    let inner_c : IsComplete (IsPredicate n) (predicate_at n) = λ us v x j. predicate_c n us (tokens.Sign s.Close ∷ v) x j (close_ends v) in
-    disjunction_c (IsPredicate n) (predicate_at n) inner_c (negation_short (IsPredicate n) (predicate_short n)) (conjunction_short (IsPredicate n) (predicate_short n)) i q
+    let inside_c : IsComplete (IsPredicate n) (inside_of n) = λ us v x j. record { has_level = level_left n us (tokens.Sign s.Close ∷ v) x j; read = predicate_c n us (tokens.Sign s.Close ∷ v) x j (close_ends v) } in
+    disjunction_c (IsPredicate n) (inside_of n) inside_c (negation_short (IsPredicate n) (predicate_short n)) (conjunction_short (IsPredicate n) (predicate_short n)) i q
 
 -- A predicate that derives before a closing bracket is read, as in the brackets of a FILTER.
-pub bracketed_c : (n : ℕ) → IsComplete (IsPredicate n) (predicate_at n)
-bracketed_c n ts r p i = predicate_c n ts (tokens.Sign s.Close ∷ r) p i (close_ends r)
+pub bracketed_c : (n : ℕ) → IsComplete (IsPredicate n) (inside_of n)
+bracketed_c n ts r p i = record { has_level = level_left n ts (tokens.Sign s.Close ∷ r) p i; read = predicate_c n ts (tokens.Sign s.Close ∷ r) p i (close_ends r) }

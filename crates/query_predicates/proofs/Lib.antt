@@ -4,4 +4,4 @@ pub mod CompletePredicates
 pub mod SoundExpressions
 pub mod SoundAtoms
 pub mod SoundPredicates
-pub mod Levels
+pub mod LocalPredicates

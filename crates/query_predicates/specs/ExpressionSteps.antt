@@ -1,29 +1,49 @@
 -- What the functions of expressions read in front of tokens, one definition for each function, as it computes it.
--- What tokens derive is said in Predicates. Where a FILTER may stand, inner reads the predicate in its brackets.
-use Rattle.std.specs.Prelude.{Some, None}
+-- What tokens derive is said in Predicates. Where a FILTER may stand, inside is what may stand in its brackets.
+use Rattle.std.specs.Prelude.{Bool, true, false, cond, List, [], ◌∷◌, Ok}
+use Rattle.query_tokens.specs.declared.token.Token.{Token}
+use Rattle.query_tokens.specs.declared.token.Token.TheVariants as tokens
 use Rattle.query_tokens.specs.declared.token.Word.TheVariants as w
 use Rattle.query_tokens.specs.declared.token.Sign.TheVariants as s
-use Rattle.query_tokens.specs.Options.{◌>>=◌, choose}
+use Rattle.query_tokens.specs.Options.{choose}
 use Rattle.query_tree.specs.Syntax.{ExpressionForm, FunctionForm, PredicateForm, over_all, over_filtered}
 use Rattle.query_leaves.specs.Fronts.{is_word, is_sign, after}
-use Rattle.query_leaves.specs.Steps.{Reader, name_at}
+use Rattle.query_leaves.specs.Steps.{◌>>=◌, Reader, over, expected, name_at}
 use Rattle.query_leaves.specs.LeafSteps.{aggregate_at, arguments_at}
 
--- The bracketed predicate behind FILTER.
-unfoldable pub filter_at : Reader PredicateForm → Reader PredicateForm
-filter_at inner ts = choose (after (is_sign s.Open) ts) None (λ a. choose (after (is_word w.Where) a) None
-    (λ b. inner b >>= λ p. choose (after (is_sign s.Close) p.1) None (λ rest. Some (p.0, rest))))
+-- What may stand in brackets: whether a level of them is left, and what reads the predicate there.
+pub record Inside : Type 0 where
+  pub has_level : Bool
+  pub read : Reader PredicateForm
+
+-- The bracketed predicate behind FILTER. The levels are counted at the bracket.
+unfoldable pub filter_at : Inside → Reader PredicateForm
+filter_at inside ts = expected (after (is_sign s.Open)) ts >>= λ a. cond inside.has_level
+    (expected (after (is_word w.Where)) a >>= λ b. inside.read b >>= λ p. expected (after (is_sign s.Close)) p.1 >>= λ rest. Ok (p.0, rest))
+    (over a)
 
 -- A set function, and the FILTER behind it, where there is one.
-unfoldable pub function_at : Reader PredicateForm → Reader FunctionForm
-function_at inner ts = aggregate_at ts >>= λ f. choose (after (is_word w.Filter) f.1)
-    (Some (over_all f.0, f.1))
-    (λ a. filter_at inner a >>= λ p. Some (over_filtered f.0 p.0, p.1))
+unfoldable pub function_at : Inside → Reader FunctionForm
+function_at inside ts = aggregate_at ts >>= λ f. choose (after (is_word w.Filter) f.1)
+    (Ok (over_all f.0, f.1))
+    (λ a. filter_at inside a >>= λ p. Ok (over_filtered f.0 p.0, p.1))
 
 -- An expression.
-unfoldable pub expression_at : Reader PredicateForm → Reader ExpressionForm
-expression_at inner ts = choose (name_at ts)
+unfoldable pub expression_at : Inside → Reader ExpressionForm
+expression_at inside ts = choose (name_at ts)
     (choose (after (is_word w.Grouping) ts)
-    (function_at inner ts >>= λ f. Some (ExpressionForm.function f.0, f.1))
-    (λ a. arguments_at a >>= λ ns. Some (ExpressionForm.grouping ns.0, ns.1)))
-    (λ n. Some (ExpressionForm.name n.0, n.1))
+    (function_at inside ts >>= λ f. Ok (ExpressionForm.function f.0, f.1))
+    (λ a. arguments_at a >>= λ ns. Ok (ExpressionForm.grouping ns.0, ns.1)))
+    (λ n. Ok (ExpressionForm.name n.0, n.1))
+
+-- Whether an expression begins in front of tokens: a name, GROUPING, or the word of a set function.
+unfoldable pub begins_expression : List Token → Bool
+begins_expression [] = false
+begins_expression (tokens.Name n ∷ ts) = true
+begins_expression (tokens.Word w.Grouping ∷ ts) = true
+begins_expression (tokens.Word w.Count ∷ ts) = true
+begins_expression (tokens.Word w.Sum ∷ ts) = true
+begins_expression (tokens.Word w.Min ∷ ts) = true
+begins_expression (tokens.Word w.Max ∷ ts) = true
+begins_expression (tokens.Word w.Avg ∷ ts) = true
+begins_expression (x ∷ ts) = false

@@ -33,7 +33,7 @@ pub(crate) fn member(
 /// The atom that an operand alone is: a bare name. Anything else asks for more than these tokens.
 #[tactic(auto, unfolding(crate::specs::AtomSteps::column_of))]
 pub(crate) fn column(operand: Operand, tokens: &[Token]) -> Result<Predicate, GrammarFault>
-    ensures { Gives predicate_form result (column_of (operand_form operand)) }
+    ensures { Gives predicate_form result (column_of (operand_form operand) tokens.now) }
 {
     match operand {
         Operand::Expression(Expression::Name(name)) => Ok(Predicate::Column(name)),

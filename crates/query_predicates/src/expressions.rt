@@ -1,12 +1,18 @@
 //! Where expressions begin.
 
+ghost use Rattle.std.specs.Prelude.{◌≡◌};
+ghost use Rattle.query_predicates.specs.ExpressionSteps.{begins_expression};
+
 use query_tokens::{Token, Word};
 
 /// Whether an expression begins in front of these tokens: a name, GROUPING, or the word of a set
 /// function.
 ///
 /// Example: it is true of the tokens of `shop` and of `SUM(cents)`, and false of those of `5`.
-pub fn begins_expression(tokens: &[Token]) -> bool {
+#[tactic(auto, unfolding(crate::specs::ExpressionSteps::begins_expression))]
+pub fn begins_expression(tokens: &[Token]) -> bool
+    ensures { result ≡ begins_expression tokens.now }
+{
     matches!(
         tokens,
         [Token::Name(_), ..]

@@ -9,12 +9,12 @@ ghost use Rattle.query_derivation.specs.Predicates.{conjunction_of, disjunction_
 ghost use Rattle.query_leaves.specs.Steps.{Gives, more};
 ghost use Rattle.query_predicates.specs.ExpressionSteps.{filter_at, function_at, expression_at};
 ghost use Rattle.query_predicates.specs.AtomSteps.{operand_at, between_after, negated_after, atom_after, tested_atom_at};
-ghost use Rattle.query_predicates.specs.PredicateSteps.{test_at, negation_at, conjunction_at, predicate_at};
+ghost use Rattle.query_predicates.specs.PredicateSteps.{test_at, negation_at, conjunction_at, predicate_at, any_front, inside_of};
 
 use crate::atoms::{column, member, null_or_truth_test, tested};
 use query_leaves::{
     GrammarFault, after_sign, after_word, aggregate, expect_sign, expect_word, grouping_names,
-    keep, literal, name, operator,
+    keep, literal, name, operator, over_limit,
 };
 use query_tokens::{Sign, Token, Word};
 use query_tree::{Expression, Operand, Predicate, SetFunction};
@@ -52,18 +52,18 @@ fn or_of(first: Predicate, mut others: Vec<Predicate>) -> Result<Predicate, Gram
 
 /// The bracketed predicate behind FILTER.
 #[cycle(predicate)]
-#[tactic(auto, unfolding(crate::specs::ExpressionSteps::filter_at))]
+#[tactic(auto, unfolding(crate::specs::ExpressionSteps::filter_at, crate::specs::PredicateSteps::has_level))]
 fn filter(
     alloc: Global,
     tokens: &[Token],
     levels: u32,
 ) -> Result<(Predicate, &[Token]), GrammarFault>
-    ensures exact { Gives (λ x. (predicate_form x.0, x.1.now)) result (filter_at (predicate_at levels) tokens.now) }
+    ensures exact { Gives (λ x. (predicate_form x.0, x.1.now)) result (filter_at (inside_of levels) tokens.now) }
     ensures shorter { IfOk result (λ x. length x.1.now < length tokens.now) }
 {
     let rest = expect_sign(tokens, Sign::Open)?;
     if levels == 0 {
-        return Err(GrammarFault::OverLimit);
+        return Err(over_limit(rest));
     }
     let rest = expect_word(rest, Word::Where)?;
     let (inner, rest) = predicate(alloc, rest, levels)?;
@@ -78,7 +78,7 @@ fn set_function(
     tokens: &[Token],
     levels: u32,
 ) -> Result<(SetFunction, &[Token]), GrammarFault>
-    ensures exact { Gives (λ x. (function_form x.0, x.1.now)) result (function_at (predicate_at levels) tokens.now) }
+    ensures exact { Gives (λ x. (function_form x.0, x.1.now)) result (function_at (inside_of levels) tokens.now) }
     ensures shorter { IfOk result (λ x. length x.1.now < length tokens.now) }
 {
     let (aggregate, rest) = aggregate(tokens)?;
@@ -99,7 +99,7 @@ fn set_function(
 /// `levels` levels of brackets; with 0 there may be no FILTER.
 ///
 /// Example: of the tokens of `SUM(cents) FILTER (WHERE member) AS s` and 1 it answers the set
-/// function with its FILTER, and the tokens of `AS s`; with 0 it answers `OverLimit`.
+/// function with its FILTER, and the tokens of `AS s`; with 0 it answers `OverLimit(5)`, behind the bracket of the FILTER.
 ///
 /// # Errors
 ///
@@ -112,7 +112,7 @@ pub fn expression(
     tokens: &[Token],
     levels: u32,
 ) -> Result<(Expression, &[Token]), GrammarFault>
-    ensures exact { Gives (λ x. (expression_form x.0, x.1.now)) result (expression_at (predicate_at levels) tokens.now) }
+    ensures exact { Gives (λ x. (expression_form x.0, x.1.now)) result (expression_at (inside_of levels) tokens.now) }
     ensures shorter { IfOk result (λ x. length x.1.now < length tokens.now) }
 {
     if let Some((name, rest)) = name(tokens) {
@@ -135,7 +135,7 @@ fn operand(
     tokens: &[Token],
     levels: u32,
 ) -> Result<(Operand, &[Token]), GrammarFault>
-    ensures exact { Gives (λ x. (operand_form x.0, x.1.now)) result (operand_at (predicate_at levels) tokens.now) }
+    ensures exact { Gives (λ x. (operand_form x.0, x.1.now)) result (operand_at (inside_of levels) tokens.now) }
     ensures shorter { IfOk result (λ x. length x.1.now < length tokens.now) }
 {
     if let Some((value, rest)) = literal(tokens)? {
@@ -155,7 +155,7 @@ fn between(
     tokens: &[Token],
     levels: u32,
 ) -> Result<(Predicate, &[Token]), GrammarFault>
-    ensures exact { Gives (λ x. (predicate_form x.0, x.1.now)) result (between_after (predicate_at levels) (operand_form first) not tokens.now) }
+    ensures exact { Gives (λ x. (predicate_form x.0, x.1.now)) result (between_after (inside_of levels) (operand_form first) not tokens.now) }
     ensures shorter { IfOk result (λ x. length x.1.now < length tokens.now) }
 {
     let (first, (low, rest)) = keep(first, operand(alloc, tokens, levels))?;
@@ -179,7 +179,7 @@ fn negated(
     tokens: &[Token],
     levels: u32,
 ) -> Result<(Predicate, &[Token]), GrammarFault>
-    ensures exact { Gives (λ x. (predicate_form x.0, x.1.now)) result (negated_after (predicate_at levels) (operand_form first) tokens.now) }
+    ensures exact { Gives (λ x. (predicate_form x.0, x.1.now)) result (negated_after (inside_of levels) (operand_form first) tokens.now) }
     ensures shorter { IfOk result (λ x. length x.1.now < length tokens.now) }
 {
     if let Some(rest) = after_word(tokens, Word::In) {
@@ -198,7 +198,7 @@ fn atom(
     tokens: &[Token],
     levels: u32,
 ) -> Result<(Predicate, &[Token]), GrammarFault>
-    ensures exact { Gives (λ x. (predicate_form x.0, x.1.now)) result (atom_after (predicate_at levels) (operand_form first) tokens.now) }
+    ensures exact { Gives (λ x. (predicate_form x.0, x.1.now)) result (atom_after (inside_of levels) (operand_form first) tokens.now) }
     ensures shorter { IfOk result (λ x. length x.1.now ≤ length tokens.now) }
 {
     if let Some((op, rest)) = operator(tokens) {
@@ -225,7 +225,7 @@ fn tested_atom(
     tokens: &[Token],
     levels: u32,
 ) -> Result<(Predicate, &[Token]), GrammarFault>
-    ensures exact { Gives (λ x. (predicate_form x.0, x.1.now)) result (tested_atom_at (predicate_at levels) tokens.now) }
+    ensures exact { Gives (λ x. (predicate_form x.0, x.1.now)) result (tested_atom_at (inside_of levels) tokens.now) }
     ensures shorter { IfOk result (λ x. length x.1.now < length tokens.now) }
 {
     let (first, rest) = operand(alloc, tokens, levels)?;
@@ -242,7 +242,7 @@ fn tested_atom(
 #[cycle(predicate)]
 #[tactic(auto, unfolding(crate::specs::PredicateSteps::test_at))]
 fn test(alloc: Global, tokens: &[Token], levels: u32) -> Result<(Predicate, &[Token]), GrammarFault>
-    ensures exact { Gives (λ x. (predicate_form x.0, x.1.now)) result (test_at (predicate_at levels) tokens.now) }
+    ensures exact { Gives (λ x. (predicate_form x.0, x.1.now)) result (test_at (inside_of levels) tokens.now) }
     ensures shorter { IfOk result (λ x. length x.1.now < length tokens.now) }
 {
     let Some(rest) = after_sign(tokens, Sign::Open) else {
@@ -261,7 +261,7 @@ fn negation(
     tokens: &[Token],
     levels: u32,
 ) -> Result<(Predicate, &[Token]), GrammarFault>
-    ensures exact { Gives (λ x. (predicate_form x.0, x.1.now)) result (negation_at (predicate_at levels) tokens.now) }
+    ensures exact { Gives (λ x. (predicate_form x.0, x.1.now)) result (negation_at (inside_of levels) tokens.now) }
     ensures shorter { IfOk result (λ x. length x.1.now < length tokens.now) }
 {
     let Some(rest) = after_word(tokens, Word::Not) else {
@@ -278,7 +278,7 @@ fn more_negations(
     tokens: &[Token],
     levels: u32,
 ) -> Result<(Vec<Predicate>, &[Token]), GrammarFault>
-    ensures exact { Gives (λ x. (map predicate_form x.0.items, x.1.now)) result (more (is_word And) (negation_at (predicate_at levels)) (length tokens.now) tokens.now) }
+    ensures exact { Gives (λ x. (map predicate_form x.0.items, x.1.now)) result (more (is_word And) any_front (negation_at (inside_of levels)) (length tokens.now) tokens.now) }
     ensures shorter { IfOk result (λ x. length x.1.now ≤ length tokens.now) }
 {
     let mut parts = Vec::new(alloc);
@@ -299,7 +299,7 @@ fn conjunction(
     tokens: &[Token],
     levels: u32,
 ) -> Result<(Predicate, &[Token]), GrammarFault>
-    ensures exact { Gives (λ x. (predicate_form x.0, x.1.now)) result (conjunction_at (predicate_at levels) tokens.now) }
+    ensures exact { Gives (λ x. (predicate_form x.0, x.1.now)) result (conjunction_at (inside_of levels) tokens.now) }
     ensures shorter { IfOk result (λ x. length x.1.now < length tokens.now) }
 {
     let (first, rest) = negation(alloc, tokens, levels)?;
@@ -314,7 +314,7 @@ fn more_conjunctions(
     tokens: &[Token],
     levels: u32,
 ) -> Result<(Vec<Predicate>, &[Token]), GrammarFault>
-    ensures exact { Gives (λ x. (map predicate_form x.0.items, x.1.now)) result (more (is_word Or) (conjunction_at (predicate_at levels)) (length tokens.now) tokens.now) }
+    ensures exact { Gives (λ x. (map predicate_form x.0.items, x.1.now)) result (more (is_word Or) any_front (conjunction_at (inside_of levels)) (length tokens.now) tokens.now) }
     ensures shorter { IfOk result (λ x. length x.1.now ≤ length tokens.now) }
 {
     let mut parts = Vec::new(alloc);
@@ -331,7 +331,7 @@ fn more_conjunctions(
 /// ISO/IEC 9075-2 `<search condition>`.
 ///
 /// Example: of the tokens of `a AND b OR c GROUP BY d` and 1 it answers the OR of `a AND b` and `c`,
-/// and the tokens of `GROUP BY d`; of those of `(a)` it answers `OverLimit` with 1, and the bare name
+/// and the tokens of `GROUP BY d`; of those of `(a)` it answers `OverLimit(2)` with 1, and the bare name
 /// `a` with 2.
 ///
 /// # Errors
@@ -349,7 +349,7 @@ pub fn predicate(
     ensures shorter { IfOk result (λ x. length x.1.now < length tokens.now) }
 {
     if levels == 0 {
-        return Err(GrammarFault::OverLimit);
+        return Err(over_limit(tokens));
     }
     let (first, rest) = conjunction(alloc, tokens, levels - 1)?;
     let (first, (others, rest)) = keep(first, more_conjunctions(alloc, rest, levels - 1))?;

@@ -4,6 +4,7 @@ use Rattle.query_tree.specs.Syntax.{element_form}
 use Rattle.query_leaves.specs.Fronts.{is_sign}
 use Rattle.query_leaves.specs.Steps.{with_front, more}
 use Rattle.query_leaves.proofs.More.{Unread}
+use Rattle.query_predicates.specs.PredicateSteps.{any_front}
 use Rattle.query_grammar.specs.GroupSteps.{group_at}
 use Rattle.query_grammar.proofs.groups.+group.Given as goal
 
@@ -19,7 +20,7 @@ decreases-more_groups l = 4 * l.levels + 2
 abbrev pub invariant-more_groups-loop-behind : goal.invariant-more_groups-loop-behind
 invariant-more_groups-loop-behind l = record {
   shorter : length l.rest ≤ length l.fn.tokens;
-  unread : Unread (is_sign Comma) (group_at l.levels) (map element_form l.all.items) l.rest (with_front (element_form l.fn.first ∷ []) (more (is_sign Comma) (group_at l.levels) (length l.fn.tokens) l.fn.tokens));
+  unread : Unread (is_sign Comma) any_front (group_at l.levels) (map element_form l.all.items) l.rest (with_front (element_form l.fn.first ∷ []) (more (is_sign Comma) any_front (group_at l.levels) (length l.fn.tokens) l.fn.tokens));
 }
 
 abbrev pub decreases-more_groups-loop-behind : goal.decreases-more_groups-loop-behind
