@@ -1,18 +1,63 @@
 -- The definitions, computed on examples.
-use Rattle.std.proofs.Common.{[], refl, arith, codes}
+use Rattle.std.proofs.Common.{List, [], ◌∷◌, None, false, refl, arith, codes}
 use Rattle.query_fault.specs.declared.QueryFault.TheVariants as faults
 use Rattle.query_tokens.specs.Spelling as spelling
+use Rattle.query_tokens.specs.declared.token.Token.{Token}
+use Rattle.query_tokens.specs.declared.token.Token.TheVariants as tokens
+use Rattle.query_tokens.specs.declared.token.Word.TheVariants as w
+use Rattle.query_tokens.specs.declared.token.Sign.TheVariants as s
+use Rattle.query_tree.specs.declared.expression.Aggregate.TheVariants.{CountRows}
+use Rattle.query_tree.specs.Syntax.{ExpressionForm, TreeForm, over_all}
+use Rattle.query_derivation.specs.Leaves.{IsAggregate, IsRepeated}
+use Rattle.query_derivation.specs.Predicates.{IsFunction, IsExpression}
+use Rattle.query_derivation.specs.Grammar.{IsItem, IsWhere, IsGroupBy, IsHaving, IsOrderBy, IsQuery, Derives}
+use Rattle.query_derivation.specs.Prefixes.{BeginsWithin, IsUnexpectedWithin}
 use Rattle.query.specs.Refusal.{IsRefusalOf}
 
 -- ---- what a fault says of a text
 
+-- the tokens COUNT ( * ) FROM lines, which end a query
+count_of_lines : List Token
+count_of_lines = tokens.Word w.Count ∷ tokens.Sign s.Open ∷ tokens.Sign s.Star ∷ tokens.Sign s.Close ∷ tokens.Word w.From ∷ tokens.Name (codes "lines") ∷ []
+
+-- SELECT begins a query
+select_begins : BeginsWithin (tokens.Word w.Select ∷ [])
+unfolding count_of_lines
+select_begins = record {
+  rest = count_of_lines;
+  tree = record { items = record { expression = ExpressionForm.function (over_all CountRows); alias = None } ∷ []; where_condition = None; distinct_sets = false; groups = []; having_condition = None; keys = [] };
+  derived = IsQuery.query (IsItem.plain (IsExpression.function (IsFunction.plain IsAggregate.count_rows))) IsRepeated.none (omega arith) IsWhere.none IsGroupBy.none IsHaving.none IsOrderBy.none;
+}
+
+-- FROM begins none
+from_derives_none : {ts : List Token} {q : TreeForm} → Derives (tokens.Word w.From ∷ ts) q → ⊥
+from_derives_none d = elim d [ ]
+
+from_begins_none : BeginsWithin (tokens.Word w.From ∷ []) → ⊥
+from_begins_none b = from_derives_none b.derived
+
+-- no tokens are no query
+nothing_derives_none : {q : TreeForm} → Derives [] q → ⊥
+nothing_derives_none d = elim d [ ]
+
+-- of no tokens the end is not expected, and of FROM the first token
+end_unexpected : IsUnexpectedWithin [] 0
+end_unexpected = record { inside = omega arith; continues_none = λ h b. absurd (omega arith); derives_none = λ q d. nothing_derives_none d }
+
+from_unexpected : IsUnexpectedWithin (tokens.Word w.From ∷ []) 0
+from_unexpected = record { inside = omega arith; continues_none = λ h b. from_begins_none b; derives_none = λ q d. from_derives_none d }
+
+-- SELECT is no first token of these that is not expected
+select_expected : IsUnexpectedWithin (tokens.Word w.Select ∷ []) 0 → ⊥
+select_expected u = u.continues_none (omega arith) select_begins
+
 -- the empty text ends at byte 0
 at_end : IsRefusalOf [] (faults.Unexpected 0)
-at_end = record { tokens = []; starts = []; spelled = spelling.end; place = (0, omega arith, refl) }
+at_end = record { tokens = []; starts = []; spelled = spelling.end; place = 0; begins = refl; unexpected = end_unexpected }
 
 -- a space spells no token, and ends at byte 1
 behind_space : IsRefusalOf (codes " ") (faults.Unexpected 1)
-behind_space = record { tokens = []; starts = []; spelled = spelling.space refl spelling.end; place = (0, omega arith, refl) }
+behind_space = record { tokens = []; starts = []; spelled = spelling.space refl spelling.end; place = 0; begins = refl; unexpected = end_unexpected }
 
 -- a text of no token may be of too much, as far as its tokens say
 of_too_much : IsRefusalOf [] faults.OverLimit

@@ -1,3 +1,4 @@
 pub mod Examples
 mod Again
 mod Unique
+mod Places

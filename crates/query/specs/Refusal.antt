@@ -1,9 +1,10 @@
 -- What a fault says of a text that is read.
-use Rattle.std.specs.Prelude.{◌≤◌, ⊤, ℕ, List, [], ◌∷◌, ◌++◌, length, Contains}
+use Rattle.std.specs.Prelude.{◌≡◌, ◌≤◌, ⊤, ℕ, Some, List, [], ◌∷◌, ◌++◌, length, slice_get}
 use Rattle.query_fault.specs.declared.QueryFault.{QueryFault}
 use Rattle.query_fault.specs.declared.QueryFault.TheVariants as faults
 use Rattle.query_tokens.specs.declared.token.Token.{Token}
 use Rattle.query_tokens.specs.Spelling.{Spells, StopsAt}
+use Rattle.query_derivation.specs.Prefixes.{IsUnexpectedWithin}
 
 -- A text spells tokens.
 pub record SpellsTokens (text : List ℕ) : Type 0 where
@@ -11,19 +12,22 @@ pub record SpellsTokens (text : List ℕ) : Type 0 where
   pub starts : List ℕ
   pub spelled : Spells text tokens starts
 
--- A text spells tokens, and one of them begins at this byte, or the text ends there.
-pub record IsTokenOrEnd (text : List ℕ) (byte : ℕ) : Type 0 where
+-- A text spells tokens, of which one begins at this byte, or the text ends there, and within the limits that token, or the
+-- end, continues no query.
+pub record IsUnexpectedAt (text : List ℕ) (byte : ℕ) : Type 0 where
   pub tokens : List Token
   pub starts : List ℕ
   pub spelled : Spells text tokens starts
-  pub place : Contains (starts ++ length text ∷ []) byte
+  pub place : ℕ
+  pub begins : slice_get (starts ++ length text ∷ []) place ≡ Some byte
+  pub unexpected : IsUnexpectedWithin tokens place
 
--- A fault of a text says: no token begins at a byte, or the text spells tokens and one of them, or the end, is not
--- expected, or it is longer than 65,536 bytes or spells tokens of too much. Want of memory says nothing of the text.
--- No other fault is one of a text.
+-- A fault of a text says: no token begins at a byte, or the text spells tokens and one of them, or the end, continues no
+-- query within the limits, or it is longer than 65,536 bytes or spells tokens of too much. Want of memory says nothing of
+-- the text. No other fault is one of a text.
 abbrev pub IsRefusalOf : List ℕ → QueryFault → Type 0
 IsRefusalOf text (faults.NoToken byte) = StopsAt text byte
-IsRefusalOf text (faults.Unexpected byte) = IsTokenOrEnd text byte
+IsRefusalOf text (faults.Unexpected byte) = IsUnexpectedAt text byte
 IsRefusalOf text (faults.UnknownColumn name) = ⊥
 IsRefusalOf text faults.TypesDisagree = ⊥
 IsRefusalOf text (faults.NotGrouped name) = ⊥

@@ -1,8 +1,7 @@
 //! Reading a query.
 
-ghost use Rattle.std.specs.Prelude.{◌≡◌, ◌<◌, [], ◌∷◌, ◌++◌, ℕ, Contains, Err, IfErr, IfOk, MatchResult, length};
-ghost use Rattle.query_fault.specs.declared.QueryFault.TheVariants.{NoToken, OutOfMemory, OverLimit};
-ghost use Rattle.query_tokens.specs.Spelling.{StopsAt};
+ghost use Rattle.std.specs.Prelude.{◌≡◌, ◌<◌, ◌-◌, [], ◌∷◌, ◌++◌, ℕ, Err, IfErr, IfOk, MatchResult, Some, length, slice_get, vec_len};
+ghost use Rattle.query_fault.specs.declared.QueryFault.TheVariants.{OutOfMemory, OverLimit};
 ghost use Rattle.query_tree.specs.Syntax.{TreeForm};
 ghost use Rattle.query_derivation.specs.Derivation.{Derives};
 ghost use Rattle.query_plan.specs.Form.{form_of};
@@ -30,13 +29,12 @@ const MOST_BYTES: usize = 65_536;
 /// of the first token that does not continue a query, or the length of the text where its end does
 /// not, and `OverLimit` comes at the first token that is too much. `OutOfMemory` says nothing of the
 /// text.
+#[tactic(auto, using(crate::proofs::Places::unexpected_at))]
 pub fn parse(alloc: Global, text: &str) -> Result<Query, QueryFault>
     // What is read is derived.
     ensures derived { IfOk result (λ query. Derives text.now (form_of query)) }
     // What is derived is read, and no other, unless memory runs out.
     ensures read { (q : TreeForm) → Derives text.now q → MatchResult result (λ query. form_of query ≡ q) (λ fault. fault ≡ OutOfMemory) }
-    // No token stands at the byte of such a fault.
-    ensures no_token { (byte : ℕ) → result ≡ Err (NoToken byte) → StopsAt text.now byte }
     // A text that is too long has no other fault.
     ensures too_long { 65536 < length text.now → result ≡ Err OverLimit }
     // What each fault says of the text.
@@ -56,14 +54,15 @@ pub fn parse(alloc: Global, text: &str) -> Result<Query, QueryFault>
             let byte = start_of_last(&tokens, left, text.len());
             Err(QueryFault::Unexpected(byte))
         }
-        Err(GrammarFault::OverLimit) => Err(QueryFault::OverLimit),
+        Err(GrammarFault::OverLimit(_)) => Err(QueryFault::OverLimit),
         Err(GrammarFault::OutOfMemory) => Err(QueryFault::OutOfMemory),
     }
 }
 
 /// The byte where the first of the last so many tokens begins, or the end where there is none.
+#[tactic(auto, using(crate::proofs::Places::place_before, crate::proofs::Places::place_last))]
 fn start_of_last(tokens: &Tokens, count: usize, end: usize) -> usize
-    ensures { Contains (tokens.now.starts.items ++ end ∷ []) result }
+    ensures { slice_get (tokens.now.starts.items ++ end ∷ []) (vec_len tokens.now.starts - count) ≡ Some result }
 {
     let place = tokens.starts.len().saturating_sub(count);
     match tokens.starts.get(place) {

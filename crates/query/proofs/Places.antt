@@ -1,0 +1,37 @@
+-- Where tokens begin.
+use Rattle.std.proofs.Common.{◌≡◌, ℕ, zero, suc, List, [], ◌∷◌, ◌++◌, Some, ◌-◌, length, refl, sym, ap, subst, arith}
+use Rattle.std.specs.Prelude.{slice_get}
+use Rattle.query_tokens.specs.declared.token.Token.{Token}
+use Rattle.query_tokens.specs.Spelling.{SpellsFrom, Spells}
+use Rattle.query_derivation.specs.Prefixes.{IsUnexpectedWithin}
+use Rattle.query.specs.Refusal.{IsUnexpectedAt}
+
+-- Each token begins at one byte.
+pub starts_of_all : {n : ℕ} {bs starts : List ℕ} {ks : List Token} → SpellsFrom n bs ks starts → length starts ≡ length ks
+starts_of_all SpellsFrom.end = refl
+starts_of_all (SpellsFrom.space e s) = starts_of_all s
+starts_of_all (SpellsFrom.token t s) = ap suc (starts_of_all s)
+
+-- A byte before the last.
+pub place_before : (xs : List ℕ) (last place byte : ℕ) → slice_get xs place ≡ Some byte → slice_get (xs ++ last ∷ []) place ≡ Some byte
+place_before [] last place byte e = absurd cc
+place_before (x ∷ xs) last zero byte e = e
+place_before (x ∷ xs) last (suc place) byte e = place_before xs last place byte e
+
+-- The last byte.
+pub place_last : (xs : List ℕ) (last place : ℕ) → place ≡ length xs → slice_get (xs ++ last ∷ []) place ≡ Some last
+place_last [] last zero e = refl
+place_last [] last (suc place) e = absurd (omega arith)
+place_last (x ∷ xs) last zero e = absurd (omega arith)
+place_last (x ∷ xs) last (suc place) e = place_last xs last place (omega arith)
+
+-- A token, or the end, that continues no query, where it begins.
+pub unexpected_at : (text starts : List ℕ) (ks : List Token) (left byte : ℕ) → Spells text ks starts → IsUnexpectedWithin ks (length ks - left) → slice_get (starts ++ length text ∷ []) (length starts - left) ≡ Some byte → IsUnexpectedAt text byte
+unexpected_at text starts ks left byte s u e = record {
+  tokens = ks;
+  starts = starts;
+  spelled = s;
+  place = length starts - left;
+  begins = e;
+  unexpected = subst (λ (n : ℕ). IsUnexpectedWithin ks (n - left)) (sym (starts_of_all s)) u;
+}
