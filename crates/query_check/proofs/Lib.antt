@@ -1,6 +1,7 @@
 pub mod Examples
 pub mod FilterLemmas
 pub mod Limits
+pub mod Rows
 pub mod Headers
 pub mod TypedLemmas
 pub mod WholeLemmas

@@ -25,10 +25,9 @@ use Rattle.query_resolution.specs.Columns.{column_kind, place_of}
 use Rattle.query_resolution.specs.Sets.{expanded, grouping_names, grouping_places}
 use Rattle.query_resolution.specs.Functions.{functions_of}
 use Rattle.query_check.specs.Typing.{HasKind, IsColumn, IsTypedAggregate, IsTypedName, IsTypedOperand, MayStand, aggregate_kind, key_expression, literal_kind, operand_kind}
-use Rattle.query_check.specs.Faults.{Answers, first_fault, column_fault, name_fault, is_truth, expression_fault, operand_fault, same_kind, agreement_fault, between_agreement, member_agreement, predicate_fault, parts_fault, clause_fault, header_fault, limit_fault, group_fault, records_fault, select_fault, rows_fault, clauses_fault, query_fault}
+use Rattle.query_check.specs.Faults.{Answers, first_fault, column_fault, name_fault, is_truth, expression_fault, operand_fault, same_kind, agreement_fault, between_agreement, member_agreement, predicate_fault, parts_fault, clause_fault, header_fault, limit_fault, names_fault, records_fault, select_fault, rows_fault, clauses_fault, query_fault}
 use Rattle.query_check.specs.Standing.{AreOfTwoKinds, Disagrees, IsAtomIn, Stands, StandsIn, StandsTwice, atoms, operands, parts_atoms}
 use Rattle.query_check.proofs.TypedLemmas.{name_from_none, operand_from_none, same_itself}
-use Rattle.query_check.proofs.WholeLemmas.{all_names}
 use Rattle.query_check.proofs.StandingLemmas.{FiltersStand, column_has_kind, column_stands, either, expression_stands, fails, first_at, is_there, kind_fails, mapped, name_stands, not_truth}
 
 -- ---- operands
@@ -291,8 +290,8 @@ records_stand fields t f h =
     let grouped = grouping_places fields t in
     either (clause_fault fields grouped clause.Where t.where_condition) _ f (Stands fields t f)
     (λ k. clause_stands fields t clause.Where t.where_condition f (λ a at. inl at) k)
-    (λ _ later. either (first_fault (group_fault fields) t.groups) _ f (Stands fields t f)
-    (λ k. let found = first_at (column_fault fields) (grouping_names t) f (sym (all_names fields t.groups) ∙ k) in column_stands fields t found.0 f (inl found.1) found.2)
+    (λ _ later. either (names_fault fields (grouping_names t)) _ f (Stands fields t f)
+    (λ k. let found = first_at (column_fault fields) (grouping_names t) f k in column_stands fields t found.0 f (inl found.1) found.2)
     (λ _ last. let k = over 256 (length (expanded t.groups)) f last in subst (Stands fields t) k.1 (inl k.0))
     later)
     h

@@ -1,8 +1,7 @@
 -- A whole query is typed exactly where it has no fault.
-use Rattle.std.proofs.Common.{◌≡◌, ◌≢◌, ◌∙◌, ℕ, suc, ◌+◌, ◌<◌, ◌≤◌, nat_lt, Bool, true, false, not, ◌||◌, List, [], ◌∷◌, ◌++◌, length, take, map, get_or, Option, Some, None, Result, Ok, Err, OnOk, IfErr, AllPairs, refl, sym, ap, subst, append_assoc, length-append, arith}
+use Rattle.std.proofs.Common.{◌≡◌, ◌≢◌, ◌∙◌, ℕ, suc, ◌+◌, ◌<◌, ◌≤◌, nat_lt, Bool, true, false, not, ◌||◌, List, [], ◌∷◌, ◌++◌, length, take, map, get_or, Option, None, Result, Ok, Err, OnOk, IfErr, AllPairs, refl, sym, ap, subst, append_assoc, length-append, arith}
 use Rattle.std.specs.Prelude.{is_some}
-use Rattle.std.specs.List.{enumerate_from, flat_map, list_any}
-use Rattle.std.specs.Option.{option_or}
+use Rattle.std.specs.List.{enumerate_from, list_any}
 use Rattle.std.specs.Str.{bytes_eq}
 use Rattle.std.proofs.lemmas.Bool.Decides.{nat_tests}
 use Rattle.std.proofs.lemmas.List.{append-nil, length_push}
@@ -12,27 +11,17 @@ use Rattle.std.proofs.lemmas.Slice.Eq.{bytes_eq-Decides}
 use Rattle.std.proofs.Math.ListN.{get_or-append}
 use Rattle.std.proofs.Math.Seq.{get_or-append_seam, take-append_seam}
 use Rattle.values.specs.Schema.{Field}
-use Rattle.query_tree.specs.Syntax.{ElementForm, ElementForms, ItemForm, KeyForm, TreeForm, set, rollup, cube, sets, no_groups, group}
+use Rattle.query_tree.specs.Syntax.{ItemForm, KeyForm, TreeForm}
 use Rattle.query_print.specs.Canonical.{header_text}
 use Rattle.query_fault.specs.declared.QueryFault.{QueryFault}
 use Rattle.query_fault.specs.declared.QueryFault.TheVariants.{OutOfMemory, OverLimit, RepeatedHeader}
 use Rattle.query_check.specs.declared.scope.Clause.TheVariants as clause
-use Rattle.query_resolution.specs.Columns.{group_names, groups_names, place_of}
+use Rattle.query_resolution.specs.Columns.{place_of}
 use Rattle.query_resolution.specs.Sets.{expanded, grouping_names, grouping_places}
 use Rattle.query_resolution.specs.Functions.{functions_of}
 use Rattle.query_check.specs.Typing.{IsColumn, IsTyped, IsTypedExpression, key_expression}
-use Rattle.query_check.specs.Faults.{Answers, clause_fault, column_fault, expression_fault, first_fault, header_fault, limit_fault, query_fault, names_fault, group_fault, groups_fault, clauses_fault, records_fault, rows_fault, select_fault}
+use Rattle.query_check.specs.Faults.{Answers, clause_fault, column_fault, expression_fault, first_fault, header_fault, limit_fault, query_fault, names_fault, clauses_fault, records_fault, rows_fault, select_fault}
 use Rattle.query_check.proofs.TypedLemmas.{all_from_none, both_none, clause_from_none, expression_from_none, holds, none_from_all, none_from_clause, none_from_expression, none_of_both, passes}
-
--- Of three tests in a row it is the same which two are taken first.
-or_in_a_row : {A : Type 0} (a b c : Option A) → option_or a (option_or b c) ≡ option_or (option_or a b) c
-or_in_a_row None b c = refl
-or_in_a_row (Some x) b c = refl
-
--- The first fault of two lists in a row.
-first_fault_append : {A : Type 0} (f : A → Option QueryFault) (xs ys : List A) → first_fault f (xs ++ ys) ≡ option_or (first_fault f xs) (first_fault f ys)
-first_fault_append f [] ys = refl
-first_fault_append f (x ∷ xs) ys = ap (option_or (f x)) (first_fault_append f xs ys) ∙ or_in_a_row (f x) (first_fault f xs) (first_fault f ys)
 
 -- ---- headers
 
@@ -106,37 +95,6 @@ within most n h = let t = not_true (nat_lt most n) (holds (not (nat_lt most n)) 
 none_within : (most n : ℕ) → n ≤ most → limit_fault most n ≡ None
 none_within most n h = let t : nat_lt most n ≡ false = grind (arith, nat_tests) in rw t refl
 
--- ---- names in GROUP BY
-
--- Names in rows are the names of all rows.
-rows_of_names : (fields : List Field) (units : List (List (List ℕ))) → first_fault (names_fault fields) units ≡ first_fault (column_fault fields) (flat_map (λ unit. unit) units)
-rows_of_names fields [] = refl
-rows_of_names fields (unit ∷ units) = ap (option_or (names_fault fields unit)) (rows_of_names fields units) ∙ sym (first_fault_append (column_fault fields) unit (flat_map (λ unit. unit) units))
-
-mutual
-  -- The fault of an element of GROUP BY is that of its names.
-  group_of_names : (fields : List Field) (g : ElementForm) → group_fault fields g ≡ first_fault (column_fault fields) (group_names g)
-  group_of_names fields (set names) = refl
-  group_of_names fields (rollup units) = rows_of_names fields units
-  group_of_names fields (cube units) = rows_of_names fields units
-  group_of_names fields (sets gs) = groups_of_names fields gs
-
-  -- The fault of elements of GROUPING SETS is that of their names.
-  groups_of_names : (fields : List Field) (gs : ElementForms) → groups_fault fields gs ≡ first_fault (column_fault fields) (groups_names gs)
-  groups_of_names fields no_groups = refl
-  groups_of_names fields (group g gs) =
-      ap (λ o. option_or o (groups_fault fields gs)) (group_of_names fields g)
-      ∙ ap (option_or (first_fault (column_fault fields) (group_names g))) (groups_of_names fields gs)
-      ∙ sym (first_fault_append (column_fault fields) (group_names g) (groups_names gs))
-
--- The faults of GROUP BY are those of its names.
-pub all_names : (fields : List Field) (gs : List ElementForm) → first_fault (group_fault fields) gs ≡ first_fault (column_fault fields) (flat_map group_names gs)
-all_names fields [] = refl
-all_names fields (g ∷ gs) =
-    ap (λ o. option_or o (first_fault (group_fault fields) gs)) (group_of_names fields g)
-    ∙ ap (option_or (first_fault (column_fault fields) (group_names g))) (all_names fields gs)
-    ∙ sym (first_fault_append (column_fault fields) (group_names g) (flat_map group_names gs))
-
 -- ---- the query
 
 -- A query without a fault is typed.
@@ -147,13 +105,13 @@ typed_from_none fields t h =
     let whole = none_of_both (records_fault fields grouped t.where_condition t.groups) _ h in
     let late = none_of_both (rows_fault fields grouped t.items t.having_condition t.keys) _ whole.1 in
     let i = none_of_both (clause_fault fields grouped clause.Where t.where_condition) _ whole.0 in
-    let j = none_of_both (first_fault (group_fault fields) t.groups) _ i.1 in
+    let j = none_of_both (names_fault fields (grouping_names t)) _ i.1 in
     let k = none_of_both (select_fault fields grouped t.items) _ late.0 in
     let l = none_of_both (first_fault (λ i. expression_fault fields grouped clause.Select i.expression) t.items) _ k.0 in
     let m = none_of_both (clause_fault fields grouped clause.Having t.having_condition) _ k.1 in
     record {
       where_condition = clause_from_none fields grouped clause.Where t.where_condition i.0;
-      groups = all_from_none (column_fault fields) (IsColumn fields) (λ n k. holds (is_some (place_of fields n)) _ k) (grouping_names t) (sym (all_names fields t.groups) ∙ j.0);
+      groups = all_from_none (column_fault fields) (IsColumn fields) (λ n k. holds (is_some (place_of fields n)) _ k) (grouping_names t) j.0;
       few_sets = within 256 (length (expanded t.groups)) j.1;
       items = all_from_none (λ (i : ItemForm). expression_fault fields grouped clause.Select i.expression) (λ i. IsTypedExpression fields grouped clause.Select i.expression) (λ i k. expression_from_none fields grouped clause.Select i.expression k) t.items l.0;
       headers_differ = different_from_none [] (map header_text t.items) (λ i j d l m. absurd (omega (arith, m))) l.1;
@@ -169,7 +127,7 @@ none_from_typed fields t h =
     let grouped = grouping_places fields t in
     both_none _ _
     (both_none _ _ (none_from_clause fields grouped clause.Where t.where_condition h.where_condition)
-    (both_none _ _ (all_names fields t.groups ∙ none_from_all (column_fault fields) (IsColumn fields) (λ n k. passes (is_some (place_of fields n)) _ k) (grouping_names t) h.groups)
+    (both_none _ _ (none_from_all (column_fault fields) (IsColumn fields) (λ n k. passes (is_some (place_of fields n)) _ k) (grouping_names t) h.groups)
     (none_within 256 (length (expanded t.groups)) h.few_sets)))
     (both_none _ _
     (both_none _ _

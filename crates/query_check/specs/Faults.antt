@@ -1,6 +1,6 @@
 -- The first fault of a query that is not typed, in the order in which faults are tested.
 use Rattle.std.specs.Prelude.{◌≡◌, ◌≢◌, Result, MatchResult, ℕ, ◌==◌, nat_lt, Bool, true, false, not, Option, Some, None, List, [], ◌∷◌, map, length, take, is_some, if◌then◌else◌}
-use Rattle.std.specs.List.{enumerate_from, list_any}
+use Rattle.std.specs.List.{enumerate_from, flat_map, list_any}
 use Rattle.std.specs.Option.{option_or}
 use Rattle.std.specs.Str.{bytes_eq}
 use Rattle.values.specs.declared.schema.Kind.{Kind}
@@ -9,13 +9,13 @@ use Rattle.values.specs.Schema.{Field}
 use Rattle.query_tree.specs.declared.expression.Aggregate.{Aggregate}
 use Rattle.query_tree.specs.declared.expression.Aggregate.TheVariants as aggregate
 use Rattle.query_tree.specs.declared.predicate.Literal.{Literal}
-use Rattle.query_tree.specs.Syntax.{ExpressionForm, FunctionForm, OperandForm, PredicateForm, PredicateForms, ElementForm, ElementForms, ItemForm, KeyForm, TreeForm, name, grouping, function, over_all, over_filtered, expression, literal, or_of, and_of, not_of, truth_test, compare, between, member, null_test, column, no_parts, part, set, rollup, cube, sets, no_groups, group}
+use Rattle.query_tree.specs.Syntax.{ExpressionForm, FunctionForm, OperandForm, PredicateForm, PredicateForms, ElementForm, ItemForm, KeyForm, TreeForm, name, grouping, function, over_all, over_filtered, expression, literal, or_of, and_of, not_of, truth_test, compare, between, member, null_test, column, no_parts, part}
 use Rattle.query_print.specs.Canonical.{header_text}
 use Rattle.query_fault.specs.declared.QueryFault.{QueryFault}
 use Rattle.query_fault.specs.declared.QueryFault.TheVariants.{UnknownColumn, TypesDisagree, NotGrouped, OverLimit, FunctionNotAllowed, RepeatedHeader, OutOfMemory}
 use Rattle.query_check.specs.declared.scope.Clause.{Clause}
 use Rattle.query_check.specs.declared.scope.Clause.TheVariants as clause
-use Rattle.query_resolution.specs.Columns.{column_kind, place_of}
+use Rattle.query_resolution.specs.Columns.{column_kind, group_names, place_of}
 use Rattle.query_resolution.specs.Sets.{expanded, grouping_places}
 use Rattle.query_resolution.specs.Functions.{functions_of}
 use Rattle.query_check.specs.Typing.{key_expression, literal_kind, operand_kind}
@@ -200,28 +200,15 @@ headers_fault headers = first_fault (λ p. header_fault (take p.0 headers) p.1) 
 abbrev pub limit_fault : ℕ → ℕ → Option QueryFault
 limit_fault most n = fault_unless (not (nat_lt most n)) OverLimit
 
--- The names in a row that are no columns.
+-- The first of some names that is no column.
 abbrev pub names_fault : List Field → List (List ℕ) → Option QueryFault
 names_fault fields names = first_fault (column_fault fields) names
-
-abbrev mutual
-  -- The names in an element of GROUP BY, from left to right.
-  pub group_fault : List Field → ElementForm → Option QueryFault
-  group_fault fields (set names) = names_fault fields names
-  group_fault fields (rollup units) = first_fault (names_fault fields) units
-  group_fault fields (cube units) = first_fault (names_fault fields) units
-  group_fault fields (sets gs) = groups_fault fields gs
-
-  -- Those of the elements of GROUPING SETS.
-  pub groups_fault : List Field → ElementForms → Option QueryFault
-  groups_fault fields no_groups = None
-  groups_fault fields (group g gs) = option_or (group_fault fields g) (groups_fault fields gs)
 
 -- WHERE, then the names in GROUP BY, then the number of its expanded sets.
 unfoldable pub records_fault : List Field → List ℕ → Option PredicateForm → List ElementForm → Option QueryFault
 records_fault fields grouped where_condition groups =
     option_or (clause_fault fields grouped clause.Where where_condition)
-    (option_or (first_fault (group_fault fields) groups)
+    (option_or (names_fault fields (flat_map group_names groups))
     (limit_fault 256 (length (expanded groups))))
 
 -- The items of SELECT, then their headers.

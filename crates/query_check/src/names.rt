@@ -1,9 +1,11 @@
 //! The names in GROUP BY.
 
 ghost use Rattle.std.specs.Prelude.{◌≡◌, map};
+ghost use Rattle.std.specs.List.{flat_map};
 ghost use Rattle.values.specs.Schema.{fields_of};
 ghost use Rattle.query_tree.specs.Syntax.{element_form, units_form};
-ghost use Rattle.query_check.specs.Faults.{Answers, first_fault, group_fault, names_fault};
+ghost use Rattle.query_resolution.specs.Columns.{group_names};
+ghost use Rattle.query_check.specs.Faults.{Answers, names_fault};
 
 use crate::typing::check_column;
 use query_fault::QueryFault;
@@ -22,7 +24,7 @@ fn check_columns(columns: &[Column], names: &[Text]) -> Result<(), QueryFault>
 
 /// Whether columns have the names in some units.
 fn check_units(columns: &[Column], units: &[Vec<Text>]) -> Result<(), QueryFault>
-    ensures fault { Answers result (first_fault (names_fault (fields_of columns.now)) (units_form units.now)) }
+    ensures fault { Answers result (names_fault (fields_of columns.now) (flat_map (λ unit. unit) (units_form units.now))) }
 {
     for unit in units {
         check_columns(columns, unit)?;
@@ -32,7 +34,7 @@ fn check_units(columns: &[Column], units: &[Vec<Text>]) -> Result<(), QueryFault
 
 /// Whether columns have the names in an element of GROUP BY.
 fn check_group(columns: &[Column], group: &GroupingElement) -> Result<(), QueryFault>
-    ensures fault { Answers result (group_fault (fields_of columns.now) (element_form group.now)) }
+    ensures fault { Answers result (names_fault (fields_of columns.now) (group_names (element_form group.now))) }
 {
     match group {
         GroupingElement::Set(names) => check_columns(columns, names),
@@ -49,7 +51,7 @@ fn check_group(columns: &[Column], group: &GroupingElement) -> Result<(), QueryF
 
 /// Whether columns have the names in GROUP BY.
 pub(crate) fn check_groups(columns: &[Column], groups: &[GroupingElement]) -> Result<(), QueryFault>
-    ensures fault { Answers result (first_fault (group_fault (fields_of columns.now)) (map element_form groups.now)) }
+    ensures fault { Answers result (names_fault (fields_of columns.now) (flat_map group_names (map element_form groups.now))) }
 {
     for group in groups {
         check_group(columns, group)?;
