@@ -13,6 +13,7 @@ use Rattle.query_resolution.specs.declared.function.ColumnFunction.TheVariants a
 use Rattle.query_check.specs.Faults.{clauses_fault, query_fault, records_fault, rows_fault, select_fault}
 use Rattle.query_resolution.specs.Functions.{filters_of, indexed_functions}
 use Rattle.query_check.specs.Standing.{Stands}
+use Rattle.query_check.specs.Typing.{takes}
 
 -- a text, a whole number and a truth value
 abbrev fields : List Field
@@ -70,9 +71,15 @@ types_disagree = inl (
   (expression c, literal (constant.Integer (pos 1)), (0, omega arith, refl), (1, omega arith, refl), (kind.Text, kind.Int, refl, refl, λ e. let clash : ⊥ = cc in clash)),
 )
 
+-- MIN takes whole numbers and texts, and no truth value
+not_taken : Contains (takes (aggregate.Min (codes "b"))) kind.Bool → ⊥
+not_taken (zero, below, e) = absurd cc
+not_taken (suc zero, below, e) = absurd cc
+not_taken (suc (suc k), below, e) = absurd (omega arith)
+
 -- MIN(b) is taken of a truth value
 least_truth : Stands fields (selected (item (function (over_all (aggregate.Min (codes "b")))) ∷ [])) faults.TypesDisagree
-least_truth = inr (clause.Select, over_all (aggregate.Min (codes "b")), (0, omega arith, refl), refl)
+least_truth = inr (clause.Select, over_all (aggregate.Min (codes "b")), (0, omega arith, refl), (codes "b", kind.Bool, (0, omega arith, refl), refl, not_taken))
 
 -- q is none of the names in GROUP BY c
 none_of_group : Contains (codes "c" ∷ []) (codes "q") → ⊥

@@ -8,10 +8,8 @@ use Rattle.std.proofs.lemmas.Bool.Decides.{nat_tests}
 use Rattle.std.proofs.lemmas.List.{length-map}
 use Rattle.std.proofs.lemmas.List.Elements.{Contains-append_right}
 use Rattle.values.specs.declared.schema.Kind.{Kind}
-use Rattle.values.specs.declared.schema.Kind.TheVariants as kind
 use Rattle.values.specs.Schema.{Field, names_of}
 use Rattle.query_tree.specs.declared.expression.Aggregate.{Aggregate}
-use Rattle.query_tree.specs.declared.expression.Aggregate.TheVariants as aggregate
 use Rattle.query_tree.specs.Syntax.{ExpressionForm, FunctionForm, PredicateForm, TreeForm, name, grouping, function, over_all, over_filtered}
 use Rattle.query_fault.specs.declared.QueryFault.{QueryFault}
 use Rattle.query_fault.specs.declared.QueryFault.TheVariants.{UnknownColumn, TypesDisagree, NotGrouped, FunctionNotAllowed}
@@ -19,13 +17,13 @@ use Rattle.query_check.specs.declared.scope.Clause.{Clause}
 use Rattle.query_check.specs.declared.scope.Clause.TheVariants as clause
 use Rattle.query_resolution.specs.Columns.{column_kind, kind_at, place_of, places_of}
 use Rattle.query_resolution.specs.Sets.{grouping_names, grouping_places}
-use Rattle.query_check.specs.Typing.{IsColumn}
-use Rattle.query_check.specs.Faults.{first_fault, fault_unless, column_fault, grouped_at_fault, grouped_fault, name_fault, is_integer, is_ordered, is_truth, argument_fault, aggregate_fault, may_stand, function_fault, grouping_fault, expression_fault, predicate_fault}
+use Rattle.query_check.specs.Typing.{IsColumn, argument_names, takes}
+use Rattle.query_check.specs.Faults.{first_fault, fault_unless, column_fault, grouped_at_fault, grouped_fault, name_fault, kind_fault, same_kind, argument_fault, aggregate_fault, may_stand, function_fault, grouping_fault, expression_fault, predicate_fault}
 use Rattle.query_resolution.specs.Functions.{aggregate_of}
-use Rattle.query_check.specs.Standing.{AreOfTwoKinds, IsFilterIn, IsOfOtherKind, IsWrittenIn, Stands, StandsIn, argument_names, names, outer_names}
+use Rattle.query_check.specs.Standing.{IsFilterIn, IsOfOtherKind, IsWrittenIn, Stands, StandsIn, names, outer_names}
 use Rattle.query_resolution.proofs.Rows.{or_true}
 use Rattle.query_resolution.proofs.Distinct.{any_distinct}
-use Rattle.query_check.proofs.TypedLemmas.{holds, test_from_stands}
+use Rattle.query_check.proofs.TypedLemmas.{holds, test_from_among, test_from_stands}
 
 -- ---- tests in a row
 
@@ -170,56 +168,22 @@ grouping_stands fields t clause.OrderBy ns f at h = all_grouped_stand fields t c
 
 -- ---- set functions
 
--- A type that is not that of whole numbers.
-not_integer : (k : Kind) → is_integer (Some k) ≡ false → k ≢ kind.Int
-not_integer kind.Int h = absurd cc
-not_integer kind.Text h = λ e. let clash : ⊥ = cc in clash
-not_integer kind.Bool h = λ e. let clash : ⊥ = cc in clash
-
--- A type that is not that of truth values.
-pub not_truth : (k : Kind) → is_truth (Some k) ≡ false → k ≢ kind.Bool
-not_truth kind.Int h = λ e. let clash : ⊥ = cc in clash
-not_truth kind.Text h = λ e. let clash : ⊥ = cc in clash
-not_truth kind.Bool h = absurd cc
-
--- A type that MIN and MAX do not take is that of truth values.
-not_ordered : (k : Kind) → is_ordered (Some k) ≡ false → k ≡ kind.Bool
-not_ordered kind.Int h = absurd cc
-not_ordered kind.Text h = absurd cc
-not_ordered kind.Bool h = refl
-
--- A column whose type fails a test.
-pub kind_fails : (fields : List Field) (takes : Option Kind → Bool) (x : List ℕ) (f : QueryFault) → IsColumn fields x → fault_unless (takes (column_kind fields x)) TypesDisagree ≡ Some f → (k : Kind) × (column_kind fields x ≡ Some k) × (takes (Some k) ≡ false) × (TypesDisagree ≡ f)
-kind_fails fields takes x f is h =
+-- A column whose type is none of these.
+pub kind_fails : (fields : List Field) (kinds : List Kind) (x : List ℕ) (f : QueryFault) → IsColumn fields x → kind_fault kinds (column_kind fields x) ≡ Some f → (k : Kind) × (column_kind fields x ≡ Some k) × (Contains kinds k → ⊥) × (TypesDisagree ≡ f)
+kind_fails fields kinds x f is h =
     let has = there (column_kind fields x) (column_has_kind fields x is) in
-    let k = fails (takes (column_kind fields x)) TypesDisagree f h in
-    (has.0, has.1, ap takes (sym has.1) ∙ k.0, k.1)
-
--- The argument of SUM or AVG that is no column, or not of whole numbers.
-integer_stands : (fields : List Field) (t : TreeForm) (x : List ℕ) (f : QueryFault) → (column_fault fields x ≡ Some f → Stands fields t f) → (AreOfTwoKinds (column_kind fields x) (Some kind.Int) → TypesDisagree ≡ f → Stands fields t f) → argument_fault fields is_integer x ≡ Some f → Stands fields t f
-integer_stands fields t x f unknown other h =
-    either (column_fault fields x) _ f (Stands fields t f) unknown
-    (λ none later. let k = kind_fails fields is_integer x f (holds (is_some (place_of fields x)) (UnknownColumn x) none) later in
-    other (k.0, kind.Int, k.1, refl, not_integer k.0 k.2) k.3)
-    h
-
--- The argument of MIN or MAX that is no column, or one of truth values.
-ordered_stands : (fields : List Field) (t : TreeForm) (x : List ℕ) (f : QueryFault) → (column_fault fields x ≡ Some f → Stands fields t f) → (column_kind fields x ≡ Some kind.Bool → TypesDisagree ≡ f → Stands fields t f) → argument_fault fields is_ordered x ≡ Some f → Stands fields t f
-ordered_stands fields t x f unknown other h =
-    either (column_fault fields x) _ f (Stands fields t f) unknown
-    (λ none later. let k = kind_fails fields is_ordered x f (holds (is_some (place_of fields x)) (UnknownColumn x) none) later in
-    other (k.1 ∙ ap Some (not_ordered k.0 k.2)) k.3)
-    h
+    let k = fails (list_any (same_kind has.0) kinds) TypesDisagree f (ap (kind_fault kinds) (sym has.1) ∙ h) in
+    (has.0, has.1, λ among. let found = test_from_among kinds has.0 among in let not_found = k.0 in let clash : ⊥ = cc in clash, k.1)
 
 -- A set function that does not take its column, where a name without a column stands, and a column of another type.
 argument_stands : (fields : List Field) (t : TreeForm) (a : Aggregate) (f : QueryFault) → ((x : List ℕ) → Contains (argument_names a) x → column_fault fields x ≡ Some f → Stands fields t f) → (IsOfOtherKind fields a → TypesDisagree ≡ f → Stands fields t f) → aggregate_fault fields a ≡ Some f → Stands fields t f
-argument_stands fields t aggregate.CountRows f unknown other h = absurd cc
-argument_stands fields t (aggregate.Count x) f unknown other h = unknown x (0, omega arith, refl) h
-argument_stands fields t (aggregate.CountDistinct x) f unknown other h = unknown x (0, omega arith, refl) h
-argument_stands fields t (aggregate.Sum x) f unknown other h = integer_stands fields t x f (unknown x (0, omega arith, refl)) other h
-argument_stands fields t (aggregate.Min x) f unknown other h = ordered_stands fields t x f (unknown x (0, omega arith, refl)) other h
-argument_stands fields t (aggregate.Max x) f unknown other h = ordered_stands fields t x f (unknown x (0, omega arith, refl)) other h
-argument_stands fields t (aggregate.Avg x) f unknown other h = integer_stands fields t x f (unknown x (0, omega arith, refl)) other h
+argument_stands fields t a f unknown other h =
+    let found = first_at (argument_fault fields (takes a)) (argument_names a) f h in
+    either (column_fault fields found.0) _ f (Stands fields t f) (unknown found.0 found.1)
+    (λ none later.
+    let k = kind_fails fields (takes a) found.0 f (holds (is_some (place_of fields found.0)) (UnknownColumn found.0) none) later in
+    other (found.0, k.0, found.1, k.1, k.2) k.3)
+    found.2
 
 -- A set function that stands in a clause and does not take its column.
 aggregate_stands : (fields : List Field) (t : TreeForm) (c : Clause) (g : FunctionForm) (f : QueryFault) → StandsIn t c (function g) → aggregate_fault fields (aggregate_of g) ≡ Some f → Stands fields t f

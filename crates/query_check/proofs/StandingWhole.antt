@@ -1,12 +1,12 @@
 -- The first fault of a query stands in it: predicates, clauses and the whole query.
-use Rattle.std.proofs.Common.{◌≡◌, ◌≢◌, ◌∙◌, ◌⊎◌, ℕ, ◌+◌, ◌<◌, nat_lt, Bool, true, false, not, ◌||◌, List, [], ◌∷◌, ◌++◌, length, map, take, Option, Some, None, Result, Ok, Err, IfErr, Contains, refl, sym, ap, subst, inl, inr, append_assoc, arith}
+use Rattle.std.proofs.Common.{◌≡◌, ◌≢◌, ◌∙◌, ℕ, ◌+◌, ◌<◌, nat_lt, Bool, true, false, not, ◌||◌, List, [], ◌∷◌, ◌++◌, length, map, take, Option, Some, None, Result, Ok, Err, IfErr, Contains, refl, sym, ap, subst, inl, inr, append_assoc, arith}
 use Rattle.std.specs.Prelude.{IsSome, IsSomeAnd}
 use Rattle.std.specs.List.{enumerate_from, list_any}
 use Rattle.std.specs.Option.{option_or, option_map_or}
 use Rattle.std.specs.Str.{bytes_eq}
 use Rattle.std.proofs.lemmas.Bool.Decides.{nat_tests}
 use Rattle.std.proofs.lemmas.List.{length_push}
-use Rattle.std.proofs.lemmas.List.Elements.{Contains-append_left, Contains-append_right}
+use Rattle.std.proofs.lemmas.List.Elements.{All-head, Contains-append_left, Contains-append_right}
 use Rattle.std.proofs.lemmas.Slice.Eq.{bytes_eq-Decides}
 use Rattle.std.proofs.Math.Seq.{take-append_seam}
 use Rattle.values.specs.declared.schema.Kind.{Kind}
@@ -24,11 +24,11 @@ use Rattle.query_check.specs.declared.scope.Clause.TheVariants as clause
 use Rattle.query_resolution.specs.Columns.{column_kind, place_of}
 use Rattle.query_resolution.specs.Sets.{expanded, grouping_names, grouping_places}
 use Rattle.query_resolution.specs.Functions.{functions_of}
-use Rattle.query_check.specs.Typing.{HasKind, IsColumn, IsTypedAggregate, IsTypedName, IsTypedOperand, MayStand, aggregate_kind, key_expression, literal_kind, operand_kind}
-use Rattle.query_check.specs.Faults.{Answers, first_fault, column_fault, name_fault, is_truth, expression_fault, operand_fault, same_kind, agreement_fault, between_agreement, member_agreement, predicate_fault, parts_fault, clause_fault, header_fault, limit_fault, names_fault, records_fault, select_fault, rows_fault, clauses_fault, query_fault}
+use Rattle.query_check.specs.Typing.{IsColumn, IsTypedAggregate, IsTypedName, IsTypedOperand, MayStand, aggregate_kind, key_expression, literal_kind, operand_kind, IsOfKinds, takes}
+use Rattle.query_check.specs.Faults.{Answers, first_fault, column_fault, name_fault, expression_fault, operand_fault, same_kind, agreement_fault, between_agreement, member_agreement, predicate_fault, parts_fault, clause_fault, header_fault, limit_fault, names_fault, records_fault, select_fault, rows_fault, clauses_fault, query_fault}
 use Rattle.query_check.specs.Standing.{AreOfTwoKinds, Disagrees, IsAtomIn, Stands, StandsIn, StandsTwice, atoms, operands, parts_atoms}
 use Rattle.query_check.proofs.TypedLemmas.{name_from_none, operand_from_none, same_itself}
-use Rattle.query_check.proofs.StandingLemmas.{FiltersStand, column_has_kind, column_stands, either, expression_stands, fails, first_at, is_there, kind_fails, mapped, name_stands, not_truth}
+use Rattle.query_check.proofs.StandingLemmas.{FiltersStand, column_has_kind, column_stands, either, expression_stands, fails, first_at, kind_fails, mapped, name_stands}
 
 -- ---- operands
 
@@ -63,10 +63,10 @@ typed_is_column fields grouped clause.Select n h = grouped_is_column grouped (pl
 typed_is_column fields grouped clause.Having n h = grouped_is_column grouped (place_of fields n) h
 typed_is_column fields grouped clause.OrderBy n h = grouped_is_column grouped (place_of fields n) h
 
--- A column of whole numbers or texts has a type.
-ordered_has_kind : (fields : List Field) (x : List ℕ) → HasKind fields kind.Int x ⊎ HasKind fields kind.Text x → IsSome (column_kind fields x)
-ordered_has_kind fields x (inl h) = is_there (column_kind fields x) kind.Int h
-ordered_has_kind fields x (inr h) = is_there (column_kind fields x) kind.Text h
+-- A column of one of some types has a type.
+of_kinds_has_kind : (o : Option Kind) (P : Kind → Type 0) → IsSomeAnd o P → IsSome o
+of_kinds_has_kind None P h = absurd h
+of_kinds_has_kind (Some k) P h = refl
 
 -- A typed set function other than AVG has a type.
 aggregate_has_kind : (fields : List Field) (c : Clause) (a : Aggregate) → ((n : List ℕ) → MayStand c (aggregate.Avg n) → ⊥) → MayStand c a → IsTypedAggregate fields a → IsSome (aggregate_kind fields a)
@@ -74,8 +74,10 @@ aggregate_has_kind fields c aggregate.CountRows never may h = refl
 aggregate_has_kind fields c (aggregate.Count n) never may h = refl
 aggregate_has_kind fields c (aggregate.CountDistinct n) never may h = refl
 aggregate_has_kind fields c (aggregate.Sum n) never may h = refl
-aggregate_has_kind fields c (aggregate.Min n) never may h = ordered_has_kind fields n h
-aggregate_has_kind fields c (aggregate.Max n) never may h = ordered_has_kind fields n h
+aggregate_has_kind fields c (aggregate.Min n) never may h =
+    of_kinds_has_kind (column_kind fields n) (Contains (takes (aggregate.Min n))) (All-head (IsOfKinds fields (takes (aggregate.Min n))) n [] h)
+aggregate_has_kind fields c (aggregate.Max n) never may h =
+    of_kinds_has_kind (column_kind fields n) (Contains (takes (aggregate.Max n))) (All-head (IsOfKinds fields (takes (aggregate.Max n))) n [] h)
 aggregate_has_kind fields c (aggregate.Avg n) never may h = absurd (never n may)
 
 -- A typed operand of an atom has a type.
@@ -161,8 +163,8 @@ truth_stands fields t c n f atom h =
     either (name_fault fields (grouping_places fields t) c n) _ f (Stands fields t f)
     (λ k. name_stands fields t c n f (in_atom t c (column n) (name n) atom (0, omega arith, refl)) k)
     (λ fine later.
-    let k = kind_fails fields is_truth n f (typed_is_column fields (grouping_places fields t) c n (name_from_none fields (grouping_places fields t) c n fine)) later in
-    subst (Stands fields t) k.3 (inl (c, column n, atom, (k.0, kind.Bool, k.1, refl, not_truth k.0 k.2))))
+    let k = kind_fails fields (kind.Bool ∷ []) n f (typed_is_column fields (grouping_places fields t) c n (name_from_none fields (grouping_places fields t) c n fine)) later in
+    subst (Stands fields t) k.3 (inl (c, column n, atom, (k.0, kind.Bool, k.1, refl, λ e. k.2 (0, omega arith, sym e)))))
     h
 
 -- ---- predicates

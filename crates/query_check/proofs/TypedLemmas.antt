@@ -1,5 +1,5 @@
 -- A query is typed exactly where it has no fault.
-use Rattle.std.proofs.Common.{◌≡◌, ◌==◌, ◌⊎◌, ℕ, zero, suc, ◌<◌, Bool, true, false, cond, ◌||◌, List, [], ◌∷◌, length, get_or, Option, Some, None, All, Contains, refl, ap, inl, inr, arith}
+use Rattle.std.proofs.Common.{◌≡◌, ◌==◌, ℕ, zero, suc, ◌<◌, Bool, true, false, cond, ◌||◌, List, [], ◌∷◌, length, get_or, Option, Some, None, All, Contains, refl, ap, arith, sym, ◌∙◌}
 use Rattle.std.specs.Prelude.{IsSomeAnd, is_some}
 use Rattle.std.specs.List.{list_any}
 use Rattle.std.specs.Option.{option_or, option_and_then}
@@ -16,8 +16,8 @@ use Rattle.query_fault.specs.declared.QueryFault.TheVariants.{FunctionNotAllowed
 use Rattle.query_check.specs.declared.scope.Clause.{Clause}
 use Rattle.query_check.specs.declared.scope.Clause.TheVariants as clause
 use Rattle.query_resolution.specs.Columns.{column_kind, kind_at, place_of}
-use Rattle.query_check.specs.Typing.{IsGrouped, IsTypedName, HasKind, IsTypedAggregate, MayStand, IsTypedFunction, IsTypedGrouping, IsTypedExpression, IsTypedOperand, IsOfOneKind, IsTypedPredicate, AreTypedParts, IsTypedClause, literal_kind, operand_kind}
-use Rattle.query_check.specs.Faults.{first_fault, fault_unless, column_fault, grouped_at_fault, grouped_fault, name_fault, is_integer, is_ordered, is_truth, argument_fault, aggregate_fault, may_stand, function_fault, grouping_fault, expression_fault, operand_fault, same_kind, agreement_fault, predicate_fault, parts_fault, clause_fault}
+use Rattle.query_check.specs.Typing.{IsGrouped, IsTypedName, IsTypedAggregate, MayStand, IsTypedFunction, IsTypedGrouping, IsTypedExpression, IsTypedOperand, IsOfOneKind, IsTypedPredicate, AreTypedParts, IsTypedClause, IsOfKinds, argument_names, literal_kind, operand_kind, takes}
+use Rattle.query_check.specs.Faults.{first_fault, fault_unless, column_fault, grouped_at_fault, grouped_fault, name_fault, kind_fault, argument_fault, aggregate_fault, may_stand, function_fault, grouping_fault, expression_fault, operand_fault, same_kind, agreement_fault, predicate_fault, parts_fault, clause_fault}
 use Rattle.query_resolution.proofs.Rows.{or_true}
 
 -- ---- faults in a row
@@ -93,64 +93,71 @@ none_from_name fields grouped clause.OrderBy n h = none_from_grouped grouped n (
 
 -- ---- functions
 
--- The type that passes the test is that of whole numbers.
-integer_kind : (o : Option Kind) → is_integer o ≡ true → o ≡ Some kind.Int
-integer_kind None h = absurd cc
-integer_kind (Some kind.Int) h = refl
-integer_kind (Some kind.Text) h = absurd cc
-integer_kind (Some kind.Bool) h = absurd cc
+-- Types that pass the test are equal.
+same_from_test : (k l : Kind) → same_kind k l ≡ true → k ≡ l
+same_from_test kind.Int kind.Int h = refl
+same_from_test kind.Int kind.Text h = absurd cc
+same_from_test kind.Int kind.Bool h = absurd cc
+same_from_test kind.Text kind.Int h = absurd cc
+same_from_test kind.Text kind.Text h = refl
+same_from_test kind.Text kind.Bool h = absurd cc
+same_from_test kind.Bool kind.Int h = absurd cc
+same_from_test kind.Bool kind.Text h = absurd cc
+same_from_test kind.Bool kind.Bool h = refl
 
--- The type that passes the test is that of whole numbers or texts.
-ordered_kind : (o : Option Kind) → is_ordered o ≡ true → (o ≡ Some kind.Int) ⊎ (o ≡ Some kind.Text)
-ordered_kind None h = absurd cc
-ordered_kind (Some kind.Int) h = inl refl
-ordered_kind (Some kind.Text) h = inr refl
-ordered_kind (Some kind.Bool) h = absurd cc
-
--- The type that passes the test is that of truth values.
-truth_kind : (o : Option Kind) → is_truth o ≡ true → o ≡ Some kind.Bool
-truth_kind None h = absurd cc
-truth_kind (Some kind.Int) h = absurd cc
-truth_kind (Some kind.Text) h = absurd cc
-truth_kind (Some kind.Bool) h = refl
+-- A type is the same as itself.
+pub same_itself : (k : Kind) → same_kind k k ≡ true
+same_itself kind.Int = refl
+same_itself kind.Text = refl
+same_itself kind.Bool = refl
 
 -- A name with a type is a column.
-placed : (f : ℕ → Option Kind) (o : Option ℕ) (k : Kind) → option_and_then f o ≡ Some k → is_some o ≡ true
-placed f None k h = absurd cc
-placed f (Some p) k h = refl
+placed : (f : ℕ → Option Kind) (o : Option ℕ) (P : Kind → Type 0) → IsSomeAnd (option_and_then f o) P → is_some o ≡ true
+placed f None P h = absurd h
+placed f (Some p) P h = refl
 
--- An argument without a fault passes the test of its type.
-argument_from_none : (fields : List Field) (takes : Option Kind → Bool) (x : List ℕ) → argument_fault fields takes x ≡ None → takes (column_kind fields x) ≡ true
-argument_from_none fields takes x h = holds (takes (column_kind fields x)) _ (none_of_both (column_fault fields x) _ h).1
+-- A type that passes the test of some types is one of them.
+among_from_test : (kinds : List Kind) (k : Kind) → list_any (same_kind k) kinds ≡ true → Contains kinds k
+among_from_test [] k h = absurd cc
+among_from_test (l ∷ ls) k h =
+    elim (same_kind k l) as (λ (t : Bool). same_kind k l ≡ t → (t || list_any (same_kind k) ls) ≡ true → Contains (l ∷ ls) k) [
+      | true ↦ λ e _. (0, omega arith, sym (same_from_test k l e))
+      | false ↦ λ _ m. let below = among_from_test ls k m in (suc below.0, omega arith, below.2)
+    ] refl h
 
--- An argument of a type that passes the test has no fault.
-none_from_argument : (fields : List Field) (takes : Option Kind → Bool) (x : List ℕ) (k : Kind) → HasKind fields k x → takes (Some k) ≡ true → argument_fault fields takes x ≡ None
-none_from_argument fields takes x k h t = both_none (column_fault fields x) _ (passes (is_some (place_of fields x)) _ (placed (kind_at fields) (place_of fields x) k h)) (passes (takes (column_kind fields x)) _ (rw h t))
+-- One of some types passes their test.
+pub test_from_among : (kinds : List Kind) (k : Kind) → Contains kinds k → list_any (same_kind k) kinds ≡ true
+test_from_among [] k h = let below = h.1 in absurd (omega arith)
+test_from_among (l ∷ ls) k (zero, below, e) = let same : same_kind k l ≡ true = ap (same_kind k) e ∙ same_itself k in rw same refl
+test_from_among (l ∷ ls) k (suc i, below, e) = let later = test_from_among ls k (i, omega arith, e) in rw later (or_true (same_kind k l))
 
--- An argument of whole numbers or texts has no fault under MIN and MAX.
-none_from_ordered : (fields : List Field) (x : List ℕ) → HasKind fields kind.Int x ⊎ HasKind fields kind.Text x → argument_fault fields is_ordered x ≡ None
-none_from_ordered fields x (inl h) = none_from_argument fields is_ordered x kind.Int h refl
-none_from_ordered fields x (inr h) = none_from_argument fields is_ordered x kind.Text h refl
+-- A type without a fault is one of these.
+kind_from_none : (kinds : List Kind) (o : Option Kind) → kind_fault kinds o ≡ None → IsSomeAnd o (Contains kinds)
+kind_from_none kinds None h = absurd cc
+kind_from_none kinds (Some k) h = among_from_test kinds k (holds (list_any (same_kind k) kinds) _ h)
+
+-- One of these types has no fault.
+none_from_kind : (kinds : List Kind) (o : Option Kind) → IsSomeAnd o (Contains kinds) → kind_fault kinds o ≡ None
+none_from_kind kinds None h = absurd h
+none_from_kind kinds (Some k) h = passes (list_any (same_kind k) kinds) _ (test_from_among kinds k h)
+
+-- One of one type is that type.
+one_kind : (k : Kind) (o : Option Kind) → IsSomeAnd o (Contains (k ∷ [])) → o ≡ Some k
+one_kind k None h = absurd h
+one_kind k (Some l) (zero, below, e) = ap Some (sym e)
+one_kind k (Some l) (suc i, below, e) = absurd (omega arith)
 
 -- A set function without a fault takes its column.
 pub aggregate_from_none : (fields : List Field) (a : Aggregate) → aggregate_fault fields a ≡ None → IsTypedAggregate fields a
-aggregate_from_none fields aggregate.CountRows h = tt
-aggregate_from_none fields (aggregate.Count x) h = holds (is_some (place_of fields x)) _ h
-aggregate_from_none fields (aggregate.CountDistinct x) h = holds (is_some (place_of fields x)) _ h
-aggregate_from_none fields (aggregate.Sum x) h = integer_kind (column_kind fields x) (argument_from_none fields is_integer x h)
-aggregate_from_none fields (aggregate.Min x) h = ordered_kind (column_kind fields x) (argument_from_none fields is_ordered x h)
-aggregate_from_none fields (aggregate.Max x) h = ordered_kind (column_kind fields x) (argument_from_none fields is_ordered x h)
-aggregate_from_none fields (aggregate.Avg x) h = integer_kind (column_kind fields x) (argument_from_none fields is_integer x h)
+aggregate_from_none fields a h =
+    all_from_none (argument_fault fields (takes a)) (IsOfKinds fields (takes a)) (λ n k. kind_from_none (takes a) (column_kind fields n) (none_of_both (column_fault fields n) _ k).1) (argument_names a) h
 
 -- A set function that takes its column has no fault.
 none_from_aggregate : (fields : List Field) (a : Aggregate) → IsTypedAggregate fields a → aggregate_fault fields a ≡ None
-none_from_aggregate fields aggregate.CountRows h = refl
-none_from_aggregate fields (aggregate.Count x) h = passes (is_some (place_of fields x)) _ h
-none_from_aggregate fields (aggregate.CountDistinct x) h = passes (is_some (place_of fields x)) _ h
-none_from_aggregate fields (aggregate.Sum x) h = none_from_argument fields is_integer x kind.Int h refl
-none_from_aggregate fields (aggregate.Min x) h = none_from_ordered fields x h
-none_from_aggregate fields (aggregate.Max x) h = none_from_ordered fields x h
-none_from_aggregate fields (aggregate.Avg x) h = none_from_argument fields is_integer x kind.Int h refl
+none_from_aggregate fields a h =
+    none_from_all (argument_fault fields (takes a)) (IsOfKinds fields (takes a))
+    (λ n k. both_none (column_fault fields n) _ (passes (is_some (place_of fields n)) _ (placed (kind_at fields) (place_of fields n) (Contains (takes a)) k)) (none_from_kind (takes a) (column_kind fields n) k))
+    (argument_names a) h
 
 -- A set function that passes the test may stand.
 stands_from_test : (c : Clause) (a : Aggregate) → may_stand c a ≡ true → MayStand c a
@@ -213,24 +220,6 @@ none_from_grouping fields grouped clause.OrderBy ns h = none_from_all (grouped_f
 
 -- ---- types
 
--- Types that pass the test are equal.
-same_from_test : (k l : Kind) → same_kind k l ≡ true → k ≡ l
-same_from_test kind.Int kind.Int h = refl
-same_from_test kind.Int kind.Text h = absurd cc
-same_from_test kind.Int kind.Bool h = absurd cc
-same_from_test kind.Text kind.Int h = absurd cc
-same_from_test kind.Text kind.Text h = refl
-same_from_test kind.Text kind.Bool h = absurd cc
-same_from_test kind.Bool kind.Int h = absurd cc
-same_from_test kind.Bool kind.Text h = absurd cc
-same_from_test kind.Bool kind.Bool h = refl
-
--- A type is the same as itself.
-pub same_itself : (k : Kind) → same_kind k k ≡ true
-same_itself kind.Int = refl
-same_itself kind.Text = refl
-same_itself kind.Bool = refl
-
 -- Types without a fault are one type.
 agreed : (a b : Option Kind) → agreement_fault a b ≡ None → IsOfOneKind a b
 agreed None b h = absurd cc
@@ -285,7 +274,7 @@ mutual
   predicate_from_none fields grouped c (null_test x n) h = operand_from_none fields grouped c x h
   predicate_from_none fields grouped c (column n) h =
       let i = none_of_both (name_fault fields grouped c n) _ h in
-      (name_from_none fields grouped c n i.0, truth_kind (column_kind fields n) (holds (is_truth (column_kind fields n)) _ i.1))
+      (name_from_none fields grouped c n i.0, one_kind kind.Bool (column_kind fields n) (kind_from_none (kind.Bool ∷ []) (column_kind fields n) i.1))
 
   -- Parts without a fault are typed.
   parts_from_none : (fields : List Field) (grouped : List ℕ) (c : Clause) (ps : PredicateForms) → parts_fault fields grouped c ps ≡ None → AreTypedParts fields grouped c ps
@@ -327,7 +316,7 @@ mutual
       both_none _ _ (none_from_operand fields grouped c x h.0) (none_from_all (λ a. agreement_fault (operand_kind fields x) (Some (literal_kind a))) (λ a. IsOfOneKind (operand_kind fields x) (Some (literal_kind a))) (λ a k. none_from_agreed (operand_kind fields x) (Some (literal_kind a)) k) ls h.1)
   none_from_predicate fields grouped c (null_test x n) h = none_from_operand fields grouped c x h
   none_from_predicate fields grouped c (column n) h =
-      both_none _ _ (none_from_name fields grouped c n h.0) (passes (is_truth (column_kind fields n)) _ (rw h.1 refl))
+      both_none _ _ (none_from_name fields grouped c n h.0) (rw h.1 refl)
 
   -- Typed parts have no fault.
   none_from_parts : (fields : List Field) (grouped : List ℕ) (c : Clause) (ps : PredicateForms) → AreTypedParts fields grouped c ps → parts_fault fields grouped c ps ≡ None

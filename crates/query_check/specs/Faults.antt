@@ -1,7 +1,7 @@
 -- The first fault of a query that is not typed, in the order in which faults are tested.
 use Rattle.std.specs.Prelude.{◌≡◌, ◌≢◌, Result, MatchResult, ℕ, ◌==◌, nat_lt, Bool, true, false, not, Option, Some, None, List, [], ◌∷◌, map, length, take, is_some, if◌then◌else◌}
 use Rattle.std.specs.List.{enumerate_from, flat_map, list_any}
-use Rattle.std.specs.Option.{option_or}
+use Rattle.std.specs.Option.{option_map_or, option_or}
 use Rattle.std.specs.Str.{bytes_eq}
 use Rattle.values.specs.declared.schema.Kind.{Kind}
 use Rattle.values.specs.declared.schema.Kind.TheVariants as kind
@@ -18,7 +18,7 @@ use Rattle.query_check.specs.declared.scope.Clause.TheVariants as clause
 use Rattle.query_resolution.specs.Columns.{column_kind, group_names, place_of}
 use Rattle.query_resolution.specs.Sets.{expanded, grouping_places}
 use Rattle.query_resolution.specs.Functions.{functions_of}
-use Rattle.query_check.specs.Typing.{key_expression, literal_kind, operand_kind}
+use Rattle.query_check.specs.Typing.{argument_names, key_expression, literal_kind, operand_kind, takes}
 
 -- The first fault of the elements of a list, from left to right.
 abbrev pub first_fault : {A : Type 0} → (A → Option QueryFault) → List A → Option QueryFault
@@ -57,40 +57,24 @@ name_fault fields grouped clause.OrderBy n = grouped_fault fields grouped n
 
 -- ---- functions
 
--- Whether this is the type of whole numbers.
-abbrev pub is_integer : Option Kind → Bool
-is_integer None = false
-is_integer (Some kind.Int) = true
-is_integer (Some kind.Text) = false
-is_integer (Some kind.Bool) = false
+-- Whether two types are one.
+abbrev pub same_kind : Kind → Kind → Bool
+same_kind kind.Int kind.Int = true
+same_kind kind.Text kind.Text = true
+same_kind kind.Bool kind.Bool = true
+same_kind k l = false
 
--- Whether this is a type that MIN and MAX take.
-abbrev pub is_ordered : Option Kind → Bool
-is_ordered None = false
-is_ordered (Some kind.Int) = true
-is_ordered (Some kind.Text) = true
-is_ordered (Some kind.Bool) = false
+-- The type of a column is none of these.
+abbrev pub kind_fault : List Kind → Option Kind → Option QueryFault
+kind_fault kinds k = fault_unless (option_map_or (λ one. list_any (same_kind one) kinds) k false) TypesDisagree
 
--- Whether this is the type of truth values.
-abbrev pub is_truth : Option Kind → Bool
-is_truth None = false
-is_truth (Some kind.Int) = false
-is_truth (Some kind.Text) = false
-is_truth (Some kind.Bool) = true
+-- An argument that is no column, or a column of another type than these.
+abbrev pub argument_fault : List Field → List Kind → List ℕ → Option QueryFault
+argument_fault fields kinds n = option_or (column_fault fields n) (kind_fault kinds (column_kind fields n))
 
--- An argument that is no column, or a column of a type that the function does not take.
-abbrev pub argument_fault : List Field → (Option Kind → Bool) → List ℕ → Option QueryFault
-argument_fault fields takes n = option_or (column_fault fields n) (fault_unless (takes (column_kind fields n)) TypesDisagree)
-
--- The argument of a set function: COUNT takes any column, SUM and AVG whole numbers, MIN and MAX also texts.
+-- The argument of a set function that is no column, or a column of a type that it does not take.
 abbrev pub aggregate_fault : List Field → Aggregate → Option QueryFault
-aggregate_fault fields aggregate.CountRows = None
-aggregate_fault fields (aggregate.Count x) = column_fault fields x
-aggregate_fault fields (aggregate.CountDistinct x) = column_fault fields x
-aggregate_fault fields (aggregate.Sum x) = argument_fault fields is_integer x
-aggregate_fault fields (aggregate.Min x) = argument_fault fields is_ordered x
-aggregate_fault fields (aggregate.Max x) = argument_fault fields is_ordered x
-aggregate_fault fields (aggregate.Avg x) = argument_fault fields is_integer x
+aggregate_fault fields a = first_fault (argument_fault fields (takes a)) (argument_names a)
 
 -- No set function may stand in WHERE, and AVG only in SELECT.
 abbrev pub may_stand : Clause → Aggregate → Bool
@@ -109,13 +93,6 @@ grouping_fault fields grouped clause.Where ns = Some FunctionNotAllowed
 grouping_fault fields grouped clause.Select ns = first_fault (grouped_fault fields grouped) ns
 grouping_fault fields grouped clause.Having ns = first_fault (grouped_fault fields grouped) ns
 grouping_fault fields grouped clause.OrderBy ns = first_fault (grouped_fault fields grouped) ns
-
--- Whether two types are one.
-abbrev pub same_kind : Kind → Kind → Bool
-same_kind kind.Int kind.Int = true
-same_kind kind.Text kind.Text = true
-same_kind kind.Bool kind.Bool = true
-same_kind k l = false
 
 -- The types of two operands are not one type.
 abbrev pub agreement_fault : Option Kind → Option Kind → Option QueryFault
@@ -136,7 +113,7 @@ member_agreement fields x ls = first_fault (λ a. agreement_fault (operand_kind 
 -- A bare name is a column of truth values.
 abbrev pub truth_fault : List Field → List ℕ → Clause → List ℕ → Option QueryFault
 truth_fault fields grouped c n =
-    option_or (name_fault fields grouped c n) (fault_unless (is_truth (column_kind fields n)) TypesDisagree)
+    option_or (name_fault fields grouped c n) (kind_fault (kind.Bool ∷ []) (column_kind fields n))
 
 abbrev mutual
   -- The first fault of an expression in a clause.

@@ -5,7 +5,6 @@ use Rattle.values.specs.declared.schema.Kind.{Kind}
 use Rattle.values.specs.declared.schema.Kind.TheVariants as kind
 use Rattle.values.specs.Schema.{Field}
 use Rattle.query_tree.specs.declared.expression.Aggregate.{Aggregate}
-use Rattle.query_tree.specs.declared.expression.Aggregate.TheVariants as aggregate
 use Rattle.query_tree.specs.Syntax.{ExpressionForm, FunctionForm, OperandForm, PredicateForm, PredicateForms, TreeForm, name, grouping, function, over_filtered, expression, literal, or_of, and_of, not_of, truth_test, compare, between, member, null_test, column, no_parts, part}
 use Rattle.query_print.specs.Canonical.{header_text}
 use Rattle.query_fault.specs.declared.QueryFault.{QueryFault}
@@ -15,7 +14,7 @@ use Rattle.query_check.specs.declared.scope.Clause.TheVariants as clause
 use Rattle.query_resolution.specs.Columns.{column_kind}
 use Rattle.query_resolution.specs.Sets.{expanded, grouping_names}
 use Rattle.query_resolution.specs.Functions.{aggregate_of, functions_of}
-use Rattle.query_check.specs.Typing.{IsColumn, MayStand, key_expression, operand_kind}
+use Rattle.query_check.specs.Typing.{IsColumn, MayStand, argument_names, key_expression, operand_kind, takes}
 
 -- ---- what stands in a query
 
@@ -79,16 +78,6 @@ outer_names (name n) = n ∷ []
 outer_names (grouping ns) = ns
 outer_names (function f) = []
 
--- The name of the column that a set function is taken of.
-abbrev pub argument_names : Aggregate → List (List ℕ)
-argument_names aggregate.CountRows = []
-argument_names (aggregate.Count x) = x ∷ []
-argument_names (aggregate.CountDistinct x) = x ∷ []
-argument_names (aggregate.Sum x) = x ∷ []
-argument_names (aggregate.Min x) = x ∷ []
-argument_names (aggregate.Max x) = x ∷ []
-argument_names (aggregate.Avg x) = x ∷ []
-
 -- All names in an expression, outside of a FILTER.
 abbrev pub names : ExpressionForm → List (List ℕ)
 names (function f) = argument_names (aggregate_of f)
@@ -106,14 +95,9 @@ abbrev pub Disagrees : List Field → PredicateForm → Type 0
 Disagrees fields (column n) = AreOfTwoKinds (column_kind fields n) (Some kind.Bool)
 Disagrees fields p = (x : OperandForm) × (y : OperandForm) × Contains (operands p) x × Contains (operands p) y × AreOfTwoKinds (operand_kind fields x) (operand_kind fields y)
 
--- A set function is taken of a column of another type than it takes: SUM and AVG not of whole numbers, MIN and MAX of
--- truth values.
+-- A set function is taken of a column of a type that it does not take.
 abbrev pub IsOfOtherKind : List Field → Aggregate → Type 0
-IsOfOtherKind fields (aggregate.Sum x) = AreOfTwoKinds (column_kind fields x) (Some kind.Int)
-IsOfOtherKind fields (aggregate.Avg x) = AreOfTwoKinds (column_kind fields x) (Some kind.Int)
-IsOfOtherKind fields (aggregate.Min x) = column_kind fields x ≡ Some kind.Bool
-IsOfOtherKind fields (aggregate.Max x) = column_kind fields x ≡ Some kind.Bool
-IsOfOtherKind fields a = ⊥
+IsOfOtherKind fields a = (n : List ℕ) × (k : Kind) × Contains (argument_names a) n × (column_kind fields n ≡ Some k) × (Contains (takes a) k → ⊥)
 
 -- A function stands where it may not: GROUPING in WHERE or a FILTER, a set function there, AVG outside of SELECT.
 abbrev pub IsMisplaced : Clause → ExpressionForm → Type 0

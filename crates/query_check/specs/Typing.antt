@@ -1,5 +1,5 @@
 -- Which queries are typed under a schema (ISO/IEC 9075-2, <query specification>).
-use Rattle.std.specs.Prelude.{◌≡◌, ◌≢◌, ◌≤◌, ℕ, ⊤, ◌⊎◌, false, Option, Some, None, List, [], map, length, All, AllPairs, Contains, IsSome, IsSomeAnd}
+use Rattle.std.specs.Prelude.{◌≡◌, ◌≢◌, ◌≤◌, ℕ, ⊤, false, Option, Some, None, List, [], ◌∷◌, map, length, All, AllPairs, Contains, IsSome, IsSomeAnd}
 use Rattle.std.specs.List.{find}
 use Rattle.std.specs.Option.{option_map_or}
 use Rattle.std.specs.Str.{bytes_eq}
@@ -41,15 +41,31 @@ IsTypedName fields grouped clause.OrderBy n = IsGrouped fields grouped n
 abbrev pub HasKind : List Field → Kind → List ℕ → Type 0
 HasKind fields k n = column_kind fields n ≡ Some k
 
--- COUNT takes any column, SUM and AVG one of whole numbers, MIN and MAX one of whole numbers or texts.
+-- The name of the column that a set function is taken of; COUNT(*) has none.
+abbrev pub argument_names : Aggregate → List (List ℕ)
+argument_names aggregate.CountRows = []
+argument_names (aggregate.Count x) = x ∷ []
+argument_names (aggregate.CountDistinct x) = x ∷ []
+argument_names (aggregate.Sum x) = x ∷ []
+argument_names (aggregate.Min x) = x ∷ []
+argument_names (aggregate.Max x) = x ∷ []
+argument_names (aggregate.Avg x) = x ∷ []
+
+-- The types that a set function takes: COUNT each, SUM and AVG whole numbers, MIN and MAX whole numbers and texts.
+abbrev pub takes : Aggregate → List Kind
+takes (aggregate.Sum x) = kind.Int ∷ []
+takes (aggregate.Avg x) = kind.Int ∷ []
+takes (aggregate.Min x) = kind.Int ∷ kind.Text ∷ []
+takes (aggregate.Max x) = kind.Int ∷ kind.Text ∷ []
+takes a = kind.Int ∷ kind.Text ∷ kind.Bool ∷ []
+
+-- The schema has a column of this name, which is of one of these types.
+abbrev pub IsOfKinds : List Field → List Kind → List ℕ → Type 0
+IsOfKinds fields kinds n = IsSomeAnd (column_kind fields n) (Contains kinds)
+
+-- The column of a set function is of a type that it takes.
 abbrev pub IsTypedAggregate : List Field → Aggregate → Type 0
-IsTypedAggregate fields aggregate.CountRows = ⊤
-IsTypedAggregate fields (aggregate.Count x) = IsColumn fields x
-IsTypedAggregate fields (aggregate.CountDistinct x) = IsColumn fields x
-IsTypedAggregate fields (aggregate.Sum x) = HasKind fields kind.Int x
-IsTypedAggregate fields (aggregate.Min x) = HasKind fields kind.Int x ⊎ HasKind fields kind.Text x
-IsTypedAggregate fields (aggregate.Max x) = HasKind fields kind.Int x ⊎ HasKind fields kind.Text x
-IsTypedAggregate fields (aggregate.Avg x) = HasKind fields kind.Int x
+IsTypedAggregate fields a = All (IsOfKinds fields (takes a)) (argument_names a)
 
 -- No set function may stand in WHERE, and AVG only in SELECT.
 abbrev pub MayStand : Clause → Aggregate → Type 0

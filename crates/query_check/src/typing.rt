@@ -1,11 +1,12 @@
 //! Whether expressions and predicates are typed, fault by fault.
 
 ghost use Rattle.std.specs.Prelude.{◌≡◌, ◌≢◌, [], map, Some};
+ghost use Rattle.std.specs.List.{list_any};
 ghost use Rattle.values.specs.Schema.{fields_of};
 ghost use Rattle.query_fault.specs.declared.QueryFault.TheVariants.{UnknownColumn, NotGrouped, OutOfMemory};
 ghost use Rattle.query_tree.specs.Syntax.{expression_form, function_form, operand_form, predicate_form, predicate_forms};
-ghost use Rattle.query_check.specs.Typing.{aggregate_kind, literal_kind, operand_kind};
-ghost use Rattle.query_check.specs.Faults.{agreement_fault, aggregate_fault, Answers, argument_fault, between_agreement, column_fault, expression_fault, first_fault, function_fault, grouped_fault, grouping_fault, is_integer, is_ordered, may_stand, name_fault, operand_fault, parts_fault, predicate_fault, same_kind, truth_fault};
+ghost use Rattle.query_check.specs.Typing.{aggregate_kind, literal_kind, operand_kind, takes};
+ghost use Rattle.query_check.specs.Faults.{agreement_fault, aggregate_fault, Answers, argument_fault, between_agreement, column_fault, expression_fault, first_fault, function_fault, grouped_fault, grouping_fault, may_stand, name_fault, operand_fault, parts_fault, predicate_fault, same_kind, truth_fault};
 
 use crate::scope::{Clause, Scope};
 use query_fault::QueryFault;
@@ -86,25 +87,25 @@ fn check_grouping(scope: &Scope, names: &[Text]) -> Result<(), QueryFault>
     }
 }
 
-/// Whether a column of whole numbers has this name.
-fn check_integer(columns: &[Column], name: &Text) -> Result<(), QueryFault>
-    ensures fault { Answers result (argument_fault (fields_of columns.now) is_integer name.now) }
+/// Whether a set function takes columns of a type: COUNT of each, SUM and AVG whole numbers, MIN and MAX also texts.
+fn takes(aggregate: &Aggregate, kind: Kind) -> bool
+    ensures { result ≡ list_any (same_kind kind) (takes aggregate.now) }
 {
-    check_column(columns, name)?;
-    match column_kind(columns, name.as_str()) {
-        Some(Kind::Int) => Ok(()),
-        Some(Kind::Text) | Some(Kind::Bool) | None => Err(QueryFault::TypesDisagree),
+    match aggregate {
+        Aggregate::Sum(_) | Aggregate::Avg(_) => matches!(kind, Kind::Int),
+        Aggregate::Min(_) | Aggregate::Max(_) => matches!(kind, Kind::Int | Kind::Text),
+        Aggregate::CountRows | Aggregate::Count(_) | Aggregate::CountDistinct(_) => true,
     }
 }
 
-/// Whether a column of whole numbers or texts has this name.
-fn check_ordered(columns: &[Column], name: &Text) -> Result<(), QueryFault>
-    ensures fault { Answers result (argument_fault (fields_of columns.now) is_ordered name.now) }
+/// Whether a set function takes the column of this name.
+fn check_argument(columns: &[Column], aggregate: &Aggregate, name: &Text) -> Result<(), QueryFault>
+    ensures fault { Answers result (argument_fault (fields_of columns.now) (takes aggregate.now) name.now) }
 {
     check_column(columns, name)?;
     match column_kind(columns, name.as_str()) {
-        Some(Kind::Int) | Some(Kind::Text) => Ok(()),
-        Some(Kind::Bool) | None => Err(QueryFault::TypesDisagree),
+        Some(kind) if takes(aggregate, kind) => Ok(()),
+        _ => Err(QueryFault::TypesDisagree),
     }
 }
 
@@ -114,12 +115,12 @@ fn check_aggregate(columns: &[Column], aggregate: &Aggregate) -> Result<(), Quer
 {
     match aggregate {
         Aggregate::CountRows => Ok(()),
-        Aggregate::Count(x) => check_column(columns, x),
-        Aggregate::CountDistinct(x) => check_column(columns, x),
-        Aggregate::Sum(x) => check_integer(columns, x),
-        Aggregate::Min(x) => check_ordered(columns, x),
-        Aggregate::Max(x) => check_ordered(columns, x),
-        Aggregate::Avg(x) => check_integer(columns, x),
+        Aggregate::Count(x)
+        | Aggregate::CountDistinct(x)
+        | Aggregate::Sum(x)
+        | Aggregate::Min(x)
+        | Aggregate::Max(x)
+        | Aggregate::Avg(x) => check_argument(columns, aggregate, x),
     }
 }
 
