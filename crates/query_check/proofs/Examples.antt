@@ -100,7 +100,7 @@ repeated = (codes "COUNT(*)" ∷ [], [], refl, (0, omega arith, refl))
 
 -- ORDER BY m, which is AVG(q)
 average_ordered : Stands fields by_average faults.FunctionNotAllowed
-average_ordered = (clause.OrderBy, average, (0, omega arith, refl), λ may. may)
+average_ordered = (clause.OrderBy, average, (0, omega arith, refl), refl)
 
 -- no fault of a text stands in a query that was read
 of_a_text : Stands fields by_average (faults.NoToken 0) → ⊥
@@ -143,7 +143,7 @@ function_in_filter = (
   clause.Where,
   function (over_all aggregate.CountRows),
   (counts_one, inr (counts_one, (clause.Select, aggregate.CountRows, (0, omega arith, refl)), (0, omega arith, refl)), (0, omega arith, refl)),
-  λ may. may,
+  refl,
 )
 
 -- SELECT COUNT(*) FILTER (WHERE q = 1) .. GROUP BY c is typed: within FILTER q need not be grouped

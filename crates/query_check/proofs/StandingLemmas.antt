@@ -17,13 +17,13 @@ use Rattle.query_check.specs.declared.scope.Clause.{Clause}
 use Rattle.query_check.specs.declared.scope.Clause.TheVariants as clause
 use Rattle.query_resolution.specs.Columns.{column_kind, kind_at, place_of, places_of}
 use Rattle.query_resolution.specs.Sets.{grouping_names, grouping_places}
-use Rattle.query_check.specs.Typing.{IsColumn, argument_names, takes}
-use Rattle.query_check.specs.Faults.{first_fault, fault_unless, column_fault, grouped_at_fault, grouped_fault, name_fault, kind_fault, same_kind, argument_fault, aggregate_fault, may_stand, function_fault, grouping_fault, expression_fault, predicate_fault}
+use Rattle.query_check.specs.Typing.{IsColumn, argument_names, may_stand, takes}
+use Rattle.query_check.specs.Faults.{first_fault, fault_unless, column_fault, grouped_at_fault, grouped_fault, name_fault, kind_fault, same_kind, argument_fault, aggregate_fault, function_fault, grouping_fault, expression_fault, predicate_fault}
 use Rattle.query_resolution.specs.Functions.{aggregate_of}
 use Rattle.query_check.specs.Standing.{IsFilterIn, IsOfOtherKind, IsWrittenIn, Stands, StandsIn, names, outer_names}
 use Rattle.query_resolution.proofs.Rows.{or_true}
 use Rattle.query_resolution.proofs.Distinct.{any_distinct}
-use Rattle.query_check.proofs.TypedLemmas.{holds, test_from_among, test_from_stands}
+use Rattle.query_check.proofs.TypedLemmas.{holds, test_from_among}
 
 -- ---- tests in a row
 
@@ -217,7 +217,7 @@ FiltersStand fields t f = (p : PredicateForm) → IsFilterIn t p → predicate_f
 
 -- A set function that may not stand.
 misplaced_stands : (fields : List Field) (t : TreeForm) (c : Clause) (g : FunctionForm) (f : QueryFault) → StandsIn t c (function g) → may_stand c (aggregate_of g) ≡ false → FunctionNotAllowed ≡ f → Stands fields t f
-misplaced_stands fields t c g f at may_not same = subst (Stands fields t) same (c, function g, at, λ may. let passes = test_from_stands c (aggregate_of g) may in let clash : ⊥ = cc in clash)
+misplaced_stands fields t c g f at may_not same = subst (Stands fields t) same (c, function g, at, may_not)
 
 -- A set function that may not stand in its clause, does not take its column, or has a FILTER with a fault.
 function_stands : (fields : List Field) (t : TreeForm) (c : Clause) (g : FunctionForm) (f : QueryFault) → (c ≢ clause.Where → FiltersStand fields t f) → StandsIn t c (function g) → function_fault fields c g ≡ Some f → Stands fields t f

@@ -24,7 +24,7 @@ use Rattle.query_check.specs.declared.scope.Clause.TheVariants as clause
 use Rattle.query_resolution.specs.Columns.{column_kind, place_of}
 use Rattle.query_resolution.specs.Sets.{expanded, grouping_names, grouping_places}
 use Rattle.query_resolution.specs.Functions.{functions_of}
-use Rattle.query_check.specs.Typing.{IsColumn, IsTypedAggregate, IsTypedName, IsTypedOperand, MayStand, aggregate_kind, key_expression, literal_kind, operand_kind, IsOfKinds, takes}
+use Rattle.query_check.specs.Typing.{IsColumn, IsTypedAggregate, IsTypedName, IsTypedOperand, may_stand, aggregate_kind, key_expression, literal_kind, operand_kind, IsOfKinds, takes}
 use Rattle.query_check.specs.Faults.{Answers, first_fault, column_fault, name_fault, expression_fault, operand_fault, same_kind, agreement_fault, between_agreement, member_agreement, predicate_fault, parts_fault, clause_fault, header_fault, limit_fault, names_fault, records_fault, select_fault, rows_fault, clauses_fault, query_fault}
 use Rattle.query_check.specs.Standing.{AreOfTwoKinds, Disagrees, IsAtomIn, Stands, StandsIn, StandsTwice, atoms, operands, parts_atoms}
 use Rattle.query_check.proofs.TypedLemmas.{name_from_none, operand_from_none, same_itself}
@@ -45,11 +45,11 @@ operand_stands fields t c p (expression e) f deeper atom among h = expression_st
 operand_stands fields t c p (literal a) f deeper atom among h = absurd cc
 
 -- Where atoms stand, AVG may not.
-no_average : (t : TreeForm) (c : Clause) (p : PredicateForm) (x : List ℕ) → IsAtomIn t c p → MayStand c (aggregate.Avg x) → ⊥
-no_average t clause.Where p x atom may = may
+no_average : (t : TreeForm) (c : Clause) (p : PredicateForm) (x : List ℕ) → IsAtomIn t c p → may_stand c (aggregate.Avg x) ≡ true → ⊥
+no_average t clause.Where p x atom may = absurd cc
 no_average t clause.Select p x atom may = let below = atom.1 in absurd (omega arith)
-no_average t clause.Having p x atom may = may
-no_average t clause.OrderBy p x atom may = may
+no_average t clause.Having p x atom may = absurd cc
+no_average t clause.OrderBy p x atom may = absurd cc
 
 -- A grouping column is a column.
 grouped_is_column : (grouped : List ℕ) (o : Option ℕ) → IsSomeAnd o (λ place. Contains grouped place) → IsSome o
@@ -69,7 +69,7 @@ of_kinds_has_kind None P h = absurd h
 of_kinds_has_kind (Some k) P h = refl
 
 -- A typed set function other than AVG has a type.
-aggregate_has_kind : (fields : List Field) (c : Clause) (a : Aggregate) → ((n : List ℕ) → MayStand c (aggregate.Avg n) → ⊥) → MayStand c a → IsTypedAggregate fields a → IsSome (aggregate_kind fields a)
+aggregate_has_kind : (fields : List Field) (c : Clause) (a : Aggregate) → ((n : List ℕ) → may_stand c (aggregate.Avg n) ≡ true → ⊥) → may_stand c a ≡ true → IsTypedAggregate fields a → IsSome (aggregate_kind fields a)
 aggregate_has_kind fields c aggregate.CountRows never may h = refl
 aggregate_has_kind fields c (aggregate.Count n) never may h = refl
 aggregate_has_kind fields c (aggregate.CountDistinct n) never may h = refl
@@ -81,7 +81,7 @@ aggregate_has_kind fields c (aggregate.Max n) never may h =
 aggregate_has_kind fields c (aggregate.Avg n) never may h = absurd (never n may)
 
 -- A typed operand of an atom has a type.
-typed_has_kind : (fields : List Field) (grouped : List ℕ) (c : Clause) (x : OperandForm) → ((n : List ℕ) → MayStand c (aggregate.Avg n) → ⊥) → IsTypedOperand fields grouped c x → IsSome (operand_kind fields x)
+typed_has_kind : (fields : List Field) (grouped : List ℕ) (c : Clause) (x : OperandForm) → ((n : List ℕ) → may_stand c (aggregate.Avg n) ≡ true → ⊥) → IsTypedOperand fields grouped c x → IsSome (operand_kind fields x)
 typed_has_kind fields grouped c (expression (name n)) never h = column_has_kind fields n (typed_is_column fields grouped c n h)
 typed_has_kind fields grouped c (expression (grouping ns)) never h = refl
 typed_has_kind fields grouped c (expression (function (over_all a))) never h = aggregate_has_kind fields c a never h.0 h.1

@@ -9,15 +9,14 @@ use Rattle.values.specs.declared.schema.Kind.{Kind}
 use Rattle.values.specs.declared.schema.Kind.TheVariants as kind
 use Rattle.values.specs.Schema.{Field}
 use Rattle.query_tree.specs.declared.expression.Aggregate.{Aggregate}
-use Rattle.query_tree.specs.declared.expression.Aggregate.TheVariants as aggregate
 use Rattle.query_tree.specs.Syntax.{ExpressionForm, FunctionForm, OperandForm, PredicateForm, PredicateForms, name, grouping, function, over_all, over_filtered, expression, literal, or_of, and_of, not_of, truth_test, compare, between, member, null_test, column, no_parts, part}
 use Rattle.query_fault.specs.declared.QueryFault.{QueryFault}
 use Rattle.query_fault.specs.declared.QueryFault.TheVariants.{FunctionNotAllowed}
 use Rattle.query_check.specs.declared.scope.Clause.{Clause}
 use Rattle.query_check.specs.declared.scope.Clause.TheVariants as clause
 use Rattle.query_resolution.specs.Columns.{column_kind, kind_at, place_of}
-use Rattle.query_check.specs.Typing.{IsGrouped, IsTypedName, IsTypedAggregate, MayStand, IsTypedFunction, IsTypedGrouping, IsTypedExpression, IsTypedOperand, IsOfOneKind, IsTypedPredicate, AreTypedParts, IsTypedClause, IsOfKinds, argument_names, literal_kind, operand_kind, takes}
-use Rattle.query_check.specs.Faults.{first_fault, fault_unless, column_fault, grouped_at_fault, grouped_fault, name_fault, kind_fault, argument_fault, aggregate_fault, may_stand, function_fault, grouping_fault, expression_fault, operand_fault, same_kind, agreement_fault, predicate_fault, parts_fault, clause_fault}
+use Rattle.query_check.specs.Typing.{IsGrouped, IsTypedName, IsTypedAggregate, IsTypedFunction, IsTypedGrouping, IsTypedExpression, IsTypedOperand, IsOfOneKind, IsTypedPredicate, AreTypedParts, IsTypedClause, IsOfKinds, argument_names, literal_kind, may_stand, operand_kind, takes}
+use Rattle.query_check.specs.Faults.{first_fault, fault_unless, column_fault, grouped_at_fault, grouped_fault, name_fault, kind_fault, argument_fault, aggregate_fault, function_fault, grouping_fault, expression_fault, operand_fault, same_kind, agreement_fault, predicate_fault, parts_fault, clause_fault}
 use Rattle.query_resolution.proofs.Rows.{or_true}
 
 -- ---- faults in a row
@@ -159,44 +158,6 @@ none_from_aggregate fields a h =
     (λ n k. both_none (column_fault fields n) _ (passes (is_some (place_of fields n)) _ (placed (kind_at fields) (place_of fields n) (Contains (takes a)) k)) (none_from_kind (takes a) (column_kind fields n) k))
     (argument_names a) h
 
--- A set function that passes the test may stand.
-stands_from_test : (c : Clause) (a : Aggregate) → may_stand c a ≡ true → MayStand c a
-stands_from_test clause.Where a h = absurd cc
-stands_from_test clause.Select a h = tt
-stands_from_test clause.Having aggregate.CountRows h = tt
-stands_from_test clause.Having (aggregate.Count x) h = tt
-stands_from_test clause.Having (aggregate.CountDistinct x) h = tt
-stands_from_test clause.Having (aggregate.Sum x) h = tt
-stands_from_test clause.Having (aggregate.Min x) h = tt
-stands_from_test clause.Having (aggregate.Max x) h = tt
-stands_from_test clause.Having (aggregate.Avg x) h = absurd cc
-stands_from_test clause.OrderBy aggregate.CountRows h = tt
-stands_from_test clause.OrderBy (aggregate.Count x) h = tt
-stands_from_test clause.OrderBy (aggregate.CountDistinct x) h = tt
-stands_from_test clause.OrderBy (aggregate.Sum x) h = tt
-stands_from_test clause.OrderBy (aggregate.Min x) h = tt
-stands_from_test clause.OrderBy (aggregate.Max x) h = tt
-stands_from_test clause.OrderBy (aggregate.Avg x) h = absurd cc
-
--- A set function that may stand passes the test.
-pub test_from_stands : (c : Clause) (a : Aggregate) → MayStand c a → may_stand c a ≡ true
-test_from_stands clause.Where a h = absurd h
-test_from_stands clause.Select a h = refl
-test_from_stands clause.Having aggregate.CountRows h = refl
-test_from_stands clause.Having (aggregate.Count x) h = refl
-test_from_stands clause.Having (aggregate.CountDistinct x) h = refl
-test_from_stands clause.Having (aggregate.Sum x) h = refl
-test_from_stands clause.Having (aggregate.Min x) h = refl
-test_from_stands clause.Having (aggregate.Max x) h = refl
-test_from_stands clause.Having (aggregate.Avg x) h = absurd h
-test_from_stands clause.OrderBy aggregate.CountRows h = refl
-test_from_stands clause.OrderBy (aggregate.Count x) h = refl
-test_from_stands clause.OrderBy (aggregate.CountDistinct x) h = refl
-test_from_stands clause.OrderBy (aggregate.Sum x) h = refl
-test_from_stands clause.OrderBy (aggregate.Min x) h = refl
-test_from_stands clause.OrderBy (aggregate.Max x) h = refl
-test_from_stands clause.OrderBy (aggregate.Avg x) h = absurd h
-
 -- Of a choice that comes to none, the test holds and its first side is none.
 chosen : {A : Type 0} (t : Bool) (o : Option A) (x : A) → cond t o (Some x) ≡ None → (t ≡ true) × (o ≡ None)
 chosen true o x h = (refl, h)
@@ -241,11 +202,11 @@ mutual
 
   -- A set function without a fault is typed.
   function_from_none : (fields : List Field) (c : Clause) (f : FunctionForm) → function_fault fields c f ≡ None → IsTypedFunction fields c f
-  function_from_none fields c (over_all a) h = let k = chosen (may_stand c a) (aggregate_fault fields a) FunctionNotAllowed h in (stands_from_test c a k.0, aggregate_from_none fields a k.1)
+  function_from_none fields c (over_all a) h = let k = chosen (may_stand c a) (aggregate_fault fields a) FunctionNotAllowed h in (k.0, aggregate_from_none fields a k.1)
   function_from_none fields c (over_filtered a p) h =
       let k = chosen (may_stand c a) (option_or (aggregate_fault fields a) (predicate_fault fields [] clause.Where p)) FunctionNotAllowed h in
       let l = none_of_both (aggregate_fault fields a) (predicate_fault fields [] clause.Where p) k.1 in
-      (stands_from_test c a k.0, aggregate_from_none fields a l.0, predicate_from_none fields [] clause.Where p l.1)
+      (k.0, aggregate_from_none fields a l.0, predicate_from_none fields [] clause.Where p l.1)
 
   -- An operand without a fault is typed.
   pub operand_from_none : (fields : List Field) (grouped : List ℕ) (c : Clause) (x : OperandForm) → operand_fault fields grouped c x ≡ None → IsTypedOperand fields grouped c x
@@ -292,9 +253,9 @@ mutual
 
   -- A typed set function has no fault.
   none_from_function : (fields : List Field) (c : Clause) (f : FunctionForm) → IsTypedFunction fields c f → function_fault fields c f ≡ None
-  none_from_function fields c (over_all a) h = rw (test_from_stands c a h.0) (none_from_aggregate fields a h.1)
+  none_from_function fields c (over_all a) h = rw (h.0) (none_from_aggregate fields a h.1)
   none_from_function fields c (over_filtered a p) h =
-      rw (test_from_stands c a h.0) (both_none (aggregate_fault fields a) (predicate_fault fields [] clause.Where p) (none_from_aggregate fields a h.1) (none_from_predicate fields [] clause.Where p h.2))
+      rw (h.0) (both_none (aggregate_fault fields a) (predicate_fault fields [] clause.Where p) (none_from_aggregate fields a h.1) (none_from_predicate fields [] clause.Where p h.2))
 
   -- A typed operand has no fault.
   none_from_operand : (fields : List Field) (grouped : List ℕ) (c : Clause) (x : OperandForm) → IsTypedOperand fields grouped c x → operand_fault fields grouped c x ≡ None

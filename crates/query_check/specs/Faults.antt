@@ -7,7 +7,6 @@ use Rattle.values.specs.declared.schema.Kind.{Kind}
 use Rattle.values.specs.declared.schema.Kind.TheVariants as kind
 use Rattle.values.specs.Schema.{Field}
 use Rattle.query_tree.specs.declared.expression.Aggregate.{Aggregate}
-use Rattle.query_tree.specs.declared.expression.Aggregate.TheVariants as aggregate
 use Rattle.query_tree.specs.declared.predicate.Literal.{Literal}
 use Rattle.query_tree.specs.Syntax.{ExpressionForm, FunctionForm, OperandForm, PredicateForm, PredicateForms, ElementForm, ItemForm, KeyForm, TreeForm, name, grouping, function, over_all, over_filtered, expression, literal, or_of, and_of, not_of, truth_test, compare, between, member, null_test, column, no_parts, part}
 use Rattle.query_print.specs.Canonical.{header_text}
@@ -18,7 +17,7 @@ use Rattle.query_check.specs.declared.scope.Clause.TheVariants as clause
 use Rattle.query_resolution.specs.Columns.{column_kind, group_names, place_of}
 use Rattle.query_resolution.specs.Sets.{expanded, grouping_places}
 use Rattle.query_resolution.specs.Functions.{functions_of}
-use Rattle.query_check.specs.Typing.{argument_names, key_expression, literal_kind, operand_kind, takes}
+use Rattle.query_check.specs.Typing.{argument_names, key_expression, literal_kind, may_stand, operand_kind, takes}
 
 -- The first fault of the elements of a list, from left to right.
 abbrev pub first_fault : {A : Type 0} → (A → Option QueryFault) → List A → Option QueryFault
@@ -51,9 +50,7 @@ grouped_fault fields grouped n = grouped_at_fault grouped n (place_of fields n)
 -- A name in WHERE is any column, in every other clause a grouping column.
 abbrev pub name_fault : List Field → List ℕ → Clause → List ℕ → Option QueryFault
 name_fault fields grouped clause.Where n = column_fault fields n
-name_fault fields grouped clause.Select n = grouped_fault fields grouped n
-name_fault fields grouped clause.Having n = grouped_fault fields grouped n
-name_fault fields grouped clause.OrderBy n = grouped_fault fields grouped n
+name_fault fields grouped c n = grouped_fault fields grouped n
 
 -- ---- functions
 
@@ -76,23 +73,12 @@ argument_fault fields kinds n = option_or (column_fault fields n) (kind_fault ki
 abbrev pub aggregate_fault : List Field → Aggregate → Option QueryFault
 aggregate_fault fields a = first_fault (argument_fault fields (takes a)) (argument_names a)
 
--- No set function may stand in WHERE, and AVG only in SELECT.
-abbrev pub may_stand : Clause → Aggregate → Bool
-may_stand clause.Where a = false
-may_stand clause.Select a = true
-may_stand clause.Having (aggregate.Avg x) = false
-may_stand clause.Having a = true
-may_stand clause.OrderBy (aggregate.Avg x) = false
-may_stand clause.OrderBy a = true
-
 -- ---- expressions and predicates
 
 -- GROUPING may not stand in WHERE, and takes grouping columns.
 abbrev pub grouping_fault : List Field → List ℕ → Clause → List (List ℕ) → Option QueryFault
 grouping_fault fields grouped clause.Where ns = Some FunctionNotAllowed
-grouping_fault fields grouped clause.Select ns = first_fault (grouped_fault fields grouped) ns
-grouping_fault fields grouped clause.Having ns = first_fault (grouped_fault fields grouped) ns
-grouping_fault fields grouped clause.OrderBy ns = first_fault (grouped_fault fields grouped) ns
+grouping_fault fields grouped c ns = first_fault (grouped_fault fields grouped) ns
 
 -- The types of two operands are not one type.
 abbrev pub agreement_fault : Option Kind → Option Kind → Option QueryFault

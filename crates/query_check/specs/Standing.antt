@@ -1,5 +1,5 @@
 -- Which faults stand in a query under a schema, wherever in it they stand (ISO/IEC 9075-2, <query specification>).
-use Rattle.std.specs.Prelude.{◌≡◌, ◌≢◌, ◌<◌, ⊤, ◌⊎◌, ℕ, Option, Some, List, [], ◌∷◌, ◌++◌, map, length, Contains}
+use Rattle.std.specs.Prelude.{◌≡◌, ◌≢◌, ◌<◌, ⊤, ◌⊎◌, ℕ, false, Option, Some, List, [], ◌∷◌, ◌++◌, map, length, Contains}
 use Rattle.std.specs.Option.{option_map_or}
 use Rattle.values.specs.declared.schema.Kind.{Kind}
 use Rattle.values.specs.declared.schema.Kind.TheVariants as kind
@@ -14,7 +14,7 @@ use Rattle.query_check.specs.declared.scope.Clause.TheVariants as clause
 use Rattle.query_resolution.specs.Columns.{column_kind}
 use Rattle.query_resolution.specs.Sets.{expanded, grouping_names}
 use Rattle.query_resolution.specs.Functions.{aggregate_of, functions_of}
-use Rattle.query_check.specs.Typing.{IsColumn, MayStand, argument_names, key_expression, operand_kind, takes}
+use Rattle.query_check.specs.Typing.{IsColumn, argument_names, key_expression, may_stand, operand_kind, takes}
 
 -- ---- what stands in a query
 
@@ -103,7 +103,7 @@ IsOfOtherKind fields a = (n : List ℕ) × (k : Kind) × Contains (argument_name
 abbrev pub IsMisplaced : Clause → ExpressionForm → Type 0
 IsMisplaced c (name n) = ⊥
 IsMisplaced c (grouping ns) = c ≡ clause.Where
-IsMisplaced c (function f) = MayStand c (aggregate_of f) → ⊥
+IsMisplaced c (function f) = may_stand c (aggregate_of f) ≡ false
 
 -- A header stands twice: once, and once more before.
 abbrev pub StandsTwice : List ℕ → List (List ℕ) → Type 0

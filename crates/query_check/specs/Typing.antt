@@ -1,5 +1,5 @@
 -- Which queries are typed under a schema (ISO/IEC 9075-2, <query specification>).
-use Rattle.std.specs.Prelude.{◌≡◌, ◌≢◌, ◌≤◌, ℕ, ⊤, false, Option, Some, None, List, [], ◌∷◌, map, length, All, AllPairs, Contains, IsSome, IsSomeAnd}
+use Rattle.std.specs.Prelude.{◌≡◌, ◌≢◌, ◌≤◌, ℕ, ⊤, Bool, true, false, Option, Some, None, List, [], ◌∷◌, map, length, All, AllPairs, Contains, IsSome, IsSomeAnd, IsTrue}
 use Rattle.std.specs.List.{find}
 use Rattle.std.specs.Option.{option_map_or}
 use Rattle.std.specs.Str.{bytes_eq}
@@ -31,9 +31,7 @@ IsGrouped fields grouped n = IsSomeAnd (place_of fields n) (λ place. Contains g
 -- In WHERE a name is any column; in every other clause it is a grouping column.
 abbrev pub IsTypedName : List Field → List ℕ → Clause → List ℕ → Type 0
 IsTypedName fields grouped clause.Where n = IsColumn fields n
-IsTypedName fields grouped clause.Select n = IsGrouped fields grouped n
-IsTypedName fields grouped clause.Having n = IsGrouped fields grouped n
-IsTypedName fields grouped clause.OrderBy n = IsGrouped fields grouped n
+IsTypedName fields grouped c n = IsGrouped fields grouped n
 
 -- ---- functions
 
@@ -67,23 +65,19 @@ IsOfKinds fields kinds n = IsSomeAnd (column_kind fields n) (Contains kinds)
 abbrev pub IsTypedAggregate : List Field → Aggregate → Type 0
 IsTypedAggregate fields a = All (IsOfKinds fields (takes a)) (argument_names a)
 
--- No set function may stand in WHERE, and AVG only in SELECT.
-abbrev pub MayStand : Clause → Aggregate → Type 0
-MayStand clause.Where a = ⊥
-MayStand clause.Select a = ⊤
-MayStand clause.Having (aggregate.Avg x) = ⊥
-MayStand clause.Having a = ⊤
-MayStand clause.OrderBy (aggregate.Avg x) = ⊥
-MayStand clause.OrderBy a = ⊤
+-- Whether a set function may stand in a clause: none in WHERE, and AVG only in SELECT.
+abbrev pub may_stand : Clause → Aggregate → Bool
+may_stand clause.Where a = false
+may_stand clause.Select a = true
+may_stand c (aggregate.Avg x) = false
+may_stand c a = true
 
 -- ---- expressions
 
 -- GROUPING takes grouping columns, and may not stand in WHERE.
 abbrev pub IsTypedGrouping : List Field → List ℕ → Clause → List (List ℕ) → Type 0
 IsTypedGrouping fields grouped clause.Where ns = ⊥
-IsTypedGrouping fields grouped clause.Select ns = All (IsGrouped fields grouped) ns
-IsTypedGrouping fields grouped clause.Having ns = All (IsGrouped fields grouped) ns
-IsTypedGrouping fields grouped clause.OrderBy ns = All (IsGrouped fields grouped) ns
+IsTypedGrouping fields grouped c ns = All (IsGrouped fields grouped) ns
 
 -- The type of a set function: a whole number, or for MIN and MAX the type of the argument. AVG has none.
 abbrev pub aggregate_kind : List Field → Aggregate → Option Kind
@@ -131,8 +125,8 @@ abbrev mutual
   -- A set function is typed where it may stand and takes its column. Its FILTER is typed as WHERE is, in whichever clause
   -- the function stands: names are columns, and no set function and no GROUPING may stand there.
   pub IsTypedFunction : List Field → Clause → FunctionForm → Type 0
-  IsTypedFunction fields c (over_all a) = MayStand c a × IsTypedAggregate fields a
-  IsTypedFunction fields c (over_filtered a p) = MayStand c a × IsTypedAggregate fields a × IsTypedPredicate fields [] clause.Where p
+  IsTypedFunction fields c (over_all a) = IsTrue (may_stand c a) × IsTypedAggregate fields a
+  IsTypedFunction fields c (over_filtered a p) = IsTrue (may_stand c a) × IsTypedAggregate fields a × IsTypedPredicate fields [] clause.Where p
 
   -- An operand is typed where its expression is; a literal always is.
   pub IsTypedOperand : List Field → List ℕ → Clause → OperandForm → Type 0

@@ -20,7 +20,7 @@ use Rattle.query_resolution.specs.Same.{same_predicate}
 use Rattle.query_check.specs.Typing.{IsTypedPredicate}
 use Rattle.query_truth.specs.declared.condition.Condition.{Condition}
 use Rattle.query_truth.specs.Binding.{AreConditionsOf}
-use Rattle.query_truth.specs.Kept.{filter_truth, passes, record_value}
+use Rattle.query_truth.specs.Kept.{passes, record_value, where_truth}
 use Rattle.query_truth.specs.Meaning.{condition_truth, is_safe}
 use Rattle.query_truth.specs.Truth.{same_truth, truth}
 
@@ -104,11 +104,11 @@ index_below fields t place index x below here has =
     index_within (filters_of fields t) g.0.filter index (ap (λ (f : FilteredFunction). f.filter) (sym same) ∙ has)
 
 -- What a filter is worth that is read from a list.
-pub worth_read : (fields : List Field) (values : List Datum) (ps : List PredicateForm) (index : ℕ) (o : Option PredicateForm) (t : Truth) → slice_get ps index ≡ o → Some t ≡ slice_get (map (truth (record_value fields values)) ps) index → t ≡ filter_truth fields o values
+pub worth_read : (fields : List Field) (values : List Datum) (ps : List PredicateForm) (index : ℕ) (o : Option PredicateForm) (t : Truth) → slice_get ps index ≡ o → Some t ≡ slice_get (map (truth (record_value fields values)) ps) index → t ≡ where_truth fields o values
 worth_read fields values ps index o t here worth =
     some_worth fields values o t (worth ∙ at_map (truth (record_value fields values)) ps index ∙ ap (option_map (truth (record_value fields values))) here)
   where
-    some_worth : (fields : List Field) (values : List Datum) (o : Option PredicateForm) (t : Truth) → Some t ≡ option_map (truth (record_value fields values)) o → t ≡ filter_truth fields o values
+    some_worth : (fields : List Field) (values : List Datum) (o : Option PredicateForm) (t : Truth) → Some t ≡ option_map (truth (record_value fields values)) o → t ≡ where_truth fields o values
     some_worth fields values None t h = absurd cc
     some_worth fields values (Some p) t h = cc
 
@@ -125,9 +125,9 @@ read_at fields t place xs d same below =
     ap (λ (ys : List FilteredFunction). slice_get ys place) (sym same) ∙ slice_get-get_or xs place d (place_within fields t place xs same below)
 
 -- Without an index there is no filter, and all records pass.
-pub no_filter : (fields : List Field) (t : TreeForm) (place : ℕ) (x : FilteredFunction) (values : List Datum) → slice_get (indexed_functions fields t) place ≡ Some x → LeadBack fields t → x.filter ≡ None → True ≡ filter_truth fields (filter_at fields t place) values
+pub no_filter : (fields : List Field) (t : TreeForm) (place : ℕ) (x : FilteredFunction) (values : List Datum) → slice_get (indexed_functions fields t) place ≡ Some x → LeadBack fields t → x.filter ≡ None → True ≡ where_truth fields (filter_at fields t place) values
 no_filter fields t place x values here back has =
-    ap (λ (o : Option PredicateForm). filter_truth fields o values) (ap (option_and_then (slice_get (filters_of fields t))) (sym has) ∙ filter_read fields t place x here back)
+    ap (λ (o : Option PredicateForm). where_truth fields o values) (ap (option_and_then (slice_get (filters_of fields t))) (sym has) ∙ filter_read fields t place x here back)
 
 -- As many conditions as filters.
 pub as_many : (fields : List Field) (ps : List PredicateForm) (cs : List Condition) → map (λ c. condition_truth c []) cs ≡ map (truth (record_value fields [])) ps → length ps ≡ length cs

@@ -3,7 +3,7 @@
 ghost use Rattle.std.specs.Prelude.{◌≡◌, ◌<◌, length};
 ghost use Rattle.values.specs.Fit.{Fits};
 ghost use Rattle.query_resolution.specs.Functions.{filter_at, functions_of};
-ghost use Rattle.query_truth.specs.Kept.{filter_truth, where_truth};
+ghost use Rattle.query_truth.specs.Kept.{where_truth};
 ghost use Rattle.query_plan.specs.Planned.{fields_of_plan, form_of_plan};
 
 use crate::plan::Plan;
@@ -33,7 +33,7 @@ pub fn holds(plan: &Plan, record: &Record) -> Truth
 pub fn filter_holds(plan: &Plan, f: usize, record: &Record) -> Truth
     requires place { f < length (functions_of (fields_of_plan plan.now) (form_of_plan plan.now)) }
     requires fits { Fits (fields_of_plan plan.now) «record».now }
-    ensures { result ≡ filter_truth (fields_of_plan plan.now) (filter_at (fields_of_plan plan.now) (form_of_plan plan.now) f) «record».now }
+    ensures { result ≡ where_truth (fields_of_plan plan.now) (filter_at (fields_of_plan plan.now) (form_of_plan plan.now) f) «record».now }
 {
     plan.filter_truth(f, record.values())
 }

@@ -57,7 +57,7 @@ impl Plan {
     ghost use Rattle.query_resolution.specs.Resolution.{contents};
     ghost use Rattle.query_resolution.specs.Sets.{grouping_places, sets_of};
     ghost use Rattle.query_resolution.specs.Functions.{filter_at, filters_of, functions_of, indexed_functions};
-    ghost use Rattle.query_truth.specs.Kept.{filter_truth, passes, record_value, where_truth};
+    ghost use Rattle.query_truth.specs.Kept.{passes, record_value, where_truth};
     ghost use Rattle.query_truth.specs.Meaning.{condition_truth, is_safe};
     ghost use Rattle.query_truth.specs.Truth.{truth};
     ghost use Rattle.query_plan.specs.Planned.{fields_of_plan, form_of_plan};
@@ -179,7 +179,7 @@ impl Plan {
     pub(crate) fn filter_truth(&self, place: usize, values: &[Value]) -> Truth
         requires place { place < length (functions_of (fields_of_plan self.now) (form_of_plan self.now)) }
         requires fits { Fits (fields_of_plan self.now) (data_of values.now) }
-        ensures { result ≡ filter_truth (fields_of_plan self.now) (filter_at (fields_of_plan self.now) (form_of_plan self.now) place) (data_of values.now) }
+        ensures { result ≡ where_truth (fields_of_plan self.now) (filter_at (fields_of_plan self.now) (form_of_plan self.now) place) (data_of values.now) }
     {
         filters_law();
         match self.set_functions()[place].filter {

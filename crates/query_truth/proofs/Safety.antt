@@ -149,8 +149,8 @@ operand-of : (fields : List Field) (grouped : List ℕ) (x : OperandForm) (k : K
     → IsTypedOperand fields grouped clause.Where x → operand_kind fields x ≡ Some k → Fits fields values → is_of k (operand_value (record_value fields values) x) ≡ true
 operand-of fields grouped (expression (name n)) k values typed has fits = column-of fields n k values has fits
 operand-of fields grouped (expression (grouping ns)) k values typed has fits = absurd typed
-operand-of fields grouped (expression (function (over_all a))) k values typed has fits = absurd typed.0
-operand-of fields grouped (expression (function (over_filtered a p))) k values typed has fits = absurd typed.0
+operand-of fields grouped (expression (function (over_all a))) k values typed has fits = let may = typed.0 in absurd cc
+operand-of fields grouped (expression (function (over_filtered a p))) k values typed has fits = let may = typed.0 in absurd cc
 operand-of fields grouped (literal a) k values typed has fits = subst (λ l. is_of l (literal_value a) ≡ true) (some-is (literal_kind a) k has) (is_of-literal a)
   where
     some-is : (x y : Kind) → Some x ≡ Some y → x ≡ y

@@ -19,7 +19,7 @@ record_value fields values (name n) = column_value fields values n
 record_value fields values (grouping ns) = null
 record_value fields values (function f) = null
 
--- the truth value of WHERE for a record; it is True where WHERE is not written
+-- the truth value of a WHERE or a FILTER for a record: in both names are columns, and it is True where none is written
 abbrev pub where_truth : List Field → Option PredicateForm → List Datum → Truth
 where_truth fields None values = True
 where_truth fields (Some p) values = truth (record_value fields values) p
@@ -33,11 +33,6 @@ abbrev pub kept : List Field → TreeForm → List (List Datum) → List (List D
 kept fields q records = filter (is_kept fields q) records
 
 -- ---- FILTER (ISO/IEC 9075-2, <filter clause>)
-
--- the truth value of a FILTER for a record, in which names are as in WHERE; it is True where there is none
-abbrev pub filter_truth : List Field → Option PredicateForm → List Datum → Truth
-filter_truth fields None values = True
-filter_truth fields (Some p) values = truth (record_value fields values) p
 
 -- whether a record passes a FILTER of this predicate: where it is True, not where it is False or Unknown
 abbrev pub passes : List Field → PredicateForm → List Datum → Bool

@@ -27,7 +27,7 @@ use Rattle.query_check.specs.declared.scope.Clause.TheVariants as clause
 use Rattle.query_resolution.specs.Columns.{column_kind, kind_at, place_of}
 use Rattle.query_resolution.specs.Functions.{PlannedFunction, column_function, functions_of, same_function, same_planned}
 use Rattle.query_resolution.specs.Sets.{sets_of}
-use Rattle.query_check.specs.Typing.{IsOfOneKind, IsTypedExpression, IsTypedOperand, IsTypedPredicate, MayStand, aggregate_kind, expression_kind, literal_kind, operand_kind}
+use Rattle.query_check.specs.Typing.{IsOfOneKind, IsTypedExpression, IsTypedOperand, IsTypedPredicate, aggregate_kind, expression_kind, literal_kind, may_stand, operand_kind}
 use Rattle.query_truth.specs.Meaning.{comparable, is_truth_value}
 use Rattle.query_truth.specs.Truth.{literal_value, operand_value}
 use Rattle.query_truth.proofs.Safety.{both-true, cases, comparable-of, is_of, is_of-held, is_of-literal, truth-of}
@@ -187,7 +187,7 @@ column-of fields k make filter fs cells None h has = null-of k
 column-of fields k make filter fs cells (Some p) h has = placed-of fields k (record { function = make p; filter = filter }) fs cells h (has p refl)
 
 function-of : (fields : List Field) (t : TreeForm) (k : Kind) (cells : List Summary) (a : Aggregate) (filter : Option PredicateForm) → AllZip (HasTypeOf fields) (functions_of fields t) cells
-    → MayStand clause.Having a → aggregate_kind fields a ≡ Some k
+    → may_stand clause.Having a ≡ true → aggregate_kind fields a ≡ Some k
     → is_of k (cell_value (unwrap_or (option_and_then (slice_get cells) (option_and_then (λ f. position (same_planned f) (functions_of fields t)) (option_map (λ g. record { function = g; filter = filter }) (column_function fields a)))) (plain null))) ≡ true
 unfolding function_kind
 function-of fields t k cells aggregate.CountRows filter h may has = placed-of fields k (record { function = at.CountRows; filter = filter }) (functions_of fields t) cells h has
@@ -198,7 +198,7 @@ function-of fields t k cells (aggregate.Min x) filter h may has =
     column-of fields k at.Min filter (functions_of fields t) cells (place_of fields x) h (λ p e. sym (ap (option_and_then (kind_at fields)) e) ∙ has)
 function-of fields t k cells (aggregate.Max x) filter h may has =
     column-of fields k at.Max filter (functions_of fields t) cells (place_of fields x) h (λ p e. sym (ap (option_and_then (kind_at fields)) e) ∙ has)
-function-of fields t k cells (aggregate.Avg x) filter h may has = absurd may
+function-of fields t k cells (aggregate.Avg x) filter h may has = absurd cc
 
 -- ---- operands
 
