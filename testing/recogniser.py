@@ -16,7 +16,7 @@ import sys
 
 PAGE = (pathlib.Path(__file__).resolve().parent.parent / "docs/LANGUAGE.md").read_text(encoding="utf-8")
 KEYWORDS = re.findall("[A-Z]+", re.search(r"^- The keywords are (.*)\.$", PAGE, re.MULTILINE)[1])
-LIMITS = re.findall(r"(\d[\d,]*) ", re.search("^A query has at most .*", PAGE, re.MULTILINE)[0])
+LIMITS = re.findall(r"(\d[\d,]*) ", re.search(r"^A query has at most:\n\n(- .*\n)+", PAGE, re.MULTILINE)[0])
 BYTES, ITEMS, _, COLUMNS, LITERALS, SETS, BRACKETS, _ = (int(it.replace(",", "")) for it in LIMITS)
 
 # How many of a symbol a rule may have; and parts whose first word begins a level, with how many may stand in one another.
