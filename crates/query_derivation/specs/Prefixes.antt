@@ -16,3 +16,9 @@ pub record IsUnexpectedWithin (ts : List Token) (place : ℕ) : Type 0 where
   pub inside : place ≤ length ts
   pub continues_none : place < length ts → BeginsWithin (take (place + 1) ts) → ⊥
   pub derives_none : (q : TreeForm) → Derives ts q → ⊥
+
+-- It is too much: within the limits, the tokens before some place begin no query.
+pub record IsOverLimit (ts : List Token) : Type 0 where
+  pub place : ℕ
+  pub inside : place ≤ length ts
+  pub begins_none : BeginsWithin (take place ts) → ⊥

@@ -18,29 +18,29 @@ use Rattle.query_predicates.specs.PredicateSteps.{predicate_at, inside_of, any_f
 use Rattle.query_grammar.specs.GroupSteps.{all_at, enclosed_at, begins_unit, unit_at, units_at, nothing_at, set_at, element_at, sets_at, group_at}
 use Rattle.query_grammar.specs.KeySteps.{direction_at, null_ordering_at, key_at, keys_at}
 use Rattle.query_grammar.specs.QuerySteps.{alias_at, item_at, items_at, from_at, clause_at, set_quantifier_at, elements_at, groups_at, select_at, records_at, rows_at, query_at, at_end, whole_at}
-use Rattle.query_leaves.proofs.Local.{SameFront, IsFront, Local, local_as, local_end, local_head, local_ok, local_stuck, local_over, local_choose, local_front, local_bind, local_expected, local_expected_front, local_all}
+use Rattle.query_leaves.proofs.Local.{SameFront, IsFront, Local, Shares, local_loose, local_as, local_end, local_head, local_ok, local_stuck, local_over, local_choose, local_front, local_bind, local_expected, local_expected_front, local_all}
 use Rattle.query_leaves.proofs.LocalLeaves.{TellsByFront, local_listed, local_closed, name_front, name_told}
 use Rattle.query_derivation.specs.Grammar.{Derives}
-use Rattle.query_derivation.specs.Prefixes.{IsUnexpectedWithin}
+use Rattle.query_derivation.specs.Prefixes.{IsUnexpectedWithin, IsOverLimit}
 use Rattle.query_grammar.proofs.Complete.{whole_c}
 use Rattle.query_predicates.proofs.LocalPredicates.{local_made, any_told, expression_l, expression_told, predicate_l}
 
 -- ---- lists
 
-all_l : {A : Type 0} (b : List Token → Bool) (f : Reader A) → TellsByFront b → Local f → Local (all_at b f)
+all_l : {A : Type 0} (b : List Token → Bool) (f : Reader A) → TellsByFront b → Local true f → Local true (all_at b f)
 all_l b f front lf = local_bind f (λ x us. with_front (x ∷ []) (more (is_sign s.Comma) b f (length us) us)) lf
     (λ x. local_bind (λ us. more (is_sign s.Comma) b f (length us) us) (λ xs us. Ok ((x ∷ []) ++ xs, us)) (local_all (is_sign s.Comma) b f front lf) (λ xs. local_ok ((x ∷ []) ++ xs)))
 
-enclosed_l : {A : Type 0} (b : List Token → Bool) (f : Reader A) → TellsByFront b → Local f → Local (enclosed_at b f)
+enclosed_l : {A : Type 0} (b : List Token → Bool) (f : Reader A) → TellsByFront b → Local true f → Local true (enclosed_at b f)
 enclosed_l b f front lf = local_expected (is_sign s.Open) (λ a. all_at b f a >>= λ all. expected (after (is_sign s.Close)) all.1 >>= λ rest. Ok (all.0, rest))
     (local_bind (all_at b f) (λ xs us. expected (after (is_sign s.Close)) us >>= λ rest. Ok (xs, rest)) (all_l b f front lf) local_closed)
 
 -- ---- units, sets and groups
 
-names_l : Local (enclosed_at begins_name (expected name_at))
+names_l : Local true (enclosed_at begins_name (expected name_at))
 names_l = enclosed_l begins_name (expected name_at) name_told (local_expected_front name_at name_front)
 
-unit_l : Local unit_at
+unit_l : Local true unit_at
 unfolding unit_at
 unit_l = local_front name_at (λ ts. enclosed_at begins_name (expected name_at) ts) (λ n us. Ok (n ∷ [], us)) name_front names_l (λ n. local_ok (n ∷ []))
 
@@ -50,7 +50,7 @@ unit_told (tokens.Name n) us vs = refl
 unit_told (tokens.Sign s.Open) us vs = refl
 unit_told t us vs = refl
 
-units_l : Local units_at
+units_l : Local true units_at
 unfolding units_at
 units_l = enclosed_l begins_unit unit_at unit_told unit_l
 
@@ -58,7 +58,7 @@ units_l = enclosed_l begins_unit unit_at unit_told unit_l
 opened_at : Reader (List (List ℕ))
 opened_at ts = choose (after (is_sign s.Open) ts) (unit_at ts) (λ a. choose (after (is_sign s.Close) a) (all_at begins_name (expected name_at) a >>= λ all. expected (after (is_sign s.Close)) all.1 >>= λ rest. Ok (all.0, rest)) (λ rest. Ok ([], rest)))
 
-opened_l : Local opened_at
+opened_l : Local true opened_at
 unfolding opened_at
 opened_l = local_choose (is_sign s.Open) unit_at (λ a. choose (after (is_sign s.Close) a) (all_at begins_name (expected name_at) a >>= λ all. expected (after (is_sign s.Close)) all.1 >>= λ rest. Ok (all.0, rest)) (λ rest. Ok ([], rest))) unit_l
     (local_choose (is_sign s.Close) (λ a. all_at begins_name (expected name_at) a >>= λ all. expected (after (is_sign s.Close)) all.1 >>= λ rest. Ok (all.0, rest)) (λ rest. Ok ([], rest))
@@ -71,10 +71,10 @@ set_opened [] = refl
 set_opened (tokens.Sign s.Open ∷ ts) = refl
 set_opened (t ∷ ts) = refl
 
-set_l : Local set_at
+set_l : Local true set_at
 set_l = local_as set_at opened_at set_opened opened_l
 
-element_l : (nested : Reader ElementForm) → Local nested → Local (element_at nested)
+element_l : (nested : Reader ElementForm) → Local false nested → Local true (element_at nested)
 unfolding element_at
 element_l nested ln =
     local_choose (is_word w.Rollup) (λ ts. choose (after (is_word w.Cube) ts) (choose (after (is_word w.Grouping) ts) (set_at ts >>= λ ns. Ok (set ns.0, ns.1)) (λ a. nested a)) (λ a. units_at a >>= λ us. Ok (cube us.0, us.1))) (λ a. units_at a >>= λ us. Ok (rollup us.0, us.1))
@@ -82,27 +82,27 @@ element_l nested ln =
     (local_choose (is_word w.Grouping) (λ ts. set_at ts >>= λ ns. Ok (set ns.0, ns.1)) nested (local_made set_at (λ ns. set ns) set_l) ln) (local_made units_at (λ us. cube us) units_l))
     (local_made units_at (λ us. rollup us) units_l)
 
-sets_l : (n : ℕ) → Local (sets_at n)
+sets_l : (n : ℕ) → Local false (sets_at n)
 unfolding sets_at
 sets_l zero = local_over
-sets_l (suc n) = local_expected (is_word w.Sets) (λ a. enclosed_at any_front (element_at (sets_at n)) a >>= λ gs. Ok (sets (element_forms gs.0), gs.1))
-    (local_made (enclosed_at any_front (element_at (sets_at n))) (λ gs. sets (element_forms gs)) (enclosed_l any_front (element_at (sets_at n)) any_told (element_l (sets_at n) (sets_l n))))
+sets_l (suc n) = local_loose (λ ts. expected (after (is_word w.Sets)) ts >>= λ a. enclosed_at any_front (element_at (sets_at n)) a >>= λ gs. Ok (sets (element_forms gs.0), gs.1)) (local_expected (is_word w.Sets) (λ a. enclosed_at any_front (element_at (sets_at n)) a >>= λ gs. Ok (sets (element_forms gs.0), gs.1))
+    (local_made (enclosed_at any_front (element_at (sets_at n))) (λ gs. sets (element_forms gs)) (enclosed_l any_front (element_at (sets_at n)) any_told (element_l (sets_at n) (sets_l n)))))
 
-group_l : (n : ℕ) → Local (group_at n)
+group_l : (n : ℕ) → Local true (group_at n)
 group_l n = element_l (sets_at n) (sets_l n)
 
 -- ---- items
 
-alias_l : Local alias_at
+alias_l : Local true alias_at
 unfolding alias_at
 alias_l = local_choose (is_word w.As) (λ ts. Ok (None, ts)) (λ a. expected name_at a >>= λ n. Ok (Some n.0, n.1)) (local_ok None) (local_made (expected name_at) (λ n. Some n) (local_expected_front name_at name_front))
 
-item_l : Local item_at
+item_l : Local true item_at
 unfolding item_at
 item_l = local_bind (expression_at (inside_of 64)) (λ e us. alias_at us >>= λ a. Ok (record { expression = e; alias = a.0 }, a.1)) (expression_l (inside_of 64) (predicate_l 64))
     (λ e. local_made alias_at (λ a. record { expression = e; alias = a }) alias_l)
 
-items_l : Local items_at
+items_l : Local true items_at
 unfolding items_at
 items_l = local_listed begins_expression item_at expression_told item_l 63
 
@@ -147,11 +147,11 @@ from_way {A} x ts = of_from (expected (after (is_word w.From)) ts) where
   of_from (Ok a) = of_name a
   of_from (Err e) = refl
 
-from_l : {A : Type 0} (x : A) → Local (λ ts. from_at ts >>= λ rest. beside x rest)
+from_l : {A : Type 0} (x : A) → Local true (λ ts. from_at ts >>= λ rest. beside x rest)
 from_l x = local_as (λ ts. from_at ts >>= λ rest. beside x rest) (λ ts. expected (after (is_word w.From)) ts >>= λ a. choose (lines_at a) (stuck a) (λ l. beside x l.1)) (from_way x)
     (local_expected (is_word w.From) (λ a. choose (lines_at a) (stuck a) (λ l. beside x l.1)) (local_front lines_at stuck (λ _. beside x) lines_front local_stuck (λ _. local_ok x)))
 
-clause_l : (word : Word) → Local (clause_at word)
+clause_l : (word : Word) → Local true (clause_at word)
 unfolding clause_at
 clause_l word = local_choose (is_word word) (λ ts. Ok (None, ts)) (λ a. predicate_at 65 a >>= λ p. Ok (Some p.0, p.1)) (local_ok None) (local_made (predicate_at 65) (λ p. Some p) (predicate_l 65))
 
@@ -163,25 +163,25 @@ quantifier_way {A} g ts = of_way (after (is_word w.Distinct) ts) where
   of_way None = refl
   of_way (Some r) = refl
 
-elements_l : Local elements_at
+elements_l : Local true elements_at
 unfolding elements_at
 elements_l = local_as elements_at (λ ts. choose (after (is_word w.Distinct) ts) (listed false ts) (λ a. listed true a)) (quantifier_way listed)
     (local_choose (is_word w.Distinct) (listed false) (listed true) (listed_l false) (listed_l true)) where
       listed : Bool → Reader (Bool × List ElementForm)
       listed d us = all_at any_front (group_at 16) us >>= λ gs. Ok ((d, gs.0), gs.1)
 
-      listed_l : (d : Bool) → Local (listed d)
+      listed_l : (d : Bool) → Local true (listed d)
       listed_l d = local_made (all_at any_front (group_at 16)) (λ gs. (d, gs)) (all_l any_front (group_at 16) any_told (group_l 16))
 
-groups_l : Local groups_at
+groups_l : Local true groups_at
 unfolding groups_at
 groups_l = local_choose (is_word w.Group) (λ ts. Ok ((false, []), ts)) (λ a. expected (after (is_word w.By)) a >>= λ b. elements_at b) (local_ok (false, [])) (local_expected (is_word w.By) elements_at elements_l)
 
-select_l : Local select_at
+select_l : Local true select_at
 unfolding select_at
 select_l = local_expected (is_word w.Select) (λ a. items_at a >>= λ is. from_at is.1 >>= λ rest. Ok (is.0, rest)) (local_bind items_at (λ is us. from_at us >>= λ rest. Ok (is, rest)) items_l from_l)
 
-records_l : Local records_at
+records_l : Local true records_at
 unfolding records_at
 records_l = local_bind (clause_at w.Where) (λ p us. groups_at us >>= λ gs. Ok ((p, gs.0.0, gs.0.1), gs.1)) (clause_l w.Where) (λ p. local_made groups_at (λ gs. (p, gs.0, gs.1)) groups_l)
 
@@ -196,12 +196,12 @@ direction_way {A} g ts = of_way (after (is_word w.Desc) ts) (after (is_word w.As
   of_way None (Some r) = refl
   of_way (Some r) p = refl
 
-null_ordering_l : (d : Bool) → Local (null_ordering_at d)
+null_ordering_l : (d : Bool) → Local true (null_ordering_at d)
 unfolding null_ordering_at
 null_ordering_l d = local_choose (is_word w.Nulls) (λ ts. Ok (d, ts)) (λ a. choose (after (is_word w.First) a) (expected (after (is_word w.Last)) a >>= λ r. Ok (false, r)) (λ r. Ok (true, r))) (local_ok d)
     (local_choose (is_word w.First) (λ a. expected (after (is_word w.Last)) a >>= λ r. Ok (false, r)) (λ r. Ok (true, r)) (local_expected (is_word w.Last) (λ r. Ok (false, r)) (local_ok false)) (local_ok true))
 
-key_l : Local key_at
+key_l : Local true key_at
 unfolding key_at
 key_l = local_bind (expression_at (inside_of 64)) (λ e us. behind e (direction_at us).0 (direction_at us).1) (expression_l (inside_of 64) (predicate_l 64))
     (λ e. local_as (λ us. behind e (direction_at us).0 (direction_at us).1) (λ ts. choose (after (is_word w.Desc) ts) (choose (after (is_word w.Asc) ts) (behind e false ts) (λ a. behind e false a)) (λ a. behind e true a)) (direction_way (behind e))
@@ -209,21 +209,21 @@ key_l = local_bind (expression_at (inside_of 64)) (λ e us. behind e (direction_
       behind : ExpressionForm → Bool → Reader KeyForm
       behind e d us = null_ordering_at d us >>= λ n. Ok (record { expression = e; descending = d; nulls_first = n.0 }, n.1)
 
-      behind_l : (e : ExpressionForm) (d : Bool) → Local (behind e d)
+      behind_l : (e : ExpressionForm) (d : Bool) → Local true (behind e d)
       behind_l e d = local_made (null_ordering_at d) (λ n. record { expression = e; descending = d; nulls_first = n }) (null_ordering_l d)
 
-keys_l : Local keys_at
+keys_l : Local true keys_at
 unfolding keys_at
 keys_l = local_choose (is_word w.Order) (λ ts. Ok ([], ts)) (λ a. expected (after (is_word w.By)) a >>= λ b. all_at begins_expression key_at b) (local_ok [])
     (local_expected (is_word w.By) (all_at begins_expression key_at) (all_l begins_expression key_at expression_told key_l))
 
-rows_l : Local rows_at
+rows_l : Local true rows_at
 unfolding rows_at
 rows_l = local_bind (clause_at w.Having) (λ h us. keys_at us >>= λ ks. Ok ((h, ks.0), ks.1)) (clause_l w.Having) (λ h. local_made keys_at (λ ks. (h, ks)) keys_l)
 
 -- ---- the query
 
-query_l : Local query_at
+query_l : Local true query_at
 unfolding query_at
 query_l = local_bind select_at (λ is us. records_at us >>= λ a. rows_at a.1 >>= λ b. Ok (tree is a.0 b.0, b.1)) select_l
     (λ is. local_bind records_at (λ a us. rows_at us >>= λ b. Ok (tree is a b.0, b.1)) records_l (λ a. local_made rows_at (λ b. tree is a b) rows_l)) where
@@ -235,7 +235,7 @@ ended_at : TreeForm → Reader TreeForm
 ended_at q [] = Ok (q, [])
 ended_at q (t ∷ ts) = stuck (t ∷ ts)
 
-ended_l : (q : TreeForm) → Local (ended_at q)
+ended_l : (q : TreeForm) → Local true (ended_at q)
 unfolding ended_at
 ended_l q [] = local_end (ended_at q) (λ us. Ok (q, us)) refl (local_ok q [])
 ended_l q (t ∷ ts) = local_head (ended_at q) stuck t ts (λ us. refl) (local_stuck (t ∷ ts))
@@ -243,7 +243,7 @@ ended_l q (t ∷ ts) = local_head (ended_at q) stuck t ts (λ us. refl) (local_s
 pub all_read_at : Reader TreeForm
 all_read_at ts = query_at ts >>= λ x. ended_at x.0 x.1
 
-pub all_read_l : Local all_read_at
+pub all_read_l : Local true all_read_at
 unfolding all_read_at
 all_read_l = local_bind query_at (λ q us. ended_at q us) query_l ended_l
 
@@ -292,3 +292,32 @@ unexpected view ts (Ok x) g left e = absurd cc
 unexpected view ts (Err faults.OutOfMemory) g left e = absurd cc
 unexpected view ts (Err (faults.OverLimit n)) g left e = absurd cc
 unexpected view ts (Err (faults.Unexpected n)) g left e = let h : n ≡ left = cc in unexpected_at ts left (g ∙ ap (λ (m : ℕ). Err (faults.Unexpected m)) h)
+
+-- Two lists of tokens that share the tokens up to a place.
+shares_to : (k : ℕ) (ts rest : List Token) → k ≤ length ts → Shares ts (take k ts ++ rest) (drop k ts) rest
+shares_to zero ts rest h = Shares.here
+shares_to (suc k) [] rest h = absurd (omega arith)
+shares_to (suc k) (t ∷ ts) rest h = Shares.token (shares_to k ts rest (omega arith))
+
+over_at : (ts : List Token) (left : ℕ) → whole_at ts ≡ Err (faults.OverLimit left) → IsOverLimit ts
+over_at ts left e = record {
+  place = length ts - left;
+  inside = omega arith;
+  begins_none = λ b. (let k = length ts - left in
+      let stopped = all_read_stops ts (faults.OverLimit left) e in
+      let within : left ≤ length ts = (all_read_l ts).within (faults.OverLimit left) stopped in
+      let us = take k ts ++ b.rest in
+      let behind : left ≡ length (drop k ts) = omega (arith, length-drop k ts) in
+      let inside : k ≤ length ts = omega arith in
+      let fails = (all_read_l ts).over us (drop k ts) b.rest (stopped ∙ ap (λ (n : ℕ). Err (faults.OverLimit n)) behind) (shares_to k ts b.rest inside) in
+      let fault_is = fails.is in
+      let read = all_read_ok us b.tree (whole_c us b.tree b.derived) in
+      absurd cc);
+}
+
+-- Where it is too much, the tokens before that begin no query within the limits.
+pub over_limit : {X : Type 0} (view : X → TreeForm) (ts : List Token) (r : Result X GrammarFault) → Gives view r (whole_at ts) → (left : ℕ) → r ≡ Err (faults.OverLimit left) → IsOverLimit ts
+over_limit view ts (Ok x) g left e = absurd cc
+over_limit view ts (Err faults.OutOfMemory) g left e = absurd cc
+over_limit view ts (Err (faults.OverLimit n)) g left e = over_at ts n g
+over_limit view ts (Err (faults.Unexpected n)) g left e = absurd cc

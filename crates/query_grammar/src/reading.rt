@@ -3,9 +3,9 @@
 ghost use Rattle.std.specs.Prelude.{◌≡◌, ◌<◌, ◌≤◌, ◌-◌, ℕ, Err, length, map, IfOk, MatchResult};
 ghost use Rattle.std.specs.Option.{option_map};
 ghost use Rattle.query_tree.specs.Syntax.{TreeForm, tree_form, element_form, item_form, key_form, predicate_form};
-ghost use Rattle.query_leaves.specs.declared.fault.GrammarFault.TheVariants.{OutOfMemory, Unexpected};
+ghost use Rattle.query_leaves.specs.declared.fault.GrammarFault.TheVariants.{OutOfMemory, OverLimit, Unexpected};
 ghost use Rattle.query_derivation.specs.Grammar.{Derives};
-ghost use Rattle.query_derivation.specs.Prefixes.{IsUnexpectedWithin};
+ghost use Rattle.query_derivation.specs.Prefixes.{IsUnexpectedWithin, IsOverLimit};
 ghost use Rattle.query_leaves.specs.Steps.{Gives};
 ghost use Rattle.query_grammar.specs.QuerySteps.{from_at, clause_at, select_at, records_at, rows_at, query_at, whole_at};
 
@@ -129,8 +129,8 @@ fn whole(alloc: Global, tokens: &[Token]) -> Result<Box<Tree>, GrammarFault>
 /// # Errors
 ///
 /// `Unexpected` with the number of the tokens that are left where the first of them does not continue
-/// a query, 0 where the end does not; `OverLimit` at the first token that is too much; `OutOfMemory`,
-/// which says nothing of the tokens.
+/// a query, 0 where the end does not; `OverLimit` with the number of those behind what is too much;
+/// `OutOfMemory`, which says nothing of the tokens.
 pub fn read_query(alloc: Global, tokens: &[Token]) -> Result<Box<Tree>, GrammarFault>
     // What is read is derived.
     ensures derived { IfOk result (λ tree. Derives tokens.now (tree_form tree.value)) }
@@ -138,6 +138,8 @@ pub fn read_query(alloc: Global, tokens: &[Token]) -> Result<Box<Tree>, GrammarF
     ensures read { (q : TreeForm) → Derives tokens.now q → MatchResult result (λ tree. tree_form tree.value ≡ q) (λ fault. fault ≡ OutOfMemory) }
     // A token that is not expected, or the end, continues no query.
     ensures unexpected { (left : ℕ) → result ≡ Err (Unexpected left) → IsUnexpectedWithin tokens.now (length tokens.now - left) }
+    // Where it is too much, some tokens in front begin no query within the limits.
+    ensures over_limit { (left : ℕ) → result ≡ Err (OverLimit left) → IsOverLimit tokens.now }
 {
     whole(alloc, tokens)
 }

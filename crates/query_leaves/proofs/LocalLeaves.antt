@@ -23,15 +23,15 @@ use Rattle.query_leaves.proofs.Local.{IsFront, Local, local_ok, local_stuck, loc
 abbrev pub TellsByFront : (List Token → Bool) → Type 0
 TellsByFront b = (t : Token) (us vs : List Token) → b (t ∷ us) ≡ b (t ∷ vs)
 
-pub local_listed : {A : Type 0} (b : List Token → Bool) (f : Reader A) → TellsByFront b → Local f → (n : ℕ) → Local (listed_at b f n)
+pub local_listed : {A : Type 0} (b : List Token → Bool) (f : Reader A) → TellsByFront b → Local true f → (n : ℕ) → Local true (listed_at b f n)
 local_listed b f front lf n = local_bind f (λ x us. with_front (x ∷ []) (more (is_sign s.Comma) b f n us)) lf
     (λ x. local_bind (more (is_sign s.Comma) b f n) (λ xs us. Ok ((x ∷ []) ++ xs, us)) (local_more (is_sign s.Comma) b f front lf n) (λ xs. local_ok ((x ∷ []) ++ xs)))
 
 -- A value and its closing bracket.
-pub local_closed : {A : Type 0} (x : A) → Local (λ ts. expected (after (is_sign s.Close)) ts >>= λ rest. Ok (x, rest))
+pub local_closed : {A : Type 0} (x : A) → Local true (λ ts. expected (after (is_sign s.Close)) ts >>= λ rest. Ok (x, rest))
 local_closed x = local_expected (is_sign s.Close) (λ us. Ok (x, us)) (local_ok x)
 
-pub local_bracketed : {A : Type 0} (b : List Token → Bool) (f : Reader A) → TellsByFront b → Local f → (n : ℕ) → Local (bracketed_at b f n)
+pub local_bracketed : {A : Type 0} (b : List Token → Bool) (f : Reader A) → TellsByFront b → Local true f → (n : ℕ) → Local true (bracketed_at b f n)
 local_bracketed b f front lf n = local_expected (is_sign s.Open) (λ a. listed_at b f n a >>= λ all. expected (after (is_sign s.Close)) all.1 >>= λ rest. Ok (all.0, rest))
     (local_bind (listed_at b f n) (λ xs us. expected (after (is_sign s.Close)) us >>= λ rest. Ok (xs, rest)) (local_listed b f front lf n) local_closed)
 
@@ -49,33 +49,33 @@ pub name_front : IsFront name_at
 unfolding name_at
 name_front = record { at_end = refl; at_token = name_token }
 
-pub closed_name_l : Local closed_name_at
+pub closed_name_l : Local true closed_name_at
 unfolding closed_name_at
 closed_name_l = local_bind (expected name_at) (λ n us. expected (after (is_sign s.Close)) us >>= λ rest. Ok (n, rest)) (local_expected_front name_at name_front) local_closed
 
-argument_l : Local argument_at
+argument_l : Local true argument_at
 unfolding argument_at
 argument_l = local_expected (is_sign s.Open) (λ a. closed_name_at a) closed_name_l
 
 -- What a name behind some tokens makes.
-named_l : {A B : Type 0} (f : Reader A) (make : A → B) → Local f → Local (λ ts. f ts >>= λ n. Ok (make n.0, n.1))
+named_l : {A B : Type 0} (f : Reader A) (make : A → B) → Local true f → Local true (λ ts. f ts >>= λ n. Ok (make n.0, n.1))
 named_l f make lf = local_bind f (λ x us. Ok (make x, us)) lf (λ x. local_ok (make x))
 
-counted_l : Local counted_at
+counted_l : Local true counted_at
 unfolding counted_at
 counted_l = local_choose (is_word w.Distinct) (λ ts. closed_name_at ts >>= λ n. Ok (aggregates.Count n.0, n.1)) (λ a. closed_name_at a >>= λ n. Ok (aggregates.CountDistinct n.0, n.1))
     (named_l closed_name_at (λ n. aggregates.Count n) closed_name_l) (named_l closed_name_at (λ n. aggregates.CountDistinct n) closed_name_l)
 
-count_l : Local count_at
+count_l : Local true count_at
 unfolding count_at
 count_l = local_expected (is_sign s.Open) (λ a. choose (after (is_sign s.Star) a) (counted_at a) (λ b. expected (after (is_sign s.Close)) b >>= λ rest. Ok (aggregates.CountRows, rest)))
     (local_choose (is_sign s.Star) counted_at (λ b. expected (after (is_sign s.Close)) b >>= λ rest. Ok (aggregates.CountRows, rest)) counted_l (local_closed aggregates.CountRows))
 
 -- A set function of a name behind a word.
-of_argument : (make : List ℕ → Aggregate) → Local (λ ts. argument_at ts >>= λ n. Ok (make n.0, n.1))
+of_argument : (make : List ℕ → Aggregate) → Local true (λ ts. argument_at ts >>= λ n. Ok (make n.0, n.1))
 of_argument make = named_l argument_at make argument_l
 
-pub aggregate_l : Local aggregate_at
+pub aggregate_l : Local true aggregate_at
 unfolding aggregate_at
 aggregate_l [] = local_end aggregate_at stuck refl (local_stuck [])
 aggregate_l (tokens.Word w.Count ∷ ts) = local_token aggregate_at count_at (tokens.Word w.Count) ts (λ us. refl) (count_l ts)
@@ -93,7 +93,7 @@ name_told (tokens.Sign n) us vs = refl
 name_told (tokens.Integer n) us vs = refl
 name_told (tokens.Text n) us vs = refl
 
-pub arguments_l : Local arguments_at
+pub arguments_l : Local true arguments_at
 unfolding arguments_at
 arguments_l = local_bracketed begins_name (expected name_at) name_told (local_expected_front name_at name_front) 7
 
@@ -133,11 +133,11 @@ pub op_front : IsFront op_at
 unfolding op_at
 op_front = record { at_end = refl; at_token = op_token }
 
-pub literals_l : Local literals_at
+pub literals_l : Local true literals_at
 unfolding literals_at
 literals_l = local_bracketed begins_literal (expected literal_at) literal_told (local_expected_front literal_at literal_front) 63
 
-pub truth_l : Local truth_at
+pub truth_l : Local true truth_at
 unfolding truth_at
 truth_l [] = local_end truth_at stuck refl (local_stuck [])
 truth_l (tokens.Word w.True ∷ ts) = local_token truth_at (λ us. Ok (truth.True, us)) (tokens.Word w.True) ts (λ us. refl) (local_ok truth.True ts)

@@ -57,7 +57,7 @@ fn excess<L: Listed>(tokens: &[Token]) -> GrammarFault
 /// others; and what stands behind the list.
 ///
 /// Example: of the first name `shop`, the tokens of `, cents FROM lines` and at most 1 other, `more_parts::<Names>`
-/// answers `shop` and `cents`, and the tokens of `FROM lines`; of those of `, cents, day` it answers `OverLimit`.
+/// answers `shop` and `cents`, and the tokens of `FROM lines`; of those of `, cents, day` it answers `OverLimit(1)`.
 ///
 /// # Errors
 ///
