@@ -1,5 +1,5 @@
 -- The definitions, computed on examples.
-use Rattle.std.proofs.Common.{List, [], ◌∷◌, None, false, refl, arith, codes}
+use Rattle.std.proofs.Common.{ℕ, zero, suc, take, List, [], ◌∷◌, None, false, refl, arith, codes}
 use Rattle.query_fault.specs.declared.QueryFault.TheVariants as faults
 use Rattle.query_tokens.specs.Spelling as spelling
 use Rattle.query_tokens.specs.declared.token.Token.{Token}
@@ -11,7 +11,7 @@ use Rattle.query_tree.specs.Syntax.{ExpressionForm, TreeForm, over_all}
 use Rattle.query_derivation.specs.Leaves.{IsAggregate, IsRepeated}
 use Rattle.query_derivation.specs.Predicates.{IsFunction, IsExpression}
 use Rattle.query_derivation.specs.Grammar.{IsItem, IsWhere, IsGroupBy, IsHaving, IsOrderBy, IsQuery, Derives}
-use Rattle.query_derivation.specs.Prefixes.{BeginsWithin, IsUnexpectedWithin}
+use Rattle.query_derivation.specs.Prefixes.{BeginsWithin, IsUnexpectedWithin, IsOverLimit}
 use Rattle.query.specs.Refusal.{IsRefusalOf}
 
 -- ---- what a fault says of a text
@@ -59,9 +59,16 @@ at_end = record { tokens = []; starts = []; spelled = spelling.end; place = 0; b
 behind_space : IsRefusalOf (codes " ") (faults.Unexpected 1)
 behind_space = record { tokens = []; starts = []; spelled = spelling.space refl spelling.end; place = 0; begins = refl; unexpected = end_unexpected }
 
--- a text of no token may be of too much, as far as its tokens say
-of_too_much : IsRefusalOf [] faults.OverLimit
-of_too_much = λ within. record { tokens = []; starts = []; spelled = spelling.end }
+-- no tokens begin a query, and so they are not too many
+nothing_begins : BeginsWithin []
+nothing_begins = record { rest = tokens.Word w.Select ∷ select_begins.rest; tree = select_begins.tree; derived = select_begins.derived }
+
+front_begins : (place : ℕ) → BeginsWithin (take place [])
+front_begins zero = nothing_begins
+front_begins (suc place) = nothing_begins
+
+nothing_within : IsOverLimit [] → ⊥
+nothing_within o = o.begins_none (front_begins o.place)
 
 -- types are no fault of a text
 of_types : IsRefusalOf [] faults.TypesDisagree → ⊥

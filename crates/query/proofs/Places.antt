@@ -3,8 +3,8 @@ use Rattle.std.proofs.Common.{◌≡◌, ℕ, zero, suc, List, [], ◌∷◌, �
 use Rattle.std.specs.Prelude.{slice_get}
 use Rattle.query_tokens.specs.declared.token.Token.{Token}
 use Rattle.query_tokens.specs.Spelling.{SpellsFrom, Spells}
-use Rattle.query_derivation.specs.Prefixes.{IsUnexpectedWithin}
-use Rattle.query.specs.Refusal.{IsUnexpectedAt}
+use Rattle.query_derivation.specs.Prefixes.{IsUnexpectedWithin, IsOverLimit}
+use Rattle.query.specs.Refusal.{IsUnexpectedAt, SpellsTooMuch}
 
 -- Each token begins at one byte.
 pub starts_of_all : {n : ℕ} {bs starts : List ℕ} {ks : List Token} → SpellsFrom n bs ks starts → length starts ≡ length ks
@@ -35,3 +35,7 @@ unexpected_at text starts ks left byte s u e = record {
   begins = e;
   unexpected = subst (λ (n : ℕ). IsUnexpectedWithin ks (n - left)) (sym (starts_of_all s)) u;
 }
+
+-- Tokens of too much, as a text.
+pub too_much : (text starts : List ℕ) (ks : List Token) → Spells text ks starts → IsOverLimit ks → SpellsTooMuch text
+too_much text starts ks s o = record { tokens = ks; starts = starts; spelled = s; over = o }

@@ -4,13 +4,14 @@ use Rattle.query_fault.specs.declared.QueryFault.{QueryFault}
 use Rattle.query_fault.specs.declared.QueryFault.TheVariants as faults
 use Rattle.query_tokens.specs.declared.token.Token.{Token}
 use Rattle.query_tokens.specs.Spelling.{Spells, StopsAt}
-use Rattle.query_derivation.specs.Prefixes.{IsUnexpectedWithin}
+use Rattle.query_derivation.specs.Prefixes.{IsUnexpectedWithin, IsOverLimit}
 
--- A text spells tokens.
-pub record SpellsTokens (text : List ℕ) : Type 0 where
+-- A text spells tokens of too much: some of them, in front, begin no query within the limits.
+pub record SpellsTooMuch (text : List ℕ) : Type 0 where
   pub tokens : List Token
   pub starts : List ℕ
   pub spelled : Spells text tokens starts
+  pub over : IsOverLimit tokens
 
 -- A text spells tokens, of which one begins at this byte, or the text ends there, and within the limits that token, or the
 -- end, continues no query.
@@ -31,7 +32,7 @@ IsRefusalOf text (faults.Unexpected byte) = IsUnexpectedAt text byte
 IsRefusalOf text (faults.UnknownColumn name) = ⊥
 IsRefusalOf text faults.TypesDisagree = ⊥
 IsRefusalOf text (faults.NotGrouped name) = ⊥
-IsRefusalOf text faults.OverLimit = length text ≤ 65536 → SpellsTokens text
+IsRefusalOf text faults.OverLimit = length text ≤ 65536 → SpellsTooMuch text
 IsRefusalOf text faults.FunctionNotAllowed = ⊥
 IsRefusalOf text (faults.RepeatedHeader header) = ⊥
 IsRefusalOf text faults.OutOfMemory = ⊤
