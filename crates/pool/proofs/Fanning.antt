@@ -1,13 +1,15 @@
 -- What is known of the hands once their workers came back.
 use Rattle.std.proofs.Common.{◌≡◌, ℕ, ◌+◌, ◌^◌, ◌<◌, ◌≤◌, ◌⊎◌, List, length, map, sym, ap, ◌∙◌, subst, ⊎_elim, arith}
 use Rattle.pool.specs.Dealing.{times}
-use Rattle.pool.specs.Rule.{UpTo}
-use Rattle.pool.specs.Totals.{together, total, sum_below, sum_list, once_below}
+use Rattle.pool.specs.Inside.Rule.{UpTo}
+use Rattle.pool.specs.Inside.Totals.{together}
+use Rattle.pool.specs.Totals.{total, sum_below, sum_list, once_below}
 use Rattle.pool.specs.Outcomes.{Decides}
 use Rattle.pool.specs.Lawful.{Lawful}
 use Rattle.pool.specs.Holding.{Holding}
 use Rattle.pool.specs.Settled.{AreAll, AllSpent, HaveEachOnce, HaveNoneTwice, joined, pieces_of}
-use Rattle.pool.specs.Fanned.{AreReady, DidAll, AreUnderWay, CameBack, begun, Settles, Outweighs, IsAbove}
+use Rattle.pool.specs.Inside.Fanned.{AreReady, DidAll, AreUnderWay, begun}
+use Rattle.pool.specs.Fanned.{CameBack, Settles, Outweighs, IsAbove}
 use Rattle.pool.specs.declared.laws.Outcome.{Outcome}
 use Rattle.pool.specs.declared.laws.Outcome.TheVariants.{Whole, Over}
 use Rattle.pool.proofs.Sums.{total_fits, total_weight}

@@ -3,7 +3,8 @@ use Rattle.std.proofs.Common.{◌≡◌, ◌≢◌, ℕ, zero, suc, ◌+◌, ◌
 use Rattle.std.proofs.lemmas.Bool.{cases_eq}
 use Rattle.pool.specs.Lawful.{Lawful}
 use Rattle.pool.specs.Dealing.{times}
-use Rattle.pool.specs.Totals.{total, sum_below, gathered, sum_list, once_below}
+use Rattle.pool.specs.Totals.{total, sum_below, sum_list, once_below}
+use Rattle.pool.specs.Inside.Totals.{gathered}
 use Rattle.pool.proofs.Rules.{times-append}
 
 same : (x : ℕ) → (x == x) ≡ true

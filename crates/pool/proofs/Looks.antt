@@ -3,9 +3,9 @@ use Rattle.std.proofs.Common.{◌≡◌, ℕ, suc, Bool, true, false, ◌+◌, �
 use Rattle.std.specs.declared.alloc.Global.{Global}
 use Rattle.pool.specs.declared.view.View.{View}
 use Rattle.pool.specs.Dealing.{times}
-use Rattle.pool.specs.Rule.{view_of, held, UpTo, front, rest, Up, Apart, lent_view}
-use Rattle.pool.specs.Seen.{owned_of, place_of, list_of, IsThief, IsOwner, Looked}
-use Rattle.pool.specs.Settled.{KnowsAbove}
+use Rattle.pool.specs.Inside.Rule.{view_of, held, UpTo, front, rest, Up, Apart, lent_view}
+use Rattle.pool.specs.Inside.Views.{owned_of, place_of, list_of, IsThief, IsOwner, Looked}
+use Rattle.pool.specs.Inside.Looks.{KnowsAbove}
 use Rattle.pool.proofs.Rules.{up_apart}
 
 module _ {closed : Bool} (place : ℕ) (v0 v1 v2 w : View) (positive : 0 < place) (ka : KnowsAbove place v0) (b1 : v1 ≡ view_of false v0.owner v0.ends v0.made v0.numbers v0.known v0.closed)

@@ -4,12 +4,13 @@ use Rattle.std.proofs.lemmas.List.{length-map}
 use mathlib.Core.Option.{some, some-injective, some-ne-none}
 use lib.ListN.{get_elem?}
 use Rattle.pool.specs.Dealing.{times}
-use Rattle.pool.specs.Totals.{gathered, once_below, sum_below, sum_list, together, total}
+use Rattle.pool.specs.Inside.Totals.{gathered, together}
+use Rattle.pool.specs.Totals.{once_below, sum_below, sum_list, total}
 use Rattle.pool.specs.Lawful.{Lawful}
 use Rattle.pool.specs.Holding.{Holding, numbers_of}
 use Rattle.pool.specs.Settled.{joined, pieces_of}
 use Rattle.pool.specs.Assembly.{IsNewDeal}
-use Rattle.pool.specs.Fanned.{AreReady, AreUnderWay, begun, DidAll}
+use Rattle.pool.specs.Inside.Fanned.{AreReady, AreUnderWay, begun, DidAll}
 use Rattle.pool.proofs.Gather.{gathered_fits, gathered_whole, onto-append, onto_apart, onto_fits, onto_load, onto_weight, sum_list-within, unit_after}
 use Rattle.pool.proofs.Works.{may_begin}
 

@@ -9,9 +9,9 @@ use Rattle.crossbeam_deque.proofs.Lists.{at_set}
 use Rattle.pool.specs.declared.view.View.{View}
 use Rattle.pool.specs.declared.view.Task.{Task}
 use Rattle.pool.specs.declared.view.Task.TheVariants.{Number, End}
-use Rattle.pool.specs.Dealing.{State, state, begin, put, take_first, step, after, times, AllAbove, Ascends}
+use Rattle.pool.specs.Dealing.{State, state, begin, put, take_first, step, times, AllAbove, Ascends}
 use Rattle.pool.specs.Totals.{sum_below}
-use Rattle.pool.specs.Rule.{view_of, blank, tasks, pieces, total, held, Theirs, Seated, Fits, DealtBy, Dealt, Had, given, front, rest, TakenFrom, AllAscend, UpTo, lent_view, giving_view, given_view, Up, Apart}
+use Rattle.pool.specs.Inside.Rule.{after, view_of, blank, tasks, pieces, total, held, Theirs, Seated, Fits, DealtBy, Dealt, Had, given, front, rest, TakenFrom, AllAscend, UpTo, lent_view, giving_view, given_view, Up, Apart}
 
 -- Lists
 
@@ -147,7 +147,7 @@ sum_unput : (y : ℕ) (lists : ℕ → List ℕ) (hand x m : ℕ) → m ≤ hand
 sum_unput y lists hand x zero le = refl
 sum_unput y lists hand x (suc k) le = let a = sum_unput y lists hand x k (omega arith) in let b = ap (times y) (put_other lists hand x k (λ e. omega (arith, e))) in omega arith
 
-sum_put : (y : ℕ) (lists : ℕ → List ℕ) (hand x m : ℕ) → hand < m → sum_below (λ h. times y (put lists hand x h)) m ≡ sum_below (λ h. times y (lists h)) m + times y (x ∷ [])
+pub sum_put : (y : ℕ) (lists : ℕ → List ℕ) (hand x m : ℕ) → hand < m → sum_below (λ h. times y (put lists hand x h)) m ≡ sum_below (λ h. times y (lists h)) m + times y (x ∷ [])
 sum_put y lists hand x zero below = absurd (omega arith)
 sum_put y lists hand x (suc k) below =
     ⊎_elim (λ (e : k ≡ hand).

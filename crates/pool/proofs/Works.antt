@@ -5,11 +5,13 @@ use Rattle.std.proofs.lemmas.Bool.{cases_eq, cases_lt}
 use mathlib.Core.Option.{some, some-injective, some-ne-none}
 use lib.ListN.{get_elem?}
 use Rattle.pool.specs.Dealing.{dealt, times}
-use Rattle.pool.specs.Totals.{gathered, sum_below, sum_list, once_below}
+use Rattle.pool.specs.Inside.Totals.{gathered}
+use Rattle.pool.specs.Totals.{sum_below, sum_list, once_below}
 use Rattle.pool.specs.Lawful.{Lawful}
 use Rattle.pool.specs.Seen.{Seen}
 use Rattle.pool.specs.Holding.{Holding, IsHolding, IsRound, Gained, lists_of, numbers_of}
-use Rattle.pool.specs.Done.{Grown, Did, MayGoOn, Follows}
+use Rattle.pool.specs.Inside.Done.{Did, MayGoOn}
+use Rattle.pool.specs.Fanned.{Follows}
 use Rattle.pool.specs.Answered.{Answers}
 use Rattle.pool.specs.declared.deal.Next.{Next}
 use Rattle.pool.specs.declared.deal.Next.TheVariants.{Piece, Spent}
@@ -51,6 +53,10 @@ pub holding_within : (h : Holding) (z : ℕ) → IsHolding h → times z (number
 holding_within h z is =
     let s : h.own.seen.numbers ≡ dealt h.hands ((h.number + 0) % h.hands) h.pieces = is.2 ∙ ap (λ n. dealt h.hands n h.pieces) (sym (mod_small h.number h.hands is.0)) in
     (round_within h.number h.hands h.pieces z 0 (h.own.seen ∷ h.others) (is.1, s, is.5, is.4) (omega (arith, is.3))).0
+
+-- x joined the list
+abbrev pub Grown : List ℕ → ℕ → List ℕ → Type 0
+Grown old x new = (ys : List ℕ) × (zs : List ℕ) × (old ≡ ys ++ zs) × (new ≡ ys ++ x ∷ zs)
 
 lists_grown : (ss : List Seen) (r x : ℕ) (old s : Seen) → get_elem? ss r ≡ some old → s.list ≡ old.list ++ x ∷ [] → Grown (lists_of ss) x (lists_of (set ss r s))
 lists_grown [] r x old s at e = absurd (some-ne-none old (sym at))

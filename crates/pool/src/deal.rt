@@ -1,11 +1,14 @@
 //! Hands, which take numbers from their own deque, and then from those of the others.
 ghost use Rattle.std.specs.Prelude.{◌≢◌, length, ◌%◌, ◌↔◌, All, IsTrue, ◌≡◌, ℕ, List, ◌+◌, ◌-◌, ◌<◌, ◌≤◌, true, false, [], ◌∷◌, ◌++◌, MatchOption, IfOk, IfSome, IfNone};
-ghost use Rattle.pool.specs.Seen.{Seen, Took, with_seen, now_closed, Looked, IsThief};
-ghost use Rattle.pool.specs.Holding.{Steals, IsHolding, InOrder, new_holding};
+ghost use Rattle.pool.specs.Seen.{Seen, Took, with_seen, now_closed};
+ghost use Rattle.pool.specs.Inside.Views.{Looked, IsThief};
+ghost use Rattle.pool.specs.Inside.Hands.{Steals, new_holding};
+ghost use Rattle.pool.specs.Holding.{IsHolding, InOrder};
 ghost use Rattle.pool.specs.Answered.{Answers};
-ghost use Rattle.pool.specs.Settled.{list_from, Reaches, AllReach, told, AreAll, AllSpent, HaveEachOnce, HaveNoneTwice, HaveThoseGone, IsClosed, joined, pieces_of, KnowsAbove};
+ghost use Rattle.pool.specs.Inside.Looks.{list_from, Reaches, AllReach, told, KnowsAbove};
+ghost use Rattle.pool.specs.Settled.{AreAll, AllSpent, HaveEachOnce, HaveNoneTwice, HaveThoseGone, IsClosed, joined, pieces_of};
 ghost use Rattle.pool.specs.Totals.{once_below};
-ghost use Rattle.pool.specs.Rule.{held, UpTo, Seated, Apart, lent_view, giving_view, given_view};
+ghost use Rattle.pool.specs.Inside.Rule.{held, UpTo, Seated, Apart, lent_view, giving_view, given_view};
 ghost use Rattle.pool.specs.Dealing.{times};
 ghost use Rattle.crossbeam_deque.specs.Handles.{worker_deque, worker_flavor, worker_view, view as pass_view, IsPassOf};
 
@@ -30,7 +33,8 @@ pub struct Own {
 
 impl Model for Own {
     ghost use Rattle.std.specs.Prelude.{◌≡◌};
-    ghost use Rattle.pool.specs.Seen.{Owned, owned_of, IsOwner};
+    ghost use Rattle.pool.specs.Seen.{Owned};
+    ghost use Rattle.pool.specs.Inside.Views.{owned_of, IsOwner};
     ghost use Rattle.crossbeam_deque.specs.Handles.{worker_deque, worker_view, worker_flavor};
 
     ghost Value = { Owned };
@@ -50,7 +54,8 @@ pub struct Reach {
 
 impl Model for Reach {
     ghost use Rattle.std.specs.Prelude.{◌≡◌};
-    ghost use Rattle.pool.specs.Seen.{Seen, seen_of, IsThief};
+    ghost use Rattle.pool.specs.Seen.{Seen};
+    ghost use Rattle.pool.specs.Inside.Views.{seen_of, IsThief};
     ghost use Rattle.crossbeam_deque.specs.Handles.{view as pass_view, IsPassOf, stealer_deque, stealer_flavor};
 
     ghost Value = { Seen };

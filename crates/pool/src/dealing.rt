@@ -1,9 +1,11 @@
 //! A deal: its deques are filled in one pass over the pieces, and then each hand gets its seat at each of them.
-ghost use Rattle.std.specs.Prelude.{◌≡◌, ℕ, ◌+◌, ◌<◌, ◌≤◌, All, IfOk, OnOk, length, vec_len, [], ◌∷◌, ◌++◌};
+ghost use Rattle.std.specs.Prelude.{◌≡◌, ℕ, ◌+◌, ◌<◌, ◌≤◌, List, All, IfOk, OnOk, length, vec_len, [], ◌∷◌, ◌++◌};
+ghost use Rattle.pool.specs.Dealing.{AreStepsOf, IsEachInOnePlace, deal_after, deal_begin};
 ghost use Rattle.pool.specs.Seen.{Seen};
 ghost use Rattle.pool.specs.Holding.{IsHolding};
 ghost use Rattle.pool.specs.Settled.{AreAll};
-ghost use Rattle.pool.specs.Assembly.{AreFilled, AreOffers, Seating, IsAt, IsNewDeal};
+ghost use Rattle.pool.specs.Inside.Assembly.{AreFilled, AreOffers, Seating, IsAt};
+ghost use Rattle.pool.specs.Assembly.{IsNewDeal};
 ghost use Rattle.std.specs.declared.alloc.Global.{Global};
 ghost use mathlib.Core.Option.{some};
 ghost use lib.ListN.{get_elem?};
@@ -213,3 +215,13 @@ impl Deal {
         hands
     }
 }
+
+/// Between any two steps of any schedule each piece of a deal is in just one deque or just one hand's list, once. A step,
+/// which is said by a deque and a hand, moves the deque's first piece to the end of what the hand has of it.
+///
+/// Example: of a deal of 4 pieces to 2 hands, after hand 1 took from deque 0 and hand 0 from deque 1, the deques have the
+/// pieces 2 and 3, and the hands 1 and 0.
+pub fn dealing_law()
+    ensures { (hands pieces : ℕ) (schedule : List (ℕ × ℕ)) → 0 < hands → AreStepsOf hands schedule
+        → IsEachInOnePlace hands pieces (deal_after schedule (deal_begin hands pieces)) }
+{}

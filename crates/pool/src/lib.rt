@@ -8,8 +8,8 @@
 //! Pieces are dealt. A `Deal` puts each piece into one of as many deques as there are workers, in turn, before any
 //! worker begins. A `Hand` is one worker's end of the deal. It takes the first piece of its own deque, and once that is
 //! empty the first piece of another's, which is then stolen. So no worker is idle while pieces are left, and no lock is
-//! taken. The rule of a deque says that each piece is in the deque or in the list of just one hand, at any moment of
-//! any schedule.
+//! taken. The rule of a deque says that it and what the hands have of it come of such takes, one after the other, at any
+//! moment of any schedule; and `dealing_law`, that each piece is then in just one deque or one hand's list.
 //!
 //! A `Book` is a number that all workers add the weights of their pieces to, so that each can see when the limit is
 //! passed, and stop. A `Share` is what one worker has added. Since others add too, the number may be above what a
@@ -30,7 +30,7 @@ mod worker;
 
 pub use book::{Book, Share};
 pub use deal::{Hand, Next, settled};
-pub use dealing::Deal;
+pub use dealing::{Deal, dealing_law};
 pub use laws::{Outcome, PoolFault, Work};
 pub use single::alone;
 pub use threads::{fan_deal_onto, fan_on, fan_out};

@@ -1,7 +1,8 @@
 //! A deque that is filled, and then gives out its seats.
 ghost use Rattle.std.specs.Prelude.{◌≡◌, ℕ, ◌+◌, ◌-◌, ◌<◌, ◌≤◌, ◌^◌, true, false, [], ◌∷◌, ◌++◌, IfOk, OnOk};
 ghost use Rattle.pool.specs.Dealing.{dealt};
-ghost use Rattle.pool.specs.Seen.{Seen, Offer, Owned, seated, offered, owned_first};
+ghost use Rattle.pool.specs.Seen.{Seen, Owned};
+ghost use Rattle.pool.specs.Inside.Views.{Offer, seated, offered, owned_first};
 
 use crate::deal::{Deque, Own, Reach};
 use crate::protocol::{Fill, Mark, Seal, Seat};
@@ -25,7 +26,7 @@ pub struct Filling {
 
 impl Model for Filling {
     ghost use Rattle.std.specs.Prelude.{◌≡◌, ℕ, List, true, false, [], ◌∷◌};
-    ghost use Rattle.pool.specs.Rule.{view_of};
+    ghost use Rattle.pool.specs.Inside.Rule.{view_of};
     ghost use Rattle.crossbeam_deque.specs.Handles.{worker_deque, worker_view, worker_flavor};
 
     ghost Value = { List ℕ };
@@ -44,8 +45,8 @@ pub struct Source {
 
 impl Model for Source {
     ghost use Rattle.std.specs.Prelude.{◌≡◌, ◌-◌, ◌+◌, ◌<◌, ◌≤◌, true, false, [], ◌∷◌};
-    ghost use Rattle.pool.specs.Rule.{view_of};
-    ghost use Rattle.pool.specs.Seen.{Offer, offer_of};
+    ghost use Rattle.pool.specs.Inside.Rule.{view_of};
+    ghost use Rattle.pool.specs.Inside.Views.{Offer, offer_of};
     ghost use Rattle.crossbeam_deque.specs.Handles.{worker_deque, worker_view, worker_flavor};
 
     ghost Value = { Offer };

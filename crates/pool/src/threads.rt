@@ -1,11 +1,13 @@
 //! The hands of a deal, each on a thread of its own.
 ghost use Rattle.std.specs.Prelude.{◌≡◌, ℕ, ◌+◌, ◌-◌, ◌^◌, ◌<◌, ◌≤◌, ◌⊎◌, ◌++◌, ◌∷◌, [], All, IfOk, IfErr, IfSome, IfNone, IsOkAnd, MatchResult, OnOk, vec_len, length, map};
-ghost use Rattle.pool.specs.Totals.{sum_below, sum_list, together, total, once_below};
+ghost use Rattle.pool.specs.Totals.{sum_below, sum_list, total, once_below};
+ghost use Rattle.pool.specs.Inside.Totals.{together};
 ghost use Rattle.pool.specs.Outcomes.{Decides};
 ghost use Rattle.pool.specs.Dealing.{times};
-ghost use Rattle.pool.specs.Rule.{UpTo};
+ghost use Rattle.pool.specs.Inside.Rule.{UpTo};
 ghost use Rattle.pool.specs.Settled.{AreAll, AllSpent, HaveNoneTwice, joined, pieces_of};
-ghost use Rattle.pool.specs.Fanned.{AreReady, begun, DidAll, AreUnderWay, CameBack, NeedNoThread, Settles, Outweighs, IsAbove, Reported};
+ghost use Rattle.pool.specs.Inside.Fanned.{AreReady, begun, DidAll, AreUnderWay, NeedNoThread};
+ghost use Rattle.pool.specs.Fanned.{CameBack, Settles, Outweighs, IsAbove, Reported};
 ghost use Rattle.pool.specs.Assembly.{IsNewDeal};
 ghost use mathlib.Core.Option.{some};
 ghost use lib.ListN.{get_elem?};

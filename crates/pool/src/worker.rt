@@ -1,6 +1,6 @@
 //! One worker: it takes pieces until its hand is spent or the book is above a number, and reports their weights.
 ghost use Rattle.std.specs.Prelude.{◌≡◌, ℕ, ◌+◌, ◌^◌, ◌<◌, ◌-◌, true, IfOk, IfSome};
-ghost use Rattle.pool.specs.Done.{Did, MayGoOn};
+ghost use Rattle.pool.specs.Inside.Done.{Did, MayGoOn};
 
 use crate::book::{Book, Share};
 use crate::deal::{Hand, Next};

@@ -3,16 +3,16 @@ use Rattle.crossbeam_deque.specs.Handles.{worker_view, view, Pass}
 use Rattle.std.specs.declared.alloc.Global.{Global}
 use Rattle.pool.specs.declared.view.View.{View}
 use Rattle.pool.specs.declared.view.Task.{Task}
-use Rattle.pool.specs.Rule.{lent_view}
+use Rattle.pool.specs.Inside.Rule.{lent_view}
 use Rattle.pool.specs.Seen.{Seen}
 use mathlib.Core.Option.{some, some-injective}
 use lib.ListN.{get_elem?}
 use Rattle.crossbeam_deque.proofs.Lists.{at_index}
 use Rattle.crossbeam_deque.specs.Handles.{worker_deque}
 use Rattle.pool.specs.Dealing.{times}
-use Rattle.pool.specs.Rule.{held, UpTo, Seated, Up}
+use Rattle.pool.specs.Inside.Rule.{held, UpTo, Seated, Up}
 use Rattle.pool.specs.Holding.{Holding}
-use Rattle.pool.specs.Settled.{AllReach, told, list_in}
+use Rattle.pool.specs.Inside.Looks.{AllReach, told, list_in}
 use Rattle.pool.proofs.Rounds.{at_less}
 use Rattle.pool.proofs.Rules.{seals, learns_within}
 use Rattle.pool.proofs.Looks.{second, knows_two, within_four}

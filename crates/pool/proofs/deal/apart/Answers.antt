@@ -2,7 +2,7 @@ use Rattle.std.proofs.Common.{◌≡◌, ◌∙◌, ◌≢◌, ◌%◌, length, 
 use Rattle.std.proofs.lemmas.Bool.{cases_eq}
 use Rattle.std.proofs.lemmas.Nat.{mod_below}
 use Rattle.pool.specs.Dealing.{times}
-use Rattle.pool.specs.Rule.{UpTo}
+use Rattle.pool.specs.Inside.Rule.{UpTo}
 use Rattle.pool.specs.Totals.{once_below}
 use Rattle.pool.specs.Settled.{joined, pieces_of, AreAll, IsClosed}
 use Rattle.pool.proofs.deal.apart.Goals as goal

@@ -1,6 +1,6 @@
 use Rattle.std.proofs.Common.{◌≡◌, ℕ, ◌<◌, ◌%◌, length}
 use Rattle.pool.specs.Dealing.{times}
-use Rattle.pool.specs.Rule.{UpTo}
+use Rattle.pool.specs.Inside.Rule.{UpTo}
 use Rattle.pool.specs.Totals.{once_below}
 use Rattle.pool.specs.Settled.{joined, pieces_of, IsClosed}
 use Rattle.pool.proofs.deal.apart.Given as goal

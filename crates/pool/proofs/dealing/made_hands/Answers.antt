@@ -1,10 +1,11 @@
 use Rattle.std.proofs.Common.{◌≡◌, ◌∙◌, ◌<◌, suc, ◌+◌, ⊎_elim, sym, ap, subst, arith, refl, vec_len}
 use mathlib.Core.Option.{some, some-ne-none}
 use lib.ListN.{get_elem?}
-use Rattle.pool.specs.Seen.{owned_first}
-use Rattle.pool.specs.Holding.{new_holding}
+use Rattle.pool.specs.Inside.Views.{owned_first}
+use Rattle.pool.specs.Inside.Hands.{new_holding}
 use Rattle.pool.specs.Settled.{Belongs}
-use Rattle.pool.specs.Assembly.{Gives, Gets, IsFresh}
+use Rattle.pool.specs.Inside.Assembly.{Gives, Gets}
+use Rattle.pool.specs.Assembly.{IsFresh}
 use Rattle.pool.proofs.Assemblies.{at_end, fresh_holding, fresh_belongs, fresh_is, new_deal}
 use Rattle.pool.proofs.dealing.made_hands.Goals as goal
 

@@ -3,10 +3,12 @@ use Rattle.std.specs.Vec.Iter.{into_iter_items, into_iter_len}
 use mathlib.Core.Option.{some}
 use lib.ListN.{get_elem?}
 use Rattle.std.specs.declared.alloc.Global.{Global}
-use Rattle.pool.specs.Seen.{Seen, Offer}
+use Rattle.pool.specs.Seen.{Seen}
+use Rattle.pool.specs.Inside.Views.{Offer}
 use Rattle.pool.specs.Holding.{Holding}
 use Rattle.pool.specs.Settled.{Belongs}
-use Rattle.pool.specs.Assembly.{Gives, Gets, IsFresh}
+use Rattle.pool.specs.Inside.Assembly.{Gives, Gets}
+use Rattle.pool.specs.Assembly.{IsFresh}
 use Rattle.pool.proofs.dealing.made_hands.Given as goal
 
 abbrev pub invariant-loop-source : goal.invariant-loop-source

@@ -1,8 +1,9 @@
 use Rattle.std.proofs.Common.{◌≡◌, ◌∙◌, ◌%◌, ◌<◌, ◌+◌, ◌-◌, ◌++◌, ◌∷◌, [], vec_len, length, set, sym, ap, subst, arith}
 use Rattle.std.proofs.lemmas.Nat.{mod_below}
 use Rattle.crossbeam_deque.proofs.Lists.{at_index}
-use Rattle.pool.specs.Seen.{Seen, Offer, seated, offered}
-use Rattle.pool.specs.Assembly.{Seating}
+use Rattle.pool.specs.Seen.{Seen}
+use Rattle.pool.specs.Inside.Views.{Offer, seated, offered}
+use Rattle.pool.specs.Inside.Assembly.{Seating}
 use Rattle.pool.proofs.Assemblies.{seated_more, next_place}
 use Rattle.pool.proofs.dealing.seat_all.Goals as goal
 

@@ -1,6 +1,6 @@
 use Rattle.std.proofs.Common.{◌≡◌, map}
 use Rattle.std.specs.Vec.Iter.{into_iter_items}
-use Rattle.pool.specs.Totals.{together}
+use Rattle.pool.specs.Inside.Totals.{together}
 use Rattle.pool.proofs.Parts.{Each}
 use Rattle.pool.proofs.threads.combine_all.Given as goal
 

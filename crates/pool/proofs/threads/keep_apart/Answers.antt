@@ -1,7 +1,7 @@
 use Rattle.std.proofs.Common.{◌∙◌, ℕ, sym, ap, subst, length, arith}
 use Rattle.std.proofs.lemmas.List.{with_items_is}
 use Rattle.pool.specs.Dealing.{times}
-use Rattle.pool.specs.Rule.{UpTo}
+use Rattle.pool.specs.Inside.Rule.{UpTo}
 use Rattle.pool.specs.Totals.{once_below}
 use Rattle.pool.specs.Settled.{AreAll, AllSpent, joined, pieces_of}
 use Rattle.pool.proofs.Deals.{apart_spent}

@@ -1,5 +1,5 @@
 use Rattle.std.proofs.Common.{◌≡◌, map, vec_len}
-use Rattle.pool.specs.Totals.{together}
+use Rattle.pool.specs.Inside.Totals.{together}
 use Rattle.pool.proofs.Parts.{Each}
 use Rattle.pool.proofs.threads.parts_from.Given as goal
 

@@ -1,5 +1,5 @@
 use Rattle.std.proofs.Common.{◌≡◌, ◌+◌, ◌^◌, ◌<◌, drop, map}
-use Rattle.pool.specs.Totals.{together}
+use Rattle.pool.specs.Inside.Totals.{together}
 use Rattle.pool.proofs.Parts.{Each}
 use Rattle.pool.proofs.threads.weigh.Given as goal
 

@@ -1,6 +1,6 @@
 use Rattle.std.proofs.Common.{map, refl, sym, subst}
 use Rattle.std.proofs.lemmas.Result.{IfOk-weaker}
-use Rattle.pool.specs.Fanned.{DidAll, begun}
+use Rattle.pool.specs.Inside.Fanned.{DidAll, begun}
 use Rattle.pool.proofs.Parts.{came_fit, ready_begins, ready_under_way}
 use Rattle.pool.proofs.Fanning.{fanned_deal, fanned_room, fanned_twice, fanned_under_way}
 use Rattle.pool.proofs.threads.work_through.Goals as goal

@@ -1,9 +1,9 @@
 use Rattle.std.proofs.Common.{◌≡◌, true, ◌∙◌, ℕ, ◌+◌, length, ap, subst}
 use Rattle.pool.specs.Dealing.{times}
-use Rattle.pool.specs.Rule.{held, UpTo}
+use Rattle.pool.specs.Inside.Rule.{held, UpTo}
 use Rattle.crossbeam_deque.specs.Handles.{worker_view}
 use Rattle.pool.specs.Seen.{Owned}
-use Rattle.pool.specs.Settled.{told}
+use Rattle.pool.specs.Inside.Looks.{told}
 use Rattle.pool.proofs.Looks.{knows_own, looked_same, owner_within}
 use Rattle.pool.proofs.deal.Own.apart.Goals as goal
 

@@ -1,17 +1,10 @@
 -- What a worker does.
 use Rattle.std.specs.Prelude.{◌≡◌, ℕ, ◌+◌, ◌^◌, ◌<◌, List, ◌∷◌, ◌++◌}
 use Rattle.std.specs.declared.alloc.Global.{Global}
-use Rattle.pool.specs.Totals.{gathered, sum_below, sum_list}
+use Rattle.pool.specs.Fanned.{Follows}
 use Rattle.pool.specs.Holding.{Holding, numbers_of}
-use Rattle.pool.specs.Settled.{Belongs}
-
--- the second hand has the first one's seat: it is that hand of each deal that the first is of
-abbrev pub Follows : Holding → Holding → Type 0
-Follows h k = (names : ℕ → (ℕ × ℕ) × Global) (pieces hands number : ℕ) → Belongs names pieces hands number h → Belongs names pieces hands number k
-
--- x joined the list
-abbrev pub Grown : List ℕ → ℕ → List ℕ → Type 0
-Grown old x new = (ys : List ℕ) × (zs : List ℕ) × (old ≡ ys ++ zs) × (new ≡ ys ++ x ∷ zs)
+use Rattle.pool.specs.Inside.Totals.{gathered}
+use Rattle.pool.specs.Totals.{sum_below, sum_list}
 
 -- a worker went on: its hand keeps its seat, the part is what the worker began with and the pieces in the hand's list, combined, and the share has grown by the weights of those that joined the list
 pub record Did {M : Type 0} (begin : M) (combined : M → M → M) (piece : ℕ → M) (weight : M → ℕ) (h : Holding) (s : ℕ) (k : Holding) (t : ℕ) (m : M) : Type 0 where

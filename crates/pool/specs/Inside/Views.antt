@@ -1,0 +1,59 @@
+-- What a hand's view of a deque says, and a deque whose seats are being given.
+use Rattle.std.specs.Prelude.{◌≡◌, ℕ, Bool, true, false, ◌<◌, ◌≤◌, List, [], ◌∷◌, ◌++◌}
+use Rattle.std.specs.declared.alloc.Global.{Global}
+use Rattle.pool.specs.declared.view.View.{View}
+use Rattle.pool.specs.Inside.Rule.{view_of}
+use Rattle.pool.specs.Seen.{Seen, Owned}
+
+-- the first of these hands
+abbrev pub place_of : List (ℕ × List ℕ) → ℕ
+place_of [] = 0
+place_of (p ∷ ps) = p.0
+
+-- and what it has
+abbrev pub list_of : List (ℕ × List ℕ) → List ℕ
+list_of [] = []
+list_of (p ∷ ps) = p.1
+
+-- what a hand with this view has of the deque
+abbrev pub seen_of : (ℕ × ℕ) × Global → View → Seen
+seen_of deque v = record { deque = deque; numbers = v.numbers; place = place_of v.known; list = list_of v.known }
+
+-- what its owner has of it
+abbrev pub owned_of : (ℕ × ℕ) × Global → View → Bool → Owned
+owned_of deque v closed = record { seen = record { deque = deque; numbers = v.numbers; place = 0; list = list_of v.known }; made = v.made; closed = closed }
+
+-- the view of a sealed deque's owner, which has its own seat, and is owed a mark until it found one. From then on it knows that no number is left
+abbrev pub IsOwner : View → Bool → Type 0
+IsOwner v closed = (v.filling ≡ false) × (v.owner ≡ true) × (v.known ≡ (0, list_of v.known) ∷ []) × (closed ≡ false → 0 < v.ends) × (closed ≡ true → v.closed ≡ true)
+
+-- the view of another hand
+abbrev pub IsThief : View → Bool → Type 0
+IsThief v closed = (v.filling ≡ false) × (v.owner ≡ false) × (v.known ≡ (place_of v.known, list_of v.known) ∷ []) × (closed ≡ false → 0 < v.ends) × (closed ≡ true → v.closed ≡ true)
+
+-- a deque whose hands are being seated: how many seats were given, its owner's among them, of how many
+pub record Offer : Type 0 where
+  pub deque : (ℕ × ℕ) × Global
+  pub numbers : List ℕ
+  pub made : ℕ
+  pub hands : ℕ
+
+-- such a deque, by its owner's view
+abbrev pub offer_of : (ℕ × ℕ) × Global → View → ℕ → Offer
+offer_of deque v hands = record { deque = deque; numbers = v.numbers; made = v.made; hands = hands }
+
+-- the next seat
+abbrev pub seated : Offer → Seen
+seated o = record { deque = o.deque; numbers = o.numbers; place = o.made; list = [] }
+
+-- with so many seats given
+abbrev pub offered : Offer → ℕ → Offer
+offered o made = record { deque = o.deque; numbers = o.numbers; made = made; hands = o.hands }
+
+-- what the owner has of it, once all seats are given
+abbrev pub owned_first : Offer → Owned
+owned_first o = record { seen = record { deque = o.deque; numbers = o.numbers; place = 0; list = [] }; made = o.made; closed = false }
+
+-- the view of an owner after it looked at the lists of others: the end marks that it is owed did not become fewer, and it may know that no number is left
+abbrev pub Looked : View → View → Type 0
+Looked v w = (w ≡ view_of v.filling v.owner w.ends v.made v.numbers v.known w.closed) × (v.ends ≤ w.ends) × (v.closed ≡ true → w.closed ≡ true)
