@@ -1,8 +1,8 @@
 -- Each step of a deal leaves each number in as many places as before.
-use Rattle.std.proofs.Common.{◌≡◌, ◌≢◌, ℕ, zero, suc, ◌+◌, ◌%◌, ◌<◌, ◌≤◌, List, [], ◌∷◌, refl, sym, ap, ◌∙◌, ⊎_elim, arith, eq-eqb, ne_eqb}
+use Rattle.std.proofs.Common.{◌≡◌, ◌≢◌, ℕ, zero, suc, ◌%◌, ◌<◌, ◌≤◌, List, [], ◌∷◌, refl, sym, ap, ◌∙◌, ⊎_elim, arith, eq-eqb, ne_eqb}
 use Rattle.std.proofs.lemmas.Bool.{cases_eq}
 use Rattle.std.proofs.lemmas.Nat.{mod_below}
-use Rattle.pool.specs.Dealing.{State, dealt, times, take_first, state, step, deal_begin, deal_step, deal_after, times_in, AreStepsOf, IsEachInOnePlace}
+use Rattle.pool.specs.Dealing.{State, take_first, state, deal_begin, deal_step, deal_after, times_in, AreStepsOf, IsEachInOnePlace}
 use Rattle.pool.specs.Totals.{sum_below, once_below}
 use Rattle.pool.proofs.Deals.{dealt_times}
 use Rattle.pool.proofs.Rules.{sum_put}

@@ -1,6 +1,5 @@
 -- What a worker does.
-use Rattle.std.specs.Prelude.{◌≡◌, ℕ, ◌+◌, ◌^◌, ◌<◌, List, ◌∷◌, ◌++◌}
-use Rattle.std.specs.declared.alloc.Global.{Global}
+use Rattle.std.specs.Prelude.{◌≡◌, ℕ, ◌+◌, ◌^◌, ◌<◌}
 use Rattle.pool.specs.Fanned.{Follows}
 use Rattle.pool.specs.Holding.{Holding, numbers_of}
 use Rattle.pool.specs.Inside.Totals.{gathered}

@@ -2,8 +2,6 @@
 use Rattle.std.specs.Prelude.{◌≡◌, ℕ, suc, ◌+◌, ◌^◌, ◌<◌, ◌⊎◌, All, List, [], ◌∷◌, length, map, slice_index_or}
 use mathlib.Core.Option.{some}
 use lib.ListN.{get_elem?}
-use Rattle.pool.specs.declared.laws.Outcome.{Outcome}
-use Rattle.pool.specs.declared.laws.Outcome.TheVariants.{Whole, Over}
 use Rattle.pool.specs.Assembly.{IsNewDeal}
 use Rattle.pool.specs.Holding.{Holding}
 use Rattle.pool.specs.Inside.Done.{Did, MayGoOn}

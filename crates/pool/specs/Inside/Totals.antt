@@ -1,5 +1,5 @@
 -- What a worker and all workers have combined.
-use Rattle.std.specs.Prelude.{ℕ, zero, suc, ◌+◌, List, [], ◌∷◌, ◌==◌, if◌then◌else◌}
+use Rattle.std.specs.Prelude.{ℕ, List, [], ◌∷◌}
 
 -- all of these, combined, and of none the unit: the first with all that follows, and so on
 abbrev pub together : {M : Type 0} → M → (M → M → M) → List M → M

@@ -1,5 +1,4 @@
 use Rattle.std.proofs.Common.{◌≡◌, vec_len, sym, subst, arith}
-use Rattle.pool.specs.Settled.{pieces_of}
 use Rattle.pool.specs.Assembly.{IsNewDeal}
 use Rattle.pool.proofs.Fans.{new_pieces}
 use Rattle.pool.proofs.threads.new_hands.Goals as goal
