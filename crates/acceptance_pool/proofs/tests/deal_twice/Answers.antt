@@ -1,4 +1,4 @@
-use Rattle.std.proofs.Common.{◌≡◌, ◌≤◌, ℕ, length, ap, arith}
+use Rattle.std.proofs.Common.{ap, arith}
 use Rattle.pool.specs.Totals.{sum_below}
 use Rattle.pool.proofs.Shares.{grown_within}
 use Rattle.acceptance_pool.proofs.tests.deal_twice.Goals as goal
