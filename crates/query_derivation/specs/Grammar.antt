@@ -1,4 +1,4 @@
--- The grammar of queries, with one case for each production. Relations and productions are written as in Leaves, where
+-- The grammar of queries within limits, with one case for each production. Relations and productions are written as in Leaves, where
 -- those of names stand; those of expressions and predicates stand in Predicates. All productions on one page are in
 -- docs/LANGUAGE.md.
 use Rattle.std.specs.Prelude.{◌<◌, ℕ, zero, suc, Bool, true, false, Option, Some, None, List, [], ◌∷◌, length, codes}
@@ -7,20 +7,21 @@ use Rattle.query_tokens.specs.declared.token.Token.TheVariants as tokens
 use Rattle.query_tokens.specs.declared.token.Word.TheVariants as w
 use Rattle.query_tokens.specs.declared.token.Sign.TheVariants as s
 use Rattle.query_tree.specs.Syntax.{ExpressionForm, PredicateForm, ElementForm, ItemForm, KeyForm, TreeForm, element_forms}
+use Rattle.query_derivation.specs.Limits.{Limits, standard}
 use Rattle.query_derivation.specs.Leaves.{Derivation, IsRepeated, IsName}
 use Rattle.query_derivation.specs.Predicates.{IsExpression, IsPredicate}
 
 -- ---- the query
 
--- item = expr [ AS name ], with at most 64 levels of brackets in a FILTER, its own among them
-pub data IsItem : List Token → ItemForm → List Token → Type 0 where
-  plain : {ts r : List Token} {e : ExpressionForm} → IsExpression (IsPredicate 64) ts e r → IsItem ts record { expression = e; alias = None } r
-  named : {ts r : List Token} {e : ExpressionForm} {n : List ℕ} → IsExpression (IsPredicate 64) ts e (tokens.Word w.As ∷ tokens.Name n ∷ r) → IsItem ts record { expression = e; alias = Some n } r
+-- item = expr [ AS name ], with at most `levels` levels of brackets in a FILTER, its own among them
+pub data IsItem (limits : Limits) : List Token → ItemForm → List Token → Type 0 where
+  plain : {ts r : List Token} {e : ExpressionForm} → IsExpression limits (IsPredicate limits limits.levels) ts e r → IsItem limits ts record { expression = e; alias = None } r
+  named : {ts r : List Token} {e : ExpressionForm} {n : List ℕ} → IsExpression limits (IsPredicate limits limits.levels) ts e (tokens.Word w.As ∷ tokens.Name n ∷ r) → IsItem limits ts record { expression = e; alias = Some n } r
 
--- [ WHERE pred ], with at most 64 levels of brackets
-pub data IsWhere : List Token → Option PredicateForm → List Token → Type 0 where
-  none : {r : List Token} → IsWhere r None r
-  condition : {ts r : List Token} {p : PredicateForm} → IsPredicate 65 ts p r → IsWhere (tokens.Word w.Where ∷ ts) (Some p) r
+-- [ WHERE pred ], with at most `levels` levels of brackets
+pub data IsWhere (limits : Limits) : List Token → Option PredicateForm → List Token → Type 0 where
+  none : {r : List Token} → IsWhere limits r None r
+  condition : {ts r : List Token} {p : PredicateForm} → IsPredicate limits (suc limits.levels) ts p r → IsWhere limits (tokens.Word w.Where ∷ ts) (Some p) r
 
 -- unit = name | "(" name { "," name } ")"
 pub data IsUnit : List Token → List (List ℕ) → List Token → Type 0 where
@@ -56,17 +57,17 @@ pub data IsSetQuantifier : List Token → Bool → List Token → Type 0 where
   none : {r : List Token} → IsSetQuantifier r false r
   distinct : {r : List Token} → IsSetQuantifier (tokens.Word w.Distinct ∷ r) true r
 
--- [ GROUP BY [ DISTINCT ] group { "," group } ], whether DISTINCT is written, and the elements, with at most 16 levels of
--- GROUPING SETS in one another
-pub data IsGroupBy : List Token → Bool → List ElementForm → List Token → Type 0 where
-  none : {r : List Token} → IsGroupBy r false [] r
-  groups : {ts us mid r : List Token} {d : Bool} {g : ElementForm} {gs : List ElementForm} → IsSetQuantifier ts d us → IsGroup 16 us g mid → IsRepeated (tokens.Sign s.Comma) (IsGroup 16) mid gs r
-      → IsGroupBy (tokens.Word w.Group ∷ tokens.Word w.By ∷ ts) d (g ∷ gs) r
+-- [ GROUP BY [ DISTINCT ] group { "," group } ], whether DISTINCT is written, and the elements, with at most `sets` levels
+-- of GROUPING SETS in one another
+pub data IsGroupBy (limits : Limits) : List Token → Bool → List ElementForm → List Token → Type 0 where
+  none : {r : List Token} → IsGroupBy limits r false [] r
+  groups : {ts us mid r : List Token} {d : Bool} {g : ElementForm} {gs : List ElementForm} → IsSetQuantifier ts d us → IsGroup limits.sets us g mid → IsRepeated (tokens.Sign s.Comma) (IsGroup limits.sets) mid gs r
+      → IsGroupBy limits (tokens.Word w.Group ∷ tokens.Word w.By ∷ ts) d (g ∷ gs) r
 
--- [ HAVING pred ], with at most 64 levels of brackets
-pub data IsHaving : List Token → Option PredicateForm → List Token → Type 0 where
-  none : {r : List Token} → IsHaving r None r
-  condition : {ts r : List Token} {p : PredicateForm} → IsPredicate 65 ts p r → IsHaving (tokens.Word w.Having ∷ ts) (Some p) r
+-- [ HAVING pred ], with at most `levels` levels of brackets
+pub data IsHaving (limits : Limits) : List Token → Option PredicateForm → List Token → Type 0 where
+  none : {r : List Token} → IsHaving limits r None r
+  condition : {ts r : List Token} {p : PredicateForm} → IsPredicate limits (suc limits.levels) ts p r → IsHaving limits (tokens.Word w.Having ∷ ts) (Some p) r
 
 -- [ ASC | DESC ], and whether it is DESC
 pub data IsDirection : List Token → Bool → List Token → Type 0 where
@@ -80,25 +81,30 @@ pub data IsNullOrdering (descending : Bool) : List Token → Bool → List Token
   first : {r : List Token} → IsNullOrdering descending (tokens.Word w.Nulls ∷ tokens.Word w.First ∷ r) true r
   last : {r : List Token} → IsNullOrdering descending (tokens.Word w.Nulls ∷ tokens.Word w.Last ∷ r) false r
 
--- key = expr [ ASC | DESC ] [ NULLS FIRST | NULLS LAST ], with at most 64 levels of brackets in a FILTER, its own among them
-pub data IsKey : List Token → KeyForm → List Token → Type 0 where
-  key : {ts u v r : List Token} {e : ExpressionForm} {d n : Bool} → IsExpression (IsPredicate 64) ts e u → IsDirection u d v → IsNullOrdering d v n r → IsKey ts record { expression = e; descending = d; nulls_first = n } r
+-- key = expr [ ASC | DESC ] [ NULLS FIRST | NULLS LAST ], with at most `levels` levels of brackets in a FILTER, its own
+-- among them
+pub data IsKey (limits : Limits) : List Token → KeyForm → List Token → Type 0 where
+  key : {ts u v r : List Token} {e : ExpressionForm} {d n : Bool} → IsExpression limits (IsPredicate limits limits.levels) ts e u → IsDirection u d v → IsNullOrdering d v n r → IsKey limits ts record { expression = e; descending = d; nulls_first = n } r
 
 -- [ ORDER BY key { "," key } ]
-pub data IsOrderBy : List Token → List KeyForm → List Token → Type 0 where
-  none : {r : List Token} → IsOrderBy r [] r
-  keys : {ts mid r : List Token} {k : KeyForm} {ks : List KeyForm} → IsKey ts k mid → IsRepeated (tokens.Sign s.Comma) IsKey mid ks r → IsOrderBy (tokens.Word w.Order ∷ tokens.Word w.By ∷ ts) (k ∷ ks) r
+pub data IsOrderBy (limits : Limits) : List Token → List KeyForm → List Token → Type 0 where
+  none : {r : List Token} → IsOrderBy limits r [] r
+  keys : {ts mid r : List Token} {k : KeyForm} {ks : List KeyForm} → IsKey limits ts k mid → IsRepeated (tokens.Sign s.Comma) (IsKey limits) mid ks r → IsOrderBy limits (tokens.Word w.Order ∷ tokens.Word w.By ∷ ts) (k ∷ ks) r
 
 -- query = SELECT item { "," item } FROM lines
 --         [ WHERE pred ] [ GROUP BY [ DISTINCT ] group { "," group } ]
 --         [ HAVING pred ] [ ORDER BY key { "," key } ]
--- with at most 64 items; `lines` is the name `lines`, compared exactly
-pub data IsQuery : List Token → TreeForm → List Token → Type 0 where
+-- with at most `items` items; `lines` is the name `lines`, compared exactly
+pub data IsQuery (limits : Limits) : List Token → TreeForm → List Token → Type 0 where
   query : {ts mid after_from after_where after_groups after_having r : List Token} {i : ItemForm} {is : List ItemForm} {p h : Option PredicateForm} {d : Bool} {gs : List ElementForm} {ks : List KeyForm}
-      → IsItem ts i mid → IsRepeated (tokens.Sign s.Comma) IsItem mid is (tokens.Word w.From ∷ tokens.Name (codes "lines") ∷ after_from) → length is < 64
-      → IsWhere after_from p after_where → IsGroupBy after_where d gs after_groups → IsHaving after_groups h after_having → IsOrderBy after_having ks r
-      → IsQuery (tokens.Word w.Select ∷ ts) record { items = i ∷ is; where_condition = p; distinct_sets = d; groups = gs; having_condition = h; keys = ks } r
+      → IsItem limits ts i mid → IsRepeated (tokens.Sign s.Comma) (IsItem limits) mid is (tokens.Word w.From ∷ tokens.Name (codes "lines") ∷ after_from) → length is < limits.items
+      → IsWhere limits after_from p after_where → IsGroupBy limits after_where d gs after_groups → IsHaving limits after_groups h after_having → IsOrderBy limits after_having ks r
+      → IsQuery limits (tokens.Word w.Select ∷ ts) record { items = i ∷ is; where_condition = p; distinct_sets = d; groups = gs; having_condition = h; keys = ks } r
 
--- All of the tokens derive the query, within the limits.
+-- All of the tokens derive the query, within these limits.
+abbrev pub DerivesWithin : Limits → List Token → TreeForm → Type 0
+DerivesWithin limits ts q = IsQuery limits ts q []
+
+-- All of the tokens derive the query, within the limits of the language.
 abbrev pub Derives : List Token → TreeForm → Type 0
-Derives ts q = IsQuery ts q []
+Derives ts q = DerivesWithin standard ts q

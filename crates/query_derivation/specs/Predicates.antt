@@ -1,4 +1,4 @@
--- The grammar of expressions and predicates, with one case for each production. Relations and productions are written as
+-- The grammar of expressions and predicates within limits, with one case for each production. Relations and productions are written as
 -- in Leaves, where those of names, set functions, literals, operators and truth values stand.
 use Rattle.std.specs.Prelude.{◌<◌, ℕ, zero, suc, Bool, List, [], ◌∷◌, length}
 use Rattle.values.specs.declared.comparison.Op.{Op}
@@ -9,6 +9,7 @@ use Rattle.query_tokens.specs.declared.token.Word.TheVariants as w
 use Rattle.query_tokens.specs.declared.token.Sign.TheVariants as s
 use Rattle.query_tree.specs.declared.expression.Aggregate.{Aggregate}
 use Rattle.query_tree.specs.declared.predicate.Literal.{Literal}
+use Rattle.query_derivation.specs.Limits.{Limits}
 use Rattle.query_derivation.specs.Leaves.{Derivation, IsRepeated, IsName, IsAggregate, IsLiteral, IsOp, IsTruthValue, IsMark}
 use Rattle.query_tree.specs.Syntax.{ExpressionForm, FunctionForm, OperandForm, PredicateForm, over_all, over_filtered, or_of, and_of, not_of, truth_test, predicate_forms}
 
@@ -16,50 +17,50 @@ use Rattle.query_tree.specs.Syntax.{ExpressionForm, FunctionForm, OperandForm, P
 
 -- setfn, which is a set function, and behind it [ FILTER "(" WHERE pred ")" ], where IsInner is what may stand in the
 -- brackets of FILTER
-pub data IsFunction (IsInner : Derivation PredicateForm) : List Token → FunctionForm → List Token → Type 0 where
-  plain : {ts r : List Token} {f : Aggregate} → IsAggregate ts f r → IsFunction IsInner ts (over_all f) r
+pub data IsFunction (limits : Limits) (IsInner : Derivation PredicateForm) : List Token → FunctionForm → List Token → Type 0 where
+  plain : {ts r : List Token} {f : Aggregate} → IsAggregate ts f r → IsFunction limits IsInner ts (over_all f) r
   filtered : {ts mid r : List Token} {f : Aggregate} {p : PredicateForm} → IsAggregate ts f (tokens.Word w.Filter ∷ tokens.Sign s.Open ∷ tokens.Word w.Where ∷ mid) → IsInner mid p (tokens.Sign s.Close ∷ r)
-      → IsFunction IsInner ts (over_filtered f p) r
+      → IsFunction limits IsInner ts (over_filtered f p) r
 
--- expr = name | GROUPING "(" name { "," name } ")" | setfn, with at most 8 names in a GROUPING
-pub data IsExpression (IsInner : Derivation PredicateForm) : List Token → ExpressionForm → List Token → Type 0 where
-  name : {n : List ℕ} {r : List Token} → IsExpression IsInner (tokens.Name n ∷ r) (ExpressionForm.name n) r
-  grouping : {mid r : List Token} {n : List ℕ} {ns : List (List ℕ)} → IsRepeated (tokens.Sign s.Comma) IsName mid ns (tokens.Sign s.Close ∷ r) → length ns < 8 → IsExpression IsInner (tokens.Word w.Grouping ∷ tokens.Sign s.Open ∷ tokens.Name n ∷ mid) (ExpressionForm.grouping (n ∷ ns)) r
-  function : {ts r : List Token} {f : FunctionForm} → IsFunction IsInner ts f r → IsExpression IsInner ts (ExpressionForm.function f) r
+-- expr = name | GROUPING "(" name { "," name } ")" | setfn, with at most `arguments` names in a GROUPING
+pub data IsExpression (limits : Limits) (IsInner : Derivation PredicateForm) : List Token → ExpressionForm → List Token → Type 0 where
+  name : {n : List ℕ} {r : List Token} → IsExpression limits IsInner (tokens.Name n ∷ r) (ExpressionForm.name n) r
+  grouping : {mid r : List Token} {n : List ℕ} {ns : List (List ℕ)} → IsRepeated (tokens.Sign s.Comma) IsName mid ns (tokens.Sign s.Close ∷ r) → length ns < limits.arguments → IsExpression limits IsInner (tokens.Word w.Grouping ∷ tokens.Sign s.Open ∷ tokens.Name n ∷ mid) (ExpressionForm.grouping (n ∷ ns)) r
+  function : {ts r : List Token} {f : FunctionForm} → IsFunction limits IsInner ts f r → IsExpression limits IsInner ts (ExpressionForm.function f) r
 
 -- ---- predicates
 
 -- operand = expr | literal
-pub data IsOperand (IsInner : Derivation PredicateForm) : List Token → OperandForm → List Token → Type 0 where
-  expression : {ts r : List Token} {e : ExpressionForm} → IsExpression IsInner ts e r → IsOperand IsInner ts (OperandForm.expression e) r
-  literal : {ts r : List Token} {a : Literal} → IsLiteral ts a r → IsOperand IsInner ts (OperandForm.literal a) r
+pub data IsOperand (limits : Limits) (IsInner : Derivation PredicateForm) : List Token → OperandForm → List Token → Type 0 where
+  expression : {ts r : List Token} {e : ExpressionForm} → IsExpression limits IsInner ts e r → IsOperand limits IsInner ts (OperandForm.expression e) r
+  literal : {ts r : List Token} {a : Literal} → IsLiteral ts a r → IsOperand limits IsInner ts (OperandForm.literal a) r
 
 -- atom = operand cmp operand
 --      | operand [ NOT ] BETWEEN operand AND operand
---      | operand [ NOT ] IN "(" literal { "," literal } ")", with at most 64 literals
+--      | operand [ NOT ] IN "(" literal { "," literal } ")", with at most `literals` literals
 --      | operand IS [ NOT ] NULL
 --      | name
-pub data IsAtom (IsInner : Derivation PredicateForm) : List Token → PredicateForm → List Token → Type 0 where
-  compare : {ts u v r : List Token} {x y : OperandForm} {o : Op} → IsOperand IsInner ts x u → IsOp u o v → IsOperand IsInner v y r → IsAtom IsInner ts (PredicateForm.compare x o y) r
-  between : {ts u v mid r : List Token} {x y z : OperandForm} {n : Bool} → IsOperand IsInner ts x u → IsMark u n (tokens.Word w.Between ∷ v) → IsOperand IsInner v y (tokens.Word w.And ∷ mid) → IsOperand IsInner mid z r → IsAtom IsInner ts (PredicateForm.between x n y z) r
-  member : {ts u v mid r : List Token} {x : OperandForm} {n : Bool} {a : Literal} {ls : List Literal} → IsOperand IsInner ts x u → IsMark u n (tokens.Word w.In ∷ tokens.Sign s.Open ∷ v) → IsLiteral v a mid → IsRepeated (tokens.Sign s.Comma) IsLiteral mid ls (tokens.Sign s.Close ∷ r) → length ls < 64 → IsAtom IsInner ts (PredicateForm.member x n (a ∷ ls)) r
-  null_test : {ts u r : List Token} {x : OperandForm} {n : Bool} → IsOperand IsInner ts x (tokens.Word w.Is ∷ u) → IsMark u n (tokens.Word w.Null ∷ r) → IsAtom IsInner ts (PredicateForm.null_test x n) r
-  column : {n : List ℕ} {r : List Token} → IsAtom IsInner (tokens.Name n ∷ r) (PredicateForm.column n) r
+pub data IsAtom (limits : Limits) (IsInner : Derivation PredicateForm) : List Token → PredicateForm → List Token → Type 0 where
+  compare : {ts u v r : List Token} {x y : OperandForm} {o : Op} → IsOperand limits IsInner ts x u → IsOp u o v → IsOperand limits IsInner v y r → IsAtom limits IsInner ts (PredicateForm.compare x o y) r
+  between : {ts u v mid r : List Token} {x y z : OperandForm} {n : Bool} → IsOperand limits IsInner ts x u → IsMark u n (tokens.Word w.Between ∷ v) → IsOperand limits IsInner v y (tokens.Word w.And ∷ mid) → IsOperand limits IsInner mid z r → IsAtom limits IsInner ts (PredicateForm.between x n y z) r
+  member : {ts u v mid r : List Token} {x : OperandForm} {n : Bool} {a : Literal} {ls : List Literal} → IsOperand limits IsInner ts x u → IsMark u n (tokens.Word w.In ∷ tokens.Sign s.Open ∷ v) → IsLiteral v a mid → IsRepeated (tokens.Sign s.Comma) IsLiteral mid ls (tokens.Sign s.Close ∷ r) → length ls < limits.literals → IsAtom limits IsInner ts (PredicateForm.member x n (a ∷ ls)) r
+  null_test : {ts u r : List Token} {x : OperandForm} {n : Bool} → IsOperand limits IsInner ts x (tokens.Word w.Is ∷ u) → IsMark u n (tokens.Word w.Null ∷ r) → IsAtom limits IsInner ts (PredicateForm.null_test x n) r
+  column : {n : List ℕ} {r : List Token} → IsAtom limits IsInner (tokens.Name n ∷ r) (PredicateForm.column n) r
 
 -- prim = "(" pred ")" | atom
-pub data IsPrimary (IsInner : Derivation PredicateForm) : List Token → PredicateForm → List Token → Type 0 where
-  brackets : {ts r : List Token} {p : PredicateForm} → IsInner ts p (tokens.Sign s.Close ∷ r) → IsPrimary IsInner (tokens.Sign s.Open ∷ ts) p r
-  atom : {ts r : List Token} {p : PredicateForm} → IsAtom IsInner ts p r → IsPrimary IsInner ts p r
+pub data IsPrimary (limits : Limits) (IsInner : Derivation PredicateForm) : List Token → PredicateForm → List Token → Type 0 where
+  brackets : {ts r : List Token} {p : PredicateForm} → IsInner ts p (tokens.Sign s.Close ∷ r) → IsPrimary limits IsInner (tokens.Sign s.Open ∷ ts) p r
+  atom : {ts r : List Token} {p : PredicateForm} → IsAtom limits IsInner ts p r → IsPrimary limits IsInner ts p r
 
 -- test = prim [ IS [ NOT ] ( TRUE | FALSE | UNKNOWN ) ]
-pub data IsTest (IsInner : Derivation PredicateForm) : List Token → PredicateForm → List Token → Type 0 where
-  plain : {ts r : List Token} {p : PredicateForm} → IsPrimary IsInner ts p r → IsTest IsInner ts p r
-  test : {ts u v r : List Token} {p : PredicateForm} {n : Bool} {t : Truth} → IsPrimary IsInner ts p (tokens.Word w.Is ∷ u) → IsMark u n v → IsTruthValue v t r → IsTest IsInner ts (truth_test p n t) r
+pub data IsTest (limits : Limits) (IsInner : Derivation PredicateForm) : List Token → PredicateForm → List Token → Type 0 where
+  plain : {ts r : List Token} {p : PredicateForm} → IsPrimary limits IsInner ts p r → IsTest limits IsInner ts p r
+  test : {ts u v r : List Token} {p : PredicateForm} {n : Bool} {t : Truth} → IsPrimary limits IsInner ts p (tokens.Word w.Is ∷ u) → IsMark u n v → IsTruthValue v t r → IsTest limits IsInner ts (truth_test p n t) r
 
 -- neg = [ NOT ] test
-pub data IsNegation (IsInner : Derivation PredicateForm) : List Token → PredicateForm → List Token → Type 0 where
-  plain : {ts r : List Token} {p : PredicateForm} → IsTest IsInner ts p r → IsNegation IsInner ts p r
-  not : {ts r : List Token} {p : PredicateForm} → IsTest IsInner ts p r → IsNegation IsInner (tokens.Word w.Not ∷ ts) (not_of p) r
+pub data IsNegation (limits : Limits) (IsInner : Derivation PredicateForm) : List Token → PredicateForm → List Token → Type 0 where
+  plain : {ts r : List Token} {p : PredicateForm} → IsTest limits IsInner ts p r → IsNegation limits IsInner ts p r
+  not : {ts r : List Token} {p : PredicateForm} → IsTest limits IsInner ts p r → IsNegation limits IsInner (tokens.Word w.Not ∷ ts) (not_of p) r
 
 -- OR and AND hold the list of their parts, two or more; a list of one part is that part itself.
 abbrev pub conjunction_of : PredicateForm → List PredicateForm → PredicateForm
@@ -71,14 +72,14 @@ disjunction_of p [] = p
 disjunction_of p (q ∷ qs) = or_of (predicate_forms (p ∷ q ∷ qs))
 
 -- conj = neg { AND neg }
-pub data IsConjunction (IsInner : Derivation PredicateForm) : List Token → PredicateForm → List Token → Type 0 where
-  parts : {ts mid r : List Token} {p : PredicateForm} {ps : List PredicateForm} → IsNegation IsInner ts p mid → IsRepeated (tokens.Word w.And) (IsNegation IsInner) mid ps r → IsConjunction IsInner ts (conjunction_of p ps) r
+pub data IsConjunction (limits : Limits) (IsInner : Derivation PredicateForm) : List Token → PredicateForm → List Token → Type 0 where
+  parts : {ts mid r : List Token} {p : PredicateForm} {ps : List PredicateForm} → IsNegation limits IsInner ts p mid → IsRepeated (tokens.Word w.And) (IsNegation limits IsInner) mid ps r → IsConjunction limits IsInner ts (conjunction_of p ps) r
 
 -- pred = conj { OR conj }, where IsInner is what may stand in its brackets
-pub data IsDisjunction (IsInner : Derivation PredicateForm) : List Token → PredicateForm → List Token → Type 0 where
-  parts : {ts mid r : List Token} {p : PredicateForm} {ps : List PredicateForm} → IsConjunction IsInner ts p mid → IsRepeated (tokens.Word w.Or) (IsConjunction IsInner) mid ps r → IsDisjunction IsInner ts (disjunction_of p ps) r
+pub data IsDisjunction (limits : Limits) (IsInner : Derivation PredicateForm) : List Token → PredicateForm → List Token → Type 0 where
+  parts : {ts mid r : List Token} {p : PredicateForm} {ps : List PredicateForm} → IsConjunction limits IsInner ts p mid → IsRepeated (tokens.Word w.Or) (IsConjunction limits IsInner) mid ps r → IsDisjunction limits IsInner ts (disjunction_of p ps) r
 
 -- pred, with fewer than n levels of brackets
-unfoldable pub IsPredicate : ℕ → List Token → PredicateForm → List Token → Type 0
-IsPredicate zero ts p r = ⊥
-IsPredicate (suc n) ts p r = IsDisjunction (IsPredicate n) ts p r
+unfoldable pub IsPredicate : Limits → ℕ → List Token → PredicateForm → List Token → Type 0
+IsPredicate limits zero ts p r = ⊥
+IsPredicate limits (suc n) ts p r = IsDisjunction limits (IsPredicate limits n) ts p r

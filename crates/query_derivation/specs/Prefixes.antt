@@ -1,24 +1,43 @@
--- Which tokens begin a query, and which of them no query goes on with.
-use Rattle.std.specs.Prelude.{◌≤◌, ◌<◌, ◌+◌, ℕ, List, ◌++◌, length, take}
+-- Which tokens begin a query, and where tokens that are none go wrong.
+use Rattle.std.specs.Prelude.{◌≤◌, ◌<◌, ◌+◌, ℕ, List, [], ◌∷◌, ◌++◌, length, take}
 use Rattle.query_tokens.specs.declared.token.Token.{Token}
+use Rattle.query_tokens.specs.declared.token.Token.TheVariants as tokens
+use Rattle.query_tokens.specs.declared.token.Word.TheVariants as w
+use Rattle.query_tokens.specs.declared.token.Sign.TheVariants as s
 use Rattle.query_tree.specs.Syntax.{TreeForm}
-use Rattle.query_derivation.specs.Grammar.{Derives}
+use Rattle.query_derivation.specs.Limits.{Limits, standard}
+use Rattle.query_derivation.specs.Grammar.{DerivesWithin}
 
--- These tokens begin a query within the limits: with some tokens behind them they derive one.
-pub record BeginsWithin (front : List Token) : Type 0 where
+-- These tokens begin a query within these limits: with some tokens behind them they derive one.
+pub record BeginsWithin (limits : Limits) (front : List Token) : Type 0 where
   pub rest : List Token
   pub tree : TreeForm
-  pub derived : Derives (front ++ rest) tree
+  pub derived : DerivesWithin limits (front ++ rest) tree
 
--- Within the limits, the token at this place, from 0, continues no query: the tokens up to it, with it, begin none. At the
--- place behind the last token it is the end that continues none: all of the tokens together are no query.
-pub record IsUnexpectedWithin (ts : List Token) (place : ℕ) : Type 0 where
+-- These tokens begin a query: they do within some limits.
+pub record Begins (front : List Token) : Type 0 where
+  pub limits : Limits
+  pub within : BeginsWithin limits front
+
+-- These tokens keep the limits of the language: they begin a query within them, or those before a comma or the word FILTER
+-- at their end do. What may be too much stands behind these two.
+pub data KeepsLimits : List Token → Type 0 where
+  begins : {front : List Token} → BeginsWithin standard front → KeepsLimits front
+  comma : {front : List Token} → BeginsWithin standard front → KeepsLimits (front ++ tokens.Sign s.Comma ∷ [])
+  filter : {front : List Token} → BeginsWithin standard front → KeepsLimits (front ++ tokens.Word w.Filter ∷ [])
+
+-- The token at this place, from 0, continues no query, or behind the last token the end does not. The tokens before it
+-- begin a query and keep the limits; with it they begin none, and all of the tokens are none, whatever the limits.
+pub record IsUnexpected (ts : List Token) (place : ℕ) : Type 0 where
   pub inside : place ≤ length ts
-  pub continues_none : place < length ts → BeginsWithin (take (place + 1) ts) → ⊥
-  pub derives_none : (q : TreeForm) → Derives ts q → ⊥
+  pub begins : Begins (take place ts)
+  pub keeps : KeepsLimits (take place ts)
+  pub continues_none : place < length ts → Begins (take (place + 1) ts) → ⊥
+  pub derives_none : (limits : Limits) (q : TreeForm) → DerivesWithin limits ts q → ⊥
 
--- It is too much: within the limits, the tokens before some place begin no query.
+-- It is too much: some tokens in front begin a query, and do not keep the limits.
 pub record IsOverLimit (ts : List Token) : Type 0 where
   pub place : ℕ
   pub inside : place ≤ length ts
-  pub begins_none : BeginsWithin (take place ts) → ⊥
+  pub begins : Begins (take place ts)
+  pub exceeds : KeepsLimits (take place ts) → ⊥

@@ -5,6 +5,7 @@ use Rattle.query_tokens.specs.declared.token.Token.{Token}
 use Rattle.query_tokens.specs.declared.token.Word.TheVariants as w
 use Rattle.query_tokens.specs.Options.{choose}
 use Rattle.query_tree.specs.Syntax.{KeyForm}
+use Rattle.query_derivation.specs.Limits.{Limits}
 use Rattle.query_leaves.specs.Fronts.{is_word, after}
 use Rattle.query_leaves.specs.Steps.{◌>>=◌, Reader, expected}
 use Rattle.query_predicates.specs.ExpressionSteps.{expression_at, begins_expression}
@@ -21,10 +22,10 @@ null_ordering_at descending ts = choose (after (is_word w.Nulls) ts) (Ok (descen
     choose (after (is_word w.First) a) (expected (after (is_word w.Last)) a >>= λ r. Ok (false, r)) (λ r. Ok (true, r)))
 
 -- A key.
-unfoldable pub key_at : Reader KeyForm
-key_at ts = expression_at (inside_of 64) ts >>= λ e. null_ordering_at (direction_at e.1).0 (direction_at e.1).1 >>= λ n.
+unfoldable pub key_at : Limits → Reader KeyForm
+key_at limits ts = expression_at (inside_of limits limits.levels) ts >>= λ e. null_ordering_at (direction_at e.1).0 (direction_at e.1).1 >>= λ n.
     Ok (record { expression = e.0; descending = (direction_at e.1).0; nulls_first = n.0 }, n.1)
 
 -- The keys of ORDER BY, or none.
-unfoldable pub keys_at : Reader (List KeyForm)
-keys_at ts = choose (after (is_word w.Order) ts) (Ok ([], ts)) (λ a. expected (after (is_word w.By)) a >>= λ b. all_at begins_expression key_at b)
+unfoldable pub keys_at : Limits → Reader (List KeyForm)
+keys_at limits ts = choose (after (is_word w.Order) ts) (Ok ([], ts)) (λ a. expected (after (is_word w.By)) a >>= λ b. all_at begins_expression (key_at limits) b)

@@ -8,6 +8,7 @@ ghost use Rattle.query_leaves.specs.Steps.{Gives, with_front, more};
 ghost use Rattle.query_predicates.specs.PredicateSteps.{any_front};
 ghost use Rattle.query_grammar.specs.GroupSteps.{sets_at, group_at};
 ghost use Rattle.query_grammar.specs.QuerySteps.{elements_at, groups_at, set_quantifier_at};
+ghost use Rattle.query_derivation.specs.Limits.{standard};
 
 use crate::units::{set, units};
 use query_leaves::{
@@ -109,7 +110,7 @@ fn elements(
     alloc: Global,
     tokens: &[Token],
 ) -> Result<((bool, Vec<GroupingElement>), &[Token]), GrammarFault>
-    ensures exact { Gives (λ x. ((x.0.0, map element_form x.0.1.items), x.1.now)) result (elements_at tokens.now) }
+    ensures exact { Gives (λ x. ((x.0.0, map element_form x.0.1.items), x.1.now)) result (elements_at standard tokens.now) }
     ensures shorter { IfOk result (λ x. length x.1.now < length tokens.now) }
 {
     let (distinct, rest) = set_quantifier(tokens);
@@ -125,7 +126,7 @@ pub fn groups(
     alloc: Global,
     tokens: &[Token],
 ) -> Result<((bool, Vec<GroupingElement>), &[Token]), GrammarFault>
-    ensures exact { Gives (λ x. ((x.0.0, map element_form x.0.1.items), x.1.now)) result (groups_at tokens.now) }
+    ensures exact { Gives (λ x. ((x.0.0, map element_form x.0.1.items), x.1.now)) result (groups_at standard tokens.now) }
     ensures shorter { IfOk result (λ x. length x.1.now ≤ length tokens.now) }
 {
     let Some(rest) = after_word(tokens, Word::Group) else {

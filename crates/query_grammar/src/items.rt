@@ -4,6 +4,7 @@ ghost use Rattle.std.specs.Prelude.{◌<◌, ◌≤◌, length, map, IfOk};
 ghost use Rattle.query_tree.specs.Syntax.{item_form};
 ghost use Rattle.query_leaves.specs.Steps.{Gives};
 ghost use Rattle.query_grammar.specs.QuerySteps.{alias_at, item_at, items_at};
+ghost use Rattle.query_derivation.specs.Limits.{standard};
 
 use query_leaves::{GrammarFault, Listed, after_word, expect_name, keep, more_parts};
 use query_predicates::{MOST_LEVELS, begins_expression, expression};
@@ -30,7 +31,7 @@ fn alias(tokens: &[Token]) -> Result<(Option<Text>, &[Token]), GrammarFault>
 /// An item.
 #[tactic(auto, unfolding(crate::specs::QuerySteps::item_at))]
 fn item(alloc: Global, tokens: &[Token]) -> Result<(Item, &[Token]), GrammarFault>
-    ensures exact { Gives (λ x. (item_form x.0, x.1.now)) result (item_at tokens.now) }
+    ensures exact { Gives (λ x. (item_form x.0, x.1.now)) result (item_at standard tokens.now) }
     ensures shorter { IfOk result (λ x. length x.1.now < length tokens.now) }
 {
     let (expression, rest) = expression(alloc, tokens, MOST_LEVELS)?;
@@ -44,6 +45,7 @@ struct SelectItems;
 impl Listed for SelectItems {
     ghost use Rattle.query_tree.specs.Syntax.{ItemForm, item_form};
     ghost use Rattle.query_predicates.specs.ExpressionSteps.{begins_expression};
+    ghost use Rattle.query_derivation.specs.Limits.{standard};
     ghost use Rattle.query_grammar.specs.QuerySteps.{item_at};
 
     type Part = Item;
@@ -52,7 +54,7 @@ impl Listed for SelectItems {
 
     ghost form = { item_form };
 
-    ghost reader = { item_at };
+    ghost reader = { item_at standard };
 
     ghost front = { begins_expression };
 
@@ -68,7 +70,7 @@ impl Listed for SelectItems {
 /// The items of SELECT.
 #[tactic(auto, unfolding(crate::specs::QuerySteps::items_at))]
 pub fn items(alloc: Global, tokens: &[Token]) -> Result<(Vec<Item>, &[Token]), GrammarFault>
-    ensures exact { Gives (λ x. (map item_form x.0.items, x.1.now)) result (items_at tokens.now) }
+    ensures exact { Gives (λ x. (map item_form x.0.items, x.1.now)) result (items_at standard tokens.now) }
     ensures shorter { IfOk result (λ x. length x.1.now < length tokens.now) }
 {
     let (first, rest) = item(alloc, tokens)?;

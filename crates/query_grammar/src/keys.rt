@@ -4,6 +4,7 @@ ghost use Rattle.std.specs.Prelude.{◌≡◌, ◌<◌, ◌≤◌, length, map, 
 ghost use Rattle.query_tree.specs.Syntax.{key_form};
 ghost use Rattle.query_leaves.specs.Steps.{Gives};
 ghost use Rattle.query_grammar.specs.KeySteps.{direction_at, null_ordering_at, key_at, keys_at};
+ghost use Rattle.query_derivation.specs.Limits.{standard};
 
 use query_leaves::{GrammarFault, Listed, after_word, expect_word, keep, more_parts};
 use query_predicates::{MOST_LEVELS, begins_expression, expression};
@@ -45,7 +46,7 @@ fn null_ordering(tokens: &[Token], descending: bool) -> Result<(bool, &[Token]),
 /// A key, with its defaults resolved.
 #[tactic(auto, unfolding(crate::specs::KeySteps::key_at))]
 fn key(alloc: Global, tokens: &[Token]) -> Result<(Key, &[Token]), GrammarFault>
-    ensures exact { Gives (λ x. (key_form x.0, x.1.now)) result (key_at tokens.now) }
+    ensures exact { Gives (λ x. (key_form x.0, x.1.now)) result (key_at standard tokens.now) }
     ensures shorter { IfOk result (λ x. length x.1.now < length tokens.now) }
 {
     let (expression, rest) = expression(alloc, tokens, MOST_LEVELS)?;
@@ -65,6 +66,7 @@ struct SortKeys;
 impl Listed for SortKeys {
     ghost use Rattle.query_tree.specs.Syntax.{KeyForm, key_form};
     ghost use Rattle.query_predicates.specs.ExpressionSteps.{begins_expression};
+    ghost use Rattle.query_derivation.specs.Limits.{standard};
     ghost use Rattle.query_grammar.specs.KeySteps.{key_at};
 
     type Part = Key;
@@ -73,7 +75,7 @@ impl Listed for SortKeys {
 
     ghost form = { key_form };
 
-    ghost reader = { key_at };
+    ghost reader = { key_at standard };
 
     ghost front = { begins_expression };
 
@@ -89,7 +91,7 @@ impl Listed for SortKeys {
 /// The keys of ORDER BY, none where it is not written.
 #[tactic(auto, unfolding(crate::specs::KeySteps::keys_at))]
 pub fn keys(alloc: Global, tokens: &[Token]) -> Result<(Vec<Key>, &[Token]), GrammarFault>
-    ensures exact { Gives (λ x. (map key_form x.0.items, x.1.now)) result (keys_at tokens.now) }
+    ensures exact { Gives (λ x. (map key_form x.0.items, x.1.now)) result (keys_at standard tokens.now) }
     ensures shorter { IfOk result (λ x. length x.1.now ≤ length tokens.now) }
 {
     let Some(rest) = after_word(tokens, Word::Order) else {

@@ -8,6 +8,7 @@ ghost use Rattle.query_derivation.specs.Grammar.{Derives};
 ghost use Rattle.query_derivation.specs.Prefixes.{IsUnexpectedWithin, IsOverLimit};
 ghost use Rattle.query_leaves.specs.Steps.{Gives};
 ghost use Rattle.query_grammar.specs.QuerySteps.{from_at, clause_at, select_at, records_at, rows_at, query_at, whole_at};
+ghost use Rattle.query_derivation.specs.Limits.{standard};
 
 use crate::groups::groups;
 use crate::items::items;
@@ -39,7 +40,7 @@ fn clause(
     tokens: &[Token],
     word: Word,
 ) -> Result<(Option<Predicate>, &[Token]), GrammarFault>
-    ensures exact { Gives (λ x. (option_map predicate_form x.0, x.1.now)) result (clause_at word tokens.now) }
+    ensures exact { Gives (λ x. (option_map predicate_form x.0, x.1.now)) result (clause_at standard word tokens.now) }
     ensures shorter { IfOk result (λ x. length x.1.now ≤ length tokens.now) }
 {
     let Some(rest) = after_word(tokens, word) else {
@@ -52,7 +53,7 @@ fn clause(
 /// The items of SELECT, and what stands behind FROM.
 #[tactic(auto, unfolding(crate::specs::QuerySteps::select_at))]
 fn select(alloc: Global, tokens: &[Token]) -> Result<(Vec<Item>, &[Token]), GrammarFault>
-    ensures exact { Gives (λ x. (map item_form x.0.items, x.1.now)) result (select_at tokens.now) }
+    ensures exact { Gives (λ x. (map item_form x.0.items, x.1.now)) result (select_at standard tokens.now) }
 {
     let rest = expect_word(tokens, Word::Select)?;
     let (items, rest) = items(alloc, rest)?;
@@ -65,7 +66,7 @@ fn records(
     alloc: Global,
     tokens: &[Token],
 ) -> Result<((Option<Predicate>, bool, Vec<GroupingElement>), &[Token]), GrammarFault>
-    ensures exact { Gives (λ x. ((option_map predicate_form x.0.0, x.0.1, map element_form x.0.2.items), x.1.now)) result (records_at tokens.now) }
+    ensures exact { Gives (λ x. ((option_map predicate_form x.0.0, x.0.1, map element_form x.0.2.items), x.1.now)) result (records_at standard tokens.now) }
 {
     let (where_condition, rest) = clause(alloc, tokens, Word::Where)?;
     let (where_condition, (group_by, rest)) = keep(where_condition, groups(alloc, rest))?;
@@ -79,7 +80,7 @@ fn rows(
     alloc: Global,
     tokens: &[Token],
 ) -> Result<((Option<Predicate>, Vec<Key>), &[Token]), GrammarFault>
-    ensures exact { Gives (λ x. ((option_map predicate_form x.0.0, map key_form x.0.1.items), x.1.now)) result (rows_at tokens.now) }
+    ensures exact { Gives (λ x. ((option_map predicate_form x.0.0, map key_form x.0.1.items), x.1.now)) result (rows_at standard tokens.now) }
 {
     let (having_condition, rest) = clause(alloc, tokens, Word::Having)?;
     let (having_condition, (keys, rest)) = keep(having_condition, keys(alloc, rest))?;
@@ -89,7 +90,7 @@ fn rows(
 /// A query in front, and what stands behind it.
 #[tactic(auto, unfolding(crate::specs::QuerySteps::query_at))]
 fn query(alloc: Global, tokens: &[Token]) -> Result<(Box<Tree>, &[Token]), GrammarFault>
-    ensures exact { Gives (λ x. (tree_form x.0.value, x.1.now)) result (query_at tokens.now) }
+    ensures exact { Gives (λ x. (tree_form x.0.value, x.1.now)) result (query_at standard tokens.now) }
 {
     let (items, rest) = select(alloc, tokens)?;
     let (items, (records, rest)) = keep(items, records(alloc, rest))?;
@@ -110,7 +111,7 @@ fn query(alloc: Global, tokens: &[Token]) -> Result<(Box<Tree>, &[Token]), Gramm
 /// The query that all of the tokens are.
 #[tactic(auto, unfolding(crate::specs::QuerySteps::whole_at))]
 fn whole(alloc: Global, tokens: &[Token]) -> Result<Box<Tree>, GrammarFault>
-    ensures { Gives (λ tree. tree_form tree.value) result (whole_at tokens.now) }
+    ensures { Gives (λ tree. tree_form tree.value) result (whole_at standard tokens.now) }
 {
     let (tree, rest) = query(alloc, tokens)?;
     if !rest.is_empty() {

@@ -1,5 +1,5 @@
 -- Leaves that derive from tokens are read.
-use Rattle.std.proofs.Common.{arith, length, ◌<◌, ◌≡◌, ℕ, Bool, List, ◌∷◌, Some, None, Ok, refl}
+use Rattle.std.proofs.Common.{arith, ◌-◌, length, ◌<◌, ◌≡◌, ℕ, Bool, List, ◌∷◌, Some, None, Ok, refl}
 use Rattle.values.specs.declared.comparison.Op.{Op}
 use Rattle.values.specs.declared.truth.Truth.{Truth}
 use Rattle.query_tokens.specs.declared.token.Token.{Token}
@@ -20,10 +20,10 @@ pub name_c : (ts r : List Token) (n : List ℕ) → IsName ts n r → expected n
 unfolding name_at
 name_c _ _ _ IsName.name = refl
 
-pub arguments_c : {n : List ℕ} {mid r : List Token} {ns : List (List ℕ)} → IsRepeated (tokens.Sign s.Comma) IsName mid ns (tokens.Sign s.Close ∷ r) → length ns < 8
-    → arguments_at (tokens.Sign s.Open ∷ tokens.Name n ∷ mid) ≡ Ok (n ∷ ns, r)
+pub arguments_c : {most : ℕ} {n : List ℕ} {mid r : List Token} {ns : List (List ℕ)} → IsRepeated (tokens.Sign s.Comma) IsName mid ns (tokens.Sign s.Close ∷ r) → length ns < most
+    → arguments_at most (tokens.Sign s.Open ∷ tokens.Name n ∷ mid) ≡ Ok (n ∷ ns, r)
 unfolding arguments_at
-arguments_c {n} {mid} b few = bracketed_c begins_name IsName (expected name_at) name_c 7 (IsName.name {n = n} {r = mid}) b (omega arith)
+arguments_c {most} {n} {mid} b few = bracketed_c begins_name IsName (expected name_at) name_c (most - 1) (IsName.name {n = n} {r = mid}) b (omega arith)
 
 pub aggregate_c : {ts r : List Token} {f : Aggregate} → IsAggregate ts f r → aggregate_at ts ≡ Ok (f, r)
 unfolding aggregate_at count_at counted_at argument_at closed_name_at name_at
@@ -75,10 +75,10 @@ literal_c _ _ _ IsLiteral.no = refl
 listed_literal_c : (ts r : List Token) (a : Literal) → IsLiteral ts a r → expected literal_at ts ≡ Ok (a, r)
 listed_literal_c ts r a p = rw (literal_c ts r a p) refl
 
-pub literals_c : {ts mid r : List Token} {a : Literal} {ls : List Literal} → IsLiteral ts a mid → IsRepeated (tokens.Sign s.Comma) IsLiteral mid ls (tokens.Sign s.Close ∷ r) → length ls < 64
-    → literals_at (tokens.Sign s.Open ∷ ts) ≡ Ok (a ∷ ls, r)
+pub literals_c : {most : ℕ} {ts mid r : List Token} {a : Literal} {ls : List Literal} → IsLiteral ts a mid → IsRepeated (tokens.Sign s.Comma) IsLiteral mid ls (tokens.Sign s.Close ∷ r) → length ls < most
+    → literals_at most (tokens.Sign s.Open ∷ ts) ≡ Ok (a ∷ ls, r)
 unfolding literals_at
-literals_c a b few = bracketed_c begins_literal IsLiteral (expected literal_at) listed_literal_c 63 a b (omega arith)
+literals_c {most} a b few = bracketed_c begins_literal IsLiteral (expected literal_at) listed_literal_c (most - 1) a b (omega arith)
 
 pub op_c : {ts r : List Token} {o : Op} → IsOp ts o r → op_at ts ≡ Some (o, r)
 unfolding op_at

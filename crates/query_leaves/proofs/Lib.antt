@@ -7,3 +7,4 @@ pub mod SoundLists
 pub mod SoundLeaves
 pub mod Local
 pub mod LocalLeaves
+pub mod Viable

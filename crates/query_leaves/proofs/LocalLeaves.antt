@@ -1,5 +1,5 @@
 -- The readers of leaves are local.
-use Rattle.std.proofs.Common.{◌≡◌, ◌⊎◌, inl, inr, ℕ, Bool, true, false, List, [], ◌∷◌, ◌++◌, Some, None, Ok, refl, ap}
+use Rattle.std.proofs.Common.{◌-◌, ◌≡◌, ◌⊎◌, inl, inr, ℕ, Bool, true, false, List, [], ◌∷◌, ◌++◌, Some, None, Ok, refl, ap}
 use Rattle.values.specs.declared.truth.Truth.TheVariants as truth
 use Rattle.values.specs.declared.comparison.Op.{Op}
 use Rattle.values.specs.declared.comparison.Op.TheVariants as op
@@ -93,9 +93,9 @@ name_told (tokens.Sign n) us vs = refl
 name_told (tokens.Integer n) us vs = refl
 name_told (tokens.Text n) us vs = refl
 
-pub arguments_l : Local true arguments_at
+pub arguments_l : (most : ℕ) → Local true (arguments_at most)
 unfolding arguments_at
-arguments_l = local_bracketed begins_name (expected name_at) name_told (local_expected_front name_at name_front) 7
+arguments_l most = local_bracketed begins_name (expected name_at) name_told (local_expected_front name_at name_front) (most - 1)
 
 -- ---- literals, operators and truth values
 
@@ -133,9 +133,9 @@ pub op_front : IsFront op_at
 unfolding op_at
 op_front = record { at_end = refl; at_token = op_token }
 
-pub literals_l : Local true literals_at
+pub literals_l : (most : ℕ) → Local true (literals_at most)
 unfolding literals_at
-literals_l = local_bracketed begins_literal (expected literal_at) literal_told (local_expected_front literal_at literal_front) 63
+literals_l most = local_bracketed begins_literal (expected literal_at) literal_told (local_expected_front literal_at literal_front) (most - 1)
 
 pub truth_l : Local true truth_at
 unfolding truth_at

@@ -1,6 +1,6 @@
 -- What the functions of leaves read in front of tokens, one definition for each function, as it computes it. What tokens
 -- derive is said in Leaves.
-use Rattle.std.specs.Prelude.{ℕ, List, [], ◌∷◌, Option, Some, None, is_some, Ok, Bool, true, false}
+use Rattle.std.specs.Prelude.{◌-◌, ℕ, List, [], ◌∷◌, Option, Some, None, is_some, Ok, Bool, true, false}
 use Rattle.values.specs.declared.comparison.Op.{Op}
 use Rattle.values.specs.declared.comparison.Op.TheVariants as op
 use Rattle.values.specs.declared.truth.Truth.{Truth}
@@ -49,9 +49,9 @@ aggregate_at (tokens.Word w.Max ∷ ts) = argument_at ts >>= λ n. Ok (aggregate
 aggregate_at (tokens.Word w.Avg ∷ ts) = argument_at ts >>= λ n. Ok (aggregates.Avg n.0, n.1)
 aggregate_at (x ∷ ts) = stuck (x ∷ ts)
 
--- The bracketed names behind GROUPING.
-unfoldable pub arguments_at : Reader (List (List ℕ))
-arguments_at ts = bracketed_at begins_name (expected name_at) 7 ts
+-- The bracketed names behind GROUPING, with at most so many.
+unfoldable pub arguments_at : ℕ → Reader (List (List ℕ))
+arguments_at most ts = bracketed_at begins_name (expected name_at) (most - 1) ts
 
 -- ---- literals, operators and truth values
 
@@ -68,9 +68,9 @@ literal_at (x ∷ ts) = None
 abbrev pub begins_literal : List Token → Bool
 begins_literal ts = is_some (literal_at ts)
 
--- The bracketed literals behind IN.
-unfoldable pub literals_at : Reader (List Literal)
-literals_at ts = bracketed_at begins_literal (expected literal_at) 63 ts
+-- The bracketed literals behind IN, with at most so many.
+unfoldable pub literals_at : ℕ → Reader (List Literal)
+literals_at most ts = bracketed_at begins_literal (expected literal_at) (most - 1) ts
 
 -- An operator, where one stands in front.
 unfoldable pub op_at : List Token → Option (Op × List Token)

@@ -3,6 +3,7 @@
 ghost use Rattle.std.specs.Prelude.{◌<◌, ℕ, length, IfOk};
 ghost use Rattle.query_leaves.specs.Steps.{Gives};
 ghost use Rattle.query_leaves.specs.LeafSteps.{arguments_at};
+ghost use Rattle.query_derivation.specs.Limits.{standard};
 
 use crate::fault::GrammarFault;
 use crate::fronts::{expect_name, expect_sign, name};
@@ -58,7 +59,7 @@ pub fn grouping_names(
     alloc: Global,
     tokens: &[Token],
 ) -> Result<(Vec<Text>, &[Token]), GrammarFault>
-    ensures exact { Gives (λ x. (x.0.items, x.1.now)) result (arguments_at tokens.now) }
+    ensures exact { Gives (λ x. (x.0.items, x.1.now)) result (arguments_at standard.arguments tokens.now) }
     ensures shorter { IfOk result (λ x. length x.1.now < length tokens.now) }
 {
     let rest = expect_sign(tokens, Sign::Open)?;

@@ -4,6 +4,7 @@ ghost use Rattle.std.specs.Prelude.{◌<◌, length, IfOk, IfSome};
 ghost use Rattle.query_tokens.specs.Options.{Tells};
 ghost use Rattle.query_leaves.specs.Steps.{Gives};
 ghost use Rattle.query_leaves.specs.LeafSteps.{literal_at, literals_at};
+ghost use Rattle.query_derivation.specs.Limits.{standard};
 
 use crate::fault::GrammarFault;
 use crate::fronts::{expect_sign, unexpected};
@@ -89,7 +90,7 @@ impl Listed for Literals {
 /// there is no memory for the literals.
 #[tactic(auto, unfolding(crate::specs::LeafSteps::literals_at))]
 pub fn in_list(alloc: Global, tokens: &[Token]) -> Result<(Vec<Literal>, &[Token]), GrammarFault>
-    ensures exact { Gives (λ x. (x.0.items, x.1.now)) result (literals_at tokens.now) }
+    ensures exact { Gives (λ x. (x.0.items, x.1.now)) result (literals_at standard.literals tokens.now) }
     ensures shorter { IfOk result (λ x. length x.1.now < length tokens.now) }
 {
     let rest = expect_sign(tokens, Sign::Open)?;

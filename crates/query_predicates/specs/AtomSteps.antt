@@ -1,6 +1,6 @@
 -- What the functions of atoms read in front of tokens, one definition for each function, as it computes it.
 -- What tokens derive is said in Predicates. Where a FILTER may stand, inside is what may stand in its brackets.
-use Rattle.std.specs.Prelude.{Result, Ok, Bool, true, false, List}
+use Rattle.std.specs.Prelude.{ℕ, Result, Ok, Bool, true, false, List}
 use Rattle.query_tokens.specs.declared.token.Token.{Token}
 use Rattle.query_leaves.specs.declared.fault.GrammarFault.{GrammarFault}
 use Rattle.query_tokens.specs.declared.token.Word.TheVariants as w
@@ -17,9 +17,9 @@ operand_at inside ts = choose (literal_at ts)
     (expression_at inside ts >>= λ e. Ok (OperandForm.expression e.0, e.1))
     (λ a. Ok (OperandForm.literal a.0, a.1))
 
--- The atom of an operand and the literals behind its IN.
-unfoldable pub member_after : OperandForm → Bool → Reader PredicateForm
-member_after x n ts = literals_at ts >>= λ ls. Ok (member x n ls.0, ls.1)
+-- The atom of an operand and the literals behind its IN, with at most so many.
+unfoldable pub member_after : ℕ → OperandForm → Bool → Reader PredicateForm
+member_after most x n ts = literals_at most ts >>= λ ls. Ok (member x n ls.0, ls.1)
 
 -- The atom of an operand and the two ends behind its BETWEEN.
 unfoldable pub between_after : Inside → OperandForm → Bool → Reader PredicateForm
@@ -29,7 +29,7 @@ between_after inside x n ts = operand_at inside ts >>= λ y. expected (after (is
 unfoldable pub negated_after : Inside → OperandForm → Reader PredicateForm
 negated_after inside x ts = choose (after (is_word w.In) ts)
     (expected (after (is_word w.Between)) ts >>= λ a. between_after inside x true a)
-    (λ a. member_after x true a)
+    (λ a. member_after inside.limits.literals x true a)
 
 -- The atom that an operand alone is: a bare name. Anything else asks for more than these tokens.
 unfoldable pub column_of : OperandForm → List Token → Result PredicateForm GrammarFault
@@ -46,7 +46,7 @@ atom_after inside x ts = choose (op_at ts)
     (choose (after (is_word w.Between) ts)
     (column_of x ts >>= λ p. Ok (p, ts))
     (λ a. between_after inside x false a))
-    (λ a. member_after x false a))
+    (λ a. member_after inside.limits.literals x false a))
     (λ a. negated_after inside x a))
     (λ o. operand_at inside o.1 >>= λ y. Ok (compare x o.0 y.0, y.1))
 

@@ -7,12 +7,14 @@ use Rattle.query_tokens.specs.declared.token.Word.TheVariants as w
 use Rattle.query_tokens.specs.declared.token.Sign.TheVariants as s
 use Rattle.query_tokens.specs.Options.{choose}
 use Rattle.query_tree.specs.Syntax.{ExpressionForm, FunctionForm, PredicateForm, over_all, over_filtered}
+use Rattle.query_derivation.specs.Limits.{Limits}
 use Rattle.query_leaves.specs.Fronts.{is_word, is_sign, after}
 use Rattle.query_leaves.specs.Steps.{◌>>=◌, Reader, over, expected, name_at}
 use Rattle.query_leaves.specs.LeafSteps.{aggregate_at, arguments_at}
 
--- What may stand in brackets: whether a level of them is left, and what reads the predicate there.
+-- What may stand in brackets: within which limits, whether a level of them is left, and what reads the predicate there.
 pub record Inside : Type 0 where
+  pub limits : Limits
   pub has_level : Bool
   pub read : Reader PredicateForm
 
@@ -33,7 +35,7 @@ unfoldable pub expression_at : Inside → Reader ExpressionForm
 expression_at inside ts = choose (name_at ts)
     (choose (after (is_word w.Grouping) ts)
     (function_at inside ts >>= λ f. Ok (ExpressionForm.function f.0, f.1))
-    (λ a. arguments_at a >>= λ ns. Ok (ExpressionForm.grouping ns.0, ns.1)))
+    (λ a. arguments_at inside.limits.arguments a >>= λ ns. Ok (ExpressionForm.grouping ns.0, ns.1)))
     (λ n. Ok (ExpressionForm.name n.0, n.1))
 
 -- Whether an expression begins in front of tokens: a name, GROUPING, or the word of a set function.

@@ -7,6 +7,7 @@ use Rattle.query_tokens.specs.declared.token.Sign.TheVariants as s
 use Rattle.query_tokens.specs.Options.{choose}
 use Rattle.query_tree.specs.Syntax.{PredicateForm, not_of}
 use Rattle.query_leaves.specs.Fronts.{is_word, is_sign, after}
+use Rattle.query_derivation.specs.Limits.{Limits}
 use Rattle.query_derivation.specs.Predicates.{conjunction_of, disjunction_of}
 use Rattle.query_leaves.specs.Steps.{◌>>=◌, Reader, over, expected, more}
 use Rattle.query_predicates.specs.AtomSteps.{test_after, tested_atom_at}
@@ -40,10 +41,10 @@ has_level zero = false
 has_level (suc n) = true
 
 -- A predicate with fewer than n levels of brackets.
-unfoldable pub predicate_at : ℕ → Reader PredicateForm
-predicate_at zero ts = over ts
-predicate_at (suc n) ts = disjunction_at record { has_level = has_level n; read = predicate_at n } ts
+unfoldable pub predicate_at : Limits → ℕ → Reader PredicateForm
+predicate_at limits zero ts = over ts
+predicate_at limits (suc n) ts = disjunction_at record { limits = limits; has_level = has_level n; read = predicate_at limits n } ts
 
 -- What may stand in brackets where there may be fewer than n levels of them.
-abbrev pub inside_of : ℕ → Inside
-inside_of n = record { has_level = has_level n; read = predicate_at n }
+abbrev pub inside_of : Limits → ℕ → Inside
+inside_of limits n = record { limits = limits; has_level = has_level n; read = predicate_at limits n }

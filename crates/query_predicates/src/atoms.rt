@@ -4,6 +4,7 @@ ghost use Rattle.std.specs.Prelude.{◌<◌, ◌≤◌, length, IfOk};
 ghost use Rattle.query_tree.specs.Syntax.{operand_form, predicate_form};
 ghost use Rattle.query_leaves.specs.Steps.{Gives};
 ghost use Rattle.query_predicates.specs.AtomSteps.{member_after, column_of, test_after, is_after};
+ghost use Rattle.query_derivation.specs.Limits.{standard};
 
 use query_leaves::{GrammarFault, after_word, in_list, keep, mark, truth_value, unexpected};
 use query_tokens::{Token, Word};
@@ -18,7 +19,7 @@ pub(crate) fn member(
     not: bool,
     tokens: &[Token],
 ) -> Result<(Predicate, &[Token]), GrammarFault>
-    ensures exact { Gives (λ x. (predicate_form x.0, x.1.now)) result (member_after (operand_form first) not tokens.now) }
+    ensures exact { Gives (λ x. (predicate_form x.0, x.1.now)) result (member_after standard.literals (operand_form first) not tokens.now) }
     ensures shorter { IfOk result (λ x. length x.1.now < length tokens.now) }
 {
     let (first, (literals, rest)) = keep(first, in_list(alloc, tokens))?;

@@ -10,6 +10,7 @@ ghost use Rattle.query_leaves.specs.Steps.{Gives, more};
 ghost use Rattle.query_predicates.specs.ExpressionSteps.{filter_at, function_at, expression_at};
 ghost use Rattle.query_predicates.specs.AtomSteps.{operand_at, between_after, negated_after, atom_after, tested_atom_at};
 ghost use Rattle.query_predicates.specs.PredicateSteps.{test_at, negation_at, conjunction_at, predicate_at, any_front, inside_of};
+ghost use Rattle.query_derivation.specs.Limits.{standard};
 
 use crate::atoms::{column, member, null_or_truth_test, tested};
 use query_leaves::{
@@ -58,7 +59,7 @@ fn filter(
     tokens: &[Token],
     levels: u32,
 ) -> Result<(Predicate, &[Token]), GrammarFault>
-    ensures exact { Gives (λ x. (predicate_form x.0, x.1.now)) result (filter_at (inside_of levels) tokens.now) }
+    ensures exact { Gives (λ x. (predicate_form x.0, x.1.now)) result (filter_at (inside_of standard levels) tokens.now) }
     ensures shorter { IfOk result (λ x. length x.1.now < length tokens.now) }
 {
     let rest = expect_sign(tokens, Sign::Open)?;
@@ -78,7 +79,7 @@ fn set_function(
     tokens: &[Token],
     levels: u32,
 ) -> Result<(SetFunction, &[Token]), GrammarFault>
-    ensures exact { Gives (λ x. (function_form x.0, x.1.now)) result (function_at (inside_of levels) tokens.now) }
+    ensures exact { Gives (λ x. (function_form x.0, x.1.now)) result (function_at (inside_of standard levels) tokens.now) }
     ensures shorter { IfOk result (λ x. length x.1.now < length tokens.now) }
 {
     let (aggregate, rest) = aggregate(tokens)?;
@@ -112,7 +113,7 @@ pub fn expression(
     tokens: &[Token],
     levels: u32,
 ) -> Result<(Expression, &[Token]), GrammarFault>
-    ensures exact { Gives (λ x. (expression_form x.0, x.1.now)) result (expression_at (inside_of levels) tokens.now) }
+    ensures exact { Gives (λ x. (expression_form x.0, x.1.now)) result (expression_at (inside_of standard levels) tokens.now) }
     ensures shorter { IfOk result (λ x. length x.1.now < length tokens.now) }
 {
     if let Some((name, rest)) = name(tokens) {
@@ -135,7 +136,7 @@ fn operand(
     tokens: &[Token],
     levels: u32,
 ) -> Result<(Operand, &[Token]), GrammarFault>
-    ensures exact { Gives (λ x. (operand_form x.0, x.1.now)) result (operand_at (inside_of levels) tokens.now) }
+    ensures exact { Gives (λ x. (operand_form x.0, x.1.now)) result (operand_at (inside_of standard levels) tokens.now) }
     ensures shorter { IfOk result (λ x. length x.1.now < length tokens.now) }
 {
     if let Some((value, rest)) = literal(tokens)? {
@@ -155,7 +156,7 @@ fn between(
     tokens: &[Token],
     levels: u32,
 ) -> Result<(Predicate, &[Token]), GrammarFault>
-    ensures exact { Gives (λ x. (predicate_form x.0, x.1.now)) result (between_after (inside_of levels) (operand_form first) not tokens.now) }
+    ensures exact { Gives (λ x. (predicate_form x.0, x.1.now)) result (between_after (inside_of standard levels) (operand_form first) not tokens.now) }
     ensures shorter { IfOk result (λ x. length x.1.now < length tokens.now) }
 {
     let (first, (low, rest)) = keep(first, operand(alloc, tokens, levels))?;
@@ -179,7 +180,7 @@ fn negated(
     tokens: &[Token],
     levels: u32,
 ) -> Result<(Predicate, &[Token]), GrammarFault>
-    ensures exact { Gives (λ x. (predicate_form x.0, x.1.now)) result (negated_after (inside_of levels) (operand_form first) tokens.now) }
+    ensures exact { Gives (λ x. (predicate_form x.0, x.1.now)) result (negated_after (inside_of standard levels) (operand_form first) tokens.now) }
     ensures shorter { IfOk result (λ x. length x.1.now < length tokens.now) }
 {
     if let Some(rest) = after_word(tokens, Word::In) {
@@ -198,7 +199,7 @@ fn atom(
     tokens: &[Token],
     levels: u32,
 ) -> Result<(Predicate, &[Token]), GrammarFault>
-    ensures exact { Gives (λ x. (predicate_form x.0, x.1.now)) result (atom_after (inside_of levels) (operand_form first) tokens.now) }
+    ensures exact { Gives (λ x. (predicate_form x.0, x.1.now)) result (atom_after (inside_of standard levels) (operand_form first) tokens.now) }
     ensures shorter { IfOk result (λ x. length x.1.now ≤ length tokens.now) }
 {
     if let Some((op, rest)) = operator(tokens) {
@@ -225,7 +226,7 @@ fn tested_atom(
     tokens: &[Token],
     levels: u32,
 ) -> Result<(Predicate, &[Token]), GrammarFault>
-    ensures exact { Gives (λ x. (predicate_form x.0, x.1.now)) result (tested_atom_at (inside_of levels) tokens.now) }
+    ensures exact { Gives (λ x. (predicate_form x.0, x.1.now)) result (tested_atom_at (inside_of standard levels) tokens.now) }
     ensures shorter { IfOk result (λ x. length x.1.now < length tokens.now) }
 {
     let (first, rest) = operand(alloc, tokens, levels)?;
@@ -242,7 +243,7 @@ fn tested_atom(
 #[cycle(predicate)]
 #[tactic(auto, unfolding(crate::specs::PredicateSteps::test_at))]
 fn test(alloc: Global, tokens: &[Token], levels: u32) -> Result<(Predicate, &[Token]), GrammarFault>
-    ensures exact { Gives (λ x. (predicate_form x.0, x.1.now)) result (test_at (inside_of levels) tokens.now) }
+    ensures exact { Gives (λ x. (predicate_form x.0, x.1.now)) result (test_at (inside_of standard levels) tokens.now) }
     ensures shorter { IfOk result (λ x. length x.1.now < length tokens.now) }
 {
     let Some(rest) = after_sign(tokens, Sign::Open) else {
@@ -261,7 +262,7 @@ fn negation(
     tokens: &[Token],
     levels: u32,
 ) -> Result<(Predicate, &[Token]), GrammarFault>
-    ensures exact { Gives (λ x. (predicate_form x.0, x.1.now)) result (negation_at (inside_of levels) tokens.now) }
+    ensures exact { Gives (λ x. (predicate_form x.0, x.1.now)) result (negation_at (inside_of standard levels) tokens.now) }
     ensures shorter { IfOk result (λ x. length x.1.now < length tokens.now) }
 {
     let Some(rest) = after_word(tokens, Word::Not) else {
@@ -278,7 +279,7 @@ fn more_negations(
     tokens: &[Token],
     levels: u32,
 ) -> Result<(Vec<Predicate>, &[Token]), GrammarFault>
-    ensures exact { Gives (λ x. (map predicate_form x.0.items, x.1.now)) result (more (is_word And) any_front (negation_at (inside_of levels)) (length tokens.now) tokens.now) }
+    ensures exact { Gives (λ x. (map predicate_form x.0.items, x.1.now)) result (more (is_word And) any_front (negation_at (inside_of standard levels)) (length tokens.now) tokens.now) }
     ensures shorter { IfOk result (λ x. length x.1.now ≤ length tokens.now) }
 {
     let mut parts = Vec::new(alloc);
@@ -299,7 +300,7 @@ fn conjunction(
     tokens: &[Token],
     levels: u32,
 ) -> Result<(Predicate, &[Token]), GrammarFault>
-    ensures exact { Gives (λ x. (predicate_form x.0, x.1.now)) result (conjunction_at (inside_of levels) tokens.now) }
+    ensures exact { Gives (λ x. (predicate_form x.0, x.1.now)) result (conjunction_at (inside_of standard levels) tokens.now) }
     ensures shorter { IfOk result (λ x. length x.1.now < length tokens.now) }
 {
     let (first, rest) = negation(alloc, tokens, levels)?;
@@ -314,7 +315,7 @@ fn more_conjunctions(
     tokens: &[Token],
     levels: u32,
 ) -> Result<(Vec<Predicate>, &[Token]), GrammarFault>
-    ensures exact { Gives (λ x. (map predicate_form x.0.items, x.1.now)) result (more (is_word Or) any_front (conjunction_at (inside_of levels)) (length tokens.now) tokens.now) }
+    ensures exact { Gives (λ x. (map predicate_form x.0.items, x.1.now)) result (more (is_word Or) any_front (conjunction_at (inside_of standard levels)) (length tokens.now) tokens.now) }
     ensures shorter { IfOk result (λ x. length x.1.now ≤ length tokens.now) }
 {
     let mut parts = Vec::new(alloc);
@@ -345,7 +346,7 @@ pub fn predicate(
     tokens: &[Token],
     levels: u32,
 ) -> Result<(Predicate, &[Token]), GrammarFault>
-    ensures exact { Gives (λ x. (predicate_form x.0, x.1.now)) result (predicate_at levels tokens.now) }
+    ensures exact { Gives (λ x. (predicate_form x.0, x.1.now)) result (predicate_at standard levels tokens.now) }
     ensures shorter { IfOk result (λ x. length x.1.now < length tokens.now) }
 {
     if levels == 0 {
