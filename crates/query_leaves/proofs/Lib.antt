@@ -8,3 +8,4 @@ pub mod SoundLeaves
 pub mod Local
 pub mod LocalLeaves
 pub mod Viable
+pub mod ViableLeaves
