@@ -76,6 +76,7 @@ Claimed false (faults.OverLimit left) = ⊥
 pub record Viable {A : Type 0} (strict wide : Bool) (P : Derivation A) (f : Reader A) : Type 0 where
   pub goes : (ts : List Token) (x : A) (rest : List Token) → f ts ≡ Ok (x, rest) → Takes P ts x rest
   pub stops : (ts : List Token) (e : GrammarFault) → f ts ≡ Err e → Claimed wide e → GoesOn P (Reaches wide strict e) ts
+  pub sure : (ts : List Token) → f ts ≡ Err faults.OutOfMemory → ⊥
 
 -- ---- fronts in two parts
 
@@ -172,6 +173,7 @@ pub viable_ok : {A : Type 0} {wide : Bool} {P : Derivation A} (x : A) → ((ts :
 viable_ok {A} {wide} {P} x derived = record {
   goes = λ ts y rest d. (let k = ok_is (x, ts) (y, rest) d in subst (λ (z : A × List Token). Takes P ts z.0 z.1) k record { front = []; is = refl; derived = derived });
   stops = λ ts e d c. absurd cc;
+  sure = λ ts d. absurd cc;
 }
 
 -- A reader that stops at once, at a token that is not expected.
@@ -180,6 +182,7 @@ viable_stuck {A} {strict} {wide} {P} phrase = record {
   goes = λ ts x rest d. absurd cc;
   stops = λ ts e d c. (let k : faults.Unexpected (length ts) ≡ e = cc in
       subst (λ (m : GrammarFault). GoesOn P (Reaches wide strict m) ts) k record { front = []; back = ts; is = refl; reaches = at_token wide strict ts; behind = phrase.tokens; value = phrase.value; derived = phrase.derived });
+  sure = λ ts d. absurd cc;
 } where
   at_token : (wide strict : Bool) (ts : List Token) → Reaches wide strict (faults.Unexpected (length ts)) [] ts
   at_token true strict ts = refl
@@ -191,10 +194,12 @@ viable_over {A} {wide = true} {P} phrase = record {
   goes = λ ts x rest d. absurd cc;
   stops = λ ts e d c. (let k : faults.OverLimit (length ts) ≡ e = cc in let p = phrase refl in
       subst (λ (m : GrammarFault). GoesOn P (Reaches true false m) ts) k record { front = []; back = ts; is = refl; reaches = (omega arith, refl); behind = p.tokens; value = p.value; derived = p.derived });
+  sure = λ ts d. absurd cc;
 }
 viable_over {A} {wide = false} {P} phrase = record {
   goes = λ ts x rest d. absurd cc;
   stops = λ ts e d c. (let k : faults.OverLimit (length ts) ≡ e = cc in absurd (subst (Claimed false) (sym k) c));
+  sure = λ ts d. absurd cc;
 }
 
 -- A reader of what is also something else.
@@ -202,6 +207,7 @@ pub viable_as : {A : Type 0} {strict wide : Bool} {P Q : Derivation A} {f : Read
 viable_as {P = P} {Q} gives v = record {
   goes = λ ts x rest d. (let t = v.goes ts x rest d in record { front = t.front; is = t.is; derived = λ other. gives (t.front ++ other) other x (t.derived other) });
   stops = λ ts e d c. (let g = v.stops ts e d c in record { front = g.front; back = g.back; is = g.is; reaches = g.reaches; behind = g.behind; value = g.value; derived = λ other. gives (g.front ++ (g.behind ++ other)) other g.value (g.derived other) });
+  sure = v.sure;
 }
 
 -- Readers that give the same.
@@ -209,6 +215,7 @@ pub viable_same : {A : Type 0} {strict wide : Bool} {P : Derivation A} (f g : Re
 viable_same f g same v = record {
   goes = λ ts x rest d. v.goes ts x rest (sym (same ts) ∙ d);
   stops = λ ts e d c. v.stops ts e (sym (same ts) ∙ d) c;
+  sure = λ ts d. v.sure ts (sym (same ts) ∙ d);
 }
 
 -- A reader, where it does not matter whether it takes a token.
@@ -216,6 +223,7 @@ pub viable_loose : {A : Type 0} {wide : Bool} {P : Derivation A} {f : Reader A} 
 viable_loose {wide = wide} v = record {
   goes = v.goes;
   stops = λ ts e d c. (let g = v.stops ts e d c in record { front = g.front; back = g.back; is = g.is; reaches = reaches_loose wide e g.front g.back g.reaches; behind = g.behind; value = g.value; derived = g.derived });
+  sure = v.sure;
 }
 
 -- A fault, as a result.
@@ -236,6 +244,7 @@ viable_bind {A} {B} {strict} {wide} {P} {R} Q f g join phrase vf vg = record {
     | inl h ↦ goes_on_front wide strict e join phrase (vf.stops ts e h c)
     | inr a ↦ goes_on_behind wide strict e (λ us vs ws y p q. join us vs ws a.0.0 y p q) (vf.goes ts a.0.0 a.0.1 a.1) ((vg a.0.0).stops a.0.1 e a.2 c)
   ];
+  sure = λ ts d. elim (bind_err (f ts) next faults.OutOfMemory d) [ inl h ↦ vf.sure ts h | inr a ↦ (vg a.0.0).sure a.0.1 a.2 ];
 } where
   next : A × List Token → Result (B × List Token) GrammarFault
   next y = g y.0 y.1
@@ -283,6 +292,7 @@ viable_choose {A} {strict} {wide} {Q} {R} test t only counts join n g vn vg = re
     | inl h ↦ vn.stops ts e h c
     | inr h ↦ subst (λ us. GoesOn R (Reaches wide true e) us) (sym (only ts h.0 h.1)) (goes_on_token wide strict e join counts (vg.stops h.0 e h.2 c))
   ];
+  sure = λ ts d. elim (choose_err (after test ts) (n ts) (λ a. g a) faults.OutOfMemory d) [ inl h ↦ vn.sure ts h | inr h ↦ vg.sure h.0 h.2 ];
 }
 -- A phrase behind a token.
 pub phrase_behind : {A : Type 0} {Q R : Derivation A} (t : Token) → Behind t Q R → Phrase Q → Phrase R
@@ -309,6 +319,7 @@ pub viable_front : {A X : Type 0} {strict wide : Bool} {P : Derivation X} {Q : X
 viable_front {A} {X} {strict} {wide} {P} {Q} {R} h finds join n g vn vg = record {
   goes = λ ts x rest d. goes_at ts x rest d;
   stops = λ ts e d c. stops_at ts e d c;
+  sure = λ ts d. sure_at ts d;
 } where
   chosen : Reader A
   chosen ts = choose (h ts) (n ts) (λ x. g x.0 x.1)
@@ -329,6 +340,10 @@ viable_front {A} {X} {strict} {wide} {P} {Q} {R} h finds join n g vn vg = record
     | inl i ↦ vn.stops (t ∷ ts) e (sym (chooses (t ∷ ts) (i ts)) ∙ d) c
     | inr i ↦ goes_on_token wide strict e (λ us vs y q. join (t ∷ us) us vs i.0 y (i.2 us) q) (λ _. i.3) ((vg i.0).stops ts e (sym (chooses (t ∷ ts) (i.1 ts)) ∙ d) c)
   ]
+
+  sure_at : (ts : List Token) → chosen ts ≡ Err faults.OutOfMemory → ⊥
+  sure_at [] d = vn.sure [] (sym (chooses [] finds.at_end) ∙ d)
+  sure_at (t ∷ ts) d = elim (finds.at_token t) [ inl i ↦ vn.sure (t ∷ ts) (sym (chooses (t ∷ ts) (i ts)) ∙ d) | inr i ↦ (vg i.0).sure ts (sym (chooses (t ∷ ts) (i.1 ts)) ∙ d) ]
 
 -- A value that has to stand in front.
 pub viable_expected_front : {X : Type 0} {wide : Bool} {P : Derivation X} (h : List Token → Option (X × List Token)) → Finds P h → Phrase P → Viable true wide P (expected h)
@@ -369,7 +384,12 @@ viable_more {A} {wide} {P} test sep b f only comma tells phrase vf zero most fit
     | inl h ↦ absurd cc
     | inr h ↦ subst (λ us. GoesOn (AtMost sep P most) (Reaches wide true e) us) (sym (only ts h.0 h.1)) (too_many wide wider h.0 e h.2 c)
   ];
+  sure = λ ts d. elim (choose_err (after test ts) (Ok ([], ts)) (λ rest. Err (excess b rest)) faults.OutOfMemory d) [ inl h ↦ absurd cc | inr h ↦ of_excess (b h.0) (length h.0) h.2 ];
 } where
+  of_excess : (v : Bool) (left : ℕ) → failed {A = List A × List Token} (cond v (faults.OverLimit left) (faults.Unexpected left)) ≡ failed faults.OutOfMemory → ⊥
+  of_excess true left d = absurd cc
+  of_excess false left d = absurd cc
+
   none : Viable true wide (AtMost sep P most) (λ ts. Ok ([], ts))
   none = viable_ok [] (λ ts. (IsRepeated.none, omega arith))
 
@@ -439,6 +459,7 @@ unfolding more
 viable_all {A} {wide} {P} test sep b f only vf = record {
   goes = λ ts xs rest d. goes_at (length ts) ts (omega arith) xs rest d;
   stops = λ ts e d c. stops_at (length ts) ts (omega arith) e d c;
+  sure = λ ts d. sure_at (length ts) ts (omega arith) d;
 } where
   R : Derivation (List A)
   R = IsRepeated sep P
@@ -479,4 +500,18 @@ viable_all {A} {wide} {P} test sep b f only vf = record {
         | inr k ↦ absurd (let j = k.2 in cc)
       ]
     ]))
+  ]
+
+  sure_at : (n : ℕ) (ts : List Token) → length ts ≤ n → more test b f n ts ≡ Err faults.OutOfMemory → ⊥
+  sure_at zero [] h d = absurd cc
+  sure_at zero (t ∷ ts) h d = absurd (omega arith)
+  sure_at (suc n) ts h d = elim (choose_err (after test ts) (Ok ([], ts)) (λ rest. next n rest) faults.OutOfMemory d) [
+    | inl i ↦ absurd cc
+    | inr i ↦ elim (bind_err (f i.0) (λ first. with_front (first.0 ∷ []) (more test b f n first.1)) faults.OutOfMemory i.2) [
+      | inl k ↦ vf.sure i.0 k
+      | inr a ↦ elim (bind_err (more test b f n a.0.1) (λ x. Ok ((a.0.0 ∷ []) ++ x.0, x.1)) faults.OutOfMemory a.2) [
+        | inl k ↦ sure_at n a.0.1 (shorter ts i.0 a.0.1 a.0.0 (only ts i.0 i.1) (vf.goes i.0 a.0.0 a.0.1 a.1) n h) k
+        | inr k ↦ absurd (let j = k.2 in cc)
+      ]
+    ]
   ]
