@@ -8,3 +8,4 @@ pub mod Sound
 pub mod Complete
 pub mod Progress
 pub mod Unique
+pub mod Stops

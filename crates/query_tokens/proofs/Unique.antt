@@ -12,7 +12,7 @@ is_none None h = refl
 is_none (Some x) h = absurd (h x refl)
 
 -- No white space stands in front of a token.
-token_no_space : {front rest : List ℕ} {k : Token} → IsToken front k rest → after_space (front ++ rest) ≡ None
+pub token_no_space : {front rest : List ℕ} {k : Token} → IsToken front k rest → after_space (front ++ rest) ≡ None
 token_no_space {front} {rest} t = is_none (after_space (front ++ rest)) (after_no_token t)
 
 spelled_one : {n : ℕ} {bs starts places : List ℕ} {ks others : List Token} → SpellsFrom n bs ks starts → SpellsFrom n bs others places → (ks ≡ others) × (starts ≡ places)

@@ -12,7 +12,7 @@ mod token;
 mod words;
 
 pub use fault::TokenFault;
-pub use laws::spells_one;
+pub use laws::{spells_one, spells_or_stops};
 pub use names::{is_plain_name, push_name, push_quoted};
 pub use reading::{Tokens, read_tokens};
 pub use token::{Sign, Token, Word};

@@ -1,0 +1,80 @@
+-- Tokens go wrong once, and not where they derive a query.
+use Rattle.std.proofs.Common.{arith, length, take, drop, ◌<◌, ◌≤◌, ◌+◌, ◌≡◌, ◌⊎◌, inl, inr, ℕ, zero, suc, List, [], ◌∷◌, ◌++◌, refl, sym, ap, subst, ◌∙◌}
+use Rattle.std.proofs.lemmas.List.{append_assoc, append-nil, length-append, take-append-drop, take-append-le}
+use Rattle.query_tokens.specs.declared.token.Token.{Token}
+use Rattle.query_tokens.specs.declared.token.Token.TheVariants as tokens
+use Rattle.query_tokens.specs.declared.token.Word.TheVariants as w
+use Rattle.query_tokens.specs.declared.token.Sign.TheVariants as s
+use Rattle.query_tree.specs.Syntax.{TreeForm}
+use Rattle.query_derivation.specs.Limits.{Limits, standard}
+use Rattle.query_derivation.specs.Grammar.{DerivesWithin, Derives}
+use Rattle.query_derivation.specs.Prefixes.{BeginsWithin, Begins, KeepsLimits, IsUnexpected, IsOverLimit}
+
+-- A number is at most another, or greater.
+at_most_or : (i n : ℕ) → (i ≤ n) ⊎ (n < i)
+at_most_or zero n = inl (omega arith)
+at_most_or (suc i) zero = inr (omega arith)
+at_most_or (suc i) (suc n) = elim (at_most_or i n) [ inl h ↦ inl (omega (arith, h)) | inr h ↦ inr (omega (arith, h)) ]
+
+-- As many tokens as there are, or more, are all of them.
+take_all : (i : ℕ) (ts : List Token) → length ts ≤ i → take i ts ≡ ts
+take_all zero [] h = refl
+take_all zero (t ∷ ts) h = absurd (omega arith)
+take_all (suc i) [] h = refl
+take_all (suc i) (t ∷ ts) h = ap (λ (us : List Token). t ∷ us) (take_all i ts (omega arith))
+
+-- The first of the first.
+take_fewer : (i n : ℕ) (ts : List Token) → i ≤ n → take i (take n ts) ≡ take i ts
+take_fewer zero n ts h = refl
+take_fewer (suc i) zero ts h = absurd (omega arith)
+take_fewer (suc i) (suc n) [] h = refl
+take_fewer (suc i) (suc n) (t ∷ ts) h = ap (λ (us : List Token). t ∷ us) (take_fewer i n ts (omega arith))
+
+-- ---- what begins a query does so in front as well
+
+begins_sooner : {limits : Limits} {front : List Token} → BeginsWithin limits front → (i : ℕ) → BeginsWithin limits (take i front)
+begins_sooner {limits} {front} b i = record {
+  rest = drop i front ++ b.rest;
+  tree = b.tree;
+  derived = subst (λ us. DerivesWithin limits us b.tree) (ap (λ (us : List Token). us ++ b.rest) (sym (take-append-drop i front)) ∙ append_assoc (take i front) (drop i front) b.rest) b.derived;
+}
+
+-- What keeps the limits before one token more that does not count.
+keeps_one_more : (front : List Token) (t : Token) → BeginsWithin standard front → KeepsLimits (front ++ t ∷ []) → (i : ℕ) → KeepsLimits (take i (front ++ t ∷ []))
+keeps_one_more front t b k i = elim (at_most_or i (length front)) [
+  | inl h ↦ subst KeepsLimits (sym (take-append-le i front (t ∷ []) h)) (KeepsLimits.begins (begins_sooner b i))
+  | inr h ↦ subst KeepsLimits (sym (take_all i (front ++ t ∷ []) (omega (arith, h, length-append front (t ∷ []))))) k
+]
+
+keeps_sooner : {front : List Token} → KeepsLimits front → (i : ℕ) → KeepsLimits (take i front)
+keeps_sooner (KeepsLimits.begins b) i = KeepsLimits.begins (begins_sooner b i)
+keeps_sooner (KeepsLimits.comma {front} b) i = keeps_one_more front (tokens.Sign s.Comma) b (KeepsLimits.comma b) i
+keeps_sooner (KeepsLimits.filter {front} b) i = keeps_one_more front (tokens.Word w.Filter) b (KeepsLimits.filter b) i
+
+-- ---- the laws
+
+-- Behind a token that is not expected no tokens begin a query.
+begins_no_further : (ts : List Token) (place further : ℕ) → IsUnexpected ts place → place < further → further ≤ length ts → Begins (take further ts) → ⊥
+begins_no_further ts place further u before inside b =
+    u.continues_none (omega (arith, before, inside)) record {
+      limits = b.limits;
+      within = subst (BeginsWithin b.limits) (take_fewer (place + 1) further ts (omega (arith, before))) (begins_sooner b.within (place + 1));
+    }
+
+pub unexpected_once : (ts : List Token) (place other : ℕ) → IsUnexpected ts place → IsUnexpected ts other → place ≡ other
+unexpected_once ts place other u v = elim (at_most_or place other) [
+  | inl h ↦ elim (at_most_or other place) [
+    | inl k ↦ omega (arith, h, k)
+    | inr k ↦ absurd (begins_no_further ts place other u k v.inside v.begins)
+  ]
+  | inr h ↦ absurd (begins_no_further ts other place v h u.inside u.begins)
+]
+
+pub unexpected_keeps : (ts : List Token) (place : ℕ) → IsUnexpected ts place → IsOverLimit ts → ⊥
+unexpected_keeps ts place u o = elim (at_most_or o.place place) [
+  | inl h ↦ o.exceeds (subst KeepsLimits (take_fewer o.place place ts h) (keeps_sooner u.keeps o.place))
+  | inr h ↦ begins_no_further ts place o.place u h o.inside o.begins
+]
+
+pub derived_keeps : (ts : List Token) (q : TreeForm) → Derives ts q → IsOverLimit ts → ⊥
+derived_keeps ts q d o = o.exceeds (KeepsLimits.begins record { rest = drop o.place ts; tree = q; derived = subst (λ us. Derives us q) (sym (take-append-drop o.place ts)) d })
