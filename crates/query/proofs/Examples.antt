@@ -8,10 +8,11 @@ use Rattle.query_tokens.specs.declared.token.Word.TheVariants as w
 use Rattle.query_tokens.specs.declared.token.Sign.TheVariants as s
 use Rattle.query_tree.specs.declared.expression.Aggregate.TheVariants.{CountRows}
 use Rattle.query_tree.specs.Syntax.{ExpressionForm, TreeForm, over_all}
+use Rattle.query_derivation.specs.Limits.{Limits, standard}
 use Rattle.query_derivation.specs.Leaves.{IsAggregate, IsRepeated}
 use Rattle.query_derivation.specs.Predicates.{IsFunction, IsExpression}
-use Rattle.query_derivation.specs.Grammar.{IsItem, IsWhere, IsGroupBy, IsHaving, IsOrderBy, IsQuery, Derives}
-use Rattle.query_derivation.specs.Prefixes.{BeginsWithin, IsUnexpectedWithin, IsOverLimit}
+use Rattle.query_derivation.specs.Grammar.{IsItem, IsWhere, IsGroupBy, IsHaving, IsOrderBy, IsQuery, DerivesWithin}
+use Rattle.query_derivation.specs.Prefixes.{BeginsWithin, Begins, KeepsLimits, IsUnexpected, IsOverLimit}
 use Rattle.query.specs.Refusal.{IsRefusalOf}
 
 -- ---- what a fault says of a text
@@ -21,7 +22,7 @@ count_of_lines : List Token
 count_of_lines = tokens.Word w.Count ∷ tokens.Sign s.Open ∷ tokens.Sign s.Star ∷ tokens.Sign s.Close ∷ tokens.Word w.From ∷ tokens.Name (codes "lines") ∷ []
 
 -- SELECT begins a query
-select_begins : BeginsWithin (tokens.Word w.Select ∷ [])
+select_begins : BeginsWithin standard (tokens.Word w.Select ∷ [])
 unfolding count_of_lines
 select_begins = record {
   rest = count_of_lines;
@@ -29,47 +30,57 @@ select_begins = record {
   derived = IsQuery.query (IsItem.plain (IsExpression.function (IsFunction.plain IsAggregate.count_rows))) IsRepeated.none (omega arith) IsWhere.none IsGroupBy.none IsHaving.none IsOrderBy.none;
 }
 
--- FROM begins none
-from_derives_none : {ts : List Token} {q : TreeForm} → Derives (tokens.Word w.From ∷ ts) q → ⊥
+-- no tokens begin one
+nothing_begins : BeginsWithin standard []
+nothing_begins = record { rest = tokens.Word w.Select ∷ select_begins.rest; tree = select_begins.tree; derived = select_begins.derived }
+
+-- FROM begins none, within no limits
+from_derives_none : {limits : Limits} {ts : List Token} {q : TreeForm} → DerivesWithin limits (tokens.Word w.From ∷ ts) q → ⊥
 from_derives_none d = elim d [ ]
 
-from_begins_none : BeginsWithin (tokens.Word w.From ∷ []) → ⊥
-from_begins_none b = from_derives_none b.derived
+from_begins_none : Begins (tokens.Word w.From ∷ []) → ⊥
+from_begins_none b = from_derives_none b.within.derived
 
 -- no tokens are no query
-nothing_derives_none : {q : TreeForm} → Derives [] q → ⊥
+nothing_derives_none : {limits : Limits} {q : TreeForm} → DerivesWithin limits [] q → ⊥
 nothing_derives_none d = elim d [ ]
 
 -- of no tokens the end is not expected, and of FROM the first token
-end_unexpected : IsUnexpectedWithin [] 0
-end_unexpected = record { inside = omega arith; continues_none = λ h b. absurd (omega arith); derives_none = λ q d. nothing_derives_none d }
+nothing_before : Begins []
+nothing_before = record { limits = standard; within = nothing_begins }
 
-from_unexpected : IsUnexpectedWithin (tokens.Word w.From ∷ []) 0
-from_unexpected = record { inside = omega arith; continues_none = λ h b. from_begins_none b; derives_none = λ q d. from_derives_none d }
+end_unexpected : IsUnexpected [] 0
+end_unexpected = record { inside = omega arith; begins = nothing_before; keeps = KeepsLimits.begins nothing_begins; continues_none = λ h b. absurd (omega arith); derives_none = λ limits q d. nothing_derives_none d }
 
--- SELECT is no first token of these that is not expected
-select_expected : IsUnexpectedWithin (tokens.Word w.Select ∷ []) 0 → ⊥
-select_expected u = u.continues_none (omega arith) select_begins
+from_unexpected : IsUnexpected (tokens.Word w.From ∷ []) 0
+from_unexpected = record { inside = omega arith; begins = nothing_before; keeps = KeepsLimits.begins nothing_begins; continues_none = λ h b. from_begins_none b; derives_none = λ limits q d. from_derives_none d }
+
+-- SELECT is no first token of these that is not expected, and the end behind FROM is not the place
+select_expected : IsUnexpected (tokens.Word w.Select ∷ []) 0 → ⊥
+select_expected u = u.continues_none (omega arith) record { limits = standard; within = select_begins }
+
+from_not_its_end : IsUnexpected (tokens.Word w.From ∷ []) 1 → ⊥
+from_not_its_end u = from_begins_none u.begins
 
 -- the empty text ends at byte 0
 at_end : IsRefusalOf [] (faults.Unexpected 0)
-at_end = record { tokens = []; starts = []; spelled = spelling.end; place = 0; begins = refl; unexpected = end_unexpected }
+at_end = (omega arith, record { tokens = []; starts = []; spelled = spelling.end; place = 0; begins = refl; unexpected = end_unexpected })
 
 -- a space spells no token, and ends at byte 1
 behind_space : IsRefusalOf (codes " ") (faults.Unexpected 1)
-behind_space = record { tokens = []; starts = []; spelled = spelling.space refl spelling.end; place = 0; begins = refl; unexpected = end_unexpected }
+behind_space = (omega arith, record { tokens = []; starts = []; spelled = spelling.space refl spelling.end; place = 0; begins = refl; unexpected = end_unexpected })
 
--- no tokens begin a query, and so they are not too many
-nothing_begins : BeginsWithin []
-nothing_begins = record { rest = tokens.Word w.Select ∷ select_begins.rest; tree = select_begins.tree; derived = select_begins.derived }
-
-front_begins : (place : ℕ) → BeginsWithin (take place [])
-front_begins zero = nothing_begins
-front_begins (suc place) = nothing_begins
+-- no tokens keep the limits, and so they are not too many
+front_keeps : (place : ℕ) → KeepsLimits (take place [])
+front_keeps zero = KeepsLimits.begins nothing_begins
+front_keeps (suc place) = KeepsLimits.begins nothing_begins
 
 nothing_within : IsOverLimit [] → ⊥
-nothing_within o = o.begins_none (front_begins o.place)
+nothing_within o = o.exceeds (front_keeps o.place)
 
--- types are no fault of a text
+-- types are no fault of a text, and want of memory is none
 of_types : IsRefusalOf [] faults.TypesDisagree → ⊥
 of_types h = h
+
+of_memory : IsRefusalOf [] faults.OutOfMemory → ⊥
+of_memory h = h

@@ -2,3 +2,4 @@ pub mod Examples
 mod Again
 mod Unique
 mod Places
+mod Refusals

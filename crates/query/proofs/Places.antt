@@ -3,7 +3,7 @@ use Rattle.std.proofs.Common.{◌≡◌, ℕ, zero, suc, List, [], ◌∷◌, �
 use Rattle.std.specs.Prelude.{slice_get}
 use Rattle.query_tokens.specs.declared.token.Token.{Token}
 use Rattle.query_tokens.specs.Spelling.{SpellsFrom, Spells}
-use Rattle.query_derivation.specs.Prefixes.{IsUnexpectedWithin, IsOverLimit}
+use Rattle.query_derivation.specs.Prefixes.{IsUnexpected, IsOverLimit}
 use Rattle.query.specs.Refusal.{IsUnexpectedAt, SpellsTooMuch}
 
 -- Each token begins at one byte.
@@ -26,14 +26,14 @@ place_last (x ∷ xs) last zero e = absurd (omega arith)
 place_last (x ∷ xs) last (suc place) e = place_last xs last place (omega arith)
 
 -- A token, or the end, that continues no query, where it begins.
-pub unexpected_at : (text starts : List ℕ) (ks : List Token) (left byte : ℕ) → Spells text ks starts → IsUnexpectedWithin ks (length ks - left) → slice_get (starts ++ length text ∷ []) (length starts - left) ≡ Some byte → IsUnexpectedAt text byte
+pub unexpected_at : (text starts : List ℕ) (ks : List Token) (left byte : ℕ) → Spells text ks starts → IsUnexpected ks (length ks - left) → slice_get (starts ++ length text ∷ []) (length starts - left) ≡ Some byte → IsUnexpectedAt text byte
 unexpected_at text starts ks left byte s u e = record {
   tokens = ks;
   starts = starts;
   spelled = s;
   place = length starts - left;
   begins = e;
-  unexpected = subst (λ (n : ℕ). IsUnexpectedWithin ks (n - left)) (sym (starts_of_all s)) u;
+  unexpected = subst (λ (n : ℕ). IsUnexpected ks (n - left)) (sym (starts_of_all s)) u;
 }
 
 -- Tokens of too much, as a text.

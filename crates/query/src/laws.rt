@@ -1,8 +1,10 @@
-//! A law of the language.
+//! Laws of the language.
 
-ghost use Rattle.std.specs.Prelude.{◌≡◌, ℕ, List};
+ghost use Rattle.std.specs.Prelude.{◌≡◌, ◌⊎◌, ℕ, List};
 ghost use Rattle.query_tree.specs.Syntax.{TreeForm};
+ghost use Rattle.query_fault.specs.declared.QueryFault.{QueryFault};
 ghost use Rattle.query_derivation.specs.Derivation.{Derives};
+ghost use Rattle.query.specs.Refusal.{IsRefusalOf};
 
 /// A law, with no work to do: no text derives two queries.
 pub fn derives_one()
@@ -11,3 +13,10 @@ pub fn derives_one()
     query_tokens::spells_one();
     query_grammar::derives_one();
 }
+
+/// A law, with no work to do: each text derives a query or has a fault; never both, and no text has two faults.
+pub fn derives_or_refused()
+    ensures decided { (text : List ℕ) → ((q : TreeForm) × Derives text q) ⊎ ((fault : QueryFault) × IsRefusalOf text fault) }
+    ensures not_both { (text : List ℕ) (q : TreeForm) (fault : QueryFault) → Derives text q → IsRefusalOf text fault → ⊥ }
+    ensures one { (text : List ℕ) (fault other : QueryFault) → IsRefusalOf text fault → IsRefusalOf text other → fault ≡ other }
+{}

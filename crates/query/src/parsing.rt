@@ -1,6 +1,6 @@
 //! Reading a query.
 
-ghost use Rattle.std.specs.Prelude.{◌≡◌, ◌<◌, ◌-◌, [], ◌∷◌, ◌++◌, ℕ, Err, IfErr, IfOk, MatchResult, Some, length, slice_get, vec_len};
+ghost use Rattle.std.specs.Prelude.{◌≡◌, ◌<◌, ◌-◌, ◌⊎◌, [], ◌∷◌, ◌++◌, ℕ, Err, IfErr, IfOk, MatchResult, Some, length, slice_get, vec_len};
 ghost use Rattle.query_fault.specs.declared.QueryFault.TheVariants.{OutOfMemory, OverLimit};
 ghost use Rattle.query_tree.specs.Syntax.{TreeForm};
 ghost use Rattle.query_derivation.specs.Derivation.{Derives};
@@ -27,8 +27,8 @@ const MOST_BYTES: usize = 65_536;
 /// `OverLimit` for a text of more than 65,536 bytes, before anything else. Then the whole text has to
 /// spell tokens: `NoToken` names the byte where none begins, from 0. Then `Unexpected` names the byte
 /// of the first token that does not continue a query, or the length of the text where its end does
-/// not, and `OverLimit` comes at the first token that is too much. `OutOfMemory` says nothing of the
-/// text.
+/// not; where the tokens before it are more than the limits allow, the fault is `OverLimit`.
+/// `OutOfMemory` says nothing of the text.
 #[tactic(auto, using(crate::proofs::Places::unexpected_at, crate::proofs::Places::too_much))]
 pub fn parse(alloc: Global, text: &str) -> Result<Query, QueryFault>
     // What is read is derived.
@@ -37,8 +37,10 @@ pub fn parse(alloc: Global, text: &str) -> Result<Query, QueryFault>
     ensures read { (q : TreeForm) → Derives text.now q → MatchResult result (λ query. form_of query ≡ q) (λ fault. fault ≡ OutOfMemory) }
     // A text that is too long has no other fault.
     ensures too_long { 65536 < length text.now → result ≡ Err OverLimit }
-    // What each fault says of the text.
-    ensures refused { IfErr result (IsRefusalOf text.now) }
+    // A fault is one of the text, or memory ran out.
+    ensures refused { IfErr result (λ fault. (fault ≡ OutOfMemory) ⊎ IsRefusalOf text.now fault) }
+    // A fault of the text is told, and no other, unless memory runs out.
+    ensures told { (fault : QueryFault) → IsRefusalOf text.now fault → MatchResult result (λ query. ⊥) (λ other. (other ≡ fault) ⊎ (other ≡ OutOfMemory)) }
 {
     if text.len() > MOST_BYTES {
         return Err(QueryFault::OverLimit);

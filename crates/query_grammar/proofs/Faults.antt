@@ -1,17 +1,27 @@
--- Tokens go wrong once, and not where they derive a query.
-use Rattle.std.proofs.Common.{arith, length, take, drop, ◌<◌, ◌≤◌, ◌+◌, ◌≡◌, ◌⊎◌, inl, inr, ℕ, zero, suc, List, [], ◌∷◌, ◌++◌, refl, sym, ap, subst, ◌∙◌}
+-- Where the reader of queries stops, tokens go wrong; they do so once, and not where they derive a query.
+use Rattle.std.proofs.Common.{arith, length, take, drop, ◌<◌, ◌≤◌, ◌+◌, ◌-◌, ◌≡◌, ◌⊎◌, inl, inr, ℕ, zero, suc, Result, Ok, Err, List, [], ◌∷◌, ◌++◌, refl, sym, ap, subst, ◌∙◌}
 use Rattle.std.proofs.lemmas.List.{append_assoc, append-nil, length-append, take-append-drop, take-append-le}
 use Rattle.query_tokens.specs.declared.token.Token.{Token}
 use Rattle.query_tokens.specs.declared.token.Token.TheVariants as tokens
 use Rattle.query_tokens.specs.declared.token.Word.TheVariants as w
 use Rattle.query_tokens.specs.declared.token.Sign.TheVariants as s
-use Rattle.query_tree.specs.Syntax.{TreeForm}
+use Rattle.std.specs.Prelude.{Box, IfOk}
+use Rattle.std.specs.Global.{Global}
+use Rattle.std.proofs.Math.Seq.{take-append_seam}
+use Rattle.query_tree.specs.declared.tree.Tree.{Tree}
+use Rattle.query_tree.specs.Syntax.{TreeForm, tree_form}
 use Rattle.query_derivation.specs.Limits.{Limits, standard}
 use Rattle.query_derivation.specs.Grammar.{DerivesWithin, Derives}
 use Rattle.query_derivation.specs.Prefixes.{BeginsWithin, Begins, KeepsLimits, IsUnexpected, IsOverLimit}
+use Rattle.query_leaves.specs.declared.fault.GrammarFault.{GrammarFault}
+use Rattle.query_leaves.specs.declared.fault.GrammarFault.TheVariants as faults
+use Rattle.query_leaves.specs.Steps.{Gives}
+use Rattle.query_grammar.specs.QuerySteps.{whole_at}
+use Rattle.query_grammar.proofs.LocalQuery.{left_within, continues_none_at, derives_none_at, begins_none_at}
+use Rattle.query_grammar.proofs.ViableQuery.{read_derives, begins_unexpected, keeps_unexpected, over_front, exceeds, whole_sure}
 
 -- A number is at most another, or greater.
-at_most_or : (i n : ℕ) → (i ≤ n) ⊎ (n < i)
+pub at_most_or : (i n : ℕ) → (i ≤ n) ⊎ (n < i)
 at_most_or zero n = inl (omega arith)
 at_most_or (suc i) zero = inr (omega arith)
 at_most_or (suc i) (suc n) = elim (at_most_or i n) [ inl h ↦ inl (omega (arith, h)) | inr h ↦ inr (omega (arith, h)) ]
@@ -78,3 +88,54 @@ unexpected_keeps ts place u o = elim (at_most_or o.place place) [
 
 pub derived_keeps : (ts : List Token) (q : TreeForm) → Derives ts q → IsOverLimit ts → ⊥
 derived_keeps ts q d o = o.exceeds (KeepsLimits.begins record { rest = drop o.place ts; tree = q; derived = subst (λ us. Derives us q) (sym (take-append-drop o.place ts)) d })
+
+-- ---- where the reader stops
+
+unexpected_at : (ts : List Token) (left : ℕ) → whole_at standard ts ≡ Err (faults.Unexpected left) → IsUnexpected ts (length ts - left)
+unexpected_at ts left e = record {
+  inside = omega arith;
+  begins = begins_unexpected ts left e;
+  keeps = keeps_unexpected ts left e;
+  continues_none = λ h b. continues_none_at ts left e h b;
+  derives_none = λ limits q d. derives_none_at ts left e limits q d;
+}
+
+over_at : (ts : List Token) (left : ℕ) → whole_at standard ts ≡ Err (faults.OverLimit left) → IsOverLimit ts
+over_at ts left e =
+    let o = over_front ts left e in
+    let front_is : take (length o.front) ts ≡ o.front = ap (take (length o.front)) o.is ∙ take-append_seam o.front o.back in
+    let sooner : length ts - left ≤ length o.front = omega (arith, o.short, ap length o.is, length-append o.front o.back) in
+    record {
+      place = length o.front;
+      inside = omega (arith, ap length o.is, length-append o.front o.back);
+      begins = subst Begins (sym front_is) o.begins;
+      exceeds = λ k. begins_none_at ts left e (subst (BeginsWithin standard) (take_fewer (length ts - left) (length o.front) ts sooner) (begins_sooner (subst (BeginsWithin standard) (sym front_is) (exceeds o.front o.counts (subst KeepsLimits front_is k))) (length ts - left)));
+    }
+
+-- A token, or the end, that is not expected continues no query.
+pub unexpected : {X : Type 0} (view : X → TreeForm) (ts : List Token) (r : Result X GrammarFault) → Gives view r (whole_at standard ts) → (left : ℕ) → r ≡ Err (faults.Unexpected left) → IsUnexpected ts (length ts - left)
+unexpected view ts (Ok x) g left e = absurd cc
+unexpected view ts (Err faults.OutOfMemory) g left e = absurd cc
+unexpected view ts (Err (faults.OverLimit n)) g left e = absurd cc
+unexpected view ts (Err (faults.Unexpected n)) g left e = let h : n ≡ left = cc in unexpected_at ts left (g ∙ ap (λ (m : ℕ). Err (faults.Unexpected m)) h)
+
+-- Where it is too much, the tokens in front begin a query that does not keep the limits.
+pub over_limit : {X : Type 0} (view : X → TreeForm) (ts : List Token) (r : Result X GrammarFault) → Gives view r (whole_at standard ts) → (left : ℕ) → r ≡ Err (faults.OverLimit left) → IsOverLimit ts
+over_limit view ts (Ok x) g left e = absurd cc
+over_limit view ts (Err faults.OutOfMemory) g left e = absurd cc
+over_limit view ts (Err (faults.OverLimit n)) g left e = over_at ts n g
+over_limit view ts (Err (faults.Unexpected n)) g left e = absurd cc
+
+-- What is read is derived.
+pub derived : (ts : List Token) (r : Result (Box Tree Global) GrammarFault) → Gives (λ t. tree_form t.value) r (whole_at standard ts) → IfOk r (λ t. Derives ts (tree_form t.value))
+derived ts (Ok t) e = read_derives ts (tree_form t.value) e
+derived ts (Err e) h = tt
+
+-- Tokens derive a query, or go wrong somewhere, or are of too much.
+pub decided : (ts : List Token) → ((q : TreeForm) × Derives ts q) ⊎ (((place : ℕ) × IsUnexpected ts place) ⊎ IsOverLimit ts)
+decided ts = of_read (whole_at standard ts) refl where
+  of_read : (o : Result TreeForm GrammarFault) → whole_at standard ts ≡ o → ((q : TreeForm) × Derives ts q) ⊎ (((place : ℕ) × IsUnexpected ts place) ⊎ IsOverLimit ts)
+  of_read (Ok q) e = inl (q, read_derives ts q e)
+  of_read (Err faults.OutOfMemory) e = absurd (whole_sure ts e)
+  of_read (Err (faults.OverLimit left)) e = inr (inr (over_at ts left e))
+  of_read (Err (faults.Unexpected left)) e = inr (inl (length ts - left, unexpected_at ts left e))

@@ -5,7 +5,7 @@ ghost use Rattle.std.specs.Option.{option_map};
 ghost use Rattle.query_tree.specs.Syntax.{TreeForm, tree_form, element_form, item_form, key_form, predicate_form};
 ghost use Rattle.query_leaves.specs.declared.fault.GrammarFault.TheVariants.{OutOfMemory, OverLimit, Unexpected};
 ghost use Rattle.query_derivation.specs.Grammar.{Derives};
-ghost use Rattle.query_derivation.specs.Prefixes.{IsUnexpectedWithin, IsOverLimit};
+ghost use Rattle.query_derivation.specs.Prefixes.{IsUnexpected, IsOverLimit};
 ghost use Rattle.query_leaves.specs.Steps.{Gives};
 ghost use Rattle.query_grammar.specs.QuerySteps.{from_at, clause_at, select_at, records_at, rows_at, query_at, whole_at};
 ghost use Rattle.query_derivation.specs.Limits.{standard};
@@ -138,8 +138,8 @@ pub fn read_query(alloc: Global, tokens: &[Token]) -> Result<Box<Tree>, GrammarF
     // What is derived is read, and no other, unless memory runs out.
     ensures read { (q : TreeForm) → Derives tokens.now q → MatchResult result (λ tree. tree_form tree.value ≡ q) (λ fault. fault ≡ OutOfMemory) }
     // A token that is not expected, or the end, continues no query.
-    ensures unexpected { (left : ℕ) → result ≡ Err (Unexpected left) → IsUnexpectedWithin tokens.now (length tokens.now - left) }
-    // Where it is too much, some tokens in front begin no query within the limits.
+    ensures unexpected { (left : ℕ) → result ≡ Err (Unexpected left) → IsUnexpected tokens.now (length tokens.now - left) }
+    // Where it is too much, some tokens in front begin a query that does not keep the limits.
     ensures over_limit { (left : ℕ) → result ≡ Err (OverLimit left) → IsOverLimit tokens.now }
 {
     whole(alloc, tokens)
