@@ -7,5 +7,6 @@ pub mod SoundLists
 pub mod SoundLeaves
 pub mod Local
 pub mod LocalLeaves
+pub mod Agree
 pub mod Viable
 pub mod ViableLeaves
