@@ -1,16 +1,18 @@
 -- Predicates that derive from tokens are read.
-use Rattle.std.proofs.Common.{arith, ◌≡◌, ℕ, zero, suc, List, [], ◌∷◌, true, None, Ok, refl}
+use Rattle.std.proofs.Common.{arith, ◌≤◌, ◌≡◌, ℕ, zero, suc, List, [], ◌∷◌, true, None, Ok, refl}
 use Rattle.query_tokens.specs.declared.token.Token.{Token}
 use Rattle.query_tokens.specs.declared.token.Token.TheVariants as tokens
 use Rattle.query_tokens.specs.declared.token.Word.TheVariants as w
 use Rattle.query_tokens.specs.declared.token.Sign.TheVariants as s
 use Rattle.query_tree.specs.Syntax.{PredicateForm}
+use Rattle.query_derivation.specs.Limits.{Limits}
 use Rattle.query_leaves.specs.Fronts.{is_word, after}
 use Rattle.query_leaves.specs.LeafSteps.{op_at}
 use Rattle.query_predicates.specs.ExpressionSteps.{Inside}
 use Rattle.query_predicates.specs.PredicateSteps.{test_at, negation_at, conjunction_at, disjunction_at, predicate_at, any_front, has_level, inside_of}
 use Rattle.query_derivation.specs.Leaves.{Derivation}
 use Rattle.query_derivation.specs.Predicates.{IsPrimary, IsTest, IsNegation, IsConjunction, IsDisjunction, IsPredicate}
+use Rattle.query_leaves.proofs.Agree.{Wider}
 use Rattle.query_leaves.proofs.CompleteLists.{Shrinks, repeated_short, repeated_follow, unlimited_c}
 use Rattle.query_leaves.proofs.CompleteLeaves.{truth_short, mark_short}
 use Rattle.query_predicates.proofs.CompleteExpressions.{IsComplete}
@@ -56,82 +58,86 @@ nil_ends = record { conjunction = record { test = record { no_filter = refl; no_
 
 -- ---- predicates
 
-module _ (IsInner : Derivation PredicateForm) (inside : Inside) (inside_c : IsComplete IsInner inside) where
-  test_c : {ts r : List Token} {p : PredicateForm} → IsTest IsInner ts p r → EndsTest r → test_at inside ts ≡ Ok (p, r)
+module _ (limits : Limits) (IsInner : Derivation PredicateForm) (inside : Inside) (wider : Wider limits inside.limits) (inside_c : IsComplete IsInner inside) where
+  test_c : {ts r : List Token} {p : PredicateForm} → IsTest limits IsInner ts p r → EndsTest r → test_at inside ts ≡ Ok (p, r)
   unfolding test_at
-  test_c (IsTest.plain (IsPrimary.brackets {ts} {r} {p} i)) q = rw ((inside_c ts r p i).read, test_none IsInner inside inside_c p r q.no_is) refl
-  test_c (IsTest.plain (IsPrimary.atom a)) q = rw ((atom_begins IsInner inside inside_c a).no_open, atom_c IsInner inside inside_c a q) refl
-  test_c (IsTest.test {u = u} (IsPrimary.brackets {ts} {p = p} i) m t) q = rw ((inside_c ts (tokens.Word w.Is ∷ u) p i).read, test_some IsInner inside inside_c p m t) refl
-  test_c (IsTest.test (IsPrimary.atom a) m t) q = rw ((atom_begins IsInner inside inside_c a).no_open, atom_test_c IsInner inside inside_c a m t) refl
+  test_c (IsTest.plain (IsPrimary.brackets {ts} {r} {p} i)) q = rw ((inside_c ts r p i).read, test_none limits IsInner inside wider inside_c p r q.no_is) refl
+  test_c (IsTest.plain (IsPrimary.atom a)) q = rw ((atom_begins limits IsInner inside wider inside_c a).no_open, atom_c limits IsInner inside wider inside_c a q) refl
+  test_c (IsTest.test {u = u} (IsPrimary.brackets {ts} {p = p} i) m t) q = rw ((inside_c ts (tokens.Word w.Is ∷ u) p i).read, test_some limits IsInner inside wider inside_c p m t) refl
+  test_c (IsTest.test (IsPrimary.atom a) m t) q = rw ((atom_begins limits IsInner inside wider inside_c a).no_open, atom_test_c limits IsInner inside wider inside_c a m t) refl
 
-  primary_no_not : {ts r : List Token} {p : PredicateForm} → IsPrimary IsInner ts p r → after (is_word w.Not) ts ≡ None
+  primary_no_not : {ts r : List Token} {p : PredicateForm} → IsPrimary limits IsInner ts p r → after (is_word w.Not) ts ≡ None
   primary_no_not (IsPrimary.brackets i) = refl
-  primary_no_not (IsPrimary.atom a) = (atom_begins IsInner inside inside_c a).no_not
+  primary_no_not (IsPrimary.atom a) = (atom_begins limits IsInner inside wider inside_c a).no_not
 
-  test_no_not : {ts r : List Token} {p : PredicateForm} → IsTest IsInner ts p r → after (is_word w.Not) ts ≡ None
+  test_no_not : {ts r : List Token} {p : PredicateForm} → IsTest limits IsInner ts p r → after (is_word w.Not) ts ≡ None
   test_no_not (IsTest.plain i) = primary_no_not i
   test_no_not (IsTest.test i m t) = primary_no_not i
 
-  negation_c : {ts r : List Token} {p : PredicateForm} → IsNegation IsInner ts p r → EndsTest r → negation_at inside ts ≡ Ok (p, r)
+  negation_c : {ts r : List Token} {p : PredicateForm} → IsNegation limits IsInner ts p r → EndsTest r → negation_at inside ts ≡ Ok (p, r)
   unfolding negation_at
   negation_c (IsNegation.plain i) q = rw (test_no_not i, test_c i q) refl
   negation_c (IsNegation.not i) q = rw (test_c i q) refl
 
-  conjunction_c : Shrinks (IsNegation IsInner) → {ts r : List Token} {p : PredicateForm} → IsConjunction IsInner ts p r → EndsConjunction r → conjunction_at inside ts ≡ Ok (p, r)
+  conjunction_c : Shrinks (IsNegation limits IsInner) → {ts r : List Token} {p : PredicateForm} → IsConjunction limits IsInner ts p r → EndsConjunction r → conjunction_at inside ts ≡ Ok (p, r)
   unfolding conjunction_at
   conjunction_c short (IsConjunction.parts {ts} {mid} {r} {p} {ps} i b) q =
       rw (
-        negation_c i (repeated_follow (tokens.Word w.And) (IsNegation IsInner) EndsTest and_ends b q.test),
-        unlimited_c (tokens.Word w.And) (is_word w.And) any_front (IsNegation IsInner) (negation_at inside) EndsTest refl and_ends (λ _ _ _ j k. negation_c j k) short b q.test q.no_and,
+        negation_c i (repeated_follow (tokens.Word w.And) (IsNegation limits IsInner) EndsTest and_ends b q.test),
+        unlimited_c (tokens.Word w.And) (is_word w.And) any_front (IsNegation limits IsInner) (negation_at inside) EndsTest refl and_ends (λ _ _ _ j k. negation_c j k) short b q.test q.no_and,
       ) refl
 
-  disjunction_c : Shrinks (IsNegation IsInner) → Shrinks (IsConjunction IsInner) → {ts r : List Token} {p : PredicateForm} → IsDisjunction IsInner ts p r → EndsPredicate r → disjunction_at inside ts ≡ Ok (p, r)
+  disjunction_c : Shrinks (IsNegation limits IsInner) → Shrinks (IsConjunction limits IsInner) → {ts r : List Token} {p : PredicateForm} → IsDisjunction limits IsInner ts p r → EndsPredicate r → disjunction_at inside ts ≡ Ok (p, r)
   unfolding disjunction_at
   disjunction_c short short_parts (IsDisjunction.parts {ts} {mid} {r} {p} {ps} i b) q =
       rw (
-        conjunction_c short i (repeated_follow (tokens.Word w.Or) (IsConjunction IsInner) EndsConjunction or_ends b q.conjunction),
-        unlimited_c (tokens.Word w.Or) (is_word w.Or) any_front (IsConjunction IsInner) (conjunction_at inside) EndsConjunction refl or_ends (λ _ _ _ j k. conjunction_c short j k) short_parts b q.conjunction q.no_or,
+        conjunction_c short i (repeated_follow (tokens.Word w.Or) (IsConjunction limits IsInner) EndsConjunction or_ends b q.conjunction),
+        unlimited_c (tokens.Word w.Or) (is_word w.Or) any_front (IsConjunction limits IsInner) (conjunction_at inside) EndsConjunction refl or_ends (λ _ _ _ j k. conjunction_c short j k) short_parts b q.conjunction q.no_or,
       ) refl
 
 -- ---- what a predicate takes
 
-module _ (IsInner : Derivation PredicateForm) (short : Shrinks IsInner) where
-  primary_short : Shrinks (IsPrimary IsInner)
+module _ (limits : Limits) (IsInner : Derivation PredicateForm) (short : Shrinks IsInner) where
+  primary_short : Shrinks (IsPrimary limits IsInner)
   primary_short _ _ _ (IsPrimary.brackets {ts} {r} {p} i) = omega (arith, short ts (tokens.Sign s.Close ∷ r) p i)
-  primary_short _ _ _ (IsPrimary.atom a) = atom_short IsInner short _ _ _ a
+  primary_short _ _ _ (IsPrimary.atom a) = atom_short limits IsInner short _ _ _ a
 
-  test_short : Shrinks (IsTest IsInner)
+  test_short : Shrinks (IsTest limits IsInner)
   test_short _ _ _ (IsTest.plain i) = primary_short _ _ _ i
   test_short _ _ _ (IsTest.test i m t) = omega (arith, primary_short _ _ _ i, mark_short _ _ _ m, truth_short _ _ _ t)
 
-  negation_short : Shrinks (IsNegation IsInner)
+  negation_short : Shrinks (IsNegation limits IsInner)
   negation_short _ _ _ (IsNegation.plain i) = test_short _ _ _ i
   negation_short _ _ _ (IsNegation.not i) = omega (arith, test_short _ _ _ i)
 
-  conjunction_short : Shrinks (IsConjunction IsInner)
-  conjunction_short _ _ _ (IsConjunction.parts i b) = omega (arith, negation_short _ _ _ i, repeated_short (tokens.Word w.And) (IsNegation IsInner) negation_short b)
+  conjunction_short : Shrinks (IsConjunction limits IsInner)
+  conjunction_short _ _ _ (IsConjunction.parts i b) = omega (arith, negation_short _ _ _ i, repeated_short (tokens.Word w.And) (IsNegation limits IsInner) negation_short b)
 
-  disjunction_short : Shrinks (IsDisjunction IsInner)
-  disjunction_short _ _ _ (IsDisjunction.parts i b) = omega (arith, conjunction_short _ _ _ i, repeated_short (tokens.Word w.Or) (IsConjunction IsInner) conjunction_short b)
+  disjunction_short : Shrinks (IsDisjunction limits IsInner)
+  disjunction_short _ _ _ (IsDisjunction.parts i b) = omega (arith, conjunction_short _ _ _ i, repeated_short (tokens.Word w.Or) (IsConjunction limits IsInner) conjunction_short b)
 
-pub predicate_short : (n : ℕ) → Shrinks (IsPredicate n)
+pub predicate_short : (limits : Limits) (n : ℕ) → Shrinks (IsPredicate limits n)
 unfolding IsPredicate
-predicate_short zero ts r p i = absurd i
-predicate_short (suc n) ts r p i = disjunction_short (IsPredicate n) (predicate_short n) ts r p i
+predicate_short limits zero ts r p i = absurd i
+predicate_short limits (suc n) ts r p i = disjunction_short limits (IsPredicate limits n) (predicate_short limits n) ts r p i
 
--- Where a predicate derives, a level of brackets is left.
-level_left : (n : ℕ) (ts r : List Token) (p : PredicateForm) → IsPredicate n ts p r → has_level n ≡ true
+-- Where a predicate derives, a level of brackets is left, and where more of them may be.
+level_left : (limits : Limits) (n m : ℕ) → n ≤ m → (ts r : List Token) (p : PredicateForm) → IsPredicate limits n ts p r → has_level m ≡ true
 unfolding IsPredicate has_level
-level_left zero ts r p i = absurd i
-level_left (suc n) ts r p i = refl
+level_left limits zero m few ts r p i = absurd i
+level_left limits (suc n) zero few ts r p i = absurd (omega arith)
+level_left limits (suc n) (suc m) few ts r p i = refl
 
-pub predicate_c : (n : ℕ) (ts r : List Token) (p : PredicateForm) → IsPredicate n ts p r → EndsPredicate r → predicate_at n ts ≡ Ok (p, r)
+-- A predicate that derives within some limits is read within wider ones.
+pub predicate_c : (narrow wide : Limits) → Wider narrow wide → (n m : ℕ) → n ≤ m → (ts r : List Token) (p : PredicateForm) → IsPredicate narrow n ts p r → EndsPredicate r → predicate_at wide m ts ≡ Ok (p, r)
 unfolding IsPredicate predicate_at
-predicate_c zero ts r p i q = absurd i
-predicate_c (suc n) ts r p i q =
-    let inside_c : IsComplete (IsPredicate n) (inside_of n) = λ us v x j. record { has_level = level_left n us (tokens.Sign s.Close ∷ v) x j; read = predicate_c n us (tokens.Sign s.Close ∷ v) x j (close_ends v) } in
-    disjunction_c (IsPredicate n) (inside_of n) inside_c (negation_short (IsPredicate n) (predicate_short n)) (conjunction_short (IsPredicate n) (predicate_short n)) i q
+predicate_c narrow wide wider zero m few ts r p i q = absurd i
+predicate_c narrow wide wider (suc n) zero few ts r p i q = absurd (omega arith)
+predicate_c narrow wide wider (suc n) (suc m) few ts r p i q =
+    let fewer : n ≤ m = omega arith in
+    let inside_c : IsComplete (IsPredicate narrow n) (inside_of wide m) = λ us v x j. record { has_level = level_left narrow n m fewer us (tokens.Sign s.Close ∷ v) x j; read = predicate_c narrow wide wider n m fewer us (tokens.Sign s.Close ∷ v) x j (close_ends v) } in
+    disjunction_c narrow (IsPredicate narrow n) (inside_of wide m) wider inside_c (negation_short narrow (IsPredicate narrow n) (predicate_short narrow n)) (conjunction_short narrow (IsPredicate narrow n) (predicate_short narrow n)) i q
 
 -- A predicate that derives before a closing bracket is read, as in the brackets of a FILTER.
-pub bracketed_c : (n : ℕ) → IsComplete (IsPredicate n) (inside_of n)
-bracketed_c n ts r p i = record { has_level = level_left n ts (tokens.Sign s.Close ∷ r) p i; read = predicate_c n ts (tokens.Sign s.Close ∷ r) p i (close_ends r) }
+pub bracketed_c : (narrow wide : Limits) → Wider narrow wide → (n m : ℕ) → n ≤ m → IsComplete (IsPredicate narrow n) (inside_of wide m)
+bracketed_c narrow wide wider n m few ts r p i = record { has_level = level_left narrow n m few ts (tokens.Sign s.Close ∷ r) p i; read = predicate_c narrow wide wider n m few ts (tokens.Sign s.Close ∷ r) p i (close_ends r) }

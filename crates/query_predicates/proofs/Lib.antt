@@ -5,3 +5,4 @@ pub mod SoundExpressions
 pub mod SoundAtoms
 pub mod SoundPredicates
 pub mod LocalPredicates
+pub mod AgreePredicates

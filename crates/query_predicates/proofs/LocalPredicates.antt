@@ -7,6 +7,7 @@ use Rattle.query_tokens.specs.declared.token.Sign.TheVariants as s
 use Rattle.query_tokens.specs.Options.{choose}
 use Rattle.query_tree.specs.Syntax.{ExpressionForm, OperandForm, PredicateForm, over_all, over_filtered, truth_test, compare, between, member, null_test, column, not_of}
 use Rattle.query_derivation.specs.Predicates.{conjunction_of, disjunction_of}
+use Rattle.query_derivation.specs.Limits.{Limits}
 use Rattle.query_leaves.specs.Fronts.{is_word, is_sign, after}
 use Rattle.query_leaves.specs.Steps.{◌>>=◌, Reader, over, expected, more, name_at}
 use Rattle.query_leaves.specs.LeafSteps.{aggregate_at, arguments_at, literal_at, literals_at, op_at, truth_at, mark_at}
@@ -41,9 +42,9 @@ local_mark g lg = local_as (λ ts. g (mark_at ts).0 (mark_at ts).1) (λ ts. choo
 
 -- ---- atoms
 
-member_l : (x : OperandForm) (n : Bool) → Local true (member_after x n)
+member_l : (most : ℕ) (x : OperandForm) (n : Bool) → Local true (member_after most x n)
 unfolding member_after
-member_l x n = local_made literals_at (λ ls. member x n ls) literals_l
+member_l most x n = local_made (literals_at most) (λ ls. member x n ls) (literals_l most)
 
 column_l : (x : OperandForm) → Local true (λ ts. column_of x ts >>= λ p. Ok (p, ts))
 unfolding column_of
@@ -93,10 +94,10 @@ module _ (inside : Inside) (inside_l : Local false inside.read) where
 
   pub expression_l : Local true (expression_at inside)
   unfolding expression_at
-  expression_l = local_front name_at (λ ts. choose (after (is_word w.Grouping) ts) (function_at inside ts >>= λ f. Ok (ExpressionForm.function f.0, f.1)) (λ a. arguments_at a >>= λ ns. Ok (ExpressionForm.grouping ns.0, ns.1)))
+  expression_l = local_front name_at (λ ts. choose (after (is_word w.Grouping) ts) (function_at inside ts >>= λ f. Ok (ExpressionForm.function f.0, f.1)) (λ a. arguments_at inside.limits.arguments a >>= λ ns. Ok (ExpressionForm.grouping ns.0, ns.1)))
       (λ n us. Ok (ExpressionForm.name n, us)) name_front
-      (local_choose (is_word w.Grouping) (λ ts. function_at inside ts >>= λ f. Ok (ExpressionForm.function f.0, f.1)) (λ a. arguments_at a >>= λ ns. Ok (ExpressionForm.grouping ns.0, ns.1))
-      (local_made (function_at inside) (λ f. ExpressionForm.function f) function_l) (local_made arguments_at (λ ns. ExpressionForm.grouping ns) arguments_l))
+      (local_choose (is_word w.Grouping) (λ ts. function_at inside ts >>= λ f. Ok (ExpressionForm.function f.0, f.1)) (λ a. arguments_at inside.limits.arguments a >>= λ ns. Ok (ExpressionForm.grouping ns.0, ns.1))
+      (local_made (function_at inside) (λ f. ExpressionForm.function f) function_l) (local_made (arguments_at inside.limits.arguments) (λ ns. ExpressionForm.grouping ns) (arguments_l inside.limits.arguments)))
       (λ n. local_ok (ExpressionForm.name n))
 
   operand_l : Local true (operand_at inside)
@@ -113,17 +114,17 @@ module _ (inside : Inside) (inside_l : Local false inside.read) where
 
   negated_l : (x : OperandForm) → Local true (negated_after inside x)
   unfolding negated_after
-  negated_l x = local_choose (is_word w.In) (λ ts. expected (after (is_word w.Between)) ts >>= λ a. between_after inside x true a) (λ a. member_after x true a)
-      (local_expected (is_word w.Between) (λ a. between_after inside x true a) (between_l x true)) (member_l x true)
+  negated_l x = local_choose (is_word w.In) (λ ts. expected (after (is_word w.Between)) ts >>= λ a. between_after inside x true a) (λ a. member_after inside.limits.literals x true a)
+      (local_expected (is_word w.Between) (λ a. between_after inside x true a) (between_l x true)) (member_l inside.limits.literals x true)
 
   atom_l : (x : OperandForm) → Local true (atom_after inside x)
   unfolding atom_after
   atom_l x = local_front op_at
-      (λ ts. choose (after (is_word w.Not) ts) (choose (after (is_word w.In) ts) (choose (after (is_word w.Between) ts) (column_of x ts >>= λ p. Ok (p, ts)) (λ a. between_after inside x false a)) (λ a. member_after x false a)) (λ a. negated_after inside x a))
+      (λ ts. choose (after (is_word w.Not) ts) (choose (after (is_word w.In) ts) (choose (after (is_word w.Between) ts) (column_of x ts >>= λ p. Ok (p, ts)) (λ a. between_after inside x false a)) (λ a. member_after inside.limits.literals x false a)) (λ a. negated_after inside x a))
       (λ o us. operand_at inside us >>= λ y. Ok (compare x o y.0, y.1)) op_front
-      (local_choose (is_word w.Not) (λ ts. choose (after (is_word w.In) ts) (choose (after (is_word w.Between) ts) (column_of x ts >>= λ p. Ok (p, ts)) (λ a. between_after inside x false a)) (λ a. member_after x false a)) (λ a. negated_after inside x a)
-      (local_choose (is_word w.In) (λ ts. choose (after (is_word w.Between) ts) (column_of x ts >>= λ p. Ok (p, ts)) (λ a. between_after inside x false a)) (λ a. member_after x false a)
-      (local_choose (is_word w.Between) (λ ts. column_of x ts >>= λ p. Ok (p, ts)) (λ a. between_after inside x false a) (column_l x) (between_l x false)) (member_l x false)) (negated_l x))
+      (local_choose (is_word w.Not) (λ ts. choose (after (is_word w.In) ts) (choose (after (is_word w.Between) ts) (column_of x ts >>= λ p. Ok (p, ts)) (λ a. between_after inside x false a)) (λ a. member_after inside.limits.literals x false a)) (λ a. negated_after inside x a)
+      (local_choose (is_word w.In) (λ ts. choose (after (is_word w.Between) ts) (column_of x ts >>= λ p. Ok (p, ts)) (λ a. between_after inside x false a)) (λ a. member_after inside.limits.literals x false a)
+      (local_choose (is_word w.Between) (λ ts. column_of x ts >>= λ p. Ok (p, ts)) (λ a. between_after inside x false a) (column_l x) (between_l x false)) (member_l inside.limits.literals x false)) (negated_l x))
       (λ o. local_made (operand_at inside) (λ y. compare x o y) operand_l)
 
   tested_atom_l : Local true (tested_atom_at inside)
@@ -150,10 +151,10 @@ module _ (inside : Inside) (inside_l : Local false inside.read) where
   unfolding disjunction_at
   disjunction_l = local_joined (is_word w.Or) (conjunction_at inside) disjunction_of conjunction_l
 
-pub predicate_l : (n : ℕ) → Local false (predicate_at n)
+pub predicate_l : (limits : Limits) (n : ℕ) → Local false (predicate_at limits n)
 unfolding predicate_at
-predicate_l zero = local_over
-predicate_l (suc n) = local_loose (disjunction_at (inside_of n)) (disjunction_l (inside_of n) (predicate_l n))
+predicate_l limits zero = local_over
+predicate_l limits (suc n) = local_loose (disjunction_at (inside_of limits n)) (disjunction_l (inside_of limits n) (predicate_l limits n))
 
 pub expression_told : TellsByFront begins_expression
 unfolding begins_expression

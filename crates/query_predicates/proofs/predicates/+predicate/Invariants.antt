@@ -1,6 +1,7 @@
 use Rattle.std.proofs.Common.{◌+◌, ◌*◌, ◌≤◌, length, map}
 use Rattle.query_tokens.specs.declared.token.Word.TheVariants.{And, Or}
 use Rattle.query_tree.specs.Syntax.{predicate_form}
+use Rattle.query_derivation.specs.Limits.{standard}
 use Rattle.query_leaves.specs.Fronts.{is_word}
 use Rattle.query_leaves.specs.Steps.{more}
 use Rattle.query_predicates.specs.PredicateSteps.{negation_at, conjunction_at, any_front, inside_of}
@@ -52,7 +53,7 @@ decreases-predicate l = 16 * l.levels
 abbrev pub invariant-more_negations-loop-behind : goal.invariant-more_negations-loop-behind
 invariant-more_negations-loop-behind l = record {
   shorter : length l.rest ≤ length l.fn.tokens;
-  unread : Unread (is_word And) any_front (negation_at (inside_of l.levels)) (map predicate_form l.parts.items) l.rest (more (is_word And) any_front (negation_at (inside_of l.levels)) (length l.fn.tokens) l.fn.tokens);
+  unread : Unread (is_word And) any_front (negation_at (inside_of standard l.levels)) (map predicate_form l.parts.items) l.rest (more (is_word And) any_front (negation_at (inside_of standard l.levels)) (length l.fn.tokens) l.fn.tokens);
 }
 
 abbrev pub decreases-more_negations-loop-behind : goal.decreases-more_negations-loop-behind
@@ -61,7 +62,7 @@ decreases-more_negations-loop-behind l = length l.rest
 abbrev pub invariant-more_conjunctions-loop-behind : goal.invariant-more_conjunctions-loop-behind
 invariant-more_conjunctions-loop-behind l = record {
   shorter : length l.rest ≤ length l.fn.tokens;
-  unread : Unread (is_word Or) any_front (conjunction_at (inside_of l.levels)) (map predicate_form l.parts.items) l.rest (more (is_word Or) any_front (conjunction_at (inside_of l.levels)) (length l.fn.tokens) l.fn.tokens);
+  unread : Unread (is_word Or) any_front (conjunction_at (inside_of standard l.levels)) (map predicate_form l.parts.items) l.rest (more (is_word Or) any_front (conjunction_at (inside_of standard l.levels)) (length l.fn.tokens) l.fn.tokens);
 }
 
 abbrev pub decreases-more_conjunctions-loop-behind : goal.decreases-more_conjunctions-loop-behind
