@@ -1,5 +1,5 @@
 -- Queries that derive from tokens are read.
-use Rattle.std.proofs.Common.{arith, ◌≡◌, Bool, List, [], ◌∷◌, Option, None, Result, Ok, Err, refl, sym, ◌∙◌}
+use Rattle.std.proofs.Common.{arith, ◌-◌, ◌≡◌, suc, Bool, List, [], ◌∷◌, Option, None, Result, Ok, Err, refl, sym, ◌∙◌}
 use Rattle.std.specs.Prelude.{codes, Box, MatchResult}
 use Rattle.std.specs.Global.{Global}
 use Rattle.query_tokens.specs.declared.token.Token.{Token}
@@ -11,6 +11,7 @@ use Rattle.query_tree.specs.declared.tree.Tree.{Tree}
 use Rattle.query_tree.specs.Syntax.{ExpressionForm, PredicateForm, ElementForm, ItemForm, KeyForm, TreeForm, tree_form}
 use Rattle.query_leaves.specs.declared.fault.GrammarFault.{GrammarFault}
 use Rattle.query_leaves.specs.declared.fault.GrammarFault.TheVariants as faults
+use Rattle.query_derivation.specs.Limits.{Limits, standard}
 use Rattle.query_leaves.specs.Fronts.{is_word, is_sign, after}
 use Rattle.query_leaves.specs.Steps.{Gives, name_at}
 use Rattle.query_grammar.specs.GroupSteps.{group_at}
@@ -18,7 +19,8 @@ use Rattle.query_grammar.specs.QuerySteps.{alias_at, item_at, items_at, from_at,
 use Rattle.query_predicates.specs.ExpressionSteps.{expression_at, begins_expression}
 use Rattle.query_predicates.specs.PredicateSteps.{inside_of, any_front}
 use Rattle.query_derivation.specs.Predicates.{IsExpression, IsPredicate}
-use Rattle.query_derivation.specs.Grammar.{IsItem, IsWhere, IsGroup, IsGroupBy, IsHaving, IsOrderBy, IsQuery, Derives, IsSetQuantifier}
+use Rattle.query_derivation.specs.Grammar.{IsItem, IsWhere, IsGroup, IsGroupBy, IsHaving, IsOrderBy, IsQuery, Derives, DerivesWithin, IsSetQuantifier}
+use Rattle.query_leaves.proofs.Agree.{Wider, wider_same}
 use Rattle.query_leaves.proofs.CompleteLists.{repeated_follow, repeated_c, unlimited_c}
 use Rattle.query_predicates.proofs.CompleteExpressions.{EndsFunction, expression_c}
 use Rattle.query_predicates.proofs.CompletePredicates.{EndsPredicate, group_ends, having_ends, order_ends, nil_ends, predicate_c, bracketed_c}
@@ -30,8 +32,8 @@ record EndsItem (r : List Token) : Type 0 where
   no_filter : EndsFunction r
   no_as : after (is_word w.As) r ≡ None
 
-item_expression_c : {ts r : List Token} {e : ExpressionForm} → IsExpression (IsPredicate 64) ts e r → EndsFunction r → expression_at (inside_of 64) ts ≡ Ok (e, r)
-item_expression_c i q = expression_c (IsPredicate 64) (inside_of 64) (bracketed_c 64) i q
+item_expression_c : {narrow wide : Limits} → Wider narrow wide → {ts r : List Token} {e : ExpressionForm} → IsExpression narrow (IsPredicate narrow narrow.levels) ts e r → EndsFunction r → expression_at (inside_of wide wide.levels) ts ≡ Ok (e, r)
+item_expression_c {narrow} {wide} wider i q = expression_c narrow (IsPredicate narrow narrow.levels) (inside_of wide wide.levels) wider (bracketed_c narrow wide wider narrow.levels wide.levels wider.levels) i q
 
 comma_ends_item : (ts : List Token) → EndsItem (tokens.Sign s.Comma ∷ ts)
 comma_ends_item ts = record { no_filter = refl; no_as = refl }
@@ -39,10 +41,10 @@ comma_ends_item ts = record { no_filter = refl; no_as = refl }
 from_ends_item : (ts : List Token) → EndsItem (tokens.Word w.From ∷ ts)
 from_ends_item ts = record { no_filter = refl; no_as = refl }
 
-item_c : (ts r : List Token) (i : ItemForm) → IsItem ts i r → EndsItem r → item_at ts ≡ Ok (i, r)
+item_c : {narrow wide : Limits} → Wider narrow wide → (ts r : List Token) (i : ItemForm) → IsItem narrow ts i r → EndsItem r → item_at wide ts ≡ Ok (i, r)
 unfolding item_at alias_at name_at
-item_c _ _ _ (IsItem.plain e) q = rw (item_expression_c e q.no_filter, q.no_as) refl
-item_c _ _ _ (IsItem.named e) q = rw (item_expression_c e refl) refl
+item_c wider _ _ _ (IsItem.plain e) q = rw (item_expression_c wider e q.no_filter, q.no_as) refl
+item_c wider _ _ _ (IsItem.named e) q = rw (item_expression_c wider e refl) refl
 
 from_c : (r : List Token) → from_at (tokens.Word w.From ∷ tokens.Name (codes "lines") ∷ r) ≡ Ok r
 unfolding from_at name_at
@@ -53,10 +55,10 @@ record EndsWhere (r : List Token) : Type 0 where
   predicate : EndsPredicate r
   no_where : after (is_word w.Where) r ≡ None
 
-where_c : {ts r : List Token} {p : Option PredicateForm} → IsWhere ts p r → EndsWhere r → clause_at w.Where ts ≡ Ok (p, r)
+where_c : {narrow wide : Limits} → Wider narrow wide → {ts r : List Token} {p : Option PredicateForm} → IsWhere narrow ts p r → EndsWhere r → clause_at wide w.Where ts ≡ Ok (p, r)
 unfolding clause_at
-where_c IsWhere.none q = rw q.no_where refl
-where_c (IsWhere.condition {ts} {r} {p} i) q = rw (predicate_c 65 ts r p i q.predicate) refl
+where_c wider IsWhere.none q = rw q.no_where refl
+where_c {narrow} {wide} wider (IsWhere.condition {ts} {r} {p} i) q = rw (predicate_c narrow wide wider (suc narrow.levels) (suc wide.levels) (omega (arith, wider.levels)) ts r p i q.predicate) refl
 
 -- What may stand behind GROUP BY, written or not.
 record EndsGroups (r : List Token) : Type 0 where
@@ -70,18 +72,18 @@ unfolding set_quantifier_at
 set_quantifier_c IsSetQuantifier.none q = rw q refl
 set_quantifier_c IsSetQuantifier.distinct q = refl
 
-groups_c : {ts r : List Token} {d : Bool} {gs : List ElementForm} → IsGroupBy ts d gs r → EndsGroups r → groups_at ts ≡ Ok ((d, gs), r)
+groups_c : {narrow wide : Limits} → Wider narrow wide → {ts r : List Token} {d : Bool} {gs : List ElementForm} → IsGroupBy narrow ts d gs r → EndsGroups r → groups_at wide ts ≡ Ok ((d, gs), r)
 unfolding groups_at elements_at
-groups_c IsGroupBy.none q = rw q.no_group refl
-groups_c (IsGroupBy.groups {ts} {us} {mid} {r} {d} {g} {gs} quantifier p b) q =
+groups_c wider IsGroupBy.none q = rw q.no_group refl
+groups_c {narrow} {wide} wider (IsGroupBy.groups {ts} {us} {mid} {r} {d} {g} {gs} quantifier p b) q =
     rw (
-      set_quantifier_c quantifier (group_begins 16 us mid g p),
-      group_c 16 us mid g p,
-      unlimited_c (tokens.Sign s.Comma) (is_sign s.Comma) any_front (IsGroup 16) (group_at 16) (λ _. Unit {0}) refl (λ _. tt) (λ us v x j _. group_c 16 us v x j) (group_short 16) b tt q.no_comma,
+      set_quantifier_c quantifier (group_begins narrow.sets us mid g p),
+      group_c narrow.sets wide.sets wider.sets us mid g p,
+      unlimited_c (tokens.Sign s.Comma) (is_sign s.Comma) any_front (IsGroup narrow.sets) (group_at wide.sets) (λ _. Unit {0}) refl (λ _. tt) (λ us v x j _. group_c narrow.sets wide.sets wider.sets us v x j) (group_short narrow.sets) b tt q.no_comma,
     ) refl
 
 -- WHERE ends where GROUP BY begins, written or not.
-groups_begin : {ts r : List Token} {d : Bool} {gs : List ElementForm} → IsGroupBy ts d gs r → EndsGroups r → EndsWhere ts
+groups_begin : {limits : Limits} {ts r : List Token} {d : Bool} {gs : List ElementForm} → IsGroupBy limits ts d gs r → EndsGroups r → EndsWhere ts
 groups_begin IsGroupBy.none q = q.ends_where
 groups_begin (IsGroupBy.groups {ts} quantifier p b) q = record { predicate = group_ends (tokens.Word w.By ∷ ts); no_where = refl }
 
@@ -90,13 +92,13 @@ record EndsHaving (r : List Token) : Type 0 where
   ends_groups : EndsGroups r
   no_having : after (is_word w.Having) r ≡ None
 
-having_c : {ts r : List Token} {p : Option PredicateForm} → IsHaving ts p r → EndsHaving r → clause_at w.Having ts ≡ Ok (p, r)
+having_c : {narrow wide : Limits} → Wider narrow wide → {ts r : List Token} {p : Option PredicateForm} → IsHaving narrow ts p r → EndsHaving r → clause_at wide w.Having ts ≡ Ok (p, r)
 unfolding clause_at
-having_c IsHaving.none q = rw q.no_having refl
-having_c (IsHaving.condition {ts} {r} {p} i) q = rw (predicate_c 65 ts r p i q.ends_groups.ends_where.predicate) refl
+having_c wider IsHaving.none q = rw q.no_having refl
+having_c {narrow} {wide} wider (IsHaving.condition {ts} {r} {p} i) q = rw (predicate_c narrow wide wider (suc narrow.levels) (suc wide.levels) (omega (arith, wider.levels)) ts r p i q.ends_groups.ends_where.predicate) refl
 
 -- GROUP BY ends where HAVING begins, written or not.
-having_begins : {ts r : List Token} {p : Option PredicateForm} → IsHaving ts p r → EndsHaving r → EndsGroups ts
+having_begins : {limits : Limits} {ts r : List Token} {p : Option PredicateForm} → IsHaving limits ts p r → EndsHaving r → EndsGroups ts
 having_begins IsHaving.none q = q.ends_groups
 having_begins (IsHaving.condition {ts} i) q = record { ends_where = record { predicate = having_ends ts; no_where = refl }; no_group = refl; no_comma = refl }
 
@@ -106,26 +108,26 @@ record EndsQuery (r : List Token) : Type 0 where
   ends_keys : EndsKeys r
 
 -- HAVING ends where ORDER BY begins, written or not.
-keys_begin : {ts r : List Token} {ks : List KeyForm} → IsOrderBy ts ks r → EndsQuery r → EndsHaving ts
+keys_begin : {limits : Limits} {ts r : List Token} {ks : List KeyForm} → IsOrderBy limits ts ks r → EndsQuery r → EndsHaving ts
 keys_begin IsOrderBy.none q = q.ends_having
 keys_begin (IsOrderBy.keys {ts} p b) q = record {
   ends_groups = record { ends_where = record { predicate = order_ends (tokens.Word w.By ∷ ts); no_where = refl }; no_group = refl; no_comma = refl };
   no_having = refl;
 }
 
-query_c : {ts r : List Token} {q : TreeForm} → IsQuery ts q r → EndsQuery r → query_at ts ≡ Ok (q, r)
+query_c : {narrow wide : Limits} → Wider narrow wide → {ts r : List Token} {q : TreeForm} → IsQuery narrow ts q r → EndsQuery r → query_at wide ts ≡ Ok (q, r)
 unfolding query_at select_at records_at rows_at items_at
-query_c (IsQuery.query {ts} {mid} {after_from} {after_where} {after_groups} {after_having} {r} {i} {is} {p} {h} {d} {gs} {ks} first others few d_where d_groups d_having d_keys) q =
+query_c {narrow} {wide} wider (IsQuery.query {ts} {mid} {after_from} {after_where} {after_groups} {after_having} {r} {i} {is} {p} {h} {d} {gs} {ks} first others few d_where d_groups d_having d_keys) q =
     let behind_groups : EndsHaving after_having = keys_begin d_keys q in
     let behind_where : EndsGroups after_groups = having_begins d_having behind_groups in
     rw (
-      item_c ts mid i first (repeated_follow (tokens.Sign s.Comma) IsItem EndsItem comma_ends_item others (from_ends_item _)),
-      repeated_c (tokens.Sign s.Comma) (is_sign s.Comma) begins_expression IsItem item_at EndsItem refl comma_ends_item item_c others 63 (omega arith) (from_ends_item _) refl,
+      item_c wider ts mid i first (repeated_follow (tokens.Sign s.Comma) (IsItem narrow) EndsItem comma_ends_item others (from_ends_item _)),
+      repeated_c (tokens.Sign s.Comma) (is_sign s.Comma) begins_expression (IsItem narrow) (item_at wide) EndsItem refl comma_ends_item (item_c wider) others (wide.items - 1) (omega (arith, few, wider.items)) (from_ends_item _) refl,
       from_c after_from,
-      where_c d_where (groups_begin d_groups behind_where),
-      groups_c d_groups behind_where,
-      having_c d_having behind_groups,
-      keys_c d_keys q.ends_keys,
+      where_c wider d_where (groups_begin d_groups behind_where),
+      groups_c wider d_groups behind_where,
+      having_c wider d_having behind_groups,
+      keys_c wider d_keys q.ends_keys,
     ) refl
 
 nil_ends_query : EndsQuery []
@@ -134,17 +136,18 @@ nil_ends_query = record {
   ends_keys = nil_ends_keys;
 }
 
-pub whole_c : (ts : List Token) (q : TreeForm) → Derives ts q → whole_at ts ≡ Ok q
+-- A query that derives within some limits is read within wider ones.
+pub whole_c : {narrow wide : Limits} → Wider narrow wide → (ts : List Token) (q : TreeForm) → DerivesWithin narrow ts q → whole_at wide ts ≡ Ok q
 unfolding whole_at
-whole_c ts q d = rw (query_c d nil_ends_query) refl
+whole_c wider ts q d = rw (query_c wider d nil_ends_query) refl
 
 -- What is derived is read.
-pub read : (ts : List Token) (r : Result (Box Tree Global) GrammarFault) → Gives (λ t. tree_form t.value) r (whole_at ts) → (q : TreeForm) → Derives ts q → MatchResult r (λ t. tree_form t.value ≡ q) (λ e. e ≡ faults.OutOfMemory)
-read ts (Ok t) e q d = ok_is (tree_form t.value) q (sym e ∙ whole_c ts q d)
+pub read : (ts : List Token) (r : Result (Box Tree Global) GrammarFault) → Gives (λ t. tree_form t.value) r (whole_at standard ts) → (q : TreeForm) → Derives ts q → MatchResult r (λ t. tree_form t.value ≡ q) (λ e. e ≡ faults.OutOfMemory)
+read ts (Ok t) e q d = ok_is (tree_form t.value) q (sym e ∙ whole_c (wider_same standard) ts q d)
 read ts (Err faults.OutOfMemory) e q d = refl
-read ts (Err (faults.OverLimit n)) e q d = absurd (let k = whole_c ts q d in cc)
-read ts (Err (faults.Unexpected n)) e q d = absurd (let k = whole_c ts q d in cc)
+read ts (Err (faults.OverLimit n)) e q d = absurd (let k = whole_c (wider_same standard) ts q d in cc)
+read ts (Err (faults.Unexpected n)) e q d = absurd (let k = whole_c (wider_same standard) ts q d in cc)
 
 -- No tokens derive two queries: what they derive is what is read of them.
 pub one : (ts : List Token) (p q : TreeForm) → Derives ts p → Derives ts q → p ≡ q
-one ts p q d e = ok_is p q (sym (whole_c ts p d) ∙ whole_c ts q e)
+one ts p q d e = ok_is p q (sym (whole_c (wider_same standard) ts p d) ∙ whole_c (wider_same standard) ts q e)

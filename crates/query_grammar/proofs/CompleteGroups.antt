@@ -1,5 +1,5 @@
 -- Units, sets and groups that derive from tokens are read.
-use Rattle.std.proofs.Common.{arith, ◌≡◌, ℕ, zero, suc, List, ◌∷◌, Bool, Some, None, Ok, refl}
+use Rattle.std.proofs.Common.{arith, ◌≤◌, ◌≡◌, ℕ, zero, suc, List, ◌∷◌, Bool, Some, None, Ok, refl}
 use Rattle.query_tokens.specs.declared.token.Token.{Token}
 use Rattle.query_tokens.specs.declared.token.Token.TheVariants as tokens
 use Rattle.query_tokens.specs.declared.token.Word.TheVariants as w
@@ -114,11 +114,13 @@ unfolding IsGroup
 group_short zero ts r g p = element_short (λ ts g r. ⊥) (λ ts r g p. absurd p) ts r g p
 group_short (suc n) ts r g p = element_short (IsGroup n) (group_short n) ts r g p
 
-sets_c : (n : ℕ) → ((ts r : List Token) (g : ElementForm) → IsGroup n ts g r → group_at n ts ≡ Ok (g, r)) → ReadsSets (IsGroup n) (sets_at (suc n))
+sets_c : (n m : ℕ) → ((ts r : List Token) (g : ElementForm) → IsGroup n ts g r → group_at m ts ≡ Ok (g, r)) → ReadsSets (IsGroup n) (sets_at (suc m))
 unfolding sets_at
-sets_c n complete ts mid r g gs p b = rw (enclosed_c any_front (IsGroup n) (group_at n) complete (group_short n) p b) refl
+sets_c n m complete ts mid r g gs p b = rw (enclosed_c any_front (IsGroup n) (group_at m) complete (group_short n) p b) refl
 
-pub group_c : (n : ℕ) (ts r : List Token) (g : ElementForm) → IsGroup n ts g r → group_at n ts ≡ Ok (g, r)
+-- A group that derives with at most n levels is read with more of them.
+pub group_c : (n m : ℕ) → n ≤ m → (ts r : List Token) (g : ElementForm) → IsGroup n ts g r → group_at m ts ≡ Ok (g, r)
 unfolding IsGroup
-group_c zero ts r g p = element_c (λ ts g r. ⊥) (sets_at zero) (λ ts mid r g gs q b. absurd q) p
-group_c (suc n) ts r g p = element_c (IsGroup n) (sets_at (suc n)) (sets_c n (group_c n)) p
+group_c zero m few ts r g p = element_c (λ ts g r. ⊥) (sets_at m) (λ ts mid r g gs q b. absurd q) p
+group_c (suc n) zero few ts r g p = absurd (omega arith)
+group_c (suc n) (suc m) few ts r g p = let fewer : n ≤ m = omega arith in element_c (IsGroup n) (sets_at (suc m)) (sets_c n m (group_c n m fewer)) p

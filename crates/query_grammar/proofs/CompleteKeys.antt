@@ -5,7 +5,9 @@ use Rattle.query_tokens.specs.declared.token.Token.TheVariants as tokens
 use Rattle.query_tokens.specs.declared.token.Word.TheVariants as w
 use Rattle.query_tokens.specs.declared.token.Sign.TheVariants as s
 use Rattle.query_tree.specs.Syntax.{KeyForm}
+use Rattle.query_derivation.specs.Limits.{Limits}
 use Rattle.query_leaves.specs.Fronts.{is_word, is_sign, after}
+use Rattle.query_leaves.proofs.Agree.{Wider}
 use Rattle.query_leaves.proofs.CompleteLists.{Shrinks, repeated_follow, unlimited_c}
 use Rattle.query_predicates.proofs.CompleteExpressions.{EndsFunction, expression_c, expression_short}
 use Rattle.query_predicates.proofs.CompletePredicates.{predicate_short, bracketed_c}
@@ -61,9 +63,14 @@ direction_filter IsDirection.none q = q
 direction_filter IsDirection.ascending q = refl
 direction_filter IsDirection.descending q = refl
 
-key_c : (ts r : List Token) (k : KeyForm) → IsKey ts k r → EndsKey r → key_at ts ≡ Ok (k, r)
+key_c : {narrow wide : Limits} → Wider narrow wide → (ts r : List Token) (k : KeyForm) → IsKey narrow ts k r → EndsKey r → key_at wide ts ≡ Ok (k, r)
 unfolding key_at
-key_c _ _ _ (IsKey.key e d n) q = rw (expression_c (IsPredicate 64) (inside_of 64) (bracketed_c 64) e (direction_filter d (null_ordering_filter n q)), direction_c d (null_ordering_begins n q), null_ordering_c n q) refl
+key_c {narrow} {wide} wider _ _ _ (IsKey.key e d n) q =
+    rw (
+      expression_c narrow (IsPredicate narrow narrow.levels) (inside_of wide wide.levels) wider (bracketed_c narrow wide wider narrow.levels wide.levels wider.levels) e (direction_filter d (null_ordering_filter n q)),
+      direction_c d (null_ordering_begins n q),
+      null_ordering_c n q,
+    ) refl
 
 direction_short : {ts r : List Token} {d : Bool} → IsDirection ts d r → length r ≤ length ts
 direction_short IsDirection.none = omega arith
@@ -75,19 +82,20 @@ null_ordering_short IsNullOrdering.none = omega arith
 null_ordering_short IsNullOrdering.first = omega arith
 null_ordering_short IsNullOrdering.last = omega arith
 
-key_short : Shrinks IsKey
-key_short _ _ _ (IsKey.key {ts} {u} {v} {r} {e} p d n) = omega (arith, expression_short (IsPredicate 64) (predicate_short 64) ts u e p, direction_short d, null_ordering_short n)
+key_short : (limits : Limits) → Shrinks (IsKey limits)
+key_short limits _ _ _ (IsKey.key {ts} {u} {v} {r} {e} p d n) =
+    omega (arith, expression_short limits (IsPredicate limits limits.levels) (predicate_short limits limits.levels) ts u e p, direction_short d, null_ordering_short n)
 
 comma_ends : (ts : List Token) → EndsKey (tokens.Sign s.Comma ∷ ts)
 comma_ends ts = record { no_filter = refl; direction = record { no_asc = refl; no_desc = refl }; no_nulls = refl }
 
-pub keys_c : {ts r : List Token} {ks : List KeyForm} → IsOrderBy ts ks r → EndsKeys r → keys_at ts ≡ Ok (ks, r)
+pub keys_c : {narrow wide : Limits} → Wider narrow wide → {ts r : List Token} {ks : List KeyForm} → IsOrderBy narrow ts ks r → EndsKeys r → keys_at wide ts ≡ Ok (ks, r)
 unfolding keys_at
-keys_c IsOrderBy.none q = rw q.no_order refl
-keys_c (IsOrderBy.keys {ts} {mid} {r} {k} {ks} p b) q =
+keys_c wider IsOrderBy.none q = rw q.no_order refl
+keys_c {narrow} {wide} wider (IsOrderBy.keys {ts} {mid} {r} {k} {ks} p b) q =
     rw (
-      key_c ts mid k p (repeated_follow (tokens.Sign s.Comma) IsKey EndsKey comma_ends b q.key),
-      unlimited_c (tokens.Sign s.Comma) (is_sign s.Comma) begins_expression IsKey key_at EndsKey refl comma_ends key_c key_short b q.key q.no_comma,
+      key_c wider ts mid k p (repeated_follow (tokens.Sign s.Comma) (IsKey narrow) EndsKey comma_ends b q.key),
+      unlimited_c (tokens.Sign s.Comma) (is_sign s.Comma) begins_expression (IsKey narrow) (key_at wide) EndsKey refl comma_ends (key_c wider) (key_short narrow) b q.key q.no_comma,
     ) refl
 
 pub nil_ends_keys : EndsKeys []

@@ -4,4 +4,5 @@ pub mod Complete
 pub mod SoundGroups
 pub mod SoundKeys
 pub mod Sound
+pub mod AgreeQuery
 mod LocalQuery

@@ -1,5 +1,5 @@
 -- The reader of queries is local: it looks at no token behind the first one that it leaves.
-use Rattle.std.proofs.Common.{arith, length, take, drop, ◌<◌, ◌≤◌, ◌-◌, ◌≡◌, ◌⊎◌, inl, inr, ℕ, zero, suc, Bool, true, false, cond, List, [], ◌∷◌, ◌++◌, Option, Some, None, Result, Ok, Err, refl, ap, subst, ◌∙◌, length-drop, add-one}
+use Rattle.std.proofs.Common.{arith, length, take, drop, ◌<◌, ◌≤◌, ◌+◌, ◌-◌, ◌≡◌, ◌⊎◌, inl, inr, ℕ, zero, suc, Bool, true, false, cond, List, [], ◌∷◌, ◌++◌, Option, Some, None, Result, Ok, Err, refl, ap, subst, ◌∙◌, length-drop, add-one}
 use Rattle.std.specs.Prelude.{codes}
 use Rattle.std.specs.Str.{bytes_eq}
 use Rattle.query_tokens.specs.declared.token.Token.{Token}
@@ -12,16 +12,19 @@ use Rattle.query_tree.specs.Syntax.{ExpressionForm, PredicateForm, ElementForm, 
 use Rattle.query_leaves.specs.declared.fault.GrammarFault.{GrammarFault}
 use Rattle.query_leaves.specs.declared.fault.GrammarFault.TheVariants as faults
 use Rattle.query_leaves.specs.Fronts.{is_word, is_sign, after}
-use Rattle.query_leaves.specs.Steps.{◌>>=◌, Gives, Reader, stuck, expected, with_front, more, name_at, begins_name}
+use Rattle.query_leaves.specs.Steps.{◌>>=◌, Reader, stuck, expected, with_front, more, name_at, begins_name}
 use Rattle.query_predicates.specs.ExpressionSteps.{expression_at, begins_expression}
 use Rattle.query_predicates.specs.PredicateSteps.{predicate_at, inside_of, any_front}
 use Rattle.query_grammar.specs.GroupSteps.{all_at, enclosed_at, begins_unit, unit_at, units_at, nothing_at, set_at, element_at, sets_at, group_at}
 use Rattle.query_grammar.specs.KeySteps.{direction_at, null_ordering_at, key_at, keys_at}
 use Rattle.query_grammar.specs.QuerySteps.{alias_at, item_at, items_at, from_at, clause_at, set_quantifier_at, elements_at, groups_at, select_at, records_at, rows_at, query_at, at_end, whole_at}
-use Rattle.query_leaves.proofs.Local.{SameFront, IsFront, Local, Shares, local_loose, local_as, local_end, local_head, local_ok, local_stuck, local_over, local_choose, local_front, local_bind, local_expected, local_expected_front, local_all}
+use Rattle.query_leaves.proofs.Local.{SameFront, IsFront, Local, Shares, left_of, local_loose, local_as, local_end, local_head, local_ok, local_stuck, local_over, local_choose, local_front, local_bind, local_expected, local_expected_front, local_all}
 use Rattle.query_leaves.proofs.LocalLeaves.{TellsByFront, local_listed, local_closed, name_front, name_told}
-use Rattle.query_derivation.specs.Grammar.{Derives}
-use Rattle.query_derivation.specs.Prefixes.{IsUnexpectedWithin, IsOverLimit}
+use Rattle.query_derivation.specs.Limits.{Limits, standard}
+use Rattle.query_derivation.specs.Grammar.{DerivesWithin}
+use Rattle.query_derivation.specs.Prefixes.{BeginsWithin, Begins}
+use Rattle.query_leaves.proofs.Agree.{both, wider_same, wider_one, wider_other, agrees_unexpected}
+use Rattle.query_grammar.proofs.AgreeQuery.{whole_agrees}
 use Rattle.query_grammar.proofs.Complete.{whole_c}
 use Rattle.query_predicates.proofs.LocalPredicates.{local_made, any_told, expression_l, expression_told, predicate_l}
 
@@ -97,14 +100,14 @@ alias_l : Local true alias_at
 unfolding alias_at
 alias_l = local_choose (is_word w.As) (λ ts. Ok (None, ts)) (λ a. expected name_at a >>= λ n. Ok (Some n.0, n.1)) (local_ok None) (local_made (expected name_at) (λ n. Some n) (local_expected_front name_at name_front))
 
-item_l : Local true item_at
+item_l : (limits : Limits) → Local true (item_at limits)
 unfolding item_at
-item_l = local_bind (expression_at (inside_of 64)) (λ e us. alias_at us >>= λ a. Ok (record { expression = e; alias = a.0 }, a.1)) (expression_l (inside_of 64) (predicate_l 64))
+item_l limits = local_bind (expression_at (inside_of limits limits.levels)) (λ e us. alias_at us >>= λ a. Ok (record { expression = e; alias = a.0 }, a.1)) (expression_l (inside_of limits limits.levels) (predicate_l limits limits.levels))
     (λ e. local_made alias_at (λ a. record { expression = e; alias = a }) alias_l)
 
-items_l : Local true items_at
+items_l : (limits : Limits) → Local true (items_at limits)
 unfolding items_at
-items_l = local_listed begins_expression item_at expression_told item_l 63
+items_l limits = local_listed begins_expression (item_at limits) expression_told (item_l limits) (limits.items - 1)
 
 -- ---- the clauses
 
@@ -151,9 +154,9 @@ from_l : {A : Type 0} (x : A) → Local true (λ ts. from_at ts >>= λ rest. bes
 from_l x = local_as (λ ts. from_at ts >>= λ rest. beside x rest) (λ ts. expected (after (is_word w.From)) ts >>= λ a. choose (lines_at a) (stuck a) (λ l. beside x l.1)) (from_way x)
     (local_expected (is_word w.From) (λ a. choose (lines_at a) (stuck a) (λ l. beside x l.1)) (local_front lines_at stuck (λ _. beside x) lines_front local_stuck (λ _. local_ok x)))
 
-clause_l : (word : Word) → Local true (clause_at word)
+clause_l : (limits : Limits) → (word : Word) → Local true ((clause_at limits) word)
 unfolding clause_at
-clause_l word = local_choose (is_word word) (λ ts. Ok (None, ts)) (λ a. predicate_at 65 a >>= λ p. Ok (Some p.0, p.1)) (local_ok None) (local_made (predicate_at 65) (λ p. Some p) (predicate_l 65))
+clause_l limits word = local_choose (is_word word) (λ ts. Ok (None, ts)) (λ a. predicate_at limits (suc limits.levels) a >>= λ p. Ok (Some p.0, p.1)) (local_ok None) (local_made (predicate_at limits (suc limits.levels)) (λ p. Some p) (predicate_l limits (suc limits.levels)))
 
 -- A word, or none, and what is read behind it.
 quantifier_way : {A : Type 0} (g : Bool → Reader A) (ts : List Token) → g (set_quantifier_at ts).0 (set_quantifier_at ts).1 ≡ choose (after (is_word w.Distinct) ts) (g false ts) (λ a. g true a)
@@ -163,27 +166,27 @@ quantifier_way {A} g ts = of_way (after (is_word w.Distinct) ts) where
   of_way None = refl
   of_way (Some r) = refl
 
-elements_l : Local true elements_at
+elements_l : (limits : Limits) → Local true (elements_at limits)
 unfolding elements_at
-elements_l = local_as elements_at (λ ts. choose (after (is_word w.Distinct) ts) (listed false ts) (λ a. listed true a)) (quantifier_way listed)
+elements_l limits = local_as (elements_at limits) (λ ts. choose (after (is_word w.Distinct) ts) (listed false ts) (λ a. listed true a)) (quantifier_way listed)
     (local_choose (is_word w.Distinct) (listed false) (listed true) (listed_l false) (listed_l true)) where
       listed : Bool → Reader (Bool × List ElementForm)
-      listed d us = all_at any_front (group_at 16) us >>= λ gs. Ok ((d, gs.0), gs.1)
+      listed d us = all_at any_front (group_at limits.sets) us >>= λ gs. Ok ((d, gs.0), gs.1)
 
       listed_l : (d : Bool) → Local true (listed d)
-      listed_l d = local_made (all_at any_front (group_at 16)) (λ gs. (d, gs)) (all_l any_front (group_at 16) any_told (group_l 16))
+      listed_l d = local_made (all_at any_front (group_at limits.sets)) (λ gs. (d, gs)) (all_l any_front (group_at limits.sets) any_told (group_l limits.sets))
 
-groups_l : Local true groups_at
+groups_l : (limits : Limits) → Local true (groups_at limits)
 unfolding groups_at
-groups_l = local_choose (is_word w.Group) (λ ts. Ok ((false, []), ts)) (λ a. expected (after (is_word w.By)) a >>= λ b. elements_at b) (local_ok (false, [])) (local_expected (is_word w.By) elements_at elements_l)
+groups_l limits = local_choose (is_word w.Group) (λ ts. Ok ((false, []), ts)) (λ a. expected (after (is_word w.By)) a >>= λ b. (elements_at limits) b) (local_ok (false, [])) (local_expected (is_word w.By) (elements_at limits) (elements_l limits))
 
-select_l : Local true select_at
+select_l : (limits : Limits) → Local true (select_at limits)
 unfolding select_at
-select_l = local_expected (is_word w.Select) (λ a. items_at a >>= λ is. from_at is.1 >>= λ rest. Ok (is.0, rest)) (local_bind items_at (λ is us. from_at us >>= λ rest. Ok (is, rest)) items_l from_l)
+select_l limits = local_expected (is_word w.Select) (λ a. (items_at limits) a >>= λ is. from_at is.1 >>= λ rest. Ok (is.0, rest)) (local_bind (items_at limits) (λ is us. from_at us >>= λ rest. Ok (is, rest)) (items_l limits) from_l)
 
-records_l : Local true records_at
+records_l : (limits : Limits) → Local true (records_at limits)
 unfolding records_at
-records_l = local_bind (clause_at w.Where) (λ p us. groups_at us >>= λ gs. Ok ((p, gs.0.0, gs.0.1), gs.1)) (clause_l w.Where) (λ p. local_made groups_at (λ gs. (p, gs.0, gs.1)) groups_l)
+records_l limits = local_bind ((clause_at limits) w.Where) (λ p us. (groups_at limits) us >>= λ gs. Ok ((p, gs.0.0, gs.0.1), gs.1)) ((clause_l limits) w.Where) (λ p. local_made (groups_at limits) (λ gs. (p, gs.0, gs.1)) (groups_l limits))
 
 -- ---- keys
 
@@ -201,9 +204,9 @@ unfolding null_ordering_at
 null_ordering_l d = local_choose (is_word w.Nulls) (λ ts. Ok (d, ts)) (λ a. choose (after (is_word w.First) a) (expected (after (is_word w.Last)) a >>= λ r. Ok (false, r)) (λ r. Ok (true, r))) (local_ok d)
     (local_choose (is_word w.First) (λ a. expected (after (is_word w.Last)) a >>= λ r. Ok (false, r)) (λ r. Ok (true, r)) (local_expected (is_word w.Last) (λ r. Ok (false, r)) (local_ok false)) (local_ok true))
 
-key_l : Local true key_at
+key_l : (limits : Limits) → Local true (key_at limits)
 unfolding key_at
-key_l = local_bind (expression_at (inside_of 64)) (λ e us. behind e (direction_at us).0 (direction_at us).1) (expression_l (inside_of 64) (predicate_l 64))
+key_l limits = local_bind (expression_at (inside_of limits limits.levels)) (λ e us. behind e (direction_at us).0 (direction_at us).1) (expression_l (inside_of limits limits.levels) (predicate_l limits limits.levels))
     (λ e. local_as (λ us. behind e (direction_at us).0 (direction_at us).1) (λ ts. choose (after (is_word w.Desc) ts) (choose (after (is_word w.Asc) ts) (behind e false ts) (λ a. behind e false a)) (λ a. behind e true a)) (direction_way (behind e))
     (local_choose (is_word w.Desc) (λ ts. choose (after (is_word w.Asc) ts) (behind e false ts) (λ a. behind e false a)) (behind e true) (local_choose (is_word w.Asc) (behind e false) (behind e false) (behind_l e false) (behind_l e false)) (behind_l e true))) where
       behind : ExpressionForm → Bool → Reader KeyForm
@@ -212,21 +215,21 @@ key_l = local_bind (expression_at (inside_of 64)) (λ e us. behind e (direction_
       behind_l : (e : ExpressionForm) (d : Bool) → Local true (behind e d)
       behind_l e d = local_made (null_ordering_at d) (λ n. record { expression = e; descending = d; nulls_first = n }) (null_ordering_l d)
 
-keys_l : Local true keys_at
+keys_l : (limits : Limits) → Local true (keys_at limits)
 unfolding keys_at
-keys_l = local_choose (is_word w.Order) (λ ts. Ok ([], ts)) (λ a. expected (after (is_word w.By)) a >>= λ b. all_at begins_expression key_at b) (local_ok [])
-    (local_expected (is_word w.By) (all_at begins_expression key_at) (all_l begins_expression key_at expression_told key_l))
+keys_l limits = local_choose (is_word w.Order) (λ ts. Ok ([], ts)) (λ a. expected (after (is_word w.By)) a >>= λ b. all_at begins_expression (key_at limits) b) (local_ok [])
+    (local_expected (is_word w.By) (all_at begins_expression (key_at limits)) (all_l begins_expression (key_at limits) expression_told (key_l limits)))
 
-rows_l : Local true rows_at
+rows_l : (limits : Limits) → Local true (rows_at limits)
 unfolding rows_at
-rows_l = local_bind (clause_at w.Having) (λ h us. keys_at us >>= λ ks. Ok ((h, ks.0), ks.1)) (clause_l w.Having) (λ h. local_made keys_at (λ ks. (h, ks)) keys_l)
+rows_l limits = local_bind ((clause_at limits) w.Having) (λ h us. (keys_at limits) us >>= λ ks. Ok ((h, ks.0), ks.1)) ((clause_l limits) w.Having) (λ h. local_made (keys_at limits) (λ ks. (h, ks)) (keys_l limits))
 
 -- ---- the query
 
-query_l : Local true query_at
+query_l : (limits : Limits) → Local true (query_at limits)
 unfolding query_at
-query_l = local_bind select_at (λ is us. records_at us >>= λ a. rows_at a.1 >>= λ b. Ok (tree is a.0 b.0, b.1)) select_l
-    (λ is. local_bind records_at (λ a us. rows_at us >>= λ b. Ok (tree is a b.0, b.1)) records_l (λ a. local_made rows_at (λ b. tree is a b) rows_l)) where
+query_l limits = local_bind (select_at limits) (λ is us. (records_at limits) us >>= λ a. (rows_at limits) a.1 >>= λ b. Ok (tree is a.0 b.0, b.1)) (select_l limits)
+    (λ is. local_bind (records_at limits) (λ a us. (rows_at limits) us >>= λ b. Ok (tree is a b.0, b.1)) (records_l limits) (λ a. local_made (rows_at limits) (λ b. tree is a b) (rows_l limits))) where
       tree : List ItemForm → Option PredicateForm × Bool × List ElementForm → Option PredicateForm × List KeyForm → TreeForm
       tree is a b = record { items = is; where_condition = a.0; distinct_sets = a.1; groups = a.2; having_condition = b.0; keys = b.1 }
 
@@ -240,29 +243,33 @@ unfolding ended_at
 ended_l q [] = local_end (ended_at q) (λ us. Ok (q, us)) refl (local_ok q [])
 ended_l q (t ∷ ts) = local_head (ended_at q) stuck t ts (λ us. refl) (local_stuck (t ∷ ts))
 
-pub all_read_at : Reader TreeForm
-all_read_at ts = query_at ts >>= λ x. ended_at x.0 x.1
+pub all_read_at : Limits → Reader TreeForm
+all_read_at limits ts = query_at limits ts >>= λ x. ended_at x.0 x.1
 
-pub all_read_l : Local true all_read_at
+pub all_read_l : (limits : Limits) → Local true (all_read_at limits)
 unfolding all_read_at
-all_read_l = local_bind query_at (λ q us. ended_at q us) query_l ended_l
+all_read_l limits = local_bind (query_at limits) (λ q us. ended_at q us) (query_l limits) ended_l
 
 -- It stops where the reader of the whole does.
-pub all_read_stops : (ts : List Token) (e : GrammarFault) → whole_at ts ≡ Err e → all_read_at ts ≡ Err e
+pub all_read_stops : (limits : Limits) (ts : List Token) (e : GrammarFault) → whole_at limits ts ≡ Err e → all_read_at limits ts ≡ Err e
 unfolding whole_at all_read_at ended_at
-all_read_stops ts e d = of_query (query_at ts) d where
+all_read_stops limits ts e d = of_query (query_at limits ts) d where
   of_query : (o : Result (TreeForm × List Token) GrammarFault) → (o >>= λ x. at_end x.1 x.0) ≡ Err e → (o >>= λ x. ended_at x.0 x.1) ≡ Err e
   of_query (Err n) h = let k : n ≡ e = cc in cc
   of_query (Ok (q, [])) h = absurd cc
   of_query (Ok (q, t ∷ us)) h = let k : faults.Unexpected (length (t ∷ us)) ≡ e = cc in cc
 
-pub all_read_ok : (ts : List Token) (q : TreeForm) → whole_at ts ≡ Ok q → all_read_at ts ≡ Ok (q, [])
+pub all_read_ok : (limits : Limits) (ts : List Token) (q : TreeForm) → whole_at limits ts ≡ Ok q → all_read_at limits ts ≡ Ok (q, [])
 unfolding whole_at all_read_at ended_at
-all_read_ok ts q d = of_query (query_at ts) d where
+all_read_ok limits ts q d = of_query (query_at limits ts) d where
   of_query : (o : Result (TreeForm × List Token) GrammarFault) → (o >>= λ x. at_end x.1 x.0) ≡ Ok q → (o >>= λ x. ended_at x.0 x.1) ≡ Ok (q, [])
   of_query (Err n) h = absurd cc
   of_query (Ok (p, [])) h = let k : p ≡ q = cc in cc
   of_query (Ok (p, t ∷ us)) h = absurd cc
+
+-- A fault stands among the tokens or at their end.
+pub left_within : (limits : Limits) (ts : List Token) (e : GrammarFault) → whole_at limits ts ≡ Err e → left_of e ≤ length ts
+left_within limits ts e d = (all_read_l limits ts).within e (all_read_stops limits ts e d)
 
 -- ---- where no query goes on
 
@@ -272,26 +279,32 @@ same_to k [] rest h = absurd (omega arith)
 same_to zero (t ∷ ts) rest h = SameFront.here
 same_to (suc k) (t ∷ ts) rest h = SameFront.token (same_to k ts rest (omega arith))
 
-unexpected_at : (ts : List Token) (left : ℕ) → whole_at ts ≡ Err (faults.Unexpected left) → IsUnexpectedWithin ts (length ts - left)
-unexpected_at ts left e = record {
-  inside = omega arith;
-  continues_none = λ h b. (let k = length ts - left in
-      let stopped = all_read_stops ts (faults.Unexpected left) e in
-      let within : left ≤ length ts = (all_read_l ts).within (faults.Unexpected left) stopped in
-      let us = take (suc k) ts ++ b.rest in
-      let behind : left ≡ length (drop k ts) = omega (arith, length-drop k ts) in
-      let stops = (all_read_l ts).stops us (drop k ts) (drop k us) (faults.Unexpected left) stopped (same_to k ts b.rest h) behind in
-      let read = all_read_ok us b.tree (whole_c us b.tree (subst (λ (n : ℕ). Derives (take n ts ++ b.rest) b.tree) (add-one k) b.derived)) in
-      absurd cc);
-  derives_none = λ q d. (let read = whole_c ts q d in absurd cc);
-}
+-- Where a token is not expected, no tokens that begin with those up to it are read.
+unread : (limits : Limits) (ts : List Token) (left : ℕ) → whole_at limits ts ≡ Err (faults.Unexpected left) → length ts - left < length ts → (rest : List Token) (q : TreeForm) → whole_at limits (take (suc (length ts - left)) ts ++ rest) ≡ Ok q → ⊥
+unread limits ts left e h rest q d =
+    let k = length ts - left in
+    let stopped = all_read_stops limits ts (faults.Unexpected left) e in
+    let within : left ≤ length ts = left_within limits ts (faults.Unexpected left) e in
+    let us = take (suc k) ts ++ rest in
+    let behind : left ≡ length (drop k ts) = omega (arith, length-drop k ts) in
+    let stops = (all_read_l limits ts).stops us (drop k ts) (drop k us) (faults.Unexpected left) stopped (same_to k ts rest h) behind in
+    let read = all_read_ok limits us q d in
+    absurd cc
 
--- Where a token, or the end, is not expected, it continues no query.
-pub unexpected : {X : Type 0} (view : X → TreeForm) (ts : List Token) (r : Result X GrammarFault) → Gives view r (whole_at ts) → (left : ℕ) → r ≡ Err (faults.Unexpected left) → IsUnexpectedWithin ts (length ts - left)
-unexpected view ts (Ok x) g left e = absurd cc
-unexpected view ts (Err faults.OutOfMemory) g left e = absurd cc
-unexpected view ts (Err (faults.OverLimit n)) g left e = absurd cc
-unexpected view ts (Err (faults.Unexpected n)) g left e = let h : n ≡ left = cc in unexpected_at ts left (g ∙ ap (λ (m : ℕ). Err (faults.Unexpected m)) h)
+-- Where a token is not expected, it continues no query, whatever the limits.
+pub continues_none_at : (ts : List Token) (left : ℕ) → whole_at standard ts ≡ Err (faults.Unexpected left) → length ts - left < length ts → Begins (take (length ts - left + 1) ts) → ⊥
+continues_none_at ts left e h b =
+    let wide = both standard b.limits in
+    let stopped = agrees_unexpected (whole_agrees (wider_one standard b.limits) ts) left e in
+    let derived = subst (λ (n : ℕ). DerivesWithin b.limits (take n ts ++ b.within.rest) b.within.tree) (add-one (length ts - left)) b.within.derived in
+    unread wide ts left stopped h b.within.rest b.within.tree (whole_c (wider_other standard b.limits) (take (suc (length ts - left)) ts ++ b.within.rest) b.within.tree derived)
+
+-- Tokens of which one is not expected, or the end is not, derive no query, whatever the limits.
+pub derives_none_at : (ts : List Token) (left : ℕ) → whole_at standard ts ≡ Err (faults.Unexpected left) → (limits : Limits) (q : TreeForm) → DerivesWithin limits ts q → ⊥
+derives_none_at ts left e limits q d =
+    let stopped = agrees_unexpected (whole_agrees (wider_one standard limits) ts) left e in
+    let read = whole_c (wider_other standard limits) ts q d in
+    absurd cc
 
 -- Two lists of tokens that share the tokens up to a place.
 shares_to : (k : ℕ) (ts rest : List Token) → k ≤ length ts → Shares ts (take k ts ++ rest) (drop k ts) rest
@@ -299,25 +312,16 @@ shares_to zero ts rest h = Shares.here
 shares_to (suc k) [] rest h = absurd (omega arith)
 shares_to (suc k) (t ∷ ts) rest h = Shares.token (shares_to k ts rest (omega arith))
 
-over_at : (ts : List Token) (left : ℕ) → whole_at ts ≡ Err (faults.OverLimit left) → IsOverLimit ts
-over_at ts left e = record {
-  place = length ts - left;
-  inside = omega arith;
-  begins_none = λ b. (let k = length ts - left in
-      let stopped = all_read_stops ts (faults.OverLimit left) e in
-      let within : left ≤ length ts = (all_read_l ts).within (faults.OverLimit left) stopped in
-      let us = take k ts ++ b.rest in
-      let behind : left ≡ length (drop k ts) = omega (arith, length-drop k ts) in
-      let inside : k ≤ length ts = omega arith in
-      let fails = (all_read_l ts).over us (drop k ts) b.rest (stopped ∙ ap (λ (n : ℕ). Err (faults.OverLimit n)) behind) (shares_to k ts b.rest inside) in
-      let fault_is = fails.is in
-      let read = all_read_ok us b.tree (whole_c us b.tree b.derived) in
-      absurd cc);
-}
-
--- Where it is too much, the tokens before that begin no query within the limits.
-pub over_limit : {X : Type 0} (view : X → TreeForm) (ts : List Token) (r : Result X GrammarFault) → Gives view r (whole_at ts) → (left : ℕ) → r ≡ Err (faults.OverLimit left) → IsOverLimit ts
-over_limit view ts (Ok x) g left e = absurd cc
-over_limit view ts (Err faults.OutOfMemory) g left e = absurd cc
-over_limit view ts (Err (faults.OverLimit n)) g left e = over_at ts n g
-over_limit view ts (Err (faults.Unexpected n)) g left e = absurd cc
+-- Where it is too much, the tokens before that begin no query within the limits of the language.
+pub begins_none_at : (ts : List Token) (left : ℕ) → whole_at standard ts ≡ Err (faults.OverLimit left) → BeginsWithin standard (take (length ts - left) ts) → ⊥
+begins_none_at ts left e b =
+    let k = length ts - left in
+    let stopped = all_read_stops standard ts (faults.OverLimit left) e in
+    let within : left ≤ length ts = left_within standard ts (faults.OverLimit left) e in
+    let us = take k ts ++ b.rest in
+    let behind : left ≡ length (drop k ts) = omega (arith, length-drop k ts) in
+    let inside : k ≤ length ts = omega arith in
+    let fails = (all_read_l standard ts).over us (drop k ts) b.rest (stopped ∙ ap (λ (n : ℕ). Err (faults.OverLimit n)) behind) (shares_to k ts b.rest inside) in
+    let fault_is = fails.is in
+    let read = all_read_ok standard us b.tree (whole_c (wider_same standard) us b.tree b.derived) in
+    absurd cc

@@ -7,10 +7,11 @@ use Rattle.query_tokens.specs.declared.token.Sign.TheVariants as s
 use Rattle.query_tokens.specs.Options.{choose}
 use Rattle.query_leaves.proofs.Inversions.{bind_ok, choose_ok, only_ok}
 use Rattle.query_tree.specs.Syntax.{ExpressionForm, KeyForm}
+use Rattle.query_derivation.specs.Limits.{standard}
 use Rattle.query_leaves.specs.Fronts.{is_word, is_sign, after}
 use Rattle.query_leaves.specs.Steps.{◌>>=◌, expected, with_front, more}
 use Rattle.query_predicates.specs.ExpressionSteps.{expression_at, begins_expression}
-use Rattle.query_predicates.specs.PredicateSteps.{inside_of}
+use Rattle.query_predicates.specs.PredicateSteps.{inside_of, has_level, predicate_at}
 use Rattle.query_derivation.specs.Predicates.{IsPredicate}
 use Rattle.query_leaves.proofs.Heads.{after_word_is}
 use Rattle.query_leaves.proofs.SoundLists.{IsSound, read_as, begins_as, listed_s}
@@ -58,23 +59,23 @@ null_ordering_s d ts x e =
 key_of : ExpressionForm → Bool → Bool → KeyForm
 key_of e d n = record { expression = e; descending = d; nulls_first = n }
 
-key_s : IsSound IsKey key_at
+key_s : IsSound (IsKey standard) (key_at standard)
 unfolding key_at key_of
 key_s ts x e =
-    let a = bind_ok (expression_at (inside_of 64) ts) (λ e. null_ordering_at (direction_at e.1).0 (direction_at e.1).1 >>= λ n. Ok (key_of e.0 (direction_at e.1).0 n.0, n.1)) x e in
+    let a = bind_ok (expression_at (inside_of standard 64) ts) (λ e. null_ordering_at (direction_at e.1).0 (direction_at e.1).1 >>= λ n. Ok (key_of e.0 (direction_at e.1).0 n.0, n.1)) x e in
     let d = direction_at a.0.1 in
     let b = bind_ok (null_ordering_at d.0 d.1) (λ n. Ok (key_of a.0.0 d.0 n.0, n.1)) x a.2 in
-    read_as IsKey b.2 (IsKey.key (expression_s (IsPredicate 64) (inside_of 64) (predicate_s 64) ts a.0 a.1) (direction_s a.0.1) (null_ordering_s d.0 d.1 b.0 b.1))
+    read_as (IsKey standard) b.2 (IsKey.key (expression_s (IsPredicate standard 64) (has_level 64) (predicate_at standard 64) (predicate_s 64) ts a.0 a.1) (direction_s a.0.1) (null_ordering_s d.0 d.1 b.0 b.1))
 
-pub keys_s : IsSound IsOrderBy keys_at
+pub keys_s : IsSound (IsOrderBy standard) (keys_at standard)
 unfolding keys_at
 keys_s ts x e =
-    elim (choose_ok (after (is_word w.Order) ts) (Ok ([], ts)) (λ a. expected (after (is_word w.By)) a >>= (λ b. all_at begins_expression key_at b)) x e) [
-      | inl h ↦ read_as IsOrderBy h.1 IsOrderBy.none
-      | inr h ↦ (let a = only_ok (after (is_word w.By)) h.0 (λ b. all_at begins_expression key_at b) x h.2 in
-          let b = bind_ok (key_at a.0) (λ first. with_front (first.0 ∷ []) (more (is_sign s.Comma) begins_expression key_at (length first.1) first.1)) x a.2 in
-          let l = listed_s begins_expression IsKey key_at key_s (length b.0.1) a.0 b.0 x b.1 b.2 in
+    elim (choose_ok (after (is_word w.Order) ts) (Ok ([], ts)) (λ a. expected (after (is_word w.By)) a >>= (λ b. all_at begins_expression (key_at standard) b)) x e) [
+      | inl h ↦ read_as (IsOrderBy standard) h.1 IsOrderBy.none
+      | inr h ↦ (let a = only_ok (after (is_word w.By)) h.0 (λ b. all_at begins_expression (key_at standard) b) x h.2 in
+          let b = bind_ok ((key_at standard) a.0) (λ first. with_front (first.0 ∷ []) (more (is_sign s.Comma) begins_expression (key_at standard) (length first.1) first.1)) x a.2 in
+          let l = listed_s begins_expression (IsKey standard) (key_at standard) key_s (length b.0.1) a.0 b.0 x b.1 b.2 in
           let whole = after_word_is w.Order ts h.0 h.1 ∙ ap (λ (us : List Token). tokens.Word w.Order ∷ us) (after_word_is w.By h.0 a.0 a.1) in
-          let made : IsOrderBy (tokens.Word w.Order ∷ tokens.Word w.By ∷ a.0) (l.first ∷ l.others) x.1 = IsOrderBy.keys l.head l.tail in
-          subst (λ (ks : List KeyForm). IsOrderBy ts ks x.1) (sym l.all_is) (begins_as IsOrderBy whole made))
+          let made : (IsOrderBy standard) (tokens.Word w.Order ∷ tokens.Word w.By ∷ a.0) (l.first ∷ l.others) x.1 = IsOrderBy.keys l.head l.tail in
+          subst (λ (ks : List KeyForm). (IsOrderBy standard) ts ks x.1) (sym l.all_is) (begins_as (IsOrderBy standard) whole made))
     ]

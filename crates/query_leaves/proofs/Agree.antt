@@ -1,6 +1,6 @@
 -- What a reader of narrow limits reads, and where it finds a token that is not expected, the reader of wider limits does
 -- too: the two agree unless the narrow one finds too much.
-use Rattle.std.proofs.Common.{arith, length, ◌≤◌, ◌-◌, ◌≡◌, ℕ, zero, suc, Bool, true, false, cond, List, [], ◌∷◌, Option, Some, None, is_some, Result, Ok, Err, refl}
+use Rattle.std.proofs.Common.{arith, length, ◌≤◌, ◌+◌, ◌-◌, ◌≡◌, ℕ, zero, suc, Bool, true, false, cond, List, [], ◌∷◌, Option, Some, None, is_some, Result, Ok, Err, refl}
 use Rattle.query_tokens.specs.declared.token.Token.{Token}
 use Rattle.query_tokens.specs.declared.token.Sign.TheVariants as s
 use Rattle.query_tokens.specs.Options.{choose}
@@ -94,3 +94,31 @@ arguments_agree n m few ts = agrees_bind Agrees.same (λ a. agrees_bind (agrees_
 pub literals_agree : (n m : ℕ) → n ≤ m → (ts : List Token) → Agrees (literals_at n ts) (literals_at m ts)
 unfolding literals_at
 literals_agree n m few ts = agrees_bind Agrees.same (λ a. agrees_bind (agrees_listed begins_literal (expected literal_at) (expected literal_at) (n - 1) (m - 1) (omega arith) (λ us. Agrees.same) (expected_stuck literal_at) a) (λ all. Agrees.same))
+
+-- ---- wider limits
+
+-- Limits that are as wide as two others together.
+abbrev pub both : Limits → Limits → Limits
+both one other = record {
+  items = one.items + other.items;
+  arguments = one.arguments + other.arguments;
+  literals = one.literals + other.literals;
+  levels = one.levels + other.levels;
+  sets = one.sets + other.sets;
+}
+
+pub wider_one : (one other : Limits) → Wider one (both one other)
+wider_one one other = record { items = omega arith; arguments = omega arith; literals = omega arith; levels = omega arith; sets = omega arith }
+
+pub wider_other : (one other : Limits) → Wider other (both one other)
+wider_other one other = record { items = omega arith; arguments = omega arith; literals = omega arith; levels = omega arith; sets = omega arith }
+
+-- A token that is not expected within narrow limits is not expected within wider ones.
+pub agrees_unexpected : {A : Type 0} {o p : Result A GrammarFault} → Agrees o p → (left : ℕ) → o ≡ Err (faults.Unexpected left) → p ≡ Err (faults.Unexpected left)
+agrees_unexpected Agrees.same left e = e
+agrees_unexpected Agrees.over left e = absurd cc
+
+-- What is read within narrow limits is read within wider ones.
+pub agrees_ok : {A : Type 0} {o p : Result A GrammarFault} → Agrees o p → (x : A) → o ≡ Ok x → p ≡ Ok x
+agrees_ok Agrees.same x e = e
+agrees_ok Agrees.over x e = absurd cc
