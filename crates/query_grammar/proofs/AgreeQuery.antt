@@ -1,5 +1,5 @@
 -- The readers of queries within narrow and within wider limits agree.
-use Rattle.std.proofs.Common.{arith, length, ◌≤◌, ◌-◌, ◌≡◌, ℕ, zero, suc, Bool, true, false, List, [], ◌∷◌, Result, refl}
+use Rattle.std.proofs.Common.{arith, length, ◌≤◌, ◌-◌, ◌≡◌, ℕ, zero, suc, Bool, false, List, refl}
 use Rattle.query_tokens.specs.declared.token.Token.{Token}
 use Rattle.query_tokens.specs.declared.token.Word.{Word}
 use Rattle.query_tokens.specs.declared.token.Word.TheVariants as w
@@ -8,8 +8,8 @@ use Rattle.query_tree.specs.Syntax.{ElementForm}
 use Rattle.query_derivation.specs.Limits.{Limits}
 use Rattle.query_leaves.specs.Fronts.{is_word, is_sign, after}
 use Rattle.query_leaves.specs.Steps.{Reader, stuck, expected}
-use Rattle.query_predicates.specs.ExpressionSteps.{expression_at, begins_expression}
-use Rattle.query_predicates.specs.PredicateSteps.{predicate_at, inside_of, any_front}
+use Rattle.query_predicates.specs.ExpressionSteps.{begins_expression}
+use Rattle.query_predicates.specs.PredicateSteps.{inside_of, any_front}
 use Rattle.query_grammar.specs.GroupSteps.{all_at, enclosed_at, element_at, sets_at, group_at}
 use Rattle.query_grammar.specs.KeySteps.{key_at, keys_at}
 use Rattle.query_grammar.specs.QuerySteps.{item_at, items_at, clause_at, set_quantifier_at, elements_at, groups_at, select_at, records_at, rows_at, query_at, whole_at}
@@ -18,15 +18,22 @@ use Rattle.query_predicates.proofs.AgreePredicates.{predicate_agrees, inside_agr
 
 -- ---- lists
 
-all_agree : {A : Type 0} (begins : List Token → Bool) (part wide_part : Reader A) → ((ts : List Token) → Agrees (part ts) (wide_part ts)) → (ts : List Token) → Agrees (all_at begins part ts) (all_at begins wide_part ts)
-all_agree begins part wide_part h ts = agrees_bind (h ts) (λ first. agrees_bind (agrees_all (is_sign s.Comma) begins part wide_part h (length first.1) first.1) (λ xs. Agrees.same))
+all_agree : {A : Type 0} (begins : List Token → Bool) (part wide_part : Reader A)
+    → ((ts : List Token) → Agrees (part ts) (wide_part ts)) → (ts : List Token)
+    → Agrees (all_at begins part ts) (all_at begins wide_part ts)
+all_agree begins part wide_part h ts =
+    agrees_bind (h ts) (λ first. agrees_bind (agrees_all (is_sign s.Comma) begins part wide_part h (length first.1) first.1) (λ xs. Agrees.same))
 
-enclosed_agree : {A : Type 0} (begins : List Token → Bool) (part wide_part : Reader A) → ((ts : List Token) → Agrees (part ts) (wide_part ts)) → (ts : List Token) → Agrees (enclosed_at begins part ts) (enclosed_at begins wide_part ts)
-enclosed_agree begins part wide_part h ts = agrees_bind {o = expected (after (is_sign s.Open)) ts} Agrees.same (λ a. agrees_bind (all_agree begins part wide_part h a) (λ all. Agrees.same))
+enclosed_agree : {A : Type 0} (begins : List Token → Bool) (part wide_part : Reader A)
+    → ((ts : List Token) → Agrees (part ts) (wide_part ts)) → (ts : List Token)
+    → Agrees (enclosed_at begins part ts) (enclosed_at begins wide_part ts)
+enclosed_agree begins part wide_part h ts =
+    agrees_bind {o = expected (after (is_sign s.Open)) ts} Agrees.same (λ a. agrees_bind (all_agree begins part wide_part h a) (λ all. Agrees.same))
 
 -- ---- groups
 
-element_agrees : (nested wide_nested : Reader ElementForm) → ((ts : List Token) → Agrees (nested ts) (wide_nested ts)) → (ts : List Token) → Agrees (element_at nested ts) (element_at wide_nested ts)
+element_agrees : (nested wide_nested : Reader ElementForm) → ((ts : List Token) → Agrees (nested ts) (wide_nested ts))
+    → (ts : List Token) → Agrees (element_at nested ts) (element_at wide_nested ts)
 unfolding element_at
 element_agrees nested wide_nested h ts = agrees_choose (after (is_word w.Rollup) ts)
     (agrees_choose (after (is_word w.Cube) ts)
@@ -56,7 +63,8 @@ module _ (narrow wide : Limits) (wider : Wider narrow wide) where
 
   item_agrees : (ts : List Token) → Agrees (item_at narrow ts) (item_at wide ts)
   unfolding item_at
-  item_agrees ts = agrees_bind (inside_agrees narrow wide wider narrow.levels wide.levels wider.levels ts) (λ e. Agrees.same)
+  item_agrees ts =
+      agrees_bind (inside_agrees narrow wide wider narrow.levels wide.levels wider.levels ts) (λ e. Agrees.same)
 
   items_agree : (ts : List Token) → Agrees (items_at narrow ts) (items_at wide ts)
   unfolding items_at
@@ -72,25 +80,30 @@ module _ (narrow wide : Limits) (wider : Wider narrow wide) where
 
   elements_agree : (ts : List Token) → Agrees (elements_at narrow ts) (elements_at wide ts)
   unfolding elements_at
-  elements_agree ts = agrees_bind (all_agree any_front (group_at narrow.sets) (group_at wide.sets) (group_agrees narrow.sets wide.sets wider.sets) (set_quantifier_at ts).1) (λ gs. Agrees.same)
+  elements_agree ts =
+      agrees_bind (all_agree any_front (group_at narrow.sets) (group_at wide.sets) (group_agrees narrow.sets wide.sets wider.sets) (set_quantifier_at ts).1) (λ gs. Agrees.same)
 
   groups_agree : (ts : List Token) → Agrees (groups_at narrow ts) (groups_at wide ts)
   unfolding groups_at
-  groups_agree ts = agrees_choose (after (is_word w.Group) ts) Agrees.same (λ a. agrees_bind {o = expected (after (is_word w.By)) a} Agrees.same (λ b. elements_agree b))
+  groups_agree ts =
+      agrees_choose (after (is_word w.Group) ts) Agrees.same (λ a. agrees_bind {o = expected (after (is_word w.By)) a} Agrees.same (λ b. elements_agree b))
 
   key_agrees : (ts : List Token) → Agrees (key_at narrow ts) (key_at wide ts)
   unfolding key_at
-  key_agrees ts = agrees_bind (inside_agrees narrow wide wider narrow.levels wide.levels wider.levels ts) (λ e. Agrees.same)
+  key_agrees ts =
+      agrees_bind (inside_agrees narrow wide wider narrow.levels wide.levels wider.levels ts) (λ e. Agrees.same)
 
   keys_agree : (ts : List Token) → Agrees (keys_at narrow ts) (keys_at wide ts)
   unfolding keys_at
-  keys_agree ts = agrees_choose (after (is_word w.Order) ts) Agrees.same (λ a. agrees_bind {o = expected (after (is_word w.By)) a} Agrees.same (λ b. all_agree begins_expression (key_at narrow) (key_at wide) key_agrees b))
+  keys_agree ts =
+      agrees_choose (after (is_word w.Order) ts) Agrees.same (λ a. agrees_bind {o = expected (after (is_word w.By)) a} Agrees.same (λ b. all_agree begins_expression (key_at narrow) (key_at wide) key_agrees b))
 
   -- ---- queries
 
   select_agrees : (ts : List Token) → Agrees (select_at narrow ts) (select_at wide ts)
   unfolding select_at
-  select_agrees ts = agrees_bind {o = expected (after (is_word w.Select)) ts} Agrees.same (λ a. agrees_bind (items_agree a) (λ is. Agrees.same))
+  select_agrees ts =
+      agrees_bind {o = expected (after (is_word w.Select)) ts} Agrees.same (λ a. agrees_bind (items_agree a) (λ is. Agrees.same))
 
   records_agree : (ts : List Token) → Agrees (records_at narrow ts) (records_at wide ts)
   unfolding records_at
@@ -102,9 +115,11 @@ module _ (narrow wide : Limits) (wider : Wider narrow wide) where
 
   query_agrees : (ts : List Token) → Agrees (query_at narrow ts) (query_at wide ts)
   unfolding query_at
-  query_agrees ts = agrees_bind (select_agrees ts) (λ is. agrees_bind (records_agree is.1) (λ a. agrees_bind (rows_agree a.1) (λ b. Agrees.same)))
+  query_agrees ts =
+      agrees_bind (select_agrees ts) (λ is. agrees_bind (records_agree is.1) (λ a. agrees_bind (rows_agree a.1) (λ b. Agrees.same)))
 
 -- What is read of all tokens within narrow limits, and where a token is not expected, is so within wider ones.
-pub whole_agrees : {narrow wide : Limits} → Wider narrow wide → (ts : List Token) → Agrees (whole_at narrow ts) (whole_at wide ts)
+pub whole_agrees : {narrow wide : Limits} → Wider narrow wide → (ts : List Token)
+    → Agrees (whole_at narrow ts) (whole_at wide ts)
 unfolding whole_at
 whole_agrees {narrow} {wide} wider ts = agrees_bind (query_agrees narrow wide wider ts) (λ x. Agrees.same)

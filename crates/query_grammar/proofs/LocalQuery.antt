@@ -154,7 +154,7 @@ from_l : {A : Type 0} (x : A) → Local true (λ ts. from_at ts >>= λ rest. bes
 from_l x = local_as (λ ts. from_at ts >>= λ rest. beside x rest) (λ ts. expected (after (is_word w.From)) ts >>= λ a. choose (lines_at a) (stuck a) (λ l. beside x l.1)) (from_way x)
     (local_expected (is_word w.From) (λ a. choose (lines_at a) (stuck a) (λ l. beside x l.1)) (local_front lines_at stuck (λ _. beside x) lines_front local_stuck (λ _. local_ok x)))
 
-clause_l : (limits : Limits) → (word : Word) → Local true ((clause_at limits) word)
+clause_l : (limits : Limits) (word : Word) → Local true (clause_at limits word)
 unfolding clause_at
 clause_l limits word = local_choose (is_word word) (λ ts. Ok (None, ts)) (λ a. predicate_at limits (suc limits.levels) a >>= λ p. Ok (Some p.0, p.1)) (local_ok None) (local_made (predicate_at limits (suc limits.levels)) (λ p. Some p) (predicate_l limits (suc limits.levels)))
 
@@ -178,15 +178,15 @@ elements_l limits = local_as (elements_at limits) (λ ts. choose (after (is_word
 
 groups_l : (limits : Limits) → Local true (groups_at limits)
 unfolding groups_at
-groups_l limits = local_choose (is_word w.Group) (λ ts. Ok ((false, []), ts)) (λ a. expected (after (is_word w.By)) a >>= λ b. (elements_at limits) b) (local_ok (false, [])) (local_expected (is_word w.By) (elements_at limits) (elements_l limits))
+groups_l limits = local_choose (is_word w.Group) (λ ts. Ok ((false, []), ts)) (λ a. expected (after (is_word w.By)) a >>= λ b. elements_at limits b) (local_ok (false, [])) (local_expected (is_word w.By) (elements_at limits) (elements_l limits))
 
 select_l : (limits : Limits) → Local true (select_at limits)
 unfolding select_at
-select_l limits = local_expected (is_word w.Select) (λ a. (items_at limits) a >>= λ is. from_at is.1 >>= λ rest. Ok (is.0, rest)) (local_bind (items_at limits) (λ is us. from_at us >>= λ rest. Ok (is, rest)) (items_l limits) from_l)
+select_l limits = local_expected (is_word w.Select) (λ a. items_at limits a >>= λ is. from_at is.1 >>= λ rest. Ok (is.0, rest)) (local_bind (items_at limits) (λ is us. from_at us >>= λ rest. Ok (is, rest)) (items_l limits) from_l)
 
 records_l : (limits : Limits) → Local true (records_at limits)
 unfolding records_at
-records_l limits = local_bind ((clause_at limits) w.Where) (λ p us. (groups_at limits) us >>= λ gs. Ok ((p, gs.0.0, gs.0.1), gs.1)) ((clause_l limits) w.Where) (λ p. local_made (groups_at limits) (λ gs. (p, gs.0, gs.1)) (groups_l limits))
+records_l limits = local_bind (clause_at limits w.Where) (λ p us. groups_at limits us >>= λ gs. Ok ((p, gs.0.0, gs.0.1), gs.1)) (clause_l limits w.Where) (λ p. local_made (groups_at limits) (λ gs. (p, gs.0, gs.1)) (groups_l limits))
 
 -- ---- keys
 
@@ -222,14 +222,14 @@ keys_l limits = local_choose (is_word w.Order) (λ ts. Ok ([], ts)) (λ a. expec
 
 rows_l : (limits : Limits) → Local true (rows_at limits)
 unfolding rows_at
-rows_l limits = local_bind ((clause_at limits) w.Having) (λ h us. (keys_at limits) us >>= λ ks. Ok ((h, ks.0), ks.1)) ((clause_l limits) w.Having) (λ h. local_made (keys_at limits) (λ ks. (h, ks)) (keys_l limits))
+rows_l limits = local_bind (clause_at limits w.Having) (λ h us. keys_at limits us >>= λ ks. Ok ((h, ks.0), ks.1)) (clause_l limits w.Having) (λ h. local_made (keys_at limits) (λ ks. (h, ks)) (keys_l limits))
 
 -- ---- the query
 
 query_l : (limits : Limits) → Local true (query_at limits)
 unfolding query_at
-query_l limits = local_bind (select_at limits) (λ is us. (records_at limits) us >>= λ a. (rows_at limits) a.1 >>= λ b. Ok (tree is a.0 b.0, b.1)) (select_l limits)
-    (λ is. local_bind (records_at limits) (λ a us. (rows_at limits) us >>= λ b. Ok (tree is a b.0, b.1)) (records_l limits) (λ a. local_made (rows_at limits) (λ b. tree is a b) (rows_l limits))) where
+query_l limits = local_bind (select_at limits) (λ is us. records_at limits us >>= λ a. rows_at limits a.1 >>= λ b. Ok (tree is a.0 b.0, b.1)) (select_l limits)
+    (λ is. local_bind (records_at limits) (λ a us. rows_at limits us >>= λ b. Ok (tree is a b.0, b.1)) (records_l limits) (λ a. local_made (rows_at limits) (λ b. tree is a b) (rows_l limits))) where
       tree : List ItemForm → Option PredicateForm × Bool × List ElementForm → Option PredicateForm × List KeyForm → TreeForm
       tree is a b = record { items = is; where_condition = a.0; distinct_sets = a.1; groups = a.2; having_condition = b.0; keys = b.1 }
 
@@ -251,56 +251,68 @@ unfolding all_read_at
 all_read_l limits = local_bind (query_at limits) (λ q us. ended_at q us) (query_l limits) ended_l
 
 -- It stops where the reader of the whole does.
-pub all_read_stops : (limits : Limits) (ts : List Token) (e : GrammarFault) → whole_at limits ts ≡ Err e → all_read_at limits ts ≡ Err e
+pub all_read_stops : (limits : Limits) (ts : List Token) (e : GrammarFault) → whole_at limits ts ≡ Err e
+    → all_read_at limits ts ≡ Err e
 unfolding whole_at all_read_at ended_at
 all_read_stops limits ts e d = of_query (query_at limits ts) d where
-  of_query : (o : Result (TreeForm × List Token) GrammarFault) → (o >>= λ x. at_end x.1 x.0) ≡ Err e → (o >>= λ x. ended_at x.0 x.1) ≡ Err e
+  of_query : (o : Result (TreeForm × List Token) GrammarFault) → (o >>= λ x. at_end x.1 x.0) ≡ Err e
+      → (o >>= λ x. ended_at x.0 x.1) ≡ Err e
   of_query (Err n) h = let k : n ≡ e = cc in cc
   of_query (Ok (q, [])) h = absurd cc
   of_query (Ok (q, t ∷ us)) h = let k : faults.Unexpected (length (t ∷ us)) ≡ e = cc in cc
 
-pub all_read_ok : (limits : Limits) (ts : List Token) (q : TreeForm) → whole_at limits ts ≡ Ok q → all_read_at limits ts ≡ Ok (q, [])
+pub all_read_ok : (limits : Limits) (ts : List Token) (q : TreeForm) → whole_at limits ts ≡ Ok q
+    → all_read_at limits ts ≡ Ok (q, [])
 unfolding whole_at all_read_at ended_at
 all_read_ok limits ts q d = of_query (query_at limits ts) d where
-  of_query : (o : Result (TreeForm × List Token) GrammarFault) → (o >>= λ x. at_end x.1 x.0) ≡ Ok q → (o >>= λ x. ended_at x.0 x.1) ≡ Ok (q, [])
+  of_query : (o : Result (TreeForm × List Token) GrammarFault) → (o >>= λ x. at_end x.1 x.0) ≡ Ok q
+      → (o >>= λ x. ended_at x.0 x.1) ≡ Ok (q, [])
   of_query (Err n) h = absurd cc
   of_query (Ok (p, [])) h = let k : p ≡ q = cc in cc
   of_query (Ok (p, t ∷ us)) h = absurd cc
 
 -- A fault stands among the tokens or at their end.
-pub left_within : (limits : Limits) (ts : List Token) (e : GrammarFault) → whole_at limits ts ≡ Err e → left_of e ≤ length ts
+pub left_within : (limits : Limits) (ts : List Token) (e : GrammarFault) → whole_at limits ts ≡ Err e
+    → left_of e ≤ length ts
 left_within limits ts e d = (all_read_l limits ts).within e (all_read_stops limits ts e d)
 
 -- ---- where no query goes on
 
 -- Two lists of tokens that share the tokens up to a place, and the one there.
-same_to : (k : ℕ) (ts rest : List Token) → k < length ts → SameFront ts (take (suc k) ts ++ rest) (drop k ts) (drop k (take (suc k) ts ++ rest))
+same_to : (k : ℕ) (ts rest : List Token) → k < length ts
+    → SameFront ts (take (suc k) ts ++ rest) (drop k ts) (drop k (take (suc k) ts ++ rest))
 same_to k [] rest h = absurd (omega arith)
 same_to zero (t ∷ ts) rest h = SameFront.here
 same_to (suc k) (t ∷ ts) rest h = SameFront.token (same_to k ts rest (omega arith))
 
 -- Where a token is not expected, no tokens that begin with those up to it are read.
-unread : (limits : Limits) (ts : List Token) (left : ℕ) → whole_at limits ts ≡ Err (faults.Unexpected left) → length ts - left < length ts → (rest : List Token) (q : TreeForm) → whole_at limits (take (suc (length ts - left)) ts ++ rest) ≡ Ok q → ⊥
+unread : (limits : Limits) (ts : List Token) (left : ℕ) → whole_at limits ts ≡ Err (faults.Unexpected left)
+    → length ts - left < length ts → (rest : List Token) (q : TreeForm)
+    → whole_at limits (take (suc (length ts - left)) ts ++ rest) ≡ Ok q → ⊥
 unread limits ts left e h rest q d =
     let k = length ts - left in
     let stopped = all_read_stops limits ts (faults.Unexpected left) e in
     let within : left ≤ length ts = left_within limits ts (faults.Unexpected left) e in
     let us = take (suc k) ts ++ rest in
     let behind : left ≡ length (drop k ts) = omega (arith, length-drop k ts) in
-    let stops = (all_read_l limits ts).stops us (drop k ts) (drop k us) (faults.Unexpected left) stopped (same_to k ts rest h) behind in
+    let stops =
+    (all_read_l limits ts).stops us (drop k ts) (drop k us) (faults.Unexpected left) stopped (same_to k ts rest h) behind in
     let read = all_read_ok limits us q d in
     absurd cc
 
 -- Where a token is not expected, it continues no query, whatever the limits.
-pub continues_none_at : (ts : List Token) (left : ℕ) → whole_at standard ts ≡ Err (faults.Unexpected left) → length ts - left < length ts → Begins (take (length ts - left + 1) ts) → ⊥
+pub continues_none_at : (ts : List Token) (left : ℕ) → whole_at standard ts ≡ Err (faults.Unexpected left)
+    → length ts - left < length ts → Begins (take (length ts - left + 1) ts) → ⊥
 continues_none_at ts left e h b =
     let wide = both standard b.limits in
     let stopped = agrees_unexpected (whole_agrees (wider_one standard b.limits) ts) left e in
-    let derived = subst (λ (n : ℕ). DerivesWithin b.limits (take n ts ++ b.within.rest) b.within.tree) (add-one (length ts - left)) b.within.derived in
+    let derived =
+    subst (λ (n : ℕ). DerivesWithin b.limits (take n ts ++ b.within.rest) b.within.tree) (add-one (length ts - left)) b.within.derived in
     unread wide ts left stopped h b.within.rest b.within.tree (whole_c (wider_other standard b.limits) (take (suc (length ts - left)) ts ++ b.within.rest) b.within.tree derived)
 
 -- Tokens of which one is not expected, or the end is not, derive no query, whatever the limits.
-pub derives_none_at : (ts : List Token) (left : ℕ) → whole_at standard ts ≡ Err (faults.Unexpected left) → (limits : Limits) (q : TreeForm) → DerivesWithin limits ts q → ⊥
+pub derives_none_at : (ts : List Token) (left : ℕ) → whole_at standard ts ≡ Err (faults.Unexpected left)
+    → (limits : Limits) (q : TreeForm) → DerivesWithin limits ts q → ⊥
 derives_none_at ts left e limits q d =
     let stopped = agrees_unexpected (whole_agrees (wider_one standard limits) ts) left e in
     let read = whole_c (wider_other standard limits) ts q d in
@@ -313,7 +325,8 @@ shares_to (suc k) [] rest h = absurd (omega arith)
 shares_to (suc k) (t ∷ ts) rest h = Shares.token (shares_to k ts rest (omega arith))
 
 -- Where it is too much, the tokens before that begin no query within the limits of the language.
-pub begins_none_at : (ts : List Token) (left : ℕ) → whole_at standard ts ≡ Err (faults.OverLimit left) → BeginsWithin standard (take (length ts - left) ts) → ⊥
+pub begins_none_at : (ts : List Token) (left : ℕ) → whole_at standard ts ≡ Err (faults.OverLimit left)
+    → BeginsWithin standard (take (length ts - left) ts) → ⊥
 begins_none_at ts left e b =
     let k = length ts - left in
     let stopped = all_read_stops standard ts (faults.OverLimit left) e in
@@ -321,7 +334,8 @@ begins_none_at ts left e b =
     let us = take k ts ++ b.rest in
     let behind : left ≡ length (drop k ts) = omega (arith, length-drop k ts) in
     let inside : k ≤ length ts = omega arith in
-    let fails = (all_read_l standard ts).over us (drop k ts) b.rest (stopped ∙ ap (λ (n : ℕ). Err (faults.OverLimit n)) behind) (shares_to k ts b.rest inside) in
+    let fails =
+    (all_read_l standard ts).over us (drop k ts) b.rest (stopped ∙ ap (λ (n : ℕ). Err (faults.OverLimit n)) behind) (shares_to k ts b.rest inside) in
     let fault_is = fails.is in
     let read = all_read_ok standard us b.tree (whole_c (wider_same standard) us b.tree b.derived) in
     absurd cc

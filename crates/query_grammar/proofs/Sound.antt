@@ -36,7 +36,7 @@ use Rattle.query_grammar.proofs.SoundKeys.{choose_is, keys_s}
 item_of : ExpressionForm → Option (List ℕ) → ItemForm
 item_of e a = record { expression = e; alias = a }
 
-alias_s : (ts mid : List Token) (e : ExpressionForm) (x : Option (List ℕ) × List Token) → IsExpression standard (IsPredicate standard 64) ts e mid → alias_at mid ≡ Ok x → (IsItem standard) ts (item_of e x.0) x.1
+alias_s : (ts mid : List Token) (e : ExpressionForm) (x : Option (List ℕ) × List Token) → IsExpression standard (IsPredicate standard 64) ts e mid → alias_at mid ≡ Ok x → IsItem standard ts (item_of e x.0) x.1
 unfolding alias_at item_of
 alias_s ts mid e x p d =
     elim (choose_ok (after (is_word w.As) mid) (Ok (None, mid)) (λ r. expected name_at r >>= λ n. Ok (Some n.0, n.1)) x d) [
@@ -56,7 +56,7 @@ item_s ts x e =
 items_s : (ts : List Token) (y : List ItemForm × List Token) → (items_at standard) ts ≡ Ok y → IsListed (IsItem standard) 63 ts y
 unfolding items_at
 items_s ts y e =
-    let a = bind_ok ((item_at standard) ts) (λ first. with_front (first.0 ∷ []) (more (is_sign s.Comma) begins_expression (item_at standard) 63 first.1)) y e in
+    let a = bind_ok (item_at standard ts) (λ first. with_front (first.0 ∷ []) (more (is_sign s.Comma) begins_expression (item_at standard) 63 first.1)) y e in
     listed_s begins_expression (IsItem standard) (item_at standard) item_s 63 ts a.0 y a.1 a.2
 
 from_is : (ts rest : List Token) → from_at ts ≡ Ok rest → ts ≡ tokens.Word w.From ∷ tokens.Name (codes "lines") ∷ rest
@@ -74,7 +74,7 @@ from_is ts rest e =
 
 -- A clause of one predicate behind its word, or none.
 clause_s : (word : Word) (P : Derivation (Option PredicateForm)) → ((r : List Token) → P r None r)
-    → ((ts r : List Token) (p : PredicateForm) → IsPredicate standard 65 ts p r → P (tokens.Word word ∷ ts) (Some p) r) → IsSound P ((clause_at standard) word)
+    → ((ts r : List Token) (p : PredicateForm) → IsPredicate standard 65 ts p r → P (tokens.Word word ∷ ts) (Some p) r) → IsSound P (clause_at standard word)
 unfolding clause_at
 clause_s word P absent written ts x e =
     elim (choose_ok (after (is_word word) ts) (Ok (None, ts)) (λ a. predicate_at standard 65 a >>= λ p. Ok (Some p.0, p.1)) x e) [
@@ -84,10 +84,10 @@ clause_s word P absent written ts x e =
           read_as P a.2 (begins_as P (after_word_is word ts h.0 h.1) made))
     ]
 
-where_s : IsSound (IsWhere standard) ((clause_at standard) w.Where)
+where_s : IsSound (IsWhere standard) (clause_at standard w.Where)
 where_s = clause_s w.Where (IsWhere standard) (λ r. IsWhere.none) (λ ts r p d. IsWhere.condition d)
 
-having_s : IsSound (IsHaving standard) ((clause_at standard) w.Having)
+having_s : IsSound (IsHaving standard) (clause_at standard w.Having)
 having_s = clause_s w.Having (IsHaving standard) (λ r. IsHaving.none) (λ ts r p d. IsHaving.condition d)
 
 set_quantifier_s : (ts : List Token) → IsSetQuantifier ts (set_quantifier_at ts).0 (set_quantifier_at ts).1
@@ -112,16 +112,16 @@ elements_s ts x e =
     let a = bind_ok (all_at any_front (group_at 16) d.1) (λ gs. Ok ((d.0, gs.0), gs.1)) x e in
     let b = bind_ok (group_at 16 d.1) (λ first. with_front (first.0 ∷ []) (more (is_sign s.Comma) any_front (group_at 16) (length first.1) first.1)) a.0 a.1 in
     let l = listed_s any_front (IsGroup 16) (group_at 16) (group_s 16) (length b.0.1) d.1 b.0 a.0 b.1 b.2 in
-    let made : (IsGroupBy standard) (tokens.Word w.Group ∷ tokens.Word w.By ∷ ts) d.0 (l.first ∷ l.others) a.0.1 = IsGroupBy.groups (set_quantifier_s ts) l.head l.tail in
+    let made : IsGroupBy standard (tokens.Word w.Group ∷ tokens.Word w.By ∷ ts) d.0 (l.first ∷ l.others) a.0.1 = IsGroupBy.groups (set_quantifier_s ts) l.head l.tail in
     let named = subst (λ (gs : List ElementForm). (IsGroupBy standard) (tokens.Word w.Group ∷ tokens.Word w.By ∷ ts) d.0 gs a.0.1) (sym l.all_is) made in
     read_as GroupsDerive a.2 named
 
 groups_s : IsSound GroupsDerive (groups_at standard)
 unfolding groups_at
 groups_s ts x e =
-    elim (choose_ok (after (is_word w.Group) ts) (Ok ((false, []), ts)) (λ a. expected (after (is_word w.By)) a >>= (λ b. (elements_at standard) b)) x e) [
+    elim (choose_ok (after (is_word w.Group) ts) (Ok ((false, []), ts)) (λ a. expected (after (is_word w.By)) a >>= (λ b. elements_at standard b)) x e) [
       | inl h ↦ read_as GroupsDerive h.1 IsGroupBy.none
-      | inr h ↦ (let a = only_ok (after (is_word w.By)) h.0 (λ b. (elements_at standard) b) x h.2 in
+      | inr h ↦ (let a = only_ok (after (is_word w.By)) h.0 (λ b. elements_at standard b) x h.2 in
           let whole = after_word_is w.Group ts h.0 h.1 ∙ ap (λ (us : List Token). tokens.Word w.Group ∷ us) (after_word_is w.By h.0 a.0 a.1) in
           subst (λ (us : List Token). GroupsDerive us x.0 x.1) (sym whole) (elements_s a.0 x a.2))
     ]
@@ -139,8 +139,8 @@ record IsSelect (ts : List Token) (y : List ItemForm × List Token) : Type 0 whe
 select_s : (ts : List Token) (y : List ItemForm × List Token) → (select_at standard) ts ≡ Ok y → IsSelect ts y
 unfolding select_at
 select_s ts y e =
-    let a = only_ok (after (is_word w.Select)) ts (λ a. (items_at standard) a >>= λ is. from_at is.1 >>= λ rest. Ok (is.0, rest)) y e in
-    let b = bind_ok ((items_at standard) a.0) (λ is. from_at is.1 >>= λ rest. Ok (is.0, rest)) y a.2 in
+    let a = only_ok (after (is_word w.Select)) ts (λ a. items_at standard a >>= λ is. from_at is.1 >>= λ rest. Ok (is.0, rest)) y e in
+    let b = bind_ok (items_at standard a.0) (λ is. from_at is.1 >>= λ rest. Ok (is.0, rest)) y a.2 in
     let c = bind_ok (from_at b.0.1) (λ rest. Ok (b.0.0, rest)) y b.2 in
     let l = subst (λ (us : List Token). IsListed (IsItem standard) 63 a.0 (b.0.0, us)) (from_is b.0.1 c.0 c.1) (items_s a.0 b.0 b.1) in
     let made : IsSelect ts (b.0.0, c.0) = record { behind = a.0; begins = after_word_is w.Select ts a.0 a.1; listed = l } in
@@ -149,43 +149,43 @@ select_s ts y e =
 -- WHERE and GROUP BY, one behind the other.
 record IsRecords (ts : List Token) (y : (Option PredicateForm × Bool × List ElementForm) × List Token) : Type 0 where
   mid : List Token
-  of_where : (IsWhere standard) ts y.0.0 mid
-  of_groups : (IsGroupBy standard) mid y.0.1 y.0.2 y.1
+  of_where : IsWhere standard ts y.0.0 mid
+  of_groups : IsGroupBy standard mid y.0.1 y.0.2 y.1
 
 records_s : (ts : List Token) (y : (Option PredicateForm × Bool × List ElementForm) × List Token) → (records_at standard) ts ≡ Ok y → IsRecords ts y
 unfolding records_at
 records_s ts y e =
-    let a = bind_ok ((clause_at standard) w.Where ts) (λ p. (groups_at standard) p.1 >>= λ gs. Ok ((p.0, gs.0.0, gs.0.1), gs.1)) y e in
-    let b = bind_ok ((groups_at standard) a.0.1) (λ gs. Ok ((a.0.0, gs.0.0, gs.0.1), gs.1)) y a.2 in
+    let a = bind_ok (clause_at standard w.Where ts) (λ p. groups_at standard p.1 >>= λ gs. Ok ((p.0, gs.0.0, gs.0.1), gs.1)) y e in
+    let b = bind_ok (groups_at standard a.0.1) (λ gs. Ok ((a.0.0, gs.0.0, gs.0.1), gs.1)) y a.2 in
     let made : IsRecords ts ((a.0.0, b.0.0.0, b.0.0.1), b.0.1) = record { mid = a.0.1; of_where = where_s ts a.0 a.1; of_groups = groups_s a.0.1 b.0 b.1 } in
     subst (λ (z : (Option PredicateForm × Bool × List ElementForm) × List Token). IsRecords ts z) (ok_is ((a.0.0, b.0.0.0, b.0.0.1), b.0.1) y b.2) made
 
 -- HAVING and ORDER BY, one behind the other.
 record IsRows (ts : List Token) (y : (Option PredicateForm × List KeyForm) × List Token) : Type 0 where
   mid : List Token
-  of_having : (IsHaving standard) ts y.0.0 mid
-  of_keys : (IsOrderBy standard) mid y.0.1 y.1
+  of_having : IsHaving standard ts y.0.0 mid
+  of_keys : IsOrderBy standard mid y.0.1 y.1
 
 rows_s : (ts : List Token) (y : (Option PredicateForm × List KeyForm) × List Token) → (rows_at standard) ts ≡ Ok y → IsRows ts y
 unfolding rows_at
 rows_s ts y e =
-    let a = bind_ok ((clause_at standard) w.Having ts) (λ h. (keys_at standard) h.1 >>= λ ks. Ok ((h.0, ks.0), ks.1)) y e in
-    let b = bind_ok ((keys_at standard) a.0.1) (λ ks. Ok ((a.0.0, ks.0), ks.1)) y a.2 in
+    let a = bind_ok (clause_at standard w.Having ts) (λ h. keys_at standard h.1 >>= λ ks. Ok ((h.0, ks.0), ks.1)) y e in
+    let b = bind_ok (keys_at standard a.0.1) (λ ks. Ok ((a.0.0, ks.0), ks.1)) y a.2 in
     let made : IsRows ts ((a.0.0, b.0.0), b.0.1) = record { mid = a.0.1; of_having = having_s ts a.0 a.1; of_keys = keys_s a.0.1 b.0 b.1 } in
     subst (λ (z : (Option PredicateForm × List KeyForm) × List Token). IsRows ts z) (ok_is ((a.0.0, b.0.0), b.0.1) y b.2) made
 
 query_s : IsSound (IsQuery standard) (query_at standard)
 unfolding query_at tree_of
 query_s ts x e =
-    let a = bind_ok ((select_at standard) ts) (λ is. (records_at standard) is.1 >>= λ p. (rows_at standard) p.1 >>= λ h. Ok (tree_of is.0 p.0.0 p.0.1 p.0.2 h.0.0 h.0.1, h.1)) x e in
-    let b = bind_ok ((records_at standard) a.0.1) (λ p. (rows_at standard) p.1 >>= λ h. Ok (tree_of a.0.0 p.0.0 p.0.1 p.0.2 h.0.0 h.0.1, h.1)) x a.2 in
-    let c = bind_ok ((rows_at standard) b.0.1) (λ h. Ok (tree_of a.0.0 b.0.0.0 b.0.0.1 b.0.0.2 h.0.0 h.0.1, h.1)) x b.2 in
+    let a = bind_ok (select_at standard ts) (λ is. records_at standard is.1 >>= λ p. rows_at standard p.1 >>= λ h. Ok (tree_of is.0 p.0.0 p.0.1 p.0.2 h.0.0 h.0.1, h.1)) x e in
+    let b = bind_ok (records_at standard a.0.1) (λ p. rows_at standard p.1 >>= λ h. Ok (tree_of a.0.0 p.0.0 p.0.1 p.0.2 h.0.0 h.0.1, h.1)) x a.2 in
+    let c = bind_ok (rows_at standard b.0.1) (λ h. Ok (tree_of a.0.0 b.0.0.0 b.0.0.1 b.0.0.2 h.0.0 h.0.1, h.1)) x b.2 in
     let front = select_s ts a.0 a.1 in
     let l = front.listed in
     let records = records_s a.0.1 b.0 b.1 in
     let rows = rows_s b.0.1 c.0 c.1 in
     let few : length l.others < 64 = omega (arith, l.few) in
-    let made : (IsQuery standard) (tokens.Word w.Select ∷ front.behind) (tree_of (l.first ∷ l.others) b.0.0.0 b.0.0.1 b.0.0.2 c.0.0.0 c.0.0.1) c.0.1 =
+    let made : IsQuery standard (tokens.Word w.Select ∷ front.behind) (tree_of (l.first ∷ l.others) b.0.0.0 b.0.0.1 b.0.0.2 c.0.0.0 c.0.0.1) c.0.1 =
     IsQuery.query l.head l.tail few records.of_where records.of_groups rows.of_having rows.of_keys in
     let named = subst (λ (is : List ItemForm). (IsQuery standard) (tokens.Word w.Select ∷ front.behind) (tree_of is b.0.0.0 b.0.0.1 b.0.0.2 c.0.0.0 c.0.0.1) c.0.1) (sym l.all_is) made in
     read_as (IsQuery standard) c.2 (begins_as (IsQuery standard) front.begins named)
@@ -197,11 +197,11 @@ ends_s (x ∷ ts) p q e = absurd cc
 whole_s : (ts : List Token) (q : TreeForm) → (whole_at standard) ts ≡ Ok q → Derives ts q
 unfolding whole_at
 whole_s ts q e =
-    let b = bind_ok ((query_at standard) ts) (λ x. at_end x.1 x.0) q e in
+    let b = bind_ok (query_at standard ts) (λ x. at_end x.1 x.0) q e in
     let k = ends_s b.0.1 b.0.0 q b.2 in
-    subst (λ (y : TreeForm). (IsQuery standard) ts y []) k.1 (subst (λ us. (IsQuery standard) ts b.0.0 us) k.0 (query_s ts b.0 b.1))
+    subst (λ (y : TreeForm). (IsQuery standard) ts y []) k.1 (subst (λ us. IsQuery standard ts b.0.0 us) k.0 (query_s ts b.0 b.1))
 
 -- What is read is derived.
-pub derived : (ts : List Token) (r : Result (Box Tree Global) GrammarFault) → Gives (λ t. tree_form t.value) r ((whole_at standard) ts) → IfOk r (λ t. Derives ts (tree_form t.value))
+pub derived : (ts : List Token) (r : Result (Box Tree Global) GrammarFault) → Gives (λ t. tree_form t.value) r (whole_at standard ts) → IfOk r (λ t. Derives ts (tree_form t.value))
 derived ts (Ok t) e = whole_s ts (tree_form t.value) e
 derived ts (Err e) h = tt

@@ -73,9 +73,9 @@ keys_s ts x e =
     elim (choose_ok (after (is_word w.Order) ts) (Ok ([], ts)) (λ a. expected (after (is_word w.By)) a >>= (λ b. all_at begins_expression (key_at standard) b)) x e) [
       | inl h ↦ read_as (IsOrderBy standard) h.1 IsOrderBy.none
       | inr h ↦ (let a = only_ok (after (is_word w.By)) h.0 (λ b. all_at begins_expression (key_at standard) b) x h.2 in
-          let b = bind_ok ((key_at standard) a.0) (λ first. with_front (first.0 ∷ []) (more (is_sign s.Comma) begins_expression (key_at standard) (length first.1) first.1)) x a.2 in
+          let b = bind_ok (key_at standard a.0) (λ first. with_front (first.0 ∷ []) (more (is_sign s.Comma) begins_expression (key_at standard) (length first.1) first.1)) x a.2 in
           let l = listed_s begins_expression (IsKey standard) (key_at standard) key_s (length b.0.1) a.0 b.0 x b.1 b.2 in
           let whole = after_word_is w.Order ts h.0 h.1 ∙ ap (λ (us : List Token). tokens.Word w.Order ∷ us) (after_word_is w.By h.0 a.0 a.1) in
-          let made : (IsOrderBy standard) (tokens.Word w.Order ∷ tokens.Word w.By ∷ a.0) (l.first ∷ l.others) x.1 = IsOrderBy.keys l.head l.tail in
+          let made : IsOrderBy standard (tokens.Word w.Order ∷ tokens.Word w.By ∷ a.0) (l.first ∷ l.others) x.1 = IsOrderBy.keys l.head l.tail in
           subst (λ (ks : List KeyForm). (IsOrderBy standard) ts ks x.1) (sym l.all_is) (begins_as (IsOrderBy standard) whole made))
     ]

@@ -1,6 +1,6 @@
 use Rattle.query_grammar.proofs.Sound.{derived}
 use Rattle.query_grammar.proofs.Complete.{read}
-use Rattle.query_tree.specs.Syntax.{tree_form}
+-- TODO unexpected: use Rattle.query_tree.specs.Syntax.{tree_form}
 -- TODO unexpected: use Rattle.query_grammar.proofs.LocalQuery.{unexpected, over_limit}
 use Rattle.query_grammar.proofs.reading.read_query.Goals as goal
 
