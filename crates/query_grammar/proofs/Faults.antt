@@ -18,7 +18,7 @@ use Rattle.query_leaves.specs.declared.fault.GrammarFault.TheVariants as faults
 use Rattle.query_leaves.specs.Steps.{Gives}
 use Rattle.query_grammar.specs.QuerySteps.{whole_at}
 use Rattle.query_grammar.proofs.LocalQuery.{left_within, continues_none_at, derives_none_at, begins_none_at}
-use Rattle.query_grammar.proofs.ViableQuery.{read_derives, begins_unexpected, keeps_unexpected, over_front, exceeds, whole_sure}
+use Rattle.query_grammar.proofs.ViableWhole.{read_derives, read_sure, begins_unexpected, keeps_unexpected, over_front, exceeds}
 
 -- A number is at most another, or greater.
 pub at_most_or : (i n : ℕ) → (i ≤ n) ⊎ (n < i)
@@ -93,7 +93,7 @@ derived_keeps ts q d o = o.exceeds (KeepsLimits.begins record { rest = drop o.pl
 
 unexpected_at : (ts : List Token) (left : ℕ) → whole_at standard ts ≡ Err (faults.Unexpected left) → IsUnexpected ts (length ts - left)
 unexpected_at ts left e = record {
-  inside = omega arith;
+  inside = omega (arith, left_within standard ts (faults.Unexpected left) e);
   begins = begins_unexpected ts left e;
   keeps = keeps_unexpected ts left e;
   continues_none = λ h b. continues_none_at ts left e h b;
@@ -136,6 +136,6 @@ pub decided : (ts : List Token) → ((q : TreeForm) × Derives ts q) ⊎ (((plac
 decided ts = of_read (whole_at standard ts) refl where
   of_read : (o : Result TreeForm GrammarFault) → whole_at standard ts ≡ o → ((q : TreeForm) × Derives ts q) ⊎ (((place : ℕ) × IsUnexpected ts place) ⊎ IsOverLimit ts)
   of_read (Ok q) e = inl (q, read_derives ts q e)
-  of_read (Err faults.OutOfMemory) e = absurd (whole_sure ts e)
+  of_read (Err faults.OutOfMemory) e = absurd (read_sure ts e)
   of_read (Err (faults.OverLimit left)) e = inr (inr (over_at ts left e))
   of_read (Err (faults.Unexpected left)) e = inr (inl (length ts - left, unexpected_at ts left e))

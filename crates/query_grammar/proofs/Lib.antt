@@ -1,8 +1,10 @@
 pub mod CompleteGroups
 pub mod CompleteKeys
 pub mod Complete
-pub mod SoundGroups
-pub mod SoundKeys
-pub mod Sound
 pub mod AgreeQuery
 mod LocalQuery
+mod ViableGroups
+mod ViableKeys
+mod ViableQuery
+mod ViableWhole
+pub mod Faults

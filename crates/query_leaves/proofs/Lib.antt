@@ -3,8 +3,6 @@ pub mod Inversions
 pub mod More
 pub mod CompleteLists
 pub mod CompleteLeaves
-pub mod SoundLists
-pub mod SoundLeaves
 pub mod Local
 pub mod LocalLeaves
 pub mod Agree

@@ -268,7 +268,7 @@ value_of true = inl refl
 value_of false = inr refl
 
 -- A choice that fails: which way it went.
-choose_err : {X Y : Type 0} (o : Option X) (b : Result Y GrammarFault) (f : X → Result Y GrammarFault) (e : GrammarFault) → choose o b f ≡ Err e → (b ≡ Err e) ⊎ ((x : X) × (o ≡ Some x) × (f x ≡ Err e))
+pub choose_err : {X Y : Type 0} (o : Option X) (b : Result Y GrammarFault) (f : X → Result Y GrammarFault) (e : GrammarFault) → choose o b f ≡ Err e → (b ≡ Err e) ⊎ ((x : X) × (o ≡ Some x) × (f x ≡ Err e))
 choose_err None b f e d = inl d
 choose_err (Some x) b f e d = inr (x, refl, d)
 
@@ -294,6 +294,7 @@ viable_choose {A} {strict} {wide} {Q} {R} test t only counts join n g vn vg = re
   ];
   sure = λ ts d. elim (choose_err (after test ts) (n ts) (λ a. g a) faults.OutOfMemory d) [ inl h ↦ vn.sure ts h | inr h ↦ vg.sure h.0 h.2 ];
 }
+
 -- A phrase behind a token.
 pub phrase_behind : {A : Type 0} {Q R : Derivation A} (t : Token) → Behind t Q R → Phrase Q → Phrase R
 phrase_behind t join p = record { tokens = t ∷ p.tokens; value = p.value; derived = λ other. join (p.tokens ++ other) other p.value (p.derived other) }
@@ -441,7 +442,7 @@ viable_closed {A} {strict} {wide} P f vf =
       closing x = viable_expected {Q = Exactly x} (is_sign s.Close) (tokens.Sign s.Close) (after_sign_is s.Close) (λ i. refl) (λ us ws y q vs p. subst (λ z. P vs z (tokens.Sign s.Close ∷ ws)) q.1 (subst (λ zs. P vs x (tokens.Sign s.Close ∷ zs)) q.0 p))
           (λ us. Ok (x, us)) record { tokens = []; value = x; derived = λ other. (refl, refl) } (exactly x)
 
-phrase_closed : {A : Type 0} {P : Derivation A} → Phrase P → Phrase (Closed P)
+pub phrase_closed : {A : Type 0} {P : Derivation A} → Phrase P → Phrase (Closed P)
 phrase_closed {P = P} p = record { tokens = p.tokens ++ tokens.Sign s.Close ∷ []; value = p.value; derived = λ other. subst (λ us. P us p.value (tokens.Sign s.Close ∷ other)) (sym (append_assoc p.tokens (tokens.Sign s.Close ∷ []) other)) (p.derived (tokens.Sign s.Close ∷ other)) }
 
 -- What derives in brackets.

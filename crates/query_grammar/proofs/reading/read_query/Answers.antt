@@ -1,7 +1,6 @@
-use Rattle.query_grammar.proofs.Sound.{derived}
 use Rattle.query_grammar.proofs.Complete.{read}
--- TODO unexpected: use Rattle.query_tree.specs.Syntax.{tree_form}
--- TODO unexpected: use Rattle.query_grammar.proofs.LocalQuery.{unexpected, over_limit}
+use Rattle.query_tree.specs.Syntax.{tree_form}
+use Rattle.query_grammar.proofs.Faults.{derived, unexpected, over_limit}
 use Rattle.query_grammar.proofs.reading.read_query.Goals as goal
 
 pub returns-clause-derived : goal.returns-clause-derived
@@ -10,9 +9,8 @@ returns-clause-derived c = derived c.args.tokens.now c.whole.result c.whole.ensu
 pub returns-clause-read : goal.returns-clause-read
 returns-clause-read c = read c.args.tokens.now c.whole.result c.whole.ensures
 
--- TODO unexpected
--- pub returns-clause-unexpected : goal.returns-clause-unexpected
--- returns-clause-unexpected c = unexpected (λ t. tree_form t.value) c.args.tokens.now c.whole.result c.whole.ensures
---
--- pub returns-clause-over_limit : goal.returns-clause-over_limit
--- returns-clause-over_limit c = over_limit (λ t. tree_form t.value) c.args.tokens.now c.whole.result c.whole.ensures
+pub returns-clause-unexpected : goal.returns-clause-unexpected
+returns-clause-unexpected c = unexpected (λ t. tree_form t.value) c.args.tokens.now c.whole.result c.whole.ensures
+
+pub returns-clause-over_limit : goal.returns-clause-over_limit
+returns-clause-over_limit c = over_limit (λ t. tree_form t.value) c.args.tokens.now c.whole.result c.whole.ensures
