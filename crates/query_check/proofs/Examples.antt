@@ -10,7 +10,7 @@ use Rattle.query_tree.specs.Syntax.{ExpressionForm, ItemForm, PredicateForm, Tre
 use Rattle.query_fault.specs.declared.QueryFault.TheVariants as faults
 use Rattle.query_check.specs.declared.scope.Clause.TheVariants as clause
 use Rattle.query_resolution.specs.declared.function.ColumnFunction.TheVariants as at
-use Rattle.query_check.specs.Faults.{clauses_fault, query_fault, records_fault, rows_fault, select_fault}
+use Rattle.query_check.specs.Faults.{query_fault, tests_of}
 use Rattle.query_resolution.specs.Functions.{filters_of, indexed_functions}
 use Rattle.query_check.specs.Standing.{Stands}
 use Rattle.query_check.specs.Typing.{takes}
@@ -148,7 +148,7 @@ function_in_filter = (
 
 -- SELECT COUNT(*) FILTER (WHERE q = 1) .. GROUP BY c is typed: within FILTER q need not be grouped
 filter_of_any_column : query_fault fields (selected (item (counted (is_one (codes "q"))) ∷ [])) ≡ None
-unfolding clauses_fault records_fault select_fault rows_fault
+unfolding tests_of
 filter_of_any_column = refl
 
 -- SELECT COUNT(*), COUNT(*) FILTER (WHERE b), SUM(q) FILTER (WHERE b), COUNT(*) FILTER (WHERE q = 1), COUNT(*) FILTER (WHERE b)

@@ -7,3 +7,4 @@ pub mod TypedLemmas
 pub mod WholeLemmas
 pub mod StandingLemmas
 pub mod StandingWhole
+pub mod FirstLemmas

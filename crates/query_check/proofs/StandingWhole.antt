@@ -25,7 +25,7 @@ use Rattle.query_resolution.specs.Columns.{column_kind, place_of}
 use Rattle.query_resolution.specs.Sets.{expanded, grouping_names, grouping_places}
 use Rattle.query_resolution.specs.Functions.{functions_of}
 use Rattle.query_check.specs.Typing.{IsColumn, IsTypedAggregate, IsTypedName, IsTypedOperand, may_stand, aggregate_kind, key_expression, literal_kind, operand_kind, IsOfKinds, takes}
-use Rattle.query_check.specs.Faults.{Answers, first_fault, column_fault, name_fault, expression_fault, operand_fault, same_kind, agreement_fault, between_agreement, member_agreement, predicate_fault, parts_fault, clause_fault, header_fault, limit_fault, names_fault, records_fault, select_fault, rows_fault, clauses_fault, query_fault}
+use Rattle.query_check.specs.Faults.{Answers, first_fault, column_fault, name_fault, expression_fault, operand_fault, same_kind, agreement_fault, between_agreement, member_agreement, predicate_fault, parts_fault, clause_fault, header_fault, headers_fault, limit_fault, query_fault, tests_of}
 use Rattle.query_check.specs.Standing.{AreOfTwoKinds, Disagrees, IsAtomIn, Stands, StandsIn, StandsTwice, atoms, operands, parts_atoms}
 use Rattle.query_check.proofs.TypedLemmas.{name_from_none, operand_from_none, same_itself}
 use Rattle.query_check.proofs.StandingLemmas.{FiltersStand, column_has_kind, column_stands, either, expression_stands, fails, first_at, kind_fails, mapped, name_stands}
@@ -285,57 +285,39 @@ over most n f h =
 
 -- ---- the query
 
--- A fault of WHERE or GROUP BY.
-records_stand : (fields : List Field) (t : TreeForm) (f : QueryFault) → records_fault fields (grouping_places fields t) t.where_condition t.groups ≡ Some f → Stands fields t f
-unfolding records_fault
-records_stand fields t f h =
+-- The first fault of a query stands in it.
+pub first_stands : (fields : List Field) (t : TreeForm) (f : QueryFault) → query_fault fields t ≡ Some f → Stands fields t f
+unfolding tests_of
+first_stands fields t f h =
     let grouped = grouping_places fields t in
     either (clause_fault fields grouped clause.Where t.where_condition) _ f (Stands fields t f)
     (λ k. clause_stands fields t clause.Where t.where_condition f (λ a at. inl at) k)
-    (λ _ later. either (names_fault fields (grouping_names t)) _ f (Stands fields t f)
+    (λ _ a. either (first_fault (column_fault fields) (grouping_names t)) _ f (Stands fields t f)
     (λ k. let found = first_at (column_fault fields) (grouping_names t) f k in column_stands fields t found.0 f (inl found.1) found.2)
-    (λ _ last. let k = over 256 (length (expanded t.groups)) f last in subst (Stands fields t) k.1 (inl k.0))
-    later)
-    h
-
--- A fault of SELECT.
-select_stands : (fields : List Field) (t : TreeForm) (f : QueryFault) → select_fault fields (grouping_places fields t) t.items ≡ Some f → Stands fields t f
-unfolding select_fault
-select_stands fields t f h =
-    let grouped = grouping_places fields t in
-    either (first_fault (λ i. expression_fault fields grouped clause.Select i.expression) t.items) _ f (Stands fields t f)
+    (λ _ b. either (limit_fault 256 (length (expanded t.groups))) _ f (Stands fields t f)
+    (λ k. let n = over 256 (length (expanded t.groups)) f k in subst (Stands fields t) n.1 (inl n.0))
+    (λ _ c. either (first_fault (λ (i : ItemForm). expression_fault fields grouped clause.Select i.expression) t.items) _ f (Stands fields t f)
     (λ k.
     let found = first_at (λ (i : ItemForm). expression_fault fields grouped clause.Select i.expression) t.items f k in
     expression_stands fields t clause.Select found.0.expression f (λ _. filter_stands fields t f) (mapped (λ (i : ItemForm). i.expression) t.items found.0 found.1) found.2)
-    (λ _ later. let k = header_stands [] (map header_text t.items) f later in subst (Stands fields t) k.2 k.1)
-    h
-
--- A fault of SELECT, HAVING or ORDER BY.
-rows_stand : (fields : List Field) (t : TreeForm) (f : QueryFault) → rows_fault fields (grouping_places fields t) t.items t.having_condition t.keys ≡ Some f → Stands fields t f
-unfolding rows_fault
-rows_stand fields t f h =
-    let grouped = grouping_places fields t in
-    either (select_fault fields grouped t.items) _ f (Stands fields t f)
-    (λ k. select_stands fields t f k)
-    (λ _ later. either (clause_fault fields grouped clause.Having t.having_condition) _ f (Stands fields t f)
+    (λ _ d. either (headers_fault (map header_text t.items)) _ f (Stands fields t f)
+    (λ k. let n = header_stands [] (map header_text t.items) f k in subst (Stands fields t) n.2 n.1)
+    (λ _ e. either (clause_fault fields grouped clause.Having t.having_condition) _ f (Stands fields t f)
     (λ k. clause_stands fields t clause.Having t.having_condition f (λ a at. at) k)
-    (λ _ last.
-    let found = first_at (λ (k : KeyForm). expression_fault fields grouped clause.OrderBy (key_expression t.items k.expression)) t.keys f last in
+    (λ _ g. either (first_fault (λ (k : KeyForm). expression_fault fields grouped clause.OrderBy (key_expression t.items k.expression)) t.keys) _ f (Stands fields t f)
+    (λ k.
+    let found = first_at (λ (k : KeyForm). expression_fault fields grouped clause.OrderBy (key_expression t.items k.expression)) t.keys f k in
     expression_stands fields t clause.OrderBy (key_expression t.items found.0.expression) f (λ _. filter_stands fields t f) (mapped (λ (k : KeyForm). key_expression t.items k.expression) t.keys found.0 found.1) found.2)
-    later)
-    h
-
--- The first fault of a query stands in it.
-pub first_stands : (fields : List Field) (t : TreeForm) (f : QueryFault) → query_fault fields t ≡ Some f → Stands fields t f
-unfolding clauses_fault
-first_stands fields t f h =
-    let grouped = grouping_places fields t in
-    either (records_fault fields grouped t.where_condition t.groups) _ f (Stands fields t f)
-    (λ k. records_stand fields t f k)
-    (λ _ later. either (rows_fault fields grouped t.items t.having_condition t.keys) _ f (Stands fields t f)
-    (λ k. rows_stand fields t f k)
-    (λ _ last. let k = over 64 (length (functions_of fields t)) f last in subst (Stands fields t) k.1 (inr k.0))
-    later)
+    (λ _ i. either (limit_fault 64 (length (functions_of fields t))) None f (Stands fields t f)
+    (λ k. let n = over 64 (length (functions_of fields t)) f k in subst (Stands fields t) n.1 (inr n.0))
+    (λ _ j. absurd cc)
+    i)
+    g)
+    e)
+    d)
+    c)
+    b)
+    a)
     h
 
 -- A query that is refused, other than for want of memory, has the fault.

@@ -93,7 +93,7 @@ none_from_name fields grouped clause.OrderBy n h = none_from_grouped grouped n (
 -- ---- functions
 
 -- Types that pass the test are equal.
-same_from_test : (k l : Kind) → same_kind k l ≡ true → k ≡ l
+pub same_from_test : (k l : Kind) → same_kind k l ≡ true → k ≡ l
 same_from_test kind.Int kind.Int h = refl
 same_from_test kind.Int kind.Text h = absurd cc
 same_from_test kind.Int kind.Bool h = absurd cc

@@ -20,7 +20,7 @@ use Rattle.query_resolution.specs.Columns.{place_of}
 use Rattle.query_resolution.specs.Sets.{expanded, grouping_names, grouping_places}
 use Rattle.query_resolution.specs.Functions.{functions_of}
 use Rattle.query_check.specs.Typing.{IsColumn, IsTyped, IsTypedExpression, key_expression}
-use Rattle.query_check.specs.Faults.{Answers, clause_fault, column_fault, expression_fault, first_fault, header_fault, limit_fault, query_fault, names_fault, clauses_fault, records_fault, rows_fault, select_fault}
+use Rattle.query_check.specs.Faults.{Answers, clause_fault, column_fault, expression_fault, first_fault, header_fault, limit_fault, headers_fault, query_fault, tests_of}
 use Rattle.query_check.proofs.TypedLemmas.{all_from_none, both_none, clause_from_none, expression_from_none, holds, none_from_all, none_from_clause, none_from_expression, none_of_both, passes}
 
 -- ---- headers
@@ -99,43 +99,41 @@ none_within most n h = let t : nat_lt most n ≡ false = grind (arith, nat_tests
 
 -- A query without a fault is typed.
 pub typed_from_none : (fields : List Field) (t : TreeForm) → query_fault fields t ≡ None → IsTyped fields t
-unfolding clauses_fault records_fault select_fault rows_fault
+unfolding tests_of
 typed_from_none fields t h =
     let grouped = grouping_places fields t in
-    let whole = none_of_both (records_fault fields grouped t.where_condition t.groups) _ h in
-    let late = none_of_both (rows_fault fields grouped t.items t.having_condition t.keys) _ whole.1 in
-    let i = none_of_both (clause_fault fields grouped clause.Where t.where_condition) _ whole.0 in
-    let j = none_of_both (names_fault fields (grouping_names t)) _ i.1 in
-    let k = none_of_both (select_fault fields grouped t.items) _ late.0 in
-    let l = none_of_both (first_fault (λ i. expression_fault fields grouped clause.Select i.expression) t.items) _ k.0 in
-    let m = none_of_both (clause_fault fields grouped clause.Having t.having_condition) _ k.1 in
+    let a = none_of_both (clause_fault fields grouped clause.Where t.where_condition) _ h in
+    let b = none_of_both (first_fault (column_fault fields) (grouping_names t)) _ a.1 in
+    let c = none_of_both (limit_fault 256 (length (expanded t.groups))) _ b.1 in
+    let d = none_of_both (first_fault (λ (i : ItemForm). expression_fault fields grouped clause.Select i.expression) t.items) _ c.1 in
+    let e = none_of_both (headers_fault (map header_text t.items)) _ d.1 in
+    let g = none_of_both (clause_fault fields grouped clause.Having t.having_condition) _ e.1 in
+    let i = none_of_both (first_fault (λ (k : KeyForm). expression_fault fields grouped clause.OrderBy (key_expression t.items k.expression)) t.keys) _ g.1 in
+    let j = none_of_both (limit_fault 64 (length (functions_of fields t))) None i.1 in
     record {
-      where_condition = clause_from_none fields grouped clause.Where t.where_condition i.0;
-      groups = all_from_none (column_fault fields) (IsColumn fields) (λ n k. holds (is_some (place_of fields n)) _ k) (grouping_names t) j.0;
-      few_sets = within 256 (length (expanded t.groups)) j.1;
-      items = all_from_none (λ (i : ItemForm). expression_fault fields grouped clause.Select i.expression) (λ i. IsTypedExpression fields grouped clause.Select i.expression) (λ i k. expression_from_none fields grouped clause.Select i.expression k) t.items l.0;
-      headers_differ = different_from_none [] (map header_text t.items) (λ i j d l m. absurd (omega (arith, m))) l.1;
-      having_condition = clause_from_none fields grouped clause.Having t.having_condition m.0;
-      keys = all_from_none (λ (k : KeyForm). expression_fault fields grouped clause.OrderBy (key_expression t.items k.expression)) (λ k. IsTypedExpression fields grouped clause.OrderBy (key_expression t.items k.expression)) (λ k e. expression_from_none fields grouped clause.OrderBy (key_expression t.items k.expression) e) t.keys m.1;
-      few_functions = within 64 (length (functions_of fields t)) late.1;
+      where_condition = clause_from_none fields grouped clause.Where t.where_condition a.0;
+      groups = all_from_none (column_fault fields) (IsColumn fields) (λ n k. holds (is_some (place_of fields n)) _ k) (grouping_names t) b.0;
+      few_sets = within 256 (length (expanded t.groups)) c.0;
+      items = all_from_none (λ (i : ItemForm). expression_fault fields grouped clause.Select i.expression) (λ i. IsTypedExpression fields grouped clause.Select i.expression) (λ i k. expression_from_none fields grouped clause.Select i.expression k) t.items d.0;
+      headers_differ = different_from_none [] (map header_text t.items) (λ i j d l m. absurd (omega (arith, m))) e.0;
+      having_condition = clause_from_none fields grouped clause.Having t.having_condition g.0;
+      keys = all_from_none (λ (k : KeyForm). expression_fault fields grouped clause.OrderBy (key_expression t.items k.expression)) (λ k. IsTypedExpression fields grouped clause.OrderBy (key_expression t.items k.expression)) (λ k e. expression_from_none fields grouped clause.OrderBy (key_expression t.items k.expression) e) t.keys i.0;
+      few_functions = within 64 (length (functions_of fields t)) j.0;
     }
 
 -- A typed query has no fault.
 pub none_from_typed : (fields : List Field) (t : TreeForm) → IsTyped fields t → query_fault fields t ≡ None
-unfolding clauses_fault records_fault select_fault rows_fault
+unfolding tests_of
 none_from_typed fields t h =
     let grouped = grouping_places fields t in
-    both_none _ _
-    (both_none _ _ (none_from_clause fields grouped clause.Where t.where_condition h.where_condition)
+    both_none _ _ (none_from_clause fields grouped clause.Where t.where_condition h.where_condition)
     (both_none _ _ (none_from_all (column_fault fields) (IsColumn fields) (λ n k. passes (is_some (place_of fields n)) _ k) (grouping_names t) h.groups)
-    (none_within 256 (length (expanded t.groups)) h.few_sets)))
-    (both_none _ _
-    (both_none _ _
+    (both_none _ _ (none_within 256 (length (expanded t.groups)) h.few_sets)
     (both_none _ _ (none_from_all (λ (i : ItemForm). expression_fault fields grouped clause.Select i.expression) (λ i. IsTypedExpression fields grouped clause.Select i.expression) (λ i k. none_from_expression fields grouped clause.Select i.expression k) t.items h.items)
-    (none_from_different [] (map header_text t.items) h.headers_differ))
+    (both_none _ _ (none_from_different [] (map header_text t.items) h.headers_differ)
     (both_none _ _ (none_from_clause fields grouped clause.Having t.having_condition h.having_condition)
-    (none_from_all (λ (k : KeyForm). expression_fault fields grouped clause.OrderBy (key_expression t.items k.expression)) (λ k. IsTypedExpression fields grouped clause.OrderBy (key_expression t.items k.expression)) (λ k e. none_from_expression fields grouped clause.OrderBy (key_expression t.items k.expression) e) t.keys h.keys)))
-    (none_within 64 (length (functions_of fields t)) h.few_functions))
+    (both_none _ _ (none_from_all (λ (k : KeyForm). expression_fault fields grouped clause.OrderBy (key_expression t.items k.expression)) (λ k. IsTypedExpression fields grouped clause.OrderBy (key_expression t.items k.expression)) (λ k e. none_from_expression fields grouped clause.OrderBy (key_expression t.items k.expression) e) t.keys h.keys)
+    (both_none _ _ (none_within 64 (length (functions_of fields t)) h.few_functions) refl)))))))
 
 -- A query that is let through is typed.
 pub typed_ok : {X : Type 0} (fields : List Field) (t : TreeForm) (r : Result X QueryFault) → Answers r (query_fault fields t) → OnOk r (IsTyped fields t)

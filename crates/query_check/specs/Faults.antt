@@ -1,6 +1,6 @@
 -- The first fault of a query that is not typed, in the order in which faults are tested.
-use Rattle.std.specs.Prelude.{◌≡◌, ◌≢◌, Result, MatchResult, ℕ, ◌==◌, nat_lt, Bool, true, false, not, Option, Some, None, List, [], ◌∷◌, map, length, take, is_some, if◌then◌else◌}
-use Rattle.std.specs.List.{enumerate_from, flat_map, list_any}
+use Rattle.std.specs.Prelude.{◌≡◌, ◌≢◌, Result, MatchResult, ℕ, ◌==◌, nat_lt, Bool, true, false, not, Option, Some, None, List, [], ◌∷◌, ◌++◌, map, length, take, is_some, if◌then◌else◌, All}
+use Rattle.std.specs.List.{enumerate_from, list_any}
 use Rattle.std.specs.Option.{option_map_or, option_or}
 use Rattle.std.specs.Str.{bytes_eq}
 use Rattle.values.specs.declared.schema.Kind.{Kind}
@@ -8,14 +8,14 @@ use Rattle.values.specs.declared.schema.Kind.TheVariants as kind
 use Rattle.values.specs.Schema.{Field}
 use Rattle.query_tree.specs.declared.expression.Aggregate.{Aggregate}
 use Rattle.query_tree.specs.declared.predicate.Literal.{Literal}
-use Rattle.query_tree.specs.Syntax.{ExpressionForm, FunctionForm, OperandForm, PredicateForm, PredicateForms, ElementForm, ItemForm, KeyForm, TreeForm, name, grouping, function, over_all, over_filtered, expression, literal, or_of, and_of, not_of, truth_test, compare, between, member, null_test, column, no_parts, part}
+use Rattle.query_tree.specs.Syntax.{ExpressionForm, FunctionForm, OperandForm, PredicateForm, PredicateForms, TreeForm, name, grouping, function, over_all, over_filtered, expression, literal, or_of, and_of, not_of, truth_test, compare, between, member, null_test, column, no_parts, part}
 use Rattle.query_print.specs.Canonical.{header_text}
 use Rattle.query_fault.specs.declared.QueryFault.{QueryFault}
 use Rattle.query_fault.specs.declared.QueryFault.TheVariants.{UnknownColumn, TypesDisagree, NotGrouped, OverLimit, FunctionNotAllowed, RepeatedHeader, OutOfMemory}
 use Rattle.query_check.specs.declared.scope.Clause.{Clause}
 use Rattle.query_check.specs.declared.scope.Clause.TheVariants as clause
-use Rattle.query_resolution.specs.Columns.{column_kind, group_names, place_of}
-use Rattle.query_resolution.specs.Sets.{expanded, grouping_places}
+use Rattle.query_resolution.specs.Columns.{column_kind, place_of}
+use Rattle.query_resolution.specs.Sets.{expanded, grouping_names, grouping_places}
 use Rattle.query_resolution.specs.Functions.{functions_of}
 use Rattle.query_check.specs.Typing.{argument_names, key_expression, literal_kind, may_stand, operand_kind, takes}
 
@@ -23,6 +23,10 @@ use Rattle.query_check.specs.Typing.{argument_names, key_expression, literal_kin
 abbrev pub first_fault : {A : Type 0} → (A → Option QueryFault) → List A → Option QueryFault
 first_fault f [] = None
 first_fault f (x ∷ xs) = option_or (f x) (first_fault f xs)
+
+-- One element of a list has this fault, and none before it has any.
+abbrev pub IsFirst : {A : Type 0} → (A → Option QueryFault) → List A → QueryFault → Type 0
+IsFirst {A} test xs f = (front : List A) × (x : A) × (back : List A) × (xs ≡ front ++ x ∷ back) × (test x ≡ Some f) × All (λ y. test y ≡ None) front
 
 -- This fault, unless the test holds.
 abbrev pub fault_unless : Bool → QueryFault → Option QueryFault
@@ -50,7 +54,9 @@ grouped_fault fields grouped n = grouped_at_fault grouped n (place_of fields n)
 -- A name in WHERE is any column, in every other clause a grouping column.
 abbrev pub name_fault : List Field → List ℕ → Clause → List ℕ → Option QueryFault
 name_fault fields grouped clause.Where n = column_fault fields n
-name_fault fields grouped c n = grouped_fault fields grouped n
+name_fault fields grouped clause.Select n = grouped_fault fields grouped n
+name_fault fields grouped clause.Having n = grouped_fault fields grouped n
+name_fault fields grouped clause.OrderBy n = grouped_fault fields grouped n
 
 -- ---- functions
 
@@ -78,7 +84,9 @@ aggregate_fault fields a = first_fault (argument_fault fields (takes a)) (argume
 -- GROUPING may not stand in WHERE, and takes grouping columns.
 abbrev pub grouping_fault : List Field → List ℕ → Clause → List (List ℕ) → Option QueryFault
 grouping_fault fields grouped clause.Where ns = Some FunctionNotAllowed
-grouping_fault fields grouped c ns = first_fault (grouped_fault fields grouped) ns
+grouping_fault fields grouped clause.Select ns = first_fault (grouped_fault fields grouped) ns
+grouping_fault fields grouped clause.Having ns = first_fault (grouped_fault fields grouped) ns
+grouping_fault fields grouped clause.OrderBy ns = first_fault (grouped_fault fields grouped) ns
 
 -- The types of two operands are not one type.
 abbrev pub agreement_fault : Option Kind → Option Kind → Option QueryFault
@@ -163,37 +171,20 @@ headers_fault headers = first_fault (λ p. header_fault (take p.0 headers) p.1) 
 abbrev pub limit_fault : ℕ → ℕ → Option QueryFault
 limit_fault most n = fault_unless (not (nat_lt most n)) OverLimit
 
--- The first of some names that is no column.
-abbrev pub names_fault : List Field → List (List ℕ) → Option QueryFault
-names_fault fields names = first_fault (column_fault fields) names
-
--- WHERE, then the names in GROUP BY, then the number of its expanded sets.
-unfoldable pub records_fault : List Field → List ℕ → Option PredicateForm → List ElementForm → Option QueryFault
-records_fault fields grouped where_condition groups =
-    option_or (clause_fault fields grouped clause.Where where_condition)
-    (option_or (names_fault fields (flat_map group_names groups))
-    (limit_fault 256 (length (expanded groups))))
-
--- The items of SELECT, then their headers.
-unfoldable pub select_fault : List Field → List ℕ → List ItemForm → Option QueryFault
-select_fault fields grouped items =
-    option_or (first_fault (λ i. expression_fault fields grouped clause.Select i.expression) items)
-    (headers_fault (map header_text items))
-
--- SELECT, then HAVING, then ORDER BY.
-unfoldable pub rows_fault : List Field → List ℕ → List ItemForm → Option PredicateForm → List KeyForm → Option QueryFault
-rows_fault fields grouped items having_condition keys =
-    option_or (select_fault fields grouped items)
-    (option_or (clause_fault fields grouped clause.Having having_condition)
-    (first_fault (λ k. expression_fault fields grouped clause.OrderBy (key_expression items k.expression)) keys))
-
--- WHERE and GROUP BY, then SELECT, HAVING and ORDER BY, then the number of different set functions.
-unfoldable pub clauses_fault : List Field → List ℕ → TreeForm → Option QueryFault
-clauses_fault fields grouped t =
-    option_or (records_fault fields grouped t.where_condition t.groups)
-    (option_or (rows_fault fields grouped t.items t.having_condition t.keys)
-    (limit_fault 64 (length (functions_of fields t))))
+-- The tests of a query under a schema, in their order: WHERE, the names in GROUP BY, the number of its expanded sets, the
+-- items of SELECT, their headers, HAVING, the keys of ORDER BY, and the number of different set functions.
+unfoldable pub tests_of : List Field → TreeForm → List (Option QueryFault)
+tests_of fields t =
+    clause_fault fields (grouping_places fields t) clause.Where t.where_condition
+    ∷ first_fault (column_fault fields) (grouping_names t)
+    ∷ limit_fault 256 (length (expanded t.groups))
+    ∷ first_fault (λ i. expression_fault fields (grouping_places fields t) clause.Select i.expression) t.items
+    ∷ headers_fault (map header_text t.items)
+    ∷ clause_fault fields (grouping_places fields t) clause.Having t.having_condition
+    ∷ first_fault (λ k. expression_fault fields (grouping_places fields t) clause.OrderBy (key_expression t.items k.expression)) t.keys
+    ∷ limit_fault 64 (length (functions_of fields t))
+    ∷ []
 
 -- The first fault of a query under a schema.
 abbrev pub query_fault : List Field → TreeForm → Option QueryFault
-query_fault fields t = clauses_fault fields (grouping_places fields t) t
+query_fault fields t = first_fault (λ fault. fault) (tests_of fields t)

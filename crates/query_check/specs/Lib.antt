@@ -2,3 +2,4 @@ pub mod Typing
 pub mod Filters
 pub mod Faults
 pub mod Standing
+pub mod Inside

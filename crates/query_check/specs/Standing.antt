@@ -53,7 +53,8 @@ atoms_in t clause.OrderBy = []
 abbrev pub IsWrittenIn : TreeForm → Clause → ExpressionForm → Type 0
 IsWrittenIn t clause.Select e = Contains (map (λ i. i.expression) t.items) e
 IsWrittenIn t clause.OrderBy e = Contains (map (λ k. key_expression t.items k.expression) t.keys) e
-IsWrittenIn t c e = (p : PredicateForm) × Contains (atoms_in t c) p × Contains (operands p) (expression e)
+IsWrittenIn t clause.Where e = (p : PredicateForm) × Contains (atoms_in t clause.Where) p × Contains (operands p) (expression e)
+IsWrittenIn t clause.Having e = (p : PredicateForm) × Contains (atoms_in t clause.Having) p × Contains (operands p) (expression e)
 
 -- A predicate is the FILTER of a set function that is written in some clause.
 abbrev pub IsFilterIn : TreeForm → PredicateForm → Type 0
@@ -70,7 +71,8 @@ IsAtomIn t c p = Contains (atoms_in t c) p
 abbrev pub StandsIn : TreeForm → Clause → ExpressionForm → Type 0
 StandsIn t clause.Select e = Contains (map (λ i. i.expression) t.items) e
 StandsIn t clause.OrderBy e = Contains (map (λ k. key_expression t.items k.expression) t.keys) e
-StandsIn t c e = (p : PredicateForm) × IsAtomIn t c p × Contains (operands p) (expression e)
+StandsIn t clause.Where e = (p : PredicateForm) × IsAtomIn t clause.Where p × Contains (operands p) (expression e)
+StandsIn t clause.Having e = (p : PredicateForm) × IsAtomIn t clause.Having p × Contains (operands p) (expression e)
 
 -- The names in an expression outside of a set function: a name itself, or the arguments of GROUPING.
 abbrev pub outer_names : ExpressionForm → List (List ℕ)
@@ -80,8 +82,9 @@ outer_names (function f) = []
 
 -- All names in an expression, outside of a FILTER.
 abbrev pub names : ExpressionForm → List (List ℕ)
+names (name n) = n ∷ []
+names (grouping ns) = ns
 names (function f) = argument_names (aggregate_of f)
-names e = outer_names e
 
 -- ---- what is wrong with it
 

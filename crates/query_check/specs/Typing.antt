@@ -1,5 +1,5 @@
 -- Which queries are typed under a schema (ISO/IEC 9075-2, <query specification>).
-use Rattle.std.specs.Prelude.{◌≡◌, ◌≢◌, ◌≤◌, ℕ, ⊤, Bool, true, false, Option, Some, None, List, [], ◌∷◌, map, length, All, AllPairs, Contains, IsSome, IsSomeAnd, IsTrue}
+use Rattle.std.specs.Prelude.{◌≡◌, ◌≢◌, ◌≤◌, ℕ, ⊤, Bool, true, false, not, Option, Some, None, List, [], ◌∷◌, map, length, All, AllPairs, Contains, IsSome, IsSomeAnd, IsTrue}
 use Rattle.std.specs.List.{find}
 use Rattle.std.specs.Option.{option_map_or}
 use Rattle.std.specs.Str.{bytes_eq}
@@ -31,7 +31,9 @@ IsGrouped fields grouped n = IsSomeAnd (place_of fields n) (λ place. Contains g
 -- In WHERE a name is any column; in every other clause it is a grouping column.
 abbrev pub IsTypedName : List Field → List ℕ → Clause → List ℕ → Type 0
 IsTypedName fields grouped clause.Where n = IsColumn fields n
-IsTypedName fields grouped c n = IsGrouped fields grouped n
+IsTypedName fields grouped clause.Select n = IsGrouped fields grouped n
+IsTypedName fields grouped clause.Having n = IsGrouped fields grouped n
+IsTypedName fields grouped clause.OrderBy n = IsGrouped fields grouped n
 
 -- ---- functions
 
@@ -51,11 +53,13 @@ argument_names (aggregate.Avg x) = x ∷ []
 
 -- The types that a set function takes: COUNT each, SUM and AVG whole numbers, MIN and MAX whole numbers and texts.
 abbrev pub takes : Aggregate → List Kind
+takes aggregate.CountRows = kind.Int ∷ kind.Text ∷ kind.Bool ∷ []
+takes (aggregate.Count x) = kind.Int ∷ kind.Text ∷ kind.Bool ∷ []
+takes (aggregate.CountDistinct x) = kind.Int ∷ kind.Text ∷ kind.Bool ∷ []
 takes (aggregate.Sum x) = kind.Int ∷ []
-takes (aggregate.Avg x) = kind.Int ∷ []
 takes (aggregate.Min x) = kind.Int ∷ kind.Text ∷ []
 takes (aggregate.Max x) = kind.Int ∷ kind.Text ∷ []
-takes a = kind.Int ∷ kind.Text ∷ kind.Bool ∷ []
+takes (aggregate.Avg x) = kind.Int ∷ []
 
 -- The schema has a column of this name, which is of one of these types.
 abbrev pub IsOfKinds : List Field → List Kind → List ℕ → Type 0
@@ -65,19 +69,31 @@ IsOfKinds fields kinds n = IsSomeAnd (column_kind fields n) (Contains kinds)
 abbrev pub IsTypedAggregate : List Field → Aggregate → Type 0
 IsTypedAggregate fields a = All (IsOfKinds fields (takes a)) (argument_names a)
 
+-- Whether a set function is AVG.
+abbrev pub is_average : Aggregate → Bool
+is_average aggregate.CountRows = false
+is_average (aggregate.Count x) = false
+is_average (aggregate.CountDistinct x) = false
+is_average (aggregate.Sum x) = false
+is_average (aggregate.Min x) = false
+is_average (aggregate.Max x) = false
+is_average (aggregate.Avg x) = true
+
 -- Whether a set function may stand in a clause: none in WHERE, and AVG only in SELECT.
 abbrev pub may_stand : Clause → Aggregate → Bool
 may_stand clause.Where a = false
 may_stand clause.Select a = true
-may_stand c (aggregate.Avg x) = false
-may_stand c a = true
+may_stand clause.Having a = not (is_average a)
+may_stand clause.OrderBy a = not (is_average a)
 
 -- ---- expressions
 
 -- GROUPING takes grouping columns, and may not stand in WHERE.
 abbrev pub IsTypedGrouping : List Field → List ℕ → Clause → List (List ℕ) → Type 0
 IsTypedGrouping fields grouped clause.Where ns = ⊥
-IsTypedGrouping fields grouped c ns = All (IsGrouped fields grouped) ns
+IsTypedGrouping fields grouped clause.Select ns = All (IsGrouped fields grouped) ns
+IsTypedGrouping fields grouped clause.Having ns = All (IsGrouped fields grouped) ns
+IsTypedGrouping fields grouped clause.OrderBy ns = All (IsGrouped fields grouped) ns
 
 -- The type of a set function: a whole number, or for MIN and MAX the type of the argument. AVG has none.
 abbrev pub aggregate_kind : List Field → Aggregate → Option Kind

@@ -1,8 +1,11 @@
-//! A law of filters, with no work to do.
+//! Laws of filters and of first faults, with no work to do.
 
-ghost use Rattle.std.specs.Prelude.{List};
+ghost use Rattle.std.specs.Prelude.{◌≡◌, ◌↔◌, List, Option, Some, Decides};
 ghost use Rattle.values.specs.Schema.{Field};
+ghost use Rattle.values.specs.declared.schema.Kind.{Kind};
 ghost use Rattle.query_tree.specs.Syntax.{TreeForm};
+ghost use Rattle.query_fault.specs.declared.QueryFault.{QueryFault};
+ghost use Rattle.query_check.specs.Faults.{IsFirst, first_fault, same_kind};
 ghost use Rattle.query_check.specs.Filters.{AreTypedFilters, LeadBack};
 ghost use Rattle.query_check.specs.Typing.{IsTyped};
 
@@ -11,4 +14,11 @@ ghost use Rattle.query_check.specs.Typing.{IsTyped};
 pub fn filters_law()
     ensures back { (fields : List Field) (t : TreeForm) → LeadBack fields t }
     ensures typed { (fields : List Field) (t : TreeForm) → IsTyped fields t → AreTypedFilters fields t }
+{}
+
+/// A law: the first fault of a list is that of one element, where none before it has any; and two types pass the test
+/// of types exactly where they are equal.
+pub fn first_fault_law<A>()
+    ensures first { (test : A → Option QueryFault) (xs : List A) (f : QueryFault) → first_fault test xs ≡ Some f ↔ IsFirst test xs f }
+    ensures kinds { (k l : Kind) → Decides (same_kind k l) (k ≡ l) }
 {}

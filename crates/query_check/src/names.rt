@@ -5,7 +5,7 @@ ghost use Rattle.std.specs.List.{flat_map};
 ghost use Rattle.values.specs.Schema.{fields_of};
 ghost use Rattle.query_tree.specs.Syntax.{element_form, units_form};
 ghost use Rattle.query_resolution.specs.Columns.{group_names};
-ghost use Rattle.query_check.specs.Faults.{Answers, names_fault};
+ghost use Rattle.query_check.specs.Faults.{Answers, column_fault, first_fault};
 
 use crate::typing::check_column;
 use query_fault::QueryFault;
@@ -14,7 +14,7 @@ use values::Column;
 
 /// Whether columns have these names.
 fn check_columns(columns: &[Column], names: &[Text]) -> Result<(), QueryFault>
-    ensures fault { Answers result (names_fault (fields_of columns.now) names.now) }
+    ensures fault { Answers result (first_fault (column_fault (fields_of columns.now)) names.now) }
 {
     for name in names {
         check_column(columns, name)?;
@@ -24,7 +24,7 @@ fn check_columns(columns: &[Column], names: &[Text]) -> Result<(), QueryFault>
 
 /// Whether columns have the names in some units.
 fn check_units(columns: &[Column], units: &[Vec<Text>]) -> Result<(), QueryFault>
-    ensures fault { Answers result (names_fault (fields_of columns.now) (flat_map (λ unit. unit) (units_form units.now))) }
+    ensures fault { Answers result (first_fault (column_fault (fields_of columns.now)) (flat_map (λ unit. unit) (units_form units.now))) }
 {
     for unit in units {
         check_columns(columns, unit)?;
@@ -34,7 +34,7 @@ fn check_units(columns: &[Column], units: &[Vec<Text>]) -> Result<(), QueryFault
 
 /// Whether columns have the names in an element of GROUP BY.
 fn check_group(columns: &[Column], group: &GroupingElement) -> Result<(), QueryFault>
-    ensures fault { Answers result (names_fault (fields_of columns.now) (group_names (element_form group.now))) }
+    ensures fault { Answers result (first_fault (column_fault (fields_of columns.now)) (group_names (element_form group.now))) }
 {
     match group {
         GroupingElement::Set(names) => check_columns(columns, names),
@@ -51,7 +51,7 @@ fn check_group(columns: &[Column], group: &GroupingElement) -> Result<(), QueryF
 
 /// Whether columns have the names in GROUP BY.
 pub(crate) fn check_groups(columns: &[Column], groups: &[GroupingElement]) -> Result<(), QueryFault>
-    ensures fault { Answers result (names_fault (fields_of columns.now) (flat_map group_names (map element_form groups.now))) }
+    ensures fault { Answers result (first_fault (column_fault (fields_of columns.now)) (flat_map group_names (map element_form groups.now))) }
 {
     for group in groups {
         check_group(columns, group)?;

@@ -8,9 +8,10 @@ ghost use Rattle.values.specs.Schema.{fields_of};
 ghost use Rattle.query_tree.specs.Syntax.{expression_form, element_form, item_form, key_form, predicate_form, tree_form};
 ghost use Rattle.query_print.specs.Canonical.{header_text};
 ghost use Rattle.query_resolution.specs.Functions.{indexed_functions};
-ghost use Rattle.query_resolution.specs.Sets.{expanded};
+ghost use Rattle.query_resolution.specs.Sets.{expanded, grouping_places};
 ghost use Rattle.query_check.specs.Typing.{IsTyped, key_expression};
-ghost use Rattle.query_check.specs.Faults.{Answers, clause_fault, clauses_fault, expression_fault, first_fault, headers_fault, limit_fault, query_fault, records_fault, rows_fault, select_fault};
+ghost use Rattle.query_check.specs.Faults.{Answers, clause_fault, expression_fault, first_fault, headers_fault, limit_fault, query_fault};
+ghost use Rattle.query_check.specs.Inside.Clauses.{clauses_fault, records_fault, rows_fault, select_fault};
 ghost use Rattle.query_check.specs.Standing.{Stands};
 ghost use Rattle.query_fault.specs.declared.QueryFault.TheVariants.{OutOfMemory, RepeatedHeader};
 ghost use Rattle.query_resolution.specs.Resolution.{resolution_of};
@@ -184,7 +185,7 @@ fn check_set_count(groups: &[GroupingElement]) -> Result<(), QueryFault>
 }
 
 /// Whether WHERE and GROUP BY are typed.
-#[tactic(auto, unfolding(crate::specs::Faults::records_fault))]
+#[tactic(auto, unfolding(crate::specs::Inside::Clauses::records_fault))]
 fn check_records(scope: &Scope, tree: &Tree) -> Result<(), QueryFault>
     requires { scope.now.clause ≡ Clause.Where }
     ensures fault { Answers result (records_fault (fields_of scope.now.columns.now) scope.now.grouping.now (option_map predicate_form tree.now.where_condition) (map element_form tree.now.groups.items)) }
@@ -195,7 +196,7 @@ fn check_records(scope: &Scope, tree: &Tree) -> Result<(), QueryFault>
 }
 
 /// Whether SELECT is typed.
-#[tactic(auto, unfolding(crate::specs::Faults::select_fault))]
+#[tactic(auto, unfolding(crate::specs::Inside::Clauses::select_fault))]
 fn check_select(alloc: Global, scope: &Scope, items: &[Item]) -> Result<(), QueryFault>
     requires { scope.now.clause ≡ Clause.Select }
     ensures fault { Answers result (select_fault (fields_of scope.now.columns.now) scope.now.grouping.now (map item_form items.now)) }
@@ -205,7 +206,7 @@ fn check_select(alloc: Global, scope: &Scope, items: &[Item]) -> Result<(), Quer
 }
 
 /// Whether SELECT, HAVING and ORDER BY are typed.
-#[tactic(auto, unfolding(crate::specs::Faults::rows_fault))]
+#[tactic(auto, unfolding(crate::specs::Inside::Clauses::rows_fault))]
 fn check_rows(
     alloc: Global,
     columns: &[Column],
@@ -227,7 +228,7 @@ fn check_rows(
 }
 
 /// Whether all clauses are typed; then the different set functions.
-#[tactic(auto, unfolding(crate::specs::Faults::clauses_fault))]
+#[tactic(auto, unfolding(crate::specs::Inside::Clauses::clauses_fault))]
 fn check_clauses(
     alloc: Global,
     columns: &[Column],
@@ -252,7 +253,7 @@ fn check_clauses(
 /// Checks and resolves a query.
 fn resolve(alloc: Global, tree: &Tree, schema: &Schema) -> Result<Resolved, QueryFault>
     ensures resolved { IfOk result (λ r. r ≡ resolution_of schema.now (tree_form tree.now)) }
-    ensures fault { Answers result (query_fault schema.now (tree_form tree.now)) }
+    ensures fault { Answers result (clauses_fault schema.now (grouping_places schema.now (tree_form tree.now)) (tree_form tree.now)) }
 {
     let columns = schema.columns();
     let grouping = grouping_places(alloc, columns, &tree.groups)?;

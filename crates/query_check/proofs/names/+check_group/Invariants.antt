@@ -2,8 +2,8 @@ use Rattle.std.proofs.Common.{◌≡◌, drop, map}
 use Rattle.values.specs.Schema.{fields_of}
 use Rattle.query_tree.specs.Syntax.{element_form, element_forms}
 use Rattle.query_resolution.specs.Columns.{group_names, groups_names}
-use Rattle.query_check.specs.Faults.{names_fault}
+use Rattle.query_check.specs.Faults.{column_fault, first_fault}
 use Rattle.query_check.proofs.names.+check_group.Given as goal
 
 abbrev pub invariant-loop-group : goal.invariant-loop-group
-invariant-loop-group l = names_fault (fields_of l.columns) (groups_names (element_forms (map element_form (drop l.group-index l.group-items)))) ≡ names_fault (fields_of l.columns) (group_names (element_form l.fn.group))
+invariant-loop-group l = first_fault (column_fault (fields_of l.columns)) (groups_names (element_forms (map element_form (drop l.group-index l.group-items)))) ≡ first_fault (column_fault (fields_of l.columns)) (group_names (element_form l.fn.group))

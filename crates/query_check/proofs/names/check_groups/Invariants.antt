@@ -3,8 +3,8 @@ use Rattle.std.specs.List.{flat_map}
 use Rattle.values.specs.Schema.{fields_of}
 use Rattle.query_tree.specs.Syntax.{element_form}
 use Rattle.query_resolution.specs.Columns.{group_names}
-use Rattle.query_check.specs.Faults.{names_fault}
+use Rattle.query_check.specs.Faults.{column_fault, first_fault}
 use Rattle.query_check.proofs.names.check_groups.Given as goal
 
 abbrev pub invariant-loop-group : goal.invariant-loop-group
-invariant-loop-group l = names_fault (fields_of l.columns) (flat_map group_names (map element_form (drop l.group-index l.groups))) ≡ names_fault (fields_of l.columns) (flat_map group_names (map element_form l.groups))
+invariant-loop-group l = first_fault (column_fault (fields_of l.columns)) (flat_map group_names (map element_form (drop l.group-index l.groups))) ≡ first_fault (column_fault (fields_of l.columns)) (flat_map group_names (map element_form l.groups))

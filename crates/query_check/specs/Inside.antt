@@ -1,0 +1,2 @@
+-- What private calls test.
+pub mod Clauses
