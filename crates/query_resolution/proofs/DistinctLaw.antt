@@ -1,6 +1,6 @@
--- What GROUP BY DISTINCT keeps of an expanded list of grouping sets.
+-- What a list without repeats keeps, and so GROUP BY DISTINCT of an expanded list of grouping sets.
 use Rattle.std.proofs.Common.{◌≡◌, ◌∙◌, ◌<◌, ◌==◌, ◌||◌, ℕ, zero, suc, Bool, true, false, cond, not, List, [], ◌∷◌, length, refl, sym, ap, subst, arith, AllPairs}
-use Rattle.std.specs.Prelude.{filter, if◌then◌else◌}
+use Rattle.std.specs.Prelude.{Decides, filter, if◌then◌else◌}
 use Rattle.std.specs.List.{Contains, list_any, slice_index_or}
 use Rattle.std.proofs.lemmas.List.Elements.{filter_passes}
 use Rattle.std.proofs.lemmas.List.Kept.{AllPairs-cons, AllPairs-filter}
@@ -62,90 +62,107 @@ same_from_columns a b same = same_has a b (λ c. both_ways (has c a) (has c b)
     (λ h. let there = (same c).0 (contained_has a c h) in has_contained b c there.0 there.1 there.2)
     (λ h. let there = (same c).1 (contained_has b c h) in has_contained a c there.0 there.1 there.2))
 
-same_itself : (a : List ℕ) → same_columns a a ≡ true
-same_itself a = same_has a a (λ c. refl)
+columns_itself : (a : List ℕ) → same_columns a a ≡ true
+columns_itself a = same_has a a (λ c. refl)
 
-same_joined : (a b c : List ℕ) → same_columns a b ≡ true → same_columns b c ≡ true → same_columns a c ≡ true
-same_joined a b c e f = same_has a c (λ x. has_same a b e x ∙ has_same b c f x)
+columns_joined : (a b c : List ℕ) → same_columns a b ≡ true → same_columns b c ≡ true → same_columns a c ≡ true
+columns_joined a b c e f = same_has a c (λ x. has_same a b e x ∙ has_same b c f x)
 
 false_not_true : (b : Bool) → b ≡ false → b ≡ true → ⊥
 false_not_true b e f = let wrong : true ≡ false = sym f ∙ e in absurd cc
 
 -- ---- what is kept
 
--- A set has the columns of none of those before it.
-abbrev is_fresh : List (List ℕ) → List ℕ → Bool
-is_fresh before set = not (list_any (λ earlier. same_columns earlier set) before)
+-- An element is the same as none of those before it.
+abbrev is_fresh : {A : Type 0} → (A → A → Bool) → List A → A → Bool
+is_fresh same before x = not (list_any (λ earlier. same earlier x) before)
 
-fresh_twice : (before : List (List ℕ)) (x : List ℕ) (ys : List (List ℕ)) → filter (is_fresh before) (filter (λ y. not (same_columns x y)) ys) ≡ filter (is_fresh (x ∷ before)) ys
-fresh_twice before x [] = refl
-fresh_twice before x (y ∷ ys) =
-    let left : List (List ℕ) = filter (λ z. not (same_columns x z)) ys in
-    let right : List (List ℕ) = filter (is_fresh (x ∷ before)) ys in
-    let met : Bool = list_any (λ earlier. same_columns earlier y) before in
-    elim (same_columns x y) as (λ (t : Bool). filter (is_fresh before) (cond (not t) (y ∷ left) left) ≡ cond (not (t || met)) (y ∷ right) right) [
-      | true ↦ fresh_twice before x ys
-      | false ↦ ap (λ (zs : List (List ℕ)). cond (not met) (y ∷ zs) zs) (fresh_twice before x ys)
+fresh_twice : {A : Type 0} (same : A → A → Bool) (before : List A) (x : A) (ys : List A) → filter (is_fresh same before) (filter (λ y. not (same x y)) ys) ≡ filter (is_fresh same (x ∷ before)) ys
+fresh_twice same before x [] = refl
+fresh_twice {A} same before x (y ∷ ys) =
+    let left : List A = filter (λ z. not (same x z)) ys in
+    let right : List A = filter (is_fresh same (x ∷ before)) ys in
+    let met : Bool = list_any (λ earlier. same earlier y) before in
+    elim (same x y) as (λ (t : Bool). filter (is_fresh same before) (cond (not t) (y ∷ left) left) ≡ cond (not (t || met)) (y ∷ right) right) [
+      | true ↦ fresh_twice same before x ys
+      | false ↦ ap (λ (zs : List A). cond (not met) (y ∷ zs) zs) (fresh_twice same before x ys)
     ]
 
-keeps_first : (before xs : List (List ℕ)) → KeepsFirst before xs (filter (is_fresh before) (distinct same_columns xs))
-keeps_first before [] = KeepsFirst.none
-keeps_first before (x ∷ xs) =
-    let others : List (List ℕ) = filter (is_fresh (x ∷ before)) (distinct same_columns xs) in
-    let all : List (List ℕ) = filter (is_fresh before) (filter (λ y. not (same_columns x y)) (distinct same_columns xs)) in
-    let behind : KeepsFirst (x ∷ before) xs others = keeps_first (x ∷ before) xs in
-    let same : all ≡ others = fresh_twice before x (distinct same_columns xs) in
-    let met : Bool = list_any (λ earlier. same_columns earlier x) before in
-    subst (λ (zs : List (List ℕ)). KeepsFirst before (x ∷ xs) (cond (not met) (x ∷ zs) zs)) (sym same)
-    (elim met as (λ (t : Bool). met ≡ t → KeepsFirst before (x ∷ xs) (cond (not t) (x ∷ others) others)) [
-      | true ↦ λ e. (let one = any_met (λ earlier. same_columns earlier x) before e in
-          KeepsFirst.dropped one.0 one.1 (columns_same one.0 x one.2) behind)
-      | false ↦ λ e. KeepsFirst.kept (λ earlier there same. false_not_true (same_columns earlier x)
-          (none_met (λ y. same_columns y x) before earlier there.0 there.1 there.2 e) (same_from_columns earlier x same)) behind
-    ] refl)
+all_fresh : {A : Type 0} (same : A → A → Bool) (ys : List A) → filter (is_fresh same []) ys ≡ ys
+all_fresh same [] = refl
+all_fresh {A} same (y ∷ ys) = ap (λ (zs : List A). y ∷ zs) (all_fresh same ys)
 
-all_fresh : (ys : List (List ℕ)) → filter (is_fresh []) ys ≡ ys
-all_fresh [] = refl
-all_fresh (y ∷ ys) = ap (λ (zs : List (List ℕ)). y ∷ zs) (all_fresh ys)
+module _ {A : Type 0} (same : A → A → Bool) (Same : A → A → Type 0) (decides : (a b : A) → Decides (same a b) (Same a b)) where
+  keeps_first : (before xs : List A) → KeepsFirst Same before xs (filter (is_fresh same before) (distinct same xs))
+  keeps_first before [] = KeepsFirst.none
+  keeps_first before (x ∷ xs) =
+      let others : List A = filter (is_fresh same (x ∷ before)) (distinct same xs) in
+      let all : List A = filter (is_fresh same before) (filter (λ y. not (same x y)) (distinct same xs)) in
+      let behind : KeepsFirst Same (x ∷ before) xs others = keeps_first (x ∷ before) xs in
+      let is : all ≡ others = fresh_twice same before x (distinct same xs) in
+      let met : Bool = list_any (λ earlier. same earlier x) before in
+      subst (λ (zs : List A). KeepsFirst Same before (x ∷ xs) (cond (not met) (x ∷ zs) zs)) (sym is)
+      (elim met as (λ (t : Bool). met ≡ t → KeepsFirst Same before (x ∷ xs) (cond (not t) (x ∷ others) others)) [
+        | true ↦ λ e. (let one = any_met (λ earlier. same earlier x) before e in
+            KeepsFirst.dropped one.0 one.1 ((decides one.0 x).0 one.2) behind)
+        | false ↦ λ e. KeepsFirst.kept (λ earlier there h. false_not_true (same earlier x)
+            (none_met (λ y. same y x) before earlier there.0 there.1 there.2 e) ((decides earlier x).1 h)) behind
+      ] refl)
 
-apart_kept : (xs : List (List ℕ)) → AllPairs (λ set other. HaveSameColumns set other → ⊥) (distinct same_columns xs)
-apart_kept [] = λ i j d below within. absurd (omega (arith, within))
-apart_kept (x ∷ xs) =
-    let others : List (List ℕ) = distinct same_columns xs in
-    let differs : List ℕ → Bool = λ y. not (same_columns x y) in
-    AllPairs-cons (λ set other. HaveSameColumns set other → ⊥) x (filter differs others)
-    (λ k d below same. false_not_true (differs (slice_index_or (filter differs others) k d))
-    (ap not (same_from_columns x (slice_index_or (filter differs others) k d) same)) (filter_passes differs others k d below))
-    (AllPairs-filter (λ set other. HaveSameColumns set other → ⊥) differs others (apart_kept xs))
+  apart_kept : (xs : List A) → AllPairs (λ x y. Same x y → ⊥) (distinct same xs)
+  apart_kept [] = λ i j d below within. absurd (omega (arith, within))
+  apart_kept (x ∷ xs) =
+      let others : List A = distinct same xs in
+      let differs : A → Bool = λ y. not (same x y) in
+      AllPairs-cons (λ x y. Same x y → ⊥) x (filter differs others)
+      (λ k d below h. false_not_true (differs (slice_index_or (filter differs others) k d))
+      (ap not ((decides x (slice_index_or (filter differs others) k d)).1 h)) (filter_passes differs others k d below))
+      (AllPairs-filter (λ x y. Same x y → ⊥) differs others (apart_kept xs))
 
--- Each set has the columns of one that is kept.
-any_kept : (xs : List (List ℕ)) (k : ℕ) (d : List ℕ) → k < length xs → list_any (λ y. same_columns y (slice_index_or xs k d)) (distinct same_columns xs) ≡ true
-any_kept [] k d below = absurd (omega (arith, below))
-any_kept (x ∷ xs) zero d below = ap (λ (t : Bool). t || list_any (λ y. same_columns y x) (filter (λ y. not (same_columns x y)) (distinct same_columns xs))) (same_itself x)
-any_kept (x ∷ xs) (suc k) d below =
-    let z : List ℕ = slice_index_or xs k d in
-    let others : List (List ℕ) = distinct same_columns xs in
-    let differs : List ℕ → Bool = λ y. not (same_columns x y) in
-    elim (same_columns x z) as (λ (t : Bool). same_columns x z ≡ t → (t || list_any (λ y. same_columns y z) (filter differs others)) ≡ true) [
+-- What differs from an element that is the same as a third differs from the third.
+stays : {A : Type 0} (same : A → A → Bool) → ((a b c : A) → same a b ≡ true → same b c ≡ true → same a c ≡ true) → (x y z : A) → same x z ≡ false → same y z ≡ true → not (same x y) ≡ true
+stays same joined x y z e f =
+    elim (same x y) as (λ (t : Bool). same x y ≡ t → not t ≡ true) [
+      | true ↦ λ g. absurd (false_not_true (same x z) e (joined x y z g f))
+      | false ↦ λ _. refl
+    ] refl
+
+-- Each element is the same as one that is kept.
+any_kept : {A : Type 0} (same : A → A → Bool) → ((a : A) → same a a ≡ true) → ((a b c : A) → same a b ≡ true → same b c ≡ true → same a c ≡ true)
+    → (xs : List A) (k : ℕ) (d : A) → k < length xs → list_any (λ y. same y (slice_index_or xs k d)) (distinct same xs) ≡ true
+any_kept same itself joined [] k d below = absurd (omega (arith, below))
+any_kept same itself joined (x ∷ xs) zero d below = ap (λ (t : Bool). t || list_any (λ y. same y x) (filter (λ y. not (same x y)) (distinct same xs))) (itself x)
+any_kept {A} same itself joined (x ∷ xs) (suc k) d below =
+    let z : A = slice_index_or xs k d in
+    let others : List A = distinct same xs in
+    let differs : A → Bool = λ y. not (same x y) in
+    elim (same x z) as (λ (t : Bool). same x z ≡ t → (t || list_any (λ y. same y z) (filter differs others)) ≡ true) [
       | true ↦ λ _. refl
-      | false ↦ λ e. any_filter (λ y. same_columns y z) differs (λ y f. stays x y z e f) others ∙ any_kept xs k d (omega (arith, below))
-    ] refl where
-      stays : (x y z : List ℕ) → same_columns x z ≡ false → same_columns y z ≡ true → not (same_columns x y) ≡ true
-      stays x y z e f =
-          elim (same_columns x y) as (λ (t : Bool). same_columns x y ≡ t → not t ≡ true) [
-            | true ↦ λ g. absurd (false_not_true (same_columns x z) e (same_joined x y z g f))
-            | false ↦ λ _. refl
-          ] refl
+      | false ↦ λ e. any_filter (λ y. same y z) differs (λ y f. stays same joined x y z e f) others ∙ any_kept same itself joined xs k d (omega (arith, below))
+    ] refl
 
-distinct_are : (xs : List (List ℕ)) → AreDistinct xs (distinct same_columns xs)
-distinct_are xs = record {
-  first = subst (λ (ys : List (List ℕ)). KeepsFirst [] xs ys) (all_fresh (distinct same_columns xs)) (keeps_first [] xs);
-  apart = apart_kept xs;
-  whole = λ k d below. (let one = any_met (λ y. same_columns y (slice_index_or xs k d)) (distinct same_columns xs) (any_kept xs k d below) in
-      (one.0, one.1, columns_same one.0 (slice_index_or xs k d) one.2));
+-- The list without repeats keeps the first of those that are the same.
+pub distinct_are : {A : Type 0} (same : A → A → Bool) (Same : A → A → Type 0) → ((a b : A) → Decides (same a b) (Same a b)) → ((a : A) → same a a ≡ true)
+    → ((a b c : A) → same a b ≡ true → same b c ≡ true → same a c ≡ true) → (xs : List A) → AreDistinct Same xs (distinct same xs)
+distinct_are {A} same Same decides itself joined xs = record {
+  first = subst (λ (ys : List A). KeepsFirst Same [] xs ys) (all_fresh same (distinct same xs)) (keeps_first same Same decides [] xs);
+  apart = apart_kept same Same decides xs;
+  whole = λ k d below. (let one = any_met (λ y. same y (slice_index_or xs k d)) (distinct same xs) (any_kept same itself joined xs k d below) in
+      (one.0, one.1, (decides one.0 (slice_index_or xs k d)).0 one.2));
 }
 
-pub distinct_is : (fields : List Field) (t : TreeForm) → t.distinct_sets ≡ true → AreDistinct (expanded_sets fields t) (sets_of fields t)
+-- So it does by the test itself.
+pub distinct_keeps : {A : Type 0} (same : A → A → Bool) → ((a : A) → same a a ≡ true) → ((a b c : A) → same a b ≡ true → same b c ≡ true → same a c ≡ true)
+    → (xs : List A) → AreDistinct (λ a b. same a b ≡ true) xs (distinct same xs)
+distinct_keeps same itself joined xs = distinct_are same (λ a b. same a b ≡ true) (λ a b. (λ h. h, λ h. h)) itself joined xs
+
+-- ---- GROUP BY DISTINCT
+
+-- Sets that have the columns of an earlier one are dropped.
+sets_are : (xs : List (List ℕ)) → AreDistinct HaveSameColumns xs (distinct same_columns xs)
+sets_are xs = distinct_are same_columns HaveSameColumns (λ a b. (columns_same a b, same_from_columns a b)) columns_itself columns_joined xs
+
+pub distinct_is : (fields : List Field) (t : TreeForm) → t.distinct_sets ≡ true → AreDistinct HaveSameColumns (expanded_sets fields t) (sets_of fields t)
 distinct_is fields t written =
-    subst (λ (d : Bool). AreDistinct (expanded_sets fields t) (if d then distinct same_columns (expanded_sets fields t) else expanded_sets fields t)) (sym written)
-    (distinct_are (expanded_sets fields t))
+    subst (λ (d : Bool). AreDistinct HaveSameColumns (expanded_sets fields t) (if d then distinct same_columns (expanded_sets fields t) else expanded_sets fields t)) (sym written)
+    (sets_are (expanded_sets fields t))

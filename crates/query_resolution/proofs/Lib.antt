@@ -9,3 +9,4 @@ pub mod DistinctSets
 pub mod DistinctLaw
 pub mod Counts
 pub mod RollupCube
+pub mod CrossedLaw

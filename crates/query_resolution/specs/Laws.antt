@@ -1,5 +1,5 @@
--- What ROLLUP, CUBE and DISTINCT stand for, set by set (ISO/IEC 9075-2, <group by clause>).
-use Rattle.std.specs.Prelude.{◌≡◌, ◌↔◌, ◌≤◌, ◌<◌, ◌+◌, ◌-◌, ◌/◌, ◌%◌, ◌^◌, ◌==◌, ℕ, Bool, List, [], ◌∷◌, ◌++◌, length, take, get_or, if◌then◌else◌}
+-- What ROLLUP, CUBE, DISTINCT and a list of elements stand for, set by set (ISO/IEC 9075-2, <group by clause>).
+use Rattle.std.specs.Prelude.{◌≡◌, ◌↔◌, ◌≤◌, ◌<◌, ◌+◌, ◌-◌, ◌*◌, ◌/◌, ◌%◌, ◌^◌, ◌==◌, ℕ, Bool, List, [], ◌∷◌, ◌++◌, length, take, get_or, if◌then◌else◌}
 use Rattle.std.specs.List.{All, AllPairs, Contains, flat_map}
 
 -- The columns of some units.
@@ -31,17 +31,23 @@ pub record IsCube {A : Type 0} (units sets : List (List A)) : Type 0 where
 abbrev pub HaveSameColumns : List ℕ → List ℕ → Type 0
 HaveSameColumns first second = (column : ℕ) → Contains first column ↔ Contains second column
 
--- Of a list of sets those that have not the columns of an earlier one, in order, where some sets stand before the list.
-pub data KeepsFirst : List (List ℕ) → List (List ℕ) → List (List ℕ) → Type 0 where
-  none : {before : List (List ℕ)} → KeepsFirst before [] []
-  kept : {before sets others : List (List ℕ)} {set : List ℕ} → ((earlier : List ℕ) → Contains before earlier → HaveSameColumns earlier set → ⊥) → KeepsFirst (set ∷ before) sets others
-      → KeepsFirst before (set ∷ sets) (set ∷ others)
-  dropped : {before sets others : List (List ℕ)} {set : List ℕ} → (earlier : List ℕ) → Contains before earlier → HaveSameColumns earlier set → KeepsFirst (set ∷ before) sets others
-      → KeepsFirst before (set ∷ sets) others
+-- Of a list those elements that are not the same as an earlier one, in order, where some elements stand before the list.
+pub data KeepsFirst {A : Type 0} (Same : A → A → Type 0) : List A → List A → List A → Type 0 where
+  none : {before : List A} → KeepsFirst Same before [] []
+  kept : {before all others : List A} {x : A} → ((earlier : A) → Contains before earlier → Same earlier x → ⊥) → KeepsFirst Same (x ∷ before) all others
+      → KeepsFirst Same before (x ∷ all) (x ∷ others)
+  dropped : {before all others : List A} {x : A} → (earlier : A) → Contains before earlier → Same earlier x → KeepsFirst Same (x ∷ before) all others
+      → KeepsFirst Same before (x ∷ all) others
 
--- GROUP BY DISTINCT stands for those sets of the expanded list that have not the columns of an earlier one, in order. So
--- no two of them have the same columns, and each set of the list has its columns in one of them.
-pub record AreDistinct (all sets : List (List ℕ)) : Type 0 where
-  pub first : KeepsFirst [] all sets
-  pub apart : AllPairs (λ set other. HaveSameColumns set other → ⊥) sets
-  pub whole : All (λ set. (kept : List ℕ) × Contains sets kept × HaveSameColumns kept set) all
+-- A list without repeats keeps those elements of the whole list that are not the same as an earlier one, in order. So no
+-- two of it are the same, and each element of the whole list is the same as one of it.
+pub record AreDistinct {A : Type 0} (Same : A → A → Type 0) (all found : List A) : Type 0 where
+  pub first : KeepsFirst Same [] all found
+  pub apart : AllPairs (λ x y. Same x y → ⊥) found
+  pub whole : All (λ x. (one : A) × Contains found one × Same one x) all
+
+-- The cross product of two lists of sets has at place i * n + j the columns of the first list's set at place i and of the
+-- second's at place j, where the second list has n sets. So the first list varies slowest.
+pub record IsCrossed {A : Type 0} (firsts seconds sets : List (List A)) : Type 0 where
+  pub count : length sets ≡ length firsts * length seconds
+  pub each : (i j : ℕ) → i < length firsts → j < length seconds → get_or sets (i * length seconds + j) [] ≡ get_or firsts i [] ++ get_or seconds j []
