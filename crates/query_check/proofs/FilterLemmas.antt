@@ -14,7 +14,7 @@ use Rattle.query_check.specs.declared.scope.Clause.{Clause}
 use Rattle.query_check.specs.declared.scope.Clause.TheVariants as clause
 use Rattle.query_resolution.specs.Columns.{distinct}
 use Rattle.query_resolution.specs.Sets.{grouping_places}
-use Rattle.query_resolution.specs.Same.{same_predicate}
+use Rattle.query_resolution.specs.Inside.Same.{same_predicate}
 use Rattle.query_resolution.specs.Functions.{PlannedFunction, aggregate_of, column_function, different_filters, expression_functions, filter_of, filters_of, functions_of, indexed, operand_functions, parts_functions, planned_function, predicate_functions, same_planned, set_functions}
 use Rattle.query_check.specs.Typing.{AreTypedParts, IsTyped, IsTypedClause, IsTypedExpression, IsTypedFunction, IsTypedOperand, IsTypedPredicate, key_expression}
 use Rattle.query_check.specs.Filters.{AreTypedFilters, LeadBack, filters_at}

@@ -16,7 +16,7 @@ use Rattle.query_resolution.specs.declared.function.FilteredFunction.{FilteredFu
 use Rattle.query_check.specs.declared.scope.Clause.TheVariants as clause
 use Rattle.query_check.specs.Filters.{LeadBack}
 use Rattle.query_resolution.specs.Functions.{PlannedFunction, filter_at, filters_of, functions_of, indexed, indexed_functions}
-use Rattle.query_resolution.specs.Same.{same_predicate}
+use Rattle.query_resolution.specs.Inside.Same.{same_predicate}
 use Rattle.query_check.specs.Typing.{IsTypedPredicate}
 use Rattle.query_truth.specs.declared.condition.Condition.{Condition}
 use Rattle.query_truth.specs.Binding.{AreConditionsOf}

@@ -15,7 +15,8 @@ use Rattle.query_tree.specs.declared.predicate.Literal.{Literal}
 use Rattle.query_tree.specs.declared.predicate.Literal.TheVariants as constant
 use Rattle.query_tree.specs.Syntax.{ExpressionForm, FunctionForm, OperandForm, PredicateForm, PredicateForms, name, grouping, function, over_all, over_filtered, expression, literal, or_of, and_of, not_of, truth_test, compare, between, member, null_test, column, no_parts, part, predicate_form, predicate_forms}
 use Rattle.query_resolution.specs.declared.function.ColumnFunction.{ColumnFunction}
-use Rattle.query_resolution.specs.Same.{same_aggregate, same_expression, same_literal, same_literals, same_mark, same_names, same_op, same_operand, same_parts, same_predicate, same_set_function, same_truth_value}
+use Rattle.query_resolution.specs.declared.function.ColumnFunction.TheVariants as at
+use Rattle.query_resolution.specs.Inside.Same.{same_aggregate, same_expression, same_literal, same_literals, same_mark, same_names, same_op, same_operand, same_parts, same_predicate, same_set_function, same_truth_value}
 use Rattle.query_resolution.specs.Functions.{PlannedFunction, same_filter, same_function, same_planned}
 use Rattle.query_resolution.proofs.Distinct.{same_functions}
 
@@ -240,6 +241,29 @@ planned_are_same f g h =
     let k = both_hold (same_function f.function g.function) (same_filter f.filter g.filter) h in
     let made : ColumnFunction → Option PredicateForm → PlannedFunction = λ x o. record { function = x; filter = o } in
     ap (λ (x : ColumnFunction). made x f.filter) (same_functions f.function g.function k.0) ∙ ap (made g.function) (filters_are_same f.filter g.filter k.1)
+
+-- A set function without its filter is the same as itself.
+function_of_column_itself : (f : ColumnFunction) → same_function f f ≡ true
+function_of_column_itself at.CountRows = refl
+function_of_column_itself (at.Count a) = grind (arith, nat_tests)
+function_of_column_itself (at.CountDistinct a) = grind (arith, nat_tests)
+function_of_column_itself (at.Sum a) = grind (arith, nat_tests)
+function_of_column_itself (at.Min a) = grind (arith, nat_tests)
+function_of_column_itself (at.Max a) = grind (arith, nat_tests)
+function_of_column_itself (at.Avg a) = grind (arith, nat_tests)
+
+-- A filter is the same as itself, and so is none.
+filter_itself : (o : Option PredicateForm) → same_filter o o ≡ true
+filter_itself None = refl
+filter_itself (Some p) = predicate_itself p
+
+-- Two set functions are the same exactly where they are equal.
+pub same_planned-Decides : (f g : PlannedFunction) → Decides (same_planned f g) (f ≡ g)
+same_planned-Decides f g = (
+  planned_are_same f g,
+  λ e. ap (λ (h : PlannedFunction). same_planned h g) e
+      ∙ hold_both (same_function g.function g.function) (same_filter g.filter g.filter) (function_of_column_itself g.function) (filter_itself g.filter),
+)
 
 -- ---- lists
 

@@ -10,7 +10,7 @@ use Rattle.query_resolution.specs.declared.function.ColumnFunction.{ColumnFuncti
 use Rattle.query_resolution.specs.declared.function.ColumnFunction.TheVariants as at
 use Rattle.query_resolution.specs.declared.function.FilteredFunction.{FilteredFunction}
 use Rattle.query_resolution.specs.Columns.{distinct, place_of}
-use Rattle.query_resolution.specs.Same.{same_predicate}
+use Rattle.query_resolution.specs.Inside.Same.{same_predicate}
 
 -- The set function without its FILTER.
 abbrev pub aggregate_of : FunctionForm → Aggregate
@@ -93,7 +93,8 @@ pub record PlannedFunction : Type 0 where
 abbrev pub planned_function : List Field → FunctionForm → Option PlannedFunction
 planned_function fields f = option_map (λ g. record { function = g; filter = filter_of f }) (column_function fields (aggregate_of f))
 
--- Filters are the same where their trees are; a function without one has another filter than each function with one.
+-- Filters are the same where their trees are equal (`same_predicate_law`); a function without one has another filter than
+-- each function with one.
 abbrev pub same_filter : Option PredicateForm → Option PredicateForm → Bool
 same_filter None None = true
 same_filter (Some p) (Some q) = same_predicate p q

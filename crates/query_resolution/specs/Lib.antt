@@ -1,7 +1,7 @@
 pub mod Columns
 pub mod Sets
 pub mod Laws
-pub mod Same
+pub mod Inside
 pub mod Functions
 pub mod Planning
 pub mod Resolution

@@ -5,8 +5,9 @@ ghost use Rattle.values.specs.Schema.{Field};
 ghost use Rattle.query_tree.specs.Syntax.{TreeForm, PredicateForm};
 ghost use Rattle.query_resolution.specs.Columns.{distinct};
 ghost use Rattle.query_resolution.specs.Sets.{crossed, cube_sets, expanded_sets, rollup_sets, sets_of};
+ghost use Rattle.query_resolution.specs.Functions.{PlannedFunction, same_planned};
 ghost use Rattle.query_resolution.specs.Laws.{AreDistinct, HaveSameColumns, IsCrossed, IsCube, IsRollup};
-ghost use Rattle.query_resolution.specs.Same.{same_predicate};
+ghost use Rattle.query_resolution.specs.Inside.Same.{same_predicate};
 
 /// A law: ROLLUP stands for the sets of its first n units, of its first n-1, and so on to the empty set,
 /// ISO/IEC 9075-2 `<rollup list>`.
@@ -42,4 +43,9 @@ pub fn crossed_law()
 /// A law: two predicates are the same exactly where their trees are equal.
 pub fn same_predicate_law()
     ensures { (p q : PredicateForm) → Decides (same_predicate p q) (p ≡ q) }
+{}
+
+/// A law: two set functions are the same exactly where the function, DISTINCT, the column and the filter are equal.
+pub fn same_function_law()
+    ensures { (f g : PlannedFunction) → Decides (same_planned f g) (f ≡ g) }
 {}

@@ -5,7 +5,7 @@ ghost use Rattle.std.specs.List.{filter_map, flat_map, list_any};
 ghost use Rattle.values.specs.Schema.{fields_of};
 ghost use Rattle.query_tree.specs.Syntax.{expression_form, function_form, item_form, key_form, operand_form, predicate_form, predicate_forms, tree_form};
 ghost use Rattle.query_resolution.specs.Columns.{distinct};
-ghost use Rattle.query_resolution.specs.Same.{same_predicate};
+ghost use Rattle.query_resolution.specs.Inside.Same.{same_predicate};
 ghost use Rattle.query_resolution.specs.Functions.{different_filters, expression_functions, filters_of, functions_of, indexed, indexed_functions, operand_functions, parts_functions, planned_function, predicate_functions, same_planned, set_functions};
 ghost use Rattle.query_resolution.specs.Planning.{filter_forms, planned_form, planned_forms};
 
@@ -312,7 +312,7 @@ fn different_filters<'a>(
 }
 
 /// The different filters of a query, in the order in which they first stand in SELECT, HAVING and ORDER BY. Two are
-/// the same where their trees are, as `is_same_predicate` tells.
+/// the same where their trees are equal, apart from where they lie in memory.
 ///
 /// Example: under the columns `q:int,b:bool` those of
 /// `SELECT COUNT(*) FILTER (WHERE b), COUNT(*) FILTER (WHERE q = 1), SUM(q) FILTER (WHERE (b)) FROM lines` are `b`

@@ -2,7 +2,7 @@
 
 ghost use Rattle.std.specs.Prelude.{◌≡◌, map};
 ghost use Rattle.query_tree.specs.Syntax.{expression_form, function_form, member, null_test, operand_form, predicate_form, predicate_forms, truth_test};
-ghost use Rattle.query_resolution.specs.Same.{same_aggregate, same_expression, same_literal, same_literals, same_mark, same_names, same_op, same_operand, same_parts, same_predicate, same_set_function, same_truth_value};
+ghost use Rattle.query_resolution.specs.Inside.Same.{same_aggregate, same_expression, same_literal, same_literals, same_mark, same_names, same_op, same_operand, same_parts, same_predicate, same_set_function, same_truth_value};
 
 use query_tree::{Aggregate, Expression, Literal, Operand, Predicate, SetFunction, Text};
 use values::{Op, Truth};
@@ -116,7 +116,7 @@ fn is_same_aggregate(aggregate: &Aggregate, other: &Aggregate) -> bool
 ///
 /// Example: `q = 1` and `(q = 1)` are the same, `q = 1` and `1 = q` are not.
 #[cycle(is_same_predicate)]
-pub fn is_same_predicate(predicate: &Predicate, other: &Predicate) -> bool
+pub(crate) fn is_same_predicate(predicate: &Predicate, other: &Predicate) -> bool
     ensures same { result ≡ same_predicate (predicate_form predicate.now) (predicate_form other.now) }
 {
     match (predicate, other) {

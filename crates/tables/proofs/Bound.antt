@@ -6,7 +6,7 @@ use Rattle.values.specs.Schema.{Field}
 use Rattle.query_tree.specs.Syntax.{PredicateForm, TreeForm}
 use Rattle.query_check.specs.Filters.{filters_at}
 use Rattle.query_resolution.specs.Functions.{PlannedFunction, filters_of, functions_of, indexed, indexed_functions}
-use Rattle.query_resolution.specs.Same.{same_predicate}
+use Rattle.query_resolution.specs.Inside.Same.{same_predicate}
 use Rattle.query_check.proofs.FilterLemmas.{indexes_lead_back}
 use Rattle.query_truth.specs.Kept.{passes}
 use Rattle.groups.specs.Functions.{bound, filter_at}
