@@ -1,5 +1,5 @@
 -- The readers of units, sets and groups have the valid prefix property.
-use Rattle.std.proofs.Common.{length, ◌≡◌, ℕ, zero, suc, Bool, true, false, List, [], ◌∷◌, Ok, refl, subst}
+use Rattle.std.proofs.Common.{length, ◌≡◌, ℕ, zero, suc, Bool, true, false, List, [], ◌∷◌, ◌++◌, Ok, refl, subst}
 use Rattle.std.specs.Prelude.{codes}
 use Rattle.query_tokens.specs.declared.token.Token.{Token}
 use Rattle.query_tokens.specs.declared.token.Token.TheVariants as tokens
@@ -153,14 +153,14 @@ element_v {wide} {IsInner} nested vn =
     (after_word_is w.Grouping) (λ i. refl) (λ us vs x q. q) set_element_at nested
     (viable_made set_at (λ ns. set ns) (λ us vs ns q. IsElement.set q) set_v) vn)
     (viable_made units_at (λ us. cube us) cube_of units_v)) (viable_made units_at (λ us. rollup us) rollup_of units_v)
-    where
-      cube_of : (us vs : List Token) (x : List (List (List ℕ))) → Enclosed (All IsUnit) us x vs
-          → IsElement IsInner (tokens.Word w.Cube ∷ us) (cube x) vs
-      cube_of _ _ _ (Enclosed.brackets (Listed.parts unit others)) = IsElement.cube unit others
+  where
+    cube_of : (us vs : List Token) (x : List (List (List ℕ))) → Enclosed (All IsUnit) us x vs
+        → IsElement IsInner (tokens.Word w.Cube ∷ us) (cube x) vs
+    cube_of _ _ _ (Enclosed.brackets (Listed.parts unit others)) = IsElement.cube unit others
 
-      rollup_of : (us vs : List Token) (x : List (List (List ℕ))) → Enclosed (All IsUnit) us x vs
-          → IsElement IsInner (tokens.Word w.Rollup ∷ us) (rollup x) vs
-      rollup_of _ _ _ (Enclosed.brackets (Listed.parts unit others)) = IsElement.rollup unit others
+    rollup_of : (us vs : List Token) (x : List (List (List ℕ))) → Enclosed (All IsUnit) us x vs
+        → IsElement IsInner (tokens.Word w.Rollup ∷ us) (rollup x) vs
+    rollup_of _ _ _ (Enclosed.brackets (Listed.parts unit others)) = IsElement.rollup unit others
 
 -- The tokens of a group: brackets round nothing.
 abbrev group_tokens : List Token
@@ -209,7 +209,7 @@ sets_of false n = n
 sets_v : (wide : Bool) (n : ℕ) → Viable false wide (Nested (IsGroup (sets_of wide n))) (sets_at n)
 unfolding sets_at IsGroup
 sets_v true zero = viable_over (λ i. record {
-  tokens = tokens.Word w.Sets ∷ tokens.Sign s.Open ∷ tokens.Sign s.Open ∷ tokens.Sign s.Close ∷ tokens.Sign s.Close ∷ [];
+  tokens = tokens.Word w.Sets ∷ tokens.Sign s.Open ∷ (group_tokens ++ tokens.Sign s.Close ∷ []);
   value = sets (element_forms (set [] ∷ []));
   derived = λ other. IsElement.sets (IsElement.set IsSet.none) IsRepeated.none;
 })

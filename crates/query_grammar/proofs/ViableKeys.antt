@@ -64,7 +64,8 @@ unfolding null_ordering_at
 null_ordering_v d =
     viable_word w.Nulls (λ ts. Ok (d, ts)) first_or_last_at (viable_ok d (λ ts. IsNullOrdering.none))
     (viable_word w.First last_at (λ r. Ok (true, r))
-    (expected_word w.Last (λ r. Ok (false, r)) record { tokens = []; value = false; derived = λ other. IsNullOrdering.last }
+    (expected_word w.Last (λ r. Ok (false, r))
+    record { tokens = []; value = false; derived = λ other. IsNullOrdering.last }
     (viable_ok false (λ ts. IsNullOrdering.last))) (viable_ok true (λ ts. IsNullOrdering.first)))
 
 -- A key of an expression that was read.
@@ -103,10 +104,10 @@ key_behind_v wide e =
       none : Viable true wide (KeyBehind (limits_of wide) e) (key_end e false)
       none = viable_as (λ us ws k q vs p. q us vs p IsDirection.none) (key_end_v wide e false)
 
-      ascending : Viable true wide (λ us k ws. KeyBehind (limits_of wide) e (tokens.Word w.Asc ∷ us) k ws) (key_end e false)
+      ascending : Viable true wide (λ us. KeyBehind (limits_of wide) e (tokens.Word w.Asc ∷ us)) (key_end e false)
       ascending = viable_as (λ us ws k q vs p. q _ vs p IsDirection.ascending) (key_end_v wide e false)
 
-      descending : Viable true wide (λ us k ws. KeyBehind (limits_of wide) e (tokens.Word w.Desc ∷ us) k ws) (key_end e true)
+      descending : Viable true wide (λ us. KeyBehind (limits_of wide) e (tokens.Word w.Desc ∷ us)) (key_end e true)
       descending = viable_as (λ us ws k q vs p. q _ vs p IsDirection.descending) (key_end_v wide e true)
 
 -- A key.

@@ -17,6 +17,7 @@ use Rattle.query_tree.specs.declared.expression.Aggregate.{Aggregate}
 use Rattle.query_tree.specs.declared.expression.Aggregate.TheVariants as aggregates
 use Rattle.query_tree.specs.Syntax.{ExpressionForm, FunctionForm, OperandForm, PredicateForm, PredicateForms, name, grouping, function, over_all, over_filtered, or_of, and_of, not_of, truth_test, compare, between, member, null_test, column, no_parts, part, predicate_forms}
 use Rattle.query_print.specs.Canonical.{tightness}
+use Rattle.query_derivation.specs.Limits.{standard}
 use Rattle.query_derivation.specs.Leaves.{Derivation, IsRepeated, IsName, IsAggregate, IsLiteral, IsOp, IsTruthValue, IsMark}
 use Rattle.query_derivation.specs.Predicates.{IsFunction, IsExpression, IsOperand, IsAtom, IsPrimary, IsTest, IsNegation, IsConjunction, IsDisjunction, IsPredicate}
 use Rattle.query_round.proofs.Good.{Each, Filled, GoodName, GoodFunction, GoodExpression, GoodLiteral, GoodOperand, IsMany, Fits, Good, PartsFit}
@@ -50,7 +51,7 @@ aggregate_d (aggregates.Min n) r = IsAggregate.min
 aggregate_d (aggregates.Max n) r = IsAggregate.max
 aggregate_d (aggregates.Avg n) r = IsAggregate.avg
 
-grouping_d : (Inner : Derivation PredicateForm) (ns : List (List ℕ)) (r : List Token) → Filled 8 GoodName ns → IsExpression Inner (expression_onto (grouping ns) r) (grouping ns) r
+grouping_d : (Inner : Derivation PredicateForm) (ns : List (List ℕ)) (r : List Token) → Filled 8 GoodName ns → IsExpression standard Inner (expression_onto (grouping ns) r) (grouping ns) r
 grouping_d Inner [] r g = absurd g
 grouping_d Inner (n ∷ ns) r g =
     IsExpression.grouping (commas_derive IsName name_onto GoodName name_d ns (tokens.Sign s.Close ∷ r) g.1) g.2
@@ -82,10 +83,10 @@ mark_d false r = IsMark.none
 
 -- The tokens of an operand derive it, whatever stands behind them.
 abbrev OperandDerives : Derivation PredicateForm → OperandForm → Type 0
-OperandDerives Inner x = (r : List Token) → IsOperand Inner (operand_onto x r) x r
+OperandDerives Inner x = (r : List Token) → IsOperand standard Inner (operand_onto x r) x r
 
 member_d : (Inner : Derivation PredicateForm) (x : OperandForm) (n : Bool) (ls : List Literal) (r : List Token) → OperandDerives Inner x → Filled 64 GoodLiteral ls
-    → IsAtom Inner (predicate_onto (member x n ls) r) (member x n ls) r
+    → IsAtom standard Inner (predicate_onto (member x n ls) r) (member x n ls) r
 member_d Inner x n [] r g h = absurd h
 member_d Inner x n (a ∷ ls) r g h =
     let others = commas_derive IsLiteral literal_onto GoodLiteral literal_d ls (tokens.Sign s.Close ∷ r) h.1 in
@@ -94,11 +95,11 @@ member_d Inner x n (a ∷ ls) r g h =
 -- ---- levels: what a predicate that holds together so tightly is derived as
 
 abbrev At : ℕ → ℕ → Derivation PredicateForm
-At zero n = IsDisjunction (IsPredicate n)
-At (suc zero) n = IsConjunction (IsPredicate n)
-At (suc (suc zero)) n = IsNegation (IsPredicate n)
-At (suc (suc (suc zero))) n = IsTest (IsPredicate n)
-At (suc (suc (suc (suc k)))) n = IsPrimary (IsPredicate n)
+At zero n = IsDisjunction standard (IsPredicate standard n)
+At (suc zero) n = IsConjunction standard (IsPredicate standard n)
+At (suc (suc zero)) n = IsNegation standard (IsPredicate standard n)
+At (suc (suc (suc zero))) n = IsTest standard (IsPredicate standard n)
+At (suc (suc (suc (suc k)))) n = IsPrimary standard (IsPredicate standard n)
 
 down : (l n : ℕ) (ts r : List Token) (p : PredicateForm) → At (suc l) n ts p r → At l n ts p r
 down zero n ts r p i = IsDisjunction.parts {ps = []} i IsRepeated.none
@@ -152,40 +153,40 @@ PartsDerive k sep (part p ps) n r =
     × IsRepeated sep (At k n) (others_onto sep (part_ontos k ps) r) (listed ps) r
 
 or_d : (ps : PredicateForms) (n : ℕ) (r : List Token) → IsMany ps → PartsDerive 1 (tokens.Word w.Or) ps n r
-    → IsDisjunction (IsPredicate n) (predicate_onto (or_of ps) r) (or_of ps) r
+    → IsDisjunction standard (IsPredicate standard n) (predicate_onto (or_of ps) r) (or_of ps) r
 or_d no_parts n r many g = absurd many
 or_d (part p no_parts) n r many g = absurd many
 or_d (part p (part q ps)) n r many g =
     let ts : List Token = predicate_onto (or_of (part p (part q ps))) r in
-    subst (λ qs. IsDisjunction (IsPredicate n) ts (or_of (part p (part q qs))) r) (listed_again ps) (IsDisjunction.parts g.0 g.1)
+    subst (λ qs. IsDisjunction standard (IsPredicate standard n) ts (or_of (part p (part q qs))) r) (listed_again ps) (IsDisjunction.parts g.0 g.1)
 
 and_d : (ps : PredicateForms) (n : ℕ) (r : List Token) → IsMany ps → PartsDerive 2 (tokens.Word w.And) ps n r
-    → IsConjunction (IsPredicate n) (predicate_onto (and_of ps) r) (and_of ps) r
+    → IsConjunction standard (IsPredicate standard n) (predicate_onto (and_of ps) r) (and_of ps) r
 and_d no_parts n r many g = absurd many
 and_d (part p no_parts) n r many g = absurd many
 and_d (part p (part q ps)) n r many g =
     let ts : List Token = predicate_onto (and_of (part p (part q ps))) r in
-    subst (λ qs. IsConjunction (IsPredicate n) ts (and_of (part p (part q qs))) r) (listed_again ps) (IsConjunction.parts g.0 g.1)
+    subst (λ qs. IsConjunction standard (IsPredicate standard n) ts (and_of (part p (part q qs))) r) (listed_again ps) (IsConjunction.parts g.0 g.1)
 
 -- A predicate with at most n levels of brackets is one with fewer than n and one more.
-as_predicate : (l n : ℕ) (ts r : List Token) (p : PredicateForm) → At l n ts p r → IsPredicate (suc n) ts p r
+as_predicate : (l n : ℕ) (ts r : List Token) (p : PredicateForm) → At l n ts p r → IsPredicate standard (suc n) ts p r
 unfolding IsPredicate
 as_predicate l n ts r p i = lower l 0 n ts r p (omega arith) i
 
 mutual
-  function_d : (f : FunctionForm) (n : ℕ) (r : List Token) → GoodFunction f n → IsFunction (IsPredicate n) (function_onto f r) f r
+  function_d : (f : FunctionForm) (n : ℕ) (r : List Token) → GoodFunction f n → IsFunction standard (IsPredicate standard n) (function_onto f r) f r
   function_d (over_all f) n r g = IsFunction.plain (aggregate_d f r)
   function_d (over_filtered f p) zero r g = absurd g.1
   function_d (over_filtered f p) (suc n) r g =
       let closed : List Token = tokens.Sign s.Close ∷ r in
       IsFunction.filtered (aggregate_d f _) (as_predicate (tightness p) n (predicate_onto p closed) closed p (good_d p n closed g.1))
 
-  pub expression_d : (e : ExpressionForm) (n : ℕ) (r : List Token) → GoodExpression e n → IsExpression (IsPredicate n) (expression_onto e r) e r
+  pub expression_d : (e : ExpressionForm) (n : ℕ) (r : List Token) → GoodExpression e n → IsExpression standard (IsPredicate standard n) (expression_onto e r) e r
   expression_d (name m) n r g = IsExpression.name
-  expression_d (grouping ms) n r g = grouping_d (IsPredicate n) ms r g
+  expression_d (grouping ms) n r g = grouping_d (IsPredicate standard n) ms r g
   expression_d (function f) n r g = IsExpression.function (function_d f n r g)
 
-  operand_d : (x : OperandForm) (n : ℕ) → GoodOperand x n → OperandDerives (IsPredicate n) x
+  operand_d : (x : OperandForm) (n : ℕ) → GoodOperand x n → OperandDerives (IsPredicate standard n) x
   operand_d (OperandForm.expression e) n g r = IsOperand.expression (expression_d e n r g)
   operand_d (OperandForm.literal a) n g r = IsOperand.literal (literal_d a r g)
 
@@ -197,7 +198,7 @@ mutual
       IsTest.test (fits_d 4 (tightness p) n p (predicate_onto p) (Good p) (good_d p) (omega arith) _ g) (mark_d b _) (truth_d t r)
   good_d (compare x o y) n r g = IsPrimary.atom (IsAtom.compare (operand_d x n g.0 _) (op_d o _) (operand_d y n g.1 r))
   good_d (between x b y z) n r g = IsPrimary.atom (IsAtom.between (operand_d x n g.0 _) (mark_d b _) (operand_d y n g.1 _) (operand_d z n g.2 r))
-  good_d (member x b ls) n r g = IsPrimary.atom (member_d (IsPredicate n) x b ls r (operand_d x n g.0) g.1)
+  good_d (member x b ls) n r g = IsPrimary.atom (member_d (IsPredicate standard n) x b ls r (operand_d x n g.0) g.1)
   good_d (null_test x b) n r g = IsPrimary.atom (IsAtom.null_test (operand_d x n g _) (mark_d b _))
   good_d (column m) n r g = IsPrimary.atom IsAtom.column
 
@@ -213,5 +214,5 @@ mutual
       IsRepeated.more (fits_d k (tightness p) n p (predicate_onto p) (Good p) (good_d p) room _ g.0) (others_d sep k ps n r room g.1)
 
 -- The tokens of a good predicate derive it.
-pub predicate_d : (p : PredicateForm) (n : ℕ) (r : List Token) → Good p n → IsPredicate (suc n) (predicate_onto p r) p r
+pub predicate_d : (p : PredicateForm) (n : ℕ) (r : List Token) → Good p n → IsPredicate standard (suc n) (predicate_onto p r) p r
 predicate_d p n r g = as_predicate (tightness p) n (predicate_onto p r) r p (good_d p n r g)

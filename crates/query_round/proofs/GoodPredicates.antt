@@ -11,6 +11,7 @@ use Rattle.query_tree.specs.declared.predicate.Literal.{Literal}
 use Rattle.query_tree.specs.declared.expression.Aggregate.{Aggregate}
 use Rattle.query_tree.specs.Syntax.{ExpressionForm, FunctionForm, OperandForm, PredicateForm, or_of, and_of, not_of, truth_test, predicate_forms}
 use Rattle.query_print.specs.Canonical.{tightness}
+use Rattle.query_derivation.specs.Limits.{standard}
 use Rattle.query_derivation.specs.Leaves.{Derivation, IsRepeated, IsName, IsAggregate, IsLiteral, IsOp, IsTruthValue, IsMark}
 use Rattle.query_derivation.specs.Predicates.{IsFunction, IsExpression, IsOperand, IsAtom, IsPrimary, IsTest, IsNegation, IsConjunction, IsDisjunction, IsPredicate, conjunction_of, disjunction_of}
 use Rattle.query_round.proofs.Good.{Each, GoodName, GoodAggregate, GoodFunction, GoodExpression, GoodLiteral, GoodOperand, IsMany, Deeper, Fits, Good, PartsFit, deeper_good}
@@ -114,27 +115,27 @@ parts_leave top {n} sep D loose =
 module _ (n : ℕ) (Inner : Derivation PredicateForm) (inner : Leaves PredicateForm Inner (λ p. Deeper (Good p) n)) where
   -- ---- expressions
 
-  function_leaves : Leaves FunctionForm (IsFunction Inner) (λ f. GoodFunction f n)
+  function_leaves : Leaves FunctionForm (IsFunction standard Inner) (λ f. GoodFunction f n)
   function_leaves ts r _ (IsFunction.plain {f} d) h = aggregate_leaves ts r f d h
   function_leaves ts r _ (IsFunction.filtered {mid} {f} {p} d i) h =
       let g = aggregate_leaves ts (tokens.Word w.Filter ∷ tokens.Sign s.Open ∷ tokens.Word w.Where ∷ mid) f d h in
       let k = inner mid (tokens.Sign s.Close ∷ r) p i g.1.1.1.1 in
       ((g.0, k.0), k.1.1)
 
-  pub expression_leaves : Leaves ExpressionForm (IsExpression Inner) (λ e. GoodExpression e n)
+  pub expression_leaves : Leaves ExpressionForm (IsExpression standard Inner) (λ e. GoodExpression e n)
   expression_leaves _ _ _ IsExpression.name h = h
   expression_leaves _ _ _ (IsExpression.grouping tail few) h =
       let others = repeated_leaves (List ℕ) (tokens.Sign s.Comma) IsName GoodName name_leaves tail h.1.1.1 in
       ((h.1.1.0, others.0, few), others.1.1)
   expression_leaves ts r _ (IsExpression.function {f} d) h = function_leaves ts r f d h
 
-  operand_leaves : Leaves OperandForm (IsOperand Inner) (λ x. GoodOperand x n)
+  operand_leaves : Leaves OperandForm (IsOperand standard Inner) (λ x. GoodOperand x n)
   operand_leaves ts r _ (IsOperand.expression {e} d) h = expression_leaves ts r e d h
   operand_leaves ts r _ (IsOperand.literal {a} d) h = literal_leaves ts r a d h
 
   -- ---- atoms
 
-  atom_leaves : Loose 4 (IsAtom Inner) n
+  atom_leaves : Loose 4 (IsAtom standard Inner) n
   atom_leaves _ _ _ (IsAtom.compare {ts} {u} {v} {r} {x} {y} a o b) h =
       let f = operand_leaves ts u x a h in
       let g = operand_leaves v r y b (op_leaves o f.1) in
@@ -156,31 +157,31 @@ module _ (n : ℕ) (Inner : Derivation PredicateForm) (inner : Leaves PredicateF
 
   -- ---- predicates
 
-  primary_leaves : Loose 4 (IsPrimary Inner) n
+  primary_leaves : Loose 4 (IsPrimary standard Inner) n
   primary_leaves _ _ _ (IsPrimary.brackets {ts} {r} {p} i) h = let g = inner ts (tokens.Sign s.Close ∷ r) p i h.1 in (tight_deeper n p g.0, g.1.1)
   primary_leaves _ _ _ (IsPrimary.atom {ts} {r} {p} a) h = atom_leaves ts r p a h
 
-  test_leaves : Loose 3 (IsTest Inner) n
+  test_leaves : Loose 3 (IsTest standard Inner) n
   test_leaves _ _ _ (IsTest.plain {ts} {r} {p} i) h = let g = primary_leaves ts r p i h in (tight_less 4 3 n p (omega arith) g.0, g.1)
   test_leaves _ _ _ (IsTest.test {ts} {u} {p} {n = b} {t} i m d) h =
       let g = primary_leaves ts (tokens.Word w.Is ∷ u) p i h in
       (tight_good 3 n (truth_test p b t) (omega arith) (g.0.fits 4 (omega arith)), truth_leaves d (mark_leaves m g.1.1))
 
-  negation_leaves : Loose 2 (IsNegation Inner) n
+  negation_leaves : Loose 2 (IsNegation standard Inner) n
   negation_leaves _ _ _ (IsNegation.plain {ts} {r} {p} i) h = let g = test_leaves ts r p i h in (tight_less 3 2 n p (omega arith) g.0, g.1)
   negation_leaves _ _ _ (IsNegation.not {ts} {r} {p} i) h =
       let g = test_leaves ts r p i h.1 in (tight_good 2 n (not_of p) (omega arith) (g.0.fits 3 (omega arith)), g.1)
 
-  conjunction_leaves : Loose 1 (IsConjunction Inner) n
+  conjunction_leaves : Loose 1 (IsConjunction standard Inner) n
   conjunction_leaves _ _ _ (IsConjunction.parts {ts} {mid} {p} {ps} i tail) h =
       let g = negation_leaves ts mid p i h in
-      let j = parts_leave 2 (tokens.Word w.And) (IsNegation Inner) negation_leaves tail g.1 in
+      let j = parts_leave 2 (tokens.Word w.And) (IsNegation standard Inner) negation_leaves tail g.1 in
       (and_tight n p ps g.0 j.0, j.1)
 
-  disjunction_leaves : Loose 0 (IsDisjunction Inner) n
+  disjunction_leaves : Loose 0 (IsDisjunction standard Inner) n
   disjunction_leaves _ _ _ (IsDisjunction.parts {ts} {mid} {p} {ps} i tail) h =
       let g = conjunction_leaves ts mid p i h in
-      let j = parts_leave 1 (tokens.Word w.Or) (IsConjunction Inner) conjunction_leaves tail g.1 in
+      let j = parts_leave 1 (tokens.Word w.Or) (IsConjunction standard Inner) conjunction_leaves tail g.1 in
       (or_tight n p ps g.0 j.0, j.1)
 
 loosest : (has : ℕ) (G : ℕ → Type 0) (n : ℕ) → Fits 0 has G n → G n
@@ -188,9 +189,9 @@ loosest has G n (inl h) = absurd (let k = h.0 in omega arith)
 loosest has G n (inr h) = h.1
 
 -- A predicate with fewer than n levels of brackets needs fewer than n.
-pub predicate_leaves : (n : ℕ) → Leaves PredicateForm (IsPredicate n) (λ p. Deeper (Good p) n)
+pub predicate_leaves : (n : ℕ) → Leaves PredicateForm (IsPredicate standard n) (λ p. Deeper (Good p) n)
 unfolding IsPredicate
 predicate_leaves zero ts r p d h = absurd d
 predicate_leaves (suc n) ts r p d h =
-    let g = disjunction_leaves n (IsPredicate n) (predicate_leaves n) ts r p d h in
+    let g = disjunction_leaves n (IsPredicate standard n) (predicate_leaves n) ts r p d h in
     (loosest (tightness p) (Good p) n (g.0.fits 0 (omega arith)), g.1)
