@@ -102,3 +102,21 @@ decided text = elim (at_most_or (length text) 65536) [
     | inr n ↦ inr (faults.NoToken n.0, (short, n.1))
   ]
 ]
+
+-- ---- what is answered is told, and no other
+
+-- What is answered is this fault, or that memory ran out.
+abbrev Told : List ℕ → QueryFault → Type 0
+Told text found = (fault : QueryFault) → IsRefusalOf text fault → (found ≡ fault) ⊎ (found ≡ faults.OutOfMemory)
+
+pub told_no_token : (text : List ℕ) (at : ℕ) → length text ≤ 65536 → StopsAt text at → Told text (faults.NoToken at)
+told_no_token text at short s fault f = inl (one text (faults.NoToken at) fault (short, s) f)
+
+pub told_unexpected : (text : List ℕ) (byte : ℕ) → length text ≤ 65536 → IsUnexpectedAt text byte → Told text (faults.Unexpected byte)
+told_unexpected text byte short u fault f = inl (one text (faults.Unexpected byte) fault (short, u) f)
+
+pub told_too_much : (text : List ℕ) → SpellsTooMuch text → Told text faults.OverLimit
+told_too_much text o fault f = inl (one text faults.OverLimit fault (inr o) f)
+
+pub told_query : (text starts : List ℕ) (ks : List Token) (q : TreeForm) → length text ≤ 65536 → Spells text ks starts → TokensDerive ks q → (fault : QueryFault) → IsRefusalOf text fault → ⊥
+told_query text starts ks q short s d fault f = not_both text q fault record { short = short; tokens = ks; starts = starts; spelled = s; derived = d } f

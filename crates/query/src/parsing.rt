@@ -29,7 +29,7 @@ const MOST_BYTES: usize = 65_536;
 /// of the first token that does not continue a query, or the length of the text where its end does
 /// not; where the tokens before it are more than the limits allow, the fault is `OverLimit`.
 /// `OutOfMemory` says nothing of the text.
-#[tactic(auto, using(crate::proofs::Places::unexpected_at, crate::proofs::Places::too_much))]
+#[tactic(auto, using(crate::proofs::Places::unexpected_at, crate::proofs::Places::too_much, crate::proofs::Refusals::told_no_token, crate::proofs::Refusals::told_unexpected, crate::proofs::Refusals::told_too_much, crate::proofs::Refusals::told_query))]
 pub fn parse(alloc: Global, text: &str) -> Result<Query, QueryFault>
     // What is read is derived.
     ensures derived { IfOk result (λ query. Derives text.now (form_of query)) }
