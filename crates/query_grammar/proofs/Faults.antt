@@ -1,6 +1,6 @@
 -- Where the reader of queries stops, tokens go wrong; they do so once, and not where they derive a query.
 use Rattle.std.proofs.Common.{arith, length, take, drop, ◌<◌, ◌≤◌, ◌+◌, ◌-◌, ◌≡◌, ◌⊎◌, inl, inr, ℕ, zero, suc, Result, Ok, Err, List, [], ◌∷◌, ◌++◌, refl, sym, ap, subst, ◌∙◌}
-use Rattle.std.proofs.lemmas.List.{append_assoc, append-nil, length-append, take-append-drop, take-append-le}
+use Rattle.std.proofs.lemmas.List.{append_assoc, length-append, take-append-drop, take-append-le}
 use Rattle.query_tokens.specs.declared.token.Token.{Token}
 use Rattle.query_tokens.specs.declared.token.Token.TheVariants as tokens
 use Rattle.query_tokens.specs.declared.token.Word.TheVariants as w

@@ -8,7 +8,7 @@ use Rattle.query_derivation.specs.Limits.{Limits}
 use Rattle.query_leaves.specs.declared.fault.GrammarFault.{GrammarFault}
 use Rattle.query_leaves.specs.declared.fault.GrammarFault.TheVariants as faults
 use Rattle.query_leaves.specs.Fronts.{is_sign, after}
-use Rattle.query_leaves.specs.Steps.{◌>>=◌, Reader, stuck, expected, excess, with_front, more, listed_at, bracketed_at, name_at, begins_name}
+use Rattle.query_leaves.specs.Steps.{◌>>=◌, Reader, stuck, expected, excess, with_front, more, listed_at, name_at, begins_name}
 use Rattle.query_leaves.specs.LeafSteps.{arguments_at, literal_at, begins_literal, literals_at}
 
 -- ---- limits

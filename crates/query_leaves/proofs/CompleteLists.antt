@@ -1,5 +1,5 @@
 -- Repeated parts that derive from tokens are read.
-use Rattle.std.proofs.Common.{arith, length, ◌+◌, ◌≤◌, ◌≡◌, ℕ, zero, suc, Bool, true, List, ◌∷◌, Some, None, Ok, refl}
+use Rattle.std.proofs.Common.{arith, length, ◌+◌, ◌≤◌, ◌≡◌, ℕ, zero, suc, Bool, true, List, ◌∷◌, None, Ok, refl}
 use Rattle.query_tokens.specs.declared.token.Token.{Token}
 use Rattle.query_tokens.specs.declared.token.Token.TheVariants as tokens
 use Rattle.query_tokens.specs.declared.token.Sign.TheVariants as s

@@ -1,11 +1,10 @@
 -- A reader looks at no token behind the first one that it leaves: on other tokens with the same front it does the same.
 use Rattle.std.proofs.Common.{arith, length, ◌<◌, ◌≤◌, ◌+◌, ◌≡◌, ◌⊎◌, inl, inr, ℕ, zero, suc, Bool, true, false, cond, List, [], ◌∷◌, ◌++◌, Option, Some, None, Result, Ok, Err, refl, sym, ap, subst, ◌∙◌}
 use Rattle.query_tokens.specs.declared.token.Token.{Token}
-use Rattle.query_tokens.specs.declared.token.Token.TheVariants as tokens
 use Rattle.query_tokens.specs.Options.{choose}
 use Rattle.query_leaves.specs.declared.fault.GrammarFault.{GrammarFault}
 use Rattle.query_leaves.specs.declared.fault.GrammarFault.TheVariants as faults
-use Rattle.query_leaves.specs.Fronts.{is_sign, after}
+use Rattle.query_leaves.specs.Fronts.{after}
 use Rattle.query_leaves.specs.Steps.{◌>>=◌, Reader, stuck, over, expected, excess, with_front, more}
 use Rattle.query_leaves.proofs.Inversions.{bind_ok, ok_is}
 

@@ -1,5 +1,5 @@
 -- The readers of leaves have the valid prefix property.
-use Rattle.std.proofs.Common.{arith, length, ◌≤◌, ◌-◌, ◌≡◌, ◌⊎◌, inl, inr, ℕ, zero, suc, Bool, true, false, List, [], ◌∷◌, Option, Some, None, Ok, refl}
+use Rattle.std.proofs.Common.{arith, ◌-◌, ◌≡◌, ◌⊎◌, inl, inr, ℕ, Bool, true, false, List, [], ◌∷◌, Option, Some, None, Ok, refl}
 use Rattle.std.specs.Prelude.{codes}
 use Rattle.values.specs.declared.comparison.Op.{Op}
 use Rattle.values.specs.declared.comparison.Op.TheVariants as op
@@ -21,7 +21,7 @@ use Rattle.query_leaves.specs.LeafSteps.{closed_name_at, argument_at, counted_at
 use Rattle.query_derivation.specs.Limits.{Limits, standard}
 use Rattle.query_derivation.specs.Leaves.{Derivation, IsName, IsAggregate, IsLiteral, IsOp, IsTruthValue, IsMark, IsRepeated}
 use Rattle.query_leaves.proofs.Heads.{after_word_is, after_sign_is}
-use Rattle.query_leaves.proofs.Viable.{Phrase, Viable, Behind, Finds, BeginsPart, TellsPart, AtMost, Listed, Closed, Enclosed, counted, phrase_listed, viable_ok, viable_stuck, viable_as, viable_same, viable_bind, viable_made, viable_choose, viable_expected, viable_expected_front, viable_more, viable_listed, viable_closed, viable_enclosed}
+use Rattle.query_leaves.proofs.Viable.{Phrase, Viable, Finds, BeginsPart, TellsPart, AtMost, Listed, Closed, Enclosed, counted, phrase_listed, viable_ok, viable_stuck, viable_as, viable_same, viable_made, viable_choose, viable_expected, viable_expected_front, viable_more, viable_listed, viable_closed, viable_enclosed}
 
 -- The limits within which a reader's fronts go on: those of the language, or ones wider by one, where a fault may be that it
 -- is too much.

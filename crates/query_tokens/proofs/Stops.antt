@@ -1,5 +1,5 @@
 -- A text spells tokens, or stops at one byte where none begins, and never both.
-use Rattle.std.proofs.Common.{arith, length, length-append, ◌<◌, ◌≤◌, ◌+◌, ◌≡◌, ℕ, zero, suc, Bool, true, false, ◌⊎◌, inl, inr, List, [], ◌∷◌, ◌++◌, Option, Some, None, refl, sym, ap, subst, ◌∙◌}
+use Rattle.std.proofs.Common.{arith, length, length-append, ◌<◌, ◌≤◌, ◌+◌, ◌≡◌, ℕ, zero, suc, true, ◌⊎◌, inl, inr, List, [], ◌∷◌, ◌++◌, Option, Some, None, refl, sym, ap, subst, ◌∙◌}
 use Rattle.std.proofs.lemmas.List.{nil_from_length}
 use Rattle.query_tokens.specs.declared.token.Token.{Token}
 use Rattle.query_tokens.specs.declared.token.Sign.{Sign}
@@ -10,7 +10,7 @@ use Rattle.query_tokens.specs.Steps.{after_space, token_at}
 use Rattle.query_tokens.proofs.Inversions.{some_is}
 use Rattle.query_tokens.proofs.Sound.{token_s}
 use Rattle.query_tokens.proofs.Complete.{token_c, nil_reads}
-use Rattle.query_tokens.proofs.Progress.{spaced, unspaced, space_passed, after_no_token, spelled_end, spelled_space, spelled_token}
+use Rattle.query_tokens.proofs.Progress.{spaced, unspaced, space_passed, after_no_token}
 use Rattle.query_tokens.proofs.Unique.{token_no_space}
 
 -- Nothing begins where no token begins.

@@ -1,5 +1,5 @@
 -- No text spells two lists of tokens.
-use Rattle.std.proofs.Common.{arith, length, length-append, ◌+◌, ◌≡◌, ℕ, List, [], ◌∷◌, ◌++◌, Option, Some, None, refl, sym, ap, ◌∙◌}
+use Rattle.std.proofs.Common.{arith, length, length-append, ◌+◌, ◌≡◌, ℕ, List, ◌∷◌, ◌++◌, Option, Some, None, refl, sym, ap, ◌∙◌}
 use Rattle.query_tokens.specs.declared.token.Token.{Token}
 use Rattle.query_tokens.specs.Spelling.{IsToken, SpellsFrom, Spells}
 use Rattle.query_tokens.specs.Steps.{after_space}

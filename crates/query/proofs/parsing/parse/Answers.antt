@@ -1,4 +1,4 @@
-use Rattle.std.proofs.Common.{arith, rules, ◌≤◌, ◌-◌, length, refl, subst}
+use Rattle.std.proofs.Common.{rules, ◌≤◌, ◌-◌, length, subst}
 use Rattle.query_derivation.specs.Prefixes.{IsUnexpected}
 use Rattle.query.proofs.Places.{unexpected_at}
 use Rattle.query.proofs.Refusals.{told_no_token, told_unexpected}
