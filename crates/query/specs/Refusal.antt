@@ -1,5 +1,5 @@
 -- What a fault says of a text that is read.
-use Rattle.std.specs.Prelude.{◌≡◌, ◌≤◌, ◌<◌, ◌⊎◌, ℕ, Some, List, [], ◌∷◌, ◌++◌, length, slice_get}
+use Rattle.std.specs.Prelude.{◌≡◌, ◌≤◌, ◌<◌, ◌⊎◌, ℕ, Some, Result, MatchResult, List, [], ◌∷◌, ◌++◌, length, slice_get}
 use Rattle.query_fault.specs.declared.QueryFault.{QueryFault}
 use Rattle.query_fault.specs.declared.QueryFault.TheVariants as faults
 use Rattle.query_tokens.specs.declared.token.Token.{Token}
@@ -36,3 +36,7 @@ IsRefusalOf text faults.OverLimit = (65536 < length text) ⊎ SpellsTooMuch text
 IsRefusalOf text faults.FunctionNotAllowed = ⊥
 IsRefusalOf text (faults.RepeatedHeader header) = ⊥
 IsRefusalOf text faults.OutOfMemory = ⊥
+
+-- A call refuses with this fault, unless memory ran out.
+abbrev pub Refuses : {A : Type 0} → Result A QueryFault → QueryFault → Type 0
+Refuses result fault = MatchResult result (λ x. ⊥) (λ other. (other ≡ fault) ⊎ (other ≡ faults.OutOfMemory))

@@ -5,7 +5,7 @@ ghost use Rattle.query_fault.specs.declared.QueryFault.TheVariants.{OutOfMemory,
 ghost use Rattle.query_tree.specs.Syntax.{TreeForm};
 ghost use Rattle.query_derivation.specs.Derivation.{Derives};
 ghost use Rattle.query_plan.specs.Form.{form_of};
-ghost use Rattle.query.specs.Refusal.{IsRefusalOf};
+ghost use Rattle.query.specs.Refusal.{IsRefusalOf, Refuses};
 
 use query_fault::QueryFault;
 use query_grammar::{GrammarFault, read_query};
@@ -29,7 +29,7 @@ const MOST_BYTES: usize = 65_536;
 /// of the first token that does not continue a query, or the length of the text where its end does
 /// not; where the tokens before it are more than the limits allow, the fault is `OverLimit`.
 /// `OutOfMemory` says nothing of the text.
-#[tactic(auto, using(crate::proofs::Places::unexpected_at, crate::proofs::Places::too_much, crate::proofs::Refusals::told_no_token, crate::proofs::Refusals::told_unexpected, crate::proofs::Refusals::told_too_much, crate::proofs::Refusals::told_query))]
+#[tactic(auto, using(crate::proofs::Places::unexpected_at, crate::proofs::Places::too_much))]
 pub fn parse(alloc: Global, text: &str) -> Result<Query, QueryFault>
     // What is read is derived.
     ensures derived { IfOk result (λ query. Derives text.now (form_of query)) }
@@ -40,7 +40,7 @@ pub fn parse(alloc: Global, text: &str) -> Result<Query, QueryFault>
     // A fault is one of the text, or memory ran out.
     ensures refused { IfErr result (λ fault. (fault ≡ OutOfMemory) ⊎ IsRefusalOf text.now fault) }
     // A fault of the text is told, and no other, unless memory runs out.
-    ensures told { (fault : QueryFault) → IsRefusalOf text.now fault → MatchResult result (λ query. ⊥) (λ other. (other ≡ fault) ⊎ (other ≡ OutOfMemory)) }
+    ensures told { (fault : QueryFault) → IsRefusalOf text.now fault → Refuses result fault }
 {
     if text.len() > MOST_BYTES {
         return Err(QueryFault::OverLimit);

@@ -1,7 +1,9 @@
 use Rattle.std.proofs.Common.{rules, ◌≤◌, ◌-◌, length, subst}
 use Rattle.query_derivation.specs.Prefixes.{IsUnexpected}
-use Rattle.query.proofs.Places.{unexpected_at}
-use Rattle.query.proofs.Refusals.{told_no_token, told_unexpected}
+use Rattle.query_derivation.specs.Grammar.{Derives}
+use Rattle.query_tree.specs.Syntax.{tree_form}
+use Rattle.query.proofs.Places.{unexpected_at, too_much}
+use Rattle.query.proofs.Refusals.{told_no_token, told_unexpected, told_too_much, told_query}
 use Rattle.query.proofs.parsing.parse.Goals as goal
 
 pub returns-in-Err-NoToken-clause-told : goal.returns-in-Err-NoToken-clause-told
@@ -12,3 +14,12 @@ pub returns-in-Err-Unexpected-clause-told : goal.returns-in-Err-Unexpected-claus
 returns-in-Err-Unexpected-clause-told c =
     told_unexpected c.args.text.now _ (search (rules, c.if-text-gt-MOST_BYTES.false))
     (unexpected_at c.args.text.now c.in-Ok.tokens.starts.items c.in-Ok.tokens.all.items c.in-Err-Unexpected.left c.start_of_last-byte.result c.in-Ok.ensures.spelled (subst (λ ks. IsUnexpected ks (length ks - c.in-Err-Unexpected.left)) c.as_slice.ensures.value (c.in-Err-Unexpected.ensures.unexpected _ (let e = c.in-Err-Unexpected.is in let f = c.in-Err-Unexpected.field-0-is in let b = c.in-Err-Unexpected.left-is in cc))) (search (rules, c.start_of_last-byte.ensures)))
+
+pub returns-in-Err-OverLimit-clause-told : goal.returns-in-Err-OverLimit-clause-told
+returns-in-Err-OverLimit-clause-told c =
+    told_too_much c.args.text.now
+    (search (rules, too_much, c.in-Ok.ensures.spelled, c.as_slice.ensures.value, c.in-Err-OverLimit.ensures.over_limit, c.in-Err-OverLimit.is, c.in-Err-OverLimit.field-0-is))
+
+pub returns-in-Ok-read_query-clause-told : goal.returns-in-Ok-read_query-clause-told
+returns-in-Ok-read_query-clause-told c =
+    told_query c.args.text.now c.in-Ok.tokens.starts.items c.in-Ok.tokens.all.items (tree_form c.in-Ok-read_query.tree.value) (search (rules, c.if-text-gt-MOST_BYTES.false)) c.in-Ok.ensures.spelled (subst (λ ks. Derives ks (tree_form c.in-Ok-read_query.tree.value)) c.as_slice.ensures.value c.in-Ok-read_query.ensures.derived)
