@@ -1,7 +1,7 @@
 -- The comparison of two values (ISO/IEC 9075-2, <comparison predicate>).
-use Rattle.std.specs.Prelude.{Bool, true, false, ⊤, if◌then◌else◌}
+use Rattle.std.specs.Prelude.{Bool, ⊤, if◌then◌else◌}
 use Rattle.std.specs.declared.cmp.Ordering.{Ordering}
-use Rattle.std.specs.declared.cmp.Ordering.TheVariants.{Less, Equal, Greater}
+use Rattle.std.specs.Ordering.{is_eq, is_ge, is_gt, is_le, is_lt, is_ne}
 use Rattle.values.specs.declared.truth.Truth.{Truth}
 use Rattle.values.specs.declared.truth.Truth.TheVariants.{True, Unknown, False}
 use Rattle.values.specs.declared.comparison.Op.{Op}
@@ -20,24 +20,12 @@ AreComparable a b = ⊥
 
 -- whether an operator holds where its left operand is less than, equal to or greater than its right one
 abbrev pub accepts : Op → Ordering → Bool
-accepts op.Eq Less = false
-accepts op.Eq Equal = true
-accepts op.Eq Greater = false
-accepts op.Ne Less = true
-accepts op.Ne Equal = false
-accepts op.Ne Greater = true
-accepts op.Lt Less = true
-accepts op.Lt Equal = false
-accepts op.Lt Greater = false
-accepts op.Le Less = true
-accepts op.Le Equal = true
-accepts op.Le Greater = false
-accepts op.Gt Less = false
-accepts op.Gt Equal = false
-accepts op.Gt Greater = true
-accepts op.Ge Less = false
-accepts op.Ge Equal = true
-accepts op.Ge Greater = true
+accepts op.Eq order = is_eq order
+accepts op.Ne order = is_ne order
+accepts op.Lt order = is_lt order
+accepts op.Le order = is_le order
+accepts op.Gt order = is_gt order
+accepts op.Ge order = is_ge order
 
 -- a comparison is unknown where an operand is NULL; else it is true or false by the order of the operands
 abbrev pub comparison : Op → Datum → Datum → Truth

@@ -1,5 +1,5 @@
 -- What a value is, apart from where it lies in memory.
-use Rattle.std.specs.Prelude.{ℕ, ℤ, Bool, List, map, string_bytes}
+use Rattle.std.specs.Prelude.{ℕ, ℤ, Bool, true, false, List, map, string_bytes}
 use Rattle.values.specs.declared.value.Value.{Value}
 use Rattle.values.specs.declared.value.Value.TheVariants as value
 
@@ -19,3 +19,8 @@ datum_of value.Null = null
 -- the values of a record, or of a key
 abbrev pub data_of : List Value → List Datum
 data_of values = map datum_of values
+
+-- whether a value is the null value
+abbrev pub is_null : Datum → Bool
+is_null null = true
+is_null d = false

@@ -4,27 +4,19 @@ use Rattle.values.specs.declared.truth.Truth.TheVariants.{True, Unknown, False}
 
 -- AND
 abbrev pub conjunction : Truth → Truth → Truth
-conjunction True True = True
-conjunction True Unknown = Unknown
-conjunction True False = False
+conjunction True t = t
+conjunction False t = False
 conjunction Unknown True = Unknown
 conjunction Unknown Unknown = Unknown
 conjunction Unknown False = False
-conjunction False True = False
-conjunction False Unknown = False
-conjunction False False = False
 
 -- OR
 abbrev pub disjunction : Truth → Truth → Truth
-disjunction True True = True
-disjunction True Unknown = True
-disjunction True False = True
+disjunction True t = True
+disjunction False t = t
 disjunction Unknown True = True
 disjunction Unknown Unknown = Unknown
 disjunction Unknown False = Unknown
-disjunction False True = True
-disjunction False Unknown = Unknown
-disjunction False False = False
 
 -- NOT
 abbrev pub negation : Truth → Truth
