@@ -15,7 +15,8 @@ use Rattle.query_tokens.specs.declared.token.Token.TheVariants as tokens
 use Rattle.query_tokens.specs.declared.token.Word.{Word}
 use Rattle.query_tokens.specs.declared.token.Word.TheVariants as w
 use Rattle.query_tokens.specs.declared.token.Sign.TheVariants as s
-use Rattle.query_tokens.specs.Words.{continues_word, is_word, word_text, reserved}
+use Rattle.query_tokens.specs.Words.{continues_word, is_word, reserved}
+use Rattle.query_tokens.specs.Inside.Words.{word_text}
 use Rattle.query_tokens.specs.Spelling.{begins_with, is_digits, IsToken, SpellsFrom}
 use Rattle.query_tokens.specs.Steps.{token_at, sign_at}
 use Rattle.query_tokens.proofs.Digits.{own}

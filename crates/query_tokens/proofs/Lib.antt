@@ -9,3 +9,4 @@ pub mod Complete
 pub mod Progress
 pub mod Unique
 pub mod Stops
+pub mod Reserved

@@ -1,4 +1,5 @@
 pub mod Words
+pub mod Inside
 pub mod Spelling
 pub mod Options
 pub mod Steps

@@ -1,5 +1,6 @@
 -- Words, the reserved ones among them, and how names and texts are quoted.
-use Rattle.std.specs.Prelude.{ℕ, Bool, false, ◌==◌, ◌||◌, ◌&&◌, is_none, if◌then◌else◌, Option, List, [], ◌∷◌, ◌++◌, codes}
+use Prim.Native.String.{String}
+use Rattle.std.specs.Prelude.{ℕ, Bool, false, ◌==◌, ◌||◌, ◌&&◌, is_none, if◌then◌else◌, Option, option_map, List, [], ◌∷◌, ◌++◌, codes}
 use Rattle.std.specs.List.{list_all, flat_map, find}
 use Rattle.std.specs.Char.{is_ascii_alphabetic, is_ascii_digit}
 use Rattle.std.specs.Str.{str_eq_ignore_ascii_case}
@@ -19,54 +20,20 @@ abbrev pub is_word : List ℕ → Bool
 is_word [] = false
 is_word (b ∷ bs) = begins_word b && list_all continues_word bs
 
--- The letters of a reserved word.
-abbrev pub word_text : Word → List ℕ
-word_text w.And = codes "AND"
-word_text w.As = codes "AS"
-word_text w.Asc = codes "ASC"
-word_text w.Avg = codes "AVG"
-word_text w.Between = codes "BETWEEN"
-word_text w.By = codes "BY"
-word_text w.Count = codes "COUNT"
-word_text w.Cube = codes "CUBE"
-word_text w.Desc = codes "DESC"
-word_text w.Distinct = codes "DISTINCT"
-word_text w.False = codes "FALSE"
-word_text w.Filter = codes "FILTER"
-word_text w.First = codes "FIRST"
-word_text w.From = codes "FROM"
-word_text w.Group = codes "GROUP"
-word_text w.Grouping = codes "GROUPING"
-word_text w.Having = codes "HAVING"
-word_text w.In = codes "IN"
-word_text w.Is = codes "IS"
-word_text w.Last = codes "LAST"
-word_text w.Max = codes "MAX"
-word_text w.Min = codes "MIN"
-word_text w.Not = codes "NOT"
-word_text w.Null = codes "NULL"
-word_text w.Nulls = codes "NULLS"
-word_text w.Or = codes "OR"
-word_text w.Order = codes "ORDER"
-word_text w.Rollup = codes "ROLLUP"
-word_text w.Select = codes "SELECT"
-word_text w.Sets = codes "SETS"
-word_text w.Sum = codes "SUM"
-word_text w.True = codes "TRUE"
-word_text w.Unknown = codes "UNKNOWN"
-word_text w.Where = codes "WHERE"
-
--- All reserved words.
-abbrev pub reserved_words : List Word
+-- The reserved words, each with its letters.
+abbrev pub reserved_words : List (Word × String)
 reserved_words =
-    w.And ∷ w.As ∷ w.Asc ∷ w.Avg ∷ w.Between ∷ w.By ∷ w.Count ∷ w.Cube ∷ w.Desc ∷ w.Distinct ∷
-    w.False ∷ w.Filter ∷ w.First ∷ w.From ∷ w.Group ∷ w.Grouping ∷ w.Having ∷ w.In ∷ w.Is ∷ w.Last ∷
-    w.Max ∷ w.Min ∷ w.Not ∷ w.Null ∷ w.Nulls ∷ w.Or ∷ w.Order ∷ w.Rollup ∷ w.Select ∷ w.Sets ∷
-    w.Sum ∷ w.True ∷ w.Unknown ∷ w.Where ∷ []
+    (w.And, "AND") ∷ (w.As, "AS") ∷ (w.Asc, "ASC") ∷ (w.Avg, "AVG") ∷ (w.Between, "BETWEEN") ∷ (w.By, "BY") ∷
+    (w.Count, "COUNT") ∷ (w.Cube, "CUBE") ∷ (w.Desc, "DESC") ∷ (w.Distinct, "DISTINCT") ∷ (w.False, "FALSE") ∷
+    (w.Filter, "FILTER") ∷ (w.First, "FIRST") ∷ (w.From, "FROM") ∷ (w.Group, "GROUP") ∷
+    (w.Grouping, "GROUPING") ∷ (w.Having, "HAVING") ∷ (w.In, "IN") ∷ (w.Is, "IS") ∷ (w.Last, "LAST") ∷
+    (w.Max, "MAX") ∷ (w.Min, "MIN") ∷ (w.Not, "NOT") ∷ (w.Null, "NULL") ∷ (w.Nulls, "NULLS") ∷ (w.Or, "OR") ∷
+    (w.Order, "ORDER") ∷ (w.Rollup, "ROLLUP") ∷ (w.Select, "SELECT") ∷ (w.Sets, "SETS") ∷ (w.Sum, "SUM") ∷
+    (w.True, "TRUE") ∷ (w.Unknown, "UNKNOWN") ∷ (w.Where, "WHERE") ∷ []
 
--- The reserved word that a text is without regard to ASCII case, if it is one.
+-- The reserved word whose letters a text has without regard to ASCII case, if there is one.
 unfoldable pub reserved : List ℕ → Option Word
-reserved text = find (λ word. str_eq_ignore_ascii_case text (word_text word)) reserved_words
+reserved text = option_map (λ entry. entry.0) (find (λ entry. str_eq_ignore_ascii_case text (codes entry.1)) reserved_words)
 
 -- Each quote in a text is written twice.
 abbrev pub doubled : ℕ → List ℕ → List ℕ

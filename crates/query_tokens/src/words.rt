@@ -1,7 +1,8 @@
 //! The reserved words.
 
 ghost use Rattle.std.specs.Prelude.{◌≡◌};
-ghost use Rattle.query_tokens.specs.Words.{word_text, reserved, begins_word, continues_word, is_word};
+ghost use Rattle.query_tokens.specs.Words.{reserved, begins_word, continues_word, is_word};
+ghost use Rattle.query_tokens.specs.Inside.Words.{word_text};
 ghost use Rattle.std.specs.List.{find, list_all, prefix_len};
 ghost use Rattle.query_tokens.specs.Spelling.{begins_with};
 ghost use Rattle.std.specs.Str.{str_eq_ignore_ascii_case};
@@ -63,7 +64,7 @@ fn word_among(words: &[Word], text: &str) -> Option<Word>
 /// The reserved word that the text is without regard to ASCII case, if it is one. It takes no memory.
 ///
 /// Example: `reserved_word("select")` answers `Some(Word::Select)`, and `reserved_word("shop")` answers `None`.
-#[tactic(auto, unfolding(crate::specs::Words::reserved))]
+#[tactic(auto, using(crate::proofs::Reserved::reserved_listed))]
 pub fn reserved_word(text: &str) -> Option<Word>
     ensures { result ≡ reserved text.now }
 {

@@ -1,0 +1,2 @@
+-- What private calls compute. No promise rests on it.
+pub mod Words

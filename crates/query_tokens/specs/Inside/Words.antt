@@ -1,0 +1,41 @@
+-- The letters of reserved words, for the contracts of private functions and for proofs.
+use Rattle.std.specs.Prelude.{ℕ, List, codes}
+use Rattle.query_tokens.specs.declared.token.Word.{Word}
+use Rattle.query_tokens.specs.declared.token.Word.TheVariants as w
+
+-- The letters of a reserved word, as the table of reserved words has them.
+abbrev pub word_text : Word → List ℕ
+word_text w.And = codes "AND"
+word_text w.As = codes "AS"
+word_text w.Asc = codes "ASC"
+word_text w.Avg = codes "AVG"
+word_text w.Between = codes "BETWEEN"
+word_text w.By = codes "BY"
+word_text w.Count = codes "COUNT"
+word_text w.Cube = codes "CUBE"
+word_text w.Desc = codes "DESC"
+word_text w.Distinct = codes "DISTINCT"
+word_text w.False = codes "FALSE"
+word_text w.Filter = codes "FILTER"
+word_text w.First = codes "FIRST"
+word_text w.From = codes "FROM"
+word_text w.Group = codes "GROUP"
+word_text w.Grouping = codes "GROUPING"
+word_text w.Having = codes "HAVING"
+word_text w.In = codes "IN"
+word_text w.Is = codes "IS"
+word_text w.Last = codes "LAST"
+word_text w.Max = codes "MAX"
+word_text w.Min = codes "MIN"
+word_text w.Not = codes "NOT"
+word_text w.Null = codes "NULL"
+word_text w.Nulls = codes "NULLS"
+word_text w.Or = codes "OR"
+word_text w.Order = codes "ORDER"
+word_text w.Rollup = codes "ROLLUP"
+word_text w.Select = codes "SELECT"
+word_text w.Sets = codes "SETS"
+word_text w.Sum = codes "SUM"
+word_text w.True = codes "TRUE"
+word_text w.Unknown = codes "UNKNOWN"
+word_text w.Where = codes "WHERE"
