@@ -1,6 +1,7 @@
 -- The canonical text of a query, with one line for each production of its grammar.
 use Rattle.std.specs.Prelude.{ℕ, Bool, true, false, Option, Some, None, List, [], ◌∷◌, ◌++◌, map, codes, nat_lt, unwrap_or, slice_get, if◌then◌else◌}
 use Rattle.std.specs.List.{flat_map}
+use Rattle.std.specs.Option.{option_map_or}
 use Rattle.std.specs.Fmt.{signed_decimal}
 use Rattle.values.specs.Schema.{Field, names_of}
 use Rattle.query_tokens.specs.Words.{name_text, quoted}
@@ -49,8 +50,7 @@ aggregate_text (aggregate.Avg x) = codes "AVG(" ++ name_text x ++ codes ")"
 abbrev pub literal_text : Literal → List ℕ
 literal_text (constant.Integer i) = signed_decimal i
 literal_text (constant.Text text) = quoted 39 text
-literal_text (constant.Truth true) = codes "TRUE"
-literal_text (constant.Truth false) = codes "FALSE"
+literal_text (constant.Truth b) = if b then codes "TRUE" else codes "FALSE"
 
 -- The sign of an operator.
 abbrev pub op_text : Op → List ℕ
@@ -69,8 +69,7 @@ truth_text truth.Unknown = codes "UNKNOWN"
 
 -- NOT, where it is written.
 abbrev pub not_text : Bool → List ℕ
-not_text true = codes "NOT "
-not_text false = []
+not_text n = if n then codes "NOT " else []
 
 -- ---- expressions and predicates
 
@@ -80,11 +79,7 @@ tightness (or_of ps) = 0
 tightness (and_of ps) = 1
 tightness (not_of p) = 2
 tightness (truth_test p n t) = 3
-tightness (compare a c b) = 4
-tightness (between a n b c) = 4
-tightness (member a n ls) = 4
-tightness (null_test a n) = 4
-tightness (column n) = 4
+tightness atom = 4
 
 -- A part of a predicate stands in brackets exactly where it holds together less tightly than its place asks.
 abbrev pub bracketed_below : ℕ → ℕ → List ℕ → List ℕ
@@ -129,9 +124,8 @@ abbrev mutual
 
 -- A set or a unit of one name is that name; every other one stands in brackets.
 abbrev pub unit_text : List (List ℕ) → List ℕ
-unit_text [] = in_brackets []
 unit_text (x ∷ []) = name_text x
-unit_text (x ∷ y ∷ others) = in_brackets (names_text (x ∷ y ∷ others))
+unit_text names = in_brackets (names_text names)
 
 abbrev mutual
   -- An element of GROUP BY.
@@ -150,8 +144,7 @@ abbrev mutual
 
 -- The name behind AS, where there is one.
 abbrev pub alias_text : Option (List ℕ) → List ℕ
-alias_text None = []
-alias_text (Some n) = codes " AS " ++ name_text n
+alias_text alias = option_map_or (λ n. codes " AS " ++ name_text n) alias []
 
 -- An item: its expression, and its alias.
 abbrev pub item_text : ItemForm → List ℕ
@@ -159,15 +152,13 @@ item_text i = expression_text i.expression ++ alias_text i.alias
 
 -- Where NULL stands is written only where it is not the default: last under ASC, first under DESC.
 abbrev pub nulls_text : Bool → Bool → List ℕ
-nulls_text true true = []
 nulls_text true false = codes " NULLS LAST"
 nulls_text false true = codes " NULLS FIRST"
-nulls_text false false = []
+nulls_text descending nulls_first = []
 
 -- DESC, where it is written.
 abbrev pub direction_text : Bool → List ℕ
-direction_text true = codes " DESC"
-direction_text false = []
+direction_text descending = if descending then codes " DESC" else []
 
 -- A key: its expression, its direction, and where NULL stands.
 abbrev pub key_text : KeyForm → List ℕ
@@ -175,8 +166,7 @@ key_text k = expression_text k.expression ++ direction_text k.descending ++ null
 
 -- A clause of one predicate, where there is one.
 abbrev pub predicate_clause : List ℕ → Option PredicateForm → List ℕ
-predicate_clause keywords None = []
-predicate_clause keywords (Some p) = keywords ++ predicate_text p
+predicate_clause keywords written = option_map_or (λ p. keywords ++ predicate_text p) written []
 
 -- A clause of a list, where the list has an element.
 abbrev pub list_clause : List ℕ → List (List ℕ) → List ℕ
@@ -185,8 +175,7 @@ list_clause keywords (first ∷ others) = keywords ++ comma_list (first ∷ othe
 
 -- The keywords of GROUP BY, and DISTINCT where it is written.
 abbrev pub group_by_text : Bool → List ℕ
-group_by_text true = codes " GROUP BY DISTINCT "
-group_by_text false = codes " GROUP BY "
+group_by_text distinct = if distinct then codes " GROUP BY DISTINCT " else codes " GROUP BY "
 
 -- The canonical text of a query.
 abbrev pub canonical_text : TreeForm → List ℕ
