@@ -1,6 +1,7 @@
 -- The value of a set function over a list of records (ISO/IEC 9075-2, <aggregate function>, <filter clause>).
 use Rattle.std.specs.Prelude.{ℕ, ℤ, pos, ◌+ℤ◌, Bool, false, not, List, [], ◌∷◌, length, filter, Option, Some, None, option_map, unwrap_or, slice_index_or}
 use Rattle.std.specs.List.{find, list_all}
+use Rattle.std.specs.Option.{option_map_or}
 use Rattle.std.specs.Ordering.{eq_by_cmp, is_lt, is_gt}
 use Rattle.values.specs.Datum.{Datum, whole, null}
 use Rattle.values.specs.Order.{value_order}
@@ -59,8 +60,7 @@ pub record AggregateFunction : Type 0 where
 
 -- the records that a FILTER keeps, and all where there is none
 abbrev pub filtered : Option (Row → Bool) → List Row → List Row
-filtered None rows = rows
-filtered (Some keeps) rows = filter keeps rows
+filtered test rows = option_map_or (λ keeps. filter keeps rows) test rows
 
 -- the value of a set function over a list of records: over those that its FILTER keeps
 abbrev pub agg : AggregateFunction → List Row → Summary

@@ -1,7 +1,7 @@
 -- The records of a query and their columns.
-use Rattle.std.specs.Prelude.{ℕ, ◌^◌, ℤ, pos, ◌-ℤ◌, ◌≤ℤ◌, Bool, true, false, List, map, filter, filter_map, slice_index_or, Option, Some, None, IfSome}
+use Rattle.std.specs.Prelude.{ℕ, ◌^◌, ℤ, pos, ◌-ℤ◌, ◌≤ℤ◌, Bool, not, List, map, filter, filter_map, slice_index_or, Option, Some, None, IfSome}
 use Rattle.std.specs.List.{AllByRecursion}
-use Rattle.values.specs.Datum.{Datum, boolean, whole, text, null}
+use Rattle.values.specs.Datum.{Datum, boolean, whole, text, null, is_null}
 
 -- the values of a record, one for each column
 abbrev pub Row : Type 0
@@ -11,11 +11,9 @@ Row = List Datum
 abbrev pub value_at : ℕ → Row → Datum
 value_at place row = slice_index_or row place null
 
+-- a value other than NULL
 abbrev pub is_present : Datum → Bool
-is_present (boolean b) = true
-is_present (whole n) = true
-is_present (text s) = true
-is_present null = false
+is_present d = not (is_null d)
 
 -- the values of a list that are not NULL
 abbrev pub present : List Datum → List Datum
@@ -25,11 +23,10 @@ present values = filter is_present values
 abbrev pub column_values : ℕ → List Row → List Datum
 column_values place rows = present (map (value_at place) rows)
 
+-- the whole number that a value is, where it is one
 abbrev pub number_of : Datum → Option ℤ
-number_of (boolean b) = None
 number_of (whole n) = Some n
-number_of (text s) = None
-number_of null = None
+number_of d = None
 
 -- the whole numbers of a list of values
 abbrev pub numbers : List Datum → List ℤ

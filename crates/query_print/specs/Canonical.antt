@@ -142,13 +142,9 @@ abbrev mutual
 
 -- ---- the query
 
--- The name behind AS, where there is one.
-abbrev pub alias_text : Option (List ℕ) → List ℕ
-alias_text alias = option_map_or (λ n. codes " AS " ++ name_text n) alias []
-
--- An item: its expression, and its alias.
+-- An item: its expression, and its alias behind AS, where it has one.
 abbrev pub item_text : ItemForm → List ℕ
-item_text i = expression_text i.expression ++ alias_text i.alias
+item_text i = expression_text i.expression ++ option_map_or (λ n. codes " AS " ++ name_text n) i.alias []
 
 -- Where NULL stands is written only where it is not the default: last under ASC, first under DESC.
 abbrev pub nulls_text : Bool → Bool → List ℕ
