@@ -1,11 +1,12 @@
 -- Truth values of lists, and values that can be compared.
-use Rattle.std.proofs.Common.{◌≡◌, ◌∙◌, ◌+◌, ◌<◌, ℕ, true, List, [], ◌∷◌, drop, fold, get_or, length, refl, sym, ap}
+use Rattle.std.proofs.Common.{◌≡◌, ◌∙◌, ◌+◌, ◌<◌, ℕ, Bool, true, false, List, [], ◌∷◌, drop, fold, get_or, length, refl, sym, ap, if◌then◌else◌}
 use Rattle.std.proofs.lemmas.List.{drop_more}
 use Rattle.values.specs.declared.truth.Truth.{Truth}
 use Rattle.values.specs.declared.truth.Truth.TheVariants.{True, Unknown, False}
 use Rattle.values.specs.Datum.{Datum, boolean, whole, text, null}
 use Rattle.values.specs.Truth.{conjunction, disjunction}
 use Rattle.values.specs.Comparison.{AreComparable}
+use Rattle.query_truth.specs.Truth.{value_truth}
 use Rattle.query_truth.specs.Meaning.{comparable}
 
 -- True OR anything is True
@@ -21,6 +22,11 @@ and-false [] = refl
 and-false (True ∷ ts) = and-false ts
 and-false (Unknown ∷ ts) = and-false ts
 and-false (False ∷ ts) = and-false ts
+
+-- a truth value is what it says
+pub value_truth_is : (b : Bool) → value_truth (boolean b) ≡ (if b then True else False)
+value_truth_is true = refl
+value_truth_is false = refl
 
 pub comparable-is : (a b : Datum) → comparable a b ≡ true → AreComparable a b
 comparable-is null b e = tt

@@ -3,7 +3,7 @@ use Rattle.std.specs.Prelude.{Bool, true, false, List, [], ◌∷◌, map, fold,
 use Rattle.values.specs.declared.truth.Truth.{Truth}
 use Rattle.values.specs.declared.truth.Truth.TheVariants.{True, Unknown, False}
 use Rattle.values.specs.declared.comparison.Op.TheVariants.{Eq, Le, Ge}
-use Rattle.values.specs.Datum.{Datum, boolean, whole, text, null}
+use Rattle.values.specs.Datum.{Datum, boolean, whole, text, is_null}
 use Rattle.values.specs.Truth.{conjunction, disjunction, negation}
 use Rattle.values.specs.Comparison.{comparison}
 use Rattle.query_tree.specs.declared.predicate.Literal.{Literal}
@@ -42,13 +42,6 @@ test_truth p t = known (same_truth p t)
 
 -- ---- atoms
 
--- whether a value is the null value
-abbrev pub is_null : Datum → Bool
-is_null null = true
-is_null (boolean b) = false
-is_null (whole n) = false
-is_null (text s) = false
-
 -- x IS NULL: never unknown (<null predicate>)
 abbrev pub null_truth : Datum → Truth
 null_truth x = known (is_null x)
@@ -61,12 +54,9 @@ between_truth x y z = conjunction (comparison Ge x y) (comparison Le x z)
 abbrev pub member_truth : Datum → List Datum → Truth
 member_truth x values = any_of (map (comparison Eq x) values)
 
--- a bare name is its value, unknown where that is NULL; a value of another type is no truth value
+-- a bare name is true where its value is TRUE, false where it is FALSE and unknown where it is NULL, as in x = TRUE
 abbrev pub value_truth : Datum → Truth
-value_truth (boolean b) = known b
-value_truth null = Unknown
-value_truth (whole n) = Unknown
-value_truth (text s) = Unknown
+value_truth x = comparison Eq x (boolean true)
 
 -- ---- predicates
 

@@ -152,6 +152,7 @@ pub fn member_truth(value: &Value, values: &[Value]) -> Truth
 /// The truth value that a value is; NULL is Unknown. It asks that the value is a truth value or NULL.
 ///
 /// Example: `value_truth(&Value::Bool(false))` is False, and `value_truth(&Value::Null)` is Unknown.
+#[tactic(auto, using(crate::proofs::Truths::value_truth_is))]
 pub fn value_truth(value: &Value) -> Truth
     requires { is_truth_value (datum_of value.now) ≡ true }
     ensures { result ≡ value_truth (datum_of value.now) }
