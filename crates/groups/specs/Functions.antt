@@ -1,5 +1,5 @@
 -- The value of a set function over a list of records (ISO/IEC 9075-2, <aggregate function>, <filter clause>).
-use Rattle.std.specs.Prelude.{ℕ, ℤ, pos, ◌+ℤ◌, Bool, false, not, List, [], ◌∷◌, length, filter, Option, Some, None, option_map, unwrap_or, slice_index_or}
+use Rattle.std.specs.Prelude.{ℕ, ℤ, pos, ◌+ℤ◌, Bool, false, not, List, [], ◌∷◌, length, filter, Option, option_map, unwrap_or, slice_index_or}
 use Rattle.std.specs.List.{find, list_all}
 use Rattle.std.specs.Option.{option_map_or}
 use Rattle.std.specs.Ordering.{eq_by_cmp, is_lt, is_gt}

@@ -1,7 +1,7 @@
 -- The records of a query and their columns.
 use Rattle.std.specs.Prelude.{ℕ, ◌^◌, ℤ, pos, ◌-ℤ◌, ◌≤ℤ◌, Bool, not, List, map, filter, filter_map, slice_index_or, Option, Some, None, IfSome}
 use Rattle.std.specs.List.{AllByRecursion}
-use Rattle.values.specs.Datum.{Datum, boolean, whole, text, null, is_null}
+use Rattle.values.specs.Datum.{Datum, whole, null, is_null}
 
 -- the values of a record, one for each column
 abbrev pub Row : Type 0
