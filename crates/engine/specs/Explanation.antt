@@ -18,7 +18,8 @@ abbrev pub explanation : List Field → TreeForm → List ℕ
 explanation fields query =
     canonical_text query ++ codes "\n" ++ flat_map (set_line fields) (enumerate_from 0 (sets_of fields query))
 
--- the columns and the query of two texts are good: the query is one that its text derives, and nothing is wrong with it under the columns
+-- the columns and the query of two texts are good: the query is one that its text derives, and nothing is wrong with it
+-- under the columns
 pub record IsAnswerable (columns query : List ℕ) : Type 0 where
   pub fields : List Field
   pub form : TreeForm
