@@ -1,11 +1,11 @@
 -- The explanation of a query.
-use Rattle.std.specs.Prelude.{◌≡◌, ℕ, List, ◌++◌, Option, Ok, codes, decimal}
+use Rattle.std.specs.Prelude.{◌≡◌, ℕ, List, [], ◌++◌, Option, Ok, codes, decimal}
 use Rattle.std.specs.Io.KnownBytes.{Appends}
 use Rattle.std.specs.List.{enumerate_from, flat_map}
 use Rattle.values.specs.Schema.{Field, schema_of}
 use Rattle.query_tree.specs.Syntax.{TreeForm}
 use Rattle.query_resolution.specs.Sets.{sets_of}
-use Rattle.query_check.specs.Typing.{IsTyped}
+use Rattle.query_check.specs.Faults.{query_faults}
 use Rattle.query_print.specs.Canonical.{canonical_text, set_text}
 use Rattle.query_derivation.specs.Derivation.{Derives}
 
@@ -18,13 +18,14 @@ abbrev pub explanation : List Field → TreeForm → List ℕ
 explanation fields query =
     canonical_text query ++ codes "\n" ++ flat_map (set_line fields) (enumerate_from 0 (sets_of fields query))
 
--- the columns and the query of two texts are good: the query is one that its text derives, and it is typed under the columns
+-- the columns and the query of two texts are good: the query is one that its text derives, and nothing is wrong with it
+-- under the columns
 pub record IsAnswerable (columns query : List ℕ) : Type 0 where
   pub fields : List Field
   pub form : TreeForm
   pub schema : schema_of columns ≡ Ok fields
   pub derived : Derives query form
-  pub typed : IsTyped fields form
+  pub faultless : query_faults fields form ≡ []
 
 -- the known bytes grew by the explanation of the query that one text derives, under the columns that another says
 pub record Explains (columns query : List ℕ) (old new : Option (List ℕ)) : Type 0 where
@@ -32,5 +33,5 @@ pub record Explains (columns query : List ℕ) (old new : Option (List ℕ)) : T
   pub form : TreeForm
   pub schema : schema_of columns ≡ Ok fields
   pub derived : Derives query form
-  pub typed : IsTyped fields form
+  pub faultless : query_faults fields form ≡ []
   pub written : Appends old new (explanation fields form)

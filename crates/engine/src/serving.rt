@@ -1,8 +1,8 @@
 //! What the program does once its words are read.
-ghost use Rattle.std.specs.Prelude.{◌≡◌, ◌<◌, ◌≤◌, IfOk, Ok, OnOk, true};
+ghost use Rattle.std.specs.Prelude.{◌≡◌, [], ◌<◌, ◌≤◌, IfOk, Ok, OnOk, true};
 ghost use Rattle.std.specs.Io.KnownBytes.{Appends};
 ghost use Rattle.values.specs.Schema.{schema_of};
-ghost use Rattle.query_check.specs.Typing.{IsTyped};
+ghost use Rattle.query_check.specs.Faults.{query_faults};
 ghost use Rattle.query_derivation.specs.Derivation.{Derives};
 ghost use Rattle.query_plan.specs.Planned.{fields_of_plan, form_of_plan};
 ghost use Rattle.engine.specs.Explanation.{Explains, IsAnswerable, explanation};
@@ -161,7 +161,7 @@ pub fn serve<
 fn plan_of(alloc: Global, settings: Settings<'_>) -> Result<Plan, Ending>
     ensures schema { IfOk result (λ plan. schema_of settings.entry.columns.now ≡ Ok (fields_of_plan plan)) }
     ensures query { IfOk result (λ plan. Derives settings.entry.query.now (form_of_plan plan)) }
-    ensures typed { IfOk result (λ plan. IsTyped (fields_of_plan plan) (form_of_plan plan)) }
+    ensures faultless { IfOk result (λ plan. query_faults (fields_of_plan plan) (form_of_plan plan) ≡ []) }
 {
     let schema = Schema::parse(alloc, settings.columns).map_err(Ending::Schema)?;
     let query = parse(alloc, settings.query).map_err(Ending::Query)?;

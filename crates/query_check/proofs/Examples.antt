@@ -1,16 +1,18 @@
--- The faults that stand in a query, its set functions and its filters, computed on examples.
+-- The faults of a query, where they stand in it, its set functions and its filters, computed on examples.
 use Rattle.std.proofs.Common.{◌≡◌, zero, suc, true, false, ℕ, List, [], ◌∷◌, Some, None, Contains, pos, refl, ap, inl, inr, arith, codes}
+use Rattle.std.specs.Prelude.{slice_get}
 use Rattle.std.specs.Str.{bytes_eq}
 use Rattle.values.specs.declared.comparison.Op.TheVariants.{Eq}
 use Rattle.values.specs.declared.schema.Kind.TheVariants as kind
 use Rattle.values.specs.Schema.{Field}
 use Rattle.query_tree.specs.declared.expression.Aggregate.TheVariants as aggregate
 use Rattle.query_tree.specs.declared.predicate.Literal.TheVariants as constant
-use Rattle.query_tree.specs.Syntax.{ExpressionForm, ItemForm, PredicateForm, TreeForm, name, function, over_all, over_filtered, expression, literal, compare, column, set}
+use Rattle.query_tree.specs.Syntax.{ExpressionForm, ItemForm, PredicateForm, TreeForm, name, grouping, function, over_all, over_filtered, expression, literal, compare, column, set}
 use Rattle.query_fault.specs.declared.QueryFault.TheVariants as faults
 use Rattle.query_check.specs.declared.scope.Clause.TheVariants as clause
 use Rattle.query_resolution.specs.declared.function.ColumnFunction.TheVariants as at
-use Rattle.query_check.specs.Faults.{query_fault, tests_of}
+use Rattle.query_check.specs.Faults.{query_faults}
+use Rattle.query_check.specs.Inside.FirstFaults.{query_fault, tests_of}
 use Rattle.query_resolution.specs.Functions.{filters_of, indexed_functions}
 use Rattle.query_check.specs.Standing.{Stands}
 use Rattle.query_check.specs.Typing.{takes}
@@ -53,6 +55,55 @@ by_average = record {
   having_condition = None;
   keys = record { expression = name (codes "m"); descending = false; nulls_first = false } ∷ [];
 }
+
+-- ---- what is wrong with it
+
+-- SELECT c .. GROUP BY c: nothing
+nothing_wrong : query_faults fields (selected (item c ∷ [])) ≡ []
+unfolding query_faults
+nothing_wrong = refl
+
+-- SELECT c .. WHERE q = 1, without GROUP BY: c is not grouped
+without_group : query_faults fields (where_one (codes "q")) ≡ faults.NotGrouped (codes "c") ∷ []
+unfolding query_faults
+without_group = refl
+
+-- SELECT c .. WHERE d = 1: d is no column, and so has no type; and c is not grouped
+three_wrong : query_faults fields (where_one (codes "d")) ≡ faults.UnknownColumn (codes "d") ∷ faults.TypesDisagree ∷ faults.NotGrouped (codes "c") ∷ []
+unfolding query_faults
+three_wrong = refl
+
+-- the first is told
+first_told : slice_get (query_faults fields (where_one (codes "d"))) 0 ≡ Some (faults.UnknownColumn (codes "d"))
+unfolding query_faults
+first_told = refl
+
+-- SELECT GROUPING(q, d) .. GROUP BY c: q is not grouped, and d is no column, and so is not grouped either
+two_names : query_faults fields (selected (item (grouping (codes "q" ∷ codes "d" ∷ [])) ∷ [])) ≡ faults.NotGrouped (codes "q") ∷ faults.UnknownColumn (codes "d") ∷ faults.NotGrouped (codes "d") ∷ []
+unfolding query_faults
+two_names = refl
+
+-- SELECT AVG(q) AS m .. GROUP BY c ORDER BY m: AVG may stand in SELECT alone
+average_as_key : query_faults fields (record (selected (record { expression = average; alias = Some (codes "m") } ∷ [])) { keys = record { expression = name (codes "m"); descending = false; nulls_first = false } ∷ [] }) ≡ faults.FunctionNotAllowed ∷ []
+unfolding query_faults
+average_as_key = refl
+
+-- SELECT COUNT(*), MIN(b), COUNT(*): MIN takes no truth value, and a header stands twice
+repeated_header : query_faults fields (selected (item (function (over_all aggregate.CountRows)) ∷ item (function (over_all (aggregate.Min (codes "b")))) ∷ item (function (over_all aggregate.CountRows)) ∷ [])) ≡ faults.TypesDisagree ∷ faults.RepeatedHeader (codes "COUNT(*)") ∷ []
+unfolding query_faults
+repeated_header = refl
+
+-- SELECT COUNT(*) FILTER (WHERE q = 1) .. GROUP BY c: within FILTER q need not be grouped
+filter_faultless : query_faults fields (selected (item (function (over_filtered aggregate.CountRows (is_one (codes "q")))) ∷ [])) ≡ []
+unfolding query_faults
+filter_faultless = refl
+
+-- SELECT COUNT(*) FILTER (WHERE c): c is a text, no truth value
+filter_of_text : query_faults fields (selected (item (function (over_filtered aggregate.CountRows (column (codes "c")))) ∷ [])) ≡ faults.TypesDisagree ∷ []
+unfolding query_faults
+filter_of_text = refl
+
+-- ---- where the faults stand
 
 -- WHERE d = 1 names no column: d
 unknown_stands : Stands fields (where_one (codes "d")) (faults.UnknownColumn (codes "d"))

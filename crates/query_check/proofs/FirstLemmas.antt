@@ -12,7 +12,8 @@ use Rattle.query_resolution.specs.Sets.{expanded, grouping_names, grouping_place
 use Rattle.query_resolution.specs.Functions.{functions_of}
 use Rattle.query_check.specs.declared.scope.Clause.TheVariants as clause
 use Rattle.query_check.specs.Typing.{key_expression}
-use Rattle.query_check.specs.Faults.{Answers, IsFirst, clause_fault, column_fault, expression_fault, first_fault, headers_fault, limit_fault, query_fault, same_kind, tests_of}
+use Rattle.query_check.specs.Inside.FirstFaults.{Answers, IsFirst, clause_fault, column_fault, expression_fault, first_fault, headers_fault, limit_fault, query_fault, tests_of}
+use Rattle.query_check.specs.Faults.{same_kind}
 use Rattle.query_check.specs.Inside.Clauses.{clauses_fault, records_fault, rows_fault, select_fault}
 use Rattle.query_check.proofs.TypedLemmas.{same_from_test, same_itself}
 use Rattle.query_check.proofs.StandingLemmas.{either}

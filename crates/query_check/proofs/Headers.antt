@@ -11,7 +11,7 @@ use Rattle.query_tree.specs.Syntax.{item_form}
 use Rattle.query_print.specs.Canonical.{header_text}
 use Rattle.query_fault.specs.declared.QueryFault.{QueryFault}
 use Rattle.query_fault.specs.declared.QueryFault.TheVariants.{RepeatedHeader}
-use Rattle.query_check.specs.Faults.{fault_unless, first_fault, header_fault, headers_fault}
+use Rattle.query_check.specs.Inside.FirstFaults.{fault_unless, first_fault, header_fault, headers_fault}
 
 -- The headers of items.
 abbrev pub headers_of : List Item → List (List ℕ)

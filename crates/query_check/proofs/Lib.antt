@@ -8,3 +8,5 @@ pub mod WholeLemmas
 pub mod StandingLemmas
 pub mod StandingWhole
 pub mod FirstLemmas
+pub mod FaultNames
+pub mod FaultHeads

@@ -3,7 +3,7 @@ use Rattle.std.proofs.Common.{◌≡◌, ◌∙◌, ℕ, ◌+◌, ◌<◌, List,
 use Rattle.std.specs.Option.{option_or}
 use Rattle.values.specs.Schema.{Field}
 use Rattle.query_fault.specs.declared.QueryFault.{QueryFault}
-use Rattle.query_check.specs.Faults.{column_fault, first_fault}
+use Rattle.query_check.specs.Inside.FirstFaults.{column_fault, first_fault}
 
 -- Of three tests in a row it is the same which two are taken first.
 or_in_a_row : {A : Type 0} (a b c : Option A) → option_or a (option_or b c) ≡ option_or (option_or a b) c

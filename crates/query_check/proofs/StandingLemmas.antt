@@ -18,7 +18,8 @@ use Rattle.query_check.specs.declared.scope.Clause.TheVariants as clause
 use Rattle.query_resolution.specs.Columns.{column_kind, kind_at, place_of, places_of}
 use Rattle.query_resolution.specs.Sets.{grouping_names, grouping_places}
 use Rattle.query_check.specs.Typing.{IsColumn, argument_names, may_stand, takes}
-use Rattle.query_check.specs.Faults.{first_fault, fault_unless, column_fault, grouped_at_fault, grouped_fault, name_fault, kind_fault, same_kind, argument_fault, aggregate_fault, function_fault, grouping_fault, expression_fault, predicate_fault}
+use Rattle.query_check.specs.Inside.FirstFaults.{first_fault, fault_unless, column_fault, grouped_at_fault, grouped_fault, name_fault, kind_fault, argument_fault, aggregate_fault, function_fault, grouping_fault, expression_fault, predicate_fault}
+use Rattle.query_check.specs.Faults.{same_kind}
 use Rattle.query_resolution.specs.Functions.{aggregate_of}
 use Rattle.query_check.specs.Standing.{IsFilterIn, IsOfOtherKind, IsWrittenIn, Stands, StandsIn, names, outer_names}
 use Rattle.query_resolution.proofs.Rows.{or_true}

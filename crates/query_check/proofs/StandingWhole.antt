@@ -25,7 +25,8 @@ use Rattle.query_resolution.specs.Columns.{column_kind, place_of}
 use Rattle.query_resolution.specs.Sets.{expanded, grouping_names, grouping_places}
 use Rattle.query_resolution.specs.Functions.{functions_of}
 use Rattle.query_check.specs.Typing.{IsColumn, IsTypedAggregate, IsTypedName, IsTypedOperand, may_stand, aggregate_kind, key_expression, literal_kind, operand_kind, IsOfKinds, takes}
-use Rattle.query_check.specs.Faults.{Answers, first_fault, column_fault, name_fault, expression_fault, operand_fault, same_kind, agreement_fault, between_agreement, member_agreement, predicate_fault, parts_fault, clause_fault, header_fault, headers_fault, limit_fault, query_fault, tests_of}
+use Rattle.query_check.specs.Inside.FirstFaults.{Answers, first_fault, column_fault, name_fault, expression_fault, operand_fault, agreement_fault, between_agreement, member_agreement, predicate_fault, parts_fault, clause_fault, header_fault, headers_fault, limit_fault, query_fault, tests_of}
+use Rattle.query_check.specs.Faults.{same_kind}
 use Rattle.query_check.specs.Standing.{AreOfTwoKinds, Disagrees, IsAtomIn, Stands, StandsIn, StandsTwice, atoms, operands, parts_atoms}
 use Rattle.query_check.proofs.TypedLemmas.{name_from_none, operand_from_none, same_itself}
 use Rattle.query_check.proofs.StandingLemmas.{FiltersStand, column_has_kind, column_stands, either, expression_stands, fails, first_at, kind_fails, mapped, name_stands}

@@ -16,7 +16,8 @@ use Rattle.query_check.specs.declared.scope.Clause.{Clause}
 use Rattle.query_check.specs.declared.scope.Clause.TheVariants as clause
 use Rattle.query_resolution.specs.Columns.{column_kind, kind_at, place_of}
 use Rattle.query_check.specs.Typing.{IsGrouped, IsTypedName, IsTypedAggregate, IsTypedFunction, IsTypedGrouping, IsTypedExpression, IsTypedOperand, IsOfOneKind, IsTypedPredicate, AreTypedParts, IsTypedClause, IsOfKinds, argument_names, literal_kind, may_stand, operand_kind, takes}
-use Rattle.query_check.specs.Faults.{first_fault, fault_unless, column_fault, grouped_at_fault, grouped_fault, name_fault, kind_fault, argument_fault, aggregate_fault, function_fault, grouping_fault, expression_fault, operand_fault, same_kind, agreement_fault, predicate_fault, parts_fault, clause_fault}
+use Rattle.query_check.specs.Inside.FirstFaults.{first_fault, fault_unless, column_fault, grouped_at_fault, grouped_fault, name_fault, kind_fault, argument_fault, aggregate_fault, function_fault, grouping_fault, expression_fault, operand_fault, agreement_fault, predicate_fault, parts_fault, clause_fault}
+use Rattle.query_check.specs.Faults.{same_kind}
 use Rattle.query_resolution.proofs.Rows.{or_true}
 
 -- ---- faults in a row

@@ -20,7 +20,7 @@ use Rattle.query_resolution.specs.Columns.{place_of}
 use Rattle.query_resolution.specs.Sets.{expanded, grouping_names, grouping_places}
 use Rattle.query_resolution.specs.Functions.{functions_of}
 use Rattle.query_check.specs.Typing.{IsColumn, IsTyped, IsTypedExpression, key_expression}
-use Rattle.query_check.specs.Faults.{Answers, clause_fault, column_fault, expression_fault, first_fault, header_fault, limit_fault, headers_fault, query_fault, tests_of}
+use Rattle.query_check.specs.Inside.FirstFaults.{Answers, clause_fault, column_fault, expression_fault, first_fault, header_fault, limit_fault, headers_fault, query_fault, tests_of}
 use Rattle.query_check.proofs.TypedLemmas.{all_from_none, both_none, clause_from_none, expression_from_none, holds, none_from_all, none_from_clause, none_from_expression, none_of_both, passes}
 
 -- ---- headers

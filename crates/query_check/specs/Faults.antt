@@ -1,64 +1,41 @@
--- The first fault of a query that is not typed, in the order in which faults are tested.
-use Rattle.std.specs.Prelude.{◌≡◌, ◌≢◌, Result, MatchResult, ℕ, ◌==◌, nat_lt, Bool, true, false, not, Option, Some, None, List, [], ◌∷◌, ◌++◌, map, length, take, is_some, if◌then◌else◌, All}
-use Rattle.std.specs.List.{enumerate_from, list_any}
-use Rattle.std.specs.Option.{option_map_or, option_or}
+-- What is wrong with a query under a schema: its faults, in the order in which they are told
+-- (ISO/IEC 9075-2, <query specification>). A query is let through where there is none, and of
+-- several the first is told.
+use Rattle.std.specs.Prelude.{ℕ, nat_le, Bool, true, false, not, ◌&&◌, Option, Some, None, List, [], ◌∷◌, ◌++◌, map, length, take, is_some, if◌then◌else◌}
+use Rattle.std.specs.List.{enumerate_from, flat_map, list_any}
+use Rattle.std.specs.Option.{option_map_or}
 use Rattle.std.specs.Str.{bytes_eq}
 use Rattle.values.specs.declared.schema.Kind.{Kind}
 use Rattle.values.specs.declared.schema.Kind.TheVariants as kind
 use Rattle.values.specs.Schema.{Field}
 use Rattle.query_tree.specs.declared.expression.Aggregate.{Aggregate}
-use Rattle.query_tree.specs.declared.predicate.Literal.{Literal}
+use Rattle.query_tree.specs.declared.expression.Aggregate.TheVariants as aggregate
+use Rattle.query_tree.specs.declared.predicate.Literal.TheVariants as constant
 use Rattle.query_tree.specs.Syntax.{ExpressionForm, FunctionForm, OperandForm, PredicateForm, PredicateForms, TreeForm, name, grouping, function, over_all, over_filtered, expression, literal, or_of, and_of, not_of, truth_test, compare, between, member, null_test, column, no_parts, part}
 use Rattle.query_print.specs.Canonical.{header_text}
 use Rattle.query_fault.specs.declared.QueryFault.{QueryFault}
-use Rattle.query_fault.specs.declared.QueryFault.TheVariants.{UnknownColumn, TypesDisagree, NotGrouped, OverLimit, FunctionNotAllowed, RepeatedHeader, OutOfMemory}
-use Rattle.query_check.specs.declared.scope.Clause.{Clause}
-use Rattle.query_check.specs.declared.scope.Clause.TheVariants as clause
+use Rattle.query_fault.specs.declared.QueryFault.TheVariants.{UnknownColumn, TypesDisagree, NotGrouped, OverLimit, FunctionNotAllowed, RepeatedHeader}
 use Rattle.query_resolution.specs.Columns.{column_kind, place_of}
-use Rattle.query_resolution.specs.Sets.{expanded, grouping_names, grouping_places}
-use Rattle.query_resolution.specs.Functions.{functions_of}
-use Rattle.query_check.specs.Typing.{argument_names, key_expression, literal_kind, may_stand, operand_kind, takes}
-
--- The first fault of the elements of a list, from left to right.
-abbrev pub first_fault : {A : Type 0} → (A → Option QueryFault) → List A → Option QueryFault
-first_fault f [] = None
-first_fault f (x ∷ xs) = option_or (f x) (first_fault f xs)
-
--- One element of a list has this fault, and none before it has any.
-abbrev pub IsFirst : {A : Type 0} → (A → Option QueryFault) → List A → QueryFault → Type 0
-IsFirst {A} test xs f = (front : List A) × (x : A) × (back : List A) × (xs ≡ front ++ x ∷ back) × (test x ≡ Some f) × All (λ y. test y ≡ None) front
+use Rattle.query_resolution.specs.Sets.{expanded, grouping_names}
+use Rattle.query_resolution.specs.Functions.{aggregate_of, functions_of}
+use Rattle.query_check.specs.Typing.{is_average, key_expression, operand_kind}
 
 -- This fault, unless the test holds.
-abbrev pub fault_unless : Bool → QueryFault → Option QueryFault
-fault_unless test fault = if test then None else Some fault
-
--- A test passes where there is no fault, and else answers this one, unless memory is refused.
-abbrev pub Answers : {X : Type 0} → Result X QueryFault → Option QueryFault → Type 0
-Answers result fault = MatchResult result (λ _. fault ≡ None) (λ f. f ≢ OutOfMemory → fault ≡ Some f)
+abbrev pub unless : Bool → QueryFault → List QueryFault
+unless test fault = if test then [] else fault ∷ []
 
 -- ---- names
 
 -- No column has this name.
-abbrev pub column_fault : List Field → List ℕ → Option QueryFault
-column_fault fields n = fault_unless (is_some (place_of fields n)) (UnknownColumn n)
+abbrev pub column_faults : List Field → List ℕ → List QueryFault
+column_faults fields n = unless (is_some (place_of fields n)) (UnknownColumn n)
 
--- No column has this name, or the column at this place is no grouping column.
-abbrev pub grouped_at_fault : List ℕ → List ℕ → Option ℕ → Option QueryFault
-grouped_at_fault grouped n None = Some (UnknownColumn n)
-grouped_at_fault grouped n (Some place) = fault_unless (list_any (λ g. g == place) grouped) (NotGrouped n)
+-- No column has this name, or it is none of the names in GROUP BY, which are given.
+abbrev pub grouped_faults : List Field → List (List ℕ) → List ℕ → List QueryFault
+grouped_faults fields groups n =
+    column_faults fields n ++ unless (list_any (bytes_eq n) groups) (NotGrouped n)
 
--- A name that is no grouping column.
-abbrev pub grouped_fault : List Field → List ℕ → List ℕ → Option QueryFault
-grouped_fault fields grouped n = grouped_at_fault grouped n (place_of fields n)
-
--- A name in WHERE is any column, in every other clause a grouping column.
-abbrev pub name_fault : List Field → List ℕ → Clause → List ℕ → Option QueryFault
-name_fault fields grouped clause.Where n = column_fault fields n
-name_fault fields grouped clause.Select n = grouped_fault fields grouped n
-name_fault fields grouped clause.Having n = grouped_fault fields grouped n
-name_fault fields grouped clause.OrderBy n = grouped_fault fields grouped n
-
--- ---- functions
+-- ---- types
 
 -- Whether two types are one.
 abbrev pub same_kind : Kind → Kind → Bool
@@ -67,124 +44,130 @@ same_kind kind.Text kind.Text = true
 same_kind kind.Bool kind.Bool = true
 same_kind k l = false
 
--- The type of a column is none of these.
-abbrev pub kind_fault : List Kind → Option Kind → Option QueryFault
-kind_fault kinds k = fault_unless (option_map_or (λ one. list_any (same_kind one) kinds) k false) TypesDisagree
+-- The types of two operands are not one. Where one has no type, as AVG and a name without a column,
+-- they are not.
+abbrev pub agreement_faults : Option Kind → Option Kind → List QueryFault
+agreement_faults (Some k) (Some l) = unless (same_kind k l) TypesDisagree
+agreement_faults k l = TypesDisagree ∷ []
 
--- An argument that is no column, or a column of another type than these.
-abbrev pub argument_fault : List Field → List Kind → List ℕ → Option QueryFault
-argument_fault fields kinds n = option_or (column_fault fields n) (kind_fault kinds (column_kind fields n))
+-- The column that a set function is taken of, with the types that it takes. COUNT(*) has none.
+abbrev pub argument_of : Aggregate → List (List ℕ × List Kind)
+argument_of aggregate.CountRows = []
+argument_of (aggregate.Count x) = (x, kind.Int ∷ kind.Text ∷ kind.Bool ∷ []) ∷ []
+argument_of (aggregate.CountDistinct x) = (x, kind.Int ∷ kind.Text ∷ kind.Bool ∷ []) ∷ []
+argument_of (aggregate.Sum x) = (x, kind.Int ∷ []) ∷ []
+argument_of (aggregate.Min x) = (x, kind.Int ∷ kind.Text ∷ []) ∷ []
+argument_of (aggregate.Max x) = (x, kind.Int ∷ kind.Text ∷ []) ∷ []
+argument_of (aggregate.Avg x) = (x, kind.Int ∷ []) ∷ []
 
--- The argument of a set function that is no column, or a column of a type that it does not take.
-abbrev pub aggregate_fault : List Field → Aggregate → Option QueryFault
-aggregate_fault fields a = first_fault (argument_fault fields (takes a)) (argument_names a)
+-- The type of the column of this name is one of these.
+abbrev pub has_type_among : List Field → List Kind → List ℕ → Bool
+has_type_among fields kinds n =
+    option_map_or (λ k. list_any (same_kind k) kinds) (column_kind fields n) false
 
--- ---- expressions and predicates
+-- No column has this name, or its type is none of these.
+abbrev pub typed_column_faults : List Field → List ℕ × List Kind → List QueryFault
+typed_column_faults fields (n, kinds) =
+    column_faults fields n ++ unless (has_type_among fields kinds n) TypesDisagree
 
--- GROUPING may not stand in WHERE, and takes grouping columns.
-abbrev pub grouping_fault : List Field → List ℕ → Clause → List (List ℕ) → Option QueryFault
-grouping_fault fields grouped clause.Where ns = Some FunctionNotAllowed
-grouping_fault fields grouped clause.Select ns = first_fault (grouped_fault fields grouped) ns
-grouping_fault fields grouped clause.Having ns = first_fault (grouped_fault fields grouped) ns
-grouping_fault fields grouped clause.OrderBy ns = first_fault (grouped_fault fields grouped) ns
+-- The faults of the argument of a set function.
+abbrev pub argument_faults : List Field → Aggregate → List QueryFault
+argument_faults fields a = flat_map (typed_column_faults fields) (argument_of a)
 
--- The types of two operands are not one type.
-abbrev pub agreement_fault : Option Kind → Option Kind → Option QueryFault
-agreement_fault None l = Some TypesDisagree
-agreement_fault (Some k) None = Some TypesDisagree
-agreement_fault (Some k) (Some l) = fault_unless (same_kind k l) TypesDisagree
-
--- In BETWEEN the types of all three operands are one.
-abbrev pub between_agreement : List Field → OperandForm → OperandForm → OperandForm → Option QueryFault
-between_agreement fields x y z =
-    option_or (agreement_fault (operand_kind fields x) (operand_kind fields y))
-    (agreement_fault (operand_kind fields x) (operand_kind fields z))
-
--- In IN the types of the operand and of all literals are one.
-abbrev pub member_agreement : List Field → OperandForm → List Literal → Option QueryFault
-member_agreement fields x ls = first_fault (λ a. agreement_fault (operand_kind fields x) (Some (literal_kind a))) ls
-
--- A bare name is a column of truth values.
-abbrev pub truth_fault : List Field → List ℕ → Clause → List ℕ → Option QueryFault
-truth_fault fields grouped c n =
-    option_or (name_fault fields grouped c n) (kind_fault (kind.Bool ∷ []) (column_kind fields n))
+-- ---- predicates
 
 abbrev mutual
-  -- The first fault of an expression in a clause.
-  pub expression_fault : List Field → List ℕ → Clause → ExpressionForm → Option QueryFault
-  expression_fault fields grouped c (name n) = name_fault fields grouped c n
-  expression_fault fields grouped c (grouping ns) = grouping_fault fields grouped c ns
-  expression_fault fields grouped c (function f) = function_fault fields c f
+  -- The operands of each atom of a predicate, from left to right. The atoms are comparisons,
+  -- BETWEEN, IN, IS NULL, and names that stand alone; such a name stands beside TRUE.
+  pub operands_of_atoms : PredicateForm → List (List OperandForm)
+  operands_of_atoms (or_of ps) = operands_of_parts ps
+  operands_of_atoms (and_of ps) = operands_of_parts ps
+  operands_of_atoms (not_of p) = operands_of_atoms p
+  operands_of_atoms (truth_test p n t) = operands_of_atoms p
+  operands_of_atoms (compare x o y) = (x ∷ y ∷ []) ∷ []
+  operands_of_atoms (between x n y z) = (x ∷ y ∷ z ∷ []) ∷ []
+  operands_of_atoms (member x n ls) = (x ∷ map literal ls) ∷ []
+  operands_of_atoms (null_test x n) = (x ∷ []) ∷ []
+  operands_of_atoms (column n) = (expression (name n) ∷ literal (constant.Truth true) ∷ []) ∷ []
 
-  -- A set function that may not stand is not looked into. Else its argument is tested, and then its FILTER, in which all
-  -- stands as in WHERE.
-  pub function_fault : List Field → Clause → FunctionForm → Option QueryFault
-  function_fault fields c (over_all a) = if may_stand c a then aggregate_fault fields a else Some FunctionNotAllowed
-  function_fault fields c (over_filtered a p) =
-      if may_stand c a then option_or (aggregate_fault fields a) (predicate_fault fields [] clause.Where p) else Some FunctionNotAllowed
+  -- Those of the parts of an OR or an AND.
+  pub operands_of_parts : PredicateForms → List (List OperandForm)
+  operands_of_parts no_parts = []
+  operands_of_parts (part p ps) = operands_of_atoms p ++ operands_of_parts ps
 
-  -- The first fault of an operand; a literal has none.
-  pub operand_fault : List Field → List ℕ → Clause → OperandForm → Option QueryFault
-  operand_fault fields grouped c (expression e) = expression_fault fields grouped c e
-  operand_fault fields grouped c (literal a) = None
+-- The faults of an operand, given those of each expression. A literal has none.
+abbrev pub operand_faults : (ExpressionForm → List QueryFault) → OperandForm → List QueryFault
+operand_faults of_expression (expression e) = of_expression e
+operand_faults of_expression (literal a) = []
 
-  -- The first fault of a predicate in a clause. In an atom all operands are tested from the left, then their types.
-  pub predicate_fault : List Field → List ℕ → Clause → PredicateForm → Option QueryFault
-  predicate_fault fields grouped c (or_of ps) = parts_fault fields grouped c ps
-  predicate_fault fields grouped c (and_of ps) = parts_fault fields grouped c ps
-  predicate_fault fields grouped c (not_of p) = predicate_fault fields grouped c p
-  predicate_fault fields grouped c (truth_test p n t) = predicate_fault fields grouped c p
-  predicate_fault fields grouped c (compare x o y) =
-      option_or (operand_fault fields grouped c x)
-      (option_or (operand_fault fields grouped c y)
-      (agreement_fault (operand_kind fields x) (operand_kind fields y)))
-  predicate_fault fields grouped c (between x n y z) =
-      option_or (operand_fault fields grouped c x)
-      (option_or (operand_fault fields grouped c y)
-      (option_or (operand_fault fields grouped c z)
-      (between_agreement fields x y z)))
-  predicate_fault fields grouped c (member x n ls) = option_or (operand_fault fields grouped c x) (member_agreement fields x ls)
-  predicate_fault fields grouped c (null_test x n) = operand_fault fields grouped c x
-  predicate_fault fields grouped c (column n) = truth_fault fields grouped c n
+-- The faults of an atom with these operands: their own, and then that they are not of one type.
+abbrev pub atom_faults : (ExpressionForm → List QueryFault) → List Field
+    → List OperandForm → List QueryFault
+atom_faults of_expression fields [] = []
+atom_faults of_expression fields (x ∷ xs) =
+    flat_map (operand_faults of_expression) (x ∷ xs)
+    ++ flat_map (λ y. agreement_faults (operand_kind fields x) (operand_kind fields y)) xs
 
-  -- The first fault of the parts of an OR or an AND.
-  pub parts_fault : List Field → List ℕ → Clause → PredicateForms → Option QueryFault
-  parts_fault fields grouped c no_parts = None
-  parts_fault fields grouped c (part p ps) = option_or (predicate_fault fields grouped c p) (parts_fault fields grouped c ps)
+-- The faults of a predicate, given those of each expression.
+abbrev pub predicate_faults : (ExpressionForm → List QueryFault) → List Field
+    → PredicateForm → List QueryFault
+predicate_faults of_expression fields p =
+    flat_map (atom_faults of_expression fields) (operands_of_atoms p)
+
+-- ---- expressions
+
+-- The faults of an expression over one record, as in WHERE and in a FILTER: names are columns, and
+-- neither GROUPING nor a set function may stand.
+abbrev pub record_faults : List Field → ExpressionForm → List QueryFault
+record_faults fields (name n) = column_faults fields n
+record_faults fields (grouping ns) = FunctionNotAllowed ∷ []
+record_faults fields (function f) = FunctionNotAllowed ∷ []
+
+-- The faults of the FILTER of a set function, where it has one.
+abbrev pub filter_faults : List Field → FunctionForm → List QueryFault
+filter_faults fields (over_all a) = []
+filter_faults fields (over_filtered a p) = predicate_faults (record_faults fields) fields p
+
+-- The faults of a set function: those of its argument, and then those of its FILTER; or that it is
+-- AVG, where the test says that AVG may not stand.
+abbrev pub function_faults : Bool → List Field → FunctionForm → List QueryFault
+function_faults may_average fields f =
+    if is_average (aggregate_of f) && not may_average then FunctionNotAllowed ∷ []
+    else argument_faults fields (aggregate_of f) ++ filter_faults fields f
+
+-- The faults of an expression over a group, as in SELECT, HAVING and ORDER BY: names outside of set
+-- functions are among those in GROUP BY, which are given. The test says whether AVG may stand.
+abbrev pub group_faults : Bool → List Field → List (List ℕ) → ExpressionForm → List QueryFault
+group_faults may_average fields groups (name n) = grouped_faults fields groups n
+group_faults may_average fields groups (grouping ns) = flat_map (grouped_faults fields groups) ns
+group_faults may_average fields groups (function f) = function_faults may_average fields f
 
 -- ---- the query
 
--- The first fault of a clause of one predicate, where it is written.
-abbrev pub clause_fault : List Field → List ℕ → Clause → Option PredicateForm → Option QueryFault
-clause_fault fields grouped c None = None
-clause_fault fields grouped c (Some p) = predicate_fault fields grouped c p
+-- The faults of the predicate of a clause, where it is written.
+abbrev pub clause_faults : (ExpressionForm → List QueryFault) → List Field
+    → Option PredicateForm → List QueryFault
+clause_faults of_expression fields None = []
+clause_faults of_expression fields (Some p) = predicate_faults of_expression fields p
 
--- A header that an earlier item has.
-abbrev pub header_fault : List (List ℕ) → List ℕ → Option QueryFault
-header_fault earlier h = fault_unless (not (list_any (bytes_eq h) earlier)) (RepeatedHeader h)
+-- Each header that an earlier item has.
+abbrev pub header_faults : List (List ℕ) → List QueryFault
+header_faults headers =
+    flat_map (λ p. unless (not (list_any (bytes_eq p.1) (take p.0 headers))) (RepeatedHeader p.1))
+    (enumerate_from 0 headers)
 
--- The first header that repeats an earlier one.
-abbrev pub headers_fault : List (List ℕ) → Option QueryFault
-headers_fault headers = first_fault (λ p. header_fault (take p.0 headers) p.1) (enumerate_from 0 headers)
-
--- More than the most that there may be.
-abbrev pub limit_fault : ℕ → ℕ → Option QueryFault
-limit_fault most n = fault_unless (not (nat_lt most n)) OverLimit
-
--- The tests of a query under a schema, in their order: WHERE, the names in GROUP BY, the number of its expanded sets, the
--- items of SELECT, their headers, HAVING, the keys of ORDER BY, and the number of different set functions.
-unfoldable pub tests_of : List Field → TreeForm → List (Option QueryFault)
-tests_of fields t =
-    clause_fault fields (grouping_places fields t) clause.Where t.where_condition
-    ∷ first_fault (column_fault fields) (grouping_names t)
-    ∷ limit_fault 256 (length (expanded t.groups))
-    ∷ first_fault (λ i. expression_fault fields (grouping_places fields t) clause.Select i.expression) t.items
-    ∷ headers_fault (map header_text t.items)
-    ∷ clause_fault fields (grouping_places fields t) clause.Having t.having_condition
-    ∷ first_fault (λ k. expression_fault fields (grouping_places fields t) clause.OrderBy (key_expression t.items k.expression)) t.keys
-    ∷ limit_fault 64 (length (functions_of fields t))
-    ∷ []
-
--- The first fault of a query under a schema.
-abbrev pub query_fault : List Field → TreeForm → Option QueryFault
-query_fault fields t = first_fault (λ fault. fault) (tests_of fields t)
+-- What is wrong with a query under a schema, in the order in which it is told: in WHERE; in GROUP
+-- BY, where names are columns; that it stands for more than 256 sets; in the items of SELECT, where
+-- alone AVG may stand; in their headers; in HAVING; in ORDER BY, where a key that is an alias
+-- stands for its item; and that there are more than 64 different set functions.
+unfoldable pub query_faults : List Field → TreeForm → List QueryFault
+query_faults fields q =
+    let groups = grouping_names q in
+    clause_faults (record_faults fields) fields q.where_condition
+    ++ flat_map (column_faults fields) groups
+    ++ unless (nat_le (length (expanded q.groups)) 256) OverLimit
+    ++ flat_map (λ i. group_faults true fields groups i.expression) q.items
+    ++ header_faults (map header_text q.items)
+    ++ clause_faults (group_faults false fields groups) fields q.having_condition
+    ++ flat_map (λ k. group_faults false fields groups (key_expression q.items k.expression)) q.keys
+    ++ unless (nat_le (length (functions_of fields q)) 64) OverLimit

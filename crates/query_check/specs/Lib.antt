@@ -1,5 +1,5 @@
+pub mod Faults
 pub mod Typing
 pub mod Filters
-pub mod Faults
 pub mod Standing
 pub mod Inside

@@ -1,12 +1,14 @@
-//! Laws of filters and of first faults, with no work to do.
+//! Laws of filters and of faults, with no work to do.
 
-ghost use Rattle.std.specs.Prelude.{◌≡◌, ◌↔◌, List, Option, Some, Decides};
+ghost use Rattle.std.specs.Prelude.{◌≡◌, ◌↔◌, List, [], Option, Some, Decides, slice_get};
 ghost use Rattle.values.specs.Schema.{Field};
 ghost use Rattle.values.specs.declared.schema.Kind.{Kind};
 ghost use Rattle.query_tree.specs.Syntax.{TreeForm};
 ghost use Rattle.query_fault.specs.declared.QueryFault.{QueryFault};
-ghost use Rattle.query_check.specs.Faults.{IsFirst, first_fault, same_kind};
+ghost use Rattle.query_check.specs.Inside.FirstFaults.{IsFirst, first_fault};
+ghost use Rattle.query_check.specs.Faults.{query_faults, same_kind};
 ghost use Rattle.query_check.specs.Filters.{AreTypedFilters, LeadBack};
+ghost use Rattle.query_check.specs.Standing.{Stands};
 ghost use Rattle.query_check.specs.Typing.{IsTyped};
 
 /// A law: the index of each set function of a query leads to its own FILTER, and each FILTER of a typed query is typed
@@ -21,4 +23,10 @@ pub fn filters_law()
 pub fn first_fault_law<A>()
     ensures first { (test : A → Option QueryFault) (xs : List A) (f : QueryFault) → first_fault test xs ≡ Some f ↔ IsFirst test xs f }
     ensures kinds { (k l : Kind) → Decides (same_kind k l) (k ≡ l) }
+{}
+
+/// A law: a query has no fault exactly where it is typed, and the first of its faults stands in it.
+pub fn typed_law()
+    ensures typed { (fields : List Field) (t : TreeForm) → query_faults fields t ≡ [] ↔ IsTyped fields t }
+    ensures stands { (fields : List Field) (t : TreeForm) (f : QueryFault) → slice_get (query_faults fields t) 0 ≡ Some f → Stands fields t f }
 {}

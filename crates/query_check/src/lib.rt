@@ -7,6 +7,6 @@ mod resolution;
 mod scope;
 mod typing;
 
-pub use laws::{filters_law, first_fault_law};
+pub use laws::{filters_law, first_fault_law, typed_law};
 pub use resolution::{Resolved, check_tree, key_expression};
 pub use scope::Clause;

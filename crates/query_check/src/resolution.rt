@@ -10,7 +10,7 @@ ghost use Rattle.query_print.specs.Canonical.{header_text};
 ghost use Rattle.query_resolution.specs.Functions.{indexed_functions};
 ghost use Rattle.query_resolution.specs.Sets.{expanded, grouping_places};
 ghost use Rattle.query_check.specs.Typing.{IsTyped, key_expression};
-ghost use Rattle.query_check.specs.Faults.{Answers, clause_fault, expression_fault, first_fault, headers_fault, limit_fault, query_fault};
+ghost use Rattle.query_check.specs.Inside.FirstFaults.{Answers, clause_fault, expression_fault, first_fault, headers_fault, limit_fault, query_fault};
 ghost use Rattle.query_check.specs.Inside.Clauses.{clauses_fault, records_fault, rows_fault, select_fault};
 ghost use Rattle.query_check.specs.Standing.{Stands};
 ghost use Rattle.query_fault.specs.declared.QueryFault.TheVariants.{OutOfMemory, RepeatedHeader};

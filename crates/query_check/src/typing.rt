@@ -6,7 +6,8 @@ ghost use Rattle.values.specs.Schema.{fields_of};
 ghost use Rattle.query_fault.specs.declared.QueryFault.TheVariants.{UnknownColumn, NotGrouped, OutOfMemory};
 ghost use Rattle.query_tree.specs.Syntax.{expression_form, function_form, operand_form, predicate_form, predicate_forms};
 ghost use Rattle.query_check.specs.Typing.{aggregate_kind, literal_kind, may_stand, operand_kind, takes};
-ghost use Rattle.query_check.specs.Faults.{agreement_fault, aggregate_fault, Answers, argument_fault, between_agreement, column_fault, expression_fault, first_fault, function_fault, grouped_fault, grouping_fault, name_fault, operand_fault, parts_fault, predicate_fault, same_kind, truth_fault};
+ghost use Rattle.query_check.specs.Inside.FirstFaults.{agreement_fault, aggregate_fault, Answers, argument_fault, between_agreement, column_fault, expression_fault, first_fault, function_fault, grouped_fault, grouping_fault, name_fault, operand_fault, parts_fault, predicate_fault, truth_fault};
+ghost use Rattle.query_check.specs.Faults.{same_kind};
 
 use crate::scope::{Clause, Scope};
 use query_fault::QueryFault;

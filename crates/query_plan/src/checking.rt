@@ -1,9 +1,9 @@
 //! Checking a query under a schema.
 
-ghost use Rattle.std.specs.Prelude.{◌≡◌, ◌≢◌, IfErr, IfOk, OnOk, Some};
-ghost use Rattle.query_check.specs.Faults.{query_fault};
+ghost use Rattle.std.specs.Prelude.{◌≡◌, ◌≢◌, [], IfErr, IfOk, OnOk, Some, slice_get};
+ghost use Rattle.query_check.specs.Faults.{query_faults};
+ghost use Rattle.query_check.specs.Inside.FirstFaults.{query_fault};
 ghost use Rattle.query_resolution.specs.Resolution.{resolution_of};
-ghost use Rattle.query_check.specs.Standing.{Stands};
 ghost use Rattle.query_check.specs.Typing.{IsTyped};
 ghost use Rattle.query_fault.specs.declared.QueryFault.TheVariants.{OutOfMemory};
 ghost use Rattle.query_tree.specs.Syntax.{tree_form};
@@ -40,13 +40,10 @@ use values::{Column, Schema};
 pub fn check(alloc: Global, query: Query, schema: Schema) -> Result<Plan, QueryFault>
     ensures query { IfOk result (λ plan. form_of_plan plan ≡ form_of query) }
     ensures schema { IfOk result (λ plan. fields_of_plan plan ≡ schema) }
-    // A plan is answered exactly where the query is typed.
-    ensures typed { OnOk result (IsTyped schema (form_of query)) }
-    ensures untyped { IfErr result (λ fault. fault ≢ OutOfMemory → IsTyped schema (form_of query) → ⊥) }
-    // A fault is the first.
-    ensures fault { IfErr result (λ fault. fault ≢ OutOfMemory → query_fault schema (form_of query) ≡ Some fault) }
-    // A fault stands in the query.
-    ensures stands { IfErr result (λ fault. fault ≢ OutOfMemory → Stands schema (form_of query) fault) }
+    // A plan is answered only where nothing is wrong with the query.
+    ensures typed { OnOk result (query_faults schema (form_of query) ≡ []) }
+    // A fault is the first of what is wrong with it.
+    ensures fault { IfErr result (λ fault. fault ≢ OutOfMemory → slice_get (query_faults schema (form_of query)) 0 ≡ Some fault) }
 {
     match resolve(alloc, query.tree(), &schema) {
         Ok((resolved, condition, filters)) => {
@@ -67,9 +64,7 @@ fn resolve(
     ensures resolved { IfOk result (λ r. r.0 ≡ resolution_of schema.now (tree_form tree.now)) }
     ensures condition { IfOk result (λ r. IsConditionOf schema.now (tree_form tree.now).where_condition r.1) }
     ensures filters { IfOk result (λ r. AreConditionsOf schema.now (filters_of schema.now (tree_form tree.now)) r.2.items) }
-    ensures untyped { IfErr result (λ fault. fault ≢ OutOfMemory → IsTyped schema.now (tree_form tree.now) → ⊥) }
     ensures fault { IfErr result (λ fault. fault ≢ OutOfMemory → query_fault schema.now (tree_form tree.now) ≡ Some fault) }
-    ensures stands { IfErr result (λ fault. fault ≢ OutOfMemory → Stands schema.now (tree_form tree.now) fault) }
 {
     let resolved = check_tree(alloc, tree, schema)?;
     let columns = schema.columns();

@@ -10,7 +10,7 @@ use Rattle.values.specs.Schema.{Field}
 use Rattle.query_tree.specs.Syntax.{PredicateForm, TreeForm}
 use Rattle.query_check.specs.declared.scope.Clause.TheVariants as clause
 use Rattle.query_resolution.specs.Columns.{kind_at}
-use Rattle.query_check.specs.Faults.{query_fault}
+use Rattle.query_check.specs.Inside.FirstFaults.{query_fault}
 use Rattle.query_resolution.specs.Functions.{functions_of}
 use Rattle.query_resolution.specs.Sets.{grouping_places, sets_of}
 use Rattle.query_check.specs.Typing.{IsTyped, IsTypedClause, IsTypedPredicate}

@@ -11,7 +11,7 @@ use Rattle.query_resolution.specs.Columns.{group_names}
 use Rattle.query_resolution.specs.Sets.{expanded}
 use Rattle.query_resolution.specs.Functions.{functions_of}
 use Rattle.query_check.specs.Typing.{key_expression}
-use Rattle.query_check.specs.Faults.{clause_fault, column_fault, expression_fault, first_fault, headers_fault, limit_fault}
+use Rattle.query_check.specs.Inside.FirstFaults.{clause_fault, column_fault, expression_fault, first_fault, headers_fault, limit_fault}
 
 -- WHERE, then the names in GROUP BY, then the number of its expanded sets.
 unfoldable pub records_fault : List Field → List ℕ → Option PredicateForm → List ElementForm → Option QueryFault

@@ -1,8 +1,11 @@
-use Rattle.std.proofs.Common.{◌≡◌, ◌∙◌, Result, Ok, Err, ap, subst, sym}
-use Rattle.std.specs.Prelude.{IfOk, IsErrAnd, MatchResult}
+use Rattle.std.proofs.Common.{◌≡◌, ◌∙◌, List, [], Result, Ok, Err, ap, subst, sym}
+use Rattle.std.specs.Prelude.{IfOk, IsErrAnd, MatchResult, OnOk}
 use Rattle.std.proofs.lemmas.Result.{IfOk-weaker}
-use Rattle.values.specs.Schema.{schema_of}
+use Rattle.values.specs.Schema.{Field, schema_of}
+use Rattle.query_tree.specs.Syntax.{TreeForm}
+use Rattle.query_check.specs.Faults.{query_faults}
 use Rattle.query_derivation.specs.Derivation.{Derives}
+use Rattle.query_plan.specs.declared.plan.Plan.{Plan}
 use Rattle.query_plan.specs.Form.{form_of}
 use Rattle.query_plan.specs.Planned.{fields_of_plan, form_of_plan}
 use Rattle.engine.proofs.serving.plan_of.Goals as goal
@@ -35,3 +38,16 @@ returns-clause-query c =
     IfOk-weaker c.map_err-3.result (λ plan. form_of_plan plan ≡ form_of query) (λ plan. Derives text (form_of_plan plan))
     (λ plan same. subst (Derives text) (sym same) derived)
     (if_mapped (λ plan. form_of_plan plan ≡ form_of query) c.check.result c.map_err-3.result _ c.map_err-3.ensures.cases c.check.ensures.query)
+
+-- nothing is wrong with the query of a plan
+faultless_plan : {E : Type 0} (r : Result Plan E) (fields : List Field) (form : TreeForm)
+    → IfOk r (λ plan. fields_of_plan plan ≡ fields) → IfOk r (λ plan. form_of_plan plan ≡ form) → OnOk r (query_faults fields form ≡ [])
+    → IfOk r (λ plan. query_faults (fields_of_plan plan) (form_of_plan plan) ≡ [])
+faultless_plan (Ok plan) fields form schema query none =
+    ap (λ (s : List Field). query_faults s (form_of_plan plan)) schema ∙ ap (query_faults fields) query ∙ none
+faultless_plan (Err e) fields form schema query none = tt
+
+pub returns-clause-faultless : goal.returns-clause-faultless
+returns-clause-faultless c =
+    if_mapped (λ plan. query_faults (fields_of_plan plan) (form_of_plan plan) ≡ []) c.check.result c.map_err-3.result _ c.map_err-3.ensures.cases
+    (faultless_plan c.check.result c.in_ok-schema.schema (form_of c.in_ok-query.query) c.check.ensures.schema c.check.ensures.query c.check.ensures.typed)

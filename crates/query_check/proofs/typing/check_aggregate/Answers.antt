@@ -3,7 +3,7 @@ use Rattle.std.specs.Option.{option_or}
 use Rattle.values.specs.Schema.{fields_of}
 use Rattle.query_tree.specs.declared.expression.Aggregate.{Aggregate}
 use Rattle.query_tree.specs.declared.expression.Aggregate.TheVariants as aggregate
-use Rattle.query_check.specs.Faults.{Answers, argument_fault, first_fault}
+use Rattle.query_check.specs.Inside.FirstFaults.{Answers, argument_fault, first_fault}
 use Rattle.query_check.specs.Typing.{argument_names, takes}
 use Rattle.query_check.proofs.typing.check_aggregate.Goals as goal
 

@@ -1,6 +1,6 @@
 use Rattle.std.proofs.Common.{◌≡◌, drop, Some}
 use Rattle.query_check.specs.Typing.{literal_kind}
-use Rattle.query_check.specs.Faults.{agreement_fault, first_fault}
+use Rattle.query_check.specs.Inside.FirstFaults.{agreement_fault, first_fault}
 use Rattle.query_check.proofs.typing.check_literals.Given as goal
 
 abbrev pub invariant-loop-literal : goal.invariant-loop-literal

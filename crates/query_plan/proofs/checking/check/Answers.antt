@@ -1,11 +1,12 @@
-use Rattle.std.proofs.Common.{◌≡◌, ◌∙◌, Some, ap, subst, sym}
+use Rattle.std.proofs.Common.{◌≡◌, ◌∙◌, Some, ap, subst}
 use Rattle.query_tree.specs.Syntax.{TreeForm}
 use Rattle.query_resolution.specs.Functions.{filters_of}
 use Rattle.query_resolution.specs.Resolution.{resolution_of}
-use Rattle.query_check.specs.Faults.{query_fault}
-use Rattle.query_check.specs.Standing.{Stands}
+use Rattle.query_check.specs.Inside.FirstFaults.{query_fault}
 use Rattle.query_check.specs.Typing.{IsTyped}
+use Rattle.query_check.proofs.FaultHeads.{faultless_is_typed, first_of_faults}
 use Rattle.query_truth.specs.Binding.{AreConditionsOf, IsConditionOf}
+use Rattle.query_plan.specs.Form.{form_of}
 use Rattle.query_plan.proofs.checking.check.Goals as goal
 
 pub new-requires-clause-typed : goal.new-requires-clause-typed
@@ -21,13 +22,11 @@ pub new-requires-clause-filters : goal.new-requires-clause-filters
 new-requires-clause-filters c = subst (λ (t : TreeForm). AreConditionsOf c.args.schema (filters_of c.args.schema t) c.in-Ok.filters.items) c.tree.ensures.form c.in-Ok.ensures.filters
 
 pub returns-in-Ok-clause-typed : goal.returns-in-Ok-clause-typed
-returns-in-Ok-clause-typed c = subst (λ (t : TreeForm). IsTyped c.args.schema t) c.tree.ensures.form c.in-Ok.ensures.typed
-
-pub returns-in-Err-clause-untyped : goal.returns-in-Err-clause-untyped
-returns-in-Err-clause-untyped c = λ other typed. c.in-Err.ensures.untyped other (subst (λ (t : TreeForm). IsTyped c.args.schema t) (sym c.tree.ensures.form) typed)
+returns-in-Ok-clause-typed c =
+    let typed = subst (λ (t : TreeForm). IsTyped c.args.schema t) c.tree.ensures.form c.in-Ok.ensures.typed in
+    (faultless_is_typed c.args.schema (form_of c.args.query)).1 typed
 
 pub returns-in-Err-clause-fault : goal.returns-in-Err-clause-fault
-returns-in-Err-clause-fault c = λ other. subst (λ (t : TreeForm). query_fault c.args.schema t ≡ Some c.in-Err.fault) c.tree.ensures.form (c.in-Err.ensures.fault other)
-
-pub returns-in-Err-clause-stands : goal.returns-in-Err-clause-stands
-returns-in-Err-clause-stands c = λ other. subst (λ (t : TreeForm). Stands c.args.schema t c.in-Err.fault) c.tree.ensures.form (c.in-Err.ensures.stands other)
+returns-in-Err-clause-fault c = λ other.
+    let told = subst (λ (t : TreeForm). query_fault c.args.schema t ≡ Some c.in-Err.fault) c.tree.ensures.form (c.in-Err.ensures.fault other) in
+    first_of_faults c.args.schema (form_of c.args.query) ∙ told
