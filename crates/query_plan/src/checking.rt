@@ -10,8 +10,6 @@ ghost use Rattle.query_tree.specs.Syntax.{tree_form};
 ghost use Rattle.query_resolution.specs.Functions.{filters_of};
 ghost use Rattle.query_truth.specs.Binding.{AreConditionsOf, IsConditionOf};
 ghost use Rattle.values.specs.Schema.{fields_of};
-ghost use Rattle.query_plan.specs.Form.{form_of};
-ghost use Rattle.query_plan.specs.Planned.{fields_of_plan, form_of_plan};
 
 use crate::plan::Plan;
 use crate::query::Query;
@@ -38,15 +36,15 @@ use values::{Column, Schema};
 /// different set functions (`OverLimit`); two items with one header (`RepeatedHeader`). `OutOfMemory`
 /// says nothing of the query.
 pub fn check(alloc: Global, query: Query, schema: Schema) -> Result<Plan, QueryFault>
-    ensures query { IfOk result (λ plan. form_of_plan plan ≡ form_of query) }
-    ensures schema { IfOk result (λ plan. fields_of_plan plan ≡ schema) }
+    ensures query { IfOk result (λ plan. plan.query ≡ query) }
+    ensures schema { IfOk result (λ plan. plan.fields ≡ schema) }
     // A plan is answered exactly where the query is typed.
-    ensures typed { OnOk result (IsTyped schema (form_of query)) }
-    ensures untyped { IfErr result (λ fault. fault ≢ OutOfMemory → IsTyped schema (form_of query) → ⊥) }
+    ensures typed { OnOk result (IsTyped schema query) }
+    ensures untyped { IfErr result (λ fault. fault ≢ OutOfMemory → IsTyped schema query → ⊥) }
     // A fault is the first.
-    ensures fault { IfErr result (λ fault. fault ≢ OutOfMemory → query_fault schema (form_of query) ≡ Some fault) }
+    ensures fault { IfErr result (λ fault. fault ≢ OutOfMemory → query_fault schema query ≡ Some fault) }
     // A fault stands in the query.
-    ensures stands { IfErr result (λ fault. fault ≢ OutOfMemory → Stands schema (form_of query) fault) }
+    ensures stands { IfErr result (λ fault. fault ≢ OutOfMemory → Stands schema query fault) }
 {
     match resolve(alloc, query.tree(), &schema) {
         Ok((resolved, condition, filters)) => {

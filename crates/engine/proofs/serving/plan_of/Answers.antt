@@ -3,8 +3,7 @@ use Rattle.std.specs.Prelude.{IfOk, IsErrAnd, MatchResult}
 use Rattle.std.proofs.lemmas.Result.{IfOk-weaker}
 use Rattle.values.specs.Schema.{schema_of}
 use Rattle.query_derivation.specs.Derivation.{Derives}
-use Rattle.query_plan.specs.Form.{form_of}
-use Rattle.query_plan.specs.Planned.{fields_of_plan, form_of_plan}
+use Rattle.query_plan.specs.Planned.{PlannedQuery}
 use Rattle.engine.proofs.serving.plan_of.Goals as goal
 
 -- what holds of an answer holds where its fault is mapped
@@ -21,17 +20,17 @@ returns-clause-schema c =
     let columns : schema_of text ≡ Ok schema =
     subst (λ t. IfOk t (λ fields. schema_of text ≡ Ok fields)) c.in_ok-schema.was
     (if_mapped (λ fields. schema_of text ≡ Ok fields) c.parse.result c.map_err.result _ c.map_err.ensures.cases c.parse.ensures.columns) in
-    IfOk-weaker c.map_err-3.result (λ plan. fields_of_plan plan ≡ schema) (λ plan. schema_of text ≡ Ok (fields_of_plan plan))
+    IfOk-weaker c.map_err-3.result (λ plan. plan.fields ≡ schema) (λ plan. schema_of text ≡ Ok plan.fields)
     (λ plan same. columns ∙ ap Ok (sym same))
-    (if_mapped (λ plan. fields_of_plan plan ≡ schema) c.check.result c.map_err-3.result _ c.map_err-3.ensures.cases c.check.ensures.schema)
+    (if_mapped (λ (plan : PlannedQuery). plan.fields ≡ schema) c.check.result c.map_err-3.result _ c.map_err-3.ensures.cases c.check.ensures.schema)
 
 pub returns-clause-query : goal.returns-clause-query
 returns-clause-query c =
     let text = c.args.settings.query.now in
     let query = c.in_ok-query.query in
-    let derived : Derives text (form_of query) =
-    subst (λ t. IfOk t (λ q. Derives text (form_of q))) c.in_ok-query.was
-    (if_mapped (λ q. Derives text (form_of q)) c.parse-2.result c.map_err-2.result _ c.map_err-2.ensures.cases c.parse-2.ensures.derived) in
-    IfOk-weaker c.map_err-3.result (λ plan. form_of_plan plan ≡ form_of query) (λ plan. Derives text (form_of_plan plan))
+    let derived : Derives text query =
+    subst (λ t. IfOk t (λ q. Derives text q)) c.in_ok-query.was
+    (if_mapped (λ q. Derives text q) c.parse-2.result c.map_err-2.result _ c.map_err-2.ensures.cases c.parse-2.ensures.derived) in
+    IfOk-weaker c.map_err-3.result (λ plan. plan.query ≡ query) (λ plan. Derives text plan.query)
     (λ plan same. subst (Derives text) (sym same) derived)
-    (if_mapped (λ plan. form_of_plan plan ≡ form_of query) c.check.result c.map_err-3.result _ c.map_err-3.ensures.cases c.check.ensures.query)
+    (if_mapped (λ (plan : PlannedQuery). plan.query ≡ query) c.check.result c.map_err-3.result _ c.map_err-3.ensures.cases c.check.ensures.query)
