@@ -1,6 +1,5 @@
 //! Who finishes the groups of a report and writes its rows.
 ghost use Rattle.std.specs.Prelude.{◌≡◌, ◌<◌, ℕ, IfOk, List};
-ghost use Rattle.query_plan.specs.Planned.{fields_of_plan, form_of_plan};
 ghost use Rattle.tables.specs.Pieces.{IndexedPiece, IsCutInto};
 ghost use Rattle.tables.specs.Planned.{AreFittingUnder, IsPartialUnder, IsResultUnder, StandsForUnder};
 ghost use Rattle.report.specs.Report.{report_of};
@@ -21,7 +20,7 @@ pub(crate) trait Writers {
     fn report(&self, alloc: Global, groups: &Groups, plan: &Plan) -> Result<Vec<u8>, AllocError>
         requires ready { Self.ready self.now }
         requires fit { AreFittingUnder plan.now groups.now.found }
-        ensures { IfOk result (λ text. text.items ≡ report_of (fields_of_plan plan.now) (form_of_plan plan.now) groups.now.found) };
+        ensures { IfOk result (λ text. text.items ≡ report_of plan.now.fields plan.now.query groups.now.found) };
 
     /// The groups and the refused lines of a result over some pieces, whoever finishes them.
     fn groups(&self, plan: &Plan, whole: Partial) -> Result<Groups, AllocError>

@@ -5,7 +5,6 @@ ghost use Rattle.values.specs.Schema.{Field};
 ghost use Rattle.lines.specs.Input.{refused};
 ghost use Rattle.lines.specs.Lines.{lines};
 ghost use Rattle.query_tree.specs.Syntax.{TreeForm};
-ghost use Rattle.query_plan.specs.Planned.{fields_of_plan, form_of_plan};
 ghost use Rattle.tables.specs.Partials.{StandsForInput};
 ghost use Rattle.engine.specs.Run.{IsDecided, IsWithin, Leaves, LeavesOfInput, refusals, report};
 
@@ -79,19 +78,19 @@ pub fn run<R: Read + Drop + Send, O: Write, E: Write, H: Threads + Wait + Sync>(
 ) -> Result<Done, RunFault>
     ensures report { OnOk result (IfSome (R.remaining reader) (λ input.
         Appends (O.contents out.old) (O.contents out.new)
-        (report (fields_of_plan plan.now) (form_of_plan plan.now) input))) }
+        (report plan.now.fields plan.now.query input))) }
     ensures refusals { OnOk result (IfSome (R.remaining reader) (λ input.
-        Appends (E.contents err.old) (E.contents err.new) (refusals (fields_of_plan plan.now) input))) }
+        Appends (E.contents err.old) (E.contents err.new) (refusals plan.now.fields input))) }
     ensures lines { IfOk result (λ done. IfSome (R.remaining reader) (λ input.
         done.lines ≡ length (lines input))) }
     ensures refused { IfOk result (λ done. IfSome (R.remaining reader) (λ input.
-        done.refused ≡ length (refused (fields_of_plan plan.now) input))) }
+        done.refused ≡ length (refused plan.now.fields input))) }
     ensures limit { IfOk result (λ done. IsWithin options.max_refused done.refused) }
     // Where nothing is refused to it, the limit alone decides.
     ensures decided { IfSome (R.remaining reader) (λ input.
-        IsDecided result options.max_refused (length (refused (fields_of_plan plan.now) input))) }
+        IsDecided result options.max_refused (length (refused plan.now.fields input))) }
     ensures fault { IfErr result (λ fault. Leaves fault options.max_refused
-        (fields_of_plan plan.now) (form_of_plan plan.now) (R.remaining reader)
+        plan.now.fields plan.now.query (R.remaining reader)
         (O.contents out.old) (O.contents out.new) (E.contents err.old) (E.contents err.new)) }
     // One worker starts no thread.
     ensures started { options.workers ≡ 1 → IfErr result (λ fault. fault ≢ RunFault.ThreadNotStarted) }
@@ -125,19 +124,19 @@ pub fn run_alone<R: Read + Drop, O: Write, E: Write>(
 ) -> Result<Done, RunFault>
     ensures report { OnOk result (IfSome (R.remaining reader) (λ input.
         Appends (O.contents out.old) (O.contents out.new)
-        (report (fields_of_plan plan.now) (form_of_plan plan.now) input))) }
+        (report plan.now.fields plan.now.query input))) }
     ensures refusals { OnOk result (IfSome (R.remaining reader) (λ input.
-        Appends (E.contents err.old) (E.contents err.new) (refusals (fields_of_plan plan.now) input))) }
+        Appends (E.contents err.old) (E.contents err.new) (refusals plan.now.fields input))) }
     ensures lines { IfOk result (λ done. IfSome (R.remaining reader) (λ input.
         done.lines ≡ length (lines input))) }
     ensures refused { IfOk result (λ done. IfSome (R.remaining reader) (λ input.
-        done.refused ≡ length (refused (fields_of_plan plan.now) input))) }
+        done.refused ≡ length (refused plan.now.fields input))) }
     ensures limit { IfOk result (λ done. IsWithin options.max_refused done.refused) }
     // Where nothing is refused to it, the limit alone decides.
     ensures decided { IfSome (R.remaining reader) (λ input.
-        IsDecided result options.max_refused (length (refused (fields_of_plan plan.now) input))) }
+        IsDecided result options.max_refused (length (refused plan.now.fields input))) }
     ensures fault { IfErr result (λ fault. Leaves fault options.max_refused
-        (fields_of_plan plan.now) (form_of_plan plan.now) (R.remaining reader)
+        plan.now.fields plan.now.query (R.remaining reader)
         (O.contents out.old) (O.contents out.new) (E.contents err.old) (E.contents err.new)) }
     ensures started { IfErr result (λ fault. fault ≢ RunFault.ThreadNotStarted) }
 {
@@ -155,15 +154,15 @@ fn write_whole<T: Writers, O: Write, E: Write>(
     err: &mut E,
 ) -> Result<Done, RunFault>
     requires ready { T.ready writers.now }
-    requires of_input { (input : List ℕ) × StandsForInput (fields_of_plan plan.now) (form_of_plan plan.now) whole input }
-    ensures report { OnOk result ((input : List ℕ) → StandsForInput (fields_of_plan plan.now) (form_of_plan plan.now) whole input
-        → Appends (O.contents out.old) (O.contents out.new) (report (fields_of_plan plan.now) (form_of_plan plan.now) input)) }
-    ensures refusals { OnOk result ((input : List ℕ) → StandsForInput (fields_of_plan plan.now) (form_of_plan plan.now) whole input
-        → Appends (E.contents err.old) (E.contents err.new) (refusals (fields_of_plan plan.now) input)) }
+    requires of_input { (input : List ℕ) × StandsForInput plan.now.fields plan.now.query whole input }
+    ensures report { OnOk result ((input : List ℕ) → StandsForInput plan.now.fields plan.now.query whole input
+        → Appends (O.contents out.old) (O.contents out.new) (report plan.now.fields plan.now.query input)) }
+    ensures refusals { OnOk result ((input : List ℕ) → StandsForInput plan.now.fields plan.now.query whole input
+        → Appends (E.contents err.old) (E.contents err.new) (refusals plan.now.fields input)) }
     ensures lines { IfOk result (λ done. done.lines ≡ whole.lines) }
     ensures refused { IfOk result (λ done. done.refused ≡ whole.refused) }
-    ensures fault { IfErr result (λ fault. (input : List ℕ) → StandsForInput (fields_of_plan plan.now) (form_of_plan plan.now) whole input
-        → LeavesOfInput fault (fields_of_plan plan.now) (form_of_plan plan.now) input
+    ensures fault { IfErr result (λ fault. (input : List ℕ) → StandsForInput plan.now.fields plan.now.query whole input
+        → LeavesOfInput fault plan.now.fields plan.now.query input
         (O.contents out.old) (O.contents out.new) (E.contents err.old) (E.contents err.new)) }
 {
     let done = Done {
@@ -195,13 +194,13 @@ fn texts_of<T: Writers>(
     partial: Partial,
 ) -> Result<Texts, AllocError>
     requires ready { T.ready writers.now }
-    requires of_input { (input : List ℕ) × StandsForInput (fields_of_plan plan.now) (form_of_plan plan.now) partial input }
+    requires of_input { (input : List ℕ) × StandsForInput plan.now.fields plan.now.query partial input }
     ensures report { IfOk result (λ texts. (input : List ℕ)
-        → StandsForInput (fields_of_plan plan.now) (form_of_plan plan.now) partial input
-        → texts.report.items ≡ report (fields_of_plan plan.now) (form_of_plan plan.now) input) }
+        → StandsForInput plan.now.fields plan.now.query partial input
+        → texts.report.items ≡ report plan.now.fields plan.now.query input) }
     ensures refused { IfOk result (λ texts. (input : List ℕ)
-        → StandsForInput (fields_of_plan plan.now) (form_of_plan plan.now) partial input
-        → texts.refused.items ≡ refusals (fields_of_plan plan.now) input) }
+        → StandsForInput plan.now.fields plan.now.query partial input
+        → texts.refused.items ≡ refusals plan.now.fields input) }
 {
     let groups = writers.groups(plan, partial)?;
     let report = writers.report(alloc, &groups, plan)?;

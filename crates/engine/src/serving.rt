@@ -4,7 +4,6 @@ ghost use Rattle.std.specs.Io.KnownBytes.{Appends};
 ghost use Rattle.values.specs.Schema.{schema_of};
 ghost use Rattle.query_check.specs.Faults.{query_faults};
 ghost use Rattle.query_derivation.specs.Derivation.{Derives};
-ghost use Rattle.query_plan.specs.Planned.{fields_of_plan, form_of_plan};
 ghost use Rattle.engine.specs.Explanation.{Explains, IsAnswerable, explanation};
 
 use crate::explaining::explanation;
@@ -159,9 +158,9 @@ pub fn serve<
 
 /// The plan of the query that is asked for, under the columns that are asked for.
 fn plan_of(alloc: Global, settings: Settings<'_>) -> Result<Plan, Ending>
-    ensures schema { IfOk result (λ plan. schema_of settings.entry.columns.now ≡ Ok (fields_of_plan plan)) }
-    ensures query { IfOk result (λ plan. Derives settings.entry.query.now (form_of_plan plan)) }
-    ensures faultless { IfOk result (λ plan. query_faults (fields_of_plan plan) (form_of_plan plan) ≡ []) }
+    ensures schema { IfOk result (λ plan. schema_of settings.entry.columns.now ≡ Ok plan.fields) }
+    ensures query { IfOk result (λ plan. Derives settings.entry.query.now plan.query) }
+    ensures faultless { IfOk result (λ plan. query_faults plan.fields plan.query ≡ []) }
 {
     let schema = Schema::parse(alloc, settings.columns).map_err(Ending::Schema)?;
     let query = parse(alloc, settings.query).map_err(Ending::Query)?;
@@ -202,7 +201,7 @@ fn carried_out<
 /// Writes the explanation of a query.
 fn explained<O: Write>(alloc: Global, plan: &Plan, out: &mut O) -> Result<u8, Ending>
     ensures { OnOk result (Appends (O.contents out.old) (O.contents out.new)
-        (explanation (fields_of_plan plan.now) (form_of_plan plan.now))) }
+        (explanation plan.now.fields plan.now.query)) }
 {
     let Ok(text) = explanation(alloc, plan) else {
         return Err(Ending::OUT_OF_MEMORY);

@@ -11,8 +11,7 @@ use Rattle.pool.specs.Outcomes.{Decides}
 use Rattle.pool.specs.Totals.{sum_below, total}
 use Rattle.pool.proofs.Sums.{total_weight}
 use Rattle.query_tree.specs.Syntax.{TreeForm}
-use Rattle.query_plan.specs.declared.plan.Plan.{Plan}
-use Rattle.query_plan.specs.Planned.{fields_of_plan, form_of_plan}
+use Rattle.query_plan.specs.Planned.{PlannedQuery}
 use Rattle.tables.specs.declared.job.Job.{Job}
 use Rattle.tables.specs.declared.partial.Partial.{Partial}
 use Rattle.tables.specs.Laws.{means_lawful_from}
@@ -26,24 +25,24 @@ use Rattle.gathering.proofs.Cuts.{cut-behind}
 use Rattle.gathering.proofs.Tallies.{length-lines, refused-counted}
 
 -- what a pool decides of a part and the pieces of the rest of an input behind it, with indexes from a first one on, under a plan
-abbrev pub DecidesBehind : PartialState → Plan → ℕ → List ℕ → List Piece → ℕ → ℕ → Outcome Partial → Type 0
+abbrev pub DecidesBehind : PartialState → PlannedQuery → ℕ → List ℕ → List Piece → ℕ → ℕ → Outcome Partial → Type 0
 DecidesBehind front plan first rest pieces n limit outcome =
-    Decides meaning (both (meaning front) (total (mean (fields_of_plan plan) (form_of_plan plan) []) both (mean_from (fields_of_plan plan) (form_of_plan plan) first rest pieces) n))
-    (front.refused + sum_below (λ i. (mean_from (fields_of_plan plan) (form_of_plan plan) first rest pieces i).refused) n) limit outcome
+    Decides meaning (both (meaning front) (total (mean plan.fields plan.query []) both (mean_from plan.fields plan.query first rest pieces) n))
+    (front.refused + sum_below (λ i. (mean_from plan.fields plan.query first rest pieces i).refused) n) limit outcome
 
 -- a job is over the pieces of an input under a plan
-pub record IsJobOf (plan : Plan) (input : List ℕ) (pieces : List Piece) (job : Job) : Type 0 where
+pub record IsJobOf (plan : PlannedQuery) (input : List ℕ) (pieces : List Piece) (job : Job) : Type 0 where
   pub plan_is : job.plan.now ≡ plan
   pub input_is : job.input.now ≡ input
   pub pieces_are : job.pieces.now ≡ pieces
 
 -- how many lines the pieces have
-abbrev pub loads_of : Plan → List ℕ → List Piece → ℕ → ℕ
-loads_of plan input pieces n = sum_below (λ i. (mean_from (fields_of_plan plan) (form_of_plan plan) 1 input pieces i).lines) n
+abbrev pub loads_of : PlannedQuery → List ℕ → List Piece → ℕ → ℕ
+loads_of plan input pieces n = sum_below (λ i. (mean_from plan.fields plan.query 1 input pieces i).lines) n
 
 -- how many refused lines the pieces have
-abbrev pub weights_of : Plan → List ℕ → List Piece → ℕ → ℕ
-weights_of plan input pieces n = sum_below (λ i. (mean_from (fields_of_plan plan) (form_of_plan plan) 1 input pieces i).refused) n
+abbrev pub weights_of : PlannedQuery → List ℕ → List Piece → ℕ → ℕ
+weights_of plan input pieces n = sum_below (λ i. (mean_from plan.fields plan.query 1 input pieces i).refused) n
 
 -- the laws of a job's pieces
 abbrev Stands : Type 0
@@ -66,7 +65,7 @@ decided-under : {P M : Type 0} (meaning : P → M) (whole : M) (count limit : �
 decided-under meaning whole count limit (Whole p) Under is over d = is p d.1
 decided-under meaning whole count limit Over Under is over d = over d
 
-pub under-of : (front : PartialState) (p : Plan) (first : ℕ) (b : List ℕ) (ps : List Piece) (n limit count : ℕ) (outcome : Outcome Partial)
+pub under-of : (front : PartialState) (p : PlannedQuery) (first : ℕ) (b : List ℕ) (ps : List Piece) (n limit count : ℕ) (outcome : Outcome Partial)
     → front.refused + weights_of p b ps n ≡ count → DecidesBehind front p first b ps n limit outcome → IsUnder count limit outcome
 under-of front p first b ps n limit count outcome same d =
     subst (λ (c : ℕ). IsUnder c limit outcome) same (decided-under meaning _ _ limit outcome IsUnder (λ _ low. low) (λ high. high) d)
@@ -75,24 +74,24 @@ pub under-same : (count l m : ℕ) (outcome : Outcome Partial) → l ≡ m → I
 under-same count l m outcome e under = subst (λ (limit : ℕ). IsUnder count limit outcome) e under
 
 -- what is Whole has as many refused lines as the front and the pieces, and these are within the limit
-pub refused-whole : (front : PartialState) (p : Plan) (first : ℕ) (b : List ℕ) (ps : List Piece) (n limit : ℕ) (outcome : Outcome Partial) (partial : Partial)
+pub refused-whole : (front : PartialState) (p : PlannedQuery) (first : ℕ) (b : List ℕ) (ps : List Piece) (n limit : ℕ) (outcome : Outcome Partial) (partial : Partial)
     → outcome ≡ Whole partial → DecidesBehind front p first b ps n limit outcome → (partial.refused ≡ front.refused + weights_of p b ps n) × (partial.refused ≤ limit)
 refused-whole front p first b ps n limit outcome partial is d =
     let whole = subst (DecidesBehind front p first b ps n limit) is d in
-    let laws = means_lawful_from (fields_of_plan p) (form_of_plan p) first b ps in
+    let laws = means_lawful_from p.fields p.query first b ps in
     let count : partial.refused ≡ front.refused + weights_of p b ps n = ap (λ (m : Mean). m.refused) whole.0 ∙ ap (λ k. front.refused + k) (total_weight laws n) in
     let few = whole.1 in
     (count, omega (arith, count, few))
 
 -- and it stands for the front and the rest
-pub stands-behind : (before front : PartialState) (plan p : Plan) (first : ℕ) (rest b : List ℕ) (pieces ps : List Piece) (n limit : ℕ) (outcome : Outcome Partial) (partial : Partial)
+pub stands-behind : (before front : PartialState) (plan p : PlannedQuery) (first : ℕ) (rest b : List ℕ) (pieces ps : List Piece) (n limit : ℕ) (outcome : Outcome Partial) (partial : Partial)
     → p ≡ plan → first ≡ 1 → b ≡ rest → ps ≡ pieces → n ≡ length pieces → length pieces ≤ 1048576 → Stands → IsCutInto rest (indexed rest pieces)
     → ((fields : List Field) (q : TreeForm) (input : List ℕ) → StandsForInput fields q before input → StandsFor fields q front (one_piece input))
-    → outcome ≡ Whole partial → DecidesBehind front p first b ps n limit outcome → StandsBehind (fields_of_plan plan) (form_of_plan plan) before rest partial
+    → outcome ≡ Whole partial → DecidesBehind front p first b ps n limit outcome → StandsBehind plan.fields plan.query before rest partial
 stands-behind before front plan p first rest b pieces ps n limit outcome partial e a f g h few stands cut as_one is d =
-    let fields = fields_of_plan plan in
-    let q = form_of_plan plan in
-    let d1 = subst (λ (x : Plan). DecidesBehind front x first b ps n limit outcome) e d in
+    let fields = plan.fields in
+    let q = plan.query in
+    let d1 = subst (λ (x : PlannedQuery). DecidesBehind front x first b ps n limit outcome) e d in
     let d2 = subst (λ (x : ℕ). DecidesBehind front plan x b ps n limit outcome) a d1 in
     let d3 = subst (λ (x : List ℕ). DecidesBehind front plan 1 x ps n limit outcome) f d2 in
     let d4 = subst (λ (x : List Piece). DecidesBehind front plan 1 rest x n limit outcome) g d3 in
@@ -110,21 +109,21 @@ stands-behind before front plan p first rest b pieces ps n limit outcome partial
     }
 
 -- with some more they are few
-pub few-loads : (plan p : Plan) (input b : List ℕ) (pieces ps : List Piece) (n more : ℕ)
+pub few-loads : (plan p : PlannedQuery) (input b : List ℕ) (pieces ps : List Piece) (n more : ℕ)
     → p ≡ plan → b ≡ input → ps ≡ pieces → n ≡ length pieces → Loads → all_lines (indexed input pieces) ≡ lines input → more + length input < 2 ^ 63
     → loads_of p b ps n + more < 2 ^ 63
 few-loads plan p input b pieces ps n more e f g h loads same short =
-    let is = ap (λ (x : Plan). loads_of x b ps n) e ∙ ap (λ (x : List ℕ). loads_of plan x ps n) f ∙ ap (λ (x : List Piece). loads_of plan input x n) g
-    ∙ ap (λ (x : ℕ). loads_of plan input pieces x) h ∙ loads (fields_of_plan plan) (form_of_plan plan) input pieces ∙ ap length same in
+    let is = ap (λ (x : PlannedQuery). loads_of x b ps n) e ∙ ap (λ (x : List ℕ). loads_of plan x ps n) f ∙ ap (λ (x : List Piece). loads_of plan input x n) g
+    ∙ ap (λ (x : ℕ). loads_of plan input pieces x) h ∙ loads plan.fields plan.query input pieces ∙ ap length same in
     omega (arith, is, length-lines input, short)
 
-pub weights-counted : (plan p : Plan) (input b : List ℕ) (pieces ps : List Piece) (n : ℕ)
+pub weights-counted : (plan p : PlannedQuery) (input b : List ℕ) (pieces ps : List Piece) (n : ℕ)
     → p ≡ plan → b ≡ input → ps ≡ pieces → n ≡ length pieces → Weighs → all_lines (indexed input pieces) ≡ lines input
-    → weights_of p b ps n ≡ length (refused (fields_of_plan plan) input)
+    → weights_of p b ps n ≡ length (refused plan.fields input)
 weights-counted plan p input b pieces ps n e f g h weighs same =
-    ap (λ (x : Plan). weights_of x b ps n) e ∙ ap (λ (x : List ℕ). weights_of plan x ps n) f ∙ ap (λ (x : List Piece). weights_of plan input x n) g
-    ∙ ap (λ (x : ℕ). weights_of plan input pieces x) h ∙ weighs (fields_of_plan plan) (form_of_plan plan) input pieces
-    ∙ refused-counted (fields_of_plan plan) (indexed input pieces) input same
+    ap (λ (x : PlannedQuery). weights_of x b ps n) e ∙ ap (λ (x : List ℕ). weights_of plan x ps n) f ∙ ap (λ (x : List Piece). weights_of plan input x n) g
+    ∙ ap (λ (x : ℕ). weights_of plan input pieces x) h ∙ weighs plan.fields plan.query input pieces
+    ∙ refused-counted plan.fields (indexed input pieces) input same
 
 -- with each share below some number, and so many loads beside, there is room
 pub room-beside : {S : Type 0} (sum : S → ℕ) (shares : List S) (before loads : ℕ) → loads + before < 2 ^ 63 → All (λ share. sum share ≤ before) shares → All (λ share. loads + sum share < 2 ^ 63) shares

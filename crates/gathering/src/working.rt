@@ -3,7 +3,6 @@ ghost use Rattle.std.specs.Prelude.{◌≡◌, ◌+◌, ◌<◌, ◌≤◌, ◌^
 ghost use Rattle.lines.specs.Input.{refused};
 ghost use Rattle.lines.specs.Pieces.{AreWholeLines};
 ghost use Rattle.pool.specs.declared.laws.Outcome.TheVariants as Outcome;
-ghost use Rattle.query_plan.specs.Planned.{fields_of_plan, form_of_plan};
 ghost use Rattle.tables.specs.Partials.{StandsForInput};
 ghost use Rattle.gathering.specs.Pieces.{IsTaken, IsUnder, StandsBehind};
 ghost use Rattle.gathering.specs.Gathered.{limit_number};
@@ -59,17 +58,17 @@ pub(crate) fn round_among<L: Ledger + Send + Sync, H: Threads + Wait + Sync>(
     book: &Book<L>,
     shares: Vec<Share<L>>,
 ) -> Result<Worked<L>, GatherFault>
-    requires front { (front : List ℕ) × StandsForInput (fields_of_plan plan.now) (form_of_plan plan.now) before front × AreWholeLines front }
+    requires front { (front : List ℕ) × StandsForInput plan.now.fields plan.now.query before front × AreWholeLines front }
     requires short { before.lines + length round.now < 2 ^ 63 }
     requires hands { (1 ≤ vec_len shares) × (vec_len shares ≤ 64) }
     requires reported { All (λ share. share.sum ≤ before.refused) shares.items }
-    ensures whole { IfOk result (λ r. StandsBehind (fields_of_plan plan.now) (form_of_plan plan.now) before round.now r.whole) }
+    ensures whole { IfOk result (λ r. StandsBehind plan.now.fields plan.now.query before round.now r.whole) }
     ensures limit { IfOk result (λ r. r.whole.refused ≤ limit_number options.max_refused) }
     ensures taken { IfOk result (λ r. IsTaken (vec_len shares) round.now r.pieces.items r.hands.items) }
     ensures hands { IfOk result (λ r. vec_len r.shares ≡ vec_len shares) }
     ensures reported { IfOk result (λ r. All (λ share. share.sum ≤ r.whole.refused) r.shares.items) }
     ensures fault { IfErr result (λ fault. IsWant fault
-        ⊎ Refuses fault options.max_refused (before.refused + length (refused (fields_of_plan plan.now) round.now))) }
+        ⊎ Refuses fault options.max_refused (before.refused + length (refused plan.now.fields round.now))) }
 {
     let pieces = pieces_of(alloc, round, options.piece())?;
     let front = before.in_one_piece()?;

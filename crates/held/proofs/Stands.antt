@@ -7,8 +7,7 @@ use Rattle.pool.specs.declared.laws.Outcome.TheVariants.{Whole}
 use Rattle.pool.specs.Outcomes.{Decides}
 use Rattle.pool.specs.Totals.{sum_below, total}
 use Rattle.query_tree.specs.Syntax.{TreeForm}
-use Rattle.query_plan.specs.declared.plan.Plan.{Plan}
-use Rattle.query_plan.specs.Planned.{fields_of_plan, form_of_plan}
+use Rattle.query_plan.specs.Planned.{PlannedQuery}
 use Rattle.tables.specs.declared.job.Job.{Job}
 use Rattle.tables.specs.declared.partial.Partial.{Partial}
 use Rattle.tables.specs.Means.{both, indexed_from, mean, mean_from, meaning}
@@ -17,17 +16,17 @@ use Rattle.tables.specs.Planned.{IsPartialUnder}
 use Rattle.gathering.proofs.Pooled.{IsJobOf}
 
 -- what a pool decides of so many pieces of a job, with indexes from a first one on
-abbrev pub DecidesAll : Plan → ℕ → List ℕ → List Piece → ℕ → ℕ → Outcome Partial → Type 0
+abbrev pub DecidesAll : PlannedQuery → ℕ → List ℕ → List Piece → ℕ → ℕ → Outcome Partial → Type 0
 DecidesAll plan first input pieces n limit outcome =
-    Decides meaning (total (mean (fields_of_plan plan) (form_of_plan plan) []) both (mean_from (fields_of_plan plan) (form_of_plan plan) first input pieces) n)
-    (sum_below (λ i. (mean_from (fields_of_plan plan) (form_of_plan plan) first input pieces i).refused) n) limit outcome
+    Decides meaning (total (mean plan.fields plan.query []) both (mean_from plan.fields plan.query first input pieces) n)
+    (sum_below (λ i. (mean_from plan.fields plan.query first input pieces i).refused) n) limit outcome
 
 -- a job that was made of a plan, an input and pieces, and handed on, is over these
-pub is-job : (plan : Plan) (input : List ℕ) (pieces ps : List Piece) (made job : Job)
+pub is-job : (plan : PlannedQuery) (input : List ℕ) (pieces ps : List Piece) (made job : Job)
     → job ≡ made → made.plan.now ≡ plan → made.input.now ≡ input → made.pieces.now ≡ ps → ps ≡ pieces → IsJobOf plan input pieces job
 is-job plan input pieces ps made job is e f g h = subst (IsJobOf plan input pieces) (sym is) record { plan_is = e; input_is = f; pieces_are = g ∙ h }
 
-pub stands-for : (plan : Plan) (input : List ℕ) (pieces : List Piece) (job : Job) (first n limit : ℕ) (outcome : Outcome Partial) (partial : Partial)
+pub stands-for : (plan : PlannedQuery) (input : List ℕ) (pieces : List Piece) (job : Job) (first n limit : ℕ) (outcome : Outcome Partial) (partial : Partial)
     → IsJobOf plan input pieces job → first ≡ 1 → n ≡ length pieces → length pieces ≤ 1048576
     → ((fields : List Field) (q : TreeForm) (first : ℕ) (input : List ℕ) (pieces : List Piece) (partial : Partial)
     → first + length pieces < 2 ^ 32
@@ -35,10 +34,10 @@ pub stands-for : (plan : Plan) (input : List ℕ) (pieces : List Piece) (job : J
     → StandsFor fields q partial (indexed_from first input pieces))
     → outcome ≡ Whole partial → DecidesAll job.plan.now first job.input.now job.pieces.now n limit outcome → IsPartialUnder plan partial
 stands-for plan input pieces job first n limit outcome partial of e count few law is d =
-    let d1 = subst (λ (x : Plan). DecidesAll x first job.input.now job.pieces.now n limit outcome) of.plan_is d in
+    let d1 = subst (λ (x : PlannedQuery). DecidesAll x first job.input.now job.pieces.now n limit outcome) of.plan_is d in
     let d2 = subst (λ (x : ℕ). DecidesAll plan x job.input.now job.pieces.now n limit outcome) e d1 in
     let d3 = subst (λ (x : List ℕ). DecidesAll plan 1 x job.pieces.now n limit outcome) of.input_is d2 in
     let d4 = subst (λ (x : List Piece). DecidesAll plan 1 input x n limit outcome) of.pieces_are d3 in
     let d5 = subst (λ (x : ℕ). DecidesAll plan 1 input pieces x limit outcome) count d4 in
     let whole = subst (DecidesAll plan 1 input pieces (length pieces) limit) is d5 in
-    ∣ (indexed_from 1 input pieces, law (fields_of_plan plan) (form_of_plan plan) 1 input pieces partial (omega (arith, few)) whole.0) ∣₁
+    ∣ (indexed_from 1 input pieces, law plan.fields plan.query 1 input pieces partial (omega (arith, few)) whole.0) ∣₁

@@ -4,7 +4,6 @@ ghost use Rattle.std.specs.Prelude.{◌≡◌, ◌<◌, ◌-◌, ◌⊎◌, [], 
 ghost use Rattle.query_fault.specs.declared.QueryFault.TheVariants.{OutOfMemory, OverLimit};
 ghost use Rattle.query_tree.specs.Syntax.{TreeForm};
 ghost use Rattle.query_derivation.specs.Derivation.{Derives};
-ghost use Rattle.query_plan.specs.Form.{form_of};
 ghost use Rattle.query.specs.Refusal.{IsRefusalOf, Refuses};
 
 use query_fault::QueryFault;
@@ -32,9 +31,9 @@ const MOST_BYTES: usize = 65_536;
 #[tactic(auto, using(crate::proofs::Places::unexpected_at, crate::proofs::Places::too_much))]
 pub fn parse(alloc: Global, text: &str) -> Result<Query, QueryFault>
     // What is read is derived.
-    ensures derived { IfOk result (λ query. Derives text.now (form_of query)) }
+    ensures derived { IfOk result (λ query. Derives text.now query) }
     // What is derived is read, and no other, unless memory runs out.
-    ensures read { (q : TreeForm) → Derives text.now q → MatchResult result (λ query. form_of query ≡ q) (λ fault. fault ≡ OutOfMemory) }
+    ensures read { (q : TreeForm) → Derives text.now q → MatchResult result (λ query. query ≡ q) (λ fault. fault ≡ OutOfMemory) }
     // A text that is too long has no other fault.
     ensures too_long { 65536 < length text.now → result ≡ Err OverLimit }
     // A fault is one of the text, or memory ran out.

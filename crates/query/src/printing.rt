@@ -3,7 +3,6 @@
 ghost use Rattle.std.specs.Prelude.{◌≡◌, ◌≤◌, IfOk, length, string_bytes};
 ghost use Rattle.query_print.specs.Canonical.{canonical_text};
 ghost use Rattle.query_derivation.specs.Derivation.{Derives};
-ghost use Rattle.query_plan.specs.Form.{form_of};
 
 use query_plan::Query;
 use query_print::print_tree;
@@ -22,9 +21,9 @@ use std::alloc::{AllocError, Global};
 ///
 /// `AllocError` where there is no memory for the text.
 pub fn print(alloc: Global, query: &Query) -> Result<String, AllocError>
-    ensures text { IfOk result (λ text. string_bytes text ≡ canonical_text (form_of query.now)) }
+    ensures text { IfOk result (λ text. string_bytes text ≡ canonical_text query.now) }
     // Where it is not too long, it derives the query again, so that `parse` gives it back.
-    ensures again { IfOk result (λ text. length (string_bytes text) ≤ 65536 → Derives (string_bytes text) (form_of query.now)) }
+    ensures again { IfOk result (λ text. length (string_bytes text) ≤ 65536 → Derives (string_bytes text) query.now) }
 {
     reads_again();
     print_tree(alloc, query.tree())

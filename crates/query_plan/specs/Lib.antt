@@ -1,2 +1,2 @@
-pub mod Form
 pub mod Planned
+pub mod Inside

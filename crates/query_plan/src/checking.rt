@@ -10,8 +10,6 @@ ghost use Rattle.query_tree.specs.Syntax.{tree_form};
 ghost use Rattle.query_resolution.specs.Functions.{filters_of};
 ghost use Rattle.query_truth.specs.Binding.{AreConditionsOf, IsConditionOf};
 ghost use Rattle.values.specs.Schema.{fields_of};
-ghost use Rattle.query_plan.specs.Form.{form_of};
-ghost use Rattle.query_plan.specs.Planned.{fields_of_plan, form_of_plan};
 
 use crate::plan::Plan;
 use crate::query::Query;
@@ -38,12 +36,12 @@ use values::{Column, Schema};
 /// different set functions (`OverLimit`); two items with one header (`RepeatedHeader`). `OutOfMemory`
 /// says nothing of the query.
 pub fn check(alloc: Global, query: Query, schema: Schema) -> Result<Plan, QueryFault>
-    ensures query { IfOk result (λ plan. form_of_plan plan ≡ form_of query) }
-    ensures schema { IfOk result (λ plan. fields_of_plan plan ≡ schema) }
+    ensures query { IfOk result (λ plan. plan.query ≡ query) }
+    ensures schema { IfOk result (λ plan. plan.fields ≡ schema) }
     // A plan is answered only where nothing is wrong with the query.
-    ensures typed { OnOk result (query_faults schema (form_of query) ≡ []) }
+    ensures typed { OnOk result (query_faults schema query ≡ []) }
     // A fault is the first of what is wrong with it.
-    ensures fault { IfErr result (λ fault. fault ≢ OutOfMemory → slice_get (query_faults schema (form_of query)) 0 ≡ Some fault) }
+    ensures fault { IfErr result (λ fault. fault ≢ OutOfMemory → slice_get (query_faults schema query) 0 ≡ Some fault) }
 {
     match resolve(alloc, query.tree(), &schema) {
         Ok((resolved, condition, filters)) => {

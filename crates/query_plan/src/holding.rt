@@ -4,7 +4,6 @@ ghost use Rattle.std.specs.Prelude.{◌≡◌, ◌<◌, length};
 ghost use Rattle.values.specs.Fit.{Fits};
 ghost use Rattle.query_resolution.specs.Functions.{filter_at, functions_of};
 ghost use Rattle.query_truth.specs.Kept.{where_truth};
-ghost use Rattle.query_plan.specs.Planned.{fields_of_plan, form_of_plan};
 
 use crate::plan::Plan;
 use values::{Record, Truth};
@@ -16,8 +15,8 @@ use values::{Record, Truth};
 /// Example: under the columns `q:int` `WHERE q > 2` is True for the record of the line `{"q":5}`, and
 /// Unknown for that of `{}`.
 pub fn holds(plan: &Plan, record: &Record) -> Truth
-    requires { Fits (fields_of_plan plan.now) «record».now }
-    ensures { result ≡ where_truth (fields_of_plan plan.now) (form_of_plan plan.now).where_condition «record».now }
+    requires { Fits plan.now.fields «record».now }
+    ensures { result ≡ where_truth plan.now.fields plan.now.query.where_condition «record».now }
 {
     plan.where_truth(record.values())
 }
@@ -31,9 +30,9 @@ pub fn holds(plan: &Plan, record: &Record) -> Truth
 /// Example: of `SELECT COUNT(*), COUNT(*) FILTER (WHERE q > 2) FROM lines` and the record of the line
 /// `{"q":1}` it is True for the function 0, and False for the function 1.
 pub fn filter_holds(plan: &Plan, f: usize, record: &Record) -> Truth
-    requires place { f < length (functions_of (fields_of_plan plan.now) (form_of_plan plan.now)) }
-    requires fits { Fits (fields_of_plan plan.now) «record».now }
-    ensures { result ≡ where_truth (fields_of_plan plan.now) (filter_at (fields_of_plan plan.now) (form_of_plan plan.now) f) «record».now }
+    requires place { f < length (functions_of plan.now.fields plan.now.query) }
+    requires fits { Fits plan.now.fields «record».now }
+    ensures { result ≡ where_truth plan.now.fields (filter_at plan.now.fields plan.now.query f) «record».now }
 {
     plan.filter_truth(f, record.values())
 }

@@ -5,17 +5,17 @@ ghost use Rattle.query_resolution.specs.Resolution.{resolution_of};
 ghost use Rattle.query_check.specs.Typing.{IsTyped};
 ghost use Rattle.query_resolution.specs.Functions.{filters_of};
 ghost use Rattle.query_truth.specs.Binding.{AreConditionsOf, IsConditionOf};
-ghost use Rattle.query_plan.specs.Form.{form_of};
 
 use crate::query::Query;
 use query_check::{Resolved, filters_law};
 use query_resolution::FilteredFunction;
 use query_truth::{Condition, bound_truth, condition_truth_at, mark_conditions};
 use std::alloc::AllocError;
+use std::marker::Model;
 use values::{Record, Schema, Truth, Value};
 
-/// A query that is typed under the schema that it holds, with what its names stand for there. Only
-/// `check` makes one.
+/// A query that is typed under the schema that it holds, with what its names stand for there.
+/// Contracts see it as that query and the columns of that schema. Only `check` makes one.
 ///
 /// Example: the plan of `SELECT shop, COUNT(*) FROM lines GROUP BY shop` under the columns
 /// `shop:text,cents:int` has the one grouping set of the place 0, and one set function.
@@ -25,10 +25,21 @@ pub struct Plan {
     resolved: Resolved,
     condition: Option<Condition>,
     filters: Vec<Condition>,
-    ghost typed: { ∥ IsTyped schema (form_of query) ∥₁ },
-    ghost resolution: { ∥ resolved ≡ resolution_of schema (form_of query) ∥₁ },
-    ghost condition_is: { ∥ IsConditionOf schema (form_of query).where_condition condition ∥₁ },
-    ghost filters_are: { ∥ AreConditionsOf schema (filters_of schema (form_of query)) filters.items ∥₁ },
+    ghost typed: { ∥ IsTyped schema query ∥₁ },
+    ghost resolution: { ∥ resolved ≡ resolution_of schema query ∥₁ },
+    ghost condition_is: { ∥ IsConditionOf schema query.where_condition condition ∥₁ },
+    ghost filters_are: { ∥ AreConditionsOf schema (filters_of schema query) filters.items ∥₁ },
+}
+
+impl Model for Plan {
+    ghost use Rattle.query_plan.specs.Planned.{PlannedQuery};
+    ghost use Rattle.query_plan.specs.Inside.Coding.{coded_planned};
+
+    ghost Value = { PlannedQuery };
+
+    ghost coded = { coded_planned };
+
+    ghost view = { λ p. record { fields = p.schema; query = p.query } };
 }
 
 // A function of its own: a derived one is written out, and proved, wherever a plan is given up.
@@ -60,7 +71,6 @@ impl Plan {
     ghost use Rattle.query_truth.specs.Kept.{passes, record_value, where_truth};
     ghost use Rattle.query_truth.specs.Meaning.{condition_truth, is_safe};
     ghost use Rattle.query_truth.specs.Truth.{truth};
-    ghost use Rattle.query_plan.specs.Planned.{fields_of_plan, form_of_plan};
 
     /// The plan of a query that is typed under a schema, of what it is resolved to there, and of the
     /// conditions of its WHERE and of its different filters.
@@ -71,12 +81,12 @@ impl Plan {
         condition: Option<Condition>,
         filters: Vec<Condition>,
     ) -> Plan
-        requires typed { IsTyped schema (form_of query) }
-        requires resolution { resolved ≡ resolution_of schema (form_of query) }
-        requires condition { IsConditionOf schema (form_of query).where_condition condition }
-        requires filters { AreConditionsOf schema (filters_of schema (form_of query)) filters.items }
-        ensures query { form_of_plan result ≡ form_of query }
-        ensures schema { fields_of_plan result ≡ schema }
+        requires typed { IsTyped schema query }
+        requires resolution { resolved ≡ resolution_of schema query }
+        requires condition { IsConditionOf schema query.where_condition condition }
+        requires filters { AreConditionsOf schema (filters_of schema query) filters.items }
+        ensures query { result.query ≡ query }
+        ensures schema { result.fields ≡ schema }
     {
         Plan {
             query,
@@ -89,15 +99,15 @@ impl Plan {
 
     /// The schema that the plan was made under.
     pub fn schema(&self) -> &Schema
-        ensures schema { result.now ≡ fields_of_plan self.now }
+        ensures schema { result.now ≡ self.now.fields }
     {
         &self.schema
     }
 
     /// The query that the plan was made of. It is typed under the schema.
     pub fn query(&self) -> &Query
-        ensures query { form_of result.now ≡ form_of_plan self.now }
-        ensures typed { ∥ IsTyped (fields_of_plan self.now) (form_of_plan self.now) ∥₁ }
+        ensures query { result.now ≡ self.now.query }
+        ensures typed { ∥ IsTyped self.now.fields self.now.query ∥₁ }
     {
         &self.query
     }
@@ -110,7 +120,7 @@ impl Plan {
     /// Example: under the columns `d:text,r:text` `GROUP BY CUBE (d, r)` has four: that of the places
     /// 0 and 1, that of 0, that of 1, and the empty one.
     pub fn sets(&self) -> &[Vec<usize>]
-        ensures sets { contents result.now ≡ sets_of (fields_of_plan self.now) (form_of_plan self.now) }
+        ensures sets { contents result.now ≡ sets_of self.now.fields self.now.query }
     {
         self.resolved.sets()
     }
@@ -120,7 +130,7 @@ impl Plan {
     ///
     /// Example: under the columns `d:text,r:text` they are 1 and 0 for `GROUP BY r, CUBE (d)`.
     pub fn grouping(&self) -> &[usize]
-        ensures grouping { result.now ≡ grouping_places (fields_of_plan self.now) (form_of_plan self.now) }
+        ensures grouping { result.now ≡ grouping_places self.now.fields self.now.query }
     {
         self.resolved.grouping()
     }
@@ -130,7 +140,7 @@ impl Plan {
     ///
     /// Example: it is 2 for `SELECT COUNT(*), SUM(q) FROM lines HAVING COUNT(*) > 1`.
     pub fn functions(&self) -> usize
-        ensures count { result ≡ length (functions_of (fields_of_plan self.now) (form_of_plan self.now)) }
+        ensures count { result ≡ length (functions_of self.now.fields self.now.query) }
     {
         self.set_functions().len()
     }
@@ -142,7 +152,7 @@ impl Plan {
     /// Example: under the columns `q:int` that of `SELECT SUM(q) FILTER (WHERE q > 2) FROM lines` is
     /// the function `Sum(0)` with the filter `Some(0)`.
     pub fn set_functions(&self) -> &[FilteredFunction]
-        ensures functions { result.now ≡ indexed_functions (fields_of_plan self.now) (form_of_plan self.now) }
+        ensures functions { result.now ≡ indexed_functions self.now.fields self.now.query }
     {
         self.resolved.functions()
     }
@@ -159,16 +169,16 @@ impl Plan {
     ///
     /// `AllocError` where there is no memory for the marks; without FILTER there are none.
     pub fn mark_filters(&self, record: &Record, marks: &mut Vec<bool>) -> Result<(), AllocError>
-        requires { Fits (fields_of_plan self.now) «record».now }
-        ensures marks { OnOk result (marks.new.items ≡ map (λ p. passes (fields_of_plan self.now) p «record».now) (filters_of (fields_of_plan self.now) (form_of_plan self.now))) }
+        requires { Fits self.now.fields «record».now }
+        ensures marks { OnOk result (marks.new.items ≡ map (λ p. passes self.now.fields p «record».now) (filters_of self.now.fields self.now.query)) }
     {
         mark_conditions(self.conditions(), record.values(), marks)
     }
 
     /// The conditions of the different filters, in the order in which they first stand.
     fn conditions(&self) -> &[Condition]
-        ensures worth { (values : List Datum) → map (λ c. condition_truth c values) result.now ≡ map (truth (record_value (fields_of_plan self.now) values)) (filters_of (fields_of_plan self.now) (form_of_plan self.now)) }
-        ensures safe { (values : List Datum) → Fits (fields_of_plan self.now) values → list_all (λ is_safe. is_safe values) (map is_safe result.now) ≡ true }
+        ensures worth { (values : List Datum) → map (λ c. condition_truth c values) result.now ≡ map (truth (record_value self.now.fields values)) (filters_of self.now.fields self.now.query) }
+        ensures safe { (values : List Datum) → Fits self.now.fields values → list_all (λ is_safe. is_safe values) (map is_safe result.now) ≡ true }
     {
         filters_law();
         self.filters.as_slice()
@@ -177,9 +187,9 @@ impl Plan {
     /// The truth value of the FILTER of the set function at a place, for the values of a record that
     /// fits the schema.
     pub(crate) fn filter_truth(&self, place: usize, values: &[Value]) -> Truth
-        requires place { place < length (functions_of (fields_of_plan self.now) (form_of_plan self.now)) }
-        requires fits { Fits (fields_of_plan self.now) (data_of values.now) }
-        ensures { result ≡ where_truth (fields_of_plan self.now) (filter_at (fields_of_plan self.now) (form_of_plan self.now) place) (data_of values.now) }
+        requires place { place < length (functions_of self.now.fields self.now.query) }
+        requires fits { Fits self.now.fields (data_of values.now) }
+        ensures { result ≡ where_truth self.now.fields (filter_at self.now.fields self.now.query place) (data_of values.now) }
     {
         filters_law();
         match self.set_functions()[place].filter {
@@ -190,8 +200,8 @@ impl Plan {
 
     /// The truth value of WHERE for the values of a record that fits the schema.
     pub(crate) fn where_truth(&self, values: &[Value]) -> Truth
-        requires { Fits (fields_of_plan self.now) (data_of values.now) }
-        ensures { result ≡ where_truth (fields_of_plan self.now) (form_of_plan self.now).where_condition (data_of values.now) }
+        requires { Fits self.now.fields (data_of values.now) }
+        ensures { result ≡ where_truth self.now.fields self.now.query.where_condition (data_of values.now) }
     {
         bound_truth(&self.condition, values)
     }

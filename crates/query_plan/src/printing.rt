@@ -5,7 +5,6 @@ ghost use Rattle.query_resolution.specs.Sets.{sets_of};
 ghost use Rattle.query_resolution.specs.Functions.{filters_of};
 ghost use Rattle.query_resolution.specs.Planning.{filter_forms};
 ghost use Rattle.query_print.specs.Canonical.{header_text, predicate_text, set_text};
-ghost use Rattle.query_plan.specs.Planned.{fields_of_plan, form_of_plan};
 
 use crate::plan::Plan;
 use query_print::predicate_text;
@@ -23,8 +22,8 @@ use std::alloc::{AllocError, Global};
 ///
 /// `AllocError` where there is no memory for the text.
 pub fn header(alloc: Global, plan: &Plan, item: usize) -> Result<String, AllocError>
-    requires { item < length (form_of_plan plan.now).items }
-    ensures text { IfOk result (λ text. Some (string_bytes text) ≡ option_map header_text (slice_get (form_of_plan plan.now).items item)) }
+    requires { item < length plan.now.query.items }
+    ensures text { IfOk result (λ text. Some (string_bytes text) ≡ option_map header_text (slice_get plan.now.query.items item)) }
 {
     let items = plan.query().tree().items.as_slice();
     query_print::header(alloc, &items[item])
@@ -39,8 +38,8 @@ pub fn header(alloc: Global, plan: &Plan, item: usize) -> Result<String, AllocEr
 ///
 /// `AllocError` where there is no memory for the text.
 pub fn set_text(alloc: Global, plan: &Plan, set: usize) -> Result<String, AllocError>
-    requires { set < length (sets_of (fields_of_plan plan.now) (form_of_plan plan.now)) }
-    ensures text { IfOk result (λ text. Some (string_bytes text) ≡ option_map (set_text (fields_of_plan plan.now)) (slice_get (sets_of (fields_of_plan plan.now) (form_of_plan plan.now)) set)) }
+    requires { set < length (sets_of plan.now.fields plan.now.query) }
+    ensures text { IfOk result (λ text. Some (string_bytes text) ≡ option_map (set_text plan.now.fields) (slice_get (sets_of plan.now.fields plan.now.query) set)) }
 {
     query_print::set_text(alloc, plan.schema(), &plan.sets()[set])
 }
@@ -66,7 +65,7 @@ fn predicate_texts(alloc: Global, predicates: &[&Predicate]) -> Result<Vec<Strin
 ///
 /// `AllocError` where there is no memory for the texts.
 pub fn filter_texts(alloc: Global, plan: &Plan) -> Result<Vec<String>, AllocError>
-    ensures texts { IfOk result (λ texts. map string_bytes texts.items ≡ map predicate_text (filters_of (fields_of_plan plan.now) (form_of_plan plan.now))) }
+    ensures texts { IfOk result (λ texts. map string_bytes texts.items ≡ map predicate_text (filters_of plan.now.fields plan.now.query)) }
 {
     let filters = filters(alloc, plan.schema().columns(), plan.query().tree())?;
     predicate_texts(alloc, &filters)

@@ -7,13 +7,26 @@ ghost use Rattle.query_derivation.specs.Derivation.{Derives};
 
 use query_resolution::set_count;
 use query_tree::Tree;
+use std::marker::Model;
 
-/// A query that some text derives within the limits. `parse` makes one of a text.
+/// A query that some text derives within the limits, which contracts see as the form of its tree.
+/// `parse` makes one of a text.
 ///
 /// Example: `parse(alloc, "SELECT COUNT(*) FROM lines")` answers one, with a tree of one item.
 pub struct Query {
     tree: Box<Tree>,
     ghost derived: { ∥ ((text : List ℕ) × Derives text (tree_form tree.value)) ∥₁ },
+}
+
+impl Model for Query {
+    ghost use Rattle.query_tree.specs.Syntax.{TreeForm, tree_form};
+    ghost use Rattle.query_plan.specs.Inside.Coding.{coded_tree};
+
+    ghost Value = { TreeForm };
+
+    ghost coded = { coded_tree };
+
+    ghost view = { λ q. tree_form q.tree.value };
 }
 
 // A function of its own: a derived one is written out, and proved, wherever a query is given up.
@@ -25,23 +38,21 @@ impl Drop for Query {
 }
 
 impl Query {
-    ghost use Rattle.query_plan.specs.Form.{form_of};
-
     /// The query of a tree. It asks that some text derives the tree within the limits.
     ///
     /// Example: of the tree of one item `COUNT(*)` and no other clause it makes the query of the text
     /// `SELECT COUNT(*) FROM lines`.
     pub fn new(tree: Box<Tree>) -> Query
         requires { ∥ ((text : List ℕ) × Derives text (tree_form tree.value)) ∥₁ }
-        ensures { form_of result ≡ tree_form tree.value }
+        ensures { result ≡ tree_form tree.value }
     {
         Query { tree }
     }
 
     /// The syntax tree, which some text derives.
     pub fn tree(&self) -> &Tree
-        ensures form { tree_form result.now ≡ form_of self.now }
-        ensures derived { ∥ ((text : List ℕ) × Derives text (form_of self.now)) ∥₁ }
+        ensures form { tree_form result.now ≡ self.now }
+        ensures derived { ∥ ((text : List ℕ) × Derives text self.now) ∥₁ }
     {
         &self.tree
     }
@@ -52,7 +63,7 @@ impl Query {
     ///
     /// Example: it is 4 for `GROUP BY CUBE (d, r)`, and 1 without GROUP BY.
     pub fn set_count(&self) -> u64
-        ensures count { result ≡ min (length (expanded (form_of self.now).groups)) u64.MAX }
+        ensures count { result ≡ min (length (expanded self.now.groups)) u64.MAX }
     {
         set_count(&self.tree.groups)
     }

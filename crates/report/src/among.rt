@@ -1,6 +1,5 @@
 //! The bytes of a report, whose rows are put in order and written by several threads.
 ghost use Rattle.std.specs.Prelude.{◌≡◌, ◌<◌, All, IfOk, length, map};
-ghost use Rattle.query_plan.specs.Planned.{fields_of_plan, form_of_plan};
 ghost use Rattle.groups.specs.Found.{row_of};
 ghost use Rattle.tables.specs.Planned.{AreFittingUnder};
 ghost use Rattle.report.specs.Report.{report_of};
@@ -39,7 +38,7 @@ pub fn report_among<H: Threads + Sync>(
 ) -> Result<Vec<u8>, AllocError>
     requires fit { AreFittingUnder plan.now groups.now.found }
     requires hands { 0 < hands }
-    ensures { IfOk result (λ text. text.items ≡ report_of (fields_of_plan plan.now) (form_of_plan plan.now) groups.now.found) }
+    ensures { IfOk result (λ text. text.items ≡ report_of plan.now.fields plan.now.query groups.now.found) }
 {
     if hands == 1 {
         return report_on(alloc, groups, plan);

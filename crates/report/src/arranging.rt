@@ -1,6 +1,5 @@
 //! The rows of a report on the groups of an input.
 ghost use Rattle.std.specs.Prelude.{◌≡◌, All, IfOk, length, map};
-ghost use Rattle.query_plan.specs.Planned.{fields_of_plan, form_of_plan};
 ghost use Rattle.tables.specs.Planned.{AreFittingUnder};
 ghost use Rattle.rows.specs.Order.{rows_shown};
 ghost use Rattle.rows.specs.Shown.{cells_of};
@@ -28,8 +27,8 @@ use tables::Groups;
 /// `AllocError` where there is no memory for the rows.
 pub fn arrange(alloc: Global, groups: &Groups, plan: &Plan) -> Result<Vec<ReportRow>, AllocError>
     requires { AreFittingUnder plan.now groups.now.found }
-    ensures cells { IfOk result (λ rows. map cells_of rows.items ≡ rows_shown (fields_of_plan plan.now) (form_of_plan plan.now) groups.now.found) }
-    ensures wide { IfOk result (λ rows. All (λ row. length row.cells.items ≡ length (form_of_plan plan.now).items) rows.items) }
+    ensures cells { IfOk result (λ rows. map cells_of rows.items ≡ rows_shown plan.now.fields plan.now.query groups.now.found) }
+    ensures wide { IfOk result (λ rows. All (λ row. length row.cells.items ≡ length plan.now.query.items) rows.items) }
 {
     let view = PlanView::new(alloc, plan)?;
     arranged_rows(alloc, groups.rows(), &view)

@@ -5,7 +5,6 @@ ghost use Rattle.csv.specs.Records.{fields_of};
 ghost use Rattle.csv.specs.Writing.{row_text, default_writer, text_written};
 ghost use Rattle.values.specs.Datum.{data_of};
 ghost use Rattle.query_print.specs.Canonical.{header_text};
-ghost use Rattle.query_plan.specs.Planned.{fields_of_plan, form_of_plan};
 ghost use Rattle.groups.specs.Cells.{summary_of};
 ghost use Rattle.groups.specs.Found.{row_of};
 ghost use Rattle.tables.specs.Planned.{AreFittingUnder};
@@ -42,8 +41,8 @@ const FEW: usize = 64;
 ///
 /// `AllocError` where there is no memory for the text.
 pub fn report_text(alloc: Global, rows: &[ReportRow], plan: &Plan) -> Result<Vec<u8>, AllocError>
-    requires { All (λ row. length row.cells.items ≡ length (form_of_plan plan.now).items) rows.now }
-    ensures { IfOk result (λ text. text.items ≡ report_bytes (form_of_plan plan.now).items (map cells_of rows.now)) }
+    requires { All (λ row. length row.cells.items ≡ length plan.now.query.items) rows.now }
+    ensures { IfOk result (λ text. text.items ≡ report_bytes plan.now.query.items (map cells_of rows.now)) }
 {
     let mut writer = begun(alloc, plan)?;
     let mut fields = ByteRecord::new(alloc);
@@ -65,7 +64,7 @@ pub fn report_text(alloc: Global, rows: &[ReportRow], plan: &Plan) -> Result<Vec
 /// `AllocError` where there is no memory for the text.
 pub fn report_on(alloc: Global, groups: &Groups, plan: &Plan) -> Result<Vec<u8>, AllocError>
     requires { AreFittingUnder plan.now groups.now.found }
-    ensures { IfOk result (λ text. text.items ≡ report_of (fields_of_plan plan.now) (form_of_plan plan.now) groups.now.found) }
+    ensures { IfOk result (λ text. text.items ≡ report_of plan.now.fields plan.now.query groups.now.found) }
 {
     let view = PlanView::new(alloc, plan)?;
     let shown = shown_groups(alloc, groups.rows(), &view)?;
@@ -169,7 +168,7 @@ pub(crate) fn ended(writer: Writer<Vec<u8>>) -> Result<Vec<u8>, AllocError>
 /// A writer of a report that has the row of the headers.
 pub(crate) fn begun(alloc: Global, plan: &Plan) -> Result<Writer<Vec<u8>>, AllocError>
     ensures between { IfOk result IsBetweenRows }
-    ensures text { IfOk result (λ writer. text_written ⟦<Vec<u8> as Write>⟧.contents writer ≡ Some (report_bytes (form_of_plan plan.now).items [])) }
+    ensures text { IfOk result (λ writer. text_written ⟦<Vec<u8> as Write>⟧.contents writer ≡ Some (report_bytes plan.now.query.items [])) }
 {
     let mut writer = WriterBuilder::new().from_writer(Vec::new(alloc));
     put_headers(&mut writer, alloc, plan)?;
@@ -178,7 +177,7 @@ pub(crate) fn begun(alloc: Global, plan: &Plan) -> Result<Writer<Vec<u8>>, Alloc
 
 /// The headers of the items of SELECT.
 fn headers(alloc: Global, plan: &Plan) -> Result<ByteRecord, AllocError>
-    ensures { IfOk result (λ fields. fields_of fields ≡ map header_text (form_of_plan plan.now).items) }
+    ensures { IfOk result (λ fields. fields_of fields ≡ map header_text plan.now.query.items) }
 {
     let count = plan.query().tree().items.len();
     let mut fields = ByteRecord::new(alloc);
@@ -193,7 +192,7 @@ fn headers(alloc: Global, plan: &Plan) -> Result<ByteRecord, AllocError>
 fn put_headers(writer: &mut Writer<Vec<u8>>, alloc: Global, plan: &Plan) -> Result<(), AllocError>
     requires { IsBetweenRows writer.old }
     ensures between { OnOk result (IsBetweenRows writer.new) }
-    ensures appends { OnOk result (Appends (text_written ⟦<Vec<u8> as Write>⟧.contents writer.old) (text_written ⟦<Vec<u8> as Write>⟧.contents writer.new) (row_text default_writer (map header_text (form_of_plan plan.now).items))) }
+    ensures appends { OnOk result (Appends (text_written ⟦<Vec<u8> as Write>⟧.contents writer.old) (text_written ⟦<Vec<u8> as Write>⟧.contents writer.new) (row_text default_writer (map header_text plan.now.query.items))) }
 {
     let fields = headers(alloc, plan)?;
     put_fields(writer, &fields)

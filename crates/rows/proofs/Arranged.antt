@@ -3,8 +3,7 @@ use Rattle.std.proofs.Common.{◌≡◌, ◌<◌, ◌∙◌, Bor, List, ℕ, len
 use Rattle.std.specs.List.{AllByRecursion}
 use Rattle.std.proofs.lemmas.List.Elements.{All-from_recursion}
 use Rattle.query_resolution.specs.Sets.{sets_of}
-use Rattle.query_plan.specs.declared.plan.Plan.{Plan}
-use Rattle.query_plan.specs.Planned.{fields_of_plan, form_of_plan}
+use Rattle.query_plan.specs.Planned.{PlannedQuery}
 use Rattle.groups.specs.declared.group.Group.{Group}
 use Rattle.groups.specs.Fitting.{AreFitting}
 use Rattle.groups.specs.Found.{Found, row_of}
@@ -16,22 +15,22 @@ use Rattle.rows.proofs.Keeping.{within-having_true}
 use Rattle.rows.proofs.Maps.{all-of-map}
 
 -- the rows that are put in order fit the plan, since all rows do
-pub true-fit : (plan : Plan) (found rows unordered : List Found) → rows ≡ found → unordered ≡ rows_having_true (fields_of_plan plan) (form_of_plan plan) rows → AreFitting (fields_of_plan plan) (form_of_plan plan) found → AreFitting (fields_of_plan plan) (form_of_plan plan) unordered
+pub true-fit : (plan : PlannedQuery) (found rows unordered : List Found) → rows ≡ found → unordered ≡ rows_having_true plan.fields plan.query rows → AreFitting plan.fields plan.query found → AreFitting plan.fields plan.query unordered
 true-fit plan found rows unordered same true fit =
-    let fits = AreFitting (fields_of_plan plan) (form_of_plan plan) in
-    subst fits (sym true) (fit-having_true (fields_of_plan plan) (form_of_plan plan) rows (subst fits (sym same) fit))
+    let fits = AreFitting plan.fields plan.query in
+    subst fits (sym true) (fit-having_true plan.fields plan.query rows (subst fits (sym same) fit))
 
 -- put in order they are the rows of the report
-pub true-arranged : (plan : Plan) (found rows unordered : List Found) → rows ≡ found → unordered ≡ rows_having_true (fields_of_plan plan) (form_of_plan plan) rows → in_order (before (fields_of_plan plan) (form_of_plan plan)) unordered ≡ arranged (fields_of_plan plan) (form_of_plan plan) found
+pub true-arranged : (plan : PlannedQuery) (found rows unordered : List Found) → rows ≡ found → unordered ≡ rows_having_true plan.fields plan.query rows → in_order (before plan.fields plan.query) unordered ≡ arranged plan.fields plan.query found
 true-arranged plan found rows unordered same true =
-    let fields = fields_of_plan plan in
-    let t = form_of_plan plan in
+    let fields = plan.fields in
+    let t = plan.query in
     ap (in_order (before fields t)) true ∙ ap (arranged fields t) same
 
 -- the index of each row of the report is that of a grouping set
-pub arranged-sets : (plan : Plan) (found : List Found) (shown : List (Bor (ℕ × Group))) → map (λ r. row_of r.now) shown ≡ arranged (fields_of_plan plan) (form_of_plan plan) found → AreFitting (fields_of_plan plan) (form_of_plan plan) found → All (λ r. HasSetUnder plan (row_of r.now)) shown
+pub arranged-sets : (plan : PlannedQuery) (found : List Found) (shown : List (Bor (ℕ × Group))) → map (λ r. row_of r.now) shown ≡ arranged plan.fields plan.query found → AreFitting plan.fields plan.query found → All (λ r. HasSetUnder plan (row_of r.now)) shown
 arranged-sets plan found shown is fit =
-    let fields = fields_of_plan plan in
-    let t = form_of_plan plan in
+    let fields = plan.fields in
+    let t = plan.query in
     let within = subst (λ (rows : List Found). AllByRecursion (λ row. row.0 < length (sets_of fields t)) rows) (sym is) (within-having_true fields t found fit) in
     All-from_recursion (λ (r : Bor (ℕ × Group)). HasSetUnder plan (row_of r.now)) shown (all-of-map (λ (r : Bor (ℕ × Group)). row_of r.now) (HasSetUnder plan) shown within)

@@ -32,8 +32,7 @@ use Rattle.rows.proofs.Filtering.{bag-having_true, fit-having_true}
 use Rattle.rows.proofs.Totals.{before-total, by_rank-total}
 use Rattle.rows.proofs.Sorting.{Apart, apart-in_order, ascends-in_order, ascends-sorted, bag-permutation, one-list, weigh-in_order}
 use Rattle.rows.proofs.Sameness.{both-tied, found-tells, same_found}
-use Rattle.query_plan.specs.declared.plan.Plan.{Plan}
-use Rattle.query_plan.specs.Planned.{fields_of_plan, form_of_plan}
+use Rattle.query_plan.specs.Planned.{PlannedQuery}
 use Rattle.rows.specs.Planned.{HasSetUnder}
 use Rattle.rows.proofs.Maps.{all-of-map, map-twice}
 use Rattle.rows.proofs.Places.{different-distinct, order-same_set}
@@ -187,7 +186,7 @@ sorted-ranks {Y} rank fields t found sorted there up fit =
     (ascends-same fields t (map rank sorted) right (ascends-sorted (by_rank-total t.keys) rank sorted up))
 
 -- rows that fit have indexes of sets
-pub sets-fitting : (plan : Plan) (groups : List (Bor (ℕ × Group))) → AreFitting (fields_of_plan plan) (form_of_plan plan) (map row_at groups) → All (λ r. HasSetUnder plan (row_at r)) groups
+pub sets-fitting : (plan : PlannedQuery) (groups : List (Bor (ℕ × Group))) → AreFitting plan.fields plan.query (map row_at groups) → All (λ r. HasSetUnder plan (row_at r)) groups
 sets-fitting plan groups fit =
     All-from_recursion (λ (r : Bor (ℕ × Group)). HasSetUnder plan (row_at r)) groups
     (all-of-map row_at (HasSetUnder plan) groups (recursion_from_All (HasSetUnder plan) (map row_at groups) fit.indexes))

@@ -7,8 +7,7 @@ use Rattle.query_check.specs.declared.scope.Clause.TheVariants as clause
 use Rattle.query_resolution.specs.Sets.{grouping_places, sets_of}
 use Rattle.query_check.specs.Typing.{AreTypedParts, IsTypedPredicate}
 use Rattle.query_truth.specs.Truth.{Valuation}
-use Rattle.query_plan.specs.declared.plan.Plan.{Plan}
-use Rattle.query_plan.specs.Planned.{fields_of_plan, form_of_plan}
+use Rattle.query_plan.specs.Planned.{PlannedQuery}
 use Rattle.groups.specs.declared.group.Group.{Group}
 use Rattle.groups.specs.Functions.{Summary}
 use Rattle.groups.specs.Cells.{summary_of}
@@ -18,25 +17,25 @@ use Rattle.rows.specs.Having.{row_value}
 use Rattle.rows.specs.Shown.{expression_shown}
 
 -- the row of a group fits the query
-abbrev pub FitsUnder : Plan → Found → Type 0
-FitsUnder plan row = AreFitting (fields_of_plan plan) (form_of_plan plan) (row ∷ [])
+abbrev pub FitsUnder : PlannedQuery → Found → Type 0
+FitsUnder plan row = AreFitting plan.fields plan.query (row ∷ [])
 
 -- the index of a row is that of a grouping set
-abbrev pub HasSetUnder : Plan → Found → Type 0
-HasSetUnder plan row = row.0 < length (sets_of (fields_of_plan plan) (form_of_plan plan))
+abbrev pub HasSetUnder : PlannedQuery → Found → Type 0
+HasSetUnder plan row = row.0 < length (sets_of plan.fields plan.query)
 
 -- a predicate is typed in HAVING
-abbrev pub IsTypedUnder : Plan → PredicateForm → Type 0
-IsTypedUnder plan p = IsTypedPredicate (fields_of_plan plan) (grouping_places (fields_of_plan plan) (form_of_plan plan)) clause.Having p
+abbrev pub IsTypedUnder : PlannedQuery → PredicateForm → Type 0
+IsTypedUnder plan p = IsTypedPredicate plan.fields (grouping_places plan.fields plan.query) clause.Having p
 
 -- so are the parts of an OR or an AND
-abbrev pub AreTypedUnder : Plan → PredicateForms → Type 0
-AreTypedUnder plan ps = AreTypedParts (fields_of_plan plan) (grouping_places (fields_of_plan plan) (form_of_plan plan)) clause.Having ps
+abbrev pub AreTypedUnder : PlannedQuery → PredicateForms → Type 0
+AreTypedUnder plan ps = AreTypedParts plan.fields (grouping_places plan.fields plan.query) clause.Having ps
 
 -- the value that a row shows for each expression
-abbrev pub value_under : Plan → Found → Valuation
-value_under plan row = row_value (fields_of_plan plan) (form_of_plan plan) row
+abbrev pub value_under : PlannedQuery → Found → Valuation
+value_under plan row = row_value plan.fields plan.query row
 
 -- what a group of a grouping set shows for an expression
-abbrev pub shown_under : Plan → List ℕ → Group → ExpressionForm → Summary
-shown_under plan set group e = expression_shown (fields_of_plan plan) (form_of_plan plan) set (data_of group.key.items) (map summary_of group.cells.items) e
+abbrev pub shown_under : PlannedQuery → List ℕ → Group → ExpressionForm → Summary
+shown_under plan set group e = expression_shown plan.fields plan.query set (data_of group.key.items) (map summary_of group.cells.items) e

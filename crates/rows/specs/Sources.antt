@@ -3,8 +3,7 @@ use Rattle.std.specs.Prelude.{◌≡◌, ℕ, ⊤, List, [], ◌∷◌, map, sli
 use Rattle.std.specs.Global.{Vec}
 use Rattle.values.specs.Datum.{datum_of, null}
 use Rattle.query_tree.specs.Syntax.{ExpressionForm}
-use Rattle.query_plan.specs.declared.plan.Plan.{Plan}
-use Rattle.query_plan.specs.Planned.{fields_of_plan, form_of_plan}
+use Rattle.query_plan.specs.Planned.{PlannedQuery}
 use Rattle.groups.specs.Functions.{Summary, plain}
 use Rattle.groups.specs.Groups.{Key}
 use Rattle.groups.specs.Found.{Found}
@@ -19,15 +18,15 @@ shown_at key cells (CellAt place) = unwrap_or (slice_get cells place) (plain nul
 shown_at key cells (Always value) = plain (datum_of value)
 
 -- each row of the grouping set has there what it shows for the expression
-abbrev pub IsSourceOf : Plan → List ℕ → ExpressionForm → Source → Type 0
-IsSourceOf plan set e source = (key : Key) (cells : List Summary) → shown_at key cells source ≡ expression_shown (fields_of_plan plan) (form_of_plan plan) set key cells e
+abbrev pub IsSourceOf : PlannedQuery → List ℕ → ExpressionForm → Source → Type 0
+IsSourceOf plan set e source = (key : Key) (cells : List Summary) → shown_at key cells source ≡ expression_shown plan.fields plan.query set key cells e
 
 -- each row of the grouping set has there what it shows for the items of SELECT
-abbrev pub AreSourcesOf : Plan → List ℕ → List Source → Type 0
-AreSourcesOf plan set sources = (key : Key) (cells : List Summary) → map (shown_at key cells) sources ≡ map (λ item. expression_shown (fields_of_plan plan) (form_of_plan plan) set key cells item.expression) (form_of_plan plan).items
+abbrev pub AreSourcesOf : PlannedQuery → List ℕ → List Source → Type 0
+AreSourcesOf plan set sources = (key : Key) (cells : List Summary) → map (shown_at key cells) sources ≡ map (λ item. expression_shown plan.fields plan.query set key cells item.expression) plan.query.items
 
 -- so do the rows of each grouping set, in the order of the sets
-abbrev pub AreSourcesOfEach : Plan → List (List ℕ) → List (Vec Source) → Type 0
+abbrev pub AreSourcesOfEach : PlannedQuery → List (List ℕ) → List (Vec Source) → Type 0
 AreSourcesOfEach plan [] [] = ⊤
 AreSourcesOfEach plan [] (sources ∷ others) = ⊥
 AreSourcesOfEach plan (set ∷ sets) [] = ⊥

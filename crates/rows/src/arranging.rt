@@ -1,6 +1,5 @@
 //! The rows of a report in their order.
 ghost use Rattle.std.specs.Prelude.{◌≡◌, ◌<◌, All, IfOk, length, map};
-ghost use Rattle.query_plan.specs.Planned.{fields_of_plan, form_of_plan};
 ghost use Rattle.groups.specs.Found.{row_of};
 ghost use Rattle.groups.specs.Fitting.{AreFitting};
 ghost use Rattle.rows.specs.Planned.{HasSetUnder};
@@ -37,9 +36,9 @@ pub fn arranged_rows(
     groups: &[(usize, Group)],
     plan: &PlanView<'_>,
 ) -> Result<Vec<ReportRow>, AllocError>
-    requires { AreFitting (fields_of_plan plan.now) (form_of_plan plan.now) (map row_of groups.now) }
-    ensures cells { IfOk result (λ rows. map cells_of rows.items ≡ rows_shown (fields_of_plan plan.now) (form_of_plan plan.now) (map row_of groups.now)) }
-    ensures wide { IfOk result (λ rows. All (λ row. length row.cells.items ≡ length (form_of_plan plan.now).items) rows.items) }
+    requires { AreFitting plan.now.fields plan.now.query (map row_of groups.now) }
+    ensures cells { IfOk result (λ rows. map cells_of rows.items ≡ rows_shown plan.now.fields plan.now.query (map row_of groups.now)) }
+    ensures wide { IfOk result (λ rows. All (λ row. length row.cells.items ≡ length plan.now.query.items) rows.items) }
 {
     let shown = shown_groups(alloc, groups, plan)?;
     let mut rows = Vec::with_capacity(alloc, shown.len())?;
@@ -63,8 +62,8 @@ pub fn shown_groups<'a>(
     groups: &'a [(usize, Group)],
     plan: &PlanView<'_>,
 ) -> Result<Vec<&'a (usize, Group)>, AllocError>
-    requires { AreFitting (fields_of_plan plan.now) (form_of_plan plan.now) (map row_of groups.now) }
-    ensures shown { IfOk result (λ v. map (λ r. row_of r.now) v.items ≡ arranged (fields_of_plan plan.now) (form_of_plan plan.now) (map row_of groups.now)) }
+    requires { AreFitting plan.now.fields plan.now.query (map row_of groups.now) }
+    ensures shown { IfOk result (λ v. map (λ r. row_of r.now) v.items ≡ arranged plan.now.fields plan.now.query (map row_of groups.now)) }
     ensures sets { IfOk result (λ v. All (λ r. HasSetUnder plan.now (row_of r.now)) v.items) }
 {
     let unordered = rows_having_true(alloc, plan, groups)?;
@@ -86,9 +85,9 @@ pub fn shown_among<'a, H: Threads + Sync>(
     plan: &PlanView<'_>,
     hands: usize,
 ) -> Result<Vec<&'a (usize, Group)>, AllocError>
-    requires fit { AreFitting (fields_of_plan plan.now) (form_of_plan plan.now) (map row_of groups.now) }
+    requires fit { AreFitting plan.now.fields plan.now.query (map row_of groups.now) }
     requires hands { 0 < hands }
-    ensures shown { IfOk result (λ v. map (λ r. row_of r.now) v.items ≡ arranged (fields_of_plan plan.now) (form_of_plan plan.now) (map row_of groups.now)) }
+    ensures shown { IfOk result (λ v. map (λ r. row_of r.now) v.items ≡ arranged plan.now.fields plan.now.query (map row_of groups.now)) }
     ensures sets { IfOk result (λ v. All (λ r. HasSetUnder plan.now (row_of r.now)) v.items) }
 {
     let unordered = rows_having_true(alloc, plan, groups)?;
@@ -103,7 +102,7 @@ fn row_for(
     found: &(usize, Group),
 ) -> Result<ReportRow, AllocError>
     requires { HasSetUnder plan.now (row_of found.now) }
-    ensures { IfOk result (λ row. cells_of row ≡ row_shown (fields_of_plan plan.now) (form_of_plan plan.now) (row_of found.now)) }
+    ensures { IfOk result (λ row. cells_of row ≡ row_shown plan.now.fields plan.now.query (row_of found.now)) }
 {
     let (index, group) = found;
     let set = &plan.sets()[*index];

@@ -3,7 +3,6 @@ ghost use Rattle.std.specs.Prelude.{◌≡◌, IfOk, false, map};
 ghost use Rattle.values.specs.Datum.{datum_of};
 ghost use Rattle.query_tree.specs.Syntax.{between, compare, expression_form, member, name, operand_form, predicate_form, predicate_forms};
 ghost use Rattle.query_truth.specs.Truth.{all_of, any_of, operand_value, truth, truths};
-ghost use Rattle.query_plan.specs.Planned.{fields_of_plan, form_of_plan};
 ghost use Rattle.groups.specs.Found.{row_of};
 ghost use Rattle.groups.specs.Fitting.{AreFitting};
 ghost use Rattle.rows.specs.Having.{rows_having_true};
@@ -25,8 +24,8 @@ pub(crate) fn rows_having_true<'a>(
     plan: &PlanView<'_>,
     rows: &'a [(usize, Group)],
 ) -> Result<Vec<&'a (usize, Group)>, AllocError>
-    requires { AreFitting (fields_of_plan plan.now) (form_of_plan plan.now) (map row_of rows.now) }
-    ensures { IfOk result (λ found. map (λ r. row_of r.now) found.items ≡ rows_having_true (fields_of_plan plan.now) (form_of_plan plan.now) (map row_of rows.now)) }
+    requires { AreFitting plan.now.fields plan.now.query (map row_of rows.now) }
+    ensures { IfOk result (λ found. map (λ r. row_of r.now) found.items ≡ rows_having_true plan.now.fields plan.now.query (map row_of rows.now)) }
 {
     let Some(having) = &plan.query().tree().having_condition else {
         return rows.iter().collect(alloc);

@@ -3,7 +3,6 @@ ghost use Rattle.std.specs.Prelude.{◌≡◌, IfOk, map};
 ghost use Rattle.values.specs.Datum.{data_of, datum_of};
 ghost use Rattle.query_tree.specs.Syntax.{key_form};
 ghost use Rattle.query_check.specs.Typing.{key_expression};
-ghost use Rattle.query_plan.specs.Planned.{fields_of_plan, form_of_plan};
 ghost use Rattle.groups.specs.Found.{row_of};
 ghost use Rattle.rows.specs.Having.{cell_value};
 ghost use Rattle.rows.specs.Order.{null_order, under_key};
@@ -28,7 +27,7 @@ pub(crate) fn key_values(
     found: &(usize, Group),
 ) -> Result<Vec<Value>, AllocError>
     requires { HasSetUnder plan.now (row_of found.now) }
-    ensures { IfOk result (λ values. data_of values.items ≡ key_values (fields_of_plan plan.now) (form_of_plan plan.now) (row_of found.now)) }
+    ensures { IfOk result (λ values. data_of values.items ≡ key_values plan.now.fields plan.now.query (row_of found.now)) }
 {
     let (index, group) = found;
     let set = &plan.sets()[*index];
@@ -47,7 +46,7 @@ fn key_value(
     group: &Group,
     key: &Key,
 ) -> Result<Value, AllocError>
-    ensures { IfOk result (λ value. datum_of value ≡ cell_value (shown_under plan.now set.now group.now (key_expression (form_of_plan plan.now).items (key_form key.now).expression))) }
+    ensures { IfOk result (λ value. datum_of value ≡ cell_value (shown_under plan.now set.now group.now (key_expression plan.now.query.items (key_form key.now).expression))) }
 {
     let items = plan.query().tree().items.as_slice();
     let expression = key_expression(items, &key.expression);

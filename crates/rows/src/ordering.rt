@@ -4,7 +4,6 @@ ghost use Rattle.std.specs.List.{flat_map};
 ghost use Rattle.std.specs.List.Sorted.{IsPermutation, IsSortedBy};
 ghost use Rattle.std.specs.Ordering.{is_lt};
 ghost use Rattle.query_tree.specs.Syntax.{key_form};
-ghost use Rattle.query_plan.specs.Planned.{fields_of_plan, form_of_plan};
 ghost use Rattle.groups.specs.Found.{row_of};
 ghost use Rattle.groups.specs.Fitting.{AreFitting};
 ghost use Rattle.rows.specs.Order.{before, in_order};
@@ -49,8 +48,8 @@ pub(crate) fn in_order<'a>(
     plan: &PlanView<'_>,
     rows: Vec<&'a (usize, Group)>,
 ) -> Result<Vec<&'a (usize, Group)>, AllocError>
-    requires { AreFitting (fields_of_plan plan.now) (form_of_plan plan.now) (map (λ r. row_of r.now) rows.items) }
-    ensures { IfOk result (λ v. map (λ r. row_of r.now) v.items ≡ in_order (before (fields_of_plan plan.now) (form_of_plan plan.now)) (map (λ r. row_of r.now) rows.entry.items)) }
+    requires { AreFitting plan.now.fields plan.now.query (map (λ r. row_of r.now) rows.items) }
+    ensures { IfOk result (λ v. map (λ r. row_of r.now) v.items ≡ in_order (before plan.now.fields plan.now.query) (map (λ r. row_of r.now) rows.entry.items)) }
 {
     let ranked = rank(alloc, plan, rows.as_slice())?;
     let ordered = sorted(plan, ranked);
@@ -66,9 +65,9 @@ pub(crate) fn in_order_among<'a, H: Threads + Sync>(
     rows: Vec<&'a (usize, Group)>,
     size: usize,
 ) -> Result<Vec<&'a (usize, Group)>, AllocError>
-    requires fit { AreFitting (fields_of_plan plan.now) (form_of_plan plan.now) (map (λ r. row_of r.now) rows.items) }
+    requires fit { AreFitting plan.now.fields plan.now.query (map (λ r. row_of r.now) rows.items) }
     requires size { 0 < size }
-    ensures { IfOk result (λ v. map (λ r. row_of r.now) v.items ≡ in_order (before (fields_of_plan plan.now) (form_of_plan plan.now)) (map (λ r. row_of r.now) rows.entry.items)) }
+    ensures { IfOk result (λ v. map (λ r. row_of r.now) v.items ≡ in_order (before plan.now.fields plan.now.query) (map (λ r. row_of r.now) rows.entry.items)) }
 {
     if rows.len() <= size {
         return in_order(alloc, plan, rows);
@@ -89,7 +88,7 @@ fn parts_in_order<'a, H: Threads + Sync>(
 ) -> Result<Vec<Result<Vec<RankedRow<'a>>, AllocError>>, AllocError>
     requires size { 0 < size }
     requires sets { All (λ r. HasSetUnder plan.now (row_of r.now)) rows.now }
-    ensures { IfOk result (λ parts. AreRankedParts (ranked (fields_of_plan plan.now) (form_of_plan plan.now)) size (map (λ r. row_of r.now) rows.now) parts.items) }
+    ensures { IfOk result (λ parts. AreRankedParts (ranked plan.now.fields plan.now.query) size (map (λ r. row_of r.now) rows.now) parts.items) }
 {
     let parts = thread::map_chunks(
         rt,
@@ -98,7 +97,7 @@ fn parts_in_order<'a, H: Threads + Sync>(
         size,
         &|_, part: &[&(usize, Group)]| -> Result<Vec<RankedRow<'_>>, AllocError>
             requires { All (λ r. HasSetUnder plan.now (row_of r.now)) part.now }
-            ensures { IfOk result (λ v. AreRanked (ranked (fields_of_plan plan.entry.now) (form_of_plan plan.entry.now)) (map (λ r. row_of r.now) part.entry.now) v.items) }
+            ensures { IfOk result (λ v. AreRanked (ranked plan.entry.now.fields plan.entry.now.query) (map (λ r. row_of r.now) part.entry.now) v.items) }
         { part_in_order(alloc, plan, part) },
     )?;
     Ok(parts)
@@ -111,7 +110,7 @@ fn part_in_order<'a>(
     rows: &[&'a (usize, Group)],
 ) -> Result<Vec<RankedRow<'a>>, AllocError>
     requires { All (λ r. HasSetUnder plan.now (row_of r.now)) rows.now }
-    ensures { IfOk result (λ v. AreRanked (ranked (fields_of_plan plan.now) (form_of_plan plan.now)) (map (λ r. row_of r.now) rows.now) v.items) }
+    ensures { IfOk result (λ v. AreRanked (ranked plan.now.fields plan.now.query) (map (λ r. row_of r.now) rows.now) v.items) }
 {
     let ranked = rank(alloc, plan, rows)?;
     Ok(sorted(plan, ranked))
@@ -124,7 +123,7 @@ fn rank<'a>(
     rows: &[&'a (usize, Group)],
 ) -> Result<Vec<RankedRow<'a>>, AllocError>
     requires { All (λ r. HasSetUnder plan.now (row_of r.now)) rows.now }
-    ensures { IfOk result (λ v. map ranked_in v.items ≡ map (ranked (fields_of_plan plan.now) (form_of_plan plan.now)) (map (λ r. row_of r.now) rows.now)) }
+    ensures { IfOk result (λ v. map ranked_in v.items ≡ map (ranked plan.now.fields plan.now.query) (map (λ r. row_of r.now) rows.now)) }
 {
     let mut ranked = Vec::with_capacity(alloc, rows.len())?;
     for found in rows {
@@ -144,7 +143,7 @@ fn rank<'a>(
 /// The groups in the order of what stands beside them, in which no two are equal.
 fn sorted<'a>(plan: &PlanView<'_>, ranked: Vec<RankedRow<'a>>) -> Vec<RankedRow<'a>>
     ensures permutation { IsPermutation ranked.entry.items result.items }
-    ensures sorted { IsSortedBy (λ a b. is_lt (by_rank (form_of_plan plan.now).keys (ranked_in a) (ranked_in b))) result.items }
+    ensures sorted { IsSortedBy (λ a b. is_lt (by_rank plan.now.query.keys (ranked_in a) (ranked_in b))) result.items }
 {
     let keys = plan.query().tree().keys.as_slice();
     let mut ranked = ranked;
@@ -206,7 +205,7 @@ fn merged<'r, 'a>(
     rows: Vec<&'r RankedRow<'a>>,
 ) -> Result<Vec<&'r RankedRow<'a>>, AllocError>
     ensures permutation { IfOk result (λ v. IsPermutation rows.entry.items v.items) }
-    ensures sorted { IfOk result (λ v. IsSortedBy (λ a b. is_lt (by_rank (form_of_plan plan.now).keys (ranked_in a.now) (ranked_in b.now))) v.items) }
+    ensures sorted { IfOk result (λ v. IsSortedBy (λ a b. is_lt (by_rank plan.now.query.keys (ranked_in a.now) (ranked_in b.now))) v.items) }
 {
     let keys = plan.query().tree().keys.as_slice();
     let mut rows = rows;

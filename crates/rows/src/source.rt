@@ -5,7 +5,6 @@ ghost use Rattle.values.specs.Datum.{null};
 ghost use Rattle.values.specs.Schema.{fields_of};
 ghost use Rattle.query_tree.specs.Syntax.{expression_form};
 ghost use Rattle.query_resolution.specs.Sets.{sets_of};
-ghost use Rattle.query_plan.specs.Planned.{fields_of_plan, form_of_plan};
 ghost use Rattle.groups.specs.Functions.{Summary, plain};
 ghost use Rattle.groups.specs.Groups.{Key};
 ghost use Rattle.rows.specs.Shown.{name_shown};
@@ -87,7 +86,7 @@ fn sources_of(alloc: Global, plan: &PlanView<'_>, set: &[usize]) -> Result<Vec<S
 ///
 /// `AllocError` where there is no memory for the lists.
 pub fn sources_by_set(alloc: Global, plan: &PlanView<'_>) -> Result<Vec<Vec<Source>>, AllocError>
-    ensures { IfOk result (λ all. AreSourcesOfEach plan.now (sets_of (fields_of_plan plan.now) (form_of_plan plan.now)) all.items) }
+    ensures { IfOk result (λ all. AreSourcesOfEach plan.now (sets_of plan.now.fields plan.now.query) all.items) }
 {
     let mut all = Vec::with_capacity(alloc, plan.sets().len())?;
     for set in plan.sets() {

@@ -2,7 +2,6 @@
 ghost use Rattle.std.specs.Prelude.{◌≡◌};
 ghost use Rattle.query_resolution.specs.Functions.{functions_of};
 ghost use Rattle.query_resolution.specs.Planning.{planned_forms};
-ghost use Rattle.query_plan.specs.Planned.{fields_of_plan, form_of_plan};
 
 use query_plan::{Plan, Query, SetFunction};
 use query_resolution::{Planned, planned_functions, planned_place};
@@ -17,16 +16,16 @@ use values::Schema;
 pub struct PlanView<'a> {
     plan: &'a Plan,
     functions: Vec<Planned<'a>>,
-    ghost functions_are: { ∥ planned_forms functions.items ≡ functions_of (fields_of_plan plan.now) (form_of_plan plan.now) ∥₁ },
+    ghost functions_are: { ∥ planned_forms functions.items ≡ functions_of plan.now.fields plan.now.query ∥₁ },
 }
 
 impl<'a> Model for PlanView<'a> {
-    ghost use Rattle.query_plan.specs.contracts.plan.Plan as plan_contract;
-    ghost use Rattle.query_plan.specs.declared.plan.Plan.{Plan};
+    ghost use Rattle.query_plan.specs.Planned.{PlannedQuery};
+    ghost use Rattle.query_plan.specs.Inside.Coding.{coded_planned};
 
-    ghost Value = { Plan };
+    ghost Value = { PlannedQuery };
 
-    ghost coded = { plan_contract.the_row.coded };
+    ghost coded = { coded_planned };
 
     ghost view = { λ v. v.plan.now };
 }
@@ -38,8 +37,6 @@ impl<'a> PlanView<'a> {
     ghost use Rattle.query_resolution.specs.Resolution.{contents};
     ghost use Rattle.query_resolution.specs.Sets.{sets_of};
     ghost use Rattle.query_check.specs.Typing.{IsTyped};
-    ghost use Rattle.query_plan.specs.Form.{form_of};
-    ghost use Rattle.query_plan.specs.Planned.{fields_of_plan, form_of_plan};
 
     /// The view of a plan.
     ///
@@ -57,29 +54,29 @@ impl<'a> PlanView<'a> {
 
     /// The schema of the plan.
     pub(crate) fn schema(&self) -> &Schema
-        ensures schema { result.now ≡ fields_of_plan self.now }
+        ensures schema { result.now ≡ self.now.fields }
     {
         self.plan.schema()
     }
 
     /// The query of the plan.
     pub(crate) fn query(&self) -> &Query
-        ensures query { form_of result.now ≡ form_of_plan self.now }
-        ensures typed { ∥ IsTyped (fields_of_plan self.now) (form_of_plan self.now) ∥₁ }
+        ensures query { result.now ≡ self.now.query }
+        ensures typed { ∥ IsTyped self.now.fields self.now.query ∥₁ }
     {
         self.plan.query()
     }
 
     /// The grouping sets of the plan.
     pub(crate) fn sets(&self) -> &[Vec<usize>]
-        ensures sets { contents result.now ≡ sets_of (fields_of_plan self.now) (form_of_plan self.now) }
+        ensures sets { contents result.now ≡ sets_of self.now.fields self.now.query }
     {
         self.plan.sets()
     }
 
     /// The place of a set function among those of the plan; `None` where it has no such function. It takes no memory.
     pub(crate) fn function_place(&self, function: &SetFunction) -> Option<usize>
-        ensures { result ≡ place_among (fields_of_plan self.now) (form_of_plan self.now) (function_form function.now) }
+        ensures { result ≡ place_among self.now.fields self.now.query (function_form function.now) }
     {
         planned_place(
             self.plan.schema().columns(),

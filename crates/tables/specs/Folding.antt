@@ -11,8 +11,7 @@ use Rattle.query_resolution.specs.Functions.{indexed_functions}
 use Rattle.query_truth.specs.Kept.{kept}
 use Rattle.groups.specs.Rows.{Row}
 use Rattle.groups.specs.Inside.Table.{Contents, IsOfFew, IsTableOf, TakesOne}
-use Rattle.query_plan.specs.declared.plan.Plan.{Plan}
-use Rattle.query_plan.specs.Planned.{fields_of_plan, form_of_plan}
+use Rattle.query_plan.specs.Planned.{PlannedQuery}
 use Rattle.tables.specs.Functions.{aggregate_functions}
 use Rattle.tables.specs.declared.folding.Folding.{Folding}
 
@@ -46,27 +45,27 @@ pub record HasRoom (fields : List Field) (q : TreeForm) (table : Contents) (more
 -- ---- under a plan
 
 -- the table is that of the records that WHERE keeps of these, under all grouping columns
-abbrev pub IsTableUnder : Plan → Contents → List Row → Type 0
+abbrev pub IsTableUnder : PlannedQuery → Contents → List Row → Type 0
 IsTableUnder plan table rows =
-    IsTableOf (grouping_places (fields_of_plan plan) (form_of_plan plan)) (aggregate_functions (fields_of_plan plan) (form_of_plan plan)) table
-    (kept (fields_of_plan plan) (form_of_plan plan) rows)
+    IsTableOf (grouping_places plan.fields plan.query) (aggregate_functions plan.fields plan.query) table
+    (kept plan.fields plan.query rows)
 
-abbrev pub HasReadUnder : Plan → List Row → Folding → List (List ℕ) → Type 0
-HasReadUnder plan before folding ls = HasRead (fields_of_plan plan) (form_of_plan plan) before folding ls
+abbrev pub HasReadUnder : PlannedQuery → List Row → Folding → List (List ℕ) → Type 0
+HasReadUnder plan before folding ls = HasRead plan.fields plan.query before folding ls
 
 -- one line more can be read
-abbrev pub ReadsOneMoreUnder : Plan → Folding → Type 0
-ReadsOneMoreUnder plan folding = ∥ ReadsOneMore (fields_of_plan plan) (form_of_plan plan) folding ∥₁
+abbrev pub ReadsOneMoreUnder : PlannedQuery → Folding → Type 0
+ReadsOneMoreUnder plan folding = ∥ ReadsOneMore plan.fields plan.query folding ∥₁
 
 -- so many lines can be read onto the table
-abbrev pub HasRoomUnder : Plan → Contents → ℕ → Type 0
-HasRoomUnder plan table more = ∥ HasRoom (fields_of_plan plan) (form_of_plan plan) table more ∥₁
+abbrev pub HasRoomUnder : PlannedQuery → Contents → ℕ → Type 0
+HasRoomUnder plan table more = ∥ HasRoom plan.fields plan.query table more ∥₁
 
 -- the table is that of some records, fewer than 2^63 with one more
-abbrev pub TakesRecordUnder : Plan → Folding → Type 0
+abbrev pub TakesRecordUnder : PlannedQuery → Folding → Type 0
 TakesRecordUnder plan folding =
-    ∥ TakesOne (grouping_places (fields_of_plan plan) (form_of_plan plan)) (indexed_functions (fields_of_plan plan) (form_of_plan plan)) folding.table ∥₁
+    ∥ TakesOne (grouping_places plan.fields plan.query) (indexed_functions plan.fields plan.query) folding.table ∥₁
 
 -- the table is that of some list of fewer than 2^63 records
-abbrev pub IsOfFewUnder : Plan → Contents → Type 0
-IsOfFewUnder plan table = ∥ IsOfFew (grouping_places (fields_of_plan plan) (form_of_plan plan)) (indexed_functions (fields_of_plan plan) (form_of_plan plan)) table ∥₁
+abbrev pub IsOfFewUnder : PlannedQuery → Contents → Type 0
+IsOfFewUnder plan table = ∥ IsOfFew (grouping_places plan.fields plan.query) (indexed_functions plan.fields plan.query) table ∥₁

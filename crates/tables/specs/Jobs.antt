@@ -1,15 +1,14 @@
 -- What a job is, which a pool is given to work on, and what its pieces come to.
 use Rattle.std.specs.Prelude.{ℕ, List, []}
 use Rattle.lines.specs.declared.pieces.Piece.{Piece}
-use Rattle.query_plan.specs.declared.plan.Plan.{Plan}
-use Rattle.query_plan.specs.Planned.{fields_of_plan, form_of_plan}
+use Rattle.query_plan.specs.Planned.{PlannedQuery}
 use Rattle.tables.specs.Means.{IsMean, Mean, mean, mean_at, mean_from}
 use Rattle.tables.specs.declared.job.Job.{Job}
 use Rattle.tables.specs.declared.job.JobBy.{JobBy}
 use Rattle.tables.specs.declared.joining.Joiner as Joiner
 
 -- the plan whose query is answered
-abbrev pub plan_of_job : Job → Plan
+abbrev pub plan_of_job : Job → PlannedQuery
 plan_of_job job = job.plan.now
 
 -- the input, of which the job has the pieces
@@ -22,19 +21,19 @@ pieces_of_job job = job.pieces.now
 
 -- some pieces come to this under the job's plan
 abbrev pub IsMeanUnder : Job → Mean → Type 0
-IsMeanUnder job m = IsMean (fields_of_plan (plan_of_job job)) (form_of_plan (plan_of_job job)) m
+IsMeanUnder job m = IsMean (plan_of_job job).fields (plan_of_job job).query m
 
 -- what no pieces come to under the job's plan
 abbrev pub no_mean : Job → Mean
-no_mean job = mean (fields_of_plan (plan_of_job job)) (form_of_plan (plan_of_job job)) []
+no_mean job = mean (plan_of_job job).fields (plan_of_job job).query []
 
 -- what the job's piece with this index comes to
 abbrev pub mean_of_piece : Job → ℕ → Mean
-mean_of_piece job index = mean_at (fields_of_plan (plan_of_job job)) (form_of_plan (plan_of_job job)) (input_of_job job) (pieces_of_job job) index
+mean_of_piece job index = mean_at (plan_of_job job).fields (plan_of_job job).query (input_of_job job) (pieces_of_job job) index
 
 -- what the job's piece comes to that comes so many behind its first one, where that has the index `first`
 abbrev pub mean_of_piece_from : ℕ → Job → ℕ → Mean
-mean_of_piece_from first job place = mean_from (fields_of_plan (plan_of_job job)) (form_of_plan (plan_of_job job)) first (input_of_job job) (pieces_of_job job) place
+mean_of_piece_from first job place = mean_from (plan_of_job job).fields (plan_of_job job).query first (input_of_job job) (pieces_of_job job) place
 
 -- ---- a job whose results a joiner merges
 

@@ -2,7 +2,6 @@
 ghost use Rattle.std.specs.Prelude.{◌≡◌, ◌≤◌, [], All, List, IfOk, length};
 ghost use Rattle.lines.specs.Lines.{lines};
 ghost use Rattle.groups.specs.Rows.{Row};
-ghost use Rattle.query_plan.specs.Planned.{fields_of_plan};
 ghost use Rattle.tables.specs.Folding.{HasReadUnder, HasRoomUnder, IsTableUnder, refused_of};
 
 use crate::joining::Joiner;
@@ -28,7 +27,6 @@ pub(crate) struct Folding {
 impl Folding {
     ghost use Rattle.std.specs.Prelude.{◌≡◌, [], ◌∷◌, ◌++◌, ℕ, List, OnOk};
     ghost use Rattle.values.specs.Fit.{Fits};
-    ghost use Rattle.query_plan.specs.Planned.{fields_of_plan};
     ghost use Rattle.groups.specs.Rows.{Row};
     ghost use Rattle.tables.specs.Folding.{HasReadUnder, IsTableUnder, ReadsOneMoreUnder, TakesRecordUnder};
 
@@ -71,7 +69,7 @@ impl Folding {
 
     /// Takes one more record into the table, where it is kept.
     fn take(&mut self, plan: &Plan, taken: &Record) -> Result<(), AllocError>
-        requires fits { Fits (fields_of_plan plan.now) taken.now }
+        requires fits { Fits plan.now.fields taken.now }
         requires room { TakesRecordUnder plan.now self.old }
         ensures table { OnOk result ((rows : List Row) → IsTableUnder plan.now self.old.table rows
             → IsTableUnder plan.now self.new.table (rows ++ taken.now ∷ [])) }
@@ -112,7 +110,7 @@ pub(crate) fn read_onto(
     requires { HasRoomUnder plan.now table (length (lines piece.now)) }
     ensures read { IfOk result (λ folding. (before : List Row) → IsTableUnder plan.now table before → HasReadUnder plan.now before folding (lines piece.now)) }
     ensures lines { IfOk result (λ folding. folding.lines ≡ length (lines piece.now)) }
-    ensures refused { IfOk result (λ folding. length folding.refused.items ≡ length (refused_of (fields_of_plan plan.now) (lines piece.now))) }
+    ensures refused { IfOk result (λ folding. length folding.refused.items ≡ length (refused_of plan.now.fields (lines piece.now))) }
     ensures numbered { IfOk result (λ folding. All (λ line. line.0 ≤ folding.lines) folding.refused.items) }
 {
     let mut folding = Folding::onto(alloc, table);

@@ -68,7 +68,6 @@ impl<'a> Job<'a> {
 }
 
 impl<'a> Work for Job<'a> {
-    ghost use Rattle.query_plan.specs.Planned.{fields_of_plan, form_of_plan};
     ghost use Rattle.tables.specs.Jobs.{IsMeanUnder, mean_of_piece, no_mean, input_of_job, pieces_of_job, plan_of_job};
     ghost use Rattle.tables.specs.Means.{Mean, both, meaning};
     ghost use Rattle.tables.specs.Laws.{means_lawful};
@@ -91,7 +90,7 @@ impl<'a> Work for Job<'a> {
 
     ghost load_of = { λ job m. m.lines };
 
-    ghost lawful = { λ job. means_lawful (fields_of_plan (plan_of_job job)) (form_of_plan (plan_of_job job))
+    ghost lawful = { λ job. means_lawful (plan_of_job job).fields (plan_of_job job).query
         (input_of_job job) (pieces_of_job job) };
 
     fn unit(&self) -> Result<Partial, AllocError> {
@@ -154,7 +153,6 @@ impl<'a, J: Joiner> JobBy<'a, J> {
 }
 
 impl<'a, J: Joiner> Work for JobBy<'a, J> {
-    ghost use Rattle.query_plan.specs.Planned.{fields_of_plan, form_of_plan};
     ghost use Rattle.tables.specs.Jobs.{IsMeanUnder, mean_of_piece_from, no_mean, first_of_job, input_of_job, joined_job, pieces_of_job, plan_of_job};
     ghost use Rattle.tables.specs.Means.{Mean, both, meaning};
     ghost use Rattle.tables.specs.Laws.{means_lawful_from};
@@ -177,7 +175,7 @@ impl<'a, J: Joiner> Work for JobBy<'a, J> {
 
     ghost load_of = { λ it m. m.lines };
 
-    ghost lawful = { λ it. means_lawful_from (fields_of_plan (plan_of_job (joined_job it))) (form_of_plan (plan_of_job (joined_job it)))
+    ghost lawful = { λ it. means_lawful_from (plan_of_job (joined_job it)).fields (plan_of_job (joined_job it)).query
         (first_of_job it) (input_of_job (joined_job it)) (pieces_of_job (joined_job it)) };
 
     fn unit(&self) -> Result<Partial, AllocError> {

@@ -82,7 +82,6 @@ impl Partial {
     ghost use Rattle.query_tree.specs.Syntax.{TreeForm};
     ghost use Rattle.groups.specs.Groups.{Key};
     ghost use Rattle.groups.specs.Rows.{Row};
-    ghost use Rattle.query_plan.specs.Planned.{fields_of_plan, form_of_plan};
     ghost use Rattle.tables.specs.Partials.{HaveOneShape, IsPartialOf, StandsFor, StandsForInput, one_piece, whole_piece};
     ghost use Rattle.tables.specs.Planned.{AreFittingUnder, AreGroupingColumns, GivesGroupsOfSet, GivesGroupsUnder, HasEachRecordOnceUnder, HasMembersOfFiner, IsPartialUnder, IsResultUnder, StandsForUnder};
     ghost use Rattle.tables.specs.Pieces.{AreInOrder, AreNumbered, HaveOwnIndexes, IndexedPiece, IsCutInto, all_lines, records_of, refused_numbered, refused_within};
@@ -406,7 +405,7 @@ impl Partial {
         requires of_plan { IsPartialUnder plan.now self }
         requires few { self.lines + length (lines rest.now) < 2 ^ 63 }
         ensures stands { IfOk result (λ partial. (front : List ℕ)
-            → StandsForInput (fields_of_plan plan.now) (form_of_plan plan.now) self front → AreWholeLines front
+            → StandsForInput plan.now.fields plan.now.query self front → AreWholeLines front
             → StandsForUnder plan.now partial (whole_piece (front ++ rest.now))) }
     {
         let Partial {
@@ -494,17 +493,17 @@ impl Partial {
     pub fn finish(self, plan: &Plan) -> Result<Groups, AllocError>
         requires of_plan { IsPartialUnder plan.now self }
         ensures rows { IfOk result (λ groups. (pieces : List IndexedPiece) → StandsForUnder plan.now self pieces
-            → GivesGroupsUnder plan.now groups (records_of (fields_of_plan plan.now) pieces)) }
+            → GivesGroupsUnder plan.now groups (records_of plan.now.fields pieces)) }
         ensures fit { IfOk result (λ groups. AreFittingUnder plan.now groups.found) }
         // Each record that WHERE keeps is a member of one row of each grouping set.
         ensures members { IfOk result (λ groups. (pieces : List IndexedPiece) → StandsForUnder plan.now self pieces
-            → HasEachRecordOnceUnder plan.now groups.found (records_of (fields_of_plan plan.now) pieces)) }
+            → HasEachRecordOnceUnder plan.now groups.found (records_of plan.now.fields pieces)) }
         // The refused lines, where no two pieces have one index.
         ensures numbered { IfOk result (λ groups. (pieces : List IndexedPiece) → StandsForUnder plan.now self pieces
-            → HaveOwnIndexes pieces → AreNumbered (fields_of_plan plan.now) pieces groups.refused) }
+            → HaveOwnIndexes pieces → AreNumbered plan.now.fields pieces groups.refused) }
         // Where the pieces stand in their order, these are their refused lines one after the other.
         ensures refused { IfOk result (λ groups. (pieces : List IndexedPiece) → StandsForUnder plan.now self pieces
-            → AreInOrder pieces → groups.refused ≡ refused_numbered (fields_of_plan plan.now) pieces) }
+            → AreInOrder pieces → groups.refused ≡ refused_numbered plan.now.fields pieces) }
         // Where the pieces are those of an input that was cut between its lines, it is the result of the input.
         ensures whole { IfOk result (λ groups. (input : List ℕ) (pieces : List IndexedPiece) → StandsForUnder plan.now self pieces
             → IsCutInto input pieces → IsResultUnder plan.now groups input) }
@@ -526,14 +525,14 @@ impl Partial {
         requires ready { J.ready joiner.now }
         requires of_plan { IsPartialUnder plan.now self }
         ensures rows { IfOk result (λ groups. (pieces : List IndexedPiece) → StandsForUnder plan.now self pieces
-            → GivesGroupsUnder plan.now groups (records_of (fields_of_plan plan.now) pieces)) }
+            → GivesGroupsUnder plan.now groups (records_of plan.now.fields pieces)) }
         ensures fit { IfOk result (λ groups. AreFittingUnder plan.now groups.found) }
         ensures members { IfOk result (λ groups. (pieces : List IndexedPiece) → StandsForUnder plan.now self pieces
-            → HasEachRecordOnceUnder plan.now groups.found (records_of (fields_of_plan plan.now) pieces)) }
+            → HasEachRecordOnceUnder plan.now groups.found (records_of plan.now.fields pieces)) }
         ensures numbered { IfOk result (λ groups. (pieces : List IndexedPiece) → StandsForUnder plan.now self pieces
-            → HaveOwnIndexes pieces → AreNumbered (fields_of_plan plan.now) pieces groups.refused) }
+            → HaveOwnIndexes pieces → AreNumbered plan.now.fields pieces groups.refused) }
         ensures refused { IfOk result (λ groups. (pieces : List IndexedPiece) → StandsForUnder plan.now self pieces
-            → AreInOrder pieces → groups.refused ≡ refused_numbered (fields_of_plan plan.now) pieces) }
+            → AreInOrder pieces → groups.refused ≡ refused_numbered plan.now.fields pieces) }
         ensures whole { IfOk result (λ groups. (input : List ℕ) (pieces : List IndexedPiece) → StandsForUnder plan.now self pieces
             → IsCutInto input pieces → IsResultUnder plan.now groups input) }
     {
@@ -569,7 +568,7 @@ impl Partial {
         requires of_plan { IsPartialUnder plan.now self.now }
         requires among { AreGroupingColumns plan.now set.now }
         ensures groups { IfOk result (λ groups. (pieces : List IndexedPiece) → StandsForUnder plan.now self.now pieces
-            → GivesGroupsOfSet plan.now set.now groups.items (records_of (fields_of_plan plan.now) pieces)) }
+            → GivesGroupsOfSet plan.now set.now groups.items (records_of plan.now.fields pieces)) }
         // The members of a key are those of all keys of the grouping columns that have its values, joined.
         ensures members { OnOk result ((rows : List Row) (key : Key) → HasMembersOfFiner plan.now set.now key rows) }
     {

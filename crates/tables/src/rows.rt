@@ -4,7 +4,6 @@ ghost use Rattle.groups.specs.Rows.{Row};
 ghost use Rattle.groups.specs.GroupSummaries.{group_summary_in};
 ghost use Rattle.groups.specs.Bags.{SameBag};
 ghost use Rattle.groups.specs.Found.{row_of, rows_from};
-ghost use Rattle.query_plan.specs.Planned.{fields_of_plan, form_of_plan};
 ghost use Rattle.tables.specs.Folding.{IsOfFewUnder, IsTableUnder};
 ghost use Rattle.tables.specs.Results.{query_found};
 
@@ -25,7 +24,7 @@ pub(crate) fn rows_of<J: Joiner>(
     requires ready { J.ready joiner.now }
     requires few { IsOfFewUnder plan.now finest }
     ensures { IfOk result (λ rows. (records : List Row) → IsTableUnder plan.now finest records
-        → SameBag (map row_of rows.items) (query_found (fields_of_plan plan.now) (form_of_plan plan.now) records)) }
+        → SameBag (map row_of rows.items) (query_found plan.now.fields plan.now.query records)) }
 {
     let groups = groups_of_sets(
         alloc,

@@ -27,16 +27,15 @@ impl Drop for Shape {
 }
 
 impl Shape {
-    ghost use Rattle.query_plan.specs.Planned.{fields_of_plan, form_of_plan};
     ghost use Rattle.query_resolution.specs.Sets.{sets_of};
     ghost use Rattle.query_resolution.specs.Functions.{indexed_functions};
     ghost use Rattle.tables.specs.Functions.{filter_texts};
 
     /// The shape of a plan.
     pub(crate) fn of(alloc: Global, plan: &Plan) -> Result<Shape, AllocError>
-        ensures sets { IfOk result (λ shape. contents shape.sets.items ≡ sets_of (fields_of_plan plan.now) (form_of_plan plan.now)) }
-        ensures functions { IfOk result (λ shape. shape.functions.items ≡ indexed_functions (fields_of_plan plan.now) (form_of_plan plan.now)) }
-        ensures filters { IfOk result (λ shape. map string_bytes shape.filters.items ≡ filter_texts (fields_of_plan plan.now) (form_of_plan plan.now)) }
+        ensures sets { IfOk result (λ shape. contents shape.sets.items ≡ sets_of plan.now.fields plan.now.query) }
+        ensures functions { IfOk result (λ shape. shape.functions.items ≡ indexed_functions plan.now.fields plan.now.query) }
+        ensures filters { IfOk result (λ shape. map string_bytes shape.filters.items ≡ filter_texts plan.now.fields plan.now.query) }
     {
         let sets = copied_sets(alloc, plan.sets())?;
         let functions = copied_functions(alloc, plan.set_functions())?;

@@ -2,7 +2,6 @@
 ghost use Rattle.std.specs.Prelude.{◌≡◌, ◌^◌, ◌<◌, length, true, IfOk};
 ghost use Rattle.lines.specs.Lines.{lines};
 ghost use Rattle.lines.specs.Pieces.{AreWholeLines};
-ghost use Rattle.query_plan.specs.Planned.{fields_of_plan, form_of_plan};
 ghost use Rattle.tables.specs.Partials.{IsPartialOf, StandsForInput};
 
 use super::partials::{
@@ -99,7 +98,7 @@ pub fn has_few_lines(bytes: &[u8]) -> bool
 
 /// The result over an input: over no pieces where it is empty, and else over one.
 pub fn over(alloc: Global, plan: &Plan, input: &[u8]) -> Result<Partial, AllocError>
-    ensures { IfOk result (λ partial. StandsForInput (fields_of_plan plan.now) (form_of_plan plan.now) partial input.now) }
+    ensures { IfOk result (λ partial. StandsForInput plan.now.fields plan.now.query partial input.now) }
 {
     if input.is_empty() {
         return Partial::empty(alloc, plan);
@@ -116,7 +115,7 @@ fn followed(
     rest: &[u8],
 ) -> Result<Partial, AllocError>
     requires { AreWholeLines front.now }
-    ensures { IfOk result (IsPartialOf (fields_of_plan plan.now) (form_of_plan plan.now)) }
+    ensures { IfOk result (IsPartialOf plan.now.fields plan.now.query) }
 {
     let behind = over(alloc, plan, rest)?;
     match over(alloc, plan, front) {
@@ -143,7 +142,7 @@ pub fn followed_by_hands<H: Abort + Threads + Sync>(
 ) -> Result<Partial, AllocError>
     requires front { AreWholeLines front.now }
     requires hands { 0 < count }
-    ensures { IfOk result (IsPartialOf (fields_of_plan plan.now) (form_of_plan plan.now)) }
+    ensures { IfOk result (IsPartialOf plan.now.fields plan.now.query) }
 {
     let behind = over(alloc, plan, rest)?;
     match over(alloc, plan, front) {
@@ -168,7 +167,7 @@ fn folded_behind(
     rest: &[u8],
 ) -> Result<Partial, AllocError>
     requires { AreWholeLines front.now }
-    ensures { IfOk result (IsPartialOf (fields_of_plan plan.now) (form_of_plan plan.now)) }
+    ensures { IfOk result (IsPartialOf plan.now.fields plan.now.query) }
 {
     let whole = over(alloc, plan, front)?;
     assert!(rt; whole.lines() < 1 << 62);
@@ -184,7 +183,7 @@ fn folded_onto_one_piece(
     front: &[u8],
     rest: &[u8],
 ) -> Result<Partial, AllocError>
-    ensures { IfOk result (IsPartialOf (fields_of_plan plan.now) (form_of_plan plan.now)) }
+    ensures { IfOk result (IsPartialOf plan.now.fields plan.now.query) }
 {
     let whole = over(alloc, plan, front)?.in_one_piece()?;
     assert!(rt; whole.lines() < 1 << 62);
@@ -201,7 +200,7 @@ fn assert_found(
     parted: &Parted,
     wanted: &Findings,
 )
-    requires { IsPartialOf (fields_of_plan plan.now) (form_of_plan plan.now) partial }
+    requires { IsPartialOf plan.now.fields plan.now.query partial }
 {
     assert_eq!(rt; partial.lines(), parted.lines);
     assert_eq!(rt; partial.refused(), parted.refused.len() as u64);
@@ -245,7 +244,7 @@ fn followed_like_the_whole(rt: HostRuntime) {
 
 /// Asserts that a result is that of the input with groups in both parts, or memory was refused.
 fn assert_both_or_refused(rt: &impl Abort, plan: &Plan, both: Result<Partial, AllocError>)
-    requires { IfOk both (IsPartialOf (fields_of_plan plan.now) (form_of_plan plan.now)) }
+    requires { IfOk both (IsPartialOf plan.now.fields plan.now.query) }
 {
     if let Ok(both) = both {
         assert!(rt; both.lines() == 5 && both.refused() == 2);

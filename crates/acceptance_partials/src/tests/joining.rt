@@ -1,6 +1,5 @@
 //! Results with many groups that several hands begin, put together and finish are the result over all.
 ghost use Rattle.std.specs.Prelude.{◌<◌, IfOk};
-ghost use Rattle.query_plan.specs.Planned.{fields_of_plan, form_of_plan};
 ghost use Rattle.tables.specs.Partials.{IsPartialOf};
 
 use super::following::{are_whole_lines, followed_by_hands, has_few_lines};
@@ -35,7 +34,7 @@ fn begun_by_hands<H: Abort + Threads + Sync>(
     piece: &[u8],
     count: usize,
 ) -> Result<Partial, AllocError>
-    ensures { IfOk result (IsPartialOf (fields_of_plan plan.now) (form_of_plan plan.now)) }
+    ensures { IfOk result (IsPartialOf plan.now.fields plan.now.query) }
 {
     let begun = Partial::empty_by(alloc, plan, &Hands { rt, count })?;
     assert!(rt; begun.lines() < 1 << 62);
@@ -54,7 +53,7 @@ fn merged_by_hands<H: Abort + Threads + Sync>(
     others: usize,
 ) -> Result<Partial, AllocError>
     requires hands { 0 < count }
-    ensures { IfOk result (IsPartialOf (fields_of_plan plan.now) (form_of_plan plan.now)) }
+    ensures { IfOk result (IsPartialOf plan.now.fields plan.now.query) }
 {
     let behind = begun_by_hands(rt, alloc, plan, 1, second, others)?;
     match begun_by_hands(rt, alloc, plan, 0, first, count) {
@@ -82,7 +81,7 @@ fn assert_finds<H: Abort + Threads + Sync>(
     count: usize,
     wanted: &Groups,
 )
-    requires partial { IsPartialOf (fields_of_plan plan.now) (form_of_plan plan.now) partial }
+    requires partial { IsPartialOf plan.now.fields plan.now.query partial }
     requires hands { 0 < count }
 {
     let groups = partial

@@ -1,7 +1,6 @@
 //! Partial results over pieces of an input, merged in several orders.
 ghost use Rattle.std.specs.Prelude.{◌≤◌, ◌<◌, ◌^◌, length, IfOk};
 ghost use Rattle.std.proofs.Props.{props};
-ghost use Rattle.query_plan.specs.Planned.{fields_of_plan, form_of_plan};
 ghost use Rattle.tables.specs.Partials.{IsPartialOf};
 
 use super::reference::{Findings, Row, cell_of, findings_of};
@@ -75,9 +74,9 @@ pub fn planned(rt: &impl Abort, alloc: Global, text: &str) -> Plan {
 
 /// The result over the pieces of both, which are of the query of a plan.
 fn merge(rt: &impl Abort, plan: &Plan, left: Partial, right: Partial) -> Result<Partial, AllocError>
-    requires left { IsPartialOf (fields_of_plan plan.now) (form_of_plan plan.now) left }
-    requires right { IsPartialOf (fields_of_plan plan.now) (form_of_plan plan.now) right }
-    ensures { IfOk result (λ merged. IsPartialOf (fields_of_plan plan.now) (form_of_plan plan.now) merged) }
+    requires left { IsPartialOf plan.now.fields plan.now.query left }
+    requires right { IsPartialOf plan.now.fields plan.now.query right }
+    ensures { IfOk result (λ merged. IsPartialOf plan.now.fields plan.now.query merged) }
 {
     assert!(rt; left.same_shape(&right));
     assert!(rt; left.lines() + right.lines() < 1 << 63);
@@ -92,10 +91,10 @@ pub fn merge_by_hands<H: Abort + Threads + Sync>(
     right: Partial,
     count: usize,
 ) -> Result<Partial, AllocError>
-    requires left { IsPartialOf (fields_of_plan plan.now) (form_of_plan plan.now) left }
-    requires right { IsPartialOf (fields_of_plan plan.now) (form_of_plan plan.now) right }
+    requires left { IsPartialOf plan.now.fields plan.now.query left }
+    requires right { IsPartialOf plan.now.fields plan.now.query right }
     requires hands { 0 < count }
-    ensures { IfOk result (λ merged. IsPartialOf (fields_of_plan plan.now) (form_of_plan plan.now) merged) }
+    ensures { IfOk result (λ merged. IsPartialOf plan.now.fields plan.now.query merged) }
 {
     assert!(rt; left.same_shape(&right));
     assert!(rt; left.lines() + right.lines() < 1 << 63);
@@ -111,7 +110,7 @@ fn folded(
     index: usize,
     piece: &Piece,
 ) -> Partial
-    ensures { IsPartialOf (fields_of_plan plan.now) (form_of_plan plan.now) result }
+    ensures { IsPartialOf plan.now.fields plan.now.query result }
 {
     let bytes = input
         .get(piece.start..piece.stop)
@@ -156,7 +155,7 @@ fn merged(
     first: usize,
     parting: Parting,
 ) -> Partial
-    ensures { IsPartialOf (fields_of_plan plan.now) (form_of_plan plan.now) result }
+    ensures { IsPartialOf plan.now.fields plan.now.query result }
 {
     if pieces.len() < 2 {
         let none = Partial::empty(alloc, plan).expect(rt, "memory");
@@ -574,7 +573,7 @@ pub fn assert_two_found(rt: &impl Abort, groups: &Groups, refused: &[(u64, LineF
 
 /// What is found of the four lines by a result over them, or want of memory.
 fn assert_four_or_refused(rt: &impl Abort, plan: &Plan, partial: Result<Partial, AllocError>)
-    requires { IfOk partial (IsPartialOf (fields_of_plan plan.now) (form_of_plan plan.now)) }
+    requires { IfOk partial (IsPartialOf plan.now.fields plan.now.query) }
 {
     let Ok(partial) = partial else {
         return;
@@ -598,14 +597,14 @@ fn refusal_of_fold_piece(rt: HostRuntime) {
 
 /// The result over the first of the four lines.
 fn first_folded(alloc: Global, plan: &Plan) -> Result<Partial, AllocError>
-    ensures { IfOk result (IsPartialOf (fields_of_plan plan.now) (form_of_plan plan.now)) }
+    ensures { IfOk result (IsPartialOf plan.now.fields plan.now.query) }
 {
     Partial::fold_piece(alloc, plan, 0, &FOUR[..FIRST_LEN])
 }
 
 /// Two pieces of the four lines merged.
 fn two_merged(rt: &impl Abort, alloc: Global, plan: &Plan) -> Result<Partial, AllocError>
-    ensures { IfOk result (IsPartialOf (fields_of_plan plan.now) (form_of_plan plan.now)) }
+    ensures { IfOk result (IsPartialOf plan.now.fields plan.now.query) }
 {
     let second = Partial::fold_piece(alloc, plan, 1, &FOUR[FIRST_LEN..])?;
     match first_folded(alloc, plan) {
@@ -633,7 +632,7 @@ fn first_by_hands<H: Abort + Threads + Sync>(
     alloc: Global,
     plan: &Plan,
 ) -> Result<Partial, AllocError>
-    ensures { IfOk result (IsPartialOf (fields_of_plan plan.now) (form_of_plan plan.now)) }
+    ensures { IfOk result (IsPartialOf plan.now.fields plan.now.query) }
 {
     let begun = Partial::empty_by(alloc, plan, &Hands { rt, count: 3 })?;
     assert!(rt; begun.lines() < 1 << 62);
@@ -646,7 +645,7 @@ fn two_merged_by_hands<H: Abort + Threads + Sync>(
     alloc: Global,
     plan: &Plan,
 ) -> Result<Partial, AllocError>
-    ensures { IfOk result (IsPartialOf (fields_of_plan plan.now) (form_of_plan plan.now)) }
+    ensures { IfOk result (IsPartialOf plan.now.fields plan.now.query) }
 {
     let second = Partial::fold_piece(alloc, plan, 1, &FOUR[FIRST_LEN..])?;
     match first_by_hands(rt, alloc, plan) {
@@ -665,7 +664,7 @@ fn assert_four_by_hands<H: Abort + Threads + Sync>(
     plan: &Plan,
     partial: Result<Partial, AllocError>,
 )
-    requires { IfOk partial (IsPartialOf (fields_of_plan plan.now) (form_of_plan plan.now)) }
+    requires { IfOk partial (IsPartialOf plan.now.fields plan.now.query) }
 {
     let Ok(partial) = partial else {
         return;
@@ -690,7 +689,7 @@ fn refusal_of_merge_by(rt: HostRuntime) {
 
 /// A piece of the four lines folded onto the result over the one before.
 fn folded_on(rt: &impl Abort, alloc: Global, plan: &Plan) -> Result<Partial, AllocError>
-    ensures { IfOk result (IsPartialOf (fields_of_plan plan.now) (form_of_plan plan.now)) }
+    ensures { IfOk result (IsPartialOf plan.now.fields plan.now.query) }
 {
     let first = first_folded(alloc, plan)?;
     assert!(rt; first.lines() < 1 << 62);

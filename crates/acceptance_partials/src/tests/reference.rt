@@ -1,7 +1,6 @@
 //! What a query finds in an input, by the definitions' plain program: slow, over lists, without tables.
 ghost use Rattle.std.specs.Prelude.{◌<◌, length};
 ghost use Rattle.query_resolution.specs.Functions.{functions_of};
-ghost use Rattle.query_plan.specs.Planned.{fields_of_plan, form_of_plan};
 
 use lines::{LineFault, LineRefusal, lines_of, read_record};
 use query::{ColumnFunction, Plan, filter_holds};
@@ -200,7 +199,7 @@ fn kept_by_filter<'a>(
     place: usize,
     members: &[&'a Record],
 ) -> Vec<&'a Record>
-    requires { place < length (functions_of (fields_of_plan plan.now) (form_of_plan plan.now)) }
+    requires { place < length (functions_of plan.now.fields plan.now.query) }
 {
     let mut kept = Vec::new(alloc);
     for record in members {

@@ -1,6 +1,5 @@
 //! Partial results rolled to sets of grouping columns, listed or not.
 ghost use Rattle.std.specs.Prelude.{◌≡◌, true, IfOk};
-ghost use Rattle.query_plan.specs.Planned.{fields_of_plan, form_of_plan};
 ghost use Rattle.groups.specs.Rolled.{AreAmong};
 ghost use Rattle.tables.specs.Partials.{IsPartialOf};
 ghost use Rattle.tables.specs.Planned.{AreGroupingColumns};
@@ -65,7 +64,7 @@ fn assert_rolled(
     set: &[usize],
     wanted: &[Row],
 )
-    requires { IsPartialOf (fields_of_plan plan.now) (form_of_plan plan.now) partial.now }
+    requires { IsPartialOf plan.now.fields plan.now.query partial.now }
 {
     assert!(rt; are_grouping_columns(plan, set));
     let groups = sorted(partial.roll(plan, set).expect(rt, "memory"));

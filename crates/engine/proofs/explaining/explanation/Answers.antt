@@ -5,17 +5,16 @@ use Rattle.std.specs.Prelude.{codes, decimal}
 use Rattle.std.specs.List.{enumerate_from, flat_map}
 use Rattle.query_resolution.specs.Sets.{sets_of}
 use Rattle.query_print.specs.Canonical.{canonical_text}
-use Rattle.query_plan.specs.Planned.{fields_of_plan, form_of_plan}
 use Rattle.engine.specs.Explanation.{set_line}
 use Rattle.engine.proofs.Explained.{lines-next, lines_from}
 use Rattle.engine.proofs.explaining.explanation.Goals as goal
 
 pub loop-index-preserved : goal.loop-index-preserved
 loop-index-preserved c =
-    let fields = fields_of_plan c.args.plan.now in
-    let sets = sets_of fields (form_of_plan c.args.plan.now) in
+    let fields = c.args.plan.now.fields in
+    let sets = sets_of fields c.args.plan.now.query in
     let i = c.loop-index.index-counter in
-    let front = canonical_text (form_of_plan c.args.plan.now) ++ codes "\n" in
+    let front = canonical_text c.args.plan.now.query ++ codes "\n" in
     let last = decimal i ++ (codes ": " ++ (string_bytes c.in_ok-set.set ++ codes "\n")) in
     c.in_ok-writeln.ensures.bytes ∙ ap (λ text. text ++ last) c.loop-index.invariant ∙ append_assoc front (lines_from fields 0 i sets) last
     ∙ ap (λ lines. front ++ lines) (sym (lines-next fields sets i (string_bytes c.in_ok-set.set) c.in_ok-set.ensures.text))
@@ -26,9 +25,9 @@ set_text-requires c =
 
 pub returns : goal.returns
 returns c =
-    let fields = fields_of_plan c.args.plan.now in
-    let sets = sets_of fields (form_of_plan c.args.plan.now) in
+    let fields = c.args.plan.now.fields in
+    let sets = sets_of fields c.args.plan.now.query in
     let past : length sets ≤ c.loop-index.index-counter =
     let n = length-map c.sets-count.result.now (λ (s : Vec ℕ). s.items) in let e = ap length c.sets-count.ensures.sets in omega (arith, c.loop-index-test.false, n, e) in
     c.loop-index.invariant
-    ∙ ap (λ (all : List (List ℕ)). canonical_text (form_of_plan c.args.plan.now) ++ codes "\n" ++ flat_map (set_line fields) (enumerate_from 0 all)) (take_all c.loop-index.index-counter sets past)
+    ∙ ap (λ (all : List (List ℕ)). canonical_text c.args.plan.now.query ++ codes "\n" ++ flat_map (set_line fields) (enumerate_from 0 all)) (take_all c.loop-index.index-counter sets past)

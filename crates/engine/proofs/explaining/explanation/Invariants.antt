@@ -2,11 +2,10 @@ use Rattle.std.proofs.Common.{◌≡◌, ◌++◌, string_bytes}
 use Rattle.std.specs.Prelude.{codes}
 use Rattle.query_resolution.specs.Sets.{sets_of}
 use Rattle.query_print.specs.Canonical.{canonical_text}
-use Rattle.query_plan.specs.Planned.{fields_of_plan, form_of_plan}
 use Rattle.engine.proofs.Explained.{lines_from}
 use Rattle.engine.proofs.explaining.explanation.Given as goal
 
 abbrev pub invariant-loop-index : goal.invariant-loop-index
 invariant-loop-index l =
-    string_bytes l.text ≡ canonical_text (form_of_plan l.plan) ++ codes "\n"
-    ++ lines_from (fields_of_plan l.plan) 0 l.index-counter (sets_of (fields_of_plan l.plan) (form_of_plan l.plan))
+    string_bytes l.text ≡ canonical_text l.plan.query ++ codes "\n"
+    ++ lines_from l.plan.fields 0 l.index-counter (sets_of l.plan.fields l.plan.query)

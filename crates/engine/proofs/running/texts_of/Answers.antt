@@ -1,6 +1,5 @@
 use Rattle.std.proofs.Common.{◌∙◌, ap, map, subst, sym}
 use Rattle.std.specs.List.{All}
-use Rattle.query_plan.specs.Planned.{fields_of_plan, form_of_plan}
 use Rattle.lines.specs.Input.{good}
 use Rattle.tables.specs.Results.{query_found}
 use Rattle.report.specs.Report.{NamesColumn, refusals_of}
@@ -15,12 +14,12 @@ refused_text-requires g c =
     let whole = c.requires.of_input.1 in
     let is = c.in_ok-groups.ensures.whole c.requires.of_input.0 whole.pieces whole.stands whole.cut in
     subst (λ fields. All (λ line. NamesColumn fields line.1) c.in_ok-groups.groups.refused) (sym c.schema.ensures.schema)
-    (subst (λ refused. All (λ line. NamesColumn (fields_of_plan plan) line.1) refused) (sym is.refused) (refused-named (fields_of_plan plan) c.requires.of_input.0))
+    (subst (λ refused. All (λ line. NamesColumn plan.fields line.1) refused) (sym is.refused) (refused-named plan.fields c.requires.of_input.0))
 
 pub returns-clause-report : goal.returns-clause-report
 returns-clause-report g c = λ input whole.
-    let fields = fields_of_plan c.args.plan.now in
-    let q = form_of_plan c.args.plan.now in
+    let fields = c.args.plan.now.fields in
+    let q = c.args.plan.now.query in
     let groups = c.in_ok-groups.groups in
     let is = c.in_ok-groups.ensures.whole input whole.pieces whole.stands whole.cut in
     let fit = c.in_ok-groups.ensures.fit in
@@ -30,7 +29,7 @@ returns-clause-report g c = λ input whole.
 
 pub returns-clause-refused : goal.returns-clause-refused
 returns-clause-refused g c = λ input whole.
-    let fields = fields_of_plan c.args.plan.now in
+    let fields = c.args.plan.now.fields in
     let is = c.in_ok-groups.ensures.whole input whole.pieces whole.stands whole.cut in
     c.in_ok-refused.ensures
     ∙ ap (λ columns. refusals_of columns c.in_ok-groups.groups.refused) c.schema.ensures.schema

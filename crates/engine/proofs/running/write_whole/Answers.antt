@@ -1,5 +1,4 @@
 use Rattle.std.proofs.Common.{◌∙◌}
-use Rattle.query_plan.specs.Planned.{fields_of_plan, form_of_plan}
 use Rattle.engine.proofs.Outcomes.{appends-text, leaves-written}
 use Rattle.engine.proofs.running.write_whole.Goals as goal
 
@@ -13,7 +12,7 @@ returns-clause-refusals g c = λ input stands.
 
 pub returns-in-Err-clause-fault : goal.returns-in-Err-clause-fault
 returns-in-Err-clause-fault g c = λ input stands.
-    leaves-written (fields_of_plan c.args.plan.now) (form_of_plan c.args.plan.now) input
+    leaves-written c.args.plan.now.fields c.args.plan.now.query input
     c.as_slice.result.now c.as_slice-2.result.now
     (g.O.Write.contents c.args.out.now) (g.O.Write.contents c.put_both.new.out) (g.E.Write.contents c.args.err.now) (g.E.Write.contents c.put_both.new.err)
     c.in-Err.fault

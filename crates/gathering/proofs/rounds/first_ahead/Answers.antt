@@ -1,5 +1,4 @@
 use Rattle.std.proofs.Common.{◌∙◌, Ok, ap, subst, arith}
-use Rattle.query_plan.specs.Planned.{fields_of_plan, form_of_plan}
 use Rattle.lines.specs.Rounds.{HasMoved, RoundState, RoundsState}
 use Rattle.gathering.specs.Gathered.{limit_number}
 use Rattle.gathering.proofs.Gathered.{no-more, no-round}
@@ -8,8 +7,8 @@ use Rattle.gathering.proofs.rounds.first_ahead.Goals as goal
 
 pub returns-clause-ahead : goal.returns-clause-ahead
 returns-clause-ahead g c =
-    let fields = fields_of_plan c.args.plan.now in
-    let q = form_of_plan c.args.plan.now in
+    let fields = c.args.plan.now.fields in
+    let q = c.args.plan.now.query in
     let known = g.R.Read.remaining c.args.reader in
     let limit = limit_number c.args.options.max_refused in
     let first = c.in_ok-rounds.rounds in

@@ -1,5 +1,4 @@
 use Rattle.std.proofs.Common.{◌∙◌, ◌+◌, ◌<◌, ◌^◌, ◌++◌, length, List, ℕ, Ok, ap, subst, sym, refl, arith, inr, rules}
-use Rattle.query_plan.specs.Planned.{fields_of_plan, form_of_plan}
 use Rattle.lines.specs.Lines.{lines}
 use Rattle.lines.specs.Rounds.{RoundsState}
 use Rattle.tables.specs.Partials.{StandsFor, whole_piece}
@@ -11,7 +10,7 @@ use Rattle.gathering.proofs.rounds.gather_alone.Goals as goal
 pub loop-whole-init : goal.loop-whole-init
 loop-whole-init g c =
     let known = g.R.Read.remaining c.args.reader in
-    let rounds = no-round (fields_of_plan c.args.plan.now) (form_of_plan c.args.plan.now) known (limit_number c.args.options.max_refused) c.in_ok-rounds.rounds c.in_ok-whole.whole
+    let rounds = no-round c.args.plan.now.fields c.args.plan.now.query known (limit_number c.args.options.max_refused) c.in_ok-rounds.rounds c.in_ok-whole.whole
     (ap (λ (r : RoundsState _). r.left) c.in_ok-rounds.ensures) (ap (λ (r : RoundsState _). r.given) c.in_ok-rounds.ensures) c.in_ok-whole.ensures.stands in
     rounds
 
@@ -20,14 +19,14 @@ fold_behind-requires-clause-of_plan g c = let s = c.loop-whole.invariant.stands 
 
 pub fold_behind-requires-clause-few : goal.fold_behind-requires-clause-few
 fold_behind-requires-clause-few g c =
-    let few = few-behind (fields_of_plan c.args.plan.now) (form_of_plan c.args.plan.now) (g.R.Read.remaining c.args.reader) (limit_number c.args.options.max_refused)
+    let few = few-behind c.args.plan.now.fields c.args.plan.now.query (g.R.Read.remaining c.args.reader) (limit_number c.args.options.max_refused)
     c.loop-whole.rounds c.advance.new.self _ c.loop-whole.whole c.loop-whole.invariant c.in_ok-advance.ensures (ap Ok c.if-branch.true) in
     subst (λ (bytes : List ℕ). c.loop-whole.whole.lines + length (lines bytes) < 2 ^ 63) (sym c.round-in-loop-whole.ensures) few
 
 pub loop-whole-preserved : goal.loop-whole-preserved
 loop-whole-preserved g c =
-    let fields = fields_of_plan c.args.plan.now in
-    let q = form_of_plan c.args.plan.now in
+    let fields = c.args.plan.now.fields in
+    let q = c.args.plan.now.query in
     let sum = c.in_ok-whole-2.whole in
     let behind = behind-as_one fields q c.loop-whole.whole sum c.advance.new.self.round (λ front given whole.
     subst (λ (bytes : List ℕ). StandsFor fields q sum (whole_piece (front ++ bytes))) c.round-in-loop-whole.ensures (c.in_ok-whole-2.ensures.stands front given whole)) in
@@ -39,8 +38,8 @@ loop-whole-preserved g c =
 
 pub returns-in_err-within_limit-clause-fault : goal.returns-in_err-within_limit-clause-fault
 returns-in_err-within_limit-clause-fault g c =
-    let fields = fields_of_plan c.args.plan.now in
-    let q = form_of_plan c.args.plan.now in
+    let fields = c.args.plan.now.fields in
+    let q = c.args.plan.now.query in
     let known = g.R.Read.remaining c.args.reader in
     let most = c.args.options.max_refused in
     let sum = c.in_ok-whole-2.whole in

@@ -1,5 +1,4 @@
 use Rattle.std.proofs.Common.{◌-◌}
-use Rattle.query_plan.specs.Planned.{fields_of_plan, form_of_plan}
 use Rattle.gathering.specs.Pieces.{StandsForRounds}
 use Rattle.gathering.specs.Gathered.{limit_number}
 use Rattle.gathering.proofs.rounds.gather_alone.Given as goal
@@ -7,7 +6,7 @@ use Rattle.gathering.proofs.rounds.gather_alone.Given as goal
 -- the result stands for all rounds so far
 abbrev pub invariant-loop-whole : goal.invariant-loop-whole
 invariant-loop-whole g l =
-    StandsForRounds (fields_of_plan l.plan) (form_of_plan l.plan) (g.R.Read.remaining l.fn.reader) (limit_number l.options.max_refused) l.rounds l.whole
+    StandsForRounds l.plan.fields l.plan.query (g.R.Read.remaining l.fn.reader) (limit_number l.options.max_refused) l.rounds l.whole
 
 -- each round has a byte
 abbrev pub decreases-loop-whole : goal.decreases-loop-whole

@@ -1,10 +1,9 @@
-use Rattle.query_plan.specs.Planned.{fields_of_plan, form_of_plan}
 use Rattle.gathering.specs.Pieces.{IsAhead, most_turns}
 use Rattle.gathering.specs.Gathered.{limit_number}
 use Rattle.gathering.proofs.rounds.reading_ahead.Given as goal
 
 abbrev pub invariant-loop-ahead : goal.invariant-loop-ahead
-invariant-loop-ahead g l = IsAhead (fields_of_plan l.plan) (form_of_plan l.plan) (g.R.Read.remaining l.fn.reader) (limit_number l.options.max_refused) l.options.round l.options.workers (λ share. share.sum)
+invariant-loop-ahead g l = IsAhead l.plan.fields l.plan.query (g.R.Read.remaining l.fn.reader) (limit_number l.options.max_refused) l.options.round l.options.workers (λ share. share.sum)
     l.ahead.whole l.ahead.rounds l.ahead.found l.ahead.spare l.ahead.shares
 
 abbrev pub decreases-loop-ahead : goal.decreases-loop-ahead

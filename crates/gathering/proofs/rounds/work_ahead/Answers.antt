@@ -1,6 +1,5 @@
 use Rattle.std.proofs.Common.{◌≡◌, ◌∙◌, ◌+◌, ◌<◌, ◌≤◌, ◌⊎◌, ◌^◌, true, All, IfErr, IfOk, List, ℕ, length, Ok, ap, refl, subst, sym, vec_len}
 use Rattle.std.proofs.lemmas.Result.{err_from_is_err_and}
-use Rattle.query_plan.specs.Planned.{fields_of_plan, form_of_plan}
 use Rattle.lines.specs.Input.{refused}
 use Rattle.lines.specs.Rounds.{HasMoved, RoundsState}
 use Rattle.gathering.specs.Gathered.{limit_number}
@@ -13,13 +12,13 @@ pub round_beside-read-requires-clause-front : goal.round_beside-read-requires-cl
 round_beside-read-requires-clause-front g c κs within =
     let ahead = c.args.ahead in
     let m = c.requires.ahead.1.more c.requires.found in
-    front-before (fields_of_plan c.args.plan.now) (form_of_plan c.args.plan.now) c.requires.ahead.0 (limit_number c.args.options.max_refused) m.0 ahead.rounds (Ok true) ahead.whole m.1 m.2 refl
+    front-before c.args.plan.now.fields c.args.plan.now.query c.requires.ahead.0 (limit_number c.args.options.max_refused) m.0 ahead.rounds (Ok true) ahead.whole m.1 m.2 refl
 
 pub round_beside-read-requires-clause-short : goal.round_beside-read-requires-clause-short
 round_beside-read-requires-clause-short g c κs within =
     let ahead = c.args.ahead in
     let m = c.requires.ahead.1.more c.requires.found in
-    let short = short-round (fields_of_plan c.args.plan.now) (form_of_plan c.args.plan.now) c.requires.ahead.0 (limit_number c.args.options.max_refused)
+    let short = short-round c.args.plan.now.fields c.args.plan.now.query c.requires.ahead.0 (limit_number c.args.options.max_refused)
     m.0 ahead.rounds (Ok true) ahead.whole m.1 m.2 refl in
     subst (λ (bytes : List ℕ). ahead.whole.lines + length bytes < 2 ^ 63) (sym c.hand_out-round.ensures.round) short
 
@@ -27,12 +26,12 @@ pub returns-in_err-whole-clause-fault : goal.returns-in_err-whole-clause-fault
 returns-in_err-whole-clause-fault g c = λ known is.
     let ahead = c.args.ahead in
     let m = is.more c.requires.found in
-    let fields = fields_of_plan c.args.plan.now in
+    let fields = c.args.plan.now.fields in
     let most = c.args.options.max_refused in
     let bytes = c.hand_out-round.result.bytes in
     let told = subst (λ w. IfErr w (λ fault. IsWant fault ⊎ Refuses fault most (ahead.whole.refused + length (refused fields bytes)))) c.in_err-whole.was c.round_beside-read.ensures.fault in
     let stops : Stops c.in_err-whole.field-0.0 most fields known =
-    round-stops fields (form_of_plan c.args.plan.now) known (limit_number most) most
+    round-stops fields c.args.plan.now.query known (limit_number most) most
     m.0 ahead.rounds (Ok true) ahead.whole ahead.whole.refused bytes c.in_err-whole.field-0.0
     m.1 m.2 refl refl c.hand_out-round.ensures.round told in
     let p = err_from_is_err_and c.from_residual.result c.from_residual.ensures.1 in
@@ -42,8 +41,8 @@ pub returns-clause-ahead : goal.returns-clause-ahead
 returns-clause-ahead g c = λ known is.
     let ahead = c.args.ahead in
     let m = is.more c.requires.found in
-    let fields = fields_of_plan c.args.plan.now in
-    let q = form_of_plan c.args.plan.now in
+    let fields = c.args.plan.now.fields in
+    let q = c.args.plan.now.query in
     let most = limit_number c.args.options.max_refused in
     let rest = c.hand_out-round.new.self in
     let kept = c.round_beside-read.result.kept in

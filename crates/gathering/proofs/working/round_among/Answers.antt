@@ -5,8 +5,7 @@ use Rattle.lines.specs.Input.{refused}
 use Rattle.pool.specs.Fanned.{Settles}
 use Rattle.pool.specs.Totals.{sum_below}
 use Rattle.pool.proofs.Shares.{grown_within}
-use Rattle.query_plan.specs.declared.plan.Plan.{Plan}
-use Rattle.query_plan.specs.Planned.{fields_of_plan, form_of_plan}
+use Rattle.query_plan.specs.Planned.{PlannedQuery}
 use Rattle.tables.specs.Means.{IsMean, mean_from, meaning}
 use Rattle.tables.specs.Partials.{one_piece}
 use Rattle.tables.proofs.Means.{mean-from_stands}
@@ -26,9 +25,9 @@ fan_deal_onto-requires-clause-part g c κs within =
     let of = subst (IsJobOf plan c.args.round.now pieces.items) (sym c.new-job.ensures.job)
     record { plan_is = c.new.ensures.plan; input_is = c.new.ensures.input; pieces_are = c.new.ensures.pieces ∙ c.as_slice.ensures.value } in
     let x = c.requires.front in
-    let stands = c.in_ok-front.ensures.stands (fields_of_plan plan) (form_of_plan plan) x.0 x.1 in
-    subst (λ (p : Plan). IsMean (fields_of_plan p) (form_of_plan p) (meaning front)) (sym of.plan_is)
-    (one_piece x.0, mean-from_stands (fields_of_plan plan) (form_of_plan plan) front (one_piece x.0) stands)
+    let stands = c.in_ok-front.ensures.stands plan.fields plan.query x.0 x.1 in
+    subst (λ (p : PlannedQuery). IsMean p.fields p.query (meaning front)) (sym of.plan_is)
+    (one_piece x.0, mean-from_stands plan.fields plan.query front (one_piece x.0) stands)
 
 pub fan_deal_onto-requires-clause-loads : goal.fan_deal_onto-requires-clause-loads
 fan_deal_onto-requires-clause-loads g c κs within =
@@ -74,12 +73,12 @@ decided-requires g c =
     let weights = weights-counted plan job.plan.now round job.input.now pieces.items job.pieces.now n
     of.plan_is of.input_is of.pieces_are count c.job_law.ensures.refused c.in_ok-pieces.ensures.lines in
     let same = c.in_ok-front.ensures.refused in
-    let all = c.args.before.refused + length (refused (fields_of_plan plan) round) in
+    let all = c.args.before.refused + length (refused plan.fields round) in
     let fewer = c.in_ok-front.ensures.fewer in
     let refused_is = c.in_ok-front.ensures.refused in
     let lines_are = c.in_ok-front.ensures.lines in
     let short = c.requires.short in
-    let few = few-refused (fields_of_plan plan) round in
+    let few = few-refused plan.fields round in
     let limit = c.limit_of-limit.ensures in
     let under = under-of front job.plan.now first job.input.now job.pieces.now n _ all c.in_ok-outcome.outcome (omega (arith, weights, same)) c.in_ok-outcome.ensures.decided in
     (all, omega (arith, fewer, refused_is, lines_are, short, few), under-same all _ _ c.in_ok-outcome.outcome (omega (arith, limit)) under)
@@ -99,7 +98,7 @@ returns-in_err-whole-clause-fault g c =
     let weights = weights-counted plan job.plan.now round job.input.now pieces.items job.pieces.now n
     of.plan_is of.input_is of.pieces_are count c.job_law.ensures.refused c.in_ok-pieces.ensures.lines in
     let same = c.in_ok-front.ensures.refused in
-    let all = c.args.before.refused + length (refused (fields_of_plan plan) round) in
+    let all = c.args.before.refused + length (refused plan.fields round) in
     let limit = c.limit_of-limit.ensures in
     let under = under-of front job.plan.now first job.input.now job.pieces.now n _ all c.in_ok-outcome.outcome (omega (arith, weights, same)) c.in_ok-outcome.ensures.decided in
     let p = err_from_is_err_and c.from_residual-in_err-whole.result c.from_residual-in_err-whole.ensures.1 in
@@ -139,7 +138,7 @@ returns-clause-reported g c =
     c.in_ok-whole.ensures.whole pooled.decided in
     let count = r.0 in
     let same = c.in_ok-front.ensures.refused in
-    let weights : ℕ → ℕ = λ i. (mean_from (fields_of_plan job.plan.now) (form_of_plan job.plan.now) first job.input.now job.pieces.now i).refused in
+    let weights : ℕ → ℕ = λ i. (mean_from job.plan.now.fields job.plan.now.query first job.input.now job.pieces.now i).refused in
     let dealt = ap (sum_below weights) pooled.deal.1 in
     grown-by (λ share. share.sum) c.in_ok-outcome.shares.items _ _ (omega (arith, count, same, dealt))
     (grown_within weights (λ share. share.sum) c.args.shares.items c.in_ok-outcome.hands.items c.in_ok-outcome.shares.items pooled.deal.0 pooled.reported c.args.before.refused c.requires.reported)

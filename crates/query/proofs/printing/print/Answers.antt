@@ -3,13 +3,12 @@ use Rattle.std.proofs.lemmas.Result.{IfOk-weaker}
 use Rattle.query_print.specs.Canonical.{canonical_text}
 use Rattle.query_tree.specs.Syntax.{tree_form}
 use Rattle.query_derivation.specs.Derivation.{Derives}
-use Rattle.query_plan.specs.Form.{form_of}
 use Rattle.query.proofs.Again.{derives-again}
 use Rattle.query.proofs.printing.print.Goals as goal
 
 pub returns-clause-again : goal.returns-clause-again
 returns-clause-again c =
-    let q = form_of c.args.query.now in
+    let q = c.args.query.now in
     IfOk-weaker c.print_tree.result
     (λ text. string_bytes text ≡ canonical_text (tree_form c.tree.result.now))
     (λ text. length (string_bytes text) ≤ 65536 → Derives (string_bytes text) q)

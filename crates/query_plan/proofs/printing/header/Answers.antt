@@ -4,7 +4,6 @@ use Rattle.std.proofs.lemmas.Result.{IfOk-weaker}
 use Rattle.query_tree.specs.Syntax.{ItemForm, TreeForm, item_form}
 use Rattle.query_tree.specs.declared.tree.Item.{Item}
 use Rattle.query_print.specs.Canonical.{header_text}
-use Rattle.query_plan.specs.Planned.{form_of_plan}
 use Rattle.query_plan.proofs.Filtering.{mapped_at}
 use Rattle.query_plan.proofs.printing.header.Goals as goal
 
@@ -14,13 +13,13 @@ within items forms i same below = let n = length-map items item_form in let e = 
 
 pub bounds-items-item : goal.bounds-items-item
 bounds-items-item c =
-    within c.as_slice-items.result.now (form_of_plan c.args.plan.now).items c.args.item
+    within c.as_slice-items.result.now c.args.plan.now.query.items c.args.item
     (ap (map item_form) c.as_slice-items.ensures.value ∙ ap (λ (t : TreeForm). t.items) (c.tree.ensures.form ∙ c.query.ensures.query)) c.requires
 
 pub returns : goal.returns
 returns c =
     let items = c.as_slice-items.result.now in
-    let forms = (form_of_plan c.args.plan.now).items in
+    let forms = c.args.plan.now.query.items in
     let same : map item_form items ≡ forms = ap (map item_form) c.as_slice-items.ensures.value ∙ ap (λ (t : TreeForm). t.items) (c.tree.ensures.form ∙ c.query.ensures.query) in
     let below = within items forms c.args.item same c.requires in
     let here : slice_get forms c.args.item ≡ Some (item_form c.index-items-item.result) =

@@ -6,7 +6,6 @@ use Rattle.std.specs.Global.{Vec}
 use Rattle.query_resolution.specs.Resolution.{contents}
 use Rattle.query_resolution.specs.Sets.{sets_of}
 use Rattle.query_print.specs.Canonical.{set_text}
-use Rattle.query_plan.specs.Planned.{fields_of_plan, form_of_plan}
 use Rattle.query_plan.proofs.printing.set_text.Goals as goal
 
 -- the set at a place of the list, apart from where it lies in memory
@@ -17,8 +16,8 @@ contents_at sets i set within is =
 
 pub returns : goal.returns
 returns c =
-    let fields = fields_of_plan c.args.plan.now in
-    let all = sets_of fields (form_of_plan c.args.plan.now) in
+    let fields = c.args.plan.now.fields in
+    let all = sets_of fields c.args.plan.now.query in
     let same : contents c.sets.result.now ≡ all = c.sets.ensures.sets in
     let within : c.args.set < length c.sets.result.now =
     let n = length-map c.sets.result.now (λ (s : Vec ℕ). s.items) in let e = ap length same in omega (arith, c.requires, n, e) in

@@ -1,8 +1,7 @@
 use Rattle.std.proofs.Common.{◌∙◌, Bor, ℕ, List, Some, ap, map, subst, sym}
 use Rattle.std.specs.List.{flat_map}
 use Rattle.csv.specs.Writing.{text_written}
-use Rattle.query_plan.specs.declared.plan.Plan.{Plan}
-use Rattle.query_plan.specs.Planned.{fields_of_plan, form_of_plan}
+use Rattle.query_plan.specs.Planned.{PlannedQuery}
 use Rattle.groups.specs.Functions.{Summary}
 use Rattle.groups.specs.declared.group.Group.{Group}
 use Rattle.groups.specs.Fitting.{AreFitting}
@@ -18,8 +17,8 @@ use Rattle.report.proofs.among.report_among.Goals as goal
 
 pub shown_among-requires-clause-fit : goal.shown_among-requires-clause-fit
 shown_among-requires-clause-fit g c κs within =
-    subst (λ (plan : Plan). AreFitting (fields_of_plan plan) (form_of_plan plan) (map row_of c.rows.result.now)) (sym c.in_ok-view.ensures)
-    (subst (λ (found : List Found). AreFitting (fields_of_plan c.args.plan.now) (form_of_plan c.args.plan.now) found) (sym c.rows.ensures.rows) c.requires.fit)
+    subst (λ (plan : PlannedQuery). AreFitting plan.fields plan.query (map row_of c.rows.result.now)) (sym c.in_ok-view.ensures)
+    (subst (λ (found : List Found). AreFitting c.args.plan.now.fields c.args.plan.now.query found) (sym c.rows.ensures.rows) c.requires.fit)
 
 pub texts_among-requires-clause-within : goal.texts_among-requires-clause-within
 texts_among-requires-clause-within g c κs within =
@@ -28,7 +27,7 @@ texts_among-requires-clause-within g c κs within =
 
 pub returns : goal.returns
 returns g c =
-    let items = (form_of_plan c.args.plan.now).items in
+    let items = c.args.plan.now.query.items in
     let rows = map (λ (r : Bor (ℕ × Group)). cells_at c.as_slice.result.now (row_of r.now)) c.as_slice-2.result.now in
     let is = groups-shown c.args.plan.now c.in_ok-view.view (map row_of c.rows.result.now) c.in_ok-shown.shown.items c.as_slice-2.result.now c.in_ok-sources.sources.items c.as_slice.result.now
     c.in_ok-view.ensures c.as_slice-2.ensures.value c.as_slice.ensures.value c.in_ok-shown.ensures.shown c.in_ok-shown.ensures.sets c.in_ok-sources.ensures in
@@ -37,4 +36,4 @@ returns g c =
     c.in_ok-begun.ensures.text c.in_ok-text.ensures bytes
     (texts-joined c.part_len-size.result rows c.in_ok-texts.texts.items c.in_ok-texts.ensures made)
     ∙ ap (λ (all : List (List Summary)). report_bytes items all) is
-    ∙ ap (λ (found : List Found). report_bytes items (rows_shown (fields_of_plan c.args.plan.now) (form_of_plan c.args.plan.now) found)) c.rows.ensures.rows)
+    ∙ ap (λ (found : List Found). report_bytes items (rows_shown c.args.plan.now.fields c.args.plan.now.query found)) c.rows.ensures.rows)

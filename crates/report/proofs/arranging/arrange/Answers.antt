@@ -1,6 +1,5 @@
 use Rattle.std.proofs.Common.{◌≡◌, All, IfOk, List, length, map, subst, sym}
-use Rattle.query_plan.specs.declared.plan.Plan.{Plan}
-use Rattle.query_plan.specs.Planned.{fields_of_plan, form_of_plan}
+use Rattle.query_plan.specs.Planned.{PlannedQuery}
 use Rattle.groups.specs.Fitting.{AreFitting}
 use Rattle.groups.specs.Found.{Found, row_of}
 use Rattle.rows.specs.Order.{rows_shown}
@@ -9,12 +8,12 @@ use Rattle.report.proofs.arranging.arrange.Goals as goal
 
 pub arranged_rows-requires : goal.arranged_rows-requires
 arranged_rows-requires c =
-    subst (λ (plan : Plan). AreFitting (fields_of_plan plan) (form_of_plan plan) (map row_of c.rows.result.now)) (sym c.in_ok-view.ensures)
-    (subst (λ (found : List Found). AreFitting (fields_of_plan c.args.plan.now) (form_of_plan c.args.plan.now) found) (sym c.rows.ensures.rows) c.requires)
+    subst (λ (plan : PlannedQuery). AreFitting plan.fields plan.query (map row_of c.rows.result.now)) (sym c.in_ok-view.ensures)
+    (subst (λ (found : List Found). AreFitting c.args.plan.now.fields c.args.plan.now.query found) (sym c.rows.ensures.rows) c.requires)
 
 pub returns : goal.returns
 returns c = record {
-  cells = subst (λ (found : List Found). IfOk c.arranged_rows.result (λ rows. map cells_of rows.items ≡ rows_shown (fields_of_plan c.args.plan.now) (form_of_plan c.args.plan.now) found)) c.rows.ensures.rows
-      (subst (λ (plan : Plan). IfOk c.arranged_rows.result (λ rows. map cells_of rows.items ≡ rows_shown (fields_of_plan plan) (form_of_plan plan) (map row_of c.rows.result.now))) c.in_ok-view.ensures c.arranged_rows.ensures.cells);
-  wide = subst (λ (plan : Plan). IfOk c.arranged_rows.result (λ rows. All (λ row. length row.cells.items ≡ length (form_of_plan plan).items) rows.items)) c.in_ok-view.ensures c.arranged_rows.ensures.wide;
+  cells = subst (λ (found : List Found). IfOk c.arranged_rows.result (λ rows. map cells_of rows.items ≡ rows_shown c.args.plan.now.fields c.args.plan.now.query found)) c.rows.ensures.rows
+      (subst (λ (plan : PlannedQuery). IfOk c.arranged_rows.result (λ rows. map cells_of rows.items ≡ rows_shown plan.fields plan.query (map row_of c.rows.result.now))) c.in_ok-view.ensures c.arranged_rows.ensures.cells);
+  wide = subst (λ (plan : PlannedQuery). IfOk c.arranged_rows.result (λ rows. All (λ row. length row.cells.items ≡ length plan.query.items) rows.items)) c.in_ok-view.ensures c.arranged_rows.ensures.wide;
 }

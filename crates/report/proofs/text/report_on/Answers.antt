@@ -1,7 +1,6 @@
 use Rattle.std.proofs.Common.{◌∙◌, Bor, ℕ, List, Some, ap, map, subst, sym}
 use Rattle.csv.specs.Writing.{text_written}
-use Rattle.query_plan.specs.declared.plan.Plan.{Plan}
-use Rattle.query_plan.specs.Planned.{fields_of_plan, form_of_plan}
+use Rattle.query_plan.specs.Planned.{PlannedQuery}
 use Rattle.groups.specs.Functions.{Summary}
 use Rattle.groups.specs.declared.group.Group.{Group}
 use Rattle.std.proofs.lemmas.Result.{IfOk-weaker}
@@ -16,8 +15,8 @@ use Rattle.report.proofs.text.report_on.Goals as goal
 
 pub shown_groups-requires : goal.shown_groups-requires
 shown_groups-requires c =
-    subst (λ (plan : Plan). AreFitting (fields_of_plan plan) (form_of_plan plan) (map row_of c.rows.result.now)) (sym c.in_ok-view.ensures)
-    (subst (λ (found : List Found). AreFitting (fields_of_plan c.args.plan.now) (form_of_plan c.args.plan.now) found) (sym c.rows.ensures.rows) c.requires)
+    subst (λ (plan : PlannedQuery). AreFitting plan.fields plan.query (map row_of c.rows.result.now)) (sym c.in_ok-view.ensures)
+    (subst (λ (found : List Found). AreFitting c.args.plan.now.fields c.args.plan.now.query found) (sym c.rows.ensures.rows) c.requires)
 
 pub put_groups-requires-clause-within : goal.put_groups-requires-clause-within
 put_groups-requires-clause-within c =
@@ -26,9 +25,9 @@ put_groups-requires-clause-within c =
 
 pub returns : goal.returns
 returns c =
-    let items = (form_of_plan c.args.plan.now).items in
+    let items = c.args.plan.now.query.items in
     let rows = map (λ (r : Bor (ℕ × Group)). cells_at c.as_slice.result.now (row_of r.now)) c.as_slice-2.result.now in
     let is = groups-shown c.args.plan.now c.in_ok-view.view (map row_of c.rows.result.now) c.in_ok-shown.shown.items c.as_slice-2.result.now c.in_ok-sources.sources.items c.as_slice.result.now
     c.in_ok-view.ensures c.as_slice-2.ensures.value c.as_slice.ensures.value c.in_ok-shown.ensures.shown c.in_ok-shown.ensures.sets c.in_ok-sources.ensures in
     IfOk-weaker c.ended.result _ _ (λ text e. report-written items (text_written (λ v. Some v.items) c.in_ok-writer.writer) (text_written (λ v. Some v.items) c.put_groups.new.writer) text.items rows c.in_ok-writer.ensures.text c.in_ok-put_groups.ensures.appends e ∙ ap (λ (all : List (List Summary)). report_bytes items all) is
-    ∙ ap (λ (found : List Found). report_bytes items (rows_shown (fields_of_plan c.args.plan.now) (form_of_plan c.args.plan.now) found)) c.rows.ensures.rows) c.ended.ensures
+    ∙ ap (λ (found : List Found). report_bytes items (rows_shown c.args.plan.now.fields c.args.plan.now.query found)) c.rows.ensures.rows) c.ended.ensures

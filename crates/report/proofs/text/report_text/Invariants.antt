@@ -1,6 +1,5 @@
 use Rattle.std.proofs.Common.{◌≡◌, Some, map, take}
 use Rattle.csv.specs.Writing.{text_written}
-use Rattle.query_plan.specs.Planned.{form_of_plan}
 use Rattle.report.specs.Inside.Between.{IsBetweenRows}
 use Rattle.rows.specs.Shown.{cells_of}
 use Rattle.report.specs.Text.{report_bytes}
@@ -9,5 +8,5 @@ use Rattle.report.proofs.text.report_text.Given as goal
 abbrev pub invariant-loop-row : goal.invariant-loop-row
 invariant-loop-row l = record {
   between : IsBetweenRows l.writer;
-  text : text_written (λ v. Some v.items) l.writer ≡ Some (report_bytes (form_of_plan l.plan).items (map cells_of (take l.row-index l.rows)));
+  text : text_written (λ v. Some v.items) l.writer ≡ Some (report_bytes l.plan.query.items (map cells_of (take l.row-index l.rows)));
 }

@@ -2,7 +2,6 @@ use Rattle.std.proofs.Common.{◌≡◌, ◌<◌, ◌++◌, ◌∷◌, [], ◌�
 use Rattle.std.specs.List.{AllByRecursion}
 use Rattle.std.proofs.lemmas.List.{map_push}
 use Rattle.query_resolution.specs.Sets.{sets_of}
-use Rattle.query_plan.specs.Planned.{fields_of_plan, form_of_plan}
 use Rattle.groups.specs.declared.group.Group.{Group}
 use Rattle.groups.specs.Functions.{Summary}
 use Rattle.groups.specs.Found.{Found, row_of}
@@ -15,8 +14,8 @@ use Rattle.rows.proofs.arranging.arranged_rows.Goals as goal
 
 pub loop-group-init : goal.loop-group-init
 loop-group-init c =
-    let fields = fields_of_plan c.args.plan.now in
-    let t = form_of_plan c.args.plan.now in
+    let fields = c.args.plan.now.fields in
+    let t = c.args.plan.now.query in
     let found = (map row_of c.args.groups.now) in
     let shows = λ (r : Bor (ℕ × Group)). row_of r.now in
     let rest : c.into_iter-group-iterator.result.rest.items ≡ c.in_ok-shown.shown.items = c.into_iter-group-iterator.ensures.into_iter_gives.0 in
@@ -28,8 +27,8 @@ loop-group-init c =
 
 pub loop-group-preserved : goal.loop-group-preserved
 loop-group-preserved c =
-    let fields = fields_of_plan c.args.plan.now in
-    let t = form_of_plan c.args.plan.now in
+    let fields = c.args.plan.now.fields in
+    let t = c.args.plan.now.query in
     let shows = λ (r : Bor (ℕ × Group)). row_of r.now in
     let rows = c.loop-group.rows.items in
     let row = c.in_ok-row_for.field-0 in
@@ -44,6 +43,6 @@ loop-group-preserved c =
 
 pub returns-clause-wide : goal.returns-clause-wide
 returns-clause-wide c =
-    let fields = fields_of_plan c.args.plan.now in
-    let t = form_of_plan c.args.plan.now in
+    let fields = c.args.plan.now.fields in
+    let t = c.args.plan.now.query in
     all-wide fields t c.loop-group.rows.items (map (row_shown fields t) (map (λ (r : Bor (ℕ × Group)). row_of r.now) c.loop-group.group-iterator.rest.items)) (arranged fields t (map row_of c.args.groups.now)) c.loop-group.invariant.shown

@@ -1,7 +1,6 @@
 use Rattle.std.proofs.Common.{◌≡◌, ◌++◌, ◌<◌, Bor, ℕ, length, map}
 use Rattle.std.specs.List.{AllByRecursion}
 use Rattle.query_resolution.specs.Sets.{sets_of}
-use Rattle.query_plan.specs.Planned.{fields_of_plan, form_of_plan}
 use Rattle.groups.specs.declared.group.Group.{Group}
 use Rattle.groups.specs.Found.{row_of}
 use Rattle.rows.specs.Order.{rows_shown}
@@ -11,6 +10,6 @@ use Rattle.rows.proofs.arranging.arranged_rows.Given as goal
 -- the rows so far, and then those of the groups that are left, whose indexes are those of sets
 abbrev pub invariant-loop-group : goal.invariant-loop-group
 invariant-loop-group l = record {
-  shown : map cells_of l.rows.items ++ map (row_shown (fields_of_plan l.plan) (form_of_plan l.plan)) (map (λ (r : Bor (ℕ × Group)). row_of r.now) l.group-iterator.rest.items) ≡ rows_shown (fields_of_plan l.plan) (form_of_plan l.plan) (map row_of l.groups);
-  within : AllByRecursion (λ x. x.0 < length (sets_of (fields_of_plan l.plan) (form_of_plan l.plan))) (map (λ (r : Bor (ℕ × Group)). row_of r.now) l.group-iterator.rest.items);
+  shown : map cells_of l.rows.items ++ map (row_shown l.plan.fields l.plan.query) (map (λ (r : Bor (ℕ × Group)). row_of r.now) l.group-iterator.rest.items) ≡ rows_shown l.plan.fields l.plan.query (map row_of l.groups);
+  within : AllByRecursion (λ x. x.0 < length (sets_of l.plan.fields l.plan.query)) (map (λ (r : Bor (ℕ × Group)). row_of r.now) l.group-iterator.rest.items);
 }

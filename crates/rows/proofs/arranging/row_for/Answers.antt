@@ -1,7 +1,6 @@
 use Rattle.std.proofs.Common.{◌≡◌, ◌∙◌, List, map, ap, sym, ℕ, take_all}
 use Rattle.query_tree.specs.Syntax.{ItemForm, TreeForm, item_form}
 use Rattle.query_tree.specs.declared.tree.Item.{Item}
-use Rattle.query_plan.specs.Planned.{fields_of_plan, form_of_plan}
 use Rattle.groups.specs.Cells.{summary_of}
 use Rattle.groups.specs.Found.{row_of}
 use Rattle.groups.specs.Fitting.{set_of}
@@ -13,14 +12,14 @@ use Rattle.rows.proofs.arranging.row_for.Goals as goal
 pub loop-item-preserved : goal.loop-item-preserved
 loop-item-preserved c =
     let row = row_of c.args.found.now in
-    let shown = λ (s : List ℕ) (item : Item). expression_shown (fields_of_plan c.args.plan.now) (form_of_plan c.args.plan.now) s row.1.key row.1.cells (item_form item).expression in
+    let shown = λ (s : List ℕ) (item : Item). expression_shown c.args.plan.now.fields c.args.plan.now.query s row.1.key row.1.cells (item_form item).expression in
     map-pushed summary_of (shown c.index-sets-index.result.items) c.as_slice-items.result.now c.loop-item.item-index c.item-item.result c.loop-item.cells.items c.push.new.self.items c.in_ok-expression_cell.field-0
     c.loop-item-test.true c.item-item.is c.in_ok-push.ensures.items (c.in_ok-expression_cell.ensures ∙ ap (λ (s : List ℕ). shown s c.item-item.result) c.deref.ensures.value) c.loop-item.invariant
 
 pub returns : goal.returns
 returns c =
-    let fields = fields_of_plan c.args.plan.now in
-    let t = form_of_plan c.args.plan.now in
+    let fields = c.args.plan.now.fields in
+    let t = c.args.plan.now.query in
     let row = row_of c.args.found.now in
     let set = set-of-row fields t row c.sets.result.now c.index-sets-index.result c.sets.ensures.sets c.requires c.index-sets-index.is in
     let shown = λ (s : List ℕ) (item : ItemForm). expression_shown fields t s row.1.key row.1.cells item.expression in

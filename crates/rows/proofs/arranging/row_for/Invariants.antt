@@ -1,7 +1,6 @@
 use Rattle.std.proofs.Common.{◌≡◌, map, take}
 use Rattle.values.specs.Datum.{data_of}
 use Rattle.query_tree.specs.Syntax.{expression_form}
-use Rattle.query_plan.specs.Planned.{fields_of_plan, form_of_plan}
 use Rattle.groups.specs.Cells.{summary_of}
 use Rattle.rows.specs.Shown.{expression_shown}
 use Rattle.rows.proofs.arranging.row_for.Given as goal
@@ -9,4 +8,4 @@ use Rattle.rows.proofs.arranging.row_for.Given as goal
 abbrev pub invariant-loop-item : goal.invariant-loop-item
 invariant-loop-item l =
     map summary_of l.cells.items
-    ≡ map (λ item. expression_shown (fields_of_plan l.plan) (form_of_plan l.plan) l.set.items (data_of l.group.key.items) (map summary_of l.group.cells.items) (expression_form item.expression)) (take l.item-index l.items)
+    ≡ map (λ item. expression_shown l.plan.fields l.plan.query l.set.items (data_of l.group.key.items) (map summary_of l.group.cells.items) (expression_form item.expression)) (take l.item-index l.items)

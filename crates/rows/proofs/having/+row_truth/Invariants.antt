@@ -5,7 +5,6 @@ use Rattle.query_check.specs.declared.scope.Clause.TheVariants as clause
 use Rattle.query_resolution.specs.Sets.{grouping_places}
 use Rattle.query_check.specs.Typing.{AreTypedParts}
 use Rattle.query_truth.specs.Truth.{all_of, any_of, truths}
-use Rattle.query_plan.specs.Planned.{fields_of_plan, form_of_plan}
 use Rattle.groups.specs.Found.{row_of}
 use Rattle.rows.specs.Having.{row_value}
 use Rattle.rows.proofs.having.+row_truth.Given as goal
@@ -13,14 +12,14 @@ use Rattle.rows.proofs.having.+row_truth.Given as goal
 -- with the parts that are left, what the parts so far tell is what all tell; and those that are left are typed
 abbrev pub invariant-any_truth-loop-part : goal.invariant-any_truth-loop-part
 invariant-any_truth-loop-part l = record {
-  told : fold disjunction l.worth (truths (row_value (fields_of_plan l.plan) (form_of_plan l.plan) (row_of l.found)) (predicate_forms (map predicate_form (drop l.part-index l.parts))))
-      ≡ any_of (truths (row_value (fields_of_plan l.plan) (form_of_plan l.plan) (row_of l.found)) (predicate_forms (map predicate_form l.parts)));
-  typed : AreTypedParts (fields_of_plan l.plan) (grouping_places (fields_of_plan l.plan) (form_of_plan l.plan)) clause.Having (predicate_forms (map predicate_form (drop l.part-index l.parts)));
+  told : fold disjunction l.worth (truths (row_value l.plan.fields l.plan.query (row_of l.found)) (predicate_forms (map predicate_form (drop l.part-index l.parts))))
+      ≡ any_of (truths (row_value l.plan.fields l.plan.query (row_of l.found)) (predicate_forms (map predicate_form l.parts)));
+  typed : AreTypedParts l.plan.fields (grouping_places l.plan.fields l.plan.query) clause.Having (predicate_forms (map predicate_form (drop l.part-index l.parts)));
 }
 
 abbrev pub invariant-all_truth-loop-part : goal.invariant-all_truth-loop-part
 invariant-all_truth-loop-part l = record {
-  told : fold conjunction l.worth (truths (row_value (fields_of_plan l.plan) (form_of_plan l.plan) (row_of l.found)) (predicate_forms (map predicate_form (drop l.part-index l.parts))))
-      ≡ all_of (truths (row_value (fields_of_plan l.plan) (form_of_plan l.plan) (row_of l.found)) (predicate_forms (map predicate_form l.parts)));
-  typed : AreTypedParts (fields_of_plan l.plan) (grouping_places (fields_of_plan l.plan) (form_of_plan l.plan)) clause.Having (predicate_forms (map predicate_form (drop l.part-index l.parts)));
+  told : fold conjunction l.worth (truths (row_value l.plan.fields l.plan.query (row_of l.found)) (predicate_forms (map predicate_form (drop l.part-index l.parts))))
+      ≡ all_of (truths (row_value l.plan.fields l.plan.query (row_of l.found)) (predicate_forms (map predicate_form l.parts)));
+  typed : AreTypedParts l.plan.fields (grouping_places l.plan.fields l.plan.query) clause.Having (predicate_forms (map predicate_form (drop l.part-index l.parts)));
 }

@@ -1,14 +1,13 @@
 use Rattle.values.specs.Datum.{datum_of}
 use Rattle.query_tree.specs.Syntax.{operand_form}
 use Rattle.query_resolution.specs.Sets.{grouping_places}
-use Rattle.query_plan.specs.Planned.{fields_of_plan, form_of_plan}
 use Rattle.groups.specs.Found.{row_of}
 use Rattle.rows.proofs.RowValues.{are-comparable}
 use Rattle.rows.proofs.having.comparison_truth.Goals as goal
 
 pub compare-requires : goal.compare-requires
 compare-requires c =
-    let fields = fields_of_plan c.args.plan.now in
-    let t = form_of_plan c.args.plan.now in
+    let fields = c.args.plan.now.fields in
+    let t = c.args.plan.now.query in
     are-comparable fields t (row_of c.args.found.now) (grouping_places fields t) (operand_form c.args.left.now) (operand_form c.args.right.now) (datum_of c.in_ok-left.left) (datum_of c.in_ok-right.right)
     c.in_ok-left.ensures c.in_ok-right.ensures c.requires.fits c.requires.typed.0 c.requires.typed.1 c.requires.typed.2

@@ -5,7 +5,6 @@ use Rattle.query_tree.specs.Syntax.{operand_form}
 use Rattle.query_resolution.specs.Sets.{grouping_places}
 use Rattle.query_truth.specs.Meaning.{comparable}
 use Rattle.query_truth.specs.Truth.{operand_value}
-use Rattle.query_plan.specs.Planned.{fields_of_plan, form_of_plan}
 use Rattle.groups.specs.Found.{row_of}
 use Rattle.rows.specs.Having.{row_value}
 use Rattle.rows.proofs.RowValues.{comparable-literals}
@@ -13,8 +12,8 @@ use Rattle.rows.proofs.having.list_truth.Goals as goal
 
 pub member_truth-requires : goal.member_truth-requires
 member_truth-requires c =
-    let fields = fields_of_plan c.args.plan.now in
-    let t = form_of_plan c.args.plan.now in
+    let fields = c.args.plan.now.fields in
+    let t = c.args.plan.now.query in
     let row = row_of c.args.found.now in
     let x = operand_form c.args.operand.now in
     ap (λ (d : Datum). list_all (comparable d) (map datum_of c.as_slice.result.now)) c.in_ok-value.ensures

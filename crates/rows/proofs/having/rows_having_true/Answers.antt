@@ -6,7 +6,6 @@ use Rattle.std.proofs.lemmas.Iterator.Consumers.{map_from_collect}
 use Rattle.std.proofs.lemmas.List.{append-nil, at_drop_all}
 use Rattle.std.proofs.lemmas.Result.{IfOk-weaker}
 use Rattle.query_tree.specs.Syntax.{TreeForm, predicate_form}
-use Rattle.query_plan.specs.Planned.{fields_of_plan, form_of_plan}
 use Rattle.groups.specs.declared.group.Group.{Group}
 use Rattle.groups.specs.Found.{row_of}
 use Rattle.rows.specs.Having.{rows_having_true}
@@ -16,8 +15,8 @@ use Rattle.rows.proofs.having.rows_having_true.Goals as goal
 
 pub returns-in_default : goal.returns-in_default
 returns-in_default c =
-    let fields = fields_of_plan c.args.plan.now in
-    let t = form_of_plan c.args.plan.now in
+    let fields = c.args.plan.now.fields in
+    let t = c.args.plan.now.query in
     let none : c.tree.result.now.having_condition ≡ None = search rules in
     let unwritten : t.having_condition ≡ None =
     ap (λ (f : TreeForm). f.having_condition) (sym (c.tree.ensures.form ∙ c.query.ensures.query)) ∙ ap (option_map predicate_form) none in
@@ -31,14 +30,14 @@ returns-in_default c =
 
 pub row_truth-requires-clause-fits : goal.row_truth-requires-clause-fits
 row_truth-requires-clause-fits c =
-    group-fits (fields_of_plan c.args.plan.now) (form_of_plan c.args.plan.now) c.args.rows.now c.loop-found.found-index c.found-item.result c.loop-found-test.true c.found-item.is c.requires
+    group-fits c.args.plan.now.fields c.args.plan.now.query c.args.rows.now c.loop-found.found-index c.found-item.result c.loop-found-test.true c.found-item.is c.requires
 
 pub row_truth-requires-clause-typed : goal.row_truth-requires-clause-typed
 row_truth-requires-clause-typed c =
-    let t = form_of_plan c.args.plan.now in
+    let t = c.args.plan.now.query in
     let written : t.having_condition ≡ Some (predicate_form c.in-Some.having) =
     ap (λ (f : TreeForm). f.having_condition) (sym (c.tree.ensures.form ∙ c.query.ensures.query)) ∙ ap (option_map predicate_form) c.in-Some.is in
-    having-typed (fields_of_plan c.args.plan.now) t (predicate_form c.in-Some.having) c.query.ensures.typed written
+    having-typed c.args.plan.now.fields t (predicate_form c.in-Some.having) c.query.ensures.typed written
 
 pub loop-found-preserved : goal.loop-found-preserved
 loop-found-preserved c = grind (arith, common_steps)
@@ -47,5 +46,5 @@ pub returns : goal.returns
 returns c =
     let shown = map (λ (r : Bor (ℕ × Group)). row_of r.now) c.loop-found.true_rows.items in
     sym (append-nil shown)
-    ∙ sym (at_drop_all (λ (rows : List (ℕ × Group)). shown ++ rows_having_true (fields_of_plan c.args.plan.now) (form_of_plan c.args.plan.now) (map row_of rows)) c.args.rows.now c.loop-found.found-index c.loop-found-test.false)
+    ∙ sym (at_drop_all (λ (rows : List (ℕ × Group)). shown ++ rows_having_true c.args.plan.now.fields c.args.plan.now.query (map row_of rows)) c.args.rows.now c.loop-found.found-index c.loop-found-test.false)
     ∙ c.loop-found.invariant

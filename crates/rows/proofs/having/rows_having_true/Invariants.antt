@@ -1,6 +1,5 @@
 use Rattle.std.proofs.Common.{◌≡◌, ◌++◌, Bor, ℕ, drop, map}
 use Rattle.groups.specs.declared.group.Group.{Group}
-use Rattle.query_plan.specs.Planned.{fields_of_plan, form_of_plan}
 use Rattle.groups.specs.Found.{row_of}
 use Rattle.rows.specs.Having.{rows_having_true}
 use Rattle.rows.proofs.having.rows_having_true.Given as goal
@@ -8,5 +7,5 @@ use Rattle.rows.proofs.having.rows_having_true.Given as goal
 -- the rows so far of which HAVING is True, and then those of the rows that are left
 abbrev pub invariant-loop-found : goal.invariant-loop-found
 invariant-loop-found l =
-    map (λ (r : Bor (ℕ × Group)). row_of r.now) l.true_rows.items ++ rows_having_true (fields_of_plan l.plan) (form_of_plan l.plan) (map row_of (drop l.found-index l.rows))
-    ≡ rows_having_true (fields_of_plan l.plan) (form_of_plan l.plan) (map row_of l.rows)
+    map (λ (r : Bor (ℕ × Group)). row_of r.now) l.true_rows.items ++ rows_having_true l.plan.fields l.plan.query (map row_of (drop l.found-index l.rows))
+    ≡ rows_having_true l.plan.fields l.plan.query (map row_of l.rows)

@@ -3,7 +3,6 @@ use Rattle.values.specs.Datum.{datum_of}
 use Rattle.query_tree.specs.Syntax.{KeyForm, TreeForm, key_form}
 use Rattle.query_tree.specs.declared.tree.Key.{Key}
 use Rattle.query_check.specs.Typing.{key_expression}
-use Rattle.query_plan.specs.Planned.{fields_of_plan, form_of_plan}
 use Rattle.groups.specs.Found.{row_of}
 use Rattle.groups.specs.Fitting.{set_of}
 use Rattle.rows.specs.Having.{cell_value}
@@ -14,16 +13,16 @@ use Rattle.rows.proofs.keys.key_values.Goals as goal
 
 pub loop-key-preserved : goal.loop-key-preserved
 loop-key-preserved c =
-    let t = form_of_plan c.args.plan.now in
+    let t = c.args.plan.now.query in
     let row = row_of c.args.found.now in
-    let value = λ (s : List ℕ) (k : Key). cell_value (expression_shown (fields_of_plan c.args.plan.now) t s row.1.key row.1.cells (key_expression t.items (key_form k).expression)) in
+    let value = λ (s : List ℕ) (k : Key). cell_value (expression_shown c.args.plan.now.fields t s row.1.key row.1.cells (key_expression t.items (key_form k).expression)) in
     map-pushed datum_of (value c.index-sets-index.result.items) c.as_slice-keys.result.now c.loop-key.key-index c.key-item.result c.loop-key.values.items c.push.new.self.items c.in_ok-key_value.field-0
     c.loop-key-test.true c.key-item.is c.in_ok-push.ensures.items (c.in_ok-key_value.ensures ∙ ap (λ (s : List ℕ). value s c.key-item.result) c.deref.ensures.value) c.loop-key.invariant
 
 pub returns : goal.returns
 returns c =
-    let fields = fields_of_plan c.args.plan.now in
-    let t = form_of_plan c.args.plan.now in
+    let fields = c.args.plan.now.fields in
+    let t = c.args.plan.now.query in
     let row = row_of c.args.found.now in
     let set = set-of-row fields t row c.sets.result.now c.index-sets-index.result c.sets.ensures.sets c.requires c.index-sets-index.is in
     let value = λ (s : List ℕ) (k : KeyForm). cell_value (expression_shown fields t s row.1.key row.1.cells (key_expression t.items k.expression)) in

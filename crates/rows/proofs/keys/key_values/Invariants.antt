@@ -2,7 +2,6 @@ use Rattle.std.proofs.Common.{◌≡◌, map, take}
 use Rattle.values.specs.Datum.{data_of}
 use Rattle.query_tree.specs.Syntax.{key_form}
 use Rattle.query_check.specs.Typing.{key_expression}
-use Rattle.query_plan.specs.Planned.{fields_of_plan, form_of_plan}
 use Rattle.groups.specs.Cells.{summary_of}
 use Rattle.rows.specs.Having.{cell_value}
 use Rattle.rows.specs.Shown.{expression_shown}
@@ -11,4 +10,4 @@ use Rattle.rows.proofs.keys.key_values.Given as goal
 abbrev pub invariant-loop-key : goal.invariant-loop-key
 invariant-loop-key l =
     data_of l.values.items
-    ≡ map (λ key. cell_value (expression_shown (fields_of_plan l.plan) (form_of_plan l.plan) l.set.items (data_of l.group.key.items) (map summary_of l.group.cells.items) (key_expression (form_of_plan l.plan).items (key_form key).expression))) (take l.key-index l.keys)
+    ≡ map (λ key. cell_value (expression_shown l.plan.fields l.plan.query l.set.items (data_of l.group.key.items) (map summary_of l.group.cells.items) (key_expression l.plan.query.items (key_form key).expression))) (take l.key-index l.keys)

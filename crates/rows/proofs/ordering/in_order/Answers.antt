@@ -1,6 +1,5 @@
 use Rattle.std.proofs.Common.{◌∙◌, All, Bor, List, ℕ, map, sym, subst}
 use Rattle.std.proofs.lemmas.Result.{IfOk-weaker}
-use Rattle.query_plan.specs.Planned.{fields_of_plan, form_of_plan}
 use Rattle.groups.specs.declared.group.Group.{Group}
 use Rattle.rows.specs.Planned.{HasSetUnder}
 use Rattle.rows.specs.Inside.Ranked.{ranked, ranked_in}
@@ -14,8 +13,8 @@ rank-requires c =
 
 pub returns : goal.returns
 returns c =
-    let fields = fields_of_plan c.args.plan.now in
-    let t = form_of_plan c.args.plan.now in
+    let fields = c.args.plan.now.fields in
+    let t = c.args.plan.now.query in
     let found = map row_at c.args.rows.items in
     let sorted = c.sorted-ordered.result.items in
     let are = c.in_ok-ranked.ensures ∙ (λ i. map (ranked fields t) (map row_at (c.as_slice.ensures.value i))) in

@@ -2,7 +2,6 @@ use Rattle.std.proofs.Common.{◌≡◌, ◌∙◌, All, Bor, IsPermutation, Lis
 use Rattle.std.specs.List.{flat_map}
 use Rattle.std.proofs.lemmas.Result.{IfOk-weaker}
 use Rattle.std.proofs.lemmas.List.Sorted.{IsPermutation-map, IsPermutation-trans}
-use Rattle.query_plan.specs.Planned.{fields_of_plan, form_of_plan}
 use Rattle.groups.specs.declared.group.Group.{Group}
 use Rattle.rows.specs.Parts.{AreMade, items_of}
 use Rattle.rows.specs.Inside.Ranked.{AreRanked, AreRankedParts, Ranked, ranked, ranked_in}
@@ -20,8 +19,8 @@ parts_in_order-requires-clause-sets g c κs within =
 
 pub returns : goal.returns
 returns g c =
-    let fields = fields_of_plan c.args.plan.now in
-    let t = form_of_plan c.args.plan.now in
+    let fields = c.args.plan.now.fields in
+    let t = c.args.plan.now.query in
     let rank = ranked fields t in
     let at : Bor RankedRow → Ranked = λ r. ranked_in r.now in
     let found = map row_at c.args.rows.items in

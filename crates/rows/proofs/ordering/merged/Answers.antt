@@ -3,7 +3,6 @@ use Rattle.std.specs.Ordering.{is_lt}
 use Rattle.std.proofs.lemmas.Fn.{always_returns_same}
 use Rattle.std.proofs.lemmas.List.Sorted.{ranks_by}
 use Rattle.query_tree.specs.Syntax.{KeyForm, TreeForm, key_form}
-use Rattle.query_plan.specs.Planned.{form_of_plan}
 use Rattle.rows.specs.Inside.Ranked.{Ranked, by_rank, ranked_in}
 use Rattle.rows.specs.declared.ranked.RankedRow.{RankedRow}
 use Rattle.rows.proofs.Totals.{by_rank-total}
@@ -11,7 +10,7 @@ use Rattle.rows.proofs.ordering.merged.Goals as goal
 
 pub returns-clause-sorted : goal.returns-clause-sorted
 returns-clause-sorted c =
-    let t = form_of_plan c.args.plan.now in
+    let t = c.args.plan.now.query in
     let sorted = c.sort_by.new.self.items in
     let at : Bor RankedRow → Ranked = λ r. ranked_in r.now in
     let code = map key_form c.as_slice-keys.result.now in

@@ -3,7 +3,6 @@ use denote.Param.Send.{sendable}
 use Rattle.std.proofs.Crossing as std
 use Rattle.std.proofs.lemmas.List.{drop-map, length-map, take-map}
 use Rattle.groups.specs.Found.{Found}
-use Rattle.query_plan.specs.Planned.{fields_of_plan, form_of_plan}
 use Rattle.rows.specs.Inside.Ranked.{AreRanked, ranked}
 use Rattle.rows.proofs.InParts.{parts-cover, parts-made}
 use Rattle.rows.proofs.Rows.{row_at}
@@ -17,7 +16,7 @@ pub returns : goal.returns
 returns g c =
     let size = c.args.size in
     let groups = c.args.rows.now in
-    let rank = ranked (fields_of_plan c.args.plan.now) (form_of_plan c.args.plan.now) in
+    let rank = ranked c.args.plan.now.fields c.args.plan.now.query in
     let parts = c.in_ok-parts.parts.items in
     let count = length-map groups row_at in
     let ok = c.in_ok-parts.parts.ok in

@@ -1,6 +1,5 @@
 use Rattle.std.proofs.Common.{◌∙◌, Bor, ℕ, List, [], ◌∷◌, ◌++◌, ap, get_or, map, subst, sym, take, take_all}
 use Rattle.std.proofs.lemmas.List.{map-append, map_more}
-use Rattle.query_plan.specs.Planned.{fields_of_plan, form_of_plan}
 use Rattle.groups.specs.declared.group.Group.{Group}
 use Rattle.rows.specs.Planned.{HasSetUnder}
 use Rattle.rows.specs.Inside.Ranked.{ranked, ranked_in}
@@ -9,7 +8,7 @@ use Rattle.rows.proofs.ordering.rank.Goals as goal
 
 pub loop-found-preserved : goal.loop-found-preserved
 loop-found-preserved c =
-    let rank = ranked (fields_of_plan c.args.plan.now) (form_of_plan c.args.plan.now) in
+    let rank = ranked c.args.plan.now.fields c.args.plan.now.query in
     let i = c.loop-found.found-index in
     let rows = c.args.rows.now in
     let found = c.found-item.result in
@@ -26,4 +25,4 @@ key_values-requires c =
 pub returns : goal.returns
 returns c =
     c.loop-found.invariant
-    ∙ ap (λ (rows : List (Bor (ℕ × Group))). map (ranked (fields_of_plan c.args.plan.now) (form_of_plan c.args.plan.now)) (map row_at rows)) (take_all c.loop-found.found-index c.args.rows.now c.loop-found-test.false)
+    ∙ ap (λ (rows : List (Bor (ℕ × Group))). map (ranked c.args.plan.now.fields c.args.plan.now.query) (map row_at rows)) (take_all c.loop-found.found-index c.args.rows.now c.loop-found-test.false)

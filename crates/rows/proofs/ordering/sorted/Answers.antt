@@ -3,14 +3,13 @@ use Rattle.std.specs.Ordering.{is_lt}
 use Rattle.std.proofs.lemmas.Fn.{always_returns_same}
 use Rattle.std.proofs.lemmas.List.Sorted.{ranks_by}
 use Rattle.query_tree.specs.Syntax.{KeyForm, TreeForm, key_form}
-use Rattle.query_plan.specs.Planned.{form_of_plan}
 use Rattle.rows.specs.Inside.Ranked.{by_rank, ranked_in}
 use Rattle.rows.proofs.Totals.{by_rank-total}
 use Rattle.rows.proofs.ordering.sorted.Goals as goal
 
 pub returns-clause-sorted : goal.returns-clause-sorted
 returns-clause-sorted c =
-    let t = form_of_plan c.args.plan.now in
+    let t = c.args.plan.now.query in
     let sorted = c.sort_unstable_by.new.self.items in
     let code = map key_form c.as_slice-keys.result.now in
     let keys : code ≡ t.keys = ap (map key_form) c.as_slice-keys.ensures.value ∙ ap (λ (f : TreeForm). f.keys) (c.tree.ensures.form ∙ c.query.ensures.query) in

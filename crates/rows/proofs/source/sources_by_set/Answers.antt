@@ -3,7 +3,6 @@ use Rattle.std.specs.Global.{Vec}
 use Rattle.std.proofs.lemmas.List.{get_or-map, length-map}
 use Rattle.query_resolution.specs.Resolution.{contents}
 use Rattle.query_resolution.specs.Sets.{sets_of}
-use Rattle.query_plan.specs.Planned.{fields_of_plan, form_of_plan}
 use Rattle.rows.specs.declared.source.Source.{Source}
 use Rattle.rows.specs.Sources.{AreSourcesOf, AreSourcesOfEach}
 use Rattle.rows.proofs.Sources.{sources-next}
@@ -30,5 +29,5 @@ returns c =
     let n = length-map sets (λ (s : Vec ℕ). s.items) in
     let test = c.loop-set-test.false in
     let end : length (contents sets) ≤ i = omega (arith, test, n) in
-    let all : take i (contents sets) ≡ sets_of (fields_of_plan plan) (form_of_plan plan) = take_all i (contents sets) end ∙ c.sets-set-items.ensures.sets in
+    let all : take i (contents sets) ≡ sets_of plan.fields plan.query = take_all i (contents sets) end ∙ c.sets-set-items.ensures.sets in
     subst (λ (s : List (List ℕ)). AreSourcesOfEach plan s c.loop-set.all.items) all c.loop-set.invariant

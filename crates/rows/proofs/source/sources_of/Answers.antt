@@ -3,7 +3,6 @@ use Rattle.std.proofs.lemmas.Option.{slice_get_read}
 use Rattle.std.proofs.lemmas.List.{map-append}
 use Rattle.query_tree.specs.Syntax.{ItemForm, TreeForm, expression_form, item_form}
 use Rattle.query_tree.specs.declared.tree.Item.{Item}
-use Rattle.query_plan.specs.Planned.{fields_of_plan, form_of_plan}
 use Rattle.rows.specs.Sources.{shown_at}
 use Rattle.rows.specs.Shown.{expression_shown}
 use Rattle.rows.proofs.Maps.{map-next, map-twice}
@@ -11,7 +10,7 @@ use Rattle.rows.proofs.source.sources_of.Goals as goal
 
 pub loop-item-preserved : goal.loop-item-preserved
 loop-item-preserved c = λ key cells.
-    let shown = λ (item : Item). expression_shown (fields_of_plan c.args.plan.now) (form_of_plan c.args.plan.now) c.args.set.now key cells (expression_form item.expression) in
+    let shown = λ (item : Item). expression_shown c.args.plan.now.fields c.args.plan.now.query c.args.set.now key cells (expression_form item.expression) in
     let items = c.as_slice-items.result.now in
     let at : slice_get items c.loop-item.item-index ≡ Some c.item-item.result = slice_get_read items (length items) c.loop-item.item-index c.item-item.result refl c.loop-item-test.true c.item-item.is in
     ap (map (shown_at key cells)) c.in_ok-push.ensures.items
@@ -21,8 +20,8 @@ loop-item-preserved c = λ key cells.
 
 pub returns : goal.returns
 returns c = λ key cells.
-    let fields = fields_of_plan c.args.plan.now in
-    let t = form_of_plan c.args.plan.now in
+    let fields = c.args.plan.now.fields in
+    let t = c.args.plan.now.query in
     let shown = λ (item : ItemForm). expression_shown fields t c.args.set.now key cells item.expression in
     let items = c.as_slice-items.result.now in
     let tree : map item_form items ≡ t.items = ap (map item_form) c.as_slice-items.ensures.value ∙ ap (λ (f : TreeForm). f.items) (c.tree.ensures.form ∙ c.query.ensures.query) in

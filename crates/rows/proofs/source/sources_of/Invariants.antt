@@ -1,6 +1,5 @@
 use Rattle.std.proofs.Common.{◌≡◌, List, map, take}
 use Rattle.query_tree.specs.Syntax.{expression_form}
-use Rattle.query_plan.specs.Planned.{fields_of_plan, form_of_plan}
 use Rattle.groups.specs.Functions.{Summary}
 use Rattle.groups.specs.Groups.{Key}
 use Rattle.rows.specs.Sources.{shown_at}
@@ -10,4 +9,4 @@ use Rattle.rows.proofs.source.sources_of.Given as goal
 abbrev pub invariant-loop-item : goal.invariant-loop-item
 invariant-loop-item l =
     (key : Key) (cells : List Summary) → map (shown_at key cells) l.sources.items
-    ≡ map (λ item. expression_shown (fields_of_plan l.plan) (form_of_plan l.plan) l.set key cells (expression_form item.expression)) (take l.item-index l.items)
+    ≡ map (λ item. expression_shown l.plan.fields l.plan.query l.set key cells (expression_form item.expression)) (take l.item-index l.items)

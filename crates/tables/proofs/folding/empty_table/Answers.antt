@@ -4,15 +4,14 @@ use Rattle.groups.specs.Functions.{AggregateFunction, bound}
 use Rattle.groups.specs.Inside.Table.{Contents, IsTableOf}
 use Rattle.groups.specs.Rows.{Row}
 use Rattle.query_resolution.specs.Sets.{grouping_places}
-use Rattle.query_plan.specs.Planned.{fields_of_plan, form_of_plan}
 use Rattle.tables.specs.Functions.{aggregate_functions, filters_kept}
 use Rattle.tables.proofs.Bound.{bound-functions}
 use Rattle.tables.proofs.folding.empty_table.Goals as goal
 
 pub returns : goal.returns
 returns g c =
-    let fields = fields_of_plan c.args.plan.now in
-    let q = form_of_plan c.args.plan.now in
+    let fields = c.args.plan.now.fields in
+    let q = c.args.plan.now.query in
     let fs = aggregate_functions fields q in
     let filters = filters_kept fields q in
     let bound_are : map (bound filters) c.set_functions.result.now ≡ fs = ap (map (bound filters)) c.set_functions.ensures.functions ∙ bound-functions fields q in

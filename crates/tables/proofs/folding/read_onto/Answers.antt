@@ -3,7 +3,6 @@ use Rattle.std.proofs.Common.{◌≡◌, ◌+◌, ◌<◌, ◌^◌, ◌++◌, �
 use Rattle.std.proofs.Math.Logic.{∥∥₁_elim, ∥∥₁_map}
 use Rattle.std.proofs.Props.{props}
 use Rattle.lines.specs.Lines.{lines}
-use Rattle.query_plan.specs.Planned.{fields_of_plan, form_of_plan}
 use Rattle.tables.specs.Folding.{HasRead}
 use Rattle.tables.proofs.Reading.{nothing-read, well-numbered}
 use Rattle.tables.proofs.folding.read_onto.Goals as goal
@@ -18,7 +17,7 @@ few before seen rest all line e short =
 pub loop-line-init : goal.loop-line-init
 loop-line-init c = λ before held. record {
   seen = [];
-  has_read = nothing-read (fields_of_plan c.args.plan.now) (form_of_plan c.args.plan.now) before c.args.table c.onto-folding.result held c.onto-folding.ensures.table c.onto-folding.ensures.lines c.onto-folding.ensures.refused;
+  has_read = nothing-read c.args.plan.now.fields c.args.plan.now.query before c.args.table c.onto-folding.result held c.onto-folding.ensures.table c.onto-folding.ensures.lines c.onto-folding.ensures.refused;
   is = c.into_iter-line-iterator.ensures.into_iter_gives ∙ c.lines_of-line-items.ensures;
 }
 
@@ -47,7 +46,7 @@ loop-line-preserved c = λ before held.
 pub returns-clause-read : goal.returns-clause-read
 returns-clause-read c = λ before held.
     let v = c.loop-line.invariant before held in
-    subst (HasRead (fields_of_plan c.args.plan.now) (form_of_plan c.args.plan.now) before c.loop-line.folding)
+    subst (HasRead c.args.plan.now.fields c.args.plan.now.query before c.loop-line.folding)
     (sym (append-nil v.seen) ∙ ap (λ ls. v.seen ++ ls) (sym c.in-None.ensures.steps.0) ∙ v.is) v.has_read
 
 pub returns-clause-lines : goal.returns-clause-lines
@@ -59,4 +58,4 @@ returns-clause-refused c = ∥∥₁_elim c.requires (ℕ_set _ _) (λ r. ap len
 pub returns-clause-numbered : goal.returns-clause-numbered
 returns-clause-numbered c = ∥∥₁_elim c.requires (hlevel props) (λ r.
     let read = returns-clause-read c r.before r.is_table in
-    well-numbered (fields_of_plan c.args.plan.now) c.loop-line.folding.lines c.loop-line.folding.refused.items (lines c.args.piece.now) read.lines read.refused)
+    well-numbered c.args.plan.now.fields c.loop-line.folding.lines c.loop-line.folding.refused.items (lines c.args.piece.now) read.lines read.refused)

@@ -1,7 +1,6 @@
 use Rattle.std.proofs.Common.{List}
 use Rattle.lines.specs.Lines.{lines}
 use Rattle.groups.specs.Rows.{Row}
-use Rattle.query_plan.specs.Planned.{fields_of_plan, form_of_plan}
 use Rattle.tables.specs.Folding.{IsTableUnder}
 use Rattle.tables.proofs.Reading.{HasReadSome}
 use Rattle.tables.proofs.folding.read_onto.Given as goal
@@ -9,4 +8,4 @@ use Rattle.tables.proofs.folding.read_onto.Given as goal
 -- behind whatever records the table had when the loop began, some lines of the piece have been read
 abbrev pub invariant-loop-line : goal.invariant-loop-line
 invariant-loop-line l = (before : List Row) → IsTableUnder l.plan l.fn.table before
-    → HasReadSome (fields_of_plan l.plan) (form_of_plan l.plan) before l.folding l.line-iterator (lines l.fn.piece)
+    → HasReadSome l.plan.fields l.plan.query before l.folding l.line-iterator (lines l.fn.piece)

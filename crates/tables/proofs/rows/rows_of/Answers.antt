@@ -4,7 +4,6 @@ use Rattle.std.proofs.lemmas.Result.{IfOk-weaker}
 use Rattle.query_resolution.specs.declared.function.FilteredFunction.{FilteredFunction}
 use Rattle.query_resolution.specs.Resolution.{contents}
 use Rattle.query_resolution.specs.Sets.{grouping_places, sets_of}
-use Rattle.query_plan.specs.Planned.{fields_of_plan, form_of_plan}
 use Rattle.query_truth.specs.Kept.{kept}
 use Rattle.groups.specs.Bags.{SameBag}
 use Rattle.groups.specs.Functions.{AggregateFunction, bound}
@@ -20,8 +19,8 @@ use Rattle.tables.proofs.rows.rows_of.Goals as goal
 
 pub groups_of_sets-requires-clause-among : goal.groups_of_sets-requires-clause-among
 groups_of_sets-requires-clause-among g c =
-    let fields = fields_of_plan c.args.plan.now in
-    let q = form_of_plan c.args.plan.now in
+    let fields = c.args.plan.now.fields in
+    let q = c.args.plan.now.query in
     subst (λ grouping. All (λ set. AreAmong set grouping) (contents c.sets.result.now)) (sym c.grouping.ensures.grouping)
     (subst (All (λ set. AreAmong set (grouping_places fields q))) (sym c.sets.ensures.sets) (sets-among fields q))
 
@@ -29,12 +28,12 @@ pub groups_of_sets-requires-clause-few : goal.groups_of_sets-requires-clause-few
 groups_of_sets-requires-clause-few g c =
     ∥∥₁_map c.requires.few (λ (p : IsOfFew _ _ _).
     subst (λ grouping. IsOfFew grouping c.set_functions.result.now c.args.finest) (sym c.grouping.ensures.grouping)
-    (subst (λ (fs : List FilteredFunction). IsOfFew (grouping_places (fields_of_plan c.args.plan.now) (form_of_plan c.args.plan.now)) fs c.args.finest) (sym c.set_functions.ensures.functions) p))
+    (subst (λ (fs : List FilteredFunction). IsOfFew (grouping_places c.args.plan.now.fields c.args.plan.now.query) fs c.args.finest) (sym c.set_functions.ensures.functions) p))
 
 pub returns : goal.returns
 returns g c = IfOk-weaker c.flattened.result _ _ (λ rows is records table.
-    let fields = fields_of_plan c.args.plan.now in
-    let q = form_of_plan c.args.plan.now in
+    let fields = c.args.plan.now.fields in
+    let q = c.args.plan.now.query in
     let fs = aggregate_functions fields q in
     let filters = filters_kept fields q in
     let members = kept fields q records in

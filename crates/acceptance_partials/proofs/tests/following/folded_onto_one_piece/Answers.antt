@@ -1,8 +1,7 @@
-use Rattle.query_plan.specs.Planned.{fields_of_plan, form_of_plan}
 use Rattle.tables.specs.Partials.{one_piece}
 use Rattle.acceptance_partials.proofs.tests.following.folded_onto_one_piece.Goals as goal
 
 pub fold_onto-requires-clause-of_plan : goal.fold_onto-requires-clause-of_plan
 fold_onto-requires-clause-of_plan g c =
     let plan = c.args.plan.now in
-    ∣ (one_piece c.args.front.now, c.in_ok-whole.ensures.stands (fields_of_plan plan) (form_of_plan plan) c.args.front.now c.in_ok-over.ensures) ∣₁
+    ∣ (one_piece c.args.front.now, c.in_ok-whole.ensures.stands plan.fields plan.query c.args.front.now c.in_ok-over.ensures) ∣₁

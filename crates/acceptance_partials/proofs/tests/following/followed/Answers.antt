@@ -1,6 +1,5 @@
 use Rattle.std.proofs.Common.{◌++◌}
 use Rattle.std.proofs.lemmas.Result.{IfOk-weaker}
-use Rattle.query_plan.specs.Planned.{fields_of_plan, form_of_plan}
 use Rattle.tables.specs.Partials.{whole_piece}
 use Rattle.acceptance_partials.proofs.tests.following.followed.Goals as goal
 
@@ -9,5 +8,5 @@ returns-in-Ok g c =
     let front = c.args.front.now in
     let rest = c.args.rest.now in
     IfOk-weaker c.follow.result _ _
-    (λ _ stands. ∣ (whole_piece (front ++ rest), stands (fields_of_plan c.args.plan.now) (form_of_plan c.args.plan.now) front rest c.in-Ok.ensures c.in_ok-behind.ensures c.requires) ∣₁)
+    (λ _ stands. ∣ (whole_piece (front ++ rest), stands c.args.plan.now.fields c.args.plan.now.query front rest c.in-Ok.ensures c.in_ok-behind.ensures c.requires) ∣₁)
     c.follow.ensures.stands

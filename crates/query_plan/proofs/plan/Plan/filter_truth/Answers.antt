@@ -5,7 +5,6 @@ use Rattle.values.specs.declared.truth.Truth.{Truth}
 use Rattle.query_resolution.specs.declared.function.ColumnFunction.TheVariants.{CountRows}
 use Rattle.query_resolution.specs.declared.function.FilteredFunction.{FilteredFunction}
 use Rattle.query_resolution.specs.Functions.{filter_at, filters_of}
-use Rattle.query_plan.specs.Planned.{fields_of_plan, form_of_plan}
 use Rattle.query_plan.proofs.Filtering.{as_many, filter_read, index_below, no_filter, place_within, read_at, worth_read}
 use Rattle.query_plan.proofs.plan.Plan.filter_truth.Goals as goal
 
@@ -14,15 +13,15 @@ abbrev past : FilteredFunction
 past = record { function = CountRows; filter = None }
 
 pub bounds : goal.bounds
-bounds c = place_within (fields_of_plan c.args.self.now) (form_of_plan c.args.self.now) c.args.place c.set_functions.result.now c.set_functions.ensures.functions c.requires.place
+bounds c = place_within c.args.self.now.fields c.args.self.now.query c.args.place c.set_functions.result.now c.set_functions.ensures.functions c.requires.place
 
 pub bounds-set_functions-place : goal.bounds-set_functions-place
-bounds-set_functions-place c = place_within (fields_of_plan c.args.self.now) (form_of_plan c.args.self.now) c.args.place c.set_functions.result.now c.set_functions.ensures.functions c.requires.place
+bounds-set_functions-place c = place_within c.args.self.now.fields c.args.self.now.query c.args.place c.set_functions.result.now c.set_functions.ensures.functions c.requires.place
 
 pub condition_truth_at-requires-clause-place : goal.condition_truth_at-requires-clause-place
 condition_truth_at-requires-clause-place c =
-    let fields = fields_of_plan c.args.self.now in
-    let q = form_of_plan c.args.self.now in
+    let fields = c.args.self.now.fields in
+    let q = c.args.self.now.query in
     let x = get_or c.set_functions.result.now c.args.place past in
     let below = index_below fields q c.args.place c.in-Some.index x c.requires.place (read_at fields q c.args.place c.set_functions.result.now past c.set_functions.ensures.functions c.requires.place) c.in-Some.is in
     let many = as_many fields (filters_of fields q) c.conditions.result.now (c.conditions.ensures.worth []) in
@@ -30,8 +29,8 @@ condition_truth_at-requires-clause-place c =
 
 pub returns-in-Some : goal.returns-in-Some
 returns-in-Some c =
-    let fields = fields_of_plan c.args.self.now in
-    let q = form_of_plan c.args.self.now in
+    let fields = c.args.self.now.fields in
+    let q = c.args.self.now.query in
     let values = data_of c.args.values.now in
     let x = get_or c.set_functions.result.now c.args.place past in
     let here = read_at fields q c.args.place c.set_functions.result.now past c.set_functions.ensures.functions c.requires.place in
@@ -41,8 +40,8 @@ returns-in-Some c =
 
 pub returns-in-None : goal.returns-in-None
 returns-in-None c =
-    let fields = fields_of_plan c.args.self.now in
-    let q = form_of_plan c.args.self.now in
+    let fields = c.args.self.now.fields in
+    let q = c.args.self.now.query in
     let x = get_or c.set_functions.result.now c.args.place past in
     no_filter fields q c.args.place x (data_of c.args.values.now)
     (read_at fields q c.args.place c.set_functions.result.now past c.set_functions.ensures.functions c.requires.place)

@@ -3,14 +3,13 @@ use Rattle.values.specs.Datum.{Datum, data_of}
 use Rattle.query_resolution.specs.Functions.{filters_of}
 use Rattle.query_tree.specs.Syntax.{PredicateForm}
 use Rattle.query_truth.specs.Kept.{passes}
-use Rattle.query_plan.specs.Planned.{fields_of_plan, form_of_plan}
 use Rattle.query_plan.proofs.Filtering.{marks_are, on_ok_more}
 use Rattle.query_plan.proofs.plan.Plan.mark_filters.Goals as goal
 
 pub returns : goal.returns
 returns c =
-    let fields = fields_of_plan c.args.self.now in
-    let filters = filters_of fields (form_of_plan c.args.self.now) in
+    let fields = c.args.self.now.fields in
+    let filters = filters_of fields c.args.self.now.query in
     let values = data_of c.values.result.now in
     record {
       marks = on_ok_more c.mark_conditions.result c.mark_conditions.new.marks.items _ (map (λ (p : PredicateForm). passes fields p c.args.record.now) filters) c.mark_conditions.ensures

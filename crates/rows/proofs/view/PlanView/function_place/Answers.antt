@@ -7,8 +7,7 @@ use Rattle.query_resolution.specs.declared.planning.Planned.{Planned}
 use Rattle.query_tree.specs.Syntax.{function_form}
 use Rattle.query_resolution.specs.Functions.{PlannedFunction, functions_of, place_among, planned_function, same_planned}
 use Rattle.query_resolution.specs.Planning.{planned_forms}
-use Rattle.query_plan.specs.declared.plan.Plan.{Plan}
-use Rattle.query_plan.specs.Planned.{fields_of_plan, form_of_plan}
+use Rattle.query_plan.specs.Planned.{PlannedQuery}
 use Rattle.rows.proofs.view.PlanView.function_place.Goals as goal
 
 pub returns : goal.returns
@@ -19,5 +18,5 @@ returns c =
     c.planned_place.ensures
     ∙ ap (λ (ps : List Planned). option_and_then (λ f. position (same_planned f) (planned_forms ps)) (planned_function (fields_of c.columns.result.now) g)) c.as_slice.ensures.value
     ∙ ap (λ (fs : List PlannedFunction). option_and_then (λ f. position (same_planned f) fs) (planned_function (fields_of c.columns.result.now) g)) e
-    ∙ ap (λ (fields : List Field). option_and_then (λ f. position (same_planned f) (functions_of (fields_of_plan inside.plan.now) (form_of_plan inside.plan.now))) (planned_function fields g)) (c.columns.ensures.columns ∙ c.schema.ensures.schema)
-    ∙ ap (λ (plan : Plan). place_among (fields_of_plan plan) (form_of_plan plan) g) c.self.view_is)
+    ∙ ap (λ (fields : List Field). option_and_then (λ f. position (same_planned f) (functions_of inside.plan.now.fields inside.plan.now.query)) (planned_function fields g)) (c.columns.ensures.columns ∙ c.schema.ensures.schema)
+    ∙ ap (λ (plan : PlannedQuery). place_among plan.fields plan.query g) c.self.view_is)

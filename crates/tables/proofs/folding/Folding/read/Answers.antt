@@ -1,6 +1,5 @@
 use Rattle.std.proofs.Common.{◌+◌, ◌++◌, ◌∷◌, [], List, sym, ap, subst, ◌∙◌, arith}
 use Rattle.std.proofs.Math.Logic.{∥∥₁_map}
-use Rattle.query_plan.specs.Planned.{fields_of_plan, form_of_plan}
 use Rattle.lines.specs.declared.fault.LineRefusal.{LineRefusal}
 use Rattle.lines.specs.Refusal.{IsRefusal}
 use Rattle.lines.specs.Taken.{taken}
@@ -18,8 +17,8 @@ use Rattle.tables.proofs.folding.Folding.read.Goals.{in-Ok+in_ok-take-in-Ok, in-
 
 pub take-requires-clause-room : goal.take-requires-clause-room
 take-requires-clause-room c =
-    let fields = fields_of_plan c.args.plan.now in
-    let q = form_of_plan c.args.plan.now in
+    let fields = c.args.plan.now.fields in
+    let q = c.args.plan.now.query in
     ∥∥₁_map c.requires (λ r. record {
       filters = filters_kept fields q;
       rows = kept fields q (r.before ++ good_of fields r.seen);
@@ -29,8 +28,8 @@ take-requires-clause-room c =
 
 pub returns : goal.returns
 returns c = λ before seen h.
-    let fields = fields_of_plan c.args.plan.now in
-    let q = form_of_plan c.args.plan.now in
+    let fields = c.args.plan.now.fields in
+    let q = c.args.plan.now.query in
     let line = c.args.line.now in
     elim c.match-read.branch [
       | in-Ok+in_ok-take-in-Ok w ↦

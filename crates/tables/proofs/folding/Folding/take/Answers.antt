@@ -5,7 +5,6 @@ use Rattle.groups.specs.Inside.Table.{IsTableOf}
 use Rattle.values.specs.Datum.{data_of}
 use Rattle.query_resolution.specs.Functions.{filters_of}
 use Rattle.query_resolution.specs.Sets.{grouping_places}
-use Rattle.query_plan.specs.Planned.{fields_of_plan, form_of_plan}
 use Rattle.query_truth.specs.Kept.{is_kept, kept}
 use Rattle.tables.specs.Functions.{aggregate_functions, filters_kept}
 use Rattle.tables.proofs.Bound.{bound-functions, marks-kept}
@@ -14,12 +13,12 @@ use Rattle.tables.proofs.Reading.{kept-append}
 use Rattle.tables.proofs.folding.Folding.take.Goals as goal
 
 pub add-requires-clause-narrow : goal.add-requires-clause-narrow
-add-requires-clause-narrow c = subst IsNarrowRow (sym c.values.ensures.values) (narrow-from_fits (fields_of_plan c.args.plan.now) c.args.taken.now c.requires.fits)
+add-requires-clause-narrow c = subst IsNarrowRow (sym c.values.ensures.values) (narrow-from_fits c.args.plan.now.fields c.args.taken.now c.requires.fits)
 
 pub returns-in_ok-add-clause-table : goal.returns-in_ok-add-clause-table
 returns-in_ok-add-clause-table c = λ rows given.
-    let fields = fields_of_plan c.args.plan.now in
-    let q = form_of_plan c.args.plan.now in
+    let fields = c.args.plan.now.fields in
+    let q = c.args.plan.now.query in
     let grouping = grouping_places fields q in
     let fs = aggregate_functions fields q in
     let filters = filters_kept fields q in

@@ -1,6 +1,5 @@
 use Rattle.std.proofs.Common.{ℕ, ◌+◌, min, List, [], ◌∷◌, ◌++◌, ◌∙◌, ap, sym}
 use Rattle.std.proofs.lemmas.Result.{IfOk-weaker}
-use Rattle.query_plan.specs.Planned.{fields_of_plan, form_of_plan}
 use Rattle.tables.specs.Laws.{mean-append}
 use Rattle.tables.specs.Means.{both, mean, meaning}
 use Rattle.tables.specs.Pieces.{IndexedPiece}
@@ -9,15 +8,15 @@ use Rattle.tables.proofs.job.JobByWork.add.Goals as goal
 
 pub fold_onto-requires-clause-of_plan : goal.fold_onto-requires-clause-of_plan
 fold_onto-requires-clause-of_plan g c =
-    let fields = fields_of_plan c.args.self.now.job.plan.now in
-    let q = form_of_plan c.args.self.now.job.plan.now in
+    let fields = c.args.self.now.job.plan.now.fields in
+    let q = c.args.self.now.job.plan.now.query in
     let x = c.requires.part in
     ∣ (x.0, stands-from_mean fields q c.args.part x.0 x.1) ∣₁
 
 pub returns : goal.returns
 returns g c =
-    let fields = fields_of_plan c.args.self.now.job.plan.now in
-    let q = form_of_plan c.args.self.now.job.plan.now in
+    let fields = c.args.self.now.job.plan.now.fields in
+    let q = c.args.self.now.job.plan.now.query in
     let x = c.requires.part in
     let piece : ℕ → List ℕ → IndexedPiece = λ index bytes. record { index = index; bytes = bytes } in
     let new = piece c.index.result c.bytes.result.now in

@@ -1,6 +1,5 @@
 use Rattle.std.proofs.Common.{ℕ, ◌+◌, min, List, [], ◌∷◌, ◌∙◌, ap}
 use Rattle.std.proofs.lemmas.Result.{IfOk-weaker}
-use Rattle.query_plan.specs.Planned.{fields_of_plan, form_of_plan}
 use Rattle.tables.specs.Means.{mean}
 use Rattle.tables.specs.Pieces.{IndexedPiece}
 use Rattle.tables.proofs.Means.{mean-from_stands}
@@ -8,8 +7,8 @@ use Rattle.tables.proofs.job.JobByWork.piece.Goals as goal
 
 pub returns : goal.returns
 returns g c =
-    let fields = fields_of_plan c.args.self.now.job.plan.now in
-    let q = form_of_plan c.args.self.now.job.plan.now in
+    let fields = c.args.self.now.job.plan.now.fields in
+    let q = c.args.self.now.job.plan.now.query in
     let piece : ℕ → List ℕ → IndexedPiece = λ index bytes. record { index = index; bytes = bytes } in
     IfOk-weaker c.fold_piece.result _ _
     (λ partial stands.

@@ -1,6 +1,5 @@
 use Rattle.std.proofs.Common.{ℕ, List, [], ◌∷◌, ◌∙◌, ap}
 use Rattle.std.proofs.lemmas.Result.{IfOk-weaker}
-use Rattle.query_plan.specs.Planned.{fields_of_plan, form_of_plan}
 use Rattle.tables.specs.Means.{mean}
 use Rattle.tables.specs.Pieces.{IndexedPiece}
 use Rattle.tables.proofs.Means.{mean-from_stands}
@@ -8,8 +7,8 @@ use Rattle.tables.proofs.job.JobWork.piece.Goals as goal
 
 pub returns : goal.returns
 returns c =
-    let fields = fields_of_plan c.args.self.now.plan.now in
-    let q = form_of_plan c.args.self.now.plan.now in
+    let fields = c.args.self.now.plan.now.fields in
+    let q = c.args.self.now.plan.now.query in
     let piece : List ℕ → IndexedPiece = λ bytes. record { index = c.args.i; bytes = bytes } in
     IfOk-weaker c.fold_piece.result _ _
     (λ partial stands. mean-from_stands fields q partial (piece c.bytes.result.now ∷ []) stands ∙ ap (λ bytes. mean fields q (piece bytes ∷ [])) c.bytes.ensures.bytes)

@@ -1,5 +1,4 @@
 use Rattle.std.proofs.Common.{List, [], sym, subst, arith}
-use Rattle.query_plan.specs.Planned.{fields_of_plan, form_of_plan}
 use Rattle.query_resolution.specs.Functions.{indexed_functions}
 use Rattle.query_resolution.specs.Sets.{grouping_places}
 use Rattle.query_resolution.specs.declared.function.FilteredFunction.{FilteredFunction}
@@ -12,8 +11,8 @@ use Rattle.tables.proofs.partial.Partial.empty_by.Goals as goal
 
 pub invariant_of-result : goal.invariant_of-result
 invariant_of-result g c =
-    let fields = fields_of_plan c.args.plan.now in
-    let q = form_of_plan c.args.plan.now in
+    let fields = c.args.plan.now.fields in
+    let q = c.args.plan.now.query in
     let shape = c.in_ok-shape.shape in
     let table = c.in_ok-table.table in
     let none = no-notes c.new.result.items c.new.ensures.items in (

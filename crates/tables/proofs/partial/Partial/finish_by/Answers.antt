@@ -4,7 +4,6 @@ use Rattle.groups.specs.Bags.{SameBag}
 use Rattle.groups.specs.Rows.{Row}
 use Rattle.groups.specs.Functions.{AggregateFunction}
 use Rattle.groups.specs.Inside.Table.{IsTableOf}
-use Rattle.query_plan.specs.Planned.{fields_of_plan, form_of_plan}
 use Rattle.query_resolution.specs.Sets.{grouping_places, sets_of}
 use Rattle.query_truth.specs.Kept.{kept}
 use Rattle.groups.specs.Found.{Found, row_of}
@@ -25,8 +24,8 @@ use Rattle.tables.proofs.partial.Partial.finish_by.Goals as goal
 
 pub rows_of-requires-clause-few : goal.rows_of-requires-clause-few
 rows_of-requires-clause-few g c =
-    let fields = fields_of_plan c.args.plan.now in
-    let q = form_of_plan c.args.plan.now in
+    let fields = c.args.plan.now.fields in
+    let q = c.args.plan.now.query in
     ∥∥₁_map c.requires.of_plan (λ s.
     let p = subst (λ (v : PartialState). StandsFor fields q v s.0) (sym c.self.view_is) s.1 in
     record {
@@ -39,8 +38,8 @@ rows_of-requires-clause-few g c =
 pub new-requires : goal.new-requires
 new-requires g c =
     let plan = c.args.plan.now in
-    let fields = fields_of_plan plan in
-    let q = form_of_plan plan in
+    let fields = plan.fields in
+    let q = plan.query in
     let found = map row_of c.in_ok-rows.rows.items in
     record {
       fit = ∥∥₁_map c.requires.of_plan (λ s.
@@ -51,16 +50,16 @@ new-requires g c =
 
 pub returns-clause-rows : goal.returns-clause-rows
 returns-clause-rows g c = λ pieces given.
-    let fields = fields_of_plan c.args.plan.now in
-    let q = form_of_plan c.args.plan.now in
+    let fields = c.args.plan.now.fields in
+    let q = c.args.plan.now.query in
     let p = subst (λ (v : PartialState). StandsFor fields q v pieces) (sym c.self.view_is) given in
     subst (λ (fs : List Found). SameBag fs (query_found fields q (records_of fields pieces))) (sym c.new.ensures.rows)
     (c.in_ok-rows.ensures (records_of fields pieces) p.table)
 
 pub returns-clause-fit : goal.returns-clause-fit
 returns-clause-fit g c =
-    let fields = fields_of_plan c.args.plan.now in
-    let q = form_of_plan c.args.plan.now in
+    let fields = c.args.plan.now.fields in
+    let q = c.args.plan.now.query in
     ∥∥₁_elim c.requires.of_plan (fitting-prop fields q c.new.result.found) (λ s.
     let p = subst (λ (v : PartialState). StandsFor fields q v s.0) (sym c.self.view_is) s.1 in
     let rows = kept fields q (records_of fields s.0) in
@@ -71,8 +70,8 @@ returns-clause-fit g c =
 
 pub returns-clause-members : goal.returns-clause-members
 returns-clause-members g c = λ pieces given.
-    let fields = fields_of_plan c.args.plan.now in
-    let q = form_of_plan c.args.plan.now in
+    let fields = c.args.plan.now.fields in
+    let q = c.args.plan.now.query in
     let p = subst (λ (v : PartialState). StandsFor fields q v pieces) (sym c.self.view_is) given in
     let rows = records_of fields pieces in
     c.members_law.ensures fields q c.new.result rows
@@ -81,16 +80,16 @@ returns-clause-members g c = λ pieces given.
 
 pub returns-clause-numbered : goal.returns-clause-numbered
 returns-clause-numbered g c = λ pieces given own.
-    let fields = fields_of_plan c.args.plan.now in
-    let q = form_of_plan c.args.plan.now in
+    let fields = c.args.plan.now.fields in
+    let q = c.args.plan.now.query in
     let p = subst (λ (v : PartialState). StandsFor fields q v pieces) (sym c.self.view_is) given in
     subst (AreNumbered fields pieces) (sym c.new.ensures.refused)
     (lines-numbered fields pieces (notes_in c.self.inside.notes) c.in_ok-refused.refused.items own p.notes c.in_ok-refused.ensures)
 
 pub returns-clause-refused : goal.returns-clause-refused
 returns-clause-refused g c = λ pieces given o.
-    let fields = fields_of_plan c.args.plan.now in
-    let q = form_of_plan c.args.plan.now in
+    let fields = c.args.plan.now.fields in
+    let q = c.args.plan.now.query in
     let p = subst (λ (v : PartialState). StandsFor fields q v pieces) (sym c.self.view_is) given in
     c.new.ensures.refused
     ∙ lines-in_order fields pieces (notes_in c.self.inside.notes) c.in_ok-refused.refused.items o p.notes c.in_ok-refused.ensures
@@ -98,8 +97,8 @@ returns-clause-refused g c = λ pieces given o.
 
 pub returns-clause-whole : goal.returns-clause-whole
 returns-clause-whole g c = λ input pieces given w.
-    let fields = fields_of_plan c.args.plan.now in
-    let q = form_of_plan c.args.plan.now in
+    let fields = c.args.plan.now.fields in
+    let q = c.args.plan.now.query in
     let p = subst (λ (v : PartialState). StandsFor fields q v pieces) (sym c.self.view_is) given in
     record {
       rows = subst (λ (rows : List Row). SameBag c.new.result.found (query_found fields q rows)) (cut-records fields input pieces w)

@@ -7,7 +7,6 @@ use Rattle.groups.specs.Rows.{Row}
 use Rattle.groups.specs.Inside.Table.{AreGroupsWithin, IsTableOf}
 use Rattle.groups.proofs.Meaning.{table-within}
 use Rattle.query_resolution.specs.declared.function.FilteredFunction.{FilteredFunction}
-use Rattle.query_plan.specs.Planned.{fields_of_plan, form_of_plan}
 use Rattle.query_resolution.specs.Functions.{indexed_functions}
 use Rattle.query_resolution.specs.Sets.{grouping_places}
 use Rattle.query_truth.specs.Kept.{kept}
@@ -32,8 +31,8 @@ number-requires-clause-numbered c = c.self.inside.numbered
 
 pub read_onto-requires : goal.read_onto-requires
 read_onto-requires c =
-    let fields = fields_of_plan c.args.plan.now in
-    let q = form_of_plan c.args.plan.now in
+    let fields = c.args.plan.now.fields in
+    let q = c.args.plan.now.query in
     ∥∥₁_map c.requires.of_plan (λ s.
     let p = subst (λ (v : PartialState). StandsFor fields q v s.0) (sym c.self.view_is) s.1 in
     let few = few-records fields s.0 in
@@ -57,8 +56,8 @@ overflow_add-lines c =
 
 pub invariant_of-result : goal.invariant_of-result
 invariant_of-result c =
-    let fields = fields_of_plan c.args.plan.now in
-    let q = form_of_plan c.args.plan.now in
+    let fields = c.args.plan.now.fields in
+    let q = c.args.plan.now.query in
     let self = c.self.inside in
     let folding = c.in_ok-folding.folding in
     let ls = lines c.args.rest.now in
@@ -92,8 +91,8 @@ invariant_of-result c =
 pub returns : goal.returns
 returns c = record {
   stands = λ front given whole.
-      let fields = fields_of_plan c.args.plan.now in
-      let q = form_of_plan c.args.plan.now in
+      let fields = c.args.plan.now.fields in
+      let q = c.args.plan.now.query in
       let self = c.self.inside in
       let pieces = given.pieces in
       let p = subst (λ (v : PartialState). StandsFor fields q v pieces) (sym c.self.view_is) given.stands in

@@ -8,7 +8,6 @@ use Rattle.groups.specs.Rows.{Row}
 use Rattle.groups.specs.Inside.Table.{AreGroupsWithin, IsTableOf}
 use Rattle.groups.proofs.Meaning.{table-within}
 use Rattle.query_resolution.specs.declared.function.FilteredFunction.{FilteredFunction}
-use Rattle.query_plan.specs.Planned.{fields_of_plan, form_of_plan}
 use Rattle.query_resolution.specs.Functions.{indexed_functions}
 use Rattle.query_resolution.specs.Sets.{grouping_places}
 use Rattle.query_truth.specs.Kept.{kept}
@@ -26,8 +25,8 @@ use Rattle.tables.proofs.partial.Partial.fold_onto.Goals as goal
 
 pub read_onto-requires : goal.read_onto-requires
 read_onto-requires c =
-    let fields = fields_of_plan c.args.plan.now in
-    let q = form_of_plan c.args.plan.now in
+    let fields = c.args.plan.now.fields in
+    let q = c.args.plan.now.query in
     ∥∥₁_map c.requires.of_plan (λ s.
     let p = subst (λ (v : PartialState). StandsFor fields q v s.0) (sym c.self.view_is) s.1 in
     let few = few-records fields s.0 in
@@ -42,13 +41,13 @@ overflow_add-result c =
     let listed = read.refused in
     let fewer = c.self.inside.fewer in
     let n = c.len-more.ensures in
-    let m = length-refused_of (fields_of_plan c.args.plan.now) (lines c.args.piece.now) in
+    let m = length-refused_of c.args.plan.now.fields (lines c.args.piece.now) in
     omega (arith, n, listed, m, count, fewer, same, c.requires.few)
 
 pub invariant_of-result : goal.invariant_of-result
 invariant_of-result c =
-    let fields = fields_of_plan c.args.plan.now in
-    let q = form_of_plan c.args.plan.now in
+    let fields = c.args.plan.now.fields in
+    let q = c.args.plan.now.query in
     let self = c.self.inside in
     let folding = c.in_ok-folding.folding in
     let ls = lines c.args.piece.now in
@@ -78,8 +77,8 @@ invariant_of-result c =
 
 pub returns-clause-stands : goal.returns-clause-stands
 returns-clause-stands c = λ pieces given.
-    let fields = fields_of_plan c.args.plan.now in
-    let q = form_of_plan c.args.plan.now in
+    let fields = c.args.plan.now.fields in
+    let q = c.args.plan.now.query in
     let self = c.self.inside in
     let p = subst (λ (v : PartialState). StandsFor fields q v pieces) (sym c.self.view_is) given in
     let folding = c.in_ok-folding.folding in

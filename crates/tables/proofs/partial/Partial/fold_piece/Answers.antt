@@ -1,6 +1,5 @@
 use Rattle.std.proofs.Common.{◌∷◌, [], List, length, map, refl, sym, ap, subst, arith}
 use Rattle.lines.specs.Lines.{lines}
-use Rattle.query_plan.specs.Planned.{fields_of_plan, form_of_plan}
 use Rattle.query_resolution.specs.Functions.{indexed_functions}
 use Rattle.query_resolution.specs.Sets.{grouping_places}
 use Rattle.query_truth.specs.Kept.{kept}
@@ -27,8 +26,8 @@ read_onto-requires c = ∣ record {
 
 pub invariant_of-result : goal.invariant_of-result
 invariant_of-result c =
-    let fields = fields_of_plan c.args.plan.now in
-    let q = form_of_plan c.args.plan.now in
+    let fields = c.args.plan.now.fields in
+    let q = c.args.plan.now.query in
     let shape = c.in_ok-shape.shape in
     let ls = lines c.args.piece.now in
     let read = c.in_ok-table.ensures.read [] c.in_ok-empty.ensures in
@@ -54,8 +53,8 @@ invariant_of-result c =
 
 pub returns : goal.returns
 returns c =
-    let fields = fields_of_plan c.args.plan.now in
-    let q = form_of_plan c.args.plan.now in
+    let fields = c.args.plan.now.fields in
+    let q = c.args.plan.now.query in
     let bytes = c.args.piece.now in
     let folding = c.in_ok-table.field-0 in
     let read = c.in_ok-table.ensures.read [] c.in_ok-empty.ensures in

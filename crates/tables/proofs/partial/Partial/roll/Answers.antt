@@ -3,7 +3,6 @@ use Rattle.std.proofs.Math.Logic.{∥∥₁_map}
 use Rattle.std.proofs.lemmas.Result.{IfOk-weaker}
 use Rattle.groups.specs.Functions.{AggregateFunction, bound}
 use Rattle.groups.specs.Inside.Table.{IsOfFew, IsTableOf}
-use Rattle.query_plan.specs.Planned.{fields_of_plan, form_of_plan}
 use Rattle.query_resolution.specs.declared.function.FilteredFunction.{FilteredFunction}
 use Rattle.query_resolution.specs.Functions.{indexed_functions}
 use Rattle.query_resolution.specs.Sets.{grouping_places}
@@ -19,8 +18,8 @@ use Rattle.tables.proofs.partial.Partial.roll.Goals as goal
 
 pub roll-requires-clause-few : goal.roll-requires-clause-few
 roll-requires-clause-few c =
-    let fields = fields_of_plan c.args.plan.now in
-    let q = form_of_plan c.args.plan.now in
+    let fields = c.args.plan.now.fields in
+    let q = c.args.plan.now.query in
     let self = c.self.inside in
     ∥∥₁_map c.requires.of_plan (λ s.
     let p = subst (λ (v : PartialState). StandsFor fields q v s.0) (sym c.self.view_is) s.1 in
@@ -35,8 +34,8 @@ roll-requires-clause-few c =
 
 pub returns-clause-groups : goal.returns-clause-groups
 returns-clause-groups c = IfOk-weaker c.finish.result _ _ (λ (groups : _) given pieces s.
-    let fields = fields_of_plan c.args.plan.now in
-    let q = form_of_plan c.args.plan.now in
+    let fields = c.args.plan.now.fields in
+    let q = c.args.plan.now.query in
     let self = c.self.inside in
     let filters = filters_kept fields q in
     let rows = kept fields q (records_of fields pieces) in

@@ -1,0 +1,10 @@
+use Rattle.std.proofs.Common.{◌∙◌, ℕ, List, ap, subst}
+use Rattle.query_derivation.specs.Derivation.{Derives}
+use Rattle.query_tree.specs.Syntax.{TreeForm, tree_form}
+use Rattle.query_plan.proofs.query.Query.tree.Goals as goal
+
+pub returns : goal.returns
+returns c = record {
+  form = ap tree_form c.deref.ensures ∙ c.self.view_is;
+  derived = subst (λ (t : TreeForm). ∥ ((text : List ℕ) × Derives text t) ∥₁) c.self.view_is c.self.inside.derived;
+}
