@@ -6,7 +6,6 @@ use Rattle.query_check.specs.Inside.FirstFaults.{query_fault}
 use Rattle.query_check.specs.Typing.{IsTyped}
 use Rattle.query_check.proofs.FaultHeads.{faultless_is_typed, first_of_faults}
 use Rattle.query_truth.specs.Binding.{AreConditionsOf, IsConditionOf}
-use Rattle.query_plan.specs.Form.{form_of}
 use Rattle.query_plan.proofs.checking.check.Goals as goal
 
 pub new-requires-clause-typed : goal.new-requires-clause-typed
@@ -24,9 +23,9 @@ new-requires-clause-filters c = subst (λ (t : TreeForm). AreConditionsOf c.args
 pub returns-in-Ok-clause-typed : goal.returns-in-Ok-clause-typed
 returns-in-Ok-clause-typed c =
     let typed = subst (λ (t : TreeForm). IsTyped c.args.schema t) c.tree.ensures.form c.in-Ok.ensures.typed in
-    (faultless_is_typed c.args.schema (form_of c.args.query)).1 typed
+    (faultless_is_typed c.args.schema c.args.query).1 typed
 
 pub returns-in-Err-clause-fault : goal.returns-in-Err-clause-fault
 returns-in-Err-clause-fault c = λ other.
     let told = subst (λ (t : TreeForm). query_fault c.args.schema t ≡ Some c.in-Err.fault) c.tree.ensures.form (c.in-Err.ensures.fault other) in
-    first_of_faults c.args.schema (form_of c.args.query) ∙ told
+    first_of_faults c.args.schema c.args.query ∙ told
