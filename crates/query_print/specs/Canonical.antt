@@ -79,7 +79,11 @@ tightness (or_of ps) = 0
 tightness (and_of ps) = 1
 tightness (not_of p) = 2
 tightness (truth_test p n t) = 3
-tightness atom = 4
+tightness (compare a c b) = 4
+tightness (between a n b c) = 4
+tightness (member a n ls) = 4
+tightness (null_test a n) = 4
+tightness (column n) = 4
 
 -- A part of a predicate stands in brackets exactly where it holds together less tightly than its place asks.
 abbrev pub bracketed_below : ℕ → ℕ → List ℕ → List ℕ

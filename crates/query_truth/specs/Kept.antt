@@ -5,7 +5,7 @@ use Rattle.values.specs.declared.truth.Truth.{Truth}
 use Rattle.values.specs.declared.truth.Truth.TheVariants.{True}
 use Rattle.values.specs.Datum.{Datum, null}
 use Rattle.values.specs.Schema.{Field}
-use Rattle.query_tree.specs.Syntax.{PredicateForm, TreeForm, name}
+use Rattle.query_tree.specs.Syntax.{PredicateForm, TreeForm, name, grouping, function}
 use Rattle.query_resolution.specs.Columns.{place_of}
 use Rattle.query_truth.specs.Truth.{Valuation, same_truth, truth}
 
@@ -16,7 +16,8 @@ column_value fields values n = unwrap_or (option_and_then (slice_get values) (pl
 -- In WHERE a name is the record's value of its column. No GROUPING and no set function may stand there.
 abbrev pub record_value : List Field → List Datum → Valuation
 record_value fields values (name n) = column_value fields values n
-record_value fields values e = null
+record_value fields values (grouping ns) = null
+record_value fields values (function f) = null
 
 -- the truth value of a WHERE or a FILTER for a record: in both names are columns, and it is True where none is written
 abbrev pub where_truth : List Field → Option PredicateForm → List Datum → Truth
