@@ -5,13 +5,12 @@ use Rattle.std.specs.declared.cmp.Ordering.TheVariants.{Less, Equal, Greater}
 use Rattle.std.specs.Ordering.{is_gt, nat_cmp, ordering_reverse, ordering_then}
 use Rattle.std.specs.Cmp.Lexicographic.{slice_cmp}
 use Rattle.std.specs.List.{AllByRecursion}
-use Rattle.values.specs.Datum.{Datum}
+use Rattle.values.specs.Datum.{Datum, is_null}
 use Rattle.values.specs.Order.{value_order}
 use Rattle.values.specs.Schema.{Field}
 use Rattle.query_tree.specs.Syntax.{KeyForm, TreeForm}
 use Rattle.query_resolution.specs.Sets.{grouping_places}
 use Rattle.query_check.specs.Typing.{key_expression}
-use Rattle.query_truth.specs.Truth.{is_null}
 use Rattle.groups.specs.Fitting.{set_of}
 use Rattle.groups.specs.Functions.{Summary}
 use Rattle.groups.specs.Found.{Found}

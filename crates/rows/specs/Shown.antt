@@ -4,7 +4,7 @@ use Rattle.std.specs.List.{list_any}
 use Rattle.std.specs.Option.{option_map_or, option_and_then}
 use Rattle.values.specs.Datum.{Datum, whole, null}
 use Rattle.values.specs.Schema.{Field}
-use Rattle.query_tree.specs.Syntax.{ExpressionForm, FunctionForm, TreeForm, name, grouping, function}
+use Rattle.query_tree.specs.Syntax.{ExpressionForm, TreeForm, name, grouping, function}
 use Rattle.query_resolution.specs.Columns.{place_of}
 use Rattle.query_resolution.specs.Functions.{place_among}
 use Rattle.groups.specs.Functions.{Summary, plain}
@@ -23,10 +23,6 @@ value_in set key place = option_map_or (λ at. slice_index_or key at null) (posi
 -- what a row of a grouping set shows for the column of a name
 abbrev pub name_shown : List Field → List ℕ → Key → List ℕ → Datum
 name_shown fields set key n = option_map_or (value_in set key) (place_of fields n) null
-
--- what a row with these cells shows for a set function: the cell at the place of the function, by its FILTER too, among those of the query
-abbrev pub function_shown : List Field → TreeForm → List Summary → FunctionForm → Summary
-function_shown fields t cells f = unwrap_or (option_and_then (slice_get cells) (place_among fields t f)) (plain null)
 
 -- ---- GROUPING
 
@@ -49,11 +45,11 @@ grouping_shown fields set names = if nat_lt 8 (length names) then null else whol
 
 -- ---- rows
 
--- what a row of a grouping set, with this key and these cells, shows for an expression
+-- what a row of a grouping set, with this key and these cells, shows for an expression; for a set function it is the cell at the place of the function, by its FILTER too, among those of the query
 abbrev pub expression_shown : List Field → TreeForm → List ℕ → Key → List Summary → ExpressionForm → Summary
 expression_shown fields t set key cells (name n) = plain (name_shown fields set key n)
 expression_shown fields t set key cells (grouping names) = plain (grouping_shown fields set names)
-expression_shown fields t set key cells (function f) = function_shown fields t cells f
+expression_shown fields t set key cells (function f) = unwrap_or (option_and_then (slice_get cells) (place_among fields t f)) (plain null)
 
 -- what a row shows, item by item
 abbrev pub row_shown : List Field → TreeForm → Found → List Summary
