@@ -7,3 +7,7 @@ use Rattle.query_tree.specs.Syntax.{TreeForm}
 pub record PlannedQuery : Type 0 where
   pub fields : List Field
   pub query : TreeForm
+
+-- The plan of a query under columns.
+abbrev pub planned : List Field → TreeForm → PlannedQuery
+planned columns q = record { fields = columns; query = q }
