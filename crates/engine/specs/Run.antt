@@ -7,18 +7,19 @@ use Rattle.query_tree.specs.Syntax.{TreeForm}
 use Rattle.tables.specs.Results.{query_found}
 use Rattle.gathering.specs.declared.fault.GatherFault.{GatherFault}
 use Rattle.gathering.specs.declared.fault.GatherFault.TheVariants as gathering
-use Rattle.report.specs.Report.{refusals_of, report_of}
+use Rattle.rows.specs.Order.{rows_shown}
+use Rattle.report.specs.Text.{refused_bytes, report_bytes}
 use Rattle.engine.specs.Written.{AppendsBeginning}
 use Rattle.engine.specs.declared.fault.RunFault.{RunFault}
 use Rattle.engine.specs.declared.fault.RunFault.TheVariants.{Reading, OutOfMemory, ThreadNotStarted, TooManyRefused, WritingReport, WritingRefused}
 
 -- the report of a query on an input: what the query finds in the good records of all lines
 abbrev pub report : List Field → TreeForm → List ℕ → List ℕ
-report fields q input = report_of fields q (query_found fields q (good fields input))
+report fields q input = report_bytes q.items (rows_shown fields q (query_found fields q (good fields input)))
 
 -- the list of the refused lines of an input
 abbrev pub refusals : List Field → List ℕ → List ℕ
-refusals fields input = refusals_of fields (refused fields input)
+refusals fields input = refused_bytes fields (refused fields input)
 
 -- not more than the limit, where there is one
 abbrev pub IsWithin : Option ℕ → ℕ → Type 0
