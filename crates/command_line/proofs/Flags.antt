@@ -2,7 +2,7 @@
 use Rattle.std.proofs.Common.{◌≡◌, ◌↔◌, subst, sym, true, Bool, List, Some, codes}
 use Rattle.clap.specs.declared.parser.matches.ArgMatches.{ArgMatches}
 use Rattle.clap.specs.Words.{App, HasMatchesOf, Text, found_of, one_text}
-use Rattle.command_line.specs.Command.{IsSet, command}
+use Rattle.semantics.specs.CommandLine.{IsSet, command}
 use Rattle.command_line.proofs.Numbers.{one_of-matches}
 
 -- a flag that reads as set is set by what clap publishes, and no other

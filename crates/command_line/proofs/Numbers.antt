@@ -4,8 +4,7 @@ use Rattle.std.specs.Str.Parse.{ParsesUnsigned}
 use Rattle.clap.specs.declared.parser.matches.ArgMatches.{ArgMatches}
 use Rattle.clap.specs.Words.{App, HasMatchesOf, ReadsOne, Text, found_of, matches_of, one_of, one_text}
 use Rattle.clap.proofs.WalkLemmas.{one_text-rows}
-use Rattle.command_line.specs.Numbers.{IsNumberIn}
-use Rattle.command_line.specs.Command.{IsNumberOf, command}
+use Rattle.semantics.specs.CommandLine.{IsNumberIn, IsNumberOf, command}
 use Rattle.command_line.proofs.Published.{rows_of-matches}
 
 -- what the getter answers is the number that the text writes

@@ -3,12 +3,10 @@ use Rattle.std.proofs.Common.{◌≡◌, ◌∙◌, ap, subst, sym, refl, true, 
 use Rattle.clap.specs.declared.builder.arg.Arg.{Arg}
 use Rattle.clap.specs.declared.error.Error.{Error}
 use Rattle.clap.specs.declared.parser.matches.ArgMatches.{ArgMatches}
-use Rattle.clap.specs.Words.{App, HasKind, HasMatchesOf, Text}
-use Rattle.clap.specs.Words.{fault_of, first_of, first_value, found_of, is_simple}
-use Rattle.clap.specs.Words.{is_simple_and_free, matches_of, rows_of, rule_of, with_rule}
+use Rattle.clap.specs.Words.{App, HasKind, HasMatchesOf, Text, fault_of, first_of, first_value, found_of, is_simple, is_simple_and_free, matches_of, rows_of, rule_of, with_rule}
 use Rattle.clap.proofs.OnLiterals.{clap_on_literals}
 use Rattle.clap.proofs.WalkLemmas.{first_value-rows}
-use Rattle.command_line.specs.Command.{command, value_of}
+use Rattle.semantics.specs.CommandLine.{command, value_of}
 
 -- clap publishes the matches of the command
 command-is_simple : is_simple command ≡ true

@@ -1,6 +1,5 @@
 -- A parse under the program's command gives each argument that has to be given a value.
-use Rattle.std.proofs.Common.{◌≡◌, ◌∙◌, ◌<◌, ◌≤◌, ◌&&◌, ap, subst, sym, refl, true, false, true≢false, not, arith}
-use Rattle.std.proofs.Common.{ℕ, zero, suc, Bool, List, [], ◌∷◌, Option, Some, None, is_some, length, map, codes, inl, inr}
+use Rattle.std.proofs.Common.{◌≡◌, ◌∙◌, ◌<◌, ◌≤◌, ◌&&◌, ap, subst, sym, refl, true, false, true≢false, not, arith, ℕ, zero, suc, Bool, List, [], ◌∷◌, Option, Some, None, is_some, length, map, codes, inl, inr}
 use Rattle.std.specs.List.{list_all, slice_index_or}
 use Rattle.std.specs.Str.{bytes_eq}
 use Rattle.std.proofs.lemmas.List.{get_or-map, length-map}
@@ -13,13 +12,12 @@ use Rattle.clap.specs.declared.builder.command.Command.{Command}
 use Rattle.clap.specs.declared.parser.matches.ArgMatches.{ArgMatches}
 use Rattle.clap.specs.Facts.{least_values, unwrap_or_range}
 use Rattle.clap.specs.Walk.{is_empty, is_simple_arg}
-use Rattle.clap.specs.Words.{App, IsParsedFrom, IsPlain, IsPlainArg, Rule, Text}
-use Rattle.clap.specs.Words.{app_of, args_of, first_value, found_of, rule_of}
+use Rattle.clap.specs.Words.{App, IsParsedFrom, IsPlain, IsPlainArg, Rule, Text, app_of, args_of, first_value, found_of, rule_of}
 use Rattle.clap.proofs.CallerLemmas.{required_has_value}
 use Rattle.clap.proofs.SimpleLemmas.{is_false, is_nil, plain_fields}
 use Rattle.clap.proofs.TakesLemmas.{each_rule}
 use Rattle.clap.proofs.WalkLemmas.{both}
-use Rattle.command_line.specs.Command.{command}
+use Rattle.semantics.specs.CommandLine.{command}
 
 -- ---- tests, which compute at the program's command
 

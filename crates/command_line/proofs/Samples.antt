@@ -3,7 +3,7 @@ use Rattle.std.proofs.Common.{◌≡◌, refl, List, [], ◌∷◌, Some, None, 
 use Rattle.clap.proofs.OnLiterals.{clap_on_literals}
 use Rattle.clap.specs.declared.error.kind.ErrorKind.TheVariants.{DisplayHelp, DisplayVersion, MissingRequiredArgument, TooManyValues, ValueValidation}
 use Rattle.clap.specs.Words.{Text, fault_of, matches_of, one_of}
-use Rattle.command_line.specs.Command.{IsSet, command, value_of}
+use Rattle.semantics.specs.CommandLine.{IsSet, command, value_of}
 
 -- words that are taken
 abbrev words : List Text

@@ -1,8 +1,7 @@
 //! The kinds of argument that the program's command has.
 ghost use Rattle.std.specs.Prelude.{◌≡◌, ◌↔◌, [], ◌∷◌, Some, codes, false, is_some, true};
 ghost use Rattle.clap.specs.Words.{first_value, found_of, one_text, rule_of};
-ghost use Rattle.command_line.specs.Command.{flag, number_option, required_option, required_word};
-ghost use Rattle.command_line.specs.Numbers.{IsNumberIn};
+ghost use Rattle.semantics.specs.CommandLine.{flag, number_option, required_option, required_word, IsNumberIn};
 
 use clap::{Arg, ArgAction, ArgMatches, value_parser};
 use std::alloc::Global;

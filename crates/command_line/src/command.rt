@@ -2,19 +2,17 @@
 ghost use Rattle.std.specs.Prelude.{◌≡◌, ◌↔◌, [], ℕ, IfErr, IfOk, IfSome, IsNone, Some, codes, true};
 ghost use Rattle.clap.specs.Walk.{texts};
 ghost use Rattle.clap.specs.Words.{app_of, fault_of, found_of, kind_of, new_app, one_text};
-ghost use Rattle.command_line.specs.Command.{IsNumberOf, IsSet, command, value_of, with_version};
-ghost use Rattle.command_line.specs.Numbers.{IsNumberIn};
-ghost use Rattle.command_line.specs.Ranges.{AreInRange};
-ghost use Rattle.command_line.specs.Refusal.{IsRefusalOf};
+ghost use Rattle.semantics.specs.CommandLine.{IsNumberOf, IsSet, command, value_of, with_version, IsNumberIn, AreInRange, IsRefusalOf};
 
 use crate::arguments::{
     defaulted_option, flag, is_set, number_of, number_option, required_option, required_word,
     text_of,
 };
 use crate::options::Options;
-use crate::words::{Settings, WordsFault};
+use crate::words::Settings;
 use clap::error::ErrorKind;
 use clap::{ArgMatches, Command, Error};
+use semantics::WordsFault;
 use std::alloc::Global;
 
 /// What `--version` shows behind the program's name.

@@ -8,4 +8,5 @@ mod words;
 
 pub use command::settings;
 pub use options::Options;
-pub use words::{Settings, WordsFault};
+pub use semantics::WordsFault;
+pub use words::Settings;

@@ -1,6 +1,7 @@
 //! The numbers by which a run is done.
 ghost use Rattle.std.specs.Prelude.{◌≡◌, ◌≤◌, IsSome, IfSome};
-ghost use Rattle.command_line.specs.Ranges.{AreInRange, IsRoundLength};
+ghost use Rattle.semantics.specs.CommandLine.{AreInRange};
+ghost use Rattle.command_line.specs.Ranges.{IsRoundLength};
 
 /// The most bytes that a round may have.
 const LONGEST_ROUND: usize = 67_108_864;

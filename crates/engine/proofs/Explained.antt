@@ -3,9 +3,9 @@ use Rattle.std.proofs.Common.{◌≡◌, ◌∙◌, ◌+◌, ℕ, zero, suc, Lis
 use Rattle.std.proofs.lemmas.List.{append-nil}
 use Rattle.std.specs.Prelude.{codes, decimal}
 use Rattle.std.specs.List.{enumerate_from, flat_map}
-use Rattle.values.specs.Schema.{Field}
-use Rattle.query_print.specs.Canonical.{set_text}
-use Rattle.engine.specs.Explanation.{set_line}
+use Rattle.semantics.specs.Columns.{Field}
+use Rattle.semantics.specs.Canonical.{set_text}
+use Rattle.semantics.specs.Explanation.{set_line}
 
 -- a line of an index and a text
 abbrev line : ℕ → List ℕ → List ℕ

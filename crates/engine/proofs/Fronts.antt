@@ -3,7 +3,7 @@ use Rattle.std.proofs.Common.{◌≡◌, ◌++◌, ◌-◌, ◌∙◌, true, ℕ
 use Rattle.std.proofs.lemmas.List.{take_all, take-append-drop}
 use Rattle.std.specs.Prelude.{IfErr, is_err}
 use Rattle.std.specs.Io.KnownBytes.{Appends}
-use Rattle.engine.specs.Written.{AppendsBeginning}
+use Rattle.semantics.specs.Run.{AppendsBeginning}
 
 -- the first n of the rest may be counted to the front
 pub append-moved : (front rest : List ℕ) (n : ℕ)

@@ -3,13 +3,12 @@ use Rattle.std.proofs.Common.{◌≡◌, ◌+◌, ℕ, List, [], ◌∷◌, map,
 use Rattle.std.proofs.lemmas.List.Elements.{All-from_recursion}
 use Rattle.std.specs.List.{All, AllByRecursion, enumerate_from}
 use Rattle.std.specs.Result.{result_err}
-use Rattle.values.specs.Datum.{Datum}
-use Rattle.values.specs.Schema.{Field}
-use Rattle.lines.specs.declared.fault.LineFault.{LineFault}
-use Rattle.lines.specs.declared.fault.LineFault.TheVariants.{TooLong, NoJson, NoObject, BadValue}
-use Rattle.lines.specs.Input.{refused}
-use Rattle.lines.specs.Lines.{lines}
-use Rattle.lines.specs.Taken.{taken}
+use Rattle.semantics.specs.Values.{Datum}
+use Rattle.semantics.specs.Columns.{Field}
+use Rattle.semantics.specs.declared.line_fault.LineFault.{LineFault}
+use Rattle.semantics.specs.declared.line_fault.LineFault.TheVariants.{TooLong, NoJson, NoObject, BadValue}
+use Rattle.semantics.specs.Records.{refused, taken}
+use Rattle.semantics.specs.Lines.{lines}
 use Rattle.lines.proofs.Outcomes.{taken-bad_value}
 use Rattle.report.specs.Report.{NamesColumn}
 

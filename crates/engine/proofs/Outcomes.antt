@@ -1,27 +1,29 @@
 -- What a run leaves, from what it is known to have read and made.
 use Rattle.std.proofs.Common.{◌≡◌, ◌≢◌, ◌≤◌, ◌<◌, ◌∙◌, ℕ, List, length, Option, Some, None, Result, Ok, Err, refl, subst, sym, ap, arith}
 use Rattle.std.specs.Prelude.{IfErr, IfOk, IfSome, OnOk}
-use Rattle.values.specs.Schema.{Field}
-use Rattle.query_tree.specs.Syntax.{TreeForm}
-use Rattle.engine.specs.declared.fault.RunFault.{RunFault}
-use Rattle.engine.specs.declared.fault.RunFault.TheVariants.{Reading, OutOfMemory, ThreadNotStarted, TooManyRefused, WritingReport, WritingRefused}
-use Rattle.groups.specs.Rows.{Row}
-use Rattle.lines.specs.declared.fault.LineFault.{LineFault}
-use Rattle.lines.specs.Input.{refused}
-use Rattle.lines.specs.Lines.{lines}
+use Rattle.semantics.specs.Columns.{Field}
+use Rattle.semantics.specs.Syntax.{TreeForm}
+use Rattle.semantics.specs.declared.run_fault.RunFault.{RunFault}
+use Rattle.semantics.specs.declared.run_fault.RunFault.TheVariants.{Reading, OutOfMemory, ThreadNotStarted, TooManyRefused, WritingReport, WritingRefused}
+use Rattle.semantics.specs.Groups.{Row}
+use Rattle.semantics.specs.declared.line_fault.LineFault.{LineFault}
+use Rattle.semantics.specs.Records.{refused}
+use Rattle.semantics.specs.Lines.{lines}
 use Rattle.lines.specs.Trim.{trim}
 use Rattle.lines.proofs.Trims.{count-trim, good-trim, refused-trim}
 use Rattle.report.specs.Report.{refusals_of, report_of}
 use Rattle.tables.specs.Partials.{StandsForInput}
-use Rattle.tables.specs.Results.{query_found}
+use Rattle.semantics.specs.Found.{query_found}
 use Rattle.tables.specs.States.{PartialState}
 use Rattle.engine.specs.declared.running.Done.{Done}
 use Rattle.gathering.specs.declared.fault.GatherFault.{GatherFault}
 use Rattle.gathering.specs.declared.fault.GatherFault.TheVariants as gathering
 use Rattle.gathering.specs.Faults.{Stops}
 use Rattle.gathering.specs.Gathered.{IsWhole, limit_number}
-use Rattle.engine.specs.Run.{Hinders, IsDecided, IsWithin, Leaves, LeavesOfInput, fault_of_gathering, refusals, report}
-use Rattle.engine.specs.Written.{AppendsBeginning, LeavesWritten}
+use Rattle.semantics.specs.Run.{Hinders, IsDecided, IsWithin, Leaves, refusals, report, AppendsBeginning}
+use Rattle.engine.specs.Run.{LeavesOfInput}
+use Rattle.gathering.specs.RunFaults.{fault_of_gathering}
+use Rattle.engine.specs.Written.{LeavesWritten}
 use Rattle.gathering.proofs.Tallies.{lines-of-input, refused-of-input}
 use Rattle.std.specs.Io.KnownBytes.{Appends, Keeps}
 

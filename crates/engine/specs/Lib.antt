@@ -1,3 +1,2 @@
-pub mod Explanation
 pub mod Run
 pub mod Written

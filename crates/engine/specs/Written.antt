@@ -1,12 +1,9 @@
 -- What a failed write leaves.
-use Rattle.std.specs.Prelude.{◌≡◌, ◌++◌, ℕ, List, Option}
+use Rattle.std.specs.Prelude.{ℕ, List, Option}
 use Rattle.std.specs.Io.KnownBytes.{Appends, Keeps}
-use Rattle.engine.specs.declared.fault.RunFault.{RunFault}
-use Rattle.engine.specs.declared.fault.RunFault.TheVariants.{WritingReport, WritingRefused}
-
--- the known bytes grew by a beginning of the text, which may be none or all of it
-abbrev pub AppendsBeginning : Option (List ℕ) → Option (List ℕ) → List ℕ → Type 0
-AppendsBeginning old new text = (front : List ℕ) × (rest : List ℕ) × (text ≡ front ++ rest) × Appends old new front
+use Rattle.semantics.specs.declared.run_fault.RunFault.{RunFault}
+use Rattle.semantics.specs.declared.run_fault.RunFault.TheVariants.{WritingReport, WritingRefused}
+use Rattle.semantics.specs.Run.{AppendsBeginning}
 
 -- what a fault leaves where a report was to be written to one writer, and then a list of refused lines to another: a beginning of the report and nothing
 -- of the list, or the report and a beginning of the list

@@ -1,6 +1,6 @@
 //! The explanation of a query.
 ghost use Rattle.std.specs.Prelude.{◌≡◌, IfOk, string_bytes};
-ghost use Rattle.engine.specs.Explanation.{explanation};
+ghost use Rattle.semantics.specs.Explanation.{explanation};
 
 use query::{Plan, print, set_text};
 use std::alloc::{AllocError, Global};

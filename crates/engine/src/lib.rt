@@ -2,13 +2,12 @@
 #![tactic(auto)]
 
 mod explaining;
-mod fault;
 mod reporting;
 mod running;
 mod serving;
 mod writing;
 
-pub use fault::RunFault;
 pub use running::{Done, run, run_alone};
+pub use semantics::RunFault;
 pub use serving::serve;
 pub use writing::put;

@@ -1,20 +1,21 @@
 //! A run: from a reader to the report and the list of refused lines.
 ghost use Rattle.std.specs.Prelude.{◌≡◌, ◌≢◌, ℕ, List, IfErr, IfOk, IfSome, OnOk, length};
 ghost use Rattle.std.specs.Io.KnownBytes.{Appends};
-ghost use Rattle.values.specs.Schema.{Field};
-ghost use Rattle.lines.specs.Input.{refused};
-ghost use Rattle.lines.specs.Lines.{lines};
-ghost use Rattle.query_tree.specs.Syntax.{TreeForm};
+ghost use Rattle.semantics.specs.Columns.{Field};
+ghost use Rattle.semantics.specs.Records.{refused};
+ghost use Rattle.semantics.specs.Lines.{lines};
+ghost use Rattle.semantics.specs.Syntax.{TreeForm};
 ghost use Rattle.tables.specs.Partials.{StandsForInput};
-ghost use Rattle.engine.specs.Run.{IsDecided, IsWithin, Leaves, LeavesOfInput, refusals, report};
+ghost use Rattle.semantics.specs.Run.{IsDecided, IsWithin, Leaves, refusals, report};
+ghost use Rattle.engine.specs.Run.{LeavesOfInput};
 
-use crate::fault::RunFault;
 use crate::reporting::Writers;
 use crate::writing::put_both;
 use command_line::Options;
 use gathering::{gather, gather_alone};
 use query::Plan;
 use report::{arranged_law, refused_text};
+use semantics::RunFault;
 use std::alloc::{AllocError, Global};
 use std::io::{Read, Write};
 use std::marker::{Send, Sync};

@@ -1,18 +1,18 @@
 //! What the program does once its words are read.
 ghost use Rattle.std.specs.Prelude.{◌≡◌, [], ◌<◌, ◌≤◌, IfOk, Ok, OnOk, true};
 ghost use Rattle.std.specs.Io.KnownBytes.{Appends};
-ghost use Rattle.values.specs.Schema.{schema_of};
-ghost use Rattle.query_check.specs.Faults.{query_faults};
-ghost use Rattle.query_derivation.specs.Derivation.{Derives};
-ghost use Rattle.engine.specs.Explanation.{Explains, IsAnswerable, explanation};
+ghost use Rattle.semantics.specs.Columns.{schema_of};
+ghost use Rattle.semantics.specs.Faults.{query_faults};
+ghost use Rattle.semantics.specs.Reading.{Derives};
+ghost use Rattle.semantics.specs.Explanation.{Explains, IsAnswerable, explanation};
 
 use crate::explaining::explanation;
-use crate::fault::RunFault;
 use crate::running::run;
 use crate::writing::put_and_flush;
 use clap::error::ErrorKind;
 use command_line::{Settings, WordsFault};
 use query::{Plan, QueryFault, check, parse};
+use semantics::RunFault;
 use std::alloc::{AllocError, Global};
 use std::io::{Read, Write};
 use std::marker::{Send, Sync};

@@ -1,9 +1,10 @@
 //! Writing texts whole.
 ghost use Rattle.std.specs.Prelude.{◌<◌, IfErr, OnErr, OnOk, length, take};
 ghost use Rattle.std.specs.Io.KnownBytes.{Appends};
-ghost use Rattle.engine.specs.Written.{AppendsBeginning, LeavesWritten};
+ghost use Rattle.semantics.specs.Run.{AppendsBeginning};
+ghost use Rattle.engine.specs.Written.{LeavesWritten};
 
-use crate::fault::RunFault;
+use semantics::RunFault;
 use std::io::Write;
 
 /// A write or a flush failed, or a write took no byte.

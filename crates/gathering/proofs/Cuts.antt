@@ -9,7 +9,7 @@ use Rattle.std.proofs.lemmas.Bool.{cases_lt}
 use Rattle.std.proofs.lemmas.List.{get_or-drop}
 use Rattle.std.proofs.lemmas.List.Elements.{All-head, All-tail}
 use Rattle.lines.specs.declared.pieces.Piece.{Piece}
-use Rattle.lines.specs.Lines.{line_feed, lines}
+use Rattle.semantics.specs.Lines.{line_feed, lines}
 use Rattle.lines.specs.Pieces.{AllButLast, AreConsecutive, AreWholeLines, EndsInFeed, IsStop, after_feed, at_end, bytes_of}
 use Rattle.tables.specs.Pieces.{IndexedPiece, IsCutInto, all_lines, joined_bytes}
 use Rattle.tables.specs.Means.{indexed, indexed_from, no_bytes, with_index}

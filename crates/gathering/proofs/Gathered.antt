@@ -4,17 +4,17 @@ use Rattle.std.specs.Prelude.{IfSome, IsErr}
 use Rattle.std.specs.Io.KnownBytes.{Consumes, IsAtEnd}
 use Rattle.std.proofs.KnownBytes.{Consumes-nil, Consumes-trans}
 use Rattle.std.proofs.lemmas.List.{length-map}
-use Rattle.values.specs.Schema.{Field}
+use Rattle.semantics.specs.Columns.{Field}
 use Rattle.lines.specs.declared.fault.ReadFault.{ReadFault}
-use Rattle.lines.specs.declared.fault.LineFault.{LineFault}
-use Rattle.lines.specs.Input.{refused}
-use Rattle.lines.specs.Lines.{line_feed, lines}
+use Rattle.semantics.specs.declared.line_fault.LineFault.{LineFault}
+use Rattle.semantics.specs.Records.{refused}
+use Rattle.semantics.specs.Lines.{line_feed, lines}
 use Rattle.lines.specs.Pieces.{AreWholeLines, EndsInFeed}
 use Rattle.lines.specs.Rounds.{HasMoved, RoundsState}
 use Rattle.lines.specs.Trim.{trim}
 use Rattle.lines.proofs.Fronts.{refused-whole_lines}
 use Rattle.lines.proofs.Trims.{refused-trim}
-use Rattle.query_tree.specs.Syntax.{TreeForm}
+use Rattle.semantics.specs.Syntax.{TreeForm}
 use Rattle.tables.specs.Partials.{StandsFor, StandsForInput, whole_piece}
 use Rattle.tables.specs.States.{PartialState}
 use Rattle.tables.proofs.Following.{one-piece}

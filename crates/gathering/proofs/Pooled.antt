@@ -1,16 +1,16 @@
 -- What a pool answers over a front and the pieces of a round behind it.
 use Rattle.std.proofs.Common.{◌≡◌, ◌∙◌, ◌+◌, ◌≤◌, ◌<◌, ◌^◌, ◌++◌, ℕ, List, [], length, ap, subst, arith}
 use Rattle.std.specs.List.{All}
-use Rattle.values.specs.Schema.{Field}
+use Rattle.semantics.specs.Columns.{Field}
 use Rattle.lines.specs.declared.pieces.Piece.{Piece}
-use Rattle.lines.specs.Lines.{lines}
-use Rattle.lines.specs.Input.{refused}
+use Rattle.semantics.specs.Lines.{lines}
+use Rattle.semantics.specs.Records.{refused}
 use Rattle.pool.specs.declared.laws.Outcome.{Outcome}
 use Rattle.pool.specs.declared.laws.Outcome.TheVariants.{Whole, Over}
 use Rattle.pool.specs.Outcomes.{Decides}
 use Rattle.pool.specs.Totals.{sum_below, total}
 use Rattle.pool.proofs.Sums.{total_weight}
-use Rattle.query_tree.specs.Syntax.{TreeForm}
+use Rattle.semantics.specs.Syntax.{TreeForm}
 use Rattle.query_plan.specs.Planned.{PlannedQuery}
 use Rattle.tables.specs.declared.job.Job.{Job}
 use Rattle.tables.specs.declared.partial.Partial.{Partial}

@@ -5,13 +5,12 @@ use Rattle.std.proofs.lemmas.List.Elements.{filter_map-append}
 use Rattle.std.proofs.lemmas.List.Splits.{length-slice_split}
 use Rattle.std.specs.List.{enumerate_from, onto_first, slice_split}
 use Rattle.std.specs.Result.{result_err}
-use Rattle.values.specs.Datum.{Datum}
-use Rattle.values.specs.Schema.{Field}
-use Rattle.lines.specs.declared.fault.LineFault.{LineFault}
-use Rattle.lines.specs.Lines.{line_feed, lines, without_empty_last}
-use Rattle.lines.specs.Taken.{taken}
-use Rattle.lines.specs.Input.{answers, refused}
-use Rattle.query_tree.specs.Syntax.{TreeForm}
+use Rattle.semantics.specs.Values.{Datum}
+use Rattle.semantics.specs.Columns.{Field}
+use Rattle.semantics.specs.declared.line_fault.LineFault.{LineFault}
+use Rattle.semantics.specs.Lines.{line_feed, lines, without_empty_last}
+use Rattle.semantics.specs.Records.{taken, answers, refused}
+use Rattle.semantics.specs.Syntax.{TreeForm}
 use Rattle.tables.specs.Partials.{StandsForInput}
 use Rattle.tables.specs.Pieces.{IndexedPiece, all_lines, refused_within}
 use Rattle.tables.specs.States.{PartialState}

@@ -1,7 +1,7 @@
 -- How the gathering of a result ends without one.
 use Rattle.std.specs.Prelude.{◌≡◌, ◌⊎◌, ◌<◌, ⊤, ℕ, List, Option, Some, IfSome, length}
-use Rattle.values.specs.Schema.{Field}
-use Rattle.lines.specs.Input.{refused}
+use Rattle.semantics.specs.Columns.{Field}
+use Rattle.semantics.specs.Records.{refused}
 use Rattle.pool.specs.declared.laws.PoolFault.{PoolFault}
 use Rattle.pool.specs.declared.laws.PoolFault.TheVariants as pool
 use Rattle.gathering.specs.declared.fault.GatherFault.{GatherFault}

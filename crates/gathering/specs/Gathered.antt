@@ -1,8 +1,8 @@
 -- The result of a query over all that a reader gives.
 use Rattle.std.specs.Prelude.{◌≡◌, ℕ, List, Option, IfSome, unwrap_or}
-use Rattle.values.specs.Schema.{Field}
+use Rattle.semantics.specs.Columns.{Field}
 use Rattle.lines.specs.Trim.{trim}
-use Rattle.query_tree.specs.Syntax.{TreeForm}
+use Rattle.semantics.specs.Syntax.{TreeForm}
 use Rattle.tables.specs.Partials.{StandsForInput}
 use Rattle.tables.specs.States.{PartialState}
 

@@ -3,7 +3,7 @@ use Rattle.std.specs.Prelude.{◌≡◌, ◌⊎◌, ◌<◌, ◌≤◌, ◌+◌,
 use Rattle.std.specs.Io.KnownBytes.{Consumes}
 use Rattle.std.specs.declared.alloc.Global.{Global}
 use Rattle.std.specs.declared.vec.Vec.{Vec}
-use Rattle.values.specs.Schema.{Field}
+use Rattle.semantics.specs.Columns.{Field}
 use Rattle.lines.specs.declared.pieces.Piece.{Piece}
 use Rattle.lines.specs.Pieces.{AreWholeLines}
 use Rattle.lines.specs.Rounds.{HasMoved, RoundState, RoundsState}
@@ -15,7 +15,7 @@ use Rattle.pool.specs.Settled.{AreAll, HaveEachOnce, pieces_of}
 use Rattle.tables.specs.Means.{indexed}
 use Rattle.tables.specs.Pieces.{IsCutInto}
 use Rattle.gathering.specs.Gathered.{IsWhole}
-use Rattle.query_tree.specs.Syntax.{TreeForm}
+use Rattle.semantics.specs.Syntax.{TreeForm}
 use Rattle.tables.specs.declared.partial.Partial.{Partial}
 use Rattle.tables.specs.Partials.{StandsForInput}
 use Rattle.tables.specs.States.{PartialState}

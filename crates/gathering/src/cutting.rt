@@ -1,6 +1,6 @@
 //! Cutting an input into pieces that are not too many.
 ghost use Rattle.std.specs.Prelude.{◌≡◌, ◌≤◌, ◌<◌, ◌^◌, All, IfOk, length};
-ghost use Rattle.lines.specs.Lines.{lines};
+ghost use Rattle.semantics.specs.Lines.{lines};
 ghost use Rattle.tables.specs.Pieces.{IsCutInto, all_lines};
 ghost use Rattle.tables.specs.Means.{indexed};
 

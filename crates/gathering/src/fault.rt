@@ -2,9 +2,11 @@
 ghost use Rattle.std.specs.Prelude.{◌≡◌};
 ghost use Rattle.gathering.specs.declared.fault.GatherFault.TheVariants.{OutOfMemory, Reading};
 ghost use Rattle.gathering.specs.Faults.{fault_of_pool};
+ghost use Rattle.gathering.specs.RunFaults.{fault_of_gathering};
 
 use lines::ReadFault;
 use pool::PoolFault;
+use semantics::RunFault;
 use std::alloc::AllocError;
 use thiserror::Error;
 
@@ -50,6 +52,19 @@ impl From<PoolFault> for GatherFault {
         match fault {
             PoolFault::OutOfMemory => GatherFault::OutOfMemory,
             PoolFault::ThreadNotStarted => GatherFault::ThreadNotStarted,
+        }
+    }
+}
+
+impl From<GatherFault> for RunFault {
+    ghost from_gives = { λ given fault. fault ≡ fault_of_gathering given };
+
+    fn from(fault: GatherFault) -> RunFault {
+        match fault {
+            GatherFault::Reading => RunFault::Reading,
+            GatherFault::OutOfMemory => RunFault::OutOfMemory,
+            GatherFault::ThreadNotStarted => RunFault::ThreadNotStarted,
+            GatherFault::TooManyRefused(most) => RunFault::TooManyRefused(most),
         }
     }
 }

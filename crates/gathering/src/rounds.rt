@@ -1,7 +1,7 @@
 //! The result of a query over an input that is read in rounds.
 ghost use Rattle.std.specs.Prelude.{◌≡◌, ◌≢◌, ◌+◌, ◌<◌, ◌≤◌, ◌^◌, ◌⊎◌, true, ℕ, All, IfErr, IfOk, List, Option, length, vec_len};
 ghost use Rattle.lines.specs.Rounds.{HasMoved};
-ghost use Rattle.lines.specs.Input.{refused};
+ghost use Rattle.semantics.specs.Records.{refused};
 ghost use Rattle.lines.specs.Pieces.{AreWholeLines};
 ghost use Rattle.tables.specs.Partials.{StandsForInput};
 ghost use Rattle.gathering.specs.Gathered.{IsWhole, limit_number};

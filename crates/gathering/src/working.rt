@@ -1,6 +1,6 @@
 //! The result of a query over one round of an input behind the rounds before it, by its pieces.
 ghost use Rattle.std.specs.Prelude.{◌≡◌, ◌+◌, ◌<◌, ◌≤◌, ◌^◌, ◌⊎◌, ℕ, All, IfErr, IfOk, List, OnOk, length, vec_len};
-ghost use Rattle.lines.specs.Input.{refused};
+ghost use Rattle.semantics.specs.Records.{refused};
 ghost use Rattle.lines.specs.Pieces.{AreWholeLines};
 ghost use Rattle.pool.specs.declared.laws.Outcome.TheVariants as Outcome;
 ghost use Rattle.tables.specs.Partials.{StandsForInput};

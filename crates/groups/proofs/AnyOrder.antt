@@ -1,11 +1,10 @@
 -- The order of the records does not matter to a table.
 use Rattle.std.proofs.Common.{◌≡◌, ◌≢◌, ◌+◌, ℕ, ℤ, ◌+ℤ◌, Bool, true, false, cond, List, [], ◌∷◌, ◌++◌, length, map, filter, Option, Some, None, refl, sym, ap, ◌∙◌, arith}
 use Rattle.std.proofs.lemmas.Int.{ints}
-use Rattle.query_resolution.specs.declared.function.ColumnFunction.{ColumnFunction}
-use Rattle.query_resolution.specs.declared.function.ColumnFunction.TheVariants as function
-use Rattle.groups.specs.Rows.{Row, column_values, column_numbers}
-use Rattle.groups.specs.Functions.{AggregateFunction, total, least, greatest}
-use Rattle.groups.specs.Groups.{Key, members, same_key}
+use Rattle.semantics.specs.declared.function.ColumnFunction.{ColumnFunction}
+use Rattle.semantics.specs.declared.function.ColumnFunction.TheVariants as function
+use Rattle.semantics.specs.Groups.{Row, Key, members, same_key}
+use Rattle.semantics.specs.Aggregates.{column_values, column_numbers, AggregateFunction, total, least, greatest}
 use Rattle.groups.specs.Inside.Values.{set_of}
 use Rattle.groups.specs.Inside.Accumulator.{counted, summed, averaged, collected, lowest, highest, accumulator_state, state_over, state_counted, state_by, joined}
 use Rattle.groups.specs.Inside.Group.{group_state, all_joined, join}

@@ -1,10 +1,10 @@
 -- Each record is a member of exactly one key.
 use Rattle.std.proofs.Common.{◌≡◌, ◌+◌, ℕ, Bool, true, false, ◌||◌, cond, List, [], ◌∷◌, map, length, refl, sym, ap, ◌∙◌, arith}
 use Rattle.std.specs.List.{list_any, flat_map, IsDistinct, AllByRecursion}
-use Rattle.groups.specs.Rows.{Row}
-use Rattle.groups.specs.Groups.{Key, project, same_key, keys, members}
-use Rattle.groups.specs.Functions.{AggregateFunction}
-use Rattle.groups.specs.GroupSummaries.{group_summary, group_summaries}
+use Rattle.semantics.specs.Groups.{Row, Key, project, same_key, keys, members}
+use Rattle.semantics.specs.Aggregates.{AggregateFunction}
+use Rattle.semantics.specs.Found.{group_summary}
+use Rattle.groups.specs.GroupSummaries.{group_summaries}
 use Rattle.groups.specs.Bags.{SameBag, weigh}
 use Rattle.groups.proofs.Bags.{weigh-append, ones}
 use Rattle.groups.proofs.Order.{same_key-Decides}

@@ -4,7 +4,7 @@ use Rattle.std.specs.List.{IsDistinct, AllByRecursion}
 use Rattle.std.specs.Map.{keys_of}
 use Rattle.values.specs.declared.value.Value.{Value}
 use Rattle.values.specs.Datum.{data_of}
-use Rattle.groups.specs.Groups.{same_key}
+use Rattle.semantics.specs.Groups.{same_key}
 use Rattle.groups.specs.Inside.Table.{entries_by_key}
 use Rattle.groups.proofs.Order.{key_eq-ties}
 use Rattle.groups.proofs.Entries.{Entries, key_eq}

@@ -10,7 +10,7 @@ use Rattle.std.specs.List.{IsDistinct}
 use Rattle.values.specs.Datum.{data_of}
 use Rattle.values.specs.declared.value.Value.{Value}
 use Rattle.query_resolution.specs.declared.function.FilteredFunction.{FilteredFunction}
-use Rattle.groups.specs.Groups.{Key, key_order, same_key}
+use Rattle.semantics.specs.Groups.{Key, key_order, same_key}
 use Rattle.groups.specs.Inside.Accumulator.{no_state}
 use Rattle.groups.specs.Inside.Group.{GroupState, no_group}
 pub use Rattle.groups.specs.Inside.Keys.{key_eq}

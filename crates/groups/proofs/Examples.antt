@@ -1,11 +1,10 @@
 -- The definitions, computed on examples: the records of three lines with the columns d, r and q.
 use Rattle.std.proofs.Common.{◌≡◌, List, [], ◌∷◌, pos, negsuc, Bool, true, false, Some, None, refl, codes}
-use Rattle.values.specs.Datum.{boolean, whole, text, null}
-use Rattle.query_resolution.specs.declared.function.ColumnFunction.{ColumnFunction}
-use Rattle.query_resolution.specs.declared.function.ColumnFunction.TheVariants as function
-use Rattle.groups.specs.Rows.{Row, value_at}
-use Rattle.groups.specs.Functions.{AggregateFunction, agg, plain, ratio, same_value}
-use Rattle.groups.specs.Groups.{groups, keys, members}
+use Rattle.semantics.specs.Values.{boolean, whole, text, null}
+use Rattle.semantics.specs.declared.function.ColumnFunction.{ColumnFunction}
+use Rattle.semantics.specs.declared.function.ColumnFunction.TheVariants as function
+use Rattle.semantics.specs.Groups.{Row, value_at, groups, keys, members}
+use Rattle.semantics.specs.Aggregates.{AggregateFunction, agg, plain, ratio, same_value}
 
 abbrev first : Row
 first = text (codes "x") ∷ text (codes "n") ∷ whole (pos 5) ∷ []

@@ -6,12 +6,11 @@ use Rattle.std.specs.List.{AllByRecursion, find, list_all, list_any}
 use Rattle.std.specs.Ordering.{eq_by_cmp, is_eq, is_lt, is_gt, nat_cmp, ordering_reverse, ordering_then}
 use Rattle.std.specs.Cmp.{IsTotalOrder, Equal-is, tied_itself, upto, nat_cmp_total, on_total, then_total, back_total}
 use Rattle.std.specs.FinMap.{IsAntisymmetric}
-use Rattle.values.specs.Datum.{Datum, datum_of, boolean, whole, text, null}
+use Rattle.semantics.specs.Values.{Datum, boolean, whole, text, null, value_order}
+use Rattle.values.specs.Datum.{datum_of}
 use Rattle.values.specs.declared.value.Value.{Value}
 use Rattle.values.specs.declared.value.Value.TheVariants as v
-use Rattle.values.specs.Order.{value_order}
-use Rattle.groups.specs.Rows.{is_present, present}
-use Rattle.groups.specs.Functions.{least, greatest}
+use Rattle.semantics.specs.Aggregates.{is_present, present, least, greatest}
 use Rattle.groups.specs.Inside.Values.{falling, first_by}
 use Rattle.groups.proofs.Order.{value_total, value_antisymmetric}
 

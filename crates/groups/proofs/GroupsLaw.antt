@@ -5,16 +5,16 @@ use Rattle.std.specs.List.{list_any, IsDistinct, AllByRecursion}
 use Rattle.std.specs.FinMap.Entries.{by_order}
 use Rattle.std.specs.Ordering.{is_eq}
 use Rattle.std.specs.FinMap as fin
-use Rattle.values.specs.Datum.{whole}
-use Rattle.query_resolution.specs.declared.function.ColumnFunction.{ColumnFunction}
-use Rattle.query_resolution.specs.declared.function.ColumnFunction.TheVariants as function
-use Rattle.groups.specs.Rows.{Row, column_numbers, column_values}
-use Rattle.groups.specs.Functions.{AggregateFunction, plain, agg, value_over, filtered, total, sum_of, average_of}
-use Rattle.groups.specs.Groups.{Key, project, key_order, same_key, keys, members}
+use Rattle.semantics.specs.Values.{whole}
+use Rattle.semantics.specs.declared.function.ColumnFunction.{ColumnFunction}
+use Rattle.semantics.specs.declared.function.ColumnFunction.TheVariants as function
+use Rattle.semantics.specs.Groups.{Row, Key, project, key_order, same_key, keys, members}
+use Rattle.semantics.specs.Aggregates.{column_numbers, column_values, AggregateFunction, plain, agg, value_over, filtered, total, sum_of, average_of}
 use Rattle.groups.specs.Inside.Accumulator.{summary, accumulator_state, state_over, state_counted, state_by, summed, averaged}
 use Rattle.groups.specs.Inside.Group.{GroupState, group_state, state_summary}
 use Rattle.groups.specs.Inside.Table.{Contents, IsTableOf}
-use Rattle.groups.specs.GroupSummaries.{group_summary, group_summaries}
+use Rattle.semantics.specs.Found.{group_summary}
+use Rattle.groups.specs.GroupSummaries.{group_summaries}
 use Rattle.groups.specs.Bags.{SameBag, weigh}
 use Rattle.groups.proofs.Bags.{weigh-map}
 use Rattle.groups.proofs.Order.{key_total, key_antisymmetric, same_key-Decides}

@@ -1,7 +1,8 @@
 -- The groups of shards that are finished one by one, put together.
 use Rattle.std.proofs.Common.{Result, Ok, IfOk, ◌≡◌, ◌<◌, ℕ, suc, List, [], ◌∷◌, ◌++◌, length, map, get_or, Vec, Global, refl, sym, ap, subst, ◌∙◌, append-nil, append_assoc, arith}
 use Rattle.std.specs.declared.alloc.AllocError.{AllocError}
-use Rattle.groups.specs.GroupSummaries.{GroupSummary, group_summary_in}
+use Rattle.semantics.specs.Found.{GroupSummary}
+use Rattle.groups.specs.GroupSummaries.{group_summary_in}
 use Rattle.groups.specs.Inside.Finished.{AreFinished, IsFinished}
 use Rattle.groups.specs.Inside.Shards.{all_entries, entries_in}
 use Rattle.groups.specs.declared.group.Group.{Group}

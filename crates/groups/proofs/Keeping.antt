@@ -2,12 +2,13 @@
 use Rattle.std.proofs.Common.{◌≡◌, ◌+◌, ◌<◌, ◌^◌, ℕ, zero, suc, ℤ, pos, ◌+ℤ◌, Bool, true, false, Option, Some, None, List, [], ◌∷◌, length, map, refl, sym, ap, ◌∙◌, arith, subst, get_or, set}
 use Rattle.std.proofs.lemmas.Int.{ints}
 use Rattle.std.proofs.lemmas.List.{length-map}
-use Rattle.values.specs.Datum.{Datum, boolean, whole, text, null}
-use Rattle.query_resolution.specs.declared.function.ColumnFunction.{ColumnFunction}
-use Rattle.query_resolution.specs.declared.function.ColumnFunction.TheVariants as function
+use Rattle.semantics.specs.Values.{Datum, boolean, whole, text, null}
+use Rattle.semantics.specs.declared.function.ColumnFunction.{ColumnFunction}
+use Rattle.semantics.specs.declared.function.ColumnFunction.TheVariants as function
 use Rattle.query_resolution.specs.declared.function.FilteredFunction.{FilteredFunction}
 use Rattle.groups.specs.declared.accumulator.Accumulator.{Accumulator}
-use Rattle.groups.specs.Rows.{Row, value_at, IsNarrow, IsNarrowRow}
+use Rattle.semantics.specs.Groups.{Row, value_at}
+use Rattle.groups.specs.Rows.{IsNarrow, IsNarrowRow}
 use Rattle.groups.specs.Inside.Accumulator.{AccumulatorState, nothing, counted, summed, averaged, collected, lowest, highest, no_state, state_over, with_value, with_count, with_record, with_member, is_marked, joined, state_in, HasRoom, IsWithin, IsUnbounded}
 use Rattle.groups.specs.Inside.Group.{all_with_row, all_joined, IsSound}
 use Rattle.groups.proofs.Firsts.{less-null, greater-null}

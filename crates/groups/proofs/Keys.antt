@@ -1,9 +1,9 @@
 -- A key that is written over another one, place by place.
 use Rattle.std.proofs.Common.{◌≡◌, ◌<◌, ℕ, zero, suc, List, [], ◌∷◌, ◌++◌, set, length, get_or, refl, ap, arith}
-use Rattle.values.specs.Datum.{Datum, datum_of, data_of}
+use Rattle.semantics.specs.Values.{Datum}
+use Rattle.values.specs.Datum.{datum_of, data_of}
 use Rattle.values.specs.declared.value.Value.{Value}
-use Rattle.groups.specs.Rows.{Row, value_at}
-use Rattle.groups.specs.Groups.{Key, project}
+use Rattle.semantics.specs.Groups.{Row, value_at, Key, project}
 
 -- the key once the values from a place on are written too
 abbrev pub written_from : ℕ → List ℕ → Row → List Datum → Key

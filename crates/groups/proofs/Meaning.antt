@@ -8,14 +8,14 @@ use Rattle.std.proofs.lemmas.List.Elements.{filter-append, filter_map-append}
 use Rattle.std.proofs.lemmas.List.Folds.{list_any-append}
 use Rattle.std.specs.List.{list_any}
 use Rattle.std.specs.FinMap as fin
-use Rattle.values.specs.Order.{value_order}
-use Rattle.query_resolution.specs.Columns.{distinct}
-use Rattle.query_resolution.specs.declared.function.ColumnFunction.{ColumnFunction}
-use Rattle.query_resolution.specs.declared.function.ColumnFunction.TheVariants as function
+use Rattle.semantics.specs.Values.{value_order}
+use Rattle.semantics.specs.Names.{distinct}
+use Rattle.semantics.specs.declared.function.ColumnFunction.{ColumnFunction}
+use Rattle.semantics.specs.declared.function.ColumnFunction.TheVariants as function
 use Rattle.query_resolution.specs.declared.function.FilteredFunction.{FilteredFunction}
-use Rattle.groups.specs.Rows.{Row, value_at, is_present, number_of, column_values, column_numbers}
-use Rattle.groups.specs.Functions.{AggregateFunction, bound, filter_at, total, least, greatest}
-use Rattle.groups.specs.Groups.{Key, project, key_order, same_key, keys, members}
+use Rattle.semantics.specs.Groups.{Row, value_at, Key, project, key_order, same_key, keys, members}
+use Rattle.semantics.specs.Aggregates.{is_present, number_of, column_values, column_numbers, AggregateFunction, total, least, greatest}
+use Rattle.groups.specs.Functions.{bound, filter_at}
 use Rattle.groups.specs.Inside.Values.{falling, first_by, set_of}
 use Rattle.groups.specs.Inside.Accumulator.{AccumulatorState, counted, summed, averaged, collected, lowest, highest, accumulator_state, state_over, state_counted, state_by, no_state, is_marked, with_member, with_record, joined}
 use Rattle.groups.specs.Inside.Group.{GroupState, group_state, no_group, all_with_row, all_joined, with_row, join}

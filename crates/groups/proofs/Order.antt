@@ -8,13 +8,13 @@ use Rattle.std.specs.Cmp.{IsTotalOrder, Equal-is, tied_itself, nat_cmp_total, in
 use Rattle.std.specs.Cmp.Lexicographic.{slice_cmp, pointwise, lists_total, lists_ties, texts_ties, nat_list_cmp_total}
 use Rattle.std.specs.FinMap.{IsAntisymmetric, slice_cmp-IsAntisymmetric}
 use Rattle.std.proofs.lemmas.Map.Lookups.{exact_pairs, exact_unsigned, exact_signed, exact_bytes}
-use Rattle.values.specs.Datum.{Datum, boolean, whole, text, null, datum_of, data_of}
-use Rattle.values.specs.Order.{value_order}
+use Rattle.semantics.specs.Values.{Datum, boolean, whole, text, null, value_order}
+use Rattle.values.specs.Datum.{datum_of, data_of}
 use Rattle.values.specs.declared.value.Value.{Value}
 use Rattle.values.specs.declared.value.Value.TheVariants as v
 use Rattle.values.specs.contracts.value.ValuePartialEq.TheImpl.{eq-value}
 use Rattle.groups.specs.Inside.Coding.{parts, joined_parts, joined_parts-parts}
-use Rattle.groups.specs.Groups.{Key, key_order, same_key}
+use Rattle.semantics.specs.Groups.{Key, key_order, same_key}
 
 abbrev order_of_parts : Datum → Datum → Ordering
 order_of_parts a b = ordering_then (nat_cmp (parts a).0 (parts b).0) (ordering_then (int_cmp (parts a).1.0 (parts b).1.0) (slice_cmp nat_cmp (parts a).1.1 (parts b).1.1))

@@ -2,9 +2,8 @@
 use Rattle.std.proofs.Common.{◌≡◌, ◌==◌, ℕ, zero, suc, true, false, ◌||◌, cond, List, [], ◌∷◌, ◌++◌, filter, refl, sym, ap, subst, ◌∙◌, arith}
 use Rattle.std.specs.List.{list_any}
 use Rattle.std.proofs.lemmas.List.Elements.{filter-append}
-use Rattle.groups.specs.Rows.{Row, value_at}
+use Rattle.semantics.specs.Groups.{Row, value_at, Key, project, same_key, keys, members}
 use Rattle.groups.specs.Bags.{SameBag}
-use Rattle.groups.specs.Groups.{Key, project, same_key, keys, members}
 use Rattle.groups.specs.Rolled.{index_in, rolled, AreAmong, finer_members}
 use Rattle.groups.proofs.Bags.{bag-filter}
 use Rattle.groups.proofs.Order.{same_key-Decides}

@@ -8,9 +8,9 @@ use Rattle.std.specs.FinMap as fin
 use Rattle.values.specs.Datum.{data_of}
 use Rattle.values.specs.declared.value.Value.{Value}
 use Rattle.query_resolution.specs.declared.function.FilteredFunction.{FilteredFunction}
-use Rattle.groups.specs.Rows.{Row}
-use Rattle.groups.specs.Functions.{AggregateFunction, bound}
-use Rattle.groups.specs.Groups.{Key, project, key_order, same_key, members}
+use Rattle.semantics.specs.Groups.{Row, Key, project, key_order, same_key, members}
+use Rattle.semantics.specs.Aggregates.{AggregateFunction}
+use Rattle.groups.specs.Functions.{bound}
 use Rattle.groups.specs.Inside.Accumulator.{accumulator_state}
 use Rattle.groups.specs.Inside.Group.{GroupState, group_state, no_group, join}
 use Rattle.groups.specs.Bags.{SameBag}

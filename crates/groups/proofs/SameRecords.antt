@@ -2,10 +2,10 @@
 use Rattle.std.proofs.Common.{ℕ, List, [], map, refl, sym, subst, ◌∙◌}
 use Rattle.std.specs.FinMap as fin
 use Rattle.std.specs.List.{IsDistinct}
-use Rattle.groups.specs.Rows.{Row}
-use Rattle.groups.specs.Functions.{AggregateFunction}
-use Rattle.groups.specs.Groups.{Key, keys, members, project, same_key}
-use Rattle.groups.specs.GroupSummaries.{group_summaries, group_summary}
+use Rattle.semantics.specs.Groups.{Row, Key, keys, members, project, same_key}
+use Rattle.semantics.specs.Aggregates.{AggregateFunction}
+use Rattle.groups.specs.GroupSummaries.{group_summaries}
+use Rattle.semantics.specs.Found.{group_summary}
 use Rattle.groups.specs.Bags.{SameBag}
 use Rattle.groups.specs.Inside.Group.{group_state}
 use Rattle.groups.specs.Inside.Table.{Contents, IsTableOf}

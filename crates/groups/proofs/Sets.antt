@@ -7,12 +7,11 @@ use Rattle.std.proofs.lemmas.List.{length-map}
 use Rattle.std.proofs.lemmas.List.Folds.{list_any-append}
 use Rattle.std.proofs.lemmas.List.Sorted.{list_any-IsPermutation, IsPermutation-map}
 use Rattle.std.specs.FinSet as set
-use Rattle.values.specs.Datum.{Datum, whole, text, boolean, null, data_of, datum_of}
-use Rattle.values.specs.Order.{value_order}
+use Rattle.semantics.specs.Values.{Datum, whole, text, boolean, null, value_order}
+use Rattle.values.specs.Datum.{data_of, datum_of}
 use Rattle.values.specs.declared.value.Value.{Value}
-use Rattle.query_resolution.specs.Columns.{distinct}
-use Rattle.groups.specs.Rows.{is_present, present}
-use Rattle.groups.specs.Functions.{same_value}
+use Rattle.semantics.specs.Names.{distinct}
+use Rattle.semantics.specs.Aggregates.{is_present, present, same_value}
 use Rattle.groups.specs.Inside.Values.{Values, set_of, values_in}
 use Rattle.groups.proofs.Order.{value_total, value_antisymmetric, value_eq, value_eq-ties}
 use Rattle.groups.proofs.Repeats.{alike, any-distinct, distinct-is}

@@ -8,7 +8,7 @@ use Rattle.std.specs.List.{IsDistinct, AllByRecursion}
 use Rattle.std.specs.Map.{keys_of}
 use Rattle.values.specs.Datum.{data_of}
 use Rattle.values.specs.declared.value.Value.{Value}
-use Rattle.groups.specs.Groups.{Key, key_order, same_key}
+use Rattle.semantics.specs.Groups.{Key, key_order, same_key}
 use Rattle.groups.specs.Inside.Group.{GroupState}
 use Rattle.groups.specs.Inside.Table.{CanJoin, Contents, IsFitting, IsJoined, join_options, entries_by_key}
 use Rattle.groups.specs.Inside.Shards.{AreApart, AreJoined, CanJoinEach, all_entries, contents_in, contents_of_shards, digest, entries_in, place}

@@ -2,7 +2,7 @@
 use Rattle.std.proofs.Common.{◌≡◌, ◌+◌, ◌<◌, ℕ, zero, suc, List, [], ◌∷◌, ◌++◌, set, length, get_or, map, refl, sym, ap, ◌∙◌, append-nil, append_assoc, arith}
 use Rattle.values.specs.Datum.{data_of}
 use Rattle.groups.specs.Bags.{SameBag, weigh}
-use Rattle.groups.specs.GroupSummaries.{GroupSummary}
+use Rattle.semantics.specs.Found.{GroupSummary}
 use Rattle.groups.specs.declared.walk.Walk.{Walk}
 use Rattle.groups.specs.Inside.Group.{state_summary}
 use Rattle.groups.specs.Inside.Table.{entries_by_key}

@@ -2,7 +2,7 @@
 use Rattle.values.specs.Datum.{datum_of}
 use Rattle.groups.specs.declared.cell.Cell.{Cell}
 use Rattle.groups.specs.declared.cell.Cell.TheVariants as cell
-use Rattle.groups.specs.Functions.{Summary, plain, ratio}
+use Rattle.semantics.specs.Aggregates.{Summary, plain, ratio}
 
 -- a cell: a value, or a sum and how many numbers were added
 abbrev pub summary_of : Cell → Summary

@@ -1,22 +1,18 @@
 -- Groups that fit a query.
-use Rattle.std.specs.Prelude.{◌≡◌, ◌≢◌, ◌<◌, ℕ, pos, List, [], length, slice_index_or, Option, Some, None, All, AllPairs, ⊤}
+use Rattle.std.specs.Prelude.{◌≡◌, ◌≢◌, ◌<◌, ℕ, pos, List, length, Option, Some, None, All, AllPairs, ⊤}
 use Rattle.std.specs.List.{AllZip}
-use Rattle.values.specs.declared.schema.Kind.{Kind}
-use Rattle.values.specs.Datum.{Datum, whole, null}
-use Rattle.values.specs.Fit.{Holds}
-use Rattle.values.specs.Schema.{Field}
-use Rattle.query_tree.specs.Syntax.{TreeForm}
-use Rattle.query_resolution.specs.declared.function.ColumnFunction.{ColumnFunction}
-use Rattle.query_resolution.specs.declared.function.ColumnFunction.TheVariants as function
-use Rattle.query_resolution.specs.Columns.{kind_at}
-use Rattle.query_resolution.specs.Functions.{functions_of}
-use Rattle.query_resolution.specs.Sets.{sets_of}
-use Rattle.groups.specs.Functions.{Summary, plain, ratio}
-use Rattle.groups.specs.Found.{Found}
-
--- the columns of the grouping set of a row, by their places
-abbrev pub set_of : List Field → TreeForm → Found → List ℕ
-set_of fields t row = slice_index_or (sets_of fields t) row.0 []
+use Rattle.semantics.specs.declared.kind.Kind.{Kind}
+use Rattle.semantics.specs.Values.{Datum, whole, null}
+use Rattle.semantics.specs.Records.{Holds}
+use Rattle.semantics.specs.Columns.{Field}
+use Rattle.semantics.specs.Syntax.{TreeForm}
+use Rattle.semantics.specs.declared.function.ColumnFunction.{ColumnFunction}
+use Rattle.semantics.specs.declared.function.ColumnFunction.TheVariants as function
+use Rattle.semantics.specs.Names.{kind_at}
+use Rattle.semantics.specs.SetFunctions.{functions_of}
+use Rattle.semantics.specs.Sets.{sets_of}
+use Rattle.semantics.specs.Aggregates.{Summary, plain, ratio}
+use Rattle.semantics.specs.Found.{Found, set_of}
 
 -- ---- types
 

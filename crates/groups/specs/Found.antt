@@ -2,11 +2,8 @@
 use Rattle.std.specs.Prelude.{ℕ, ◌+◌, List, [], ◌∷◌, ◌++◌, map}
 use Rattle.std.specs.Global.{Vec}
 use Rattle.groups.specs.declared.group.Group.{Group}
-use Rattle.groups.specs.GroupSummaries.{GroupSummary, group_summary_in}
-
--- the index of a grouping set in the list of sets, beside what is shown of one of its groups
-abbrev pub Found : Type 0
-Found = ℕ × GroupSummary
+use Rattle.semantics.specs.Found.{Found}
+use Rattle.groups.specs.GroupSummaries.{group_summary_in}
 
 abbrev pub row_of : ℕ × Group → Found
 row_of row = (row.0, group_summary_in row.1)

@@ -1,21 +1,11 @@
--- What is shown of the groups of a grouping set: of each its key, the number of its members, and the values of the set functions over them.
-use Rattle.std.specs.Prelude.{ℕ, List, length, map}
+-- What is shown of the groups of a grouping set.
+use Rattle.std.specs.Prelude.{ℕ, List, map}
 use Rattle.values.specs.Datum.{data_of}
 use Rattle.groups.specs.declared.group.Group.{Group}
-use Rattle.groups.specs.Rows.{Row}
-use Rattle.groups.specs.Functions.{AggregateFunction, Summary, agg}
-use Rattle.groups.specs.Groups.{Key, keys, members}
+use Rattle.semantics.specs.Groups.{Row, keys, members}
+use Rattle.semantics.specs.Aggregates.{AggregateFunction}
 use Rattle.groups.specs.Cells.{summary_of}
-
--- what is shown of a group: its key, the number of its members, and the value of each set function over them
-pub record GroupSummary : Type 0 where
-  pub key : Key
-  pub lines : ℕ
-  pub cells : List Summary
-
--- the summary of a group with this key and these members
-abbrev pub group_summary : List AggregateFunction → Key → List Row → GroupSummary
-group_summary functions key rows = record { key = key; lines = length rows; cells = map (λ f. agg f rows) functions }
+use Rattle.semantics.specs.Found.{GroupSummary, group_summary}
 
 -- the summary of a group that a table gives
 abbrev pub group_summary_in : Group → GroupSummary

@@ -1,6 +1,5 @@
 pub mod Rows
 pub mod Functions
-pub mod Groups
 pub mod Cells
 pub mod Bags
 pub mod GroupSummaries

@@ -1,8 +1,7 @@
 -- The keys of a grouping set, by those of a finer one: a set that has all its columns.
 use Rattle.std.specs.Prelude.{◌≡◌, ◌==◌, ℕ, zero, suc, true, List, [], ◌∷◌, map, filter, if◌then◌else◌}
 use Rattle.std.specs.List.{AllByRecursion, flat_map, list_any}
-use Rattle.groups.specs.Rows.{Row}
-use Rattle.groups.specs.Groups.{Key, project, same_key, keys, members}
+use Rattle.semantics.specs.Groups.{Row, Key, project, same_key, keys, members}
 
 -- each place of the set is one of the finer set
 abbrev pub AreAmong : List ℕ → List ℕ → Type 0

@@ -1,8 +1,10 @@
 //! What is kept of the members of a group for one set function.
 ghost use Rattle.std.specs.Prelude.{◌≡◌, MatchOption, false, slice_index_or};
-ghost use Rattle.values.specs.Datum.{datum_of, data_of, null};
+ghost use Rattle.values.specs.Datum.{datum_of, data_of};
+ghost use Rattle.semantics.specs.Values.{null};
 ghost use Rattle.groups.specs.Inside.Accumulator.{argument_place, is_marked};
-ghost use Rattle.groups.specs.Rows.{is_present, value_at};
+ghost use Rattle.semantics.specs.Aggregates.{is_present};
+ghost use Rattle.semantics.specs.Groups.{value_at};
 
 use crate::cell::Cell;
 use crate::distinct_values::DistinctValues;
@@ -34,7 +36,7 @@ pub(crate) enum Accumulator {
 impl Accumulator {
     ghost use Rattle.std.specs.Prelude.{[], IfOk, OnOk, OnErr};
     ghost use Rattle.groups.specs.Inside.Accumulator.{is_marked, no_state, state_in, state_counted, state_over, with_count, with_member, with_record, with_value, joined, summary, HasRoom, IsUnbounded};
-    ghost use Rattle.groups.specs.Rows.{value_at};
+    ghost use Rattle.semantics.specs.Groups.{value_at};
     ghost use Rattle.groups.specs.Cells.{summary_of};
 
     /// What is kept of no record.

@@ -35,7 +35,7 @@ impl DistinctValues {
     ghost use Rattle.std.specs.Prelude.{◌≡◌, [], ◌∷◌, IfOk, OnOk};
     ghost use Rattle.std.specs.FinSet as set;
     ghost use Rattle.values.specs.Datum.{datum_of};
-    ghost use Rattle.groups.specs.Rows.{present};
+    ghost use Rattle.semantics.specs.Aggregates.{present};
     ghost use Rattle.groups.specs.Inside.Values.{set_of};
 
     /// No value.

@@ -2,7 +2,7 @@
 ghost use Rattle.std.specs.Prelude.{◌≡◌};
 ghost use Rattle.std.specs.Ordering.{is_lt};
 ghost use Rattle.values.specs.Datum.{datum_of};
-ghost use Rattle.values.specs.Order.{value_order};
+ghost use Rattle.semantics.specs.Values.{value_order};
 ghost use Rattle.groups.specs.Inside.Values.{falling};
 
 use std::cmp::Ordering;

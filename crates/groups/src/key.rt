@@ -1,9 +1,8 @@
 //! The key of a record: made anew, or written over another one.
 ghost use Rattle.std.specs.Prelude.{◌≡◌, map, IfOk, OnOk};
 ghost use Rattle.values.specs.Datum.{data_of, datum_of};
-ghost use Rattle.groups.specs.Groups.{project};
+ghost use Rattle.semantics.specs.Groups.{project, value_at};
 ghost use Rattle.groups.specs.Rolled.{index_in};
-ghost use Rattle.groups.specs.Rows.{value_at};
 
 use crate::copy::{copy_of, copy_over};
 use std::alloc::{AllocError, Global};

@@ -2,13 +2,12 @@
 ghost use Rattle.std.specs.Prelude.{◌≡◌, ℕ, List, Some, length};
 ghost use Rattle.std.specs.FinMap as fin;
 ghost use Rattle.std.specs.List.{flat_map};
-ghost use Rattle.groups.specs.Groups.{Key, keys, members};
+ghost use Rattle.semantics.specs.Groups.{Key, keys, members, Row};
 ghost use Rattle.groups.specs.Rolled.{AreAmong, finer_keys, finer_members};
 ghost use Rattle.groups.specs.Inside.Group.{GroupState};
 ghost use Rattle.groups.specs.GroupSummaries.{group_summaries};
 ghost use Rattle.groups.specs.Bags.{SameBag, weigh};
-ghost use Rattle.groups.specs.Functions.{AggregateFunction};
-ghost use Rattle.groups.specs.Rows.{Row};
+ghost use Rattle.semantics.specs.Aggregates.{AggregateFunction};
 ghost use Rattle.groups.specs.Inside.Table.{Contents, IsTableOf, joined_states};
 
 /// A table of records is that of the same records in any other order.

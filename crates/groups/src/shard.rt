@@ -29,7 +29,7 @@ impl Shard {
     ghost use Rattle.std.specs.Prelude.{◌≡◌, ◌≤◌, ◌^◌, Bool, false, [], OnOk, length};
     ghost use Rattle.std.specs.FinMap as fin;
     ghost use Rattle.values.specs.Datum.{data_of};
-    ghost use Rattle.groups.specs.Groups.{Key, project, same_key};
+    ghost use Rattle.semantics.specs.Groups.{Key, project, same_key};
     ghost use Rattle.groups.specs.Inside.Shards.{contents_in, entries_in};
     ghost use Rattle.groups.specs.Inside.Table.{CanJoin, IsFitting, IsJoined, IsPut, IsTaken, IsWithPart, TakesEach, joined_entries};
 

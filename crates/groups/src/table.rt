@@ -72,11 +72,12 @@ impl Model for Table {
 
 impl Table {
     ghost use Rattle.std.specs.Prelude.{◌≡◌, ◌<◌, ◌≤◌, Bool, ℕ, [], ◌∷◌, ◌++◌, OnOk, IfOk, List, map};
-    ghost use Rattle.groups.specs.Rows.{Row, IsNarrowRow};
-    ghost use Rattle.groups.specs.Functions.{AggregateFunction, bound};
+    ghost use Rattle.semantics.specs.Groups.{Row, Key, project};
+    ghost use Rattle.groups.specs.Rows.{IsNarrowRow};
+    ghost use Rattle.semantics.specs.Aggregates.{AggregateFunction};
+    ghost use Rattle.groups.specs.Functions.{bound};
     ghost use Rattle.std.specs.FinMap as fin;
     ghost use Rattle.values.specs.Datum.{data_of};
-    ghost use Rattle.groups.specs.Groups.{Key, project};
     ghost use Rattle.groups.specs.Inside.Group.{no_group};
     ghost use Rattle.groups.specs.GroupSummaries.{group_summary_in, group_summaries};
     ghost use Rattle.groups.specs.Bags.{SameBag};

@@ -2,8 +2,7 @@
 ghost use Rattle.std.specs.Prelude.{◌≡◌, ◌+◌, ◌<◌, ◌^◌, ◌∷◌, [], ◌+ℤ◌, FitsSigned, length};
 ghost use Rattle.std.specs.Int.{w128};
 ghost use Rattle.values.specs.Datum.{datum_of};
-ghost use Rattle.groups.specs.Functions.{total};
-ghost use Rattle.groups.specs.Rows.{numbers};
+ghost use Rattle.semantics.specs.Aggregates.{total, numbers};
 
 use values::Value;
 

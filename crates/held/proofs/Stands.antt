@@ -1,12 +1,12 @@
 -- What a pool makes of all pieces of a job stands for them.
 use Rattle.std.proofs.Common.{◌≡◌, ◌∙◌, ◌+◌, ◌≤◌, ◌<◌, ◌^◌, ℕ, List, [], length, sym, subst, arith}
-use Rattle.values.specs.Schema.{Field}
+use Rattle.semantics.specs.Columns.{Field}
 use Rattle.lines.specs.declared.pieces.Piece.{Piece}
 use Rattle.pool.specs.declared.laws.Outcome.{Outcome}
 use Rattle.pool.specs.declared.laws.Outcome.TheVariants.{Whole}
 use Rattle.pool.specs.Outcomes.{Decides}
 use Rattle.pool.specs.Totals.{sum_below, total}
-use Rattle.query_tree.specs.Syntax.{TreeForm}
+use Rattle.semantics.specs.Syntax.{TreeForm}
 use Rattle.query_plan.specs.Planned.{PlannedQuery}
 use Rattle.tables.specs.declared.job.Job.{Job}
 use Rattle.tables.specs.declared.partial.Partial.{Partial}

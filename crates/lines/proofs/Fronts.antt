@@ -4,13 +4,12 @@ use Rattle.std.proofs.lemmas.List.{map-append, length-map}
 use Rattle.std.proofs.lemmas.List.Elements.{filter_map-append}
 use Rattle.std.specs.List.{enumerate_from}
 use Rattle.std.specs.Result.{result_err, result_ok}
-use Rattle.values.specs.Datum.{Datum}
-use Rattle.values.specs.Schema.{Field}
-use Rattle.lines.specs.declared.fault.LineFault.{LineFault}
-use Rattle.lines.specs.Input.{answers, good, refused}
-use Rattle.lines.specs.Lines.{line_feed, lines}
+use Rattle.semantics.specs.Values.{Datum}
+use Rattle.semantics.specs.Columns.{Field}
+use Rattle.semantics.specs.declared.line_fault.LineFault.{LineFault}
+use Rattle.semantics.specs.Records.{answers, good, refused, taken}
+use Rattle.semantics.specs.Lines.{line_feed, lines}
 use Rattle.lines.specs.Pieces.{AreWholeLines, EndsInFeed}
-use Rattle.lines.specs.Taken.{taken}
 use Rattle.lines.proofs.Splits.{lines-append}
 
 lines-front : (front rest : List ℕ) → EndsInFeed front → lines (front ++ rest) ≡ lines front ++ lines rest

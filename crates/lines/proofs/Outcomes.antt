@@ -7,12 +7,11 @@ use Rattle.std.specs.Option.{is_none, option_map_or}
 use Rattle.std.proofs.lemmas.Bool.{ltb-true}
 use Rattle.serde_json.specs.Data as json
 use Rattle.serde_json.specs.Data.{Data}
-use Rattle.values.specs.Datum.{Datum}
-use Rattle.values.specs.Fit.{Fits}
-use Rattle.values.specs.Schema.{Field}
-use Rattle.lines.specs.declared.fault.LineFault.{LineFault}
-use Rattle.lines.specs.declared.fault.LineFault.TheVariants.{TooLong, NoJson, NoObject, BadValue}
-use Rattle.lines.specs.Taken.{all_taken, data_taken, datum_taken, max_line_len, member_of, reading, record_of, taken}
+use Rattle.semantics.specs.Values.{Datum}
+use Rattle.semantics.specs.Records.{Fits, all_taken, data_taken, datum_taken, max_line_len, member_of, reading, record_of, taken}
+use Rattle.semantics.specs.Columns.{Field}
+use Rattle.semantics.specs.declared.line_fault.LineFault.{LineFault}
+use Rattle.semantics.specs.declared.line_fault.LineFault.TheVariants.{TooLong, NoJson, NoObject, BadValue}
 use Rattle.lines.proofs.Fitting.{fits-taken}
 use Rattle.lines.proofs.Taking.{somes, all_taken-missing, all_taken-somes}
 

@@ -4,11 +4,10 @@ use Rattle.std.proofs.lemmas.List.{take_all, length-map}
 use Rattle.std.proofs.lemmas.List.Splits.{length-slice_split}
 use Rattle.std.proofs.lemmas.Bool.Decides.{nat_tests}
 use Rattle.std.specs.List.{onto_first, enumerate_from}
-use Rattle.values.specs.Schema.{Field}
-use Rattle.lines.specs.Lines.{line_feed, lines, without_empty_last}
-use Rattle.lines.specs.Input.{answers, good, refused}
-use Rattle.lines.specs.Taken.{max_line_len, reading, record_of, taken}
-use Rattle.lines.specs.declared.fault.LineFault.TheVariants.{TooLong}
+use Rattle.semantics.specs.Columns.{Field}
+use Rattle.semantics.specs.Lines.{line_feed, lines, without_empty_last}
+use Rattle.semantics.specs.Records.{answers, good, refused, max_line_len, reading, record_of, taken}
+use Rattle.semantics.specs.declared.line_fault.LineFault.TheVariants.{TooLong}
 use Rattle.std.specs.Result.{result_err, result_ok}
 use Rattle.lines.specs.Trim.{parts, trim_from, trimmed_len, trim}
 

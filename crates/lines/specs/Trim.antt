@@ -1,8 +1,8 @@
 -- An input whose lines are cut to a length. The law `trim_law` says what it is without a walk.
 use Rattle.std.specs.Prelude.{ℕ, ◌+◌, ◌==◌, nat_lt, List, [], ◌∷◌, if◌then◌else◌}
 use Rattle.std.specs.List.{slice_split}
-use Rattle.lines.specs.Lines.{line_feed}
-use Rattle.lines.specs.Taken.{max_line_len}
+use Rattle.semantics.specs.Lines.{line_feed}
+use Rattle.semantics.specs.Records.{max_line_len}
 
 -- the parts between the line feeds, and before the first and behind the last
 abbrev pub parts : List ℕ → List (List ℕ)

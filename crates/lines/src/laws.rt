@@ -1,8 +1,8 @@
 //! Laws of the definitions, for the layers above.
 ghost use Rattle.std.specs.Prelude.{◌≡◌, ◌+◌, ◌++◌, ℕ, List, length, map, take};
-ghost use Rattle.values.specs.Schema.{Field};
-ghost use Rattle.lines.specs.Input.{good, refused};
-ghost use Rattle.lines.specs.Lines.{lines};
+ghost use Rattle.semantics.specs.Columns.{Field};
+ghost use Rattle.semantics.specs.Records.{good, refused};
+ghost use Rattle.semantics.specs.Lines.{lines};
 ghost use Rattle.lines.specs.Pieces.{AreWholeLines};
 ghost use Rattle.lines.specs.Trim.{parts, trim, trimmed_len};
 

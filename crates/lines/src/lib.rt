@@ -16,10 +16,11 @@ mod tokens;
 mod tree;
 
 pub use cutting::cut;
-pub use fault::{LineFault, LineRefusal, ReadFault};
+pub use fault::ReadFault;
 pub use laws::{front_law, trim_law};
 pub use pieces::Piece;
 pub use reading::{RecordReader, read_record};
 pub use rounds::{Round, Rounds, Waiter};
+pub use semantics::{LineFault, LineRefusal};
 pub use splitting::{Lines, lines_of};
 pub use tree::read_by_tree;

@@ -1,7 +1,6 @@
 //! Reading a line as a record by its tokens, without a tree of it.
 ghost use Rattle.std.specs.Prelude.{◌≡◌, ◌≤◌, Ok, IfSome, length};
-ghost use Rattle.values.specs.Fit.{Fits};
-ghost use Rattle.lines.specs.Taken.{max_line_len, taken};
+ghost use Rattle.semantics.specs.Records.{Fits, max_line_len, taken};
 
 mod numerals;
 mod passing;

@@ -3,13 +3,11 @@ ghost use Rattle.std.specs.Prelude.{◌≡◌, ◌≢◌, ◌<◌, ℕ, IfErr, I
 ghost use Rattle.serde_json.specs.Find.{get_member};
 ghost use Rattle.serde_json.specs.View.{members_view, view};
 ghost use Rattle.values.specs.Datum.{datum_of, data_of};
-ghost use Rattle.values.specs.Fit.{Fits};
+ghost use Rattle.semantics.specs.Records.{Fits, IsRefusal, all_taken, data_taken, datum_taken, max_line_len, member_of, taken};
 ghost use Rattle.values.specs.Schema.{IsSchema, fields_of};
-ghost use Rattle.lines.specs.Refusal.{IsRefusal};
-ghost use Rattle.lines.specs.Taken.{all_taken, data_taken, datum_taken, max_line_len, member_of, taken};
 
-use crate::fault::{LineFault, LineRefusal};
 use crate::reading::MAX_LINE_LEN;
+use semantics::{LineFault, LineRefusal};
 use serde_json::{Map, Value as Json};
 use std::alloc::Global;
 use values::{Column, Kind, Record, Schema, Value};

@@ -1,10 +1,10 @@
 -- The canonical text of a query is read as that query again, where it is not too long.
 use Rattle.std.proofs.Common.{◌≤◌, ℕ, List, length}
 use Rattle.std.proofs.Math.Logic.{∥∥₁_map}
-use Rattle.query_tree.specs.Syntax.{TreeForm}
-use Rattle.query_print.specs.Canonical.{canonical_text}
+use Rattle.semantics.specs.Syntax.{TreeForm}
+use Rattle.semantics.specs.Canonical.{canonical_text}
 use Rattle.query_round.specs.Texts.{IsTextOf}
-use Rattle.query_derivation.specs.Derivation.{Derives}
+use Rattle.semantics.specs.Reading.{Derives}
 
 text_of : (q : TreeForm) (text : List ℕ) → Derives text q → IsTextOf text q
 text_of q text d = record { tokens = d.tokens; starts = d.starts; spelled = d.spelled; derived = d.derived }

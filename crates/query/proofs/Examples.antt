@@ -1,19 +1,18 @@
 -- The definitions, computed on examples.
 use Rattle.std.proofs.Common.{ℕ, zero, suc, take, List, [], ◌∷◌, None, false, refl, arith, codes}
-use Rattle.query_fault.specs.declared.QueryFault.TheVariants as faults
-use Rattle.query_tokens.specs.Spelling as spelling
-use Rattle.query_tokens.specs.declared.token.Token.{Token}
-use Rattle.query_tokens.specs.declared.token.Token.TheVariants as tokens
-use Rattle.query_tokens.specs.declared.token.Word.TheVariants as w
-use Rattle.query_tokens.specs.declared.token.Sign.TheVariants as s
-use Rattle.query_tree.specs.declared.expression.Aggregate.TheVariants.{CountRows}
-use Rattle.query_tree.specs.Syntax.{ExpressionForm, TreeForm, over_all}
-use Rattle.query_derivation.specs.Limits.{Limits, standard}
-use Rattle.query_derivation.specs.Leaves.{IsAggregate, IsRepeated}
-use Rattle.query_derivation.specs.Predicates.{IsFunction, IsExpression}
-use Rattle.query_derivation.specs.Grammar.{IsItem, IsWhere, IsGroupBy, IsHaving, IsOrderBy, IsQuery, DerivesWithin}
-use Rattle.query_derivation.specs.Prefixes.{BeginsWithin, Begins, KeepsLimits, IsUnexpected, IsOverLimit}
-use Rattle.query.specs.Refusal.{IsRefusalOf}
+use Rattle.semantics.specs.declared.query_fault.QueryFault.TheVariants as faults
+use Rattle.semantics.specs.Tokens as spelling
+use Rattle.semantics.specs.declared.token.Token.{Token}
+use Rattle.semantics.specs.declared.token.Token.TheVariants as tokens
+use Rattle.semantics.specs.declared.token.Word.TheVariants as w
+use Rattle.semantics.specs.declared.token.Sign.TheVariants as s
+use Rattle.semantics.specs.declared.aggregate.Aggregate.TheVariants.{CountRows}
+use Rattle.semantics.specs.Syntax.{ExpressionForm, TreeForm, over_all}
+use Rattle.semantics.specs.Leaves.{Limits, standard, IsAggregate, IsRepeated}
+use Rattle.semantics.specs.Productions.{IsFunction, IsExpression}
+use Rattle.semantics.specs.Grammar.{IsItem, IsWhere, IsGroupBy, IsHaving, IsOrderBy, IsQuery, DerivesWithin}
+use Rattle.semantics.specs.Prefixes.{BeginsWithin, Begins, KeepsLimits, IsUnexpected, IsOverLimit}
+use Rattle.semantics.specs.Reading.{IsRefusalOf}
 
 -- ---- what a fault says of a text
 

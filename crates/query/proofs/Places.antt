@@ -1,10 +1,10 @@
 -- Where tokens begin.
 use Rattle.std.proofs.Common.{◌≡◌, ℕ, zero, suc, List, [], ◌∷◌, ◌++◌, Some, ◌-◌, length, refl, sym, ap, subst, arith}
 use Rattle.std.specs.Prelude.{slice_get}
-use Rattle.query_tokens.specs.declared.token.Token.{Token}
-use Rattle.query_tokens.specs.Spelling.{SpellsFrom, Spells}
-use Rattle.query_derivation.specs.Prefixes.{IsUnexpected, IsOverLimit}
-use Rattle.query.specs.Refusal.{IsUnexpectedAt, SpellsTooMuch}
+use Rattle.semantics.specs.declared.token.Token.{Token}
+use Rattle.semantics.specs.Tokens.{SpellsFrom, Spells}
+use Rattle.semantics.specs.Prefixes.{IsUnexpected, IsOverLimit}
+use Rattle.semantics.specs.Reading.{IsUnexpectedAt, SpellsTooMuch}
 
 -- Each token begins at one byte.
 pub starts_of_all : {n : ℕ} {bs starts : List ℕ} {ks : List Token} → SpellsFrom n bs ks starts → length starts ≡ length ks

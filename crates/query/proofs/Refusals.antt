@@ -1,18 +1,17 @@
 -- Each text derives a query or has one fault.
 use Rattle.std.proofs.Common.{arith, length, ◌<◌, ◌≤◌, ◌≡◌, ◌⊎◌, inl, inr, ℕ, zero, suc, Some, List, [], ◌∷◌, ◌++◌, refl, ap, subst, ◌∙◌}
 use Rattle.std.specs.Prelude.{slice_get}
-use Rattle.query_fault.specs.declared.QueryFault.{QueryFault}
-use Rattle.query_fault.specs.declared.QueryFault.TheVariants as faults
-use Rattle.query_tokens.specs.declared.token.Token.{Token}
-use Rattle.query_tokens.specs.Spelling.{Spells, StopsAt}
+use Rattle.semantics.specs.declared.query_fault.QueryFault.{QueryFault}
+use Rattle.semantics.specs.declared.query_fault.QueryFault.TheVariants as faults
+use Rattle.semantics.specs.declared.token.Token.{Token}
+use Rattle.semantics.specs.Tokens.{Spells, StopsAt}
 use Rattle.query_tokens.proofs.Unique.{one as spells_one}
 use Rattle.query_tokens.proofs.Stops.{decided as spells_or_stops, not_both as spells_and_stops, one as stops_one}
-use Rattle.query_tree.specs.Syntax.{TreeForm}
-use Rattle.query_derivation.specs.Grammar.{Derives as TokensDerive}
-use Rattle.query_derivation.specs.Derivation.{Derives}
-use Rattle.query_derivation.specs.Prefixes.{IsUnexpected, IsOverLimit}
+use Rattle.semantics.specs.Syntax.{TreeForm}
+use Rattle.semantics.specs.Grammar.{Derives as TokensDerive}
+use Rattle.semantics.specs.Reading.{Derives, SpellsTooMuch, IsUnexpectedAt, IsRefusalOf}
+use Rattle.semantics.specs.Prefixes.{IsUnexpected, IsOverLimit}
 use Rattle.query_grammar.proofs.Faults.{at_most_or, unexpected_once, unexpected_keeps, derived_keeps, decided as derives_or_goes_wrong}
-use Rattle.query.specs.Refusal.{SpellsTooMuch, IsUnexpectedAt, IsRefusalOf}
 use Rattle.query.proofs.Places.{starts_of_all}
 
 -- ---- no two

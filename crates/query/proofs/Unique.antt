@@ -1,10 +1,10 @@
 -- No text derives two queries.
 use Rattle.std.proofs.Common.{◌≡◌, ℕ, List, subst}
-use Rattle.query_tokens.specs.declared.token.Token.{Token}
-use Rattle.query_tokens.specs.Spelling.{Spells}
-use Rattle.query_tree.specs.Syntax.{TreeForm}
-use Rattle.query_derivation.specs.Grammar.{Derives as TokensDerive}
-use Rattle.query_derivation.specs.Derivation.{Derives}
+use Rattle.semantics.specs.declared.token.Token.{Token}
+use Rattle.semantics.specs.Tokens.{Spells}
+use Rattle.semantics.specs.Syntax.{TreeForm}
+use Rattle.semantics.specs.Grammar.{Derives as TokensDerive}
+use Rattle.semantics.specs.Reading.{Derives}
 
 pub one : ((text : List ℕ) (ks others : List Token) (starts places : List ℕ) → Spells text ks starts → Spells text others places → (ks ≡ others) × (starts ≡ places))
     → ((ts : List Token) (p q : TreeForm) → TokensDerive ts p → TokensDerive ts q → p ≡ q)

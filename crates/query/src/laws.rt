@@ -1,10 +1,9 @@
 //! Laws of the language.
 
 ghost use Rattle.std.specs.Prelude.{◌≡◌, ◌⊎◌, ℕ, List};
-ghost use Rattle.query_tree.specs.Syntax.{TreeForm};
-ghost use Rattle.query_fault.specs.declared.QueryFault.{QueryFault};
-ghost use Rattle.query_derivation.specs.Derivation.{Derives};
-ghost use Rattle.query.specs.Refusal.{IsRefusalOf};
+ghost use Rattle.semantics.specs.Syntax.{TreeForm};
+ghost use Rattle.semantics.specs.declared.query_fault.QueryFault.{QueryFault};
+ghost use Rattle.semantics.specs.Reading.{Derives, IsRefusalOf};
 
 /// A law, with no work to do: no text derives two queries.
 pub fn derives_one()

@@ -14,7 +14,6 @@ mod printing;
 pub use laws::{derives_one, derives_or_refused};
 pub use parsing::parse;
 pub use printing::print;
-pub use query_fault::QueryFault;
 pub use query_plan::{
     Plan, Query, check, filter_holds, filter_texts, header, holds, set_text, typed_law,
 };
@@ -23,3 +22,4 @@ pub use query_tree::{
     Aggregate, Expression, GroupingElement, Item, Key, Literal, Operand, Predicate, SetFunction,
     Text, Tree,
 };
+pub use semantics::QueryFault;

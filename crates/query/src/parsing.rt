@@ -1,15 +1,14 @@
 //! Reading a query.
 
 ghost use Rattle.std.specs.Prelude.{◌≡◌, ◌<◌, ◌-◌, ◌⊎◌, [], ◌∷◌, ◌++◌, ℕ, Err, IfErr, IfOk, MatchResult, Some, length, slice_get, vec_len};
-ghost use Rattle.query_fault.specs.declared.QueryFault.TheVariants.{OutOfMemory, OverLimit};
-ghost use Rattle.query_tree.specs.Syntax.{TreeForm};
-ghost use Rattle.query_derivation.specs.Derivation.{Derives};
-ghost use Rattle.query.specs.Refusal.{IsRefusalOf, Refuses};
+ghost use Rattle.semantics.specs.declared.query_fault.QueryFault.TheVariants.{OutOfMemory, OverLimit};
+ghost use Rattle.semantics.specs.Syntax.{TreeForm};
+ghost use Rattle.semantics.specs.Reading.{Derives, IsRefusalOf, Refuses};
 
-use query_fault::QueryFault;
 use query_grammar::{GrammarFault, read_query};
 use query_plan::Query;
 use query_tokens::{TokenFault, Tokens, read_tokens};
+use semantics::QueryFault;
 use std::alloc::Global;
 
 /// The most bytes of a query.

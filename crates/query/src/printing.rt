@@ -1,8 +1,8 @@
 //! The canonical text of a query.
 
 ghost use Rattle.std.specs.Prelude.{◌≡◌, ◌≤◌, IfOk, length, string_bytes};
-ghost use Rattle.query_print.specs.Canonical.{canonical_text};
-ghost use Rattle.query_derivation.specs.Derivation.{Derives};
+ghost use Rattle.semantics.specs.Canonical.{canonical_text};
+ghost use Rattle.semantics.specs.Reading.{Derives};
 
 use query_plan::Query;
 use query_print::print_tree;

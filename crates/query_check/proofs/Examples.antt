@@ -2,16 +2,16 @@
 use Rattle.std.proofs.Common.{◌≡◌, zero, suc, true, false, ℕ, List, [], ◌∷◌, Some, None, Contains, pos, refl, ap, inl, inr, arith, codes}
 use Rattle.std.specs.Prelude.{slice_get}
 use Rattle.std.specs.Str.{bytes_eq}
-use Rattle.values.specs.declared.comparison.Op.TheVariants.{Eq}
-use Rattle.values.specs.declared.schema.Kind.TheVariants as kind
-use Rattle.values.specs.Schema.{Field}
-use Rattle.query_tree.specs.declared.expression.Aggregate.TheVariants as aggregate
-use Rattle.query_tree.specs.declared.predicate.Literal.TheVariants as constant
-use Rattle.query_tree.specs.Syntax.{ExpressionForm, ItemForm, PredicateForm, TreeForm, name, grouping, function, over_all, over_filtered, expression, literal, compare, column, set}
-use Rattle.query_fault.specs.declared.QueryFault.TheVariants as faults
+use Rattle.semantics.specs.declared.comparison.Op.TheVariants.{Eq}
+use Rattle.semantics.specs.declared.kind.Kind.TheVariants as kind
+use Rattle.semantics.specs.Columns.{Field}
+use Rattle.semantics.specs.declared.aggregate.Aggregate.TheVariants as aggregate
+use Rattle.semantics.specs.declared.literal.Literal.TheVariants as constant
+use Rattle.semantics.specs.Syntax.{ExpressionForm, ItemForm, PredicateForm, TreeForm, name, grouping, function, over_all, over_filtered, expression, literal, compare, column, set}
+use Rattle.semantics.specs.declared.query_fault.QueryFault.TheVariants as faults
 use Rattle.query_check.specs.declared.scope.Clause.TheVariants as clause
-use Rattle.query_resolution.specs.declared.function.ColumnFunction.TheVariants as at
-use Rattle.query_check.specs.Faults.{query_faults}
+use Rattle.semantics.specs.declared.function.ColumnFunction.TheVariants as at
+use Rattle.semantics.specs.Faults.{query_faults}
 use Rattle.query_check.specs.Inside.FirstFaults.{query_fault, tests_of}
 use Rattle.query_resolution.specs.Functions.{filters_of, indexed_functions}
 use Rattle.query_check.specs.Standing.{Stands}

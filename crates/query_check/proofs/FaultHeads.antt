@@ -6,24 +6,25 @@ use Rattle.std.specs.Option.{option_or}
 use Rattle.std.specs.Str.{bytes_eq}
 use Rattle.std.proofs.lemmas.Bool.Decides.{nat_tests}
 use Rattle.std.proofs.lemmas.List.Concat.{flat_map-append}
-use Rattle.values.specs.declared.schema.Kind.{Kind}
-use Rattle.values.specs.declared.schema.Kind.TheVariants as kind
-use Rattle.values.specs.Schema.{Field}
-use Rattle.query_tree.specs.declared.expression.Aggregate.{Aggregate}
-use Rattle.query_tree.specs.declared.expression.Aggregate.TheVariants as aggregate
-use Rattle.query_tree.specs.declared.predicate.Literal.{Literal}
-use Rattle.query_tree.specs.declared.predicate.Literal.TheVariants as constant
-use Rattle.query_tree.specs.Syntax.{ExpressionForm, FunctionForm, ItemForm, KeyForm, OperandForm, PredicateForm, PredicateForms, TreeForm, name, grouping, function, over_all, over_filtered, expression, literal, or_of, and_of, not_of, truth_test, compare, between, member, null_test, column, no_parts, part}
-use Rattle.query_print.specs.Canonical.{header_text}
-use Rattle.query_fault.specs.declared.QueryFault.{QueryFault}
-use Rattle.query_fault.specs.declared.QueryFault.TheVariants.{UnknownColumn, TypesDisagree, NotGrouped, OverLimit, FunctionNotAllowed, RepeatedHeader}
+use Rattle.semantics.specs.declared.kind.Kind.{Kind}
+use Rattle.semantics.specs.declared.kind.Kind.TheVariants as kind
+use Rattle.semantics.specs.Columns.{Field}
+use Rattle.semantics.specs.declared.aggregate.Aggregate.{Aggregate}
+use Rattle.semantics.specs.declared.aggregate.Aggregate.TheVariants as aggregate
+use Rattle.semantics.specs.declared.literal.Literal.{Literal}
+use Rattle.semantics.specs.declared.literal.Literal.TheVariants as constant
+use Rattle.semantics.specs.Syntax.{ExpressionForm, FunctionForm, ItemForm, KeyForm, OperandForm, PredicateForm, PredicateForms, TreeForm, name, grouping, function, over_all, over_filtered, expression, literal, or_of, and_of, not_of, truth_test, compare, between, member, null_test, column, no_parts, part}
+use Rattle.semantics.specs.Canonical.{header_text}
+use Rattle.semantics.specs.declared.query_fault.QueryFault.{QueryFault}
+use Rattle.semantics.specs.declared.query_fault.QueryFault.TheVariants.{UnknownColumn, TypesDisagree, NotGrouped, OverLimit, FunctionNotAllowed, RepeatedHeader}
 use Rattle.query_check.specs.declared.scope.Clause.{Clause}
 use Rattle.query_check.specs.declared.scope.Clause.TheVariants as clause
-use Rattle.query_resolution.specs.Columns.{column_kind, place_of}
-use Rattle.query_resolution.specs.Sets.{expanded, grouping_names, grouping_places}
-use Rattle.query_resolution.specs.Functions.{functions_of}
-use Rattle.query_check.specs.Typing.{IsTyped, is_average, key_expression, literal_kind, may_stand, operand_kind}
-use Rattle.query_check.specs.Faults.{agreement_faults, argument_faults, atom_faults, clause_faults, column_faults, function_faults, group_faults, grouped_faults, has_type_among, header_faults, operand_faults, operands_of_atoms, operands_of_parts, predicate_faults, query_faults, record_faults, same_kind, typed_column_faults, unless}
+use Rattle.semantics.specs.Names.{column_kind, place_of}
+use Rattle.semantics.specs.Sets.{expanded, grouping_names, grouping_places}
+use Rattle.semantics.specs.SetFunctions.{functions_of}
+use Rattle.query_check.specs.Typing.{IsTyped, may_stand}
+use Rattle.semantics.specs.Types.{is_average, key_expression, literal_kind, operand_kind}
+use Rattle.semantics.specs.Faults.{agreement_faults, argument_faults, atom_faults, clause_faults, column_faults, function_faults, group_faults, grouped_faults, has_type_among, header_faults, operand_faults, operands_of_atoms, operands_of_parts, predicate_faults, query_faults, record_faults, same_kind, typed_column_faults, unless}
 use Rattle.query_check.specs.Inside.FirstFaults.{agreement_fault, aggregate_fault, argument_fault, clause_fault, column_fault, expression_fault, fault_unless, first_fault, function_fault, grouped_at_fault, grouped_fault, header_fault, headers_fault, kind_fault, limit_fault, operand_fault, parts_fault, predicate_fault, query_fault, tests_of}
 use Rattle.query_check.specs.Standing.{Stands}
 use Rattle.query_check.proofs.FaultNames.{among_groups}

@@ -5,10 +5,10 @@ use Rattle.std.specs.Str.{bytes_eq}
 use Rattle.std.proofs.lemmas.Bool.Decides.{nat_tests}
 use Rattle.std.proofs.lemmas.List.Quantifiers.{position-Some}
 use Rattle.std.proofs.lemmas.Slice.Eq.{bytes_eq-Decides}
-use Rattle.values.specs.Schema.{Field, names_of}
-use Rattle.query_tree.specs.Syntax.{TreeForm}
-use Rattle.query_resolution.specs.Columns.{place_of, places_of}
-use Rattle.query_resolution.specs.Sets.{grouping_names, grouping_places}
+use Rattle.semantics.specs.Columns.{Field, names_of}
+use Rattle.semantics.specs.Syntax.{TreeForm}
+use Rattle.semantics.specs.Names.{place_of, places_of}
+use Rattle.semantics.specs.Sets.{grouping_names, grouping_places}
 use Rattle.query_resolution.proofs.Distinct.{any_distinct, same_place}
 use Rattle.query_resolution.proofs.DistinctSets.{both_ways}
 

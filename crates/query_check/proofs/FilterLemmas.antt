@@ -7,16 +7,18 @@ use Rattle.std.proofs.lemmas.Bool.Decides.{nat_tests}
 use Rattle.std.proofs.lemmas.List.Elements.{All-from_recursion, recursion_from_All}
 use Rattle.std.proofs.lemmas.List.Folds.{find_at}
 use Rattle.std.proofs.lemmas.Option.{slice_get_past}
-use Rattle.values.specs.Schema.{Field}
-use Rattle.query_tree.specs.Syntax.{ExpressionForm, FunctionForm, OperandForm, PredicateForm, PredicateForms, ItemForm, KeyForm, TreeForm, name, grouping, function, over_all, over_filtered, expression, literal, or_of, and_of, not_of, truth_test, compare, between, member, null_test, column, no_parts, part}
-use Rattle.query_resolution.specs.declared.function.ColumnFunction.{ColumnFunction}
+use Rattle.semantics.specs.Columns.{Field}
+use Rattle.semantics.specs.Syntax.{ExpressionForm, FunctionForm, OperandForm, PredicateForm, PredicateForms, ItemForm, KeyForm, TreeForm, name, grouping, function, over_all, over_filtered, expression, literal, or_of, and_of, not_of, truth_test, compare, between, member, null_test, column, no_parts, part}
+use Rattle.semantics.specs.declared.function.ColumnFunction.{ColumnFunction}
 use Rattle.query_check.specs.declared.scope.Clause.{Clause}
 use Rattle.query_check.specs.declared.scope.Clause.TheVariants as clause
-use Rattle.query_resolution.specs.Columns.{distinct}
-use Rattle.query_resolution.specs.Sets.{grouping_places}
-use Rattle.query_resolution.specs.Inside.Same.{same_predicate}
-use Rattle.query_resolution.specs.Functions.{PlannedFunction, aggregate_of, column_function, different_filters, expression_functions, filter_of, filters_of, functions_of, indexed, operand_functions, parts_functions, planned_function, predicate_functions, same_planned, set_functions}
-use Rattle.query_check.specs.Typing.{AreTypedParts, IsTyped, IsTypedClause, IsTypedExpression, IsTypedFunction, IsTypedOperand, IsTypedPredicate, key_expression}
+use Rattle.semantics.specs.Names.{distinct, PlannedFunction, aggregate_of, column_function, filter_of, planned_function}
+use Rattle.semantics.specs.Sets.{grouping_places}
+use Rattle.semantics.specs.Inside.Same.{same_predicate, same_planned}
+use Rattle.query_resolution.specs.Functions.{different_filters, filters_of, indexed}
+use Rattle.semantics.specs.SetFunctions.{expression_functions, functions_of, operand_functions, parts_functions, predicate_functions, set_functions}
+use Rattle.query_check.specs.Typing.{AreTypedParts, IsTyped, IsTypedClause, IsTypedExpression, IsTypedFunction, IsTypedOperand, IsTypedPredicate}
+use Rattle.semantics.specs.Types.{key_expression}
 use Rattle.query_check.specs.Filters.{AreTypedFilters, LeadBack, filters_at}
 use Rattle.query_resolution.proofs.Distinct.{any_distinct}
 use Rattle.query_resolution.proofs.Rows.{or_true}

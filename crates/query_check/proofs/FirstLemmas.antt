@@ -3,17 +3,17 @@ use Rattle.std.proofs.Common.{◌≡◌, ◌∙◌, List, [], ◌∷◌, ◌++�
 use Rattle.std.specs.Prelude.{Decides}
 use Rattle.std.specs.Option.{option_or}
 use Rattle.std.proofs.lemmas.List.Elements.{All-nil, All-cons, All-head, All-tail}
-use Rattle.values.specs.declared.schema.Kind.{Kind}
-use Rattle.values.specs.Schema.{Field}
-use Rattle.query_tree.specs.Syntax.{ItemForm, KeyForm, TreeForm}
-use Rattle.query_print.specs.Canonical.{header_text}
-use Rattle.query_fault.specs.declared.QueryFault.{QueryFault}
-use Rattle.query_resolution.specs.Sets.{expanded, grouping_names, grouping_places}
-use Rattle.query_resolution.specs.Functions.{functions_of}
+use Rattle.semantics.specs.declared.kind.Kind.{Kind}
+use Rattle.semantics.specs.Columns.{Field}
+use Rattle.semantics.specs.Syntax.{ItemForm, KeyForm, TreeForm}
+use Rattle.semantics.specs.Canonical.{header_text}
+use Rattle.semantics.specs.declared.query_fault.QueryFault.{QueryFault}
+use Rattle.semantics.specs.Sets.{expanded, grouping_names, grouping_places}
+use Rattle.semantics.specs.SetFunctions.{functions_of}
 use Rattle.query_check.specs.declared.scope.Clause.TheVariants as clause
-use Rattle.query_check.specs.Typing.{key_expression}
+use Rattle.semantics.specs.Types.{key_expression}
 use Rattle.query_check.specs.Inside.FirstFaults.{Answers, IsFirst, clause_fault, column_fault, expression_fault, first_fault, headers_fault, limit_fault, query_fault, tests_of}
-use Rattle.query_check.specs.Faults.{same_kind}
+use Rattle.semantics.specs.Faults.{same_kind}
 use Rattle.query_check.specs.Inside.Clauses.{clauses_fault, records_fault, rows_fault, select_fault}
 use Rattle.query_check.proofs.TypedLemmas.{same_from_test, same_itself}
 use Rattle.query_check.proofs.StandingLemmas.{either}

@@ -8,9 +8,9 @@ use Rattle.std.specs.Str.{bytes_eq}
 use Rattle.std.proofs.lemmas.List.{at_drop_more, at_drop_all, get_or-map, length-map, take_more}
 use Rattle.query_tree.specs.declared.tree.Item.{Item}
 use Rattle.query_tree.specs.Syntax.{item_form}
-use Rattle.query_print.specs.Canonical.{header_text}
-use Rattle.query_fault.specs.declared.QueryFault.{QueryFault}
-use Rattle.query_fault.specs.declared.QueryFault.TheVariants.{RepeatedHeader}
+use Rattle.semantics.specs.Canonical.{header_text}
+use Rattle.semantics.specs.declared.query_fault.QueryFault.{QueryFault}
+use Rattle.semantics.specs.declared.query_fault.QueryFault.TheVariants.{RepeatedHeader}
 use Rattle.query_check.specs.Inside.FirstFaults.{fault_unless, first_fault, header_fault, headers_fault}
 
 -- The headers of items.

@@ -1,8 +1,8 @@
 -- Limits of numbers that are capped.
 use Rattle.std.proofs.Common.{◌≡◌, ◌∙◌, ℕ, ◌<◌, nat_lt, Bool, not, min, Result, ap, subst, arith}
 use Rattle.std.proofs.lemmas.Bool.Decides.{nat_tests}
-use Rattle.query_fault.specs.declared.QueryFault.TheVariants.{OverLimit}
-use Rattle.query_fault.specs.declared.QueryFault.{QueryFault}
+use Rattle.semantics.specs.declared.query_fault.QueryFault.TheVariants.{OverLimit}
+use Rattle.semantics.specs.declared.query_fault.QueryFault.{QueryFault}
 use Rattle.query_check.specs.Inside.FirstFaults.{Answers, fault_unless, limit_fault}
 
 -- Whether a capped number is above a limit below the cap is whether the number is.

@@ -1,8 +1,8 @@
 -- The first fault of names that are walked from left to right.
 use Rattle.std.proofs.Common.{◌≡◌, ◌∙◌, ℕ, ◌+◌, ◌<◌, List, [], ◌∷◌, ◌++◌, length, get_or, drop, Option, Some, None, refl, sym, ap, add-one, drop-cons}
 use Rattle.std.specs.Option.{option_or}
-use Rattle.values.specs.Schema.{Field}
-use Rattle.query_fault.specs.declared.QueryFault.{QueryFault}
+use Rattle.semantics.specs.Columns.{Field}
+use Rattle.semantics.specs.declared.query_fault.QueryFault.{QueryFault}
 use Rattle.query_check.specs.Inside.FirstFaults.{column_fault, first_fault}
 
 -- Of three tests in a row it is the same which two are taken first.

@@ -7,20 +7,19 @@ use Rattle.std.specs.Str.{bytes_eq}
 use Rattle.std.proofs.lemmas.Bool.Decides.{nat_tests}
 use Rattle.std.proofs.lemmas.List.{length-map}
 use Rattle.std.proofs.lemmas.List.Elements.{Contains-append_right}
-use Rattle.values.specs.declared.schema.Kind.{Kind}
-use Rattle.values.specs.Schema.{Field, names_of}
-use Rattle.query_tree.specs.declared.expression.Aggregate.{Aggregate}
-use Rattle.query_tree.specs.Syntax.{ExpressionForm, FunctionForm, PredicateForm, TreeForm, name, grouping, function, over_all, over_filtered}
-use Rattle.query_fault.specs.declared.QueryFault.{QueryFault}
-use Rattle.query_fault.specs.declared.QueryFault.TheVariants.{UnknownColumn, TypesDisagree, NotGrouped, FunctionNotAllowed}
+use Rattle.semantics.specs.declared.kind.Kind.{Kind}
+use Rattle.semantics.specs.Columns.{Field, names_of}
+use Rattle.semantics.specs.declared.aggregate.Aggregate.{Aggregate}
+use Rattle.semantics.specs.Syntax.{ExpressionForm, FunctionForm, PredicateForm, TreeForm, name, grouping, function, over_all, over_filtered}
+use Rattle.semantics.specs.declared.query_fault.QueryFault.{QueryFault}
+use Rattle.semantics.specs.declared.query_fault.QueryFault.TheVariants.{UnknownColumn, TypesDisagree, NotGrouped, FunctionNotAllowed}
 use Rattle.query_check.specs.declared.scope.Clause.{Clause}
 use Rattle.query_check.specs.declared.scope.Clause.TheVariants as clause
-use Rattle.query_resolution.specs.Columns.{column_kind, kind_at, place_of, places_of}
-use Rattle.query_resolution.specs.Sets.{grouping_names, grouping_places}
+use Rattle.semantics.specs.Names.{column_kind, kind_at, place_of, places_of, aggregate_of}
+use Rattle.semantics.specs.Sets.{grouping_names, grouping_places}
 use Rattle.query_check.specs.Typing.{IsColumn, argument_names, may_stand, takes}
 use Rattle.query_check.specs.Inside.FirstFaults.{first_fault, fault_unless, column_fault, grouped_at_fault, grouped_fault, name_fault, kind_fault, argument_fault, aggregate_fault, function_fault, grouping_fault, expression_fault, predicate_fault}
-use Rattle.query_check.specs.Faults.{same_kind}
-use Rattle.query_resolution.specs.Functions.{aggregate_of}
+use Rattle.semantics.specs.Faults.{same_kind}
 use Rattle.query_check.specs.Standing.{IsFilterIn, IsOfOtherKind, IsWrittenIn, Stands, StandsIn, names, outer_names}
 use Rattle.query_resolution.proofs.Rows.{or_true}
 use Rattle.query_resolution.proofs.Distinct.{any_distinct}

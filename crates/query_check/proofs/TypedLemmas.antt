@@ -5,19 +5,20 @@ use Rattle.std.specs.List.{list_any}
 use Rattle.std.specs.Option.{option_or, option_and_then}
 use Rattle.std.proofs.lemmas.Bool.Decides.{nat_tests}
 use Rattle.std.proofs.lemmas.List.Elements.{All-nil, All-cons, All-head, All-tail}
-use Rattle.values.specs.declared.schema.Kind.{Kind}
-use Rattle.values.specs.declared.schema.Kind.TheVariants as kind
-use Rattle.values.specs.Schema.{Field}
-use Rattle.query_tree.specs.declared.expression.Aggregate.{Aggregate}
-use Rattle.query_tree.specs.Syntax.{ExpressionForm, FunctionForm, OperandForm, PredicateForm, PredicateForms, name, grouping, function, over_all, over_filtered, expression, literal, or_of, and_of, not_of, truth_test, compare, between, member, null_test, column, no_parts, part}
-use Rattle.query_fault.specs.declared.QueryFault.{QueryFault}
-use Rattle.query_fault.specs.declared.QueryFault.TheVariants.{FunctionNotAllowed}
+use Rattle.semantics.specs.declared.kind.Kind.{Kind}
+use Rattle.semantics.specs.declared.kind.Kind.TheVariants as kind
+use Rattle.semantics.specs.Columns.{Field}
+use Rattle.semantics.specs.declared.aggregate.Aggregate.{Aggregate}
+use Rattle.semantics.specs.Syntax.{ExpressionForm, FunctionForm, OperandForm, PredicateForm, PredicateForms, name, grouping, function, over_all, over_filtered, expression, literal, or_of, and_of, not_of, truth_test, compare, between, member, null_test, column, no_parts, part}
+use Rattle.semantics.specs.declared.query_fault.QueryFault.{QueryFault}
+use Rattle.semantics.specs.declared.query_fault.QueryFault.TheVariants.{FunctionNotAllowed}
 use Rattle.query_check.specs.declared.scope.Clause.{Clause}
 use Rattle.query_check.specs.declared.scope.Clause.TheVariants as clause
-use Rattle.query_resolution.specs.Columns.{column_kind, kind_at, place_of}
-use Rattle.query_check.specs.Typing.{IsGrouped, IsTypedName, IsTypedAggregate, IsTypedFunction, IsTypedGrouping, IsTypedExpression, IsTypedOperand, IsOfOneKind, IsTypedPredicate, AreTypedParts, IsTypedClause, IsOfKinds, argument_names, literal_kind, may_stand, operand_kind, takes}
+use Rattle.semantics.specs.Names.{column_kind, kind_at, place_of}
+use Rattle.query_check.specs.Typing.{IsGrouped, IsTypedName, IsTypedAggregate, IsTypedFunction, IsTypedGrouping, IsTypedExpression, IsTypedOperand, IsOfOneKind, IsTypedPredicate, AreTypedParts, IsTypedClause, IsOfKinds, argument_names, may_stand, takes}
+use Rattle.semantics.specs.Types.{literal_kind, operand_kind}
 use Rattle.query_check.specs.Inside.FirstFaults.{first_fault, fault_unless, column_fault, grouped_at_fault, grouped_fault, name_fault, kind_fault, argument_fault, aggregate_fault, function_fault, grouping_fault, expression_fault, operand_fault, agreement_fault, predicate_fault, parts_fault, clause_fault}
-use Rattle.query_check.specs.Faults.{same_kind}
+use Rattle.semantics.specs.Faults.{same_kind}
 use Rattle.query_resolution.proofs.Rows.{or_true}
 
 -- ---- faults in a row

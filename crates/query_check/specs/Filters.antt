@@ -1,11 +1,12 @@
 -- What holds of the different filters of a query.
 use Rattle.std.specs.Prelude.{◌≡◌, Option, List, [], map, slice_get, All}
 use Rattle.std.specs.Option.{option_and_then}
-use Rattle.values.specs.Schema.{Field}
-use Rattle.query_tree.specs.Syntax.{PredicateForm, TreeForm}
+use Rattle.semantics.specs.Columns.{Field}
+use Rattle.semantics.specs.Syntax.{PredicateForm, TreeForm}
 use Rattle.query_resolution.specs.declared.function.FilteredFunction.{FilteredFunction}
 use Rattle.query_check.specs.declared.scope.Clause.TheVariants as clause
-use Rattle.query_resolution.specs.Functions.{filters_of, functions_of, indexed_functions}
+use Rattle.query_resolution.specs.Functions.{filters_of, indexed_functions}
+use Rattle.semantics.specs.SetFunctions.{functions_of}
 use Rattle.query_check.specs.Typing.{IsTypedPredicate}
 
 -- The filters to which set functions lead by their indexes among some filters.

@@ -1,4 +1,3 @@
-pub mod Faults
 pub mod Typing
 pub mod Filters
 pub mod Standing

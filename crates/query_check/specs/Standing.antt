@@ -1,20 +1,21 @@
 -- Which faults stand in a query under a schema, wherever in it they stand (ISO/IEC 9075-2, <query specification>).
 use Rattle.std.specs.Prelude.{◌≡◌, ◌≢◌, ◌<◌, ⊤, ◌⊎◌, ℕ, false, Option, Some, List, [], ◌∷◌, ◌++◌, map, length, Contains}
 use Rattle.std.specs.Option.{option_map_or}
-use Rattle.values.specs.declared.schema.Kind.{Kind}
-use Rattle.values.specs.declared.schema.Kind.TheVariants as kind
-use Rattle.values.specs.Schema.{Field}
-use Rattle.query_tree.specs.declared.expression.Aggregate.{Aggregate}
-use Rattle.query_tree.specs.Syntax.{ExpressionForm, FunctionForm, OperandForm, PredicateForm, PredicateForms, TreeForm, name, grouping, function, over_filtered, expression, literal, or_of, and_of, not_of, truth_test, compare, between, member, null_test, column, no_parts, part}
-use Rattle.query_print.specs.Canonical.{header_text}
-use Rattle.query_fault.specs.declared.QueryFault.{QueryFault}
-use Rattle.query_fault.specs.declared.QueryFault.TheVariants as faults
+use Rattle.semantics.specs.declared.kind.Kind.{Kind}
+use Rattle.semantics.specs.declared.kind.Kind.TheVariants as kind
+use Rattle.semantics.specs.Columns.{Field}
+use Rattle.semantics.specs.declared.aggregate.Aggregate.{Aggregate}
+use Rattle.semantics.specs.Syntax.{ExpressionForm, FunctionForm, OperandForm, PredicateForm, PredicateForms, TreeForm, name, grouping, function, over_filtered, expression, literal, or_of, and_of, not_of, truth_test, compare, between, member, null_test, column, no_parts, part}
+use Rattle.semantics.specs.Canonical.{header_text}
+use Rattle.semantics.specs.declared.query_fault.QueryFault.{QueryFault}
+use Rattle.semantics.specs.declared.query_fault.QueryFault.TheVariants as faults
 use Rattle.query_check.specs.declared.scope.Clause.{Clause}
 use Rattle.query_check.specs.declared.scope.Clause.TheVariants as clause
-use Rattle.query_resolution.specs.Columns.{column_kind}
-use Rattle.query_resolution.specs.Sets.{expanded, grouping_names}
-use Rattle.query_resolution.specs.Functions.{aggregate_of, functions_of}
-use Rattle.query_check.specs.Typing.{IsColumn, argument_names, key_expression, may_stand, operand_kind, takes}
+use Rattle.semantics.specs.Names.{column_kind, aggregate_of}
+use Rattle.semantics.specs.Sets.{expanded, grouping_names}
+use Rattle.semantics.specs.SetFunctions.{functions_of}
+use Rattle.query_check.specs.Typing.{IsColumn, argument_names, may_stand, takes}
+use Rattle.semantics.specs.Types.{key_expression, operand_kind}
 
 -- ---- what stands in a query
 

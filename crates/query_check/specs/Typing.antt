@@ -1,22 +1,18 @@
 -- Which queries are typed under a schema (ISO/IEC 9075-2, <query specification>).
 use Rattle.std.specs.Prelude.{◌≡◌, ◌≢◌, ◌≤◌, ℕ, ⊤, Bool, true, false, not, Option, Some, None, List, [], ◌∷◌, map, length, All, AllPairs, Contains, IsSome, IsSomeAnd, IsTrue}
-use Rattle.std.specs.List.{find}
-use Rattle.std.specs.Option.{option_map_or}
-use Rattle.std.specs.Str.{bytes_eq}
-use Rattle.values.specs.declared.schema.Kind.{Kind}
-use Rattle.values.specs.declared.schema.Kind.TheVariants as kind
-use Rattle.values.specs.Schema.{Field}
-use Rattle.query_tree.specs.declared.expression.Aggregate.{Aggregate}
-use Rattle.query_tree.specs.declared.expression.Aggregate.TheVariants as aggregate
-use Rattle.query_tree.specs.declared.predicate.Literal.{Literal}
-use Rattle.query_tree.specs.declared.predicate.Literal.TheVariants as constant
-use Rattle.query_tree.specs.Syntax.{ExpressionForm, FunctionForm, OperandForm, PredicateForm, PredicateForms, ItemForm, TreeForm, name, grouping, function, over_all, over_filtered, expression, literal, or_of, and_of, not_of, truth_test, compare, between, member, null_test, column, no_parts, part}
-use Rattle.query_print.specs.Canonical.{header_text}
+use Rattle.semantics.specs.declared.kind.Kind.{Kind}
+use Rattle.semantics.specs.declared.kind.Kind.TheVariants as kind
+use Rattle.semantics.specs.Columns.{Field}
+use Rattle.semantics.specs.declared.aggregate.Aggregate.{Aggregate}
+use Rattle.semantics.specs.declared.aggregate.Aggregate.TheVariants as aggregate
+use Rattle.semantics.specs.Syntax.{ExpressionForm, FunctionForm, OperandForm, PredicateForm, PredicateForms, TreeForm, name, grouping, function, over_all, over_filtered, expression, literal, or_of, and_of, not_of, truth_test, compare, between, member, null_test, column, no_parts, part}
+use Rattle.semantics.specs.Canonical.{header_text}
 use Rattle.query_check.specs.declared.scope.Clause.{Clause}
 use Rattle.query_check.specs.declared.scope.Clause.TheVariants as clause
-use Rattle.query_resolution.specs.Columns.{column_kind, place_of}
-use Rattle.query_resolution.specs.Sets.{expanded, grouping_names, grouping_places}
-use Rattle.query_resolution.specs.Functions.{functions_of}
+use Rattle.semantics.specs.Names.{column_kind, place_of}
+use Rattle.semantics.specs.Sets.{expanded, grouping_names, grouping_places}
+use Rattle.semantics.specs.SetFunctions.{functions_of}
+use Rattle.semantics.specs.Types.{is_average, literal_kind, operand_kind, key_expression}
 
 -- ---- names
 
@@ -69,16 +65,6 @@ IsOfKinds fields kinds n = IsSomeAnd (column_kind fields n) (Contains kinds)
 abbrev pub IsTypedAggregate : List Field → Aggregate → Type 0
 IsTypedAggregate fields a = All (IsOfKinds fields (takes a)) (argument_names a)
 
--- Whether a set function is AVG.
-abbrev pub is_average : Aggregate → Bool
-is_average aggregate.CountRows = false
-is_average (aggregate.Count x) = false
-is_average (aggregate.CountDistinct x) = false
-is_average (aggregate.Sum x) = false
-is_average (aggregate.Min x) = false
-is_average (aggregate.Max x) = false
-is_average (aggregate.Avg x) = true
-
 -- Whether a set function may stand in a clause: none in WHERE, and AVG only in SELECT.
 abbrev pub may_stand : Clause → Aggregate → Bool
 may_stand clause.Where a = false
@@ -95,35 +81,7 @@ IsTypedGrouping fields grouped clause.Select ns = All (IsGrouped fields grouped)
 IsTypedGrouping fields grouped clause.Having ns = All (IsGrouped fields grouped) ns
 IsTypedGrouping fields grouped clause.OrderBy ns = All (IsGrouped fields grouped) ns
 
--- The type of a set function: a whole number, or for MIN and MAX the type of the argument. AVG has none.
-abbrev pub aggregate_kind : List Field → Aggregate → Option Kind
-aggregate_kind fields aggregate.CountRows = Some kind.Int
-aggregate_kind fields (aggregate.Count x) = Some kind.Int
-aggregate_kind fields (aggregate.CountDistinct x) = Some kind.Int
-aggregate_kind fields (aggregate.Sum x) = Some kind.Int
-aggregate_kind fields (aggregate.Min x) = column_kind fields x
-aggregate_kind fields (aggregate.Max x) = column_kind fields x
-aggregate_kind fields (aggregate.Avg x) = None
-
--- The type of an expression: a column has its own, GROUPING is a whole number.
-abbrev pub expression_kind : List Field → ExpressionForm → Option Kind
-expression_kind fields (name n) = column_kind fields n
-expression_kind fields (grouping ns) = Some kind.Int
-expression_kind fields (function (over_all a)) = aggregate_kind fields a
-expression_kind fields (function (over_filtered a p)) = aggregate_kind fields a
-
--- The type of a literal.
-abbrev pub literal_kind : Literal → Kind
-literal_kind (constant.Integer i) = kind.Int
-literal_kind (constant.Text s) = kind.Text
-literal_kind (constant.Truth b) = kind.Bool
-
 -- ---- operands
-
--- The type of an operand.
-abbrev pub operand_kind : List Field → OperandForm → Option Kind
-operand_kind fields (expression e) = expression_kind fields e
-operand_kind fields (literal a) = Some (literal_kind a)
 
 -- Two operands are of one type.
 abbrev pub IsOfOneKind : Option Kind → Option Kind → Type 0
@@ -173,16 +131,6 @@ abbrev mutual
   AreTypedParts fields grouped c (part p ps) = IsTypedPredicate fields grouped c p × AreTypedParts fields grouped c ps
 
 -- ---- the query
-
--- The item whose alias is this name, where there is one.
-abbrev pub item_of_alias : List ItemForm → List ℕ → Option ItemForm
-item_of_alias items n = find (λ i. option_map_or (bytes_eq n) i.alias false) items
-
--- A key that is an alias stands for its item.
-abbrev pub key_expression : List ItemForm → ExpressionForm → ExpressionForm
-key_expression items (name n) = option_map_or (λ i. i.expression) (item_of_alias items n) (name n)
-key_expression items (grouping ns) = grouping ns
-key_expression items (function f) = function f
 
 -- A clause of a predicate is typed where the predicate is, if it is written.
 abbrev pub IsTypedClause : List Field → List ℕ → Clause → Option PredicateForm → Type 0

@@ -1,12 +1,12 @@
 //! Laws of filters and of faults, with no work to do.
 
 ghost use Rattle.std.specs.Prelude.{◌≡◌, ◌↔◌, List, [], Option, Some, Decides, slice_get};
-ghost use Rattle.values.specs.Schema.{Field};
-ghost use Rattle.values.specs.declared.schema.Kind.{Kind};
-ghost use Rattle.query_tree.specs.Syntax.{TreeForm};
-ghost use Rattle.query_fault.specs.declared.QueryFault.{QueryFault};
+ghost use Rattle.semantics.specs.Columns.{Field};
+ghost use Rattle.semantics.specs.declared.kind.Kind.{Kind};
+ghost use Rattle.semantics.specs.Syntax.{TreeForm};
+ghost use Rattle.semantics.specs.declared.query_fault.QueryFault.{QueryFault};
 ghost use Rattle.query_check.specs.Inside.FirstFaults.{IsFirst, first_fault};
-ghost use Rattle.query_check.specs.Faults.{query_faults, same_kind};
+ghost use Rattle.semantics.specs.Faults.{query_faults, same_kind};
 ghost use Rattle.query_check.specs.Filters.{AreTypedFilters, LeadBack};
 ghost use Rattle.query_check.specs.Standing.{Stands};
 ghost use Rattle.query_check.specs.Typing.{IsTyped};

@@ -4,12 +4,12 @@ ghost use Rattle.std.specs.Prelude.{◌≡◌, map};
 ghost use Rattle.std.specs.List.{flat_map};
 ghost use Rattle.values.specs.Schema.{fields_of};
 ghost use Rattle.query_tree.specs.Syntax.{element_form, units_form};
-ghost use Rattle.query_resolution.specs.Columns.{group_names};
+ghost use Rattle.semantics.specs.Names.{group_names};
 ghost use Rattle.query_check.specs.Inside.FirstFaults.{Answers, column_fault, first_fault};
 
 use crate::typing::check_column;
-use query_fault::QueryFault;
 use query_tree::{GroupingElement, Text};
+use semantics::QueryFault;
 use values::Column;
 
 /// Whether columns have these names.

@@ -6,25 +6,26 @@ ghost use Rattle.std.specs.Str.{bytes_eq};
 ghost use Rattle.std.specs.Option.{option_map};
 ghost use Rattle.values.specs.Schema.{fields_of};
 ghost use Rattle.query_tree.specs.Syntax.{expression_form, element_form, item_form, key_form, predicate_form, tree_form};
-ghost use Rattle.query_print.specs.Canonical.{header_text};
+ghost use Rattle.semantics.specs.Canonical.{header_text};
 ghost use Rattle.query_resolution.specs.Functions.{indexed_functions};
-ghost use Rattle.query_resolution.specs.Sets.{expanded, grouping_places};
-ghost use Rattle.query_check.specs.Typing.{IsTyped, key_expression};
+ghost use Rattle.semantics.specs.Sets.{expanded, grouping_places};
+ghost use Rattle.query_check.specs.Typing.{IsTyped};
+ghost use Rattle.semantics.specs.Types.{key_expression};
 ghost use Rattle.query_check.specs.Inside.FirstFaults.{Answers, clause_fault, expression_fault, first_fault, headers_fault, limit_fault, query_fault};
 ghost use Rattle.query_check.specs.Inside.Clauses.{clauses_fault, records_fault, rows_fault, select_fault};
 ghost use Rattle.query_check.specs.Standing.{Stands};
-ghost use Rattle.query_fault.specs.declared.QueryFault.TheVariants.{OutOfMemory, RepeatedHeader};
+ghost use Rattle.semantics.specs.declared.query_fault.QueryFault.TheVariants.{OutOfMemory, RepeatedHeader};
 ghost use Rattle.query_resolution.specs.Resolution.{resolution_of};
 
 use crate::names::check_groups;
 use crate::scope::{Clause, Scope};
 use crate::typing::{check_expression, check_predicate};
-use query_fault::QueryFault;
 use query_print::header;
 use query_resolution::{
     FilteredFunction, grouping_places, grouping_sets, indexed_functions, set_count,
 };
 use query_tree::{Expression, GroupingElement, Item, Key, Predicate, Text, Tree};
+use semantics::QueryFault;
 use std::alloc::{AllocError, Global};
 use std::marker::Model;
 use values::{Column, Schema};

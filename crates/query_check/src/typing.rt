@@ -3,16 +3,18 @@
 ghost use Rattle.std.specs.Prelude.{◌≡◌, ◌≢◌, [], map, Some};
 ghost use Rattle.std.specs.List.{list_any};
 ghost use Rattle.values.specs.Schema.{fields_of};
-ghost use Rattle.query_fault.specs.declared.QueryFault.TheVariants.{UnknownColumn, NotGrouped, OutOfMemory};
-ghost use Rattle.query_tree.specs.Syntax.{expression_form, function_form, operand_form, predicate_form, predicate_forms};
-ghost use Rattle.query_check.specs.Typing.{aggregate_kind, literal_kind, may_stand, operand_kind, takes};
+ghost use Rattle.semantics.specs.declared.query_fault.QueryFault.TheVariants.{UnknownColumn, NotGrouped, OutOfMemory};
+ghost use Rattle.query_tree.specs.Syntax.{expression_form, function_form, operand_form, predicate_form};
+ghost use Rattle.semantics.specs.Syntax.{predicate_forms};
+ghost use Rattle.semantics.specs.Types.{aggregate_kind, literal_kind, operand_kind};
+ghost use Rattle.query_check.specs.Typing.{may_stand, takes};
 ghost use Rattle.query_check.specs.Inside.FirstFaults.{agreement_fault, aggregate_fault, Answers, argument_fault, between_agreement, column_fault, expression_fault, first_fault, function_fault, grouped_fault, grouping_fault, name_fault, operand_fault, parts_fault, predicate_fault, truth_fault};
-ghost use Rattle.query_check.specs.Faults.{same_kind};
+ghost use Rattle.semantics.specs.Faults.{same_kind};
 
 use crate::scope::{Clause, Scope};
-use query_fault::QueryFault;
 use query_resolution::{column_kind, place_of};
 use query_tree::{Aggregate, Expression, Literal, Operand, Predicate, SetFunction, Text};
+use semantics::QueryFault;
 use values::{Column, Kind};
 
 /// The fault that no column has this name.

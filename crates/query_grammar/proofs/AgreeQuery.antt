@@ -1,11 +1,11 @@
 -- The readers of queries within narrow and within wider limits agree.
 use Rattle.std.proofs.Common.{arith, length, ◌≤◌, ◌-◌, ◌≡◌, ℕ, zero, suc, Bool, false, List, refl}
-use Rattle.query_tokens.specs.declared.token.Token.{Token}
-use Rattle.query_tokens.specs.declared.token.Word.{Word}
-use Rattle.query_tokens.specs.declared.token.Word.TheVariants as w
-use Rattle.query_tokens.specs.declared.token.Sign.TheVariants as s
-use Rattle.query_tree.specs.Syntax.{ElementForm}
-use Rattle.query_derivation.specs.Limits.{Limits}
+use Rattle.semantics.specs.declared.token.Token.{Token}
+use Rattle.semantics.specs.declared.token.Word.{Word}
+use Rattle.semantics.specs.declared.token.Word.TheVariants as w
+use Rattle.semantics.specs.declared.token.Sign.TheVariants as s
+use Rattle.semantics.specs.Syntax.{ElementForm}
+use Rattle.semantics.specs.Leaves.{Limits}
 use Rattle.query_leaves.specs.Fronts.{is_word, is_sign, after}
 use Rattle.query_leaves.specs.Steps.{Reader, stuck, expected}
 use Rattle.query_predicates.specs.ExpressionSteps.{begins_expression}

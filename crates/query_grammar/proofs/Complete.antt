@@ -2,24 +2,25 @@
 use Rattle.std.proofs.Common.{arith, ◌-◌, ◌≡◌, suc, Bool, List, [], ◌∷◌, Option, None, Result, Ok, Err, refl, sym, ◌∙◌}
 use Rattle.std.specs.Prelude.{codes, Box, MatchResult}
 use Rattle.std.specs.Global.{Global}
-use Rattle.query_tokens.specs.declared.token.Token.{Token}
-use Rattle.query_tokens.specs.declared.token.Token.TheVariants as tokens
-use Rattle.query_tokens.specs.declared.token.Word.TheVariants as w
-use Rattle.query_tokens.specs.declared.token.Sign.TheVariants as s
+use Rattle.semantics.specs.declared.token.Token.{Token}
+use Rattle.semantics.specs.declared.token.Token.TheVariants as tokens
+use Rattle.semantics.specs.declared.token.Word.TheVariants as w
+use Rattle.semantics.specs.declared.token.Sign.TheVariants as s
 use Rattle.query_leaves.proofs.Inversions.{ok_is}
 use Rattle.query_tree.specs.declared.tree.Tree.{Tree}
-use Rattle.query_tree.specs.Syntax.{ExpressionForm, PredicateForm, ElementForm, ItemForm, KeyForm, TreeForm, tree_form}
+use Rattle.semantics.specs.Syntax.{ExpressionForm, PredicateForm, ElementForm, ItemForm, KeyForm, TreeForm}
+use Rattle.query_tree.specs.Syntax.{tree_form}
 use Rattle.query_leaves.specs.declared.fault.GrammarFault.{GrammarFault}
 use Rattle.query_leaves.specs.declared.fault.GrammarFault.TheVariants as faults
-use Rattle.query_derivation.specs.Limits.{Limits, standard}
+use Rattle.semantics.specs.Leaves.{Limits, standard}
 use Rattle.query_leaves.specs.Fronts.{is_word, is_sign, after}
 use Rattle.query_leaves.specs.Steps.{Gives, name_at}
 use Rattle.query_grammar.specs.GroupSteps.{group_at}
 use Rattle.query_grammar.specs.QuerySteps.{alias_at, item_at, items_at, from_at, clause_at, groups_at, select_at, records_at, rows_at, query_at, whole_at, set_quantifier_at, elements_at}
 use Rattle.query_predicates.specs.ExpressionSteps.{expression_at, begins_expression}
 use Rattle.query_predicates.specs.PredicateSteps.{inside_of, any_front}
-use Rattle.query_derivation.specs.Predicates.{IsExpression, IsPredicate}
-use Rattle.query_derivation.specs.Grammar.{IsItem, IsWhere, IsGroup, IsGroupBy, IsHaving, IsOrderBy, IsQuery, Derives, DerivesWithin, IsSetQuantifier}
+use Rattle.semantics.specs.Productions.{IsExpression, IsPredicate}
+use Rattle.semantics.specs.Grammar.{IsItem, IsWhere, IsGroup, IsGroupBy, IsHaving, IsOrderBy, IsQuery, Derives, DerivesWithin, IsSetQuantifier}
 use Rattle.query_leaves.proofs.Agree.{Wider, wider_same}
 use Rattle.query_leaves.proofs.CompleteLists.{repeated_follow, repeated_c, unlimited_c}
 use Rattle.query_predicates.proofs.CompleteExpressions.{EndsFunction, expression_c}

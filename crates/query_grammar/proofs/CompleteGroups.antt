@@ -1,18 +1,18 @@
 -- Units, sets and groups that derive from tokens are read.
 use Rattle.std.proofs.Common.{arith, ◌≤◌, ◌≡◌, ℕ, zero, suc, List, ◌∷◌, Bool, Some, None, Ok, refl}
-use Rattle.query_tokens.specs.declared.token.Token.{Token}
-use Rattle.query_tokens.specs.declared.token.Token.TheVariants as tokens
-use Rattle.query_tokens.specs.declared.token.Word.TheVariants as w
-use Rattle.query_tokens.specs.declared.token.Sign.TheVariants as s
-use Rattle.query_tree.specs.Syntax.{ElementForm, sets, element_forms}
+use Rattle.semantics.specs.declared.token.Token.{Token}
+use Rattle.semantics.specs.declared.token.Token.TheVariants as tokens
+use Rattle.semantics.specs.declared.token.Word.TheVariants as w
+use Rattle.semantics.specs.declared.token.Sign.TheVariants as s
+use Rattle.semantics.specs.Syntax.{ElementForm, sets, element_forms}
 use Rattle.query_leaves.specs.Fronts.{is_word, is_sign, after}
 use Rattle.query_leaves.specs.Steps.{Reader, expected, name_at, begins_name}
 use Rattle.query_predicates.specs.PredicateSteps.{any_front}
-use Rattle.query_derivation.specs.Leaves.{Derivation, IsRepeated, IsName}
+use Rattle.semantics.specs.Leaves.{Derivation, IsRepeated, IsName}
 use Rattle.query_leaves.proofs.CompleteLists.{Shrinks, repeated_short, unlimited_c}
 use Rattle.query_leaves.proofs.CompleteLeaves.{name_c, name_short}
 use Rattle.query_grammar.specs.GroupSteps.{enclosed_at, begins_unit, unit_at, units_at, nothing_at, set_at, element_at, sets_at, group_at}
-use Rattle.query_derivation.specs.Grammar.{IsUnit, IsSet, IsElement, IsGroup}
+use Rattle.semantics.specs.Grammar.{IsUnit, IsSet, IsElement, IsGroup}
 
 -- Parts in brackets that are read whatever stands behind them, as many as there are.
 enclosed_c : {A : Type 0} (begins : List Token → Bool) (P : Derivation A) (f : Reader A) → ((ts r : List Token) (x : A) → P ts x r → f ts ≡ Ok (x, r)) → Shrinks P

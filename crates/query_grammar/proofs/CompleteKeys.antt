@@ -1,11 +1,11 @@
 -- Keys that derive from tokens are read.
 use Rattle.std.proofs.Common.{arith, length, ◌≤◌, ◌≡◌, Bool, List, [], ◌∷◌, None, Ok, refl}
-use Rattle.query_tokens.specs.declared.token.Token.{Token}
-use Rattle.query_tokens.specs.declared.token.Token.TheVariants as tokens
-use Rattle.query_tokens.specs.declared.token.Word.TheVariants as w
-use Rattle.query_tokens.specs.declared.token.Sign.TheVariants as s
-use Rattle.query_tree.specs.Syntax.{KeyForm}
-use Rattle.query_derivation.specs.Limits.{Limits}
+use Rattle.semantics.specs.declared.token.Token.{Token}
+use Rattle.semantics.specs.declared.token.Token.TheVariants as tokens
+use Rattle.semantics.specs.declared.token.Word.TheVariants as w
+use Rattle.semantics.specs.declared.token.Sign.TheVariants as s
+use Rattle.semantics.specs.Syntax.{KeyForm}
+use Rattle.semantics.specs.Leaves.{Limits}
 use Rattle.query_leaves.specs.Fronts.{is_word, is_sign, after}
 use Rattle.query_leaves.proofs.Agree.{Wider}
 use Rattle.query_leaves.proofs.CompleteLists.{Shrinks, repeated_follow, unlimited_c}
@@ -13,9 +13,9 @@ use Rattle.query_predicates.proofs.CompleteExpressions.{EndsFunction, expression
 use Rattle.query_predicates.proofs.CompletePredicates.{predicate_short, bracketed_c}
 use Rattle.query_predicates.specs.PredicateSteps.{inside_of}
 use Rattle.query_predicates.specs.ExpressionSteps.{begins_expression}
-use Rattle.query_derivation.specs.Predicates.{IsPredicate}
+use Rattle.semantics.specs.Productions.{IsPredicate}
 use Rattle.query_grammar.specs.KeySteps.{direction_at, null_ordering_at, key_at, keys_at}
-use Rattle.query_derivation.specs.Grammar.{IsDirection, IsNullOrdering, IsKey, IsOrderBy}
+use Rattle.semantics.specs.Grammar.{IsDirection, IsNullOrdering, IsKey, IsOrderBy}
 
 -- Neither ASC nor DESC goes on a direction that ends here.
 pub record EndsDirection (r : List Token) : Type 0 where

@@ -1,18 +1,19 @@
 -- Where the reader of queries stops, tokens go wrong; they do so once, and not where they derive a query.
 use Rattle.std.proofs.Common.{arith, length, take, drop, ◌<◌, ◌≤◌, ◌+◌, ◌-◌, ◌≡◌, ◌⊎◌, inl, inr, ℕ, zero, suc, Result, Ok, Err, List, [], ◌∷◌, ◌++◌, refl, sym, ap, subst, ◌∙◌}
 use Rattle.std.proofs.lemmas.List.{append_assoc, length-append, take-append-drop, take-append-le}
-use Rattle.query_tokens.specs.declared.token.Token.{Token}
-use Rattle.query_tokens.specs.declared.token.Token.TheVariants as tokens
-use Rattle.query_tokens.specs.declared.token.Word.TheVariants as w
-use Rattle.query_tokens.specs.declared.token.Sign.TheVariants as s
+use Rattle.semantics.specs.declared.token.Token.{Token}
+use Rattle.semantics.specs.declared.token.Token.TheVariants as tokens
+use Rattle.semantics.specs.declared.token.Word.TheVariants as w
+use Rattle.semantics.specs.declared.token.Sign.TheVariants as s
 use Rattle.std.specs.Prelude.{Box, IfOk}
 use Rattle.std.specs.Global.{Global}
 use Rattle.std.proofs.Math.Seq.{take-append_seam}
 use Rattle.query_tree.specs.declared.tree.Tree.{Tree}
-use Rattle.query_tree.specs.Syntax.{TreeForm, tree_form}
-use Rattle.query_derivation.specs.Limits.{Limits, standard}
-use Rattle.query_derivation.specs.Grammar.{DerivesWithin, Derives}
-use Rattle.query_derivation.specs.Prefixes.{BeginsWithin, Begins, KeepsLimits, IsUnexpected, IsOverLimit}
+use Rattle.semantics.specs.Syntax.{TreeForm}
+use Rattle.query_tree.specs.Syntax.{tree_form}
+use Rattle.semantics.specs.Leaves.{Limits, standard}
+use Rattle.semantics.specs.Grammar.{DerivesWithin, Derives}
+use Rattle.semantics.specs.Prefixes.{BeginsWithin, Begins, KeepsLimits, IsUnexpected, IsOverLimit}
 use Rattle.query_leaves.specs.declared.fault.GrammarFault.{GrammarFault}
 use Rattle.query_leaves.specs.declared.fault.GrammarFault.TheVariants as faults
 use Rattle.query_leaves.specs.Steps.{Gives}

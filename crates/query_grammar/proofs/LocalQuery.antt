@@ -2,13 +2,13 @@
 use Rattle.std.proofs.Common.{arith, length, take, drop, ◌<◌, ◌≤◌, ◌+◌, ◌-◌, ◌≡◌, ◌⊎◌, inl, inr, ℕ, zero, suc, Bool, true, false, cond, List, [], ◌∷◌, ◌++◌, Option, Some, None, Result, Ok, Err, refl, ap, subst, ◌∙◌, length-drop, add-one}
 use Rattle.std.specs.Prelude.{codes}
 use Rattle.std.specs.Str.{bytes_eq}
-use Rattle.query_tokens.specs.declared.token.Token.{Token}
-use Rattle.query_tokens.specs.declared.token.Token.TheVariants as tokens
-use Rattle.query_tokens.specs.declared.token.Word.{Word}
-use Rattle.query_tokens.specs.declared.token.Word.TheVariants as w
-use Rattle.query_tokens.specs.declared.token.Sign.TheVariants as s
+use Rattle.semantics.specs.declared.token.Token.{Token}
+use Rattle.semantics.specs.declared.token.Token.TheVariants as tokens
+use Rattle.semantics.specs.declared.token.Word.{Word}
+use Rattle.semantics.specs.declared.token.Word.TheVariants as w
+use Rattle.semantics.specs.declared.token.Sign.TheVariants as s
 use Rattle.query_tokens.specs.Options.{choose}
-use Rattle.query_tree.specs.Syntax.{ExpressionForm, PredicateForm, ElementForm, ItemForm, KeyForm, TreeForm, set, rollup, cube, sets, element_forms}
+use Rattle.semantics.specs.Syntax.{ExpressionForm, PredicateForm, ElementForm, ItemForm, KeyForm, TreeForm, set, rollup, cube, sets, element_forms}
 use Rattle.query_leaves.specs.declared.fault.GrammarFault.{GrammarFault}
 use Rattle.query_leaves.specs.declared.fault.GrammarFault.TheVariants as faults
 use Rattle.query_leaves.specs.Fronts.{is_word, is_sign, after}
@@ -20,9 +20,9 @@ use Rattle.query_grammar.specs.KeySteps.{direction_at, null_ordering_at, key_at,
 use Rattle.query_grammar.specs.QuerySteps.{alias_at, item_at, items_at, from_at, clause_at, set_quantifier_at, elements_at, groups_at, select_at, records_at, rows_at, query_at, at_end, whole_at}
 use Rattle.query_leaves.proofs.Local.{SameFront, IsFront, Local, Shares, left_of, local_loose, local_as, local_end, local_head, local_ok, local_stuck, local_over, local_choose, local_front, local_bind, local_expected, local_expected_front, local_all}
 use Rattle.query_leaves.proofs.LocalLeaves.{TellsByFront, local_listed, local_closed, name_front, name_told}
-use Rattle.query_derivation.specs.Limits.{Limits, standard}
-use Rattle.query_derivation.specs.Grammar.{DerivesWithin}
-use Rattle.query_derivation.specs.Prefixes.{BeginsWithin, Begins}
+use Rattle.semantics.specs.Leaves.{Limits, standard}
+use Rattle.semantics.specs.Grammar.{DerivesWithin}
+use Rattle.semantics.specs.Prefixes.{BeginsWithin, Begins}
 use Rattle.query_leaves.proofs.Agree.{both, wider_same, wider_one, wider_other, agrees_unexpected}
 use Rattle.query_grammar.proofs.AgreeQuery.{whole_agrees}
 use Rattle.query_grammar.proofs.Complete.{whole_c}

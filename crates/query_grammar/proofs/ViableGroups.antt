@@ -1,16 +1,16 @@
 -- The readers of units, sets and groups have the valid prefix property.
 use Rattle.std.proofs.Common.{length, ◌≡◌, ℕ, zero, suc, Bool, true, false, List, [], ◌∷◌, ◌++◌, Ok, refl, subst}
 use Rattle.std.specs.Prelude.{codes}
-use Rattle.query_tokens.specs.declared.token.Token.{Token}
-use Rattle.query_tokens.specs.declared.token.Token.TheVariants as tokens
-use Rattle.query_tokens.specs.declared.token.Word.TheVariants as w
-use Rattle.query_tokens.specs.declared.token.Sign.TheVariants as s
+use Rattle.semantics.specs.declared.token.Token.{Token}
+use Rattle.semantics.specs.declared.token.Token.TheVariants as tokens
+use Rattle.semantics.specs.declared.token.Word.TheVariants as w
+use Rattle.semantics.specs.declared.token.Sign.TheVariants as s
 use Rattle.query_tokens.specs.Options.{choose}
-use Rattle.query_tree.specs.Syntax.{ElementForm, set, rollup, cube, sets, element_forms}
+use Rattle.semantics.specs.Syntax.{ElementForm, set, rollup, cube, sets, element_forms}
 use Rattle.query_leaves.specs.Fronts.{is_word, is_sign, after}
 use Rattle.query_leaves.specs.Steps.{◌>>=◌, Reader, expected, more, name_at, begins_name}
-use Rattle.query_derivation.specs.Leaves.{Derivation, IsRepeated, IsName}
-use Rattle.query_derivation.specs.Grammar.{IsUnit, IsSet, IsElement, IsGroup}
+use Rattle.semantics.specs.Leaves.{Derivation, IsRepeated, IsName}
+use Rattle.semantics.specs.Grammar.{IsUnit, IsSet, IsElement, IsGroup}
 use Rattle.query_predicates.specs.PredicateSteps.{any_front}
 use Rattle.query_grammar.specs.GroupSteps.{all_at, enclosed_at, begins_unit, unit_at, units_at, nothing_at, set_at, element_at, sets_at, group_at}
 use Rattle.query_leaves.proofs.Heads.{after_word_is, after_sign_is}

@@ -1,15 +1,14 @@
 -- The readers of keys have the valid prefix property.
 use Rattle.std.proofs.Common.{◌≡◌, Bool, true, false, List, [], ◌∷◌, Option, Some, None, Ok, refl}
 use Rattle.std.specs.Prelude.{codes}
-use Rattle.query_tokens.specs.declared.token.Token.{Token}
-use Rattle.query_tokens.specs.declared.token.Token.TheVariants as tokens
-use Rattle.query_tokens.specs.declared.token.Word.TheVariants as w
+use Rattle.semantics.specs.declared.token.Token.{Token}
+use Rattle.semantics.specs.declared.token.Token.TheVariants as tokens
+use Rattle.semantics.specs.declared.token.Word.TheVariants as w
 use Rattle.query_tokens.specs.Options.{choose}
-use Rattle.query_tree.specs.Syntax.{ExpressionForm, KeyForm}
-use Rattle.query_derivation.specs.Limits.{Limits, standard}
-use Rattle.query_derivation.specs.Leaves.{Derivation}
-use Rattle.query_derivation.specs.Predicates.{IsExpression, IsPredicate}
-use Rattle.query_derivation.specs.Grammar.{IsDirection, IsNullOrdering, IsKey, IsOrderBy}
+use Rattle.semantics.specs.Syntax.{ExpressionForm, KeyForm}
+use Rattle.semantics.specs.Leaves.{Limits, standard, Derivation}
+use Rattle.semantics.specs.Productions.{IsExpression, IsPredicate}
+use Rattle.semantics.specs.Grammar.{IsDirection, IsNullOrdering, IsKey, IsOrderBy}
 use Rattle.query_leaves.specs.Fronts.{is_word, after}
 use Rattle.query_leaves.specs.Steps.{◌>>=◌, Reader, expected}
 use Rattle.query_predicates.specs.ExpressionSteps.{expression_at, begins_expression}

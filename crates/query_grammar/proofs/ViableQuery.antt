@@ -4,17 +4,16 @@ use Rattle.std.proofs.Common.{arith, length, ◌<◌, ◌≤◌, ◌-◌, ◌≡
 use Rattle.std.specs.Prelude.{codes}
 use Rattle.std.specs.Str.{bytes_eq}
 use Rattle.std.proofs.lemmas.Slice.Eq.{bytes_eq-Decides}
-use Rattle.query_tokens.specs.declared.token.Token.{Token}
-use Rattle.query_tokens.specs.declared.token.Token.TheVariants as tokens
-use Rattle.query_tokens.specs.declared.token.Word.{Word}
-use Rattle.query_tokens.specs.declared.token.Word.TheVariants as w
-use Rattle.query_tokens.specs.declared.token.Sign.TheVariants as s
+use Rattle.semantics.specs.declared.token.Token.{Token}
+use Rattle.semantics.specs.declared.token.Token.TheVariants as tokens
+use Rattle.semantics.specs.declared.token.Word.{Word}
+use Rattle.semantics.specs.declared.token.Word.TheVariants as w
+use Rattle.semantics.specs.declared.token.Sign.TheVariants as s
 use Rattle.query_tokens.specs.Options.{choose}
-use Rattle.query_tree.specs.Syntax.{ExpressionForm, PredicateForm, ElementForm, ItemForm, KeyForm, TreeForm}
-use Rattle.query_derivation.specs.Limits.{Limits, standard}
-use Rattle.query_derivation.specs.Leaves.{Derivation, IsRepeated, IsName}
-use Rattle.query_derivation.specs.Predicates.{IsExpression, IsPredicate}
-use Rattle.query_derivation.specs.Grammar.{IsItem, IsWhere, IsGroup, IsSetQuantifier, IsGroupBy, IsHaving, IsOrderBy, IsQuery}
+use Rattle.semantics.specs.Syntax.{ExpressionForm, PredicateForm, ElementForm, ItemForm, KeyForm, TreeForm}
+use Rattle.semantics.specs.Leaves.{Limits, standard, Derivation, IsRepeated, IsName}
+use Rattle.semantics.specs.Productions.{IsExpression, IsPredicate}
+use Rattle.semantics.specs.Grammar.{IsItem, IsWhere, IsGroup, IsSetQuantifier, IsGroupBy, IsHaving, IsOrderBy, IsQuery}
 use Rattle.query_leaves.specs.declared.fault.GrammarFault.{GrammarFault}
 use Rattle.query_leaves.specs.Fronts.{is_word, is_sign, after}
 use Rattle.query_leaves.specs.Steps.{◌>>=◌, Reader, stuck, expected, more, name_at}

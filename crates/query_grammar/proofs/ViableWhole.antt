@@ -2,14 +2,14 @@
 use Rattle.std.proofs.Common.{arith, length, take, ◌≤◌, ◌-◌, ◌≡◌, inl, inr, ℕ, Bool, true, false, List, [], ◌∷◌, ◌++◌, Result, Ok, Err, refl, sym, ap, subst, ◌∙◌}
 use Rattle.std.proofs.lemmas.List.{append-nil, append_assoc, length-append}
 use Rattle.std.proofs.Math.Seq.{take-append_seam}
-use Rattle.query_tokens.specs.declared.token.Token.{Token}
-use Rattle.query_tokens.specs.declared.token.Token.TheVariants as tokens
-use Rattle.query_tokens.specs.declared.token.Word.TheVariants as w
-use Rattle.query_tokens.specs.declared.token.Sign.TheVariants as s
-use Rattle.query_tree.specs.Syntax.{TreeForm}
-use Rattle.query_derivation.specs.Limits.{Limits, standard}
-use Rattle.query_derivation.specs.Grammar.{IsQuery, Derives}
-use Rattle.query_derivation.specs.Prefixes.{BeginsWithin, Begins, KeepsLimits}
+use Rattle.semantics.specs.declared.token.Token.{Token}
+use Rattle.semantics.specs.declared.token.Token.TheVariants as tokens
+use Rattle.semantics.specs.declared.token.Word.TheVariants as w
+use Rattle.semantics.specs.declared.token.Sign.TheVariants as s
+use Rattle.semantics.specs.Syntax.{TreeForm}
+use Rattle.semantics.specs.Leaves.{Limits, standard}
+use Rattle.semantics.specs.Grammar.{IsQuery, Derives}
+use Rattle.semantics.specs.Prefixes.{BeginsWithin, Begins, KeepsLimits}
 use Rattle.query_leaves.specs.declared.fault.GrammarFault.{GrammarFault}
 use Rattle.query_leaves.specs.declared.fault.GrammarFault.TheVariants as faults
 use Rattle.query_leaves.specs.Steps.{◌>>=◌}

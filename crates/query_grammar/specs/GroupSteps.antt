@@ -1,12 +1,12 @@
 -- What the functions of units, sets and groups read in front of tokens, one definition for each function, as it computes
 -- it. No public contract rests on this file: what tokens derive is said in Grammar.
 use Rattle.std.specs.Prelude.{ℕ, zero, suc, Bool, true, false, List, [], ◌∷◌, length, Option, None, Ok}
-use Rattle.query_tokens.specs.declared.token.Token.{Token}
-use Rattle.query_tokens.specs.declared.token.Token.TheVariants as tokens
-use Rattle.query_tokens.specs.declared.token.Word.TheVariants as w
-use Rattle.query_tokens.specs.declared.token.Sign.TheVariants as s
+use Rattle.semantics.specs.declared.token.Token.{Token}
+use Rattle.semantics.specs.declared.token.Token.TheVariants as tokens
+use Rattle.semantics.specs.declared.token.Word.TheVariants as w
+use Rattle.semantics.specs.declared.token.Sign.TheVariants as s
 use Rattle.query_tokens.specs.Options.{choose}
-use Rattle.query_tree.specs.Syntax.{ElementForm, set, rollup, cube, sets, element_forms}
+use Rattle.semantics.specs.Syntax.{ElementForm, set, rollup, cube, sets, element_forms}
 use Rattle.query_predicates.specs.PredicateSteps.{any_front}
 use Rattle.query_leaves.specs.Fronts.{is_word, is_sign, after}
 use Rattle.query_leaves.specs.Steps.{◌>>=◌, Reader, over, expected, with_front, more, name_at, begins_name}

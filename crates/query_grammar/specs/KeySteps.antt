@@ -1,11 +1,11 @@
 -- What the functions of keys read in front of tokens, one definition for each function, as it computes it. No public
 -- contract rests on this file: what tokens derive is said in Grammar.
 use Rattle.std.specs.Prelude.{Bool, true, false, List, [], Ok}
-use Rattle.query_tokens.specs.declared.token.Token.{Token}
-use Rattle.query_tokens.specs.declared.token.Word.TheVariants as w
+use Rattle.semantics.specs.declared.token.Token.{Token}
+use Rattle.semantics.specs.declared.token.Word.TheVariants as w
 use Rattle.query_tokens.specs.Options.{choose}
-use Rattle.query_tree.specs.Syntax.{KeyForm}
-use Rattle.query_derivation.specs.Limits.{Limits}
+use Rattle.semantics.specs.Syntax.{KeyForm}
+use Rattle.semantics.specs.Leaves.{Limits}
 use Rattle.query_leaves.specs.Fronts.{is_word, after}
 use Rattle.query_leaves.specs.Steps.{◌>>=◌, Reader, expected}
 use Rattle.query_predicates.specs.ExpressionSteps.{expression_at, begins_expression}

@@ -1,14 +1,14 @@
 //! Reads the elements of GROUP BY.
 
 ghost use Rattle.std.specs.Prelude.{◌≡◌, ◌<◌, ◌≤◌, ◌∷◌, [], length, map, IfOk};
-ghost use Rattle.query_tokens.specs.declared.token.Sign.TheVariants.{Comma};
+ghost use Rattle.semantics.specs.declared.token.Sign.TheVariants.{Comma};
 ghost use Rattle.query_tree.specs.Syntax.{element_form};
 ghost use Rattle.query_leaves.specs.Fronts.{is_sign};
 ghost use Rattle.query_leaves.specs.Steps.{Gives, with_front, more};
 ghost use Rattle.query_predicates.specs.PredicateSteps.{any_front};
 ghost use Rattle.query_grammar.specs.GroupSteps.{sets_at, group_at};
 ghost use Rattle.query_grammar.specs.QuerySteps.{elements_at, groups_at, set_quantifier_at};
-ghost use Rattle.query_derivation.specs.Limits.{standard};
+ghost use Rattle.semantics.specs.Leaves.{standard};
 
 use crate::units::{set, units};
 use query_leaves::{

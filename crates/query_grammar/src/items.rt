@@ -4,7 +4,7 @@ ghost use Rattle.std.specs.Prelude.{◌<◌, ◌≤◌, length, map, IfOk};
 ghost use Rattle.query_tree.specs.Syntax.{item_form};
 ghost use Rattle.query_leaves.specs.Steps.{Gives};
 ghost use Rattle.query_grammar.specs.QuerySteps.{alias_at, item_at, items_at};
-ghost use Rattle.query_derivation.specs.Limits.{standard};
+ghost use Rattle.semantics.specs.Leaves.{standard};
 
 use query_leaves::{GrammarFault, Listed, after_word, expect_name, keep, more_parts};
 use query_predicates::{MOST_LEVELS, begins_expression, expression};
@@ -43,9 +43,10 @@ fn item(alloc: Global, tokens: &[Token]) -> Result<(Item, &[Token]), GrammarFaul
 struct SelectItems;
 
 impl Listed for SelectItems {
-    ghost use Rattle.query_tree.specs.Syntax.{ItemForm, item_form};
+    ghost use Rattle.semantics.specs.Syntax.{ItemForm};
+    ghost use Rattle.query_tree.specs.Syntax.{item_form};
     ghost use Rattle.query_predicates.specs.ExpressionSteps.{begins_expression};
-    ghost use Rattle.query_derivation.specs.Limits.{standard};
+    ghost use Rattle.semantics.specs.Leaves.{standard};
     ghost use Rattle.query_grammar.specs.QuerySteps.{item_at};
 
     type Part = Item;

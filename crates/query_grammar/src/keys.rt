@@ -4,7 +4,7 @@ ghost use Rattle.std.specs.Prelude.{◌≡◌, ◌<◌, ◌≤◌, length, map, 
 ghost use Rattle.query_tree.specs.Syntax.{key_form};
 ghost use Rattle.query_leaves.specs.Steps.{Gives};
 ghost use Rattle.query_grammar.specs.KeySteps.{direction_at, null_ordering_at, key_at, keys_at};
-ghost use Rattle.query_derivation.specs.Limits.{standard};
+ghost use Rattle.semantics.specs.Leaves.{standard};
 
 use query_leaves::{GrammarFault, Listed, after_word, expect_word, keep, more_parts};
 use query_predicates::{MOST_LEVELS, begins_expression, expression};
@@ -64,9 +64,10 @@ fn key(alloc: Global, tokens: &[Token]) -> Result<(Key, &[Token]), GrammarFault>
 struct SortKeys;
 
 impl Listed for SortKeys {
-    ghost use Rattle.query_tree.specs.Syntax.{KeyForm, key_form};
+    ghost use Rattle.semantics.specs.Syntax.{KeyForm};
+    ghost use Rattle.query_tree.specs.Syntax.{key_form};
     ghost use Rattle.query_predicates.specs.ExpressionSteps.{begins_expression};
-    ghost use Rattle.query_derivation.specs.Limits.{standard};
+    ghost use Rattle.semantics.specs.Leaves.{standard};
     ghost use Rattle.query_grammar.specs.KeySteps.{key_at};
 
     type Part = Key;

@@ -1,9 +1,9 @@
 //! A law of the grammar.
 
 ghost use Rattle.std.specs.Prelude.{◌≡◌, List};
-ghost use Rattle.query_tokens.specs.declared.token.Token.{Token};
-ghost use Rattle.query_tree.specs.Syntax.{TreeForm};
-ghost use Rattle.query_derivation.specs.Grammar.{Derives};
+ghost use Rattle.semantics.specs.declared.token.Token.{Token};
+ghost use Rattle.semantics.specs.Syntax.{TreeForm};
+ghost use Rattle.semantics.specs.Grammar.{Derives};
 
 /// A law, with no work to do: no tokens derive two queries.
 pub fn derives_one()

@@ -2,13 +2,14 @@
 
 ghost use Rattle.std.specs.Prelude.{◌≡◌, ◌<◌, ◌≤◌, ◌-◌, ℕ, Err, length, map, IfOk, MatchResult};
 ghost use Rattle.std.specs.Option.{option_map};
-ghost use Rattle.query_tree.specs.Syntax.{TreeForm, tree_form, element_form, item_form, key_form, predicate_form};
+ghost use Rattle.semantics.specs.Syntax.{TreeForm};
+ghost use Rattle.query_tree.specs.Syntax.{tree_form, element_form, item_form, key_form, predicate_form};
 ghost use Rattle.query_leaves.specs.declared.fault.GrammarFault.TheVariants.{OutOfMemory, OverLimit, Unexpected};
-ghost use Rattle.query_derivation.specs.Grammar.{Derives};
-ghost use Rattle.query_derivation.specs.Prefixes.{IsUnexpected, IsOverLimit};
+ghost use Rattle.semantics.specs.Grammar.{Derives};
+ghost use Rattle.semantics.specs.Prefixes.{IsUnexpected, IsOverLimit};
 ghost use Rattle.query_leaves.specs.Steps.{Gives};
 ghost use Rattle.query_grammar.specs.QuerySteps.{from_at, clause_at, select_at, records_at, rows_at, query_at, whole_at};
-ghost use Rattle.query_derivation.specs.Limits.{standard};
+ghost use Rattle.semantics.specs.Leaves.{standard};
 
 use crate::groups::groups;
 use crate::items::items;

@@ -1,10 +1,10 @@
 -- What a reader of narrow limits reads, and where it finds a token that is not expected, the reader of wider limits does
 -- too: the two agree unless the narrow one finds too much.
 use Rattle.std.proofs.Common.{arith, length, ◌≤◌, ◌+◌, ◌-◌, ◌≡◌, ℕ, zero, suc, Bool, true, false, cond, List, [], ◌∷◌, Option, Some, None, is_some, Result, Ok, Err, refl}
-use Rattle.query_tokens.specs.declared.token.Token.{Token}
-use Rattle.query_tokens.specs.declared.token.Sign.TheVariants as s
+use Rattle.semantics.specs.declared.token.Token.{Token}
+use Rattle.semantics.specs.declared.token.Sign.TheVariants as s
 use Rattle.query_tokens.specs.Options.{choose}
-use Rattle.query_derivation.specs.Limits.{Limits}
+use Rattle.semantics.specs.Leaves.{Limits}
 use Rattle.query_leaves.specs.declared.fault.GrammarFault.{GrammarFault}
 use Rattle.query_leaves.specs.declared.fault.GrammarFault.TheVariants as faults
 use Rattle.query_leaves.specs.Fronts.{is_sign, after}

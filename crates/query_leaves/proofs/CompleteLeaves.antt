@@ -1,15 +1,15 @@
 -- Leaves that derive from tokens are read.
 use Rattle.std.proofs.Common.{arith, ◌-◌, length, ◌<◌, ◌≡◌, ℕ, Bool, List, ◌∷◌, Some, None, Ok, refl}
-use Rattle.values.specs.declared.comparison.Op.{Op}
-use Rattle.values.specs.declared.truth.Truth.{Truth}
-use Rattle.query_tokens.specs.declared.token.Token.{Token}
-use Rattle.query_tokens.specs.declared.token.Token.TheVariants as tokens
-use Rattle.query_tokens.specs.declared.token.Word.TheVariants as w
-use Rattle.query_tokens.specs.declared.token.Sign.TheVariants as s
-use Rattle.query_tree.specs.declared.expression.Aggregate.{Aggregate}
-use Rattle.query_tree.specs.declared.predicate.Literal.{Literal}
+use Rattle.semantics.specs.declared.comparison.Op.{Op}
+use Rattle.semantics.specs.declared.truth.Truth.{Truth}
+use Rattle.semantics.specs.declared.token.Token.{Token}
+use Rattle.semantics.specs.declared.token.Token.TheVariants as tokens
+use Rattle.semantics.specs.declared.token.Word.TheVariants as w
+use Rattle.semantics.specs.declared.token.Sign.TheVariants as s
+use Rattle.semantics.specs.declared.aggregate.Aggregate.{Aggregate}
+use Rattle.semantics.specs.declared.literal.Literal.{Literal}
 use Rattle.query_leaves.specs.Fronts.{is_word, after}
-use Rattle.query_derivation.specs.Leaves.{IsRepeated, IsName, IsAggregate, IsLiteral, IsOp, IsTruthValue, IsMark}
+use Rattle.semantics.specs.Leaves.{IsRepeated, IsName, IsAggregate, IsLiteral, IsOp, IsTruthValue, IsMark}
 use Rattle.query_leaves.specs.Steps.{expected, name_at, begins_name}
 use Rattle.query_leaves.specs.LeafSteps.{closed_name_at, argument_at, counted_at, count_at, aggregate_at, arguments_at, literal_at, begins_literal, literals_at, op_at, truth_at, mark_at}
 use Rattle.query_leaves.proofs.CompleteLists.{Shrinks, bracketed_c}

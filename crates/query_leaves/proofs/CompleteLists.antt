@@ -1,11 +1,11 @@
 -- Repeated parts that derive from tokens are read.
 use Rattle.std.proofs.Common.{arith, length, ◌+◌, ◌≤◌, ◌≡◌, ℕ, zero, suc, Bool, true, List, ◌∷◌, None, Ok, refl}
-use Rattle.query_tokens.specs.declared.token.Token.{Token}
-use Rattle.query_tokens.specs.declared.token.Token.TheVariants as tokens
-use Rattle.query_tokens.specs.declared.token.Sign.TheVariants as s
+use Rattle.semantics.specs.declared.token.Token.{Token}
+use Rattle.semantics.specs.declared.token.Token.TheVariants as tokens
+use Rattle.semantics.specs.declared.token.Sign.TheVariants as s
 use Rattle.query_leaves.specs.Fronts.{is_sign, after}
 use Rattle.query_leaves.specs.Steps.{Reader, more, bracketed_at}
-use Rattle.query_derivation.specs.Leaves.{Derivation, IsRepeated}
+use Rattle.semantics.specs.Leaves.{Derivation, IsRepeated}
 
 -- A part takes no less than nothing.
 abbrev pub Shrinks : {A : Type 0} → Derivation A → Type 0

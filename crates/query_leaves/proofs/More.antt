@@ -1,7 +1,7 @@
 -- Reading a list item by item, as a loop does.
 use Rattle.std.proofs.Common.{arith, length, ◌<◌, ◌≤◌, ◌≡◌, ℕ, zero, suc, Bool, List, [], ◌∷◌, ◌++◌, Some, None, Result, Ok, Err, refl, sym, ap, ◌∙◌, append_assoc}
 use Rattle.std.proofs.lemmas.List.{append-nil}
-use Rattle.query_tokens.specs.declared.token.Token.{Token}
+use Rattle.semantics.specs.declared.token.Token.{Token}
 use Rattle.query_leaves.specs.Fronts.{after}
 use Rattle.query_leaves.specs.Steps.{Fails, Reader, excess, with_front, more}
 use Rattle.query_leaves.specs.declared.fault.GrammarFault.{GrammarFault}

@@ -2,16 +2,16 @@
 -- the tokens before that go on to something that it reads.
 use Rattle.std.proofs.Common.{arith, length, ◌<◌, ◌≤◌, ◌≡◌, ◌⊎◌, inl, inr, ℕ, zero, suc, Bool, true, false, cond, not, List, [], ◌∷◌, ◌++◌, Option, Some, None, Result, Ok, Err, refl, sym, ap, subst, ◌∙◌}
 use Rattle.std.proofs.lemmas.List.{append_assoc, length-append}
-use Rattle.query_tokens.specs.declared.token.Token.{Token}
-use Rattle.query_tokens.specs.declared.token.Token.TheVariants as tokens
-use Rattle.query_tokens.specs.declared.token.Word.TheVariants as w
-use Rattle.query_tokens.specs.declared.token.Sign.TheVariants as s
+use Rattle.semantics.specs.declared.token.Token.{Token}
+use Rattle.semantics.specs.declared.token.Token.TheVariants as tokens
+use Rattle.semantics.specs.declared.token.Word.TheVariants as w
+use Rattle.semantics.specs.declared.token.Sign.TheVariants as s
 use Rattle.query_tokens.specs.Options.{choose}
 use Rattle.query_leaves.specs.declared.fault.GrammarFault.{GrammarFault}
 use Rattle.query_leaves.specs.declared.fault.GrammarFault.TheVariants as faults
 use Rattle.query_leaves.specs.Fronts.{is_sign, after}
 use Rattle.query_leaves.specs.Steps.{◌>>=◌, Reader, stuck, over, expected, excess, with_front, more}
-use Rattle.query_derivation.specs.Leaves.{Derivation, IsRepeated}
+use Rattle.semantics.specs.Leaves.{Derivation, IsRepeated}
 use Rattle.query_leaves.proofs.Inversions.{bind_ok, choose_ok, ok_is}
 use Rattle.query_leaves.proofs.Heads.{after_sign_is}
 

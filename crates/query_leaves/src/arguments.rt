@@ -3,7 +3,7 @@
 ghost use Rattle.std.specs.Prelude.{◌<◌, ℕ, length, IfOk};
 ghost use Rattle.query_leaves.specs.Steps.{Gives};
 ghost use Rattle.query_leaves.specs.LeafSteps.{arguments_at};
-ghost use Rattle.query_derivation.specs.Limits.{standard};
+ghost use Rattle.semantics.specs.Leaves.{standard};
 
 use crate::fault::GrammarFault;
 use crate::fronts::{expect_name, expect_sign, name};

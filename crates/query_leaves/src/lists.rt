@@ -1,8 +1,8 @@
 //! Reads lists, whose parts stand with commas between them.
 
 ghost use Rattle.std.specs.Prelude.{◌≡◌, ◌<◌, ◌≤◌, ◌∷◌, [], Bool, List, length, map, IfOk};
-ghost use Rattle.query_tokens.specs.declared.token.Token.{Token};
-ghost use Rattle.query_tokens.specs.declared.token.Sign.TheVariants.{Comma};
+ghost use Rattle.semantics.specs.declared.token.Token.{Token};
+ghost use Rattle.semantics.specs.declared.token.Sign.TheVariants.{Comma};
 ghost use Rattle.query_leaves.specs.Fronts.{is_sign};
 ghost use Rattle.query_leaves.specs.Steps.{Gives, Reader, excess, with_front, more};
 

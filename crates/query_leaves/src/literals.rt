@@ -4,7 +4,7 @@ ghost use Rattle.std.specs.Prelude.{◌<◌, length, IfOk, IfSome};
 ghost use Rattle.query_tokens.specs.Options.{Tells};
 ghost use Rattle.query_leaves.specs.Steps.{Gives};
 ghost use Rattle.query_leaves.specs.LeafSteps.{literal_at, literals_at};
-ghost use Rattle.query_derivation.specs.Limits.{standard};
+ghost use Rattle.semantics.specs.Leaves.{standard};
 
 use crate::fault::GrammarFault;
 use crate::fronts::{expect_sign, unexpected};
@@ -45,7 +45,7 @@ pub fn literal(tokens: &[Token]) -> Result<Option<(Literal, &[Token])>, AllocErr
 pub struct Literals;
 
 impl Listed for Literals {
-    ghost use Rattle.query_tree.specs.declared.predicate.Literal.{Literal};
+    ghost use Rattle.semantics.specs.declared.literal.Literal.{Literal};
     ghost use Rattle.query_leaves.specs.Steps.{expected};
     ghost use Rattle.query_leaves.specs.LeafSteps.{literal_at, begins_literal};
 

@@ -6,23 +6,24 @@ use Rattle.std.specs.Option.{option_and_then, option_map}
 use Rattle.std.proofs.lemmas.List.{length-map}
 use Rattle.std.proofs.lemmas.List.Quantifiers.{position-Some}
 use Rattle.std.proofs.lemmas.Option.{slice_get-get_or}
-use Rattle.values.specs.declared.truth.Truth.{Truth}
-use Rattle.values.specs.declared.truth.Truth.TheVariants.{True}
-use Rattle.values.specs.Datum.{Datum}
-use Rattle.values.specs.Fit.{Fits}
-use Rattle.values.specs.Schema.{Field}
-use Rattle.query_tree.specs.Syntax.{PredicateForm, TreeForm}
+use Rattle.semantics.specs.declared.truth.Truth.{Truth}
+use Rattle.semantics.specs.declared.truth.Truth.TheVariants.{True}
+use Rattle.semantics.specs.Values.{Datum}
+use Rattle.semantics.specs.Records.{Fits}
+use Rattle.semantics.specs.Columns.{Field}
+use Rattle.semantics.specs.Syntax.{PredicateForm, TreeForm}
 use Rattle.query_resolution.specs.declared.function.FilteredFunction.{FilteredFunction}
 use Rattle.query_check.specs.declared.scope.Clause.TheVariants as clause
 use Rattle.query_check.specs.Filters.{LeadBack}
-use Rattle.query_resolution.specs.Functions.{PlannedFunction, filter_at, filters_of, functions_of, indexed, indexed_functions}
-use Rattle.query_resolution.specs.Inside.Same.{same_predicate}
+use Rattle.semantics.specs.Names.{PlannedFunction}
+use Rattle.query_resolution.specs.Functions.{filter_at, filters_of, indexed, indexed_functions}
+use Rattle.semantics.specs.SetFunctions.{functions_of}
+use Rattle.semantics.specs.Inside.Same.{same_predicate}
 use Rattle.query_check.specs.Typing.{IsTypedPredicate}
 use Rattle.query_truth.specs.declared.condition.Condition.{Condition}
 use Rattle.query_truth.specs.Binding.{AreConditionsOf}
-use Rattle.query_truth.specs.Kept.{passes, record_value, where_truth}
+use Rattle.semantics.specs.Conditions.{passes, record_value, where_truth, same_truth, truth}
 use Rattle.query_truth.specs.Meaning.{condition_truth, is_safe}
-use Rattle.query_truth.specs.Truth.{same_truth, truth}
 
 -- One map after another.
 map_twice : {X Y Z : Type 0} (g : Y → Z) (f : X → Y) (xs : List X) → map g (map f xs) ≡ map (λ x. g (f x)) xs

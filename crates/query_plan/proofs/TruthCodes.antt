@@ -1,8 +1,8 @@
 -- Truth values as numbers, by which equations of them are propositions.
 use Rattle.std.specs.Prelude.{◌≡◌, ℕ, zero, suc, List, refl}
 use Rattle.std.specs.Coded.{Coded, Coded-set, code_by, coded_list, coded_ℕ}
-use Rattle.values.specs.declared.truth.Truth.{Truth}
-use Rattle.values.specs.declared.truth.Truth.TheVariants.{True, Unknown, False}
+use Rattle.semantics.specs.declared.truth.Truth.{Truth}
+use Rattle.semantics.specs.declared.truth.Truth.TheVariants.{True, Unknown, False}
 
 abbrev number : Truth → ℕ
 number False = 0

@@ -1,7 +1,7 @@
 -- The columns and the query of a plan.
 use Rattle.std.specs.Prelude.{List}
-use Rattle.values.specs.Schema.{Field}
-use Rattle.query_tree.specs.Syntax.{TreeForm}
+use Rattle.semantics.specs.Columns.{Field}
+use Rattle.semantics.specs.Syntax.{TreeForm}
 
 -- What a plan is, for contracts: a query, and the columns that it is typed under.
 pub record PlannedQuery : Type 0 where

@@ -1,11 +1,11 @@
 //! Checking a query under a schema.
 
 ghost use Rattle.std.specs.Prelude.{◌≡◌, ◌≢◌, [], IfErr, IfOk, OnOk, Some, slice_get};
-ghost use Rattle.query_check.specs.Faults.{query_faults};
+ghost use Rattle.semantics.specs.Faults.{query_faults};
 ghost use Rattle.query_check.specs.Inside.FirstFaults.{query_fault};
 ghost use Rattle.query_resolution.specs.Resolution.{resolution_of};
 ghost use Rattle.query_check.specs.Typing.{IsTyped};
-ghost use Rattle.query_fault.specs.declared.QueryFault.TheVariants.{OutOfMemory};
+ghost use Rattle.semantics.specs.declared.query_fault.QueryFault.TheVariants.{OutOfMemory};
 ghost use Rattle.query_tree.specs.Syntax.{tree_form};
 ghost use Rattle.query_resolution.specs.Functions.{filters_of};
 ghost use Rattle.query_truth.specs.Binding.{AreConditionsOf, IsConditionOf};
@@ -14,10 +14,10 @@ ghost use Rattle.values.specs.Schema.{fields_of};
 use crate::plan::Plan;
 use crate::query::Query;
 use query_check::{Resolved, check_tree};
-use query_fault::QueryFault;
 use query_resolution::filters;
 use query_tree::Tree;
 use query_truth::{Condition, bind_filters, bind_where};
+use semantics::QueryFault;
 use std::alloc::{AllocError, Global};
 use values::{Column, Schema};
 

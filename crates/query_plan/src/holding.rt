@@ -1,9 +1,10 @@
 //! Whether a record is kept, and whether it passes a FILTER.
 
 ghost use Rattle.std.specs.Prelude.{◌≡◌, ◌<◌, length};
-ghost use Rattle.values.specs.Fit.{Fits};
-ghost use Rattle.query_resolution.specs.Functions.{filter_at, functions_of};
-ghost use Rattle.query_truth.specs.Kept.{where_truth};
+ghost use Rattle.semantics.specs.Records.{Fits};
+ghost use Rattle.query_resolution.specs.Functions.{filter_at};
+ghost use Rattle.semantics.specs.SetFunctions.{functions_of};
+ghost use Rattle.semantics.specs.Conditions.{where_truth};
 
 use crate::plan::Plan;
 use values::{Record, Truth};

@@ -14,9 +14,9 @@ pub use plan::Plan;
 pub use printing::{filter_texts, header, set_text};
 pub use query::Query;
 pub use query_check::typed_law;
-pub use query_fault::QueryFault;
 pub use query_resolution::{ColumnFunction, FilteredFunction};
 pub use query_tree::{
     Aggregate, Expression, GroupingElement, Item, Key, Literal, Operand, Predicate, SetFunction,
     Text, Tree,
 };
+pub use semantics::QueryFault;

@@ -63,14 +63,15 @@ impl Drop for Plan {
 impl Plan {
     ghost use Rattle.std.specs.Prelude.{◌<◌, List, length, map, true, IfOk, OnOk};
     ghost use Rattle.std.specs.List.{list_all};
-    ghost use Rattle.values.specs.Datum.{Datum, data_of};
-    ghost use Rattle.values.specs.Fit.{Fits};
+    ghost use Rattle.semantics.specs.Values.{Datum};
+    ghost use Rattle.values.specs.Datum.{data_of};
+    ghost use Rattle.semantics.specs.Records.{Fits};
     ghost use Rattle.query_resolution.specs.Resolution.{contents};
-    ghost use Rattle.query_resolution.specs.Sets.{grouping_places, sets_of};
-    ghost use Rattle.query_resolution.specs.Functions.{filter_at, filters_of, functions_of, indexed_functions};
-    ghost use Rattle.query_truth.specs.Kept.{passes, record_value, where_truth};
+    ghost use Rattle.semantics.specs.Sets.{grouping_places, sets_of};
+    ghost use Rattle.query_resolution.specs.Functions.{filter_at, filters_of, indexed_functions};
+    ghost use Rattle.semantics.specs.SetFunctions.{functions_of};
+    ghost use Rattle.semantics.specs.Conditions.{passes, record_value, where_truth, truth};
     ghost use Rattle.query_truth.specs.Meaning.{condition_truth, is_safe};
-    ghost use Rattle.query_truth.specs.Truth.{truth};
 
     /// The plan of a query that is typed under a schema, of what it is resolved to there, and of the
     /// conditions of its WHERE and of its different filters.

@@ -1,10 +1,10 @@
 //! The texts of a plan.
 
 ghost use Rattle.std.specs.Prelude.{◌≡◌, ◌<◌, IfOk, Some, length, map, option_map, slice_get, string_bytes};
-ghost use Rattle.query_resolution.specs.Sets.{sets_of};
+ghost use Rattle.semantics.specs.Sets.{sets_of};
 ghost use Rattle.query_resolution.specs.Functions.{filters_of};
 ghost use Rattle.query_resolution.specs.Planning.{filter_forms};
-ghost use Rattle.query_print.specs.Canonical.{header_text, predicate_text, set_text};
+ghost use Rattle.semantics.specs.Canonical.{header_text, predicate_text, set_text};
 
 use crate::plan::Plan;
 use query_print::predicate_text;

@@ -2,8 +2,8 @@
 
 ghost use Rattle.std.specs.Prelude.{◌≡◌, ℕ, List, length, min};
 ghost use Rattle.query_tree.specs.Syntax.{tree_form};
-ghost use Rattle.query_resolution.specs.Sets.{expanded};
-ghost use Rattle.query_derivation.specs.Derivation.{Derives};
+ghost use Rattle.semantics.specs.Sets.{expanded};
+ghost use Rattle.semantics.specs.Reading.{Derives};
 
 use query_resolution::set_count;
 use query_tree::Tree;
@@ -19,7 +19,8 @@ pub struct Query {
 }
 
 impl Model for Query {
-    ghost use Rattle.query_tree.specs.Syntax.{TreeForm, tree_form};
+    ghost use Rattle.semantics.specs.Syntax.{TreeForm};
+    ghost use Rattle.query_tree.specs.Syntax.{tree_form};
     ghost use Rattle.query_plan.specs.Inside.Coding.{coded_tree};
 
     ghost Value = { TreeForm };

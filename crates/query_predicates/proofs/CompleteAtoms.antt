@@ -1,22 +1,21 @@
 -- Atoms that derive from tokens are read, and the truth tests behind them.
 use Rattle.std.proofs.Common.{arith, length, ◌<◌, ◌≡◌, ℕ, Bool, List, ◌∷◌, None, Ok, refl, ◌∙◌}
-use Rattle.values.specs.declared.comparison.Op.{Op}
-use Rattle.values.specs.declared.truth.Truth.{Truth}
-use Rattle.query_tokens.specs.declared.token.Token.{Token}
-use Rattle.query_tokens.specs.declared.token.Token.TheVariants as tokens
-use Rattle.query_tokens.specs.declared.token.Word.TheVariants as w
-use Rattle.query_tokens.specs.declared.token.Sign.TheVariants as s
-use Rattle.query_tree.specs.declared.expression.Aggregate.{Aggregate}
-use Rattle.query_tree.specs.declared.predicate.Literal.{Literal}
-use Rattle.query_tree.specs.Syntax.{ExpressionForm, OperandForm, PredicateForm, truth_test, compare, between, member, null_test, column}
-use Rattle.query_derivation.specs.Limits.{Limits}
+use Rattle.semantics.specs.declared.comparison.Op.{Op}
+use Rattle.semantics.specs.declared.truth.Truth.{Truth}
+use Rattle.semantics.specs.declared.token.Token.{Token}
+use Rattle.semantics.specs.declared.token.Token.TheVariants as tokens
+use Rattle.semantics.specs.declared.token.Word.TheVariants as w
+use Rattle.semantics.specs.declared.token.Sign.TheVariants as s
+use Rattle.semantics.specs.declared.aggregate.Aggregate.{Aggregate}
+use Rattle.semantics.specs.declared.literal.Literal.{Literal}
+use Rattle.semantics.specs.Syntax.{ExpressionForm, OperandForm, PredicateForm, truth_test, compare, between, member, null_test, column}
+use Rattle.semantics.specs.Leaves.{Limits, Derivation, IsRepeated, IsAggregate, IsLiteral, IsOp, IsTruthValue, IsMark}
 use Rattle.query_leaves.specs.Fronts.{is_word, is_sign, after}
 use Rattle.query_leaves.specs.LeafSteps.{literal_at, op_at}
 use Rattle.query_leaves.specs.Steps.{name_at}
 use Rattle.query_predicates.specs.ExpressionSteps.{Inside, expression_at}
 use Rattle.query_predicates.specs.AtomSteps.{operand_at, member_after, between_after, negated_after, column_of, atom_after, test_after, is_after, tested_atom_at}
-use Rattle.query_derivation.specs.Leaves.{Derivation, IsRepeated, IsAggregate, IsLiteral, IsOp, IsTruthValue, IsMark}
-use Rattle.query_derivation.specs.Predicates.{IsFunction, IsExpression, IsOperand, IsAtom}
+use Rattle.semantics.specs.Productions.{IsFunction, IsExpression, IsOperand, IsAtom}
 use Rattle.query_leaves.proofs.Agree.{Wider}
 use Rattle.query_leaves.proofs.CompleteLists.{Shrinks, repeated_short}
 use Rattle.query_predicates.proofs.CompleteExpressions.{IsComplete, EndsFunction, expression_c, expression_short}

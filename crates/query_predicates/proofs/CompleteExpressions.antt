@@ -1,16 +1,15 @@
 -- Expressions that derive from tokens are read.
 use Rattle.std.proofs.Common.{arith, ◌≡◌, List, ◌∷◌, true, None, Ok, refl}
-use Rattle.query_tokens.specs.declared.token.Token.{Token}
-use Rattle.query_tokens.specs.declared.token.Token.TheVariants as tokens
-use Rattle.query_tokens.specs.declared.token.Word.TheVariants as w
-use Rattle.query_tokens.specs.declared.token.Sign.TheVariants as s
-use Rattle.query_tree.specs.Syntax.{ExpressionForm, FunctionForm, PredicateForm}
-use Rattle.query_derivation.specs.Limits.{Limits}
+use Rattle.semantics.specs.declared.token.Token.{Token}
+use Rattle.semantics.specs.declared.token.Token.TheVariants as tokens
+use Rattle.semantics.specs.declared.token.Word.TheVariants as w
+use Rattle.semantics.specs.declared.token.Sign.TheVariants as s
+use Rattle.semantics.specs.Syntax.{ExpressionForm, FunctionForm, PredicateForm}
+use Rattle.semantics.specs.Leaves.{Limits, Derivation, IsName}
 use Rattle.query_leaves.specs.Fronts.{is_word, after}
 use Rattle.query_leaves.specs.Steps.{name_at}
 use Rattle.query_predicates.specs.ExpressionSteps.{Inside, filter_at, function_at, expression_at}
-use Rattle.query_derivation.specs.Leaves.{Derivation, IsName}
-use Rattle.query_derivation.specs.Predicates.{IsFunction, IsExpression}
+use Rattle.semantics.specs.Productions.{IsFunction, IsExpression}
 use Rattle.query_leaves.proofs.Agree.{Wider}
 use Rattle.query_leaves.proofs.CompleteLists.{Shrinks, repeated_short}
 use Rattle.query_leaves.proofs.CompleteLeaves.{arguments_c, aggregate_c, function_begins, name_short, aggregate_short}

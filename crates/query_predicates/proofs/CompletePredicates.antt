@@ -1,17 +1,16 @@
 -- Predicates that derive from tokens are read.
 use Rattle.std.proofs.Common.{arith, ◌≤◌, ◌≡◌, ℕ, zero, suc, List, [], ◌∷◌, true, None, Ok, refl}
-use Rattle.query_tokens.specs.declared.token.Token.{Token}
-use Rattle.query_tokens.specs.declared.token.Token.TheVariants as tokens
-use Rattle.query_tokens.specs.declared.token.Word.TheVariants as w
-use Rattle.query_tokens.specs.declared.token.Sign.TheVariants as s
-use Rattle.query_tree.specs.Syntax.{PredicateForm}
-use Rattle.query_derivation.specs.Limits.{Limits}
+use Rattle.semantics.specs.declared.token.Token.{Token}
+use Rattle.semantics.specs.declared.token.Token.TheVariants as tokens
+use Rattle.semantics.specs.declared.token.Word.TheVariants as w
+use Rattle.semantics.specs.declared.token.Sign.TheVariants as s
+use Rattle.semantics.specs.Syntax.{PredicateForm}
+use Rattle.semantics.specs.Leaves.{Limits, Derivation}
 use Rattle.query_leaves.specs.Fronts.{is_word, after}
 use Rattle.query_leaves.specs.LeafSteps.{op_at}
 use Rattle.query_predicates.specs.ExpressionSteps.{Inside}
 use Rattle.query_predicates.specs.PredicateSteps.{test_at, negation_at, conjunction_at, disjunction_at, predicate_at, any_front, has_level, inside_of}
-use Rattle.query_derivation.specs.Leaves.{Derivation}
-use Rattle.query_derivation.specs.Predicates.{IsPrimary, IsTest, IsNegation, IsConjunction, IsDisjunction, IsPredicate}
+use Rattle.semantics.specs.Productions.{IsPrimary, IsTest, IsNegation, IsConjunction, IsDisjunction, IsPredicate}
 use Rattle.query_leaves.proofs.Agree.{Wider}
 use Rattle.query_leaves.proofs.CompleteLists.{Shrinks, repeated_short, repeated_follow, unlimited_c}
 use Rattle.query_leaves.proofs.CompleteLeaves.{truth_short, mark_short}

@@ -1,21 +1,21 @@
 -- The readers of atoms, and of the truth tests behind them, have the valid prefix property.
 use Rattle.std.proofs.Common.{arith, ◌<◌, ℕ, Bool, true, false, List, [], ◌∷◌, Ok, sym, subst}
-use Rattle.values.specs.declared.comparison.Op.{Op}
-use Rattle.values.specs.declared.comparison.Op.TheVariants as op
-use Rattle.query_tokens.specs.declared.token.Token.{Token}
-use Rattle.query_tokens.specs.declared.token.Token.TheVariants as tokens
-use Rattle.query_tokens.specs.declared.token.Word.TheVariants as w
-use Rattle.query_tokens.specs.declared.token.Sign.TheVariants as s
+use Rattle.semantics.specs.declared.comparison.Op.{Op}
+use Rattle.semantics.specs.declared.comparison.Op.TheVariants as op
+use Rattle.semantics.specs.declared.token.Token.{Token}
+use Rattle.semantics.specs.declared.token.Token.TheVariants as tokens
+use Rattle.semantics.specs.declared.token.Word.TheVariants as w
+use Rattle.semantics.specs.declared.token.Sign.TheVariants as s
 use Rattle.query_tokens.specs.Options.{choose}
-use Rattle.query_tree.specs.declared.predicate.Literal.{Literal}
-use Rattle.query_tree.specs.Syntax.{ExpressionForm, OperandForm, PredicateForm, truth_test, compare, between, member, null_test, column}
+use Rattle.semantics.specs.declared.literal.Literal.{Literal}
+use Rattle.semantics.specs.Syntax.{ExpressionForm, OperandForm, PredicateForm, truth_test, compare, between, member, null_test, column}
 use Rattle.query_leaves.specs.Fronts.{is_word, after}
 use Rattle.query_leaves.specs.Steps.{◌>>=◌, Reader, expected}
 use Rattle.query_leaves.specs.LeafSteps.{literal_at, literals_at, op_at, truth_at, mark_at}
 use Rattle.query_predicates.specs.ExpressionSteps.{Inside, expression_at}
 use Rattle.query_predicates.specs.AtomSteps.{operand_at, member_after, between_after, negated_after, column_of, atom_after, test_after, is_after, tested_atom_at}
-use Rattle.query_derivation.specs.Leaves.{Derivation, IsLiteral, IsOp, IsMark}
-use Rattle.query_derivation.specs.Predicates.{IsExpression, IsOperand, IsAtom, IsPrimary, IsTest}
+use Rattle.semantics.specs.Leaves.{Derivation, IsLiteral, IsOp, IsMark}
+use Rattle.semantics.specs.Productions.{IsExpression, IsOperand, IsAtom, IsPrimary, IsTest}
 use Rattle.query_leaves.proofs.Viable.{Phrase, Viable, Listed, Enclosed, Exactly, exactly, viable_ok, viable_stuck, viable_as, viable_bind, viable_made, viable_front}
 use Rattle.query_leaves.proofs.ViableLeaves.{limits_of, viable_word, expected_word, viable_mark, literal_finds, Literals, literals_v, op_finds, truth_v}
 use Rattle.query_predicates.proofs.ViableExpressions.{InsideViable, a_name, expression_v}

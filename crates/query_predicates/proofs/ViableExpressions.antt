@@ -1,23 +1,22 @@
 -- The readers of expressions have the valid prefix property.
 use Rattle.std.proofs.Common.{arith, length, ◌<◌, ◌≡◌, ◌⊎◌, ℕ, Bool, true, false, cond, List, [], ◌∷◌, Option, Some, None, Result, Ok, Err, refl, sym, subst, inl, inr}
 use Rattle.std.specs.Prelude.{codes}
-use Rattle.query_tokens.specs.declared.token.Token.{Token}
-use Rattle.query_tokens.specs.declared.token.Token.TheVariants as tokens
-use Rattle.query_tokens.specs.declared.token.Word.TheVariants as w
-use Rattle.query_tokens.specs.declared.token.Sign.TheVariants as s
+use Rattle.semantics.specs.declared.token.Token.{Token}
+use Rattle.semantics.specs.declared.token.Token.TheVariants as tokens
+use Rattle.semantics.specs.declared.token.Word.TheVariants as w
+use Rattle.semantics.specs.declared.token.Sign.TheVariants as s
 use Rattle.query_tokens.specs.Options.{choose}
-use Rattle.query_tree.specs.declared.expression.Aggregate.{Aggregate}
-use Rattle.query_tree.specs.declared.expression.Aggregate.TheVariants as aggregates
-use Rattle.query_tree.specs.Syntax.{ExpressionForm, FunctionForm, PredicateForm, over_all, over_filtered}
+use Rattle.semantics.specs.declared.aggregate.Aggregate.{Aggregate}
+use Rattle.semantics.specs.declared.aggregate.Aggregate.TheVariants as aggregates
+use Rattle.semantics.specs.Syntax.{ExpressionForm, FunctionForm, PredicateForm, over_all, over_filtered}
 use Rattle.query_leaves.specs.declared.fault.GrammarFault.{GrammarFault}
 use Rattle.query_leaves.specs.declared.fault.GrammarFault.TheVariants as faults
 use Rattle.query_leaves.specs.Fronts.{is_word, is_sign, after}
 use Rattle.query_leaves.specs.Steps.{◌>>=◌, Reader, stuck, over, expected, name_at}
 use Rattle.query_leaves.specs.LeafSteps.{aggregate_at, arguments_at}
 use Rattle.query_predicates.specs.ExpressionSteps.{Inside, filter_at, function_at, expression_at, begins_expression}
-use Rattle.query_derivation.specs.Limits.{standard}
-use Rattle.query_derivation.specs.Leaves.{Derivation, IsRepeated, IsName, IsAggregate}
-use Rattle.query_derivation.specs.Predicates.{IsFunction, IsExpression}
+use Rattle.semantics.specs.Leaves.{standard, Derivation, IsRepeated, IsName, IsAggregate}
+use Rattle.semantics.specs.Productions.{IsFunction, IsExpression}
 use Rattle.query_leaves.proofs.Heads.{after_word_is, after_sign_is}
 use Rattle.query_leaves.proofs.Inversions.{choose_ok}
 use Rattle.query_leaves.proofs.Viable.{Phrase, GoesOn, Reaches, Claimed, Uncounted, Viable, BeginsPart, TellsPart, Listed, Closed, Enclosed, Exactly, choose_err, exactly, phrase_behind, phrase_closed, viable_ok, viable_over, viable_loose, viable_bind, viable_made, viable_expected, viable_front, viable_closed, counted}

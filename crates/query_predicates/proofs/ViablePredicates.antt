@@ -1,18 +1,17 @@
 -- The readers of predicates have the valid prefix property.
 use Rattle.std.proofs.Common.{length, ◌≡◌, ℕ, zero, suc, Bool, true, false, List, [], ◌∷◌, Ok, refl}
-use Rattle.query_tokens.specs.declared.token.Token.{Token}
-use Rattle.query_tokens.specs.declared.token.Token.TheVariants as tokens
-use Rattle.query_tokens.specs.declared.token.Word.TheVariants as w
-use Rattle.query_tokens.specs.declared.token.Sign.TheVariants as s
-use Rattle.query_tree.specs.Syntax.{PredicateForm, not_of, column}
+use Rattle.semantics.specs.declared.token.Token.{Token}
+use Rattle.semantics.specs.declared.token.Token.TheVariants as tokens
+use Rattle.semantics.specs.declared.token.Word.TheVariants as w
+use Rattle.semantics.specs.declared.token.Sign.TheVariants as s
+use Rattle.semantics.specs.Syntax.{PredicateForm, not_of, column}
 use Rattle.query_leaves.specs.Fronts.{is_word, is_sign, after}
 use Rattle.query_leaves.specs.Steps.{◌>>=◌, Reader, expected, more}
 use Rattle.query_predicates.specs.AtomSteps.{test_after, tested_atom_at}
 use Rattle.query_predicates.specs.ExpressionSteps.{Inside}
 use Rattle.query_predicates.specs.PredicateSteps.{test_at, negation_at, conjunction_at, disjunction_at, has_level, predicate_at, any_front, inside_of}
-use Rattle.query_derivation.specs.Limits.{standard}
-use Rattle.query_derivation.specs.Leaves.{Derivation, IsRepeated}
-use Rattle.query_derivation.specs.Predicates.{IsAtom, IsPrimary, IsTest, IsNegation, IsConjunction, IsDisjunction, IsPredicate, conjunction_of, disjunction_of}
+use Rattle.semantics.specs.Leaves.{standard, Derivation, IsRepeated}
+use Rattle.semantics.specs.Productions.{IsAtom, IsPrimary, IsTest, IsNegation, IsConjunction, IsDisjunction, IsPredicate, conjunction_of, disjunction_of}
 use Rattle.query_leaves.proofs.Heads.{after_word_is, after_sign_is}
 use Rattle.query_leaves.proofs.Viable.{Phrase, Viable, viable_over, viable_loose, viable_as, viable_bind, viable_made, viable_choose, viable_expected, viable_all}
 use Rattle.query_leaves.proofs.ViableLeaves.{limits_of, viable_word}

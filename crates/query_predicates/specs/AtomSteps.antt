@@ -1,11 +1,11 @@
 -- What the functions of atoms read in front of tokens, one definition for each function, as it computes it.
 -- What tokens derive is said in Predicates. Where a FILTER may stand, inside is what may stand in its brackets.
 use Rattle.std.specs.Prelude.{ℕ, Result, Ok, Bool, true, false, List}
-use Rattle.query_tokens.specs.declared.token.Token.{Token}
+use Rattle.semantics.specs.declared.token.Token.{Token}
 use Rattle.query_leaves.specs.declared.fault.GrammarFault.{GrammarFault}
-use Rattle.query_tokens.specs.declared.token.Word.TheVariants as w
+use Rattle.semantics.specs.declared.token.Word.TheVariants as w
 use Rattle.query_tokens.specs.Options.{choose}
-use Rattle.query_tree.specs.Syntax.{ExpressionForm, OperandForm, PredicateForm, truth_test, compare, between, member, null_test, column}
+use Rattle.semantics.specs.Syntax.{ExpressionForm, OperandForm, PredicateForm, truth_test, compare, between, member, null_test, column}
 use Rattle.query_leaves.specs.Fronts.{is_word, after}
 use Rattle.query_leaves.specs.Steps.{◌>>=◌, Reader, stuck, expected}
 use Rattle.query_leaves.specs.LeafSteps.{literal_at, literals_at, op_at, truth_at, mark_at}

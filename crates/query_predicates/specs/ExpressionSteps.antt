@@ -1,13 +1,13 @@
 -- What the functions of expressions read in front of tokens, one definition for each function, as it computes it.
 -- What tokens derive is said in Predicates. Where a FILTER may stand, inside is what may stand in its brackets.
 use Rattle.std.specs.Prelude.{Bool, true, false, cond, List, [], ◌∷◌, Ok}
-use Rattle.query_tokens.specs.declared.token.Token.{Token}
-use Rattle.query_tokens.specs.declared.token.Token.TheVariants as tokens
-use Rattle.query_tokens.specs.declared.token.Word.TheVariants as w
-use Rattle.query_tokens.specs.declared.token.Sign.TheVariants as s
+use Rattle.semantics.specs.declared.token.Token.{Token}
+use Rattle.semantics.specs.declared.token.Token.TheVariants as tokens
+use Rattle.semantics.specs.declared.token.Word.TheVariants as w
+use Rattle.semantics.specs.declared.token.Sign.TheVariants as s
 use Rattle.query_tokens.specs.Options.{choose}
-use Rattle.query_tree.specs.Syntax.{ExpressionForm, FunctionForm, PredicateForm, over_all, over_filtered}
-use Rattle.query_derivation.specs.Limits.{Limits}
+use Rattle.semantics.specs.Syntax.{ExpressionForm, FunctionForm, PredicateForm, over_all, over_filtered}
+use Rattle.semantics.specs.Leaves.{Limits}
 use Rattle.query_leaves.specs.Fronts.{is_word, is_sign, after}
 use Rattle.query_leaves.specs.Steps.{◌>>=◌, Reader, over, expected, name_at}
 use Rattle.query_leaves.specs.LeafSteps.{aggregate_at, arguments_at}

@@ -1,14 +1,14 @@
 -- What the functions of predicates read in front of tokens, one definition for each function, as it computes it.
 -- What tokens derive is said in Predicates.
 use Rattle.std.specs.Prelude.{ℕ, zero, suc, Bool, true, false, List, length, Ok}
-use Rattle.query_tokens.specs.declared.token.Token.{Token}
-use Rattle.query_tokens.specs.declared.token.Word.TheVariants as w
-use Rattle.query_tokens.specs.declared.token.Sign.TheVariants as s
+use Rattle.semantics.specs.declared.token.Token.{Token}
+use Rattle.semantics.specs.declared.token.Word.TheVariants as w
+use Rattle.semantics.specs.declared.token.Sign.TheVariants as s
 use Rattle.query_tokens.specs.Options.{choose}
-use Rattle.query_tree.specs.Syntax.{PredicateForm, not_of}
+use Rattle.semantics.specs.Syntax.{PredicateForm, not_of}
 use Rattle.query_leaves.specs.Fronts.{is_word, is_sign, after}
-use Rattle.query_derivation.specs.Limits.{Limits}
-use Rattle.query_derivation.specs.Predicates.{conjunction_of, disjunction_of}
+use Rattle.semantics.specs.Leaves.{Limits}
+use Rattle.semantics.specs.Productions.{conjunction_of, disjunction_of}
 use Rattle.query_leaves.specs.Steps.{◌>>=◌, Reader, over, expected, more}
 use Rattle.query_predicates.specs.AtomSteps.{test_after, tested_atom_at}
 use Rattle.query_predicates.specs.ExpressionSteps.{Inside}

@@ -4,7 +4,7 @@ ghost use Rattle.std.specs.Prelude.{◌<◌, ◌≤◌, length, IfOk};
 ghost use Rattle.query_tree.specs.Syntax.{operand_form, predicate_form};
 ghost use Rattle.query_leaves.specs.Steps.{Gives};
 ghost use Rattle.query_predicates.specs.AtomSteps.{member_after, column_of, test_after, is_after};
-ghost use Rattle.query_derivation.specs.Limits.{standard};
+ghost use Rattle.semantics.specs.Leaves.{standard};
 
 use query_leaves::{GrammarFault, after_word, in_list, keep, mark, truth_value, unexpected};
 use query_tokens::{Token, Word};

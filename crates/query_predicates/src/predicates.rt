@@ -1,16 +1,16 @@
 //! Reads expressions and predicates, which hold one another: a FILTER is a predicate.
 
 ghost use Rattle.std.specs.Prelude.{◌≡◌, ◌<◌, ◌≤◌, length, map, IfOk, MatchResult};
-ghost use Rattle.query_tokens.specs.declared.token.Word.TheVariants.{And, Or};
+ghost use Rattle.semantics.specs.declared.token.Word.TheVariants.{And, Or};
 ghost use Rattle.query_tree.specs.Syntax.{expression_form, function_form, operand_form, predicate_form};
 ghost use Rattle.query_leaves.specs.declared.fault.GrammarFault.TheVariants.{OutOfMemory};
 ghost use Rattle.query_leaves.specs.Fronts.{is_word};
-ghost use Rattle.query_derivation.specs.Predicates.{conjunction_of, disjunction_of};
+ghost use Rattle.semantics.specs.Productions.{conjunction_of, disjunction_of};
 ghost use Rattle.query_leaves.specs.Steps.{Gives, more};
 ghost use Rattle.query_predicates.specs.ExpressionSteps.{filter_at, function_at, expression_at};
 ghost use Rattle.query_predicates.specs.AtomSteps.{operand_at, between_after, negated_after, atom_after, tested_atom_at};
 ghost use Rattle.query_predicates.specs.PredicateSteps.{test_at, negation_at, conjunction_at, predicate_at, any_front, inside_of};
-ghost use Rattle.query_derivation.specs.Limits.{standard};
+ghost use Rattle.semantics.specs.Leaves.{standard};
 
 use crate::atoms::{column, member, null_or_truth_test, tested};
 use query_leaves::{

@@ -2,11 +2,11 @@
 use Rattle.std.proofs.Common.{◌≡◌, ◌∷◌, ◌++◌, [], refl, codes, Some, None, false}
 use Rattle.std.specs.Prelude.{pos}
 use Rattle.std.specs.Fmt.{digits}
-use Rattle.query_tokens.specs.Words.{reserved}
-use Rattle.query_tree.specs.declared.expression.Aggregate.TheVariants as aggregate
-use Rattle.query_tree.specs.declared.predicate.Literal.TheVariants as constant
-use Rattle.query_tree.specs.Syntax.{over_filtered, between, expression, name, literal}
-use Rattle.query_print.specs.Canonical.{canonical_text, function_text}
+use Rattle.semantics.specs.Words.{reserved}
+use Rattle.semantics.specs.declared.aggregate.Aggregate.TheVariants as aggregate
+use Rattle.semantics.specs.declared.literal.Literal.TheVariants as constant
+use Rattle.semantics.specs.Syntax.{over_filtered, between, expression, name, literal}
+use Rattle.semantics.specs.Canonical.{canonical_text, function_text}
 
 -- the sum over the records that a filter keeps
 filtered : function_text (over_filtered (aggregate.Sum (codes "q")) (between (expression (name (codes "q"))) false (literal (constant.Integer (pos 1))) (expression (name (codes "from")))))

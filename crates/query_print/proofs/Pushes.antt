@@ -9,8 +9,9 @@ use Rattle.query_tree.specs.declared.group.GroupingElement.{GroupingElement}
 use Rattle.query_tree.specs.declared.group.GroupingElement.TheVariants as variant
 use Rattle.query_tree.specs.declared.group.GroupingElement.TheOpen as layer
 use Rattle.query_tree.specs.declared.group.GroupingElement.TheFolds.{fold-roll-GroupingElement}
-use Rattle.query_tree.specs.Syntax.{ElementForm, element_form, element_forms, element_step, sets}
-use Rattle.query_print.specs.Canonical.{comma_list, group_texts, list_clause, name_at}
+use Rattle.semantics.specs.Syntax.{ElementForm, element_forms, sets}
+use Rattle.query_tree.specs.Syntax.{element_form, element_step}
+use Rattle.semantics.specs.Canonical.{comma_list, group_texts, list_clause, name_at}
 
 -- A last push that went well ends the text.
 pub pushed : {E : Type 0} (r : Result (Unit {0}) E) (new old text total : List ℕ) → new ≡ (if is_ok r then old ++ text else old) → old ++ text ≡ total → OnOk r (new ≡ total)

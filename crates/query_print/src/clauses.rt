@@ -3,8 +3,9 @@
 ghost use Rattle.std.specs.Prelude.{◌≡◌, ◌++◌, codes, IfOk, map, OnOk, string_bytes};
 ghost use Rattle.std.specs.Option.{option_map};
 ghost use Rattle.values.specs.Schema.{fields_of};
-ghost use Rattle.query_print.specs.Canonical.{canonical_text, comma_list, direction_text, group_by_text, group_texts, header_text, item_text, key_text, list_clause, name_at, names_text, nulls_text, predicate_clause, set_text};
-ghost use Rattle.query_tree.specs.Syntax.{element_form, element_forms, item_form, key_form, predicate_form, tree_form};
+ghost use Rattle.semantics.specs.Canonical.{canonical_text, comma_list, direction_text, group_by_text, group_texts, header_text, item_text, key_text, list_clause, name_at, names_text, nulls_text, predicate_clause, set_text};
+ghost use Rattle.query_tree.specs.Syntax.{element_form, item_form, key_form, predicate_form, tree_form};
+ghost use Rattle.semantics.specs.Syntax.{element_forms};
 
 use crate::groups::push_groups;
 use crate::lists::{Written, write_list};
@@ -119,8 +120,9 @@ fn push_columns(out: &mut String, columns: &[Column], places: &[usize]) -> Resul
 
 /// An item: its expression, and its alias.
 impl Written for Item {
-    ghost use Rattle.query_tree.specs.Syntax.{ItemForm, item_form};
-    ghost use Rattle.query_print.specs.Canonical.{item_text};
+    ghost use Rattle.semantics.specs.Syntax.{ItemForm};
+    ghost use Rattle.query_tree.specs.Syntax.{item_form};
+    ghost use Rattle.semantics.specs.Canonical.{item_text};
 
     ghost Form = { ItemForm };
 
@@ -158,8 +160,9 @@ fn nulls_text(descending: bool, nulls_first: bool) -> &'static str
 
 /// A key. NULLS FIRST and NULLS LAST are written only where they are not the default.
 impl Written for Key {
-    ghost use Rattle.query_tree.specs.Syntax.{KeyForm, key_form};
-    ghost use Rattle.query_print.specs.Canonical.{key_text};
+    ghost use Rattle.semantics.specs.Syntax.{KeyForm};
+    ghost use Rattle.query_tree.specs.Syntax.{key_form};
+    ghost use Rattle.semantics.specs.Canonical.{key_text};
 
     ghost Form = { KeyForm };
 

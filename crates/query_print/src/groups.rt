@@ -1,8 +1,9 @@
 //! The elements of GROUP BY.
 
 ghost use Rattle.std.specs.Prelude.{◌≡◌, ◌++◌, codes, map, OnOk, string_bytes};
-ghost use Rattle.query_print.specs.Canonical.{comma_list, group_text, group_texts, in_brackets, unit_text};
-ghost use Rattle.query_tree.specs.Syntax.{element_form, element_forms};
+ghost use Rattle.semantics.specs.Canonical.{comma_list, group_text, group_texts, in_brackets, unit_text};
+ghost use Rattle.query_tree.specs.Syntax.{element_form};
+ghost use Rattle.semantics.specs.Syntax.{element_forms};
 
 use crate::lists::{Written, write_list};
 use query_tokens::push_name;
@@ -12,7 +13,7 @@ use std::alloc::AllocError;
 /// A set or a unit: one name is that name, all else stands in brackets.
 impl Written for Vec<Text> {
     ghost use Rattle.std.specs.Prelude.{ℕ, List};
-    ghost use Rattle.query_print.specs.Canonical.{unit_text};
+    ghost use Rattle.semantics.specs.Canonical.{unit_text};
 
     ghost Form = { List (List ℕ) };
 

@@ -1,8 +1,8 @@
 //! The leaves of expressions and predicates.
 
 ghost use Rattle.std.specs.Prelude.{◌≡◌, ◌++◌, codes, map, OnOk, string_bytes};
-ghost use Rattle.query_print.specs.Canonical.{aggregate_text, comma_list, in_brackets, literal_text, names_text, op_text, not_text, truth_text};
-ghost use Rattle.query_tokens.specs.Words.{name_text};
+ghost use Rattle.semantics.specs.Canonical.{aggregate_text, comma_list, in_brackets, literal_text, names_text, op_text, not_text, truth_text};
+ghost use Rattle.semantics.specs.Words.{name_text};
 
 use crate::lists::{Written, write_list};
 use itoa::Buffer;
@@ -13,7 +13,7 @@ use values::{Op, Truth};
 
 impl Written for Text {
     ghost use Rattle.std.specs.Prelude.{ℕ, List};
-    ghost use Rattle.query_tokens.specs.Words.{name_text};
+    ghost use Rattle.semantics.specs.Words.{name_text};
 
     ghost Form = { List ℕ };
 
@@ -61,8 +61,8 @@ pub(crate) fn push_grouping(out: &mut String, names: &[Text]) -> Result<(), Allo
 
 /// A whole number is written in decimal, a text between apostrophes, a truth value as its keyword.
 impl Written for Literal {
-    ghost use Rattle.query_tree.specs.declared.predicate.Literal.{Literal};
-    ghost use Rattle.query_print.specs.Canonical.{literal_text};
+    ghost use Rattle.semantics.specs.declared.literal.Literal.{Literal};
+    ghost use Rattle.semantics.specs.Canonical.{literal_text};
 
     ghost Form = { Literal };
 

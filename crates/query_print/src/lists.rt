@@ -1,7 +1,7 @@
 //! Lists, with commas.
 
 ghost use Rattle.std.specs.Prelude.{◌≡◌, ◌++◌, ℕ, List, map, OnOk, string_bytes};
-ghost use Rattle.query_print.specs.Canonical.{comma_list};
+ghost use Rattle.semantics.specs.Canonical.{comma_list};
 
 use std::alloc::AllocError;
 

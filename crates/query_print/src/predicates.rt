@@ -1,8 +1,9 @@
 //! Expressions and predicates, which hold one another.
 
 ghost use Rattle.std.specs.Prelude.{◌≡◌, ◌++◌, codes, IfOk, map, OnOk, string_bytes};
-ghost use Rattle.query_print.specs.Canonical.{bracketed_below, expression_text, function_text, joined, operand_text, part_texts, predicate_text, tightness};
-ghost use Rattle.query_tree.specs.Syntax.{expression_form, function_form, operand_form, predicate_form, predicate_forms};
+ghost use Rattle.semantics.specs.Canonical.{bracketed_below, expression_text, function_text, joined, operand_text, part_texts, predicate_text, tightness};
+ghost use Rattle.query_tree.specs.Syntax.{expression_form, function_form, operand_form, predicate_form};
+ghost use Rattle.semantics.specs.Syntax.{predicate_forms};
 
 use crate::leaves::{
     push_aggregate, push_grouping, push_marked, push_membership, push_op, truth_text,

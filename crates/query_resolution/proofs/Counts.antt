@@ -5,8 +5,9 @@ use Rattle.std.proofs.lemmas.Bool.{cases_lt}
 use Rattle.std.proofs.lemmas.List.{length-map}
 use Rattle.std.proofs.Math.Nat.{mul_assoc, mul_comm, mul-le-mul_left, pow-suc}
 use Rattle.query_tree.specs.declared.group.GroupingElement.TheVariants as variant
-use Rattle.query_tree.specs.Syntax.{ElementForm, element_form, units_form}
-use Rattle.query_resolution.specs.Sets.{crossed, cube_sets, group_sets, rollup_sets}
+use Rattle.semantics.specs.Syntax.{ElementForm}
+use Rattle.query_tree.specs.Syntax.{element_form, units_form}
+use Rattle.semantics.specs.Sets.{crossed, cube_sets, group_sets, rollup_sets}
 use Rattle.query_resolution.proofs.Expansions.{cube_form, rollup_form}
 
 -- ROLLUP of n units stands for n+1 sets.

@@ -2,7 +2,7 @@
 use Rattle.std.proofs.Common.{◌≡◌, ◌∙◌, ℕ, zero, suc, ◌+◌, ◌-◌, ◌*◌, ◌<◌, List, [], ◌∷◌, ◌++◌, map, length, get_or, ap, arith}
 use Rattle.std.proofs.lemmas.List.{get_or_append_left, get_or-append_right, get_or-map, length-map}
 use Rattle.query_resolution.specs.Laws.{IsCrossed}
-use Rattle.query_resolution.specs.Sets.{crossed}
+use Rattle.semantics.specs.Sets.{crossed}
 use Rattle.query_resolution.proofs.Counts.{length_crossed}
 
 -- The first set's row stands in front, and behind it the rows of the others.

@@ -4,10 +4,10 @@ use Rattle.std.specs.Prelude.{filter}
 use Rattle.std.specs.List.{list_any}
 use Rattle.std.proofs.lemmas.Bool.Decides.{nat_tests}
 use Rattle.std.proofs.lemmas.List.{append-nil, take_more}
-use Rattle.query_resolution.specs.declared.function.ColumnFunction.{ColumnFunction}
-use Rattle.query_resolution.specs.declared.function.ColumnFunction.TheVariants as at
-use Rattle.query_resolution.specs.Columns.{distinct}
-use Rattle.query_resolution.specs.Functions.{same_function}
+use Rattle.semantics.specs.declared.function.ColumnFunction.{ColumnFunction}
+use Rattle.semantics.specs.declared.function.ColumnFunction.TheVariants as at
+use Rattle.semantics.specs.Names.{distinct}
+use Rattle.semantics.specs.Inside.Same.{same_function}
 
 -- A filter of a list with one element more.
 filter_push : {A : Type 0} (k : A → Bool) (xs : List A) (z : A) → filter k (xs ++ z ∷ []) ≡ filter k xs ++ cond (k z) (z ∷ []) []

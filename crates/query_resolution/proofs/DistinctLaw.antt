@@ -4,11 +4,11 @@ use Rattle.std.specs.Prelude.{Decides, filter, if◌then◌else◌}
 use Rattle.std.specs.List.{Contains, list_any, slice_index_or}
 use Rattle.std.proofs.lemmas.List.Elements.{filter_passes}
 use Rattle.std.proofs.lemmas.List.Kept.{AllPairs-cons, AllPairs-filter}
-use Rattle.values.specs.Schema.{Field}
-use Rattle.query_tree.specs.Syntax.{TreeForm}
-use Rattle.query_resolution.specs.Columns.{distinct}
+use Rattle.semantics.specs.Columns.{Field}
+use Rattle.semantics.specs.Syntax.{TreeForm}
+use Rattle.semantics.specs.Names.{distinct}
 use Rattle.query_resolution.specs.Laws.{AreDistinct, HaveSameColumns, KeepsFirst}
-use Rattle.query_resolution.specs.Sets.{expanded_sets, same_columns, sets_of}
+use Rattle.semantics.specs.Sets.{expanded_sets, same_columns, sets_of}
 use Rattle.query_resolution.proofs.Distinct.{any_filter, same_place}
 use Rattle.query_resolution.proofs.DistinctSets.{both_ways, has_same, same_has}
 use Rattle.query_resolution.proofs.Products.{has, has_first}

@@ -6,11 +6,11 @@ use Rattle.std.specs.List.{list_all, list_any}
 use Rattle.std.specs.Str.{bytes_eq}
 use Rattle.std.proofs.lemmas.List.{map-append, take_more}
 use Rattle.std.proofs.lemmas.Slice.Eq.{bytes_eq-Decides}
-use Rattle.values.specs.Schema.{Field}
-use Rattle.query_tree.specs.Syntax.{TreeForm}
-use Rattle.query_resolution.specs.Columns.{distinct, places_of}
+use Rattle.semantics.specs.Columns.{Field}
+use Rattle.semantics.specs.Syntax.{TreeForm}
+use Rattle.semantics.specs.Names.{distinct, places_of}
 use Rattle.query_resolution.specs.Resolution.{contents}
-use Rattle.query_resolution.specs.Sets.{expanded, expanded_sets, grouping_places, ordered_set, same_columns, sets_of}
+use Rattle.semantics.specs.Sets.{expanded, expanded_sets, grouping_places, ordered_set, same_columns, sets_of}
 use Rattle.query_resolution.proofs.Distinct.{any_distinct, distinct_push, same_place}
 use Rattle.query_resolution.proofs.Products.{has, has_first, has_ordered, same_filter}
 use Rattle.query_resolution.proofs.Rows.{or_true}

@@ -3,13 +3,14 @@ use Rattle.std.proofs.Common.{◌≡◌, ◌∙◌, ℕ, List, [], ◌∷◌, �
 use Rattle.std.specs.Global.{Vec}
 use Rattle.std.proofs.lemmas.List.{map-append}
 use Rattle.std.proofs.lemmas.List.Elements.{filter_map-append}
-use Rattle.values.specs.Schema.{Field}
+use Rattle.semantics.specs.Columns.{Field}
 use Rattle.query_tree.specs.declared.group.GroupingElement.TheVariants as variant
 use Rattle.query_tree.specs.declared.group.GroupingElement.TheOpen as layer
 use Rattle.query_tree.specs.declared.group.GroupingElement.TheFolds.{fold-roll-GroupingElement}
-use Rattle.query_tree.specs.Syntax.{ElementForm, element_form, element_step, rollup, cube, units_form}
-use Rattle.query_resolution.specs.Columns.{place_of, places_of}
-use Rattle.query_resolution.specs.Sets.{crossed, cube_sets, rollup_sets}
+use Rattle.semantics.specs.Syntax.{ElementForm, rollup, cube}
+use Rattle.query_tree.specs.Syntax.{element_form, element_step, units_form}
+use Rattle.semantics.specs.Names.{place_of, places_of}
+use Rattle.semantics.specs.Sets.{crossed, cube_sets, rollup_sets}
 
 -- Names in front of each set, by their places.
 prefixed_places : (fields : List Field) (unit : List (List ℕ)) (ss : List (List (List ℕ))) → map (places_of fields) (map (λ s. unit ++ s) ss) ≡ map (λ s. places_of fields unit ++ s) (map (places_of fields) ss)

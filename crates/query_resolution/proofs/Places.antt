@@ -4,7 +4,8 @@ use Rattle.std.specs.Prelude.{position}
 use Rattle.std.specs.List.{position_or_len}
 use Rattle.std.proofs.lemmas.List.{length-map}
 use Rattle.values.specs.declared.schema.Column.{Column}
-use Rattle.values.specs.Schema.{fields_of, names_of}
+use Rattle.values.specs.Schema.{fields_of}
+use Rattle.semantics.specs.Columns.{names_of}
 
 -- The first column whose name passes a test, by its name.
 first_named : (test : List ℕ → Bool) (columns : List Column) → position_or_len (λ column. test (string_bytes column.name)) columns ≡ position_or_len test (names_of (fields_of columns))

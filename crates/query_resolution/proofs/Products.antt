@@ -7,7 +7,7 @@ use Rattle.std.proofs.lemmas.Grind.{flat_map-append}
 use Rattle.std.proofs.lemmas.List.{append-nil, map-append}
 use Rattle.std.proofs.lemmas.List.Folds.{list_any-append}
 use Rattle.std.proofs.lemmas.Map.Views.{any-filter_same}
-use Rattle.query_resolution.specs.Sets.{crossed, cube_sets, ordered_set, rollup_sets}
+use Rattle.semantics.specs.Sets.{crossed, cube_sets, ordered_set, rollup_sets}
 use Rattle.query_resolution.proofs.Rows.{or_true}
 
 -- ---- one set

@@ -6,7 +6,7 @@ use Rattle.std.proofs.lemmas.Nat.{div-mul-add, pow-add, pow_pos}
 use Rattle.std.proofs.Math.Nat.{div-eq_of_lt, mul-add-div_right, pow-suc}
 use Rattle.std.specs.Int.Bits.{block_odd}
 use Rattle.query_resolution.specs.Laws.{IsCube, IsRollup, chosen, digit, joined}
-use Rattle.query_resolution.specs.Sets.{cube_sets, rollup_sets}
+use Rattle.semantics.specs.Sets.{cube_sets, rollup_sets}
 use Rattle.query_resolution.proofs.Counts.{length_cube, length_rollup}
 
 -- ---- ROLLUP

@@ -4,20 +4,21 @@ use Rattle.std.specs.Cmp.{signed_Decides}
 use Rattle.std.specs.Str.{bytes_eq}
 use Rattle.std.proofs.lemmas.Bool.Decides.{nat_tests}
 use Rattle.std.proofs.lemmas.Slice.Eq.{bytes_eq-Decides}
-use Rattle.values.specs.declared.comparison.Op.{Op}
-use Rattle.values.specs.declared.comparison.Op.TheVariants as op
-use Rattle.values.specs.declared.truth.Truth.{Truth}
-use Rattle.values.specs.declared.truth.Truth.TheVariants as truth
-use Rattle.query_tree.specs.declared.expression.Aggregate.{Aggregate}
-use Rattle.query_tree.specs.declared.expression.Aggregate.TheVariants as aggregate
+use Rattle.semantics.specs.declared.comparison.Op.{Op}
+use Rattle.semantics.specs.declared.comparison.Op.TheVariants as op
+use Rattle.semantics.specs.declared.truth.Truth.{Truth}
+use Rattle.semantics.specs.declared.truth.Truth.TheVariants as truth
+use Rattle.semantics.specs.declared.aggregate.Aggregate.{Aggregate}
+use Rattle.semantics.specs.declared.aggregate.Aggregate.TheVariants as aggregate
 use Rattle.query_tree.specs.declared.expression.Predicate.{Predicate}
-use Rattle.query_tree.specs.declared.predicate.Literal.{Literal}
-use Rattle.query_tree.specs.declared.predicate.Literal.TheVariants as constant
-use Rattle.query_tree.specs.Syntax.{ExpressionForm, FunctionForm, OperandForm, PredicateForm, PredicateForms, name, grouping, function, over_all, over_filtered, expression, literal, or_of, and_of, not_of, truth_test, compare, between, member, null_test, column, no_parts, part, predicate_form, predicate_forms}
-use Rattle.query_resolution.specs.declared.function.ColumnFunction.{ColumnFunction}
-use Rattle.query_resolution.specs.declared.function.ColumnFunction.TheVariants as at
-use Rattle.query_resolution.specs.Inside.Same.{same_aggregate, same_expression, same_literal, same_literals, same_mark, same_names, same_op, same_operand, same_parts, same_predicate, same_set_function, same_truth_value}
-use Rattle.query_resolution.specs.Functions.{PlannedFunction, same_filter, same_function, same_planned}
+use Rattle.semantics.specs.declared.literal.Literal.{Literal}
+use Rattle.semantics.specs.declared.literal.Literal.TheVariants as constant
+use Rattle.semantics.specs.Syntax.{ExpressionForm, FunctionForm, OperandForm, PredicateForm, PredicateForms, name, grouping, function, over_all, over_filtered, expression, literal, or_of, and_of, not_of, truth_test, compare, between, member, null_test, column, no_parts, part, predicate_forms}
+use Rattle.query_tree.specs.Syntax.{predicate_form}
+use Rattle.semantics.specs.declared.function.ColumnFunction.{ColumnFunction}
+use Rattle.semantics.specs.declared.function.ColumnFunction.TheVariants as at
+use Rattle.semantics.specs.Inside.Same.{same_aggregate, same_expression, same_literal, same_literals, same_mark, same_names, same_op, same_operand, same_parts, same_predicate, same_set_function, same_truth_value, same_filter, same_function, same_planned}
+use Rattle.semantics.specs.Names.{PlannedFunction}
 use Rattle.query_resolution.proofs.Distinct.{same_functions}
 
 -- ---- tests in a row

@@ -1,9 +1,9 @@
 -- The grouping sets of a query, computed on an example.
 use Rattle.std.proofs.Common.{◌≡◌, Bool, true, false, List, [], ◌∷◌, None, refl, codes}
-use Rattle.values.specs.declared.schema.Kind.TheVariants as kind
-use Rattle.values.specs.Schema.{Field}
-use Rattle.query_tree.specs.Syntax.{TreeForm, set, sets, no_groups, group}
-use Rattle.query_resolution.specs.Sets.{sets_of}
+use Rattle.semantics.specs.declared.kind.Kind.TheVariants as kind
+use Rattle.semantics.specs.Columns.{Field}
+use Rattle.semantics.specs.Syntax.{TreeForm, set, sets, no_groups, group}
+use Rattle.semantics.specs.Sets.{sets_of}
 
 abbrev fields : List Field
 fields = record { name = codes "d"; kind = kind.Text } ∷ record { name = codes "r"; kind = kind.Text } ∷ []

@@ -1,5 +1,3 @@
-pub mod Columns
-pub mod Sets
 pub mod Laws
 pub mod Inside
 pub mod Functions

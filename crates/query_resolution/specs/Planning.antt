@@ -3,9 +3,10 @@ use Rattle.std.specs.Prelude.{List, map}
 use Rattle.std.specs.Borrow.{Bor}
 use Rattle.std.specs.Option.{option_map}
 use Rattle.query_tree.specs.declared.expression.Predicate.{Predicate}
-use Rattle.query_tree.specs.Syntax.{PredicateForm, predicate_form}
+use Rattle.semantics.specs.Syntax.{PredicateForm}
+use Rattle.query_tree.specs.Syntax.{predicate_form}
 use Rattle.query_resolution.specs.declared.planning.Planned.{Planned}
-use Rattle.query_resolution.specs.Functions.{PlannedFunction}
+use Rattle.semantics.specs.Names.{PlannedFunction}
 
 -- Filters behind references.
 abbrev pub filter_forms : List (Bor Predicate) → List PredicateForm

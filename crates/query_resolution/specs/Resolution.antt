@@ -1,10 +1,10 @@
 -- What a query is resolved to under a schema.
 use Rattle.std.specs.Prelude.{ℕ, List, map}
 use Rattle.std.specs.Global.{Vec}
-use Rattle.values.specs.Schema.{Field}
-use Rattle.query_tree.specs.Syntax.{TreeForm}
+use Rattle.semantics.specs.Columns.{Field}
+use Rattle.semantics.specs.Syntax.{TreeForm}
 use Rattle.query_resolution.specs.declared.function.FilteredFunction.{FilteredFunction}
-use Rattle.query_resolution.specs.Sets.{grouping_places, sets_of}
+use Rattle.semantics.specs.Sets.{grouping_places, sets_of}
 use Rattle.query_resolution.specs.Functions.{indexed_functions}
 
 -- Sets, apart from where they lie in memory.

@@ -2,7 +2,7 @@
 
 ghost use Rattle.std.specs.Prelude.{◌≡◌};
 ghost use Rattle.values.specs.Schema.{fields_of};
-ghost use Rattle.query_resolution.specs.Columns.{column_kind, kind_at, place_of};
+ghost use Rattle.semantics.specs.Names.{column_kind, kind_at, place_of};
 
 use values::{Column, Kind};
 

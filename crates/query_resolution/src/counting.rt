@@ -2,7 +2,7 @@
 
 ghost use Rattle.std.specs.Prelude.{◌≡◌, length, map, min};
 ghost use Rattle.query_tree.specs.Syntax.{element_form};
-ghost use Rattle.query_resolution.specs.Sets.{expanded, group_sets};
+ghost use Rattle.semantics.specs.Sets.{expanded, group_sets};
 
 use query_tree::GroupingElement;
 

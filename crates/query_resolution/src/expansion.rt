@@ -3,8 +3,8 @@
 ghost use Rattle.std.specs.Prelude.{◌≡◌, map, if◌then◌else◌, IfOk};
 ghost use Rattle.values.specs.Schema.{fields_of};
 ghost use Rattle.query_tree.specs.Syntax.{element_form, units_form};
-ghost use Rattle.query_resolution.specs.Columns.{distinct, places_of};
-ghost use Rattle.query_resolution.specs.Sets.{expanded, group_sets, ordered_set, same_columns};
+ghost use Rattle.semantics.specs.Names.{distinct, places_of};
+ghost use Rattle.semantics.specs.Sets.{expanded, group_sets, ordered_set, same_columns};
 ghost use Rattle.query_resolution.specs.Resolution.{contents};
 
 use crate::grouping::push_places;

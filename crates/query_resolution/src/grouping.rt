@@ -4,7 +4,7 @@ ghost use Rattle.std.specs.Prelude.{◌≡◌, ◌++◌, ◌==◌, map, IfOk, On
 ghost use Rattle.std.specs.List.{flat_map};
 ghost use Rattle.values.specs.Schema.{fields_of};
 ghost use Rattle.query_tree.specs.Syntax.{element_form, units_form};
-ghost use Rattle.query_resolution.specs.Columns.{distinct, group_names, places_of};
+ghost use Rattle.semantics.specs.Names.{distinct, group_names, places_of};
 
 use crate::columns::place_of;
 use query_tree::{GroupingElement, Text};

@@ -1,7 +1,7 @@
 //! Sets of places of columns, joined.
 
 ghost use Rattle.std.specs.Prelude.{◌≡◌, ◌++◌, ◌∷◌, [], filter, map, IfOk};
-ghost use Rattle.query_resolution.specs.Sets.{crossed, cube_sets, ordered_set, rollup_sets};
+ghost use Rattle.semantics.specs.Sets.{crossed, cube_sets, ordered_set, rollup_sets};
 ghost use Rattle.query_resolution.specs.Resolution.{contents};
 
 use std::alloc::{AllocError, Global};

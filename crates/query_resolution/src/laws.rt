@@ -1,13 +1,12 @@
 //! Laws of grouping sets, of lists without repeats, and of predicates that are the same, with no work to do.
 
 ghost use Rattle.std.specs.Prelude.{◌≡◌, ℕ, Bool, List, true, Decides};
-ghost use Rattle.values.specs.Schema.{Field};
-ghost use Rattle.query_tree.specs.Syntax.{TreeForm, PredicateForm};
-ghost use Rattle.query_resolution.specs.Columns.{distinct};
-ghost use Rattle.query_resolution.specs.Sets.{crossed, cube_sets, expanded_sets, rollup_sets, sets_of};
-ghost use Rattle.query_resolution.specs.Functions.{PlannedFunction, same_planned};
+ghost use Rattle.semantics.specs.Columns.{Field};
+ghost use Rattle.semantics.specs.Syntax.{TreeForm, PredicateForm};
+ghost use Rattle.semantics.specs.Names.{distinct, PlannedFunction};
+ghost use Rattle.semantics.specs.Sets.{crossed, cube_sets, expanded_sets, rollup_sets, sets_of};
+ghost use Rattle.semantics.specs.Inside.Same.{same_planned, same_predicate};
 ghost use Rattle.query_resolution.specs.Laws.{AreDistinct, HaveSameColumns, IsCrossed, IsCube, IsRollup};
-ghost use Rattle.query_resolution.specs.Inside.Same.{same_predicate};
 
 /// A law: ROLLUP stands for the sets of its first n units, of its first n-1, and so on to the empty set,
 /// ISO/IEC 9075-2 `<rollup list>`.

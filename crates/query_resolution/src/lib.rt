@@ -18,10 +18,11 @@ mod sameness;
 pub use columns::{column_kind, place_of};
 pub use counting::set_count;
 pub use expansion::grouping_sets;
-pub use function::{ColumnFunction, FilteredFunction, column_function};
+pub use function::{FilteredFunction, column_function};
 pub use grouping::grouping_places;
 pub use laws::{
     crossed_law, cube_law, distinct_law, kept_law, rollup_law, same_function_law,
     same_predicate_law,
 };
 pub use planning::{Planned, filters, indexed_functions, planned_functions, planned_place};
+pub use semantics::ColumnFunction;

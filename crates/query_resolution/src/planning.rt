@@ -3,15 +3,18 @@
 ghost use Rattle.std.specs.Prelude.{◌≡◌, ◌++◌, map, option_and_then, option_map, position, IfOk, OnOk};
 ghost use Rattle.std.specs.List.{filter_map, flat_map, list_any};
 ghost use Rattle.values.specs.Schema.{fields_of};
-ghost use Rattle.query_tree.specs.Syntax.{expression_form, function_form, item_form, key_form, operand_form, predicate_form, predicate_forms, tree_form};
-ghost use Rattle.query_resolution.specs.Columns.{distinct};
-ghost use Rattle.query_resolution.specs.Inside.Same.{same_predicate};
-ghost use Rattle.query_resolution.specs.Functions.{different_filters, expression_functions, filters_of, functions_of, indexed, indexed_functions, operand_functions, parts_functions, planned_function, predicate_functions, same_planned, set_functions};
+ghost use Rattle.query_tree.specs.Syntax.{expression_form, function_form, item_form, key_form, operand_form, predicate_form, tree_form};
+ghost use Rattle.semantics.specs.Syntax.{predicate_forms};
+ghost use Rattle.semantics.specs.Names.{distinct, planned_function};
+ghost use Rattle.semantics.specs.Inside.Same.{same_predicate, same_planned};
+ghost use Rattle.query_resolution.specs.Functions.{different_filters, filters_of, indexed, indexed_functions};
+ghost use Rattle.semantics.specs.SetFunctions.{expression_functions, functions_of, operand_functions, parts_functions, predicate_functions, set_functions};
 ghost use Rattle.query_resolution.specs.Planning.{filter_forms, planned_form, planned_forms};
 
-use crate::function::{ColumnFunction, FilteredFunction, column_function};
+use crate::function::{FilteredFunction, column_function};
 use crate::sameness::is_same_predicate;
 use query_tree::{Expression, Item, Key, Operand, Predicate, SetFunction, Tree};
+use semantics::ColumnFunction;
 use std::alloc::{AllocError, Global};
 use values::Column;
 

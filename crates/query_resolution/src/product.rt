@@ -1,7 +1,7 @@
 //! A cross product of grouping sets that is being made.
 
 ghost use Rattle.std.specs.Prelude.{◌≡◌, ◌∷◌, [], map, IfOk, OnOk};
-ghost use Rattle.query_resolution.specs.Sets.{crossed, ordered_set};
+ghost use Rattle.semantics.specs.Sets.{crossed, ordered_set};
 ghost use Rattle.query_resolution.specs.Resolution.{contents};
 
 use crate::joining::{crossed, one_set, ordered_set, ordered_sets};
@@ -18,7 +18,7 @@ pub(crate) struct Product {
 
 impl Model for Product {
     ghost use Rattle.std.specs.Prelude.{ℕ, List, ◌∷◌, []};
-    ghost use Rattle.query_resolution.specs.Sets.{crossed};
+    ghost use Rattle.semantics.specs.Sets.{crossed};
     ghost use Rattle.query_resolution.specs.Resolution.{contents};
 
     ghost Value = { List (List ℕ) };
@@ -28,7 +28,7 @@ impl Model for Product {
 
 impl Product {
     ghost use Rattle.std.specs.Prelude.{◌≡◌, ◌∷◌, ℕ, List, [], map, IfOk, OnOk};
-    ghost use Rattle.query_resolution.specs.Sets.{crossed, ordered_set};
+    ghost use Rattle.semantics.specs.Sets.{crossed, ordered_set};
     ghost use Rattle.query_resolution.specs.Resolution.{contents};
 
     /// The product of nothing: the one empty set.

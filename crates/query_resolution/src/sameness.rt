@@ -1,8 +1,9 @@
 //! Predicates that are the same, by the structure of their trees.
 
 ghost use Rattle.std.specs.Prelude.{◌≡◌, map};
-ghost use Rattle.query_tree.specs.Syntax.{expression_form, function_form, member, null_test, operand_form, predicate_form, predicate_forms, truth_test};
-ghost use Rattle.query_resolution.specs.Inside.Same.{same_aggregate, same_expression, same_literal, same_literals, same_mark, same_names, same_op, same_operand, same_parts, same_predicate, same_set_function, same_truth_value};
+ghost use Rattle.query_tree.specs.Syntax.{expression_form, function_form, operand_form, predicate_form};
+ghost use Rattle.semantics.specs.Syntax.{member, null_test, predicate_forms, truth_test};
+ghost use Rattle.semantics.specs.Inside.Same.{same_aggregate, same_expression, same_literal, same_literals, same_mark, same_names, same_op, same_operand, same_parts, same_predicate, same_set_function, same_truth_value};
 
 use query_tree::{Aggregate, Expression, Literal, Operand, Predicate, SetFunction, Text};
 use values::{Op, Truth};

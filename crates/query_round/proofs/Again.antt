@@ -2,8 +2,8 @@
 use Rattle.std.proofs.Common.{ℕ, List, [], refl, subst}
 use Rattle.std.proofs.Math.Logic.{∥∥₁_elim}
 use Rattle.std.proofs.lemmas.List.{append-nil}
-use Rattle.query_tree.specs.Syntax.{TreeForm}
-use Rattle.query_print.specs.Canonical.{canonical_text}
+use Rattle.semantics.specs.Syntax.{TreeForm}
+use Rattle.semantics.specs.Canonical.{canonical_text}
 use Rattle.query_round.specs.Texts.{IsTextOf}
 use Rattle.query_round.proofs.Good.{GoodTree}
 use Rattle.query_round.proofs.Onto.{query_onto}

@@ -1,11 +1,11 @@
 -- The tokens of a good group derive it.
 use Rattle.std.proofs.Common.{◌≡◌, ℕ, zero, suc, List, [], ◌∷◌, refl, ap, subst}
-use Rattle.query_tokens.specs.declared.token.Token.{Token}
-use Rattle.query_tokens.specs.declared.token.Token.TheVariants as tokens
-use Rattle.query_tokens.specs.declared.token.Sign.TheVariants as s
-use Rattle.query_tree.specs.Syntax.{ElementForm, ElementForms, set, rollup, cube, sets, no_groups, group, element_forms}
-use Rattle.query_derivation.specs.Leaves.{Derivation, IsRepeated, IsName}
-use Rattle.query_derivation.specs.Grammar.{IsUnit, IsSet, IsElement, IsGroup}
+use Rattle.semantics.specs.declared.token.Token.{Token}
+use Rattle.semantics.specs.declared.token.Token.TheVariants as tokens
+use Rattle.semantics.specs.declared.token.Sign.TheVariants as s
+use Rattle.semantics.specs.Syntax.{ElementForm, ElementForms, set, rollup, cube, sets, no_groups, group, element_forms}
+use Rattle.semantics.specs.Leaves.{Derivation, IsRepeated, IsName}
+use Rattle.semantics.specs.Grammar.{IsUnit, IsSet, IsElement, IsGroup}
 use Rattle.query_round.proofs.Good.{Inhabited, GoodName, GoodUnit, GoodSet, GoodGroup, GoodGroups}
 use Rattle.query_round.proofs.Onto.{others_onto, name_onto, unit_onto, group_onto, group_ontos}
 use Rattle.query_round.proofs.DerivePredicates.{commas_derive, name_d}

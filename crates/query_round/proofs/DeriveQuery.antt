@@ -1,9 +1,9 @@
 -- The tokens of a good query derive it.
 use Rattle.std.proofs.Common.{ℕ, Bool, true, false, List, [], ◌∷◌, map, Option, Some, None}
-use Rattle.query_tokens.specs.declared.token.Token.{Token}
-use Rattle.query_tree.specs.Syntax.{ExpressionForm, PredicateForm, ElementForm, ItemForm, KeyForm, TreeForm}
-use Rattle.query_derivation.specs.Limits.{standard}
-use Rattle.query_derivation.specs.Grammar.{IsItem, IsWhere, IsGroup, IsSetQuantifier, IsGroupBy, IsHaving, IsDirection, IsNullOrdering, IsKey, IsOrderBy, IsQuery}
+use Rattle.semantics.specs.declared.token.Token.{Token}
+use Rattle.semantics.specs.Syntax.{ExpressionForm, PredicateForm, ElementForm, ItemForm, KeyForm, TreeForm}
+use Rattle.semantics.specs.Leaves.{standard}
+use Rattle.semantics.specs.Grammar.{IsItem, IsWhere, IsGroup, IsSetQuantifier, IsGroupBy, IsHaving, IsDirection, IsNullOrdering, IsKey, IsOrderBy, IsQuery}
 use Rattle.query_round.proofs.Good.{Each, Within, GoodExpression, Good, GoodItem, GoodElement, GoodGroupBy, GoodKey, GoodTree}
 use Rattle.query_round.proofs.Onto.{expression_onto, alias_onto, item_onto, group_onto, commas_onto, where_onto, distinct_onto, group_by_onto, having_onto, direction_onto, nulls_onto, key_onto, order_by_onto, query_onto}
 use Rattle.query_round.proofs.DerivePredicates.{commas_derive, expression_d, predicate_d}

@@ -2,12 +2,12 @@
 use Rattle.std.proofs.Common.{◌≡◌, ℕ, true, List, [], ◌∷◌, ◌++◌, map, refl, append_assoc}
 use Rattle.std.specs.Prelude.{codes}
 use Rattle.std.specs.List.{flat_map}
-use Rattle.query_tokens.specs.declared.token.Token.{Token}
-use Rattle.query_tokens.specs.declared.token.Token.TheVariants as tokens
-use Rattle.query_tokens.specs.declared.token.Word.{Word}
-use Rattle.query_tokens.specs.declared.token.Sign.TheVariants as s
+use Rattle.semantics.specs.declared.token.Token.{Token}
+use Rattle.semantics.specs.declared.token.Token.TheVariants as tokens
+use Rattle.semantics.specs.declared.token.Word.{Word}
+use Rattle.semantics.specs.declared.token.Sign.TheVariants as s
 use Rattle.query_tokens.specs.Inside.Words.{word_text}
-use Rattle.query_print.specs.Canonical.{joined, comma_list, in_brackets}
+use Rattle.semantics.specs.Canonical.{joined, comma_list, in_brackets}
 use Rattle.query_round.proofs.Good.{Each}
 use Rattle.query_round.proofs.Onto.{Onto, others_onto, list_onto, brackets_onto}
 use Rattle.query_round.proofs.Spelled.{Spelled, breaks, spelled_space, spelled_word, spelled_open, spelled_close, spelled_comma}

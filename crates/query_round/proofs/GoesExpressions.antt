@@ -1,19 +1,20 @@
 -- Names, literals, set functions and aliases spell their tokens.
 use Rattle.std.proofs.Common.{arith, ◌≡◌, ℕ, Bool, true, false, cond, List, [], ◌∷◌, ◌++◌, map, Option, Some, None, refl}
 use Rattle.std.specs.Prelude.{codes, is_none}
-use Rattle.query_tokens.specs.declared.token.Token.TheVariants as tokens
-use Rattle.query_tokens.specs.declared.token.Word.{Word}
-use Rattle.query_tokens.specs.declared.token.Word.TheVariants as w
-use Rattle.query_tokens.specs.declared.token.Sign.TheVariants as s
-use Rattle.query_tokens.specs.Words.{is_word, reserved, quoted, is_plain_name, name_text}
-use Rattle.query_tokens.specs.Spelling.{IsToken}
+use Rattle.semantics.specs.declared.token.Token.TheVariants as tokens
+use Rattle.semantics.specs.declared.token.Word.{Word}
+use Rattle.semantics.specs.declared.token.Word.TheVariants as w
+use Rattle.semantics.specs.declared.token.Sign.TheVariants as s
+use Rattle.semantics.specs.Words.{is_word, reserved, quoted, is_plain_name, name_text}
+use Rattle.semantics.specs.Tokens.{IsToken}
 use Rattle.query_tokens.proofs.Inversions.{and_both}
-use Rattle.query_tree.specs.declared.predicate.Literal.{Literal}
-use Rattle.query_tree.specs.declared.predicate.Literal.TheVariants as literals
-use Rattle.query_tree.specs.declared.expression.Aggregate.{Aggregate}
-use Rattle.query_tree.specs.declared.expression.Aggregate.TheVariants as aggregates
-use Rattle.query_tree.specs.Syntax.{grouping}
-use Rattle.query_print.specs.Canonical.{comma_list, aggregate_text, literal_text, expression_text, alias_text}
+use Rattle.semantics.specs.declared.literal.Literal.{Literal}
+use Rattle.semantics.specs.declared.literal.Literal.TheVariants as literals
+use Rattle.semantics.specs.declared.aggregate.Aggregate.{Aggregate}
+use Rattle.semantics.specs.declared.aggregate.Aggregate.TheVariants as aggregates
+use Rattle.semantics.specs.Syntax.{grouping}
+use Rattle.semantics.specs.Canonical.{comma_list, aggregate_text, literal_text, expression_text}
+use Rattle.query_print.specs.Canonical.{alias_text}
 use Rattle.query_round.proofs.Good.{Filled, Within, GoodName, GoodAggregate, GoodLiteral}
 use Rattle.query_round.proofs.Onto.{Onto, commas_onto, name_onto, argument_onto, aggregate_onto, filter_onto, expression_onto, literal_onto, alias_onto}
 use Rattle.query_round.proofs.Spelled.{no_word, no_name_quote, no_text_quote, spelled_token, spelled_integer, spelled_star}

@@ -1,11 +1,11 @@
 -- Sets, units and groups spell their tokens.
 use Rattle.std.proofs.Common.{ℕ, zero, suc, List, [], ◌∷◌, map}
 use Rattle.std.specs.Prelude.{codes}
-use Rattle.query_tokens.specs.declared.token.Token.TheVariants as tokens
-use Rattle.query_tokens.specs.declared.token.Word.TheVariants as w
-use Rattle.query_tokens.specs.Words.{name_text}
-use Rattle.query_tree.specs.Syntax.{ElementForm, ElementForms, set, rollup, cube, sets, no_groups, group, element_forms}
-use Rattle.query_print.specs.Canonical.{comma_list, in_brackets, unit_text, group_text, group_texts}
+use Rattle.semantics.specs.declared.token.Token.TheVariants as tokens
+use Rattle.semantics.specs.declared.token.Word.TheVariants as w
+use Rattle.semantics.specs.Words.{name_text}
+use Rattle.semantics.specs.Syntax.{ElementForm, ElementForms, set, rollup, cube, sets, no_groups, group, element_forms}
+use Rattle.semantics.specs.Canonical.{comma_list, in_brackets, unit_text, group_text, group_texts}
 use Rattle.query_round.proofs.Good.{Each, Inhabited, GoodName, GoodUnit, GoodSet, GoodGroup, GoodGroups, GoodElement}
 use Rattle.query_round.proofs.Onto.{name_onto, unit_onto, units_onto, group_onto, group_ontos}
 use Rattle.query_round.proofs.Goes.{Free, Goes, AllGo, free_free, free_goes, goes_of, nothing_goes, word_free, brackets_free, commas_go, each_goes}

@@ -1,20 +1,20 @@
 -- The canonical texts of a good expression and of a good predicate spell their tokens.
 use Rattle.std.proofs.Common.{ℕ, zero, suc, Bool, true, false, cond, List, [], ◌∷◌, ◌++◌, refl, append_assoc, inl, inr}
 use Rattle.std.specs.Prelude.{codes, nat_lt}
-use Rattle.values.specs.declared.comparison.Op.{Op}
-use Rattle.values.specs.declared.comparison.Op.TheVariants as op
-use Rattle.values.specs.declared.truth.Truth.{Truth}
-use Rattle.values.specs.declared.truth.Truth.TheVariants as truth
-use Rattle.query_tokens.specs.declared.token.Token.{Token}
-use Rattle.query_tokens.specs.declared.token.Token.TheVariants as tokens
-use Rattle.query_tokens.specs.declared.token.Word.{Word}
-use Rattle.query_tokens.specs.declared.token.Word.TheVariants as w
-use Rattle.query_tokens.specs.declared.token.Sign.TheVariants as s
+use Rattle.semantics.specs.declared.comparison.Op.{Op}
+use Rattle.semantics.specs.declared.comparison.Op.TheVariants as op
+use Rattle.semantics.specs.declared.truth.Truth.{Truth}
+use Rattle.semantics.specs.declared.truth.Truth.TheVariants as truth
+use Rattle.semantics.specs.declared.token.Token.{Token}
+use Rattle.semantics.specs.declared.token.Token.TheVariants as tokens
+use Rattle.semantics.specs.declared.token.Word.{Word}
+use Rattle.semantics.specs.declared.token.Word.TheVariants as w
+use Rattle.semantics.specs.declared.token.Sign.TheVariants as s
 use Rattle.query_tokens.specs.Inside.Words.{word_text}
 use Rattle.query_tokens.specs.Steps.{token_at, sign_at, order_at, sign_behind_less, sign_behind_greater}
-use Rattle.query_tree.specs.declared.predicate.Literal.{Literal}
-use Rattle.query_tree.specs.Syntax.{ExpressionForm, FunctionForm, OperandForm, PredicateForm, PredicateForms, name, grouping, function, over_all, over_filtered, or_of, and_of, not_of, truth_test, compare, between, member, null_test, column, no_parts, part}
-use Rattle.query_print.specs.Canonical.{op_text, truth_text, not_text, literal_text, function_text, expression_text, operand_text, tightness, bracketed_below, in_brackets, predicate_text, part_texts}
+use Rattle.semantics.specs.declared.literal.Literal.{Literal}
+use Rattle.semantics.specs.Syntax.{ExpressionForm, FunctionForm, OperandForm, PredicateForm, PredicateForms, name, grouping, function, over_all, over_filtered, or_of, and_of, not_of, truth_test, compare, between, member, null_test, column, no_parts, part}
+use Rattle.semantics.specs.Canonical.{op_text, truth_text, not_text, literal_text, function_text, expression_text, operand_text, tightness, bracketed_below, in_brackets, predicate_text, part_texts}
 use Rattle.query_round.proofs.Good.{Filled, GoodLiteral, GoodFunction, GoodExpression, GoodOperand, Deeper, Fits, Good, PartsFit}
 use Rattle.query_round.proofs.Onto.{Onto, op_sign, truth_word, not_onto, literal_onto, function_onto, expression_onto, operand_onto, brackets_onto, bracketed_onto, predicate_onto, part_ontos}
 use Rattle.query_round.proofs.Spelled.{Spelled, spelled_space, spelled_read}

@@ -1,10 +1,10 @@
 -- Groups that sane tokens derive are good.
 use Rattle.std.proofs.Common.{ℕ, zero, suc, List, [], ◌∷◌}
-use Rattle.query_tokens.specs.declared.token.Token.TheVariants as tokens
-use Rattle.query_tokens.specs.declared.token.Sign.TheVariants as s
-use Rattle.query_tree.specs.Syntax.{ElementForm, element_forms}
-use Rattle.query_derivation.specs.Leaves.{Derivation, IsName}
-use Rattle.query_derivation.specs.Grammar.{IsUnit, IsSet, IsElement, IsGroup}
+use Rattle.semantics.specs.declared.token.Token.TheVariants as tokens
+use Rattle.semantics.specs.declared.token.Sign.TheVariants as s
+use Rattle.semantics.specs.Syntax.{ElementForm, element_forms}
+use Rattle.semantics.specs.Leaves.{Derivation, IsName}
+use Rattle.semantics.specs.Grammar.{IsUnit, IsSet, IsElement, IsGroup}
 use Rattle.query_round.proofs.Good.{Each, GoodName, Deeper, GoodUnit, GoodSet, GoodGroup, GoodGroups}
 use Rattle.query_round.proofs.GoodPredicates.{Leaves, repeated_leaves, name_leaves}
 

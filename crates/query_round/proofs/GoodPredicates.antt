@@ -1,19 +1,18 @@
 -- Predicates and their parts that sane tokens derive are good.
 use Rattle.std.proofs.Common.{arith, ◌≤◌, ℕ, zero, suc, Bool, List, [], ◌∷◌, inl, inr}
 use Rattle.std.proofs.lemmas.Bool.{cases_lt}
-use Rattle.values.specs.declared.comparison.Op.{Op}
-use Rattle.values.specs.declared.truth.Truth.{Truth}
-use Rattle.query_tokens.specs.declared.token.Token.{Token}
-use Rattle.query_tokens.specs.declared.token.Token.TheVariants as tokens
-use Rattle.query_tokens.specs.declared.token.Word.TheVariants as w
-use Rattle.query_tokens.specs.declared.token.Sign.TheVariants as s
-use Rattle.query_tree.specs.declared.predicate.Literal.{Literal}
-use Rattle.query_tree.specs.declared.expression.Aggregate.{Aggregate}
-use Rattle.query_tree.specs.Syntax.{ExpressionForm, FunctionForm, OperandForm, PredicateForm, or_of, and_of, not_of, truth_test, predicate_forms}
-use Rattle.query_print.specs.Canonical.{tightness}
-use Rattle.query_derivation.specs.Limits.{standard}
-use Rattle.query_derivation.specs.Leaves.{Derivation, IsRepeated, IsName, IsAggregate, IsLiteral, IsOp, IsTruthValue, IsMark}
-use Rattle.query_derivation.specs.Predicates.{IsFunction, IsExpression, IsOperand, IsAtom, IsPrimary, IsTest, IsNegation, IsConjunction, IsDisjunction, IsPredicate, conjunction_of, disjunction_of}
+use Rattle.semantics.specs.declared.comparison.Op.{Op}
+use Rattle.semantics.specs.declared.truth.Truth.{Truth}
+use Rattle.semantics.specs.declared.token.Token.{Token}
+use Rattle.semantics.specs.declared.token.Token.TheVariants as tokens
+use Rattle.semantics.specs.declared.token.Word.TheVariants as w
+use Rattle.semantics.specs.declared.token.Sign.TheVariants as s
+use Rattle.semantics.specs.declared.literal.Literal.{Literal}
+use Rattle.semantics.specs.declared.aggregate.Aggregate.{Aggregate}
+use Rattle.semantics.specs.Syntax.{ExpressionForm, FunctionForm, OperandForm, PredicateForm, or_of, and_of, not_of, truth_test, predicate_forms}
+use Rattle.semantics.specs.Canonical.{tightness}
+use Rattle.semantics.specs.Leaves.{standard, Derivation, IsRepeated, IsName, IsAggregate, IsLiteral, IsOp, IsTruthValue, IsMark}
+use Rattle.semantics.specs.Productions.{IsFunction, IsExpression, IsOperand, IsAtom, IsPrimary, IsTest, IsNegation, IsConjunction, IsDisjunction, IsPredicate, conjunction_of, disjunction_of}
 use Rattle.query_round.proofs.Good.{Each, GoodName, GoodAggregate, GoodFunction, GoodExpression, GoodLiteral, GoodOperand, IsMany, Deeper, Fits, Good, PartsFit, deeper_good}
 use Rattle.query_round.proofs.Sane.{AllSane}
 

@@ -1,13 +1,13 @@
 -- A query that sane tokens derive is good.
 use Rattle.std.proofs.Common.{Bool, List, ◌∷◌, Option}
-use Rattle.query_tokens.specs.declared.token.Token.{Token}
-use Rattle.query_tokens.specs.declared.token.Token.TheVariants as tokens
-use Rattle.query_tokens.specs.declared.token.Word.TheVariants as w
-use Rattle.query_tokens.specs.declared.token.Sign.TheVariants as s
-use Rattle.query_tree.specs.Syntax.{ExpressionForm, PredicateForm, ElementForm, ItemForm, KeyForm, TreeForm}
-use Rattle.query_derivation.specs.Limits.{standard}
-use Rattle.query_derivation.specs.Predicates.{IsExpression, IsPredicate}
-use Rattle.query_derivation.specs.Grammar.{IsItem, IsWhere, IsGroup, IsGroupBy, IsHaving, IsDirection, IsNullOrdering, IsKey, IsOrderBy, IsQuery, IsSetQuantifier}
+use Rattle.semantics.specs.declared.token.Token.{Token}
+use Rattle.semantics.specs.declared.token.Token.TheVariants as tokens
+use Rattle.semantics.specs.declared.token.Word.TheVariants as w
+use Rattle.semantics.specs.declared.token.Sign.TheVariants as s
+use Rattle.semantics.specs.Syntax.{ExpressionForm, PredicateForm, ElementForm, ItemForm, KeyForm, TreeForm}
+use Rattle.semantics.specs.Leaves.{standard}
+use Rattle.semantics.specs.Productions.{IsExpression, IsPredicate}
+use Rattle.semantics.specs.Grammar.{IsItem, IsWhere, IsGroup, IsGroupBy, IsHaving, IsDirection, IsNullOrdering, IsKey, IsOrderBy, IsQuery, IsSetQuantifier}
 use Rattle.query_round.proofs.Good.{Each, Within, GoodExpression, Good, GoodItem, GoodElement, GoodKey, GoodTree, GoodGroupBy}
 use Rattle.query_round.proofs.GoodPredicates.{Leaves, repeated_leaves, expression_leaves, predicate_leaves}
 use Rattle.query_round.proofs.GoodGroups.{group_leaves}

@@ -2,10 +2,10 @@
 use Rattle.std.proofs.Common.{arith, length, ◌<◌, ◌≤◌, ◌^◌, ℕ, zero, suc, Bool, true, false, [], ◌∷◌, Some, None, ◌⊎◌, inl, inr, ap}
 use Rattle.std.proofs.Math.IntN.{pos, negsuc}
 use Rattle.std.proofs.Math.Bridge.{le_prop}
-use Rattle.query_tree.specs.declared.predicate.Literal.TheVariants as literals
-use Rattle.query_tree.specs.declared.expression.Aggregate.TheVariants as aggregates
-use Rattle.query_tree.specs.Syntax.{ExpressionForm, FunctionForm, OperandForm, PredicateForm, PredicateForms, ElementForm, ElementForms, name, grouping, function, over_all, over_filtered, or_of, and_of, not_of, truth_test, compare, between, member, null_test, column, no_parts, part, set, rollup, cube, sets, no_groups, group}
-use Rattle.query_print.specs.Canonical.{tightness}
+use Rattle.semantics.specs.declared.literal.Literal.TheVariants as literals
+use Rattle.semantics.specs.declared.aggregate.Aggregate.TheVariants as aggregates
+use Rattle.semantics.specs.Syntax.{ExpressionForm, FunctionForm, OperandForm, PredicateForm, PredicateForms, ElementForm, ElementForms, name, grouping, function, over_all, over_filtered, or_of, and_of, not_of, truth_test, compare, between, member, null_test, column, no_parts, part, set, rollup, cube, sets, no_groups, group}
+use Rattle.semantics.specs.Canonical.{tightness}
 use Rattle.query_round.proofs.Good.{Each, Inhabited, Filled, Within, GoodName, GoodAggregate, GoodFunction, GoodExpression, InRange, GoodLiteral, GoodOperand, IsMany, Deeper, Fits, Good, PartsFit, GoodItem, GoodUnit, IsFilled, GoodGroup, GoodGroups, GoodElement, IsPlain, GoodGroupBy, GoodKey, GoodTree}
 
 le_one : (a b : ℕ) → IsProp (a ≤ b)

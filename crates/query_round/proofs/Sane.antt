@@ -1,10 +1,10 @@
 -- Names that a text spells are not empty, and its whole numbers fit 64 bits.
 use Rattle.std.proofs.Common.{arith, ◌≤◌, ◌^◌, ◌≡◌, ℕ, zero, suc, true, List, [], ◌∷◌}
 use Rattle.std.proofs.Math.IntN.{pos, neg_ℤ}
-use Rattle.query_tokens.specs.declared.token.Token.{Token}
-use Rattle.query_tokens.specs.declared.token.Token.TheVariants as tokens
-use Rattle.query_tokens.specs.Words.{is_word}
-use Rattle.query_tokens.specs.Spelling.{IsToken, SpellsFrom}
+use Rattle.semantics.specs.declared.token.Token.{Token}
+use Rattle.semantics.specs.declared.token.Token.TheVariants as tokens
+use Rattle.semantics.specs.Words.{is_word}
+use Rattle.semantics.specs.Tokens.{IsToken, SpellsFrom}
 use Rattle.query_round.proofs.Good.{GoodName, InRange}
 
 abbrev pub Sane : Token → Type 0

@@ -10,14 +10,14 @@ use Rattle.std.specs.Str.Parse.{AllDigits}
 use Rattle.std.proofs.lemmas.Bool.Decides.{nat_tests}
 use Rattle.std.proofs.lemmas.Fmt.{digits_decimal, digits_value-decimal, decimal_nonempty}
 use Rattle.std.proofs.lemmas.Str.Parse.{digit_from_value}
-use Rattle.query_tokens.specs.declared.token.Token.{Token}
-use Rattle.query_tokens.specs.declared.token.Token.TheVariants as tokens
-use Rattle.query_tokens.specs.declared.token.Word.{Word}
-use Rattle.query_tokens.specs.declared.token.Word.TheVariants as w
-use Rattle.query_tokens.specs.declared.token.Sign.TheVariants as s
-use Rattle.query_tokens.specs.Words.{continues_word, is_word, reserved}
+use Rattle.semantics.specs.declared.token.Token.{Token}
+use Rattle.semantics.specs.declared.token.Token.TheVariants as tokens
+use Rattle.semantics.specs.declared.token.Word.{Word}
+use Rattle.semantics.specs.declared.token.Word.TheVariants as w
+use Rattle.semantics.specs.declared.token.Sign.TheVariants as s
+use Rattle.semantics.specs.Words.{continues_word, is_word, reserved}
 use Rattle.query_tokens.specs.Inside.Words.{word_text}
-use Rattle.query_tokens.specs.Spelling.{begins_with, is_digits, IsToken, SpellsFrom}
+use Rattle.semantics.specs.Tokens.{begins_with, is_digits, IsToken, SpellsFrom}
 use Rattle.query_tokens.specs.Steps.{token_at, sign_at}
 use Rattle.query_tokens.proofs.Digits.{own}
 use Rattle.query_tokens.proofs.Sound.{token_s}

@@ -2,9 +2,9 @@
 #![tactic(auto)]
 
 ghost use Rattle.std.specs.Prelude.{List, ℕ};
-ghost use Rattle.query_print.specs.Canonical.{canonical_text};
+ghost use Rattle.semantics.specs.Canonical.{canonical_text};
 ghost use Rattle.query_round.specs.Texts.{IsTextOf};
-ghost use Rattle.query_tree.specs.Syntax.{TreeForm};
+ghost use Rattle.semantics.specs.Syntax.{TreeForm};
 
 /// A law, with no work to do: the canonical text of a query that has any text is a text of that
 /// query, whatever the length of either.

@@ -8,12 +8,12 @@ use Rattle.std.specs.Prelude.{pos, nat_le, nat_lt}
 use Rattle.std.specs.List.{list_all}
 use Rattle.std.specs.Char.{is_ascii_digit}
 use Rattle.std.specs.Str.Parse.{digits_value}
-use Rattle.query_tokens.specs.declared.token.Token.{Token}
-use Rattle.query_tokens.specs.declared.token.Token.TheVariants as tokens
-use Rattle.query_tokens.specs.declared.token.Sign.{Sign}
-use Rattle.query_tokens.specs.declared.token.Sign.TheVariants as s
-use Rattle.query_tokens.specs.Words.{begins_word, continues_word, is_word, doubled}
-use Rattle.query_tokens.specs.Spelling.{begins_with, is_digits, sign_text, IsLongestSign, IsToken}
+use Rattle.semantics.specs.declared.token.Token.{Token}
+use Rattle.semantics.specs.declared.token.Token.TheVariants as tokens
+use Rattle.semantics.specs.declared.token.Sign.{Sign}
+use Rattle.semantics.specs.declared.token.Sign.TheVariants as s
+use Rattle.semantics.specs.Words.{begins_word, continues_word, is_word, doubled}
+use Rattle.semantics.specs.Tokens.{begins_with, is_digits, sign_text, IsLongestSign, IsToken}
 use Rattle.query_tokens.specs.Steps.{behind, sign_at, order_at, sign_behind_less, sign_behind_greater, word_of, word_at, name_behind, text_behind, digits_at, number_of, number_behind, number_at, other_at, token_at}
 use Rattle.query_tokens.proofs.Cut.{begins_goes, not_chosen}
 use Rattle.query_tokens.proofs.Doubling.{quoted_doubled}

@@ -8,8 +8,8 @@ use Rattle.std.proofs.lemmas.Str.{IsCharBoundary-after_ascii}
 use Rattle.std.proofs.lemmas.Bool.{eqb-true}
 use Rattle.std.proofs.lemmas.List.Sums.{prefix_len_passes, prefix_len-le-length}
 use Rattle.std.proofs.lemmas.Bool.Decides.{nat_tests}
-use Rattle.query_tokens.specs.Words.{continues_word, begins_word}
-use Rattle.query_tokens.specs.Spelling.{begins_with}
+use Rattle.semantics.specs.Words.{continues_word, begins_word}
+use Rattle.semantics.specs.Tokens.{begins_with}
 use Rattle.query_tokens.specs.Options.{Tells}
 use Rattle.query_tokens.specs.Steps.{behind}
 

@@ -1,6 +1,5 @@
 -- Digits, and the numbers that they write.
-use Rattle.std.proofs.Common.{cond, ◌≡◌, ℕ, suc, ◌<◌, ◌≤◌, ◌+◌, ◌^◌, ◌∷◌, [], Bool, true, false, List, length, take, arith, sym, refl, None}
-use Rattle.std.proofs.Common.{inl, inr}
+use Rattle.std.proofs.Common.{cond, ◌≡◌, ℕ, suc, ◌<◌, ◌≤◌, ◌+◌, ◌^◌, ◌∷◌, [], Bool, true, false, List, length, take, arith, sym, refl, None, inl, inr}
 use Rattle.std.proofs.lemmas.Bool.{cases_lt}
 use Rattle.std.specs.List.{prefix_len}
 use Rattle.std.specs.Int.{IsInRange}

@@ -2,7 +2,7 @@
 use Rattle.std.proofs.Common.{Bool, true, false, cond, eqb, eq-eqb, ◌≡◌, ◌≢◌, ℕ, suc, ◌<◌, List, [], ◌∷◌, ◌++◌, length, get_or, Option, Some, None, refl, sym, ap, ◌∙◌, arith, append_assoc}
 use Rattle.std.proofs.lemmas.Bool.{eqb-true}
 use Rattle.std.proofs.lemmas.Bool.Decides.{nat_tests}
-use Rattle.query_tokens.specs.Words.{doubled}
+use Rattle.semantics.specs.Words.{doubled}
 use Rattle.query_tokens.specs.Steps.{behind, quoted_at, with_bytes}
 
 not_eqb : (a b : ℕ) → a ≢ b → eqb a b ≡ false

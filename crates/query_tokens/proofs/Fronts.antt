@@ -2,8 +2,8 @@
 use Rattle.std.proofs.Common.{Bool, true, false, cond, ◌≡◌, ℕ, suc, ◌+◌, List, [], ◌∷◌, ◌++◌, length, take, drop, ◌||◌, refl, arith}
 use Rattle.std.specs.List.{prefix_len, list_all}
 use Rattle.std.specs.Char.{is_ascii_digit}
-use Rattle.query_tokens.specs.Words.{begins_word, continues_word}
-use Rattle.query_tokens.specs.Spelling.{begins_with}
+use Rattle.semantics.specs.Words.{begins_word, continues_word}
+use Rattle.semantics.specs.Tokens.{begins_with}
 use Rattle.query_tokens.proofs.Inversions.{and_both}
 
 all_at : (p : ℕ → Bool) (b : ℕ) (bs : List ℕ) (t : Bool) → p b ≡ t → list_all p (take (prefix_len p bs) bs) ≡ true → list_all p (take (cond t (1 + prefix_len p bs) 0) (b ∷ bs)) ≡ true

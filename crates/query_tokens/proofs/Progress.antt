@@ -2,8 +2,8 @@
 use Rattle.std.proofs.Common.{Bool, true, false, cond, eqb, ◌≡◌, ℕ, ◌<◌, ◌+◌, List, [], ◌∷◌, ◌++◌, length, Option, Some, None, refl, sym, ap, subst, ◌∙◌, append_assoc, arith, ◌⊎◌, inl, inr, ◌||◌, length-append}
 use Rattle.std.proofs.lemmas.List.{append-nil, nil_from_length}
 use Rattle.std.proofs.lemmas.Bool.{eqb-true}
-use Rattle.query_tokens.specs.declared.token.Token.{Token}
-use Rattle.query_tokens.specs.Spelling.{begins_with, is_space, IsToken, SpellsFrom, Spells, StopsFrom, StopsAt}
+use Rattle.semantics.specs.declared.token.Token.{Token}
+use Rattle.semantics.specs.Tokens.{begins_with, is_space, IsToken, SpellsFrom, Spells, StopsFrom, StopsAt}
 use Rattle.query_tokens.specs.Options.{choose}
 use Rattle.query_tokens.specs.Steps.{behind, after_space, token_at}
 use Rattle.query_tokens.proofs.Inversions.{choose_some, some_is}

@@ -1,9 +1,9 @@
 -- The table of reserved words has the letters of each word.
 use Rattle.std.proofs.Common.{◌≡◌, ℕ, Bool, true, false, cond, List, [], ◌∷◌, map, Some, option_map, find, codes, refl, ap, subst}
 use Rattle.std.specs.Str.{str_eq_ignore_ascii_case}
-use Rattle.query_tokens.specs.declared.token.Word.{Word}
-use Rattle.query_tokens.specs.declared.token.Word.TheVariants as w
-use Rattle.query_tokens.specs.Words.{reserved, reserved_words}
+use Rattle.semantics.specs.declared.token.Word.{Word}
+use Rattle.semantics.specs.declared.token.Word.TheVariants as w
+use Rattle.semantics.specs.Words.{reserved, reserved_words}
 use Rattle.query_tokens.specs.Inside.Words.{word_text}
 
 abbrev first : List (List ℕ) → List ℕ

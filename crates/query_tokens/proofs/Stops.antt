@@ -1,11 +1,11 @@
 -- A text spells tokens, or stops at one byte where none begins, and never both.
 use Rattle.std.proofs.Common.{arith, length, length-append, ◌<◌, ◌≤◌, ◌+◌, ◌≡◌, ℕ, zero, suc, true, ◌⊎◌, inl, inr, List, [], ◌∷◌, ◌++◌, Option, Some, None, refl, sym, ap, subst, ◌∙◌}
 use Rattle.std.proofs.lemmas.List.{nil_from_length}
-use Rattle.query_tokens.specs.declared.token.Token.{Token}
-use Rattle.query_tokens.specs.declared.token.Sign.{Sign}
-use Rattle.query_tokens.specs.declared.token.Sign.TheVariants as s
-use Rattle.query_tokens.specs.Words.{is_word}
-use Rattle.query_tokens.specs.Spelling.{is_digits, sign_text, begins_with, is_space, BeginsNoToken, IsToken, SpellsFrom, Spells, StopsFrom, StopsAt}
+use Rattle.semantics.specs.declared.token.Token.{Token}
+use Rattle.semantics.specs.declared.token.Sign.{Sign}
+use Rattle.semantics.specs.declared.token.Sign.TheVariants as s
+use Rattle.semantics.specs.Words.{is_word}
+use Rattle.semantics.specs.Tokens.{is_digits, sign_text, begins_with, is_space, BeginsNoToken, IsToken, SpellsFrom, Spells, StopsFrom, StopsAt}
 use Rattle.query_tokens.specs.Steps.{after_space, token_at}
 use Rattle.query_tokens.proofs.Inversions.{some_is}
 use Rattle.query_tokens.proofs.Sound.{token_s}

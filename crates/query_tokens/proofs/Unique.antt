@@ -1,7 +1,7 @@
 -- No text spells two lists of tokens.
 use Rattle.std.proofs.Common.{arith, length, length-append, ◌+◌, ◌≡◌, ℕ, List, ◌∷◌, ◌++◌, Option, Some, None, refl, sym, ap, ◌∙◌}
-use Rattle.query_tokens.specs.declared.token.Token.{Token}
-use Rattle.query_tokens.specs.Spelling.{IsToken, SpellsFrom, Spells}
+use Rattle.semantics.specs.declared.token.Token.{Token}
+use Rattle.semantics.specs.Tokens.{IsToken, SpellsFrom, Spells}
 use Rattle.query_tokens.specs.Steps.{after_space}
 use Rattle.query_tokens.proofs.Complete.{token_c}
 use Rattle.query_tokens.proofs.Progress.{spelled_end, spelled_space, spelled_token, space_passed, after_no_token}

@@ -1,5 +1,3 @@
-pub mod Words
 pub mod Inside
-pub mod Spelling
 pub mod Options
 pub mod Steps

@@ -5,13 +5,13 @@ use Rattle.std.specs.List.{prefix_len}
 use Rattle.std.specs.Char.{is_ascii_digit}
 use Rattle.std.specs.Str.Parse.{digits_value}
 use Rattle.std.proofs.Math.IntN.{neg_ℤ}
-use Rattle.query_tokens.specs.declared.token.Token.{Token}
-use Rattle.query_tokens.specs.declared.token.Token.TheVariants as tokens
-use Rattle.query_tokens.specs.declared.token.Sign.{Sign}
-use Rattle.query_tokens.specs.declared.token.Sign.TheVariants as s
+use Rattle.semantics.specs.declared.token.Token.{Token}
+use Rattle.semantics.specs.declared.token.Token.TheVariants as tokens
+use Rattle.semantics.specs.declared.token.Sign.{Sign}
+use Rattle.semantics.specs.declared.token.Sign.TheVariants as s
 use Rattle.query_tokens.specs.Options.{◌>>=◌, choose}
-use Rattle.query_tokens.specs.Words.{begins_word, continues_word, reserved}
-use Rattle.query_tokens.specs.Spelling.{begins_with}
+use Rattle.semantics.specs.Words.{begins_word, continues_word, reserved}
+use Rattle.semantics.specs.Tokens.{begins_with}
 
 -- What stands behind this byte in front.
 abbrev pub behind : ℕ → List ℕ → Option (List ℕ)

@@ -1,8 +1,8 @@
 //! Laws of the spelling of tokens.
 
 ghost use Rattle.std.specs.Prelude.{◌≡◌, ◌⊎◌, ℕ, List};
-ghost use Rattle.query_tokens.specs.declared.token.Token.{Token};
-ghost use Rattle.query_tokens.specs.Spelling.{Spells, StopsAt};
+ghost use Rattle.semantics.specs.declared.token.Token.{Token};
+ghost use Rattle.semantics.specs.Tokens.{Spells, StopsAt};
 
 /// A law, with no work to do: no text spells two lists of tokens, and none begins them at two lists of bytes.
 pub fn spells_one()

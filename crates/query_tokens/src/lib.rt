@@ -8,12 +8,11 @@ mod numbers;
 mod quotes;
 mod reading;
 mod signs;
-mod token;
 mod words;
 
 pub use fault::TokenFault;
 pub use laws::{spells_one, spells_or_stops};
 pub use names::{is_plain_name, push_name, push_quoted};
 pub use reading::{Tokens, read_tokens};
-pub use token::{Sign, Token, Word};
+pub use semantics::{Sign, Token, Word};
 pub use words::reserved_word;

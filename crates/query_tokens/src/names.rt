@@ -1,7 +1,7 @@
 //! Canonical spellings of names and texts.
 
 ghost use Rattle.std.specs.Prelude.{◌≡◌, ◌<◌, ◌++◌, OnOk, string_bytes};
-ghost use Rattle.query_tokens.specs.Words.{is_plain_name, quoted, name_text};
+ghost use Rattle.semantics.specs.Words.{is_plain_name, quoted, name_text};
 
 use crate::words::{is_word, reserved_word};
 use std::alloc::AllocError;

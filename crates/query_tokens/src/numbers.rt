@@ -8,8 +8,8 @@ ghost use Rattle.query_tokens.specs.Options.{Tells};
 ghost use Rattle.query_tokens.specs.Steps.{digits_at, number_of, number_behind, number_at};
 
 use crate::signs::behind;
-use crate::token::Token;
 use crate::words::starts_word;
+use semantics::Token;
 
 /// The size of the least number of 64 bits, and one more than the largest.
 const LIMIT: u64 = 1 << 63;

@@ -5,8 +5,8 @@ ghost use Rattle.query_tokens.specs.Options.{Tells};
 ghost use Rattle.query_tokens.specs.Steps.{quoted_at, name_behind, text_behind};
 
 use crate::signs::behind;
-use crate::token::Token;
 use query_tree::Text;
+use semantics::Token;
 use std::alloc::{AllocError, Global};
 
 /// What is quoted, from behind its first quote on, and what stands behind its last quote.

@@ -3,9 +3,9 @@
 ghost use Rattle.std.specs.Prelude.{◌≡◌, ◌<◌, ℕ, List, Err, length, IfOk, IfSome, MatchResult};
 ghost use Rattle.std.specs.List.{prefix_len};
 ghost use Rattle.query_tokens.specs.declared.fault.TokenFault.TheVariants.{NoToken, OutOfMemory};
-ghost use Rattle.query_tokens.specs.declared.token.Token.{Token};
-ghost use Rattle.query_tokens.specs.Words.{continues_word};
-ghost use Rattle.query_tokens.specs.Spelling.{Spells, StopsAt};
+ghost use Rattle.semantics.specs.declared.token.Token.{Token};
+ghost use Rattle.semantics.specs.Words.{continues_word};
+ghost use Rattle.semantics.specs.Tokens.{Spells, StopsAt};
 ghost use Rattle.query_tokens.specs.Options.{Tells};
 ghost use Rattle.query_tokens.specs.Steps.{word_of, word_at, other_at, token_at};
 
@@ -13,9 +13,9 @@ use crate::fault::TokenFault;
 use crate::numbers::number;
 use crate::quotes::{quoted_name, quoted_text};
 use crate::signs::{after_space, behind, sign};
-use crate::token::Token;
 use crate::words::{reserved_word, starts_word, word_len};
 use query_tree::Text;
+use semantics::Token;
 use std::alloc::{AllocError, Global};
 
 /// The tokens of a text, and beside each the byte where it begins.

@@ -4,7 +4,7 @@ ghost use Rattle.std.specs.Prelude.{◌≡◌, ◌<◌, ◌≤◌, length, IfSom
 ghost use Rattle.query_tokens.specs.Options.{Tells};
 ghost use Rattle.query_tokens.specs.Steps.{behind, after_space, sign_behind_less, sign_behind_greater, order_at, sign_at};
 
-use crate::token::Sign;
+use semantics::Sign;
 
 /// What stands behind an ASCII character in front.
 pub fn behind(text: &str, c: char) -> Option<&str>

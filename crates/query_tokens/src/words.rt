@@ -1,13 +1,13 @@
 //! The reserved words.
 
 ghost use Rattle.std.specs.Prelude.{◌≡◌};
-ghost use Rattle.query_tokens.specs.Words.{reserved, begins_word, continues_word, is_word};
+ghost use Rattle.semantics.specs.Words.{reserved, begins_word, continues_word, is_word};
 ghost use Rattle.query_tokens.specs.Inside.Words.{word_text};
 ghost use Rattle.std.specs.List.{find, list_all, prefix_len};
-ghost use Rattle.query_tokens.specs.Spelling.{begins_with};
+ghost use Rattle.semantics.specs.Tokens.{begins_with};
 ghost use Rattle.std.specs.Str.{str_eq_ignore_ascii_case};
 
-use crate::token::Word;
+use semantics::Word;
 
 /// The letters of a reserved word, in capitals.
 fn word_text(word: Word) -> &'static str

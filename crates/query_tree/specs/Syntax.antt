@@ -1,12 +1,9 @@
--- The syntax tree of a query, apart from where its parts lie in memory. Contracts speak of it through
--- `tree_form` and its like, which read it off the values of the program.
-use Rattle.std.specs.Prelude.{ℕ, Bool, Option, Some, None, List, [], ◌∷◌, map, Vec, Box}
+-- The form of a syntax tree, read off the values of the program.
+use Rattle.std.specs.Prelude.{ℕ, Option, Some, None, List, map, Vec, Box}
 use Rattle.std.specs.Global.{Global}
 use Rattle.std.specs.Option.{option_map}
-use Rattle.values.specs.declared.comparison.Op.{Op}
-use Rattle.values.specs.declared.truth.Truth.{Truth}
-use Rattle.query_tree.specs.declared.predicate.Literal.{Literal}
-use Rattle.query_tree.specs.declared.expression.Aggregate.{Aggregate}
+use Rattle.semantics.specs.declared.literal.Literal.{Literal}
+use Rattle.semantics.specs.declared.aggregate.Aggregate.{Aggregate}
 use Rattle.query_tree.specs.declared.expression.Expression.{Expression}
 use Rattle.query_tree.specs.declared.expression.Operand.{Operand}
 use Rattle.query_tree.specs.declared.expression.Predicate.{Predicate}
@@ -21,83 +18,7 @@ use Rattle.query_tree.specs.declared.group.GroupingElement.TheFolds.{fold-Groupi
 use Rattle.query_tree.specs.declared.tree.Item.{Item}
 use Rattle.query_tree.specs.declared.tree.Key.{Key}
 use Rattle.query_tree.specs.declared.tree.Tree.{Tree}
-
-mutual
-  -- An expression is a name, a GROUPING of names, or a set function.
-  pub data ExpressionForm : Type 0 where
-    name : List ℕ → ExpressionForm
-    grouping : List (List ℕ) → ExpressionForm
-    function : FunctionForm → ExpressionForm
-
-  -- A set function goes over all records of a group, or over those that its FILTER keeps.
-  pub data FunctionForm : Type 0 where
-    over_all : Aggregate → FunctionForm
-    over_filtered : Aggregate → PredicateForm → FunctionForm
-
-  -- An operand is an expression or a literal.
-  pub data OperandForm : Type 0 where
-    expression : ExpressionForm → OperandForm
-    literal : Literal → OperandForm
-
-  -- A predicate. The mark of a truth test, BETWEEN, IN and IS NULL is true where NOT is written in it.
-  pub data PredicateForm : Type 0 where
-    or_of : PredicateForms → PredicateForm
-    and_of : PredicateForms → PredicateForm
-    not_of : PredicateForm → PredicateForm
-    truth_test : PredicateForm → Bool → Truth → PredicateForm
-    compare : OperandForm → Op → OperandForm → PredicateForm
-    between : OperandForm → Bool → OperandForm → OperandForm → PredicateForm
-    member : OperandForm → Bool → List Literal → PredicateForm
-    null_test : OperandForm → Bool → PredicateForm
-    column : List ℕ → PredicateForm
-
-  -- The parts of an OR or an AND, in order.
-  pub data PredicateForms : Type 0 where
-    no_parts : PredicateForms
-    part : PredicateForm → PredicateForms → PredicateForms
-
-mutual
-  -- An element of GROUP BY: a set, a ROLLUP or a CUBE of units, or GROUPING SETS of elements.
-  pub data ElementForm : Type 0 where
-    set : List (List ℕ) → ElementForm
-    rollup : List (List (List ℕ)) → ElementForm
-    cube : List (List (List ℕ)) → ElementForm
-    sets : ElementForms → ElementForm
-
-  -- The elements of GROUPING SETS, in order.
-  pub data ElementForms : Type 0 where
-    no_groups : ElementForms
-    group : ElementForm → ElementForms → ElementForms
-
--- An item of SELECT: an expression, and the alias where there is one.
-pub record ItemForm : Type 0 where
-  pub expression : ExpressionForm
-  pub alias : Option (List ℕ)
-
--- A key of ORDER BY, with its defaults resolved.
-pub record KeyForm : Type 0 where
-  pub expression : ExpressionForm
-  pub descending : Bool
-  pub nulls_first : Bool
-
--- A query: the clauses that are not written are None or an empty list, and GROUP BY DISTINCT that is not written is false.
-pub record TreeForm : Type 0 where
-  pub items : List ItemForm
-  pub where_condition : Option PredicateForm
-  pub distinct_sets : Bool
-  pub groups : List ElementForm
-  pub having_condition : Option PredicateForm
-  pub keys : List KeyForm
-
--- The parts of a list, as the parts of an OR or an AND.
-abbrev pub predicate_forms : List PredicateForm → PredicateForms
-predicate_forms [] = no_parts
-predicate_forms (p ∷ ps) = part p (predicate_forms ps)
-
--- The groups of a list, as the elements of GROUPING SETS.
-abbrev pub element_forms : List ElementForm → ElementForms
-element_forms [] = no_groups
-element_forms (g ∷ gs) = group g (element_forms gs)
+use Rattle.semantics.specs.Syntax.{ExpressionForm, name, grouping, function, FunctionForm, over_all, over_filtered, OperandForm, expression, literal, PredicateForm, or_of, and_of, not_of, truth_test, compare, between, member, null_test, column, ElementForm, set, rollup, cube, sets, ItemForm, KeyForm, TreeForm, predicate_forms, element_forms}
 
 -- The units of a ROLLUP or a CUBE.
 abbrev pub units_form : List (Vec (List ℕ) Global) → List (List (List ℕ))

@@ -1,29 +1,6 @@
 //! Expressions, set functions and predicates, which hold one another: a FILTER is a predicate.
 
-use crate::predicate::Literal;
-use crate::text::Text;
-use values::{Op, Truth};
-
-/// A set function apart from its FILTER, ISO/IEC 9075-2 `<set function specification>`.
-///
-/// Example: `SUM(cents)` is `Sum` of the name `cents`.
-#[derive(Drop)]
-pub enum Aggregate {
-    /// `COUNT(*)`: the number of records.
-    CountRows,
-    /// `COUNT(x)`: the number of records in which x is not NULL.
-    Count(Text),
-    /// `COUNT(DISTINCT x)`: the number of different values of x that are not NULL.
-    CountDistinct(Text),
-    /// `SUM(x)`: the exact sum of x, NULL where each is NULL.
-    Sum(Text),
-    /// `MIN(x)`: the least x, NULL where each is NULL.
-    Min(Text),
-    /// `MAX(x)`: the greatest x, NULL where each is NULL.
-    Max(Text),
-    /// `AVG(x)`: the sum of x and how many are not NULL, as a pair; NULL where each is NULL.
-    Avg(Text),
-}
+use semantics::{Aggregate, Literal, Op, Text, Truth};
 
 /// A set function over all records of a group, or over those that its FILTER keeps,
 /// ISO/IEC 9075-2 `<aggregate function>`.

@@ -1,6 +1,6 @@
 //! The elements of GROUP BY.
 
-use crate::text::Text;
+use semantics::Text;
 
 /// An element of GROUP BY, ISO/IEC 9075-2 `<grouping element>`.
 ///

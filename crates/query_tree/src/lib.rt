@@ -3,12 +3,9 @@
 
 mod expression;
 mod group;
-mod predicate;
-mod text;
 mod tree;
 
-pub use expression::{Aggregate, Expression, Operand, Predicate, SetFunction};
+pub use expression::{Expression, Operand, Predicate, SetFunction};
 pub use group::GroupingElement;
-pub use predicate::Literal;
-pub use text::Text;
+pub use semantics::{Aggregate, Literal, Text};
 pub use tree::{Item, Key, Tree};

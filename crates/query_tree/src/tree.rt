@@ -2,7 +2,7 @@
 
 use crate::expression::{Expression, Predicate};
 use crate::group::GroupingElement;
-use crate::text::Text;
+use semantics::Text;
 
 /// An item of SELECT, ISO/IEC 9075-2 `<derived column>`.
 ///

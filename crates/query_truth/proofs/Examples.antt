@@ -1,14 +1,14 @@
 -- The definitions, computed on examples.
 use Rattle.std.proofs.Common.{◌≡◌, true, false, Some, List, [], ◌∷◌, map, pos, refl, codes}
-use Rattle.values.specs.declared.comparison.Op.TheVariants.{Eq, Gt}
-use Rattle.values.specs.declared.schema.Kind.TheVariants as kind
-use Rattle.values.specs.declared.truth.Truth.{Truth}
-use Rattle.values.specs.declared.truth.Truth.TheVariants.{True, Unknown, False}
-use Rattle.values.specs.Datum.{Datum, boolean, whole, null}
-use Rattle.values.specs.Schema.{Field}
-use Rattle.query_tree.specs.declared.predicate.Literal.TheVariants as constant
-use Rattle.query_tree.specs.Syntax.{OperandForm, PredicateForm, name, expression, literal, or_of, and_of, not_of, truth_test, compare, between, member, column, no_parts, part}
-use Rattle.query_truth.specs.Kept.{passes, where_truth}
+use Rattle.semantics.specs.declared.comparison.Op.TheVariants.{Eq, Gt}
+use Rattle.semantics.specs.declared.kind.Kind.TheVariants as kind
+use Rattle.semantics.specs.declared.truth.Truth.{Truth}
+use Rattle.semantics.specs.declared.truth.Truth.TheVariants.{True, Unknown, False}
+use Rattle.semantics.specs.Values.{Datum, boolean, whole, null}
+use Rattle.semantics.specs.Columns.{Field}
+use Rattle.semantics.specs.declared.literal.Literal.TheVariants as constant
+use Rattle.semantics.specs.Syntax.{OperandForm, PredicateForm, name, expression, literal, or_of, and_of, not_of, truth_test, compare, between, member, column, no_parts, part}
+use Rattle.semantics.specs.Conditions.{passes, where_truth}
 
 abbrev fields : List Field
 fields = record { name = codes "a"; kind = kind.Bool } ∷ record { name = codes "q"; kind = kind.Int } ∷ []

@@ -3,9 +3,9 @@ use Rattle.std.proofs.Common.{◌≡◌, ◌∙◌, ◌<◌, ◌≤◌, ℕ, zer
 use Rattle.std.specs.Prelude.{slice_get}
 use Rattle.std.specs.List.{list_all}
 use Rattle.std.proofs.lemmas.List.{at_drop_all, drop_more}
-use Rattle.values.specs.Datum.{Datum}
-use Rattle.values.specs.Schema.{Field}
-use Rattle.query_tree.specs.Syntax.{PredicateForm}
+use Rattle.semantics.specs.Values.{Datum}
+use Rattle.semantics.specs.Columns.{Field}
+use Rattle.semantics.specs.Syntax.{PredicateForm}
 use Rattle.query_truth.specs.declared.condition.Condition.{Condition}
 use Rattle.query_truth.specs.Meaning.{condition_truth, is_safe}
 use Rattle.query_truth.specs.Binding.{AreConditionsOf, GivesPredicate, IsConditionOf, IsSafeWhereTyped}

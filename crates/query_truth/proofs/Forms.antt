@@ -2,16 +2,18 @@
 use Rattle.std.proofs.Common.{◌≡◌, ◌∙◌, ℕ, Bool, ◌&&◌, List, map, sym, ap}
 use Rattle.std.specs.Global.{Vec}
 use Rattle.std.specs.List.{list_all}
-use Rattle.values.specs.declared.comparison.Op.{Op}
-use Rattle.values.specs.declared.truth.Truth.{Truth}
+use Rattle.semantics.specs.declared.comparison.Op.{Op}
+use Rattle.semantics.specs.declared.truth.Truth.{Truth}
 use Rattle.values.specs.declared.value.Value.{Value}
-use Rattle.values.specs.Datum.{Datum, datum_of}
+use Rattle.semantics.specs.Values.{Datum}
+use Rattle.values.specs.Datum.{datum_of}
 use Rattle.query_tree.specs.declared.expression.Predicate.{Predicate}
 use Rattle.query_tree.specs.declared.expression.Predicate.TheVariants as predicate
 use Rattle.query_tree.specs.declared.expression.Expression.TheOpen as predicate_layer
 use Rattle.query_tree.specs.declared.expression.Expression.TheFolds.{fold-roll-Predicate}
 use Rattle.query_tree.specs.declared.expression.Expression.TheViews.{roll-Predicate}
-use Rattle.query_tree.specs.Syntax.{ExpressionForm, FunctionForm, OperandForm, PredicateForm, and_of, column, expression_step, function_step, operand_step, or_of, predicate_form, predicate_forms, predicate_step}
+use Rattle.semantics.specs.Syntax.{ExpressionForm, FunctionForm, OperandForm, PredicateForm, and_of, column, or_of, predicate_forms}
+use Rattle.query_tree.specs.Syntax.{expression_step, function_step, operand_step, predicate_form, predicate_step}
 use Rattle.query_truth.specs.declared.condition.Source.{Source}
 use Rattle.query_truth.specs.declared.condition.Condition.{Condition}
 use Rattle.query_truth.specs.declared.condition.Condition.TheVariants as variant
@@ -19,7 +21,7 @@ use Rattle.query_truth.specs.declared.condition.Condition.TheOpen as layer
 use Rattle.query_truth.specs.declared.condition.Condition.TheViews.{roll-Condition}
 use Rattle.query_truth.specs.declared.condition.Condition.TheFolds.{fold-roll-Condition}
 use Rattle.query_truth.specs.Meaning.{comparable, condition_truth, is_safe, is_there, is_truth_value, safe_step, source_value, truth_step}
-use Rattle.query_truth.specs.Truth.{all_of, any_of}
+use Rattle.semantics.specs.Conditions.{all_of, any_of}
 
 at : {A : Type 0} (values : List Datum) {f g : List Datum → A} → f ≡ g → f values ≡ g values
 at values e = ap (λ h. h values) e

@@ -3,16 +3,16 @@ use Rattle.std.proofs.Common.{◌≡◌, ◌∙◌, ◌+◌, ◌<◌, ◌++◌, 
 use Rattle.std.proofs.lemmas.List.{append_assoc, drop_more, map-append}
 use Rattle.std.proofs.lemmas.List.Folds.{list_all-append}
 use Rattle.std.specs.List.{list_all}
-use Rattle.values.specs.declared.truth.Truth.{Truth}
-use Rattle.values.specs.Datum.{Datum}
-use Rattle.values.specs.Schema.{Field}
+use Rattle.semantics.specs.declared.truth.Truth.{Truth}
+use Rattle.semantics.specs.Values.{Datum}
+use Rattle.semantics.specs.Columns.{Field}
 use Rattle.query_tree.specs.declared.expression.Predicate.{Predicate}
-use Rattle.query_tree.specs.Syntax.{predicate_form, predicate_forms}
+use Rattle.query_tree.specs.Syntax.{predicate_form}
+use Rattle.semantics.specs.Syntax.{predicate_forms}
 use Rattle.query_check.specs.declared.scope.Clause.TheVariants as clause
 use Rattle.query_check.specs.Typing.{AreTypedParts}
 use Rattle.query_truth.specs.declared.condition.Condition.{Condition}
-use Rattle.query_truth.specs.Truth.{truths}
-use Rattle.query_truth.specs.Kept.{record_value}
+use Rattle.semantics.specs.Conditions.{truths, record_value}
 use Rattle.query_truth.specs.Meaning.{condition_truth, is_safe}
 use Rattle.query_truth.specs.Binding.{ForEachRecord, GivesPredicate, IsSafeWhereTyped}
 

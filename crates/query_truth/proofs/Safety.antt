@@ -9,22 +9,22 @@ use Rattle.std.specs.List.{AllByRecursion, list_all}
 use Rattle.std.specs.Option.{option_and_then, option_map}
 use Rattle.std.specs.Prelude.{slice_get, unwrap_or, All}
 use Rattle.std.specs.Str.{bytes_eq}
-use Rattle.values.specs.declared.schema.Kind.{Kind}
-use Rattle.values.specs.declared.schema.Kind.TheVariants as kind
-use Rattle.values.specs.Datum.{Datum, boolean, whole, text, null}
-use Rattle.values.specs.Fit.{Fits, Holds}
-use Rattle.values.specs.Schema.{Field, names_of}
-use Rattle.query_tree.specs.declared.predicate.Literal.{Literal}
-use Rattle.query_tree.specs.declared.predicate.Literal.TheVariants as constant
-use Rattle.query_tree.specs.Syntax.{OperandForm, name, grouping, function, over_all, over_filtered, expression, literal}
+use Rattle.semantics.specs.declared.kind.Kind.{Kind}
+use Rattle.semantics.specs.declared.kind.Kind.TheVariants as kind
+use Rattle.semantics.specs.Values.{Datum, boolean, whole, text, null}
+use Rattle.semantics.specs.Records.{Fits, Holds}
+use Rattle.semantics.specs.Columns.{Field, names_of}
+use Rattle.semantics.specs.declared.literal.Literal.{Literal}
+use Rattle.semantics.specs.declared.literal.Literal.TheVariants as constant
+use Rattle.semantics.specs.Syntax.{OperandForm, name, grouping, function, over_all, over_filtered, expression, literal}
 use Rattle.query_check.specs.declared.scope.Clause.TheVariants as clause
-use Rattle.query_resolution.specs.Columns.{column_kind, kind_at, place_of}
-use Rattle.query_check.specs.Typing.{IsOfOneKind, IsTypedOperand, literal_kind, operand_kind}
-use Rattle.query_truth.specs.Kept.{column_value, record_value}
+use Rattle.semantics.specs.Names.{column_kind, kind_at, place_of}
+use Rattle.query_check.specs.Typing.{IsOfOneKind, IsTypedOperand}
+use Rattle.semantics.specs.Types.{literal_kind, operand_kind}
+use Rattle.semantics.specs.Conditions.{column_value, record_value, literal_value, operand_value}
 use Rattle.query_truth.specs.declared.condition.Source.{Source}
 use Rattle.query_truth.specs.Binding.{GivesColumn, GivesOperand}
 use Rattle.query_truth.specs.Meaning.{comparable, is_truth_value, source_value}
-use Rattle.query_truth.specs.Truth.{literal_value, operand_value}
 
 -- whether a value is of a type, or NULL
 abbrev pub is_of : Kind → Datum → Bool

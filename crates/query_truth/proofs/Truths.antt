@@ -1,12 +1,12 @@
 -- Truth values of lists, and values that can be compared.
 use Rattle.std.proofs.Common.{◌≡◌, ◌∙◌, ◌+◌, ◌<◌, ℕ, Bool, true, false, List, [], ◌∷◌, drop, fold, get_or, length, refl, sym, ap, if◌then◌else◌}
 use Rattle.std.proofs.lemmas.List.{drop_more}
-use Rattle.values.specs.declared.truth.Truth.{Truth}
-use Rattle.values.specs.declared.truth.Truth.TheVariants.{True, Unknown, False}
-use Rattle.values.specs.Datum.{Datum, boolean, whole, text, null}
-use Rattle.values.specs.Truth.{conjunction, disjunction}
+use Rattle.semantics.specs.declared.truth.Truth.{Truth}
+use Rattle.semantics.specs.declared.truth.Truth.TheVariants.{True, Unknown, False}
+use Rattle.semantics.specs.Values.{Datum, boolean, whole, text, null}
+use Rattle.semantics.specs.Truth.{conjunction, disjunction}
 use Rattle.values.specs.Comparison.{AreComparable}
-use Rattle.query_truth.specs.Truth.{value_truth}
+use Rattle.semantics.specs.Conditions.{value_truth}
 use Rattle.query_truth.specs.Meaning.{comparable}
 
 -- True OR anything is True

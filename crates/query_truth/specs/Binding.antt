@@ -2,18 +2,17 @@
 -- crates alone speak of it.
 use Rattle.std.specs.Prelude.{◌≡◌, ℕ, ⊤, Bool, true, Option, Some, None, List, [], ◌∷◌, map}
 use Rattle.std.specs.List.{list_all}
-use Rattle.values.specs.declared.truth.Truth.{Truth}
-use Rattle.values.specs.declared.truth.Truth.TheVariants.{True}
-use Rattle.values.specs.Datum.{Datum}
-use Rattle.values.specs.Fit.{Fits}
-use Rattle.values.specs.Schema.{Field}
-use Rattle.query_tree.specs.Syntax.{OperandForm, PredicateForm, PredicateForms}
+use Rattle.semantics.specs.declared.truth.Truth.{Truth}
+use Rattle.semantics.specs.declared.truth.Truth.TheVariants.{True}
+use Rattle.semantics.specs.Values.{Datum}
+use Rattle.semantics.specs.Records.{Fits}
+use Rattle.semantics.specs.Columns.{Field}
+use Rattle.semantics.specs.Syntax.{OperandForm, PredicateForm, PredicateForms}
 use Rattle.query_check.specs.declared.scope.Clause.TheVariants as clause
 use Rattle.query_check.specs.Typing.{IsTypedOperand, IsTypedPredicate, AreTypedParts, IsTypedClause}
 use Rattle.query_truth.specs.declared.condition.Source.{Source}
 use Rattle.query_truth.specs.declared.condition.Condition.{Condition}
-use Rattle.query_truth.specs.Truth.{operand_value, truth, truths}
-use Rattle.query_truth.specs.Kept.{column_value, record_value, where_truth}
+use Rattle.semantics.specs.Conditions.{operand_value, truth, truths, column_value, record_value, where_truth}
 use Rattle.query_truth.specs.Meaning.{condition_truth, is_safe, is_there, source_value}
 
 -- for each record that fits the columns

@@ -1,4 +1,2 @@
-pub mod Truth
-pub mod Kept
 pub mod Meaning
 pub mod Binding

@@ -2,11 +2,11 @@
 -- alone speak of it: what a predicate is worth is said in Truth.
 use Rattle.std.specs.Prelude.{Bool, true, ◌&&◌, List, map, length, nat_lt, slice_get, unwrap_or}
 use Rattle.std.specs.List.{list_all}
-use Rattle.values.specs.declared.truth.Truth.{Truth}
-use Rattle.values.specs.Datum.{Datum, datum_of, boolean, whole, text, null}
-use Rattle.values.specs.Truth.{negation}
-use Rattle.values.specs.Comparison.{comparison}
-use Rattle.query_truth.specs.Truth.{any_of, all_of, marked, test_truth, between_truth, member_truth, null_truth, value_truth}
+use Rattle.semantics.specs.declared.truth.Truth.{Truth}
+use Rattle.semantics.specs.Values.{Datum, boolean, whole, text, null, comparison}
+use Rattle.values.specs.Datum.{datum_of}
+use Rattle.semantics.specs.Truth.{negation}
+use Rattle.semantics.specs.Conditions.{any_of, all_of, marked, test_truth, between_truth, member_truth, null_truth, value_truth}
 use Rattle.query_truth.specs.declared.condition.Source.{Source}
 use Rattle.query_truth.specs.declared.condition.Source.TheVariants as source
 use Rattle.query_truth.specs.declared.condition.Condition.{Condition}

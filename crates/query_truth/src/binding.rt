@@ -3,9 +3,10 @@
 ghost use Rattle.std.specs.Prelude.{◌≡◌, map, true, IfOk};
 ghost use Rattle.values.specs.Datum.{datum_of};
 ghost use Rattle.values.specs.Schema.{fields_of};
-ghost use Rattle.query_tree.specs.Syntax.{between, column, compare, member, null_test, operand_form, predicate_form, predicate_forms};
+ghost use Rattle.semantics.specs.Syntax.{between, column, compare, member, null_test, predicate_forms};
+ghost use Rattle.query_tree.specs.Syntax.{operand_form, predicate_form};
 ghost use Rattle.query_check.specs.Typing.{IsColumn};
-ghost use Rattle.query_truth.specs.Truth.{literal_value};
+ghost use Rattle.semantics.specs.Conditions.{literal_value};
 ghost use Rattle.query_truth.specs.Meaning.{is_there};
 ghost use Rattle.query_truth.specs.Binding.{AreSafeWhereTyped, ForEachRecord, GivesColumn, GivesOperand, GivesParts, GivesPredicate, IsSafeWhereTyped, IsThereWhereTyped};
 

@@ -3,7 +3,7 @@
 ghost use Rattle.std.specs.Prelude.{◌≡◌, map, true};
 ghost use Rattle.std.specs.List.{list_all};
 ghost use Rattle.values.specs.Datum.{data_of, datum_of};
-ghost use Rattle.query_truth.specs.Truth.{all_of, any_of, between_truth, marked, member_truth, null_truth, value_truth};
+ghost use Rattle.semantics.specs.Conditions.{all_of, any_of, between_truth, marked, member_truth, null_truth, value_truth};
 ghost use Rattle.query_truth.specs.Meaning.{comparable, condition_truth, is_safe, is_there, is_truth_value, source_value};
 
 use values::{Op, Truth, Value, compare};

@@ -2,13 +2,13 @@
 
 ghost use Rattle.std.specs.Prelude.{◌≡◌, ◌<◌, length, map, slice_get, true, IfOk, OnOk, Some};
 ghost use Rattle.std.specs.List.{list_all};
-ghost use Rattle.values.specs.declared.truth.Truth.TheVariants.{True};
+ghost use Rattle.semantics.specs.declared.truth.Truth.TheVariants.{True};
 ghost use Rattle.values.specs.Datum.{data_of};
 ghost use Rattle.values.specs.Schema.{fields_of};
 ghost use Rattle.query_resolution.specs.Planning.{filter_forms};
 ghost use Rattle.query_truth.specs.Binding.{AreConditionsOf};
 ghost use Rattle.query_truth.specs.Meaning.{condition_truth, is_safe};
-ghost use Rattle.query_truth.specs.Truth.{same_truth};
+ghost use Rattle.semantics.specs.Conditions.{same_truth};
 
 use crate::binding::bind;
 use crate::condition::Condition;

@@ -3,24 +3,22 @@ use Rattle.std.proofs.Common.{◌≡◌, ◌+◌, ◌*◌, ◌^◌, ℕ, pos, ne
 use Rattle.std.specs.declared.cmp.Ordering.TheVariants.{Greater}
 use Rattle.std.specs.Fmt.{digits}
 use Rattle.csv.specs.Writing.{fields_text, is_blank}
-use Rattle.values.specs.Datum.{Datum, boolean, whole, text, null}
-use Rattle.values.specs.Schema.{Field}
-use Rattle.values.specs.declared.schema.Kind.TheVariants as kind
-use Rattle.lines.specs.declared.fault.LineFault.TheVariants.{NoJson, BadValue}
-use Rattle.values.specs.declared.comparison.Op.TheVariants.{Eq, Gt}
-use Rattle.values.specs.declared.truth.Truth.TheVariants.{Unknown}
-use Rattle.query_tree.specs.declared.expression.Aggregate.TheVariants as aggregate
-use Rattle.query_tree.specs.declared.predicate.Literal.TheVariants as constant
-use Rattle.query_tree.specs.Syntax.{KeyForm, PredicateForm, TreeForm, name, grouping, function, over_all, rollup, expression, literal, or_of, not_of, compare, null_test, no_parts, part}
-use Rattle.groups.specs.Functions.{Summary, plain, ratio}
-use Rattle.groups.specs.Found.{Found}
-use Rattle.rows.specs.Having.{having_truth, rows_having_true}
+use Rattle.semantics.specs.Values.{Datum, boolean, whole, text, null}
+use Rattle.semantics.specs.Columns.{Field}
+use Rattle.semantics.specs.declared.kind.Kind.TheVariants as kind
+use Rattle.semantics.specs.declared.line_fault.LineFault.TheVariants.{NoJson, BadValue}
+use Rattle.semantics.specs.declared.comparison.Op.TheVariants.{Eq, Gt}
+use Rattle.semantics.specs.declared.truth.Truth.TheVariants.{Unknown}
+use Rattle.semantics.specs.declared.aggregate.Aggregate.TheVariants as aggregate
+use Rattle.semantics.specs.declared.literal.Literal.TheVariants as constant
+use Rattle.semantics.specs.Syntax.{KeyForm, PredicateForm, TreeForm, name, grouping, function, over_all, rollup, expression, literal, or_of, not_of, compare, null_test, no_parts, part}
+use Rattle.semantics.specs.Aggregates.{Summary, plain, ratio}
+use Rattle.semantics.specs.Found.{Found}
+use Rattle.semantics.specs.Rows.{having_truth, rows_having_true, number_of_digits}
 use Rattle.rows.specs.Inside.Fronts.{behind_of, front_of, with_digits}
-use Rattle.rows.specs.Order.{arranged, under_key}
-use Rattle.rows.specs.Order.{rows_shown}
+use Rattle.semantics.specs.Order.{arranged, under_key, rows_shown}
 use Rattle.report.specs.Report.{refusals_of, report_of}
-use Rattle.rows.specs.Shown.{number_of_digits}
-use Rattle.report.specs.Text.{cell_field, marked, report_bytes}
+use Rattle.semantics.specs.Texts.{cell_field, marked, report_bytes}
 
 six-is-110 : number_of_digits (false ∷ true ∷ true ∷ []) ≡ 6
 six-is-110 = refl

@@ -2,14 +2,14 @@
 use Rattle.std.proofs.Common.{◌≡◌, ◌∙◌, ◌<◌, Bor, ℕ, List, [], ◌∷◌, length, map, refl, ap, sym, subst, arith, All}
 use Rattle.std.specs.Global.{Vec}
 use Rattle.std.proofs.lemmas.List.Elements.{All-tail}
-use Rattle.query_resolution.specs.Sets.{sets_of}
+use Rattle.semantics.specs.Sets.{sets_of}
 use Rattle.query_plan.specs.Planned.{PlannedQuery}
 use Rattle.groups.specs.declared.group.Group.{Group}
-use Rattle.groups.specs.Found.{Found, row_of}
+use Rattle.semantics.specs.Found.{Found}
+use Rattle.groups.specs.Found.{row_of}
 use Rattle.rows.specs.declared.source.Source.{Source}
-use Rattle.rows.specs.Order.{arranged}
-use Rattle.rows.specs.Order.{rows_shown}
-use Rattle.rows.specs.Shown.{row_shown}
+use Rattle.semantics.specs.Order.{arranged, rows_shown}
+use Rattle.semantics.specs.Rows.{row_shown}
 use Rattle.rows.specs.Planned.{HasSetUnder}
 use Rattle.rows.specs.Sources.{AreSourcesOfEach, cells_at}
 use Rattle.rows.proofs.Maps.{map-twice}

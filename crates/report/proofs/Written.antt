@@ -5,15 +5,16 @@ use Rattle.std.specs.List.{flat_map}
 use Rattle.std.proofs.lemmas.List.{append-nil, flat_map_more, map-append}
 use Rattle.std.proofs.lemmas.List.Concat.{flat_map-append}
 use Rattle.csv.specs.Writing.{row_text, default_writer}
-use Rattle.query_tree.specs.Syntax.{ItemForm}
-use Rattle.query_print.specs.Canonical.{header_text}
-use Rattle.groups.specs.Functions.{Summary}
+use Rattle.semantics.specs.Syntax.{ItemForm}
+use Rattle.semantics.specs.Canonical.{header_text}
+use Rattle.semantics.specs.Aggregates.{Summary}
 use Rattle.std.specs.Global.{Vec}
 use Rattle.std.specs.declared.alloc.AllocError.{AllocError}
 use Rattle.std.specs.declared.result.Result.{Result}
 use Rattle.rows.specs.Parts.{AreMade, items_of}
 use Rattle.rows.proofs.InParts.{parts-joined}
-use Rattle.report.specs.Text.{cell_field, report_bytes, rows_bytes}
+use Rattle.semantics.specs.Texts.{cell_field, report_bytes}
+use Rattle.report.specs.Text.{rows_bytes}
 use Rattle.report.specs.Inside.Parts.{AreTextsOf, IsTextOf}
 
 -- one more row behind those that were written

@@ -1,12 +1,12 @@
--- The report of a query on the groups that its grouping sets find, and the list of refused lines.
+-- The report of a query on the groups that its grouping sets find, the list of refused lines, and which faults name a column.
 use Rattle.std.specs.Prelude.{◌<◌, ℕ, ⊤, List, length}
-use Rattle.values.specs.Schema.{Field}
-use Rattle.lines.specs.declared.fault.LineFault.{LineFault}
-use Rattle.lines.specs.declared.fault.LineFault.TheVariants.{TooLong, NoJson, NoObject, BadValue}
-use Rattle.query_tree.specs.Syntax.{TreeForm}
-use Rattle.groups.specs.Found.{Found}
-use Rattle.rows.specs.Order.{rows_shown}
-use Rattle.report.specs.Text.{report_bytes, refused_bytes}
+use Rattle.semantics.specs.Columns.{Field}
+use Rattle.semantics.specs.declared.line_fault.LineFault.{LineFault}
+use Rattle.semantics.specs.declared.line_fault.LineFault.TheVariants.{TooLong, NoJson, NoObject, BadValue}
+use Rattle.semantics.specs.Syntax.{TreeForm}
+use Rattle.semantics.specs.Found.{Found}
+use Rattle.semantics.specs.Order.{rows_shown}
+use Rattle.semantics.specs.Texts.{report_bytes, refused_bytes}
 
 -- the bytes of the report
 abbrev pub report_of : List Field → TreeForm → List Found → List ℕ

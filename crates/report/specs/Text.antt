@@ -1,61 +1,12 @@
--- The bytes of a report, and of the list of refused lines.
-use Rattle.std.specs.Prelude.{ℕ, ◌==◌, true, false, List, [], ◌∷◌, ◌++◌, map, codes, decimal, if◌then◌else◌}
-use Rattle.std.specs.Fmt.{signed_decimal}
+-- The bytes of rows.
+use Rattle.std.specs.Prelude.{ℕ, List, map}
 use Rattle.std.specs.List.{flat_map}
 use Rattle.csv.specs.Writing.{row_text, default_writer}
-use Rattle.values.specs.Datum.{Datum, boolean, whole, text, null}
-use Rattle.values.specs.Schema.{Field}
-use Rattle.lines.specs.declared.fault.LineFault.{LineFault}
-use Rattle.lines.specs.declared.fault.LineFault.TheVariants.{TooLong, NoJson, NoObject, BadValue}
-use Rattle.query_tree.specs.Syntax.{ItemForm}
-use Rattle.query_print.specs.Canonical.{header_text, name_at}
-use Rattle.groups.specs.Functions.{Summary, plain, ratio}
+use Rattle.semantics.specs.Aggregates.{Summary}
+use Rattle.semantics.specs.Texts.{cell_field}
 
 -- ---- the report
-
--- a text that begins with a backslash has one more in front, so that none is the sign of NULL
-abbrev pub marked : List ℕ → List ℕ
-marked [] = []
-marked (b ∷ bs) = if b == 92 then 92 ∷ b ∷ bs else b ∷ bs
-
--- a value as a field
-abbrev pub value_field : Datum → List ℕ
-value_field (boolean true) = codes "true"
-value_field (boolean false) = codes "false"
-value_field (whole n) = signed_decimal n
-value_field (text s) = marked s
-value_field null = codes "\\N"
-
--- a cell as a field; an average is its sum and its count
-abbrev pub cell_field : Summary → List ℕ
-cell_field (plain d) = value_field d
-cell_field (ratio sum count) = signed_decimal sum ++ codes "/" ++ decimal count
-
--- the rows of the fields of a report: the header of each item, and then each row
-abbrev pub report_fields : List ItemForm → List (List Summary) → List (List (List ℕ))
-report_fields items rows = map header_text items ∷ map (map cell_field) rows
 
 -- the bytes of rows: each as CSV, with commas, line feeds, and quotes where they are needed
 abbrev pub rows_bytes : List (List Summary) → List ℕ
 rows_bytes rows = flat_map (row_text default_writer) (map (map cell_field) rows)
-
--- the bytes of a report: each row as CSV, with commas, line feeds, and quotes where they are needed
-abbrev pub report_bytes : List ItemForm → List (List Summary) → List ℕ
-report_bytes items rows = flat_map (row_text default_writer) (report_fields items rows)
-
--- ---- the refused lines
-
--- what is wrong with a line
-abbrev pub fault_text : List Field → LineFault → List ℕ
-fault_text fields TooLong = codes "too long"
-fault_text fields NoJson = codes "not JSON"
-fault_text fields NoObject = codes "not an object"
-fault_text fields (BadValue place) = codes "bad value in column " ++ name_at fields place
-
--- a refused line: its number, and what is wrong with it
-abbrev pub refused_line : List Field → ℕ × LineFault → List ℕ
-refused_line fields refused = codes "line " ++ decimal refused.0 ++ codes ": " ++ fault_text fields refused.1 ++ codes "\n"
-
--- the bytes of the list of refused lines
-abbrev pub refused_bytes : List Field → List (ℕ × LineFault) → List ℕ
-refused_bytes fields refused = flat_map (refused_line fields) refused

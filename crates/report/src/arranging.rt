@@ -1,7 +1,7 @@
 //! The rows of a report on the groups of an input.
 ghost use Rattle.std.specs.Prelude.{◌≡◌, All, IfOk, length, map};
 ghost use Rattle.tables.specs.Planned.{AreFittingUnder};
-ghost use Rattle.rows.specs.Order.{rows_shown};
+ghost use Rattle.semantics.specs.Order.{rows_shown};
 ghost use Rattle.rows.specs.Shown.{cells_of};
 
 use query_plan::Plan;

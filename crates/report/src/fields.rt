@@ -5,7 +5,7 @@ ghost use Rattle.values.specs.Datum.{data_of, datum_of};
 ghost use Rattle.groups.specs.Cells.{summary_of};
 ghost use Rattle.csv.specs.Records.{fields_of, partial_of};
 ghost use Rattle.rows.specs.Sources.{shown_at};
-ghost use Rattle.report.specs.Text.{cell_field, marked, value_field};
+ghost use Rattle.semantics.specs.Texts.{cell_field, marked, value_field};
 
 use csv::ByteRecord;
 use groups::{Cell, Group};

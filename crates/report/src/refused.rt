@@ -1,8 +1,8 @@
 //! The list of refused lines.
 ghost use Rattle.std.specs.Prelude.{◌≡◌, ◌<◌, ◌++◌, All, IfOk, OnOk, codes, decimal, length};
-ghost use Rattle.query_print.specs.Canonical.{name_at};
+ghost use Rattle.semantics.specs.Canonical.{name_at};
 ghost use Rattle.report.specs.Report.{NamesColumn, refusals_of};
-ghost use Rattle.report.specs.Text.{fault_text, refused_line};
+ghost use Rattle.semantics.specs.Texts.{fault_text, refused_line};
 
 use itoa::Buffer;
 use lines::LineFault;

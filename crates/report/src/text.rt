@@ -4,7 +4,7 @@ ghost use Rattle.std.specs.Io.KnownBytes.{Appends};
 ghost use Rattle.csv.specs.Records.{fields_of};
 ghost use Rattle.csv.specs.Writing.{row_text, default_writer, text_written};
 ghost use Rattle.values.specs.Datum.{data_of};
-ghost use Rattle.query_print.specs.Canonical.{header_text};
+ghost use Rattle.semantics.specs.Canonical.{header_text};
 ghost use Rattle.groups.specs.Cells.{summary_of};
 ghost use Rattle.groups.specs.Found.{row_of};
 ghost use Rattle.tables.specs.Planned.{AreFittingUnder};
@@ -12,7 +12,8 @@ ghost use Rattle.report.specs.Inside.Between.{IsBetweenRows};
 ghost use Rattle.rows.specs.Sources.{cells_at, shown_at};
 ghost use Rattle.report.specs.Report.{report_of};
 ghost use Rattle.rows.specs.Shown.{cells_of};
-ghost use Rattle.report.specs.Text.{cell_field, report_bytes, rows_bytes};
+ghost use Rattle.semantics.specs.Texts.{cell_field, report_bytes};
+ghost use Rattle.report.specs.Text.{rows_bytes};
 
 use crate::fields::{write_cells, write_group};
 use csv::{ByteRecord, Writer, WriterBuilder};

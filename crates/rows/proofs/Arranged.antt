@@ -2,14 +2,15 @@
 use Rattle.std.proofs.Common.{◌≡◌, ◌<◌, ◌∙◌, Bor, List, ℕ, length, map, sym, ap, subst, All}
 use Rattle.std.specs.List.{AllByRecursion}
 use Rattle.std.proofs.lemmas.List.Elements.{All-from_recursion}
-use Rattle.query_resolution.specs.Sets.{sets_of}
+use Rattle.semantics.specs.Sets.{sets_of}
 use Rattle.query_plan.specs.Planned.{PlannedQuery}
 use Rattle.groups.specs.declared.group.Group.{Group}
 use Rattle.groups.specs.Fitting.{AreFitting}
-use Rattle.groups.specs.Found.{Found, row_of}
-use Rattle.rows.specs.Having.{rows_having_true}
+use Rattle.semantics.specs.Found.{Found}
+use Rattle.groups.specs.Found.{row_of}
+use Rattle.semantics.specs.Rows.{rows_having_true}
 use Rattle.rows.specs.Planned.{HasSetUnder}
-use Rattle.rows.specs.Order.{arranged, before, in_order}
+use Rattle.semantics.specs.Order.{arranged, before, in_order}
 use Rattle.rows.proofs.Filtering.{fit-having_true}
 use Rattle.rows.proofs.Keeping.{within-having_true}
 use Rattle.rows.proofs.Maps.{all-of-map}

@@ -4,15 +4,15 @@ use Rattle.std.specs.Prelude.{filter}
 use Rattle.std.specs.List.{AllZip}
 use Rattle.std.proofs.lemmas.List.Elements.{All-filter}
 use Rattle.std.proofs.lemmas.List.Kept.{AllPairs-filter}
-use Rattle.values.specs.Schema.{Field}
-use Rattle.query_tree.specs.Syntax.{TreeForm}
-use Rattle.query_resolution.specs.Columns.{kind_at}
-use Rattle.query_resolution.specs.Functions.{functions_of}
-use Rattle.query_resolution.specs.Sets.{sets_of}
+use Rattle.semantics.specs.Columns.{Field}
+use Rattle.semantics.specs.Syntax.{TreeForm}
+use Rattle.semantics.specs.Names.{kind_at}
+use Rattle.semantics.specs.SetFunctions.{functions_of}
+use Rattle.semantics.specs.Sets.{sets_of}
 use Rattle.groups.specs.Bags.{SameBag, weigh}
-use Rattle.groups.specs.Fitting.{AreFitting, HasType, IsHeld, set_of}
-use Rattle.groups.specs.Found.{Found}
-use Rattle.rows.specs.Having.{is_having_true, rows_having_true}
+use Rattle.groups.specs.Fitting.{AreFitting, HasType, IsHeld}
+use Rattle.semantics.specs.Found.{set_of, Found}
+use Rattle.semantics.specs.Rows.{is_having_true, rows_having_true}
 
 pub fit-having_true : (fields : List Field) (t : TreeForm) (found : List Found) → AreFitting fields t found → AreFitting fields t (rows_having_true fields t found)
 fit-having_true fields t found fit =

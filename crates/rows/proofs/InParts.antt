@@ -10,7 +10,7 @@ use Rattle.std.proofs.lemmas.Bool.{cases_eq}
 use Rattle.std.proofs.lemmas.Nat.{div-add-mod'}
 use Rattle.std.proofs.lemmas.List.{drop-drop, length-drop, map-append, take-append-drop}
 use Rattle.std.proofs.lemmas.List.Sorted.{IsPermutation-append, IsPermutation-refl}
-use Rattle.groups.specs.Found.{Found}
+use Rattle.semantics.specs.Found.{Found}
 use Rattle.rows.specs.Parts.{AreMade, AreOfParts, items_of}
 use Rattle.rows.specs.Inside.Ranked.{AreRanked, AreRankedParts, Ranked, ranked_in}
 use Rattle.rows.specs.declared.ranked.RankedRow.{RankedRow}

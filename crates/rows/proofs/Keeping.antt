@@ -6,20 +6,21 @@ use Rattle.std.specs.Coded.{Coded-set, coded_bool}
 use Rattle.std.specs.List.{AllByRecursion, AllZip}
 use Rattle.std.proofs.lemmas.List.{get_or-map, length-map}
 use Rattle.std.proofs.lemmas.List.Elements.{All-from_recursion, recursion_from_All}
-use Rattle.values.specs.Schema.{Field}
-use Rattle.query_tree.specs.Syntax.{PredicateForm, TreeForm}
+use Rattle.semantics.specs.Columns.{Field}
+use Rattle.semantics.specs.Syntax.{PredicateForm, TreeForm}
 use Rattle.query_check.specs.declared.scope.Clause.TheVariants as clause
-use Rattle.query_resolution.specs.Columns.{kind_at}
+use Rattle.semantics.specs.Names.{kind_at}
 use Rattle.query_check.specs.Inside.FirstFaults.{query_fault}
-use Rattle.query_resolution.specs.Functions.{functions_of}
-use Rattle.query_resolution.specs.Sets.{grouping_places, sets_of}
+use Rattle.semantics.specs.SetFunctions.{functions_of}
+use Rattle.semantics.specs.Sets.{grouping_places, sets_of}
 use Rattle.query_check.specs.Typing.{IsTyped, IsTypedClause, IsTypedPredicate}
 use Rattle.query_check.proofs.WholeLemmas.{none_from_typed, typed_from_none}
 use Rattle.groups.specs.declared.group.Group.{Group}
-use Rattle.groups.specs.Fitting.{AreFitting, HasType, IsHeld, set_of}
-use Rattle.groups.specs.Found.{Found, row_of}
-use Rattle.rows.specs.Having.{is_having_true, rows_having_true}
-use Rattle.rows.specs.Order.{arranged, before}
+use Rattle.groups.specs.Fitting.{AreFitting, HasType, IsHeld}
+use Rattle.semantics.specs.Found.{set_of, Found}
+use Rattle.groups.specs.Found.{row_of}
+use Rattle.semantics.specs.Rows.{is_having_true, rows_having_true}
+use Rattle.semantics.specs.Order.{arranged, before}
 use Rattle.rows.proofs.Filtering.{fit-having_true}
 use Rattle.rows.proofs.Sorting.{all-in_order}
 

@@ -9,15 +9,15 @@ use Rattle.std.specs.declared.cmp.Ordering.{Ordering}
 use Rattle.std.specs.declared.cmp.Ordering.TheVariants.{Less, Equal, Greater}
 use Rattle.std.specs.Ordering.{nat_cmp, ordering_then}
 use Rattle.std.specs.Cmp.Lexicographic.{slice_cmp}
-use Rattle.values.specs.Datum.{Datum, boolean, whole, text, null, datum_of, data_of}
-use Rattle.values.specs.Order.{value_order}
+use Rattle.semantics.specs.Values.{Datum, boolean, whole, text, null, value_order}
+use Rattle.values.specs.Datum.{datum_of, data_of}
 use Rattle.values.specs.declared.value.Value.{Value}
 use Rattle.values.specs.declared.value.Value.TheVariants as v
 use Rattle.values.specs.contracts.value.ValueOrd.TheImpl.{cmp-value}
 use Rattle.query_tree.specs.Syntax.{key_form}
 use Rattle.query_tree.specs.declared.tree.Key.{Key}
-use Rattle.groups.specs.Groups.{key_order}
-use Rattle.rows.specs.Order.{under_key}
+use Rattle.semantics.specs.Groups.{key_order}
+use Rattle.semantics.specs.Order.{under_key}
 use Rattle.rows.specs.Inside.Fronts.{AreBytes, IsOfBytes, behind_of, first_text, front_of, text_order, with_digits}
 use Rattle.rows.specs.Inside.Ranked.{under_values}
 

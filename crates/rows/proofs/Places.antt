@@ -6,11 +6,10 @@ use Rattle.std.specs.Cmp.Lexicographic.{slice_cmp}
 use Rattle.std.specs.List.{AllByRecursion, position_or_len}
 use Rattle.std.specs.Option.{option_map_or}
 use Rattle.std.proofs.lemmas.Bool.Decides.{nat_tests}
-use Rattle.values.specs.Datum.{Datum, null}
-use Rattle.values.specs.Order.{value_order}
-use Rattle.query_resolution.specs.Columns.{distinct}
-use Rattle.groups.specs.Groups.{Key}
-use Rattle.rows.specs.Shown.{value_in}
+use Rattle.semantics.specs.Values.{Datum, null, value_order}
+use Rattle.semantics.specs.Names.{distinct}
+use Rattle.semantics.specs.Groups.{Key}
+use Rattle.semantics.specs.Rows.{value_in}
 
 -- ---- lists of places without repeats
 

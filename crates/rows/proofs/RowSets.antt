@@ -2,13 +2,13 @@
 use Rattle.std.proofs.Common.{◌≡◌, ◌∙◌, ◌<◌, ℕ, Bor, List, [], length, get_or, ap, subst, sym, arith, All}
 use Rattle.std.specs.Global.{Vec}
 use Rattle.std.proofs.lemmas.List.{get_or-map, length-map}
-use Rattle.values.specs.Schema.{Field}
-use Rattle.query_tree.specs.Syntax.{TreeForm}
+use Rattle.semantics.specs.Columns.{Field}
+use Rattle.semantics.specs.Syntax.{TreeForm}
 use Rattle.query_resolution.specs.Resolution.{contents}
-use Rattle.query_resolution.specs.Sets.{sets_of}
-use Rattle.groups.specs.Fitting.{set_of}
+use Rattle.semantics.specs.Sets.{sets_of}
+use Rattle.semantics.specs.Found.{set_of, Found}
 use Rattle.groups.specs.declared.group.Group.{Group}
-use Rattle.groups.specs.Found.{Found, row_of}
+use Rattle.groups.specs.Found.{row_of}
 
 -- the set at the index of a row is that of the row
 pub set-of-row : (fields : List Field) (t : TreeForm) (row : Found) (sets : List (Vec ℕ)) (set : Vec ℕ)

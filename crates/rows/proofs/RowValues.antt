@@ -7,37 +7,39 @@ use Rattle.std.specs.Global.{Vec}
 use Rattle.std.specs.List.{AllByRecursion, AllZip, list_all}
 use Rattle.std.specs.Option.{option_and_then, option_map, option_map_or}
 use Rattle.std.specs.Prelude.{slice_get, unwrap_or}
-use Rattle.values.specs.declared.schema.Kind.{Kind}
-use Rattle.values.specs.declared.schema.Kind.TheVariants as kind
+use Rattle.semantics.specs.declared.kind.Kind.{Kind}
+use Rattle.semantics.specs.declared.kind.Kind.TheVariants as kind
 use Rattle.values.specs.Comparison.{AreComparable}
-use Rattle.values.specs.Datum.{Datum, boolean, whole, text, null}
-use Rattle.values.specs.Schema.{Field}
-use Rattle.query_tree.specs.declared.expression.Aggregate.{Aggregate}
-use Rattle.query_tree.specs.declared.expression.Aggregate.TheVariants as aggregate
-use Rattle.query_tree.specs.declared.predicate.Literal.{Literal}
+use Rattle.semantics.specs.Values.{Datum, boolean, whole, text, null}
+use Rattle.semantics.specs.Columns.{Field}
+use Rattle.semantics.specs.declared.aggregate.Aggregate.{Aggregate}
+use Rattle.semantics.specs.declared.aggregate.Aggregate.TheVariants as aggregate
+use Rattle.semantics.specs.declared.literal.Literal.{Literal}
 use Rattle.query_tree.specs.declared.expression.Operand.{Operand}
 use Rattle.query_tree.specs.declared.expression.Predicate.TheVariants as predicate
 use Rattle.query_tree.specs.declared.expression.Expression.TheOpen as layer
 use Rattle.query_tree.specs.declared.expression.Expression.TheFolds.{fold-roll-Predicate}
 use Rattle.query_tree.specs.declared.expression.Expression.TheViews.{roll-Predicate}
-use Rattle.query_tree.specs.Syntax.{ExpressionForm, FunctionForm, OperandForm, PredicateForm, TreeForm, column, expression_step, function_step, member, operand_form, operand_step, predicate_form, predicate_step, name, grouping, function, over_all, over_filtered, expression, literal}
-use Rattle.query_resolution.specs.declared.function.ColumnFunction.{ColumnFunction}
-use Rattle.query_resolution.specs.declared.function.ColumnFunction.TheVariants as at
+use Rattle.semantics.specs.Syntax.{ExpressionForm, FunctionForm, OperandForm, PredicateForm, TreeForm, column, member, name, grouping, function, over_all, over_filtered, expression, literal}
+use Rattle.query_tree.specs.Syntax.{expression_step, function_step, operand_form, operand_step, predicate_form, predicate_step}
+use Rattle.semantics.specs.declared.function.ColumnFunction.{ColumnFunction}
+use Rattle.semantics.specs.declared.function.ColumnFunction.TheVariants as at
 use Rattle.query_check.specs.declared.scope.Clause.TheVariants as clause
-use Rattle.query_resolution.specs.Columns.{column_kind, kind_at, place_of}
-use Rattle.query_resolution.specs.Functions.{PlannedFunction, column_function, functions_of, same_function, same_planned}
-use Rattle.query_resolution.specs.Sets.{sets_of}
-use Rattle.query_check.specs.Typing.{IsOfOneKind, IsTypedExpression, IsTypedOperand, IsTypedPredicate, aggregate_kind, expression_kind, literal_kind, may_stand, operand_kind}
+use Rattle.semantics.specs.Names.{column_kind, kind_at, place_of, PlannedFunction, column_function}
+use Rattle.semantics.specs.SetFunctions.{functions_of}
+use Rattle.semantics.specs.Inside.Same.{same_function, same_planned}
+use Rattle.semantics.specs.Sets.{sets_of}
+use Rattle.query_check.specs.Typing.{IsOfOneKind, IsTypedExpression, IsTypedOperand, IsTypedPredicate, may_stand}
+use Rattle.semantics.specs.Types.{aggregate_kind, expression_kind, literal_kind, operand_kind}
 use Rattle.query_truth.specs.Meaning.{comparable, is_truth_value}
-use Rattle.query_truth.specs.Truth.{literal_value, operand_value}
+use Rattle.semantics.specs.Conditions.{literal_value, operand_value}
 use Rattle.query_truth.proofs.Safety.{both-true, cases, comparable-of, is_of, is_of-held, is_of-literal, truth-of}
 use Rattle.query_truth.proofs.Truths.{comparable-is}
-use Rattle.groups.specs.Functions.{Summary, plain, ratio}
-use Rattle.groups.specs.Groups.{Key}
-use Rattle.groups.specs.Fitting.{AreFitting, HasType, IsHeld, set_of}
-use Rattle.groups.specs.Found.{Found}
-use Rattle.rows.specs.Having.{cell_value, row_value}
-use Rattle.rows.specs.Shown.{grouping_number, grouping_shown, name_shown, value_in}
+use Rattle.semantics.specs.Aggregates.{Summary, plain, ratio}
+use Rattle.semantics.specs.Groups.{Key}
+use Rattle.groups.specs.Fitting.{AreFitting, HasType, IsHeld}
+use Rattle.semantics.specs.Found.{set_of, Found}
+use Rattle.semantics.specs.Rows.{cell_value, row_value, grouping_number, grouping_shown, name_shown, value_in}
 use Rattle.rows.proofs.Places.{value_in-first, value_in-missing, value_in-other}
 
 -- the index of a row that fits is that of a grouping set

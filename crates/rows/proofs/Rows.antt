@@ -11,22 +11,23 @@ use Rattle.std.proofs.lemmas.List.{get_or-map, length-map}
 use Rattle.std.proofs.lemmas.List.Elements.{All-from_recursion, recursion_from_All}
 use Rattle.std.proofs.lemmas.List.Sorted.{All-permutation, IsPermutation-map}
 use Rattle.std.proofs.lemmas.Map.Lookups.{exact_unsigned}
-use Rattle.values.specs.Datum.{Datum, null}
-use Rattle.values.specs.Order.{value_order}
-use Rattle.values.specs.Schema.{Field}
-use Rattle.query_tree.specs.Syntax.{KeyForm, TreeForm}
-use Rattle.query_resolution.specs.Columns.{places_of}
-use Rattle.query_resolution.specs.Sets.{grouping_names, grouping_places, sets_of}
+use Rattle.semantics.specs.Values.{Datum, null, value_order}
+use Rattle.semantics.specs.Columns.{Field}
+use Rattle.semantics.specs.Syntax.{KeyForm, TreeForm}
+use Rattle.semantics.specs.Names.{places_of}
+use Rattle.semantics.specs.Sets.{grouping_names, grouping_places, sets_of}
 use Rattle.query_resolution.proofs.DistinctSets.{names_kept, set_of_names, sets_by_names}
 use Rattle.groups.specs.declared.group.Group.{Group}
-use Rattle.groups.specs.Groups.{key_order}
+use Rattle.semantics.specs.Groups.{key_order}
 use Rattle.groups.specs.Bags.{SameBag}
 use Rattle.groups.proofs.Order.{key_antisymmetric}
-use Rattle.groups.specs.Found.{Found, row_of}
-use Rattle.rows.specs.Having.{rows_having_true}
-use Rattle.rows.specs.Order.{grouping_values, key_value, under_key, under_keys, before, NoneBefore, Ascends, in_order, arranged}
+use Rattle.semantics.specs.Found.{Found, set_of}
+use Rattle.groups.specs.Found.{row_of}
+use Rattle.semantics.specs.Rows.{rows_having_true}
+use Rattle.semantics.specs.Order.{grouping_values, key_value, under_key, under_keys, before, in_order, arranged}
+use Rattle.rows.specs.Order.{NoneBefore, Ascends}
 use Rattle.rows.specs.Inside.Ranked.{Ranked, by_key, by_rank, key_values, ranked, under_values}
-use Rattle.groups.specs.Fitting.{AreFitting, set_of}
+use Rattle.groups.specs.Fitting.{AreFitting}
 use Rattle.rows.specs.Laws.{IsTheOrder, IsBlind}
 use Rattle.rows.proofs.Filtering.{bag-having_true, fit-having_true}
 use Rattle.rows.proofs.Totals.{before-total, by_rank-total}

@@ -7,11 +7,11 @@ use Rattle.std.specs.Cmp.{Equal-is, tied_itself, nat_cmp_total, int_cmp_total}
 use Rattle.std.specs.Cmp.Lexicographic.{slice_cmp}
 use Rattle.std.specs.FinMap.{IsAntisymmetric, slice_cmp-IsAntisymmetric}
 use Rattle.std.proofs.lemmas.Map.Lookups.{exact_unsigned, exact_signed}
-use Rattle.values.specs.Order.{value_order}
-use Rattle.groups.specs.Functions.{Summary, plain, ratio}
-use Rattle.groups.specs.Groups.{key_order}
+use Rattle.semantics.specs.Values.{value_order}
+use Rattle.semantics.specs.Aggregates.{Summary, plain, ratio}
+use Rattle.semantics.specs.Groups.{key_order}
 use Rattle.groups.proofs.Order.{value_total, value_antisymmetric, key_total, key_antisymmetric}
-use Rattle.groups.specs.Found.{Found}
+use Rattle.semantics.specs.Found.{Found}
 use Rattle.rows.proofs.Sorting.{Tells}
 
 -- where two orders in a row tie, each does

@@ -9,7 +9,8 @@ use Rattle.std.specs.List.{AllByRecursion}
 use Rattle.std.proofs.lemmas.List.Recursion.{is_sum_by}
 use Rattle.std.proofs.lemmas.List.Sorted.{sum_by-IsPermutation}
 use Rattle.groups.specs.Bags.{SameBag, weigh}
-use Rattle.rows.specs.Order.{NoneBefore, Ascends, inserted, in_order}
+use Rattle.rows.specs.Order.{NoneBefore, Ascends}
+use Rattle.semantics.specs.Order.{inserted, in_order}
 
 -- ---- weights
 

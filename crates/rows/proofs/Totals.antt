@@ -6,13 +6,12 @@ use Rattle.std.specs.Ordering.{nat_cmp, ordering_reverse, ordering_then}
 use Rattle.std.specs.Cmp.{IsTotalOrder, back_total, nat_cmp_total, on_total, then_total}
 use Rattle.std.specs.Cmp.Derive.{point_total}
 use Rattle.std.specs.Cmp.Lexicographic.{lists_total}
-use Rattle.values.specs.Datum.{Datum, boolean, whole, text, null, is_null}
-use Rattle.values.specs.Order.{value_order}
-use Rattle.values.specs.Schema.{Field}
-use Rattle.query_tree.specs.Syntax.{KeyForm, TreeForm}
+use Rattle.semantics.specs.Values.{Datum, boolean, whole, text, null, is_null, value_order}
+use Rattle.semantics.specs.Columns.{Field}
+use Rattle.semantics.specs.Syntax.{KeyForm, TreeForm}
 use Rattle.groups.proofs.Order.{value_total, key_total}
-use Rattle.groups.specs.Found.{Found}
-use Rattle.rows.specs.Order.{before, directed_order, grouping_values, key_value, null_order, under_key, under_keys}
+use Rattle.semantics.specs.Found.{Found}
+use Rattle.semantics.specs.Order.{before, directed_order, grouping_values, key_value, null_order, under_key, under_keys}
 use Rattle.rows.specs.Inside.Ranked.{Ranked, by_key, by_rank, under_values}
 
 -- ---- values under a key

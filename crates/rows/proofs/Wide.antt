@@ -3,13 +3,13 @@ use Rattle.std.proofs.Common.{◌≡◌, ◌∙◌, ◌++◌, List, [], ◌∷�
 use Rattle.std.specs.List.{AllByRecursion}
 use Rattle.std.proofs.lemmas.List.{length-map}
 use Rattle.std.proofs.lemmas.List.Elements.{All-from_recursion}
-use Rattle.values.specs.Schema.{Field}
-use Rattle.query_tree.specs.Syntax.{ItemForm, TreeForm}
-use Rattle.groups.specs.Functions.{Summary}
+use Rattle.semantics.specs.Columns.{Field}
+use Rattle.semantics.specs.Syntax.{ItemForm, TreeForm}
+use Rattle.semantics.specs.Aggregates.{Summary}
 use Rattle.groups.specs.Cells.{summary_of}
-use Rattle.groups.specs.Found.{Found}
-use Rattle.groups.specs.Fitting.{set_of}
-use Rattle.rows.specs.Shown.{cells_of, expression_shown, row_shown}
+use Rattle.semantics.specs.Found.{Found, set_of}
+use Rattle.rows.specs.Shown.{cells_of}
+use Rattle.semantics.specs.Rows.{expression_shown, row_shown}
 use Rattle.rows.specs.declared.row.ReportRow.{ReportRow}
 
 -- where the cells of rows, and then others, are those that groups show, each of the rows has one for each item

@@ -1,11 +1,12 @@
 -- What the order of the rows comes to.
 use Rattle.std.specs.Prelude.{◌≡◌, List}
-use Rattle.values.specs.Schema.{Field}
-use Rattle.query_tree.specs.Syntax.{TreeForm}
+use Rattle.semantics.specs.Columns.{Field}
+use Rattle.semantics.specs.Syntax.{TreeForm}
 use Rattle.groups.specs.Bags.{SameBag}
-use Rattle.groups.specs.Found.{Found}
-use Rattle.rows.specs.Having.{rows_having_true}
-use Rattle.rows.specs.Order.{before, arranged, Ascends}
+use Rattle.semantics.specs.Found.{Found}
+use Rattle.semantics.specs.Rows.{rows_having_true}
+use Rattle.semantics.specs.Order.{before, arranged}
+use Rattle.rows.specs.Order.{Ascends}
 
 -- the rows in their order are the one list that has each row for which HAVING is True as often and ascends
 pub record IsTheOrder (fields : List Field) (t : TreeForm) (found : List Found) : Type 0 where

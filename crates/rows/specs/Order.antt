@@ -1,61 +1,8 @@
--- The order in which the rows of a report stand.
-use Rattle.std.specs.Prelude.{◌≡◌, false, Bool, ⊤, List, [], ◌∷◌, map, if◌then◌else◌}
+-- When a list stands in an order.
+use Rattle.std.specs.Prelude.{◌≡◌, false, ⊤, List, [], ◌∷◌}
 use Rattle.std.specs.declared.cmp.Ordering.{Ordering}
-use Rattle.std.specs.declared.cmp.Ordering.TheVariants.{Less, Equal, Greater}
-use Rattle.std.specs.Ordering.{is_gt, nat_cmp, ordering_reverse, ordering_then}
-use Rattle.std.specs.Cmp.Lexicographic.{slice_cmp}
+use Rattle.std.specs.Ordering.{is_gt}
 use Rattle.std.specs.List.{AllByRecursion}
-use Rattle.values.specs.Datum.{Datum, is_null}
-use Rattle.values.specs.Order.{value_order}
-use Rattle.values.specs.Schema.{Field}
-use Rattle.query_tree.specs.Syntax.{KeyForm, TreeForm}
-use Rattle.query_resolution.specs.Sets.{grouping_places}
-use Rattle.query_check.specs.Typing.{key_expression}
-use Rattle.groups.specs.Fitting.{set_of}
-use Rattle.groups.specs.Functions.{Summary}
-use Rattle.groups.specs.Found.{Found}
-use Rattle.rows.specs.Having.{row_value, rows_having_true}
-use Rattle.rows.specs.Shown.{row_shown, value_in}
-
--- ---- grouping columns
-
--- what a row shows for the grouping columns, in the order in which GROUP BY first names them
-abbrev pub grouping_values : List Field → TreeForm → Found → List Datum
-grouping_values fields t found = map (value_in (set_of fields t found) found.1.key) (grouping_places fields t)
-
--- ---- ORDER BY (ISO/IEC 9075-2, <sort specification list>)
-
--- the value of a key for a row; an alias of SELECT stands for its item
-abbrev pub key_value : List Field → TreeForm → Found → KeyForm → Datum
-key_value fields t row k = row_value fields t row (key_expression t.items k.expression)
-
--- how NULL stands to a value that is not NULL: it is first or last (<null ordering>)
-abbrev pub null_order : Bool → Ordering
-null_order nulls_first = if nulls_first then Less else Greater
-
--- how two values that are not NULL stand to each other: they ascend, and under DESC it is the other way round
-abbrev pub directed_order : Bool → Datum → Datum → Ordering
-directed_order descending a b = if descending then ordering_reverse (value_order a b) else value_order a b
-
--- how two values stand to each other under a key
-abbrev pub under_key : KeyForm → Datum → Datum → Ordering
-under_key k a b =
-    if is_null a then (if is_null b then Equal else null_order k.nulls_first)
-    else if is_null b then ordering_reverse (null_order k.nulls_first)
-    else directed_order k.descending a b
-
--- how two rows stand to each other under keys: as under the first that tells them apart
-abbrev pub under_keys : List Field → TreeForm → List KeyForm → Found → Found → Ordering
-under_keys fields t [] x y = Equal
-under_keys fields t (k ∷ ks) x y = ordering_then (under_key k (key_value fields t x k) (key_value fields t y k)) (under_keys fields t ks x y)
-
--- ---- rows in order
-
--- how two rows stand to each other: by the keys of ORDER BY, then by the index of their grouping set, and in one set by what they show for the grouping columns, from the first; these ascend, and NULL is last
-abbrev pub before : List Field → TreeForm → Found → Found → Ordering
-before fields t x y =
-    ordering_then (under_keys fields t t.keys x y)
-    (ordering_then (nat_cmp x.0 y.0) (slice_cmp value_order (grouping_values fields t x) (grouping_values fields t y)))
 
 -- ---- a list in order
 
@@ -67,21 +14,3 @@ NoneBefore order first xs = AllByRecursion (λ x. is_gt (order first x) ≡ fals
 abbrev pub Ascends : {X : Type 0} → (X → X → Ordering) → List X → Type 0
 Ascends order [] = ⊤
 Ascends order (x ∷ xs) = NoneBefore order x xs × Ascends order xs
-
--- a list with one thing more, which stands in front of the first that is not before it
-abbrev pub inserted : {X : Type 0} → (X → X → Ordering) → X → List X → List X
-inserted order x [] = x ∷ []
-inserted order x (y ∷ ys) = if is_gt (order x y) then y ∷ inserted order x ys else x ∷ y ∷ ys
-
--- the things of a list in order
-abbrev pub in_order : {X : Type 0} → (X → X → Ordering) → List X → List X
-in_order order [] = []
-in_order order (x ∷ xs) = inserted order x (in_order order xs)
-
--- the rows of a report in their order: those for which HAVING is True
-abbrev pub arranged : List Field → TreeForm → List Found → List Found
-arranged fields t found = in_order (before fields t) (rows_having_true fields t found)
-
--- what a report shows: for each group for which HAVING is True, in the order of the rows, its cells
-abbrev pub rows_shown : List Field → TreeForm → List Found → List (List Summary)
-rows_shown fields t found = map (row_shown fields t) (arranged fields t found)

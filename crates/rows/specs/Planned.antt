@@ -2,19 +2,18 @@
 -- of each group that they answer; the others private calls alone speak of.
 use Rattle.std.specs.Prelude.{◌<◌, ℕ, List, [], ◌∷◌, length, map}
 use Rattle.values.specs.Datum.{data_of}
-use Rattle.query_tree.specs.Syntax.{ExpressionForm, PredicateForm, PredicateForms}
+use Rattle.semantics.specs.Syntax.{ExpressionForm, PredicateForm, PredicateForms}
 use Rattle.query_check.specs.declared.scope.Clause.TheVariants as clause
-use Rattle.query_resolution.specs.Sets.{grouping_places, sets_of}
+use Rattle.semantics.specs.Sets.{grouping_places, sets_of}
 use Rattle.query_check.specs.Typing.{AreTypedParts, IsTypedPredicate}
-use Rattle.query_truth.specs.Truth.{Valuation}
+use Rattle.semantics.specs.Conditions.{Valuation}
 use Rattle.query_plan.specs.Planned.{PlannedQuery}
 use Rattle.groups.specs.declared.group.Group.{Group}
-use Rattle.groups.specs.Functions.{Summary}
+use Rattle.semantics.specs.Aggregates.{Summary}
 use Rattle.groups.specs.Cells.{summary_of}
-use Rattle.groups.specs.Found.{Found}
+use Rattle.semantics.specs.Found.{Found}
 use Rattle.groups.specs.Fitting.{AreFitting}
-use Rattle.rows.specs.Having.{row_value}
-use Rattle.rows.specs.Shown.{expression_shown}
+use Rattle.semantics.specs.Rows.{row_value, expression_shown}
 
 -- the row of a group fits the query
 abbrev pub FitsUnder : PlannedQuery → Found → Type 0

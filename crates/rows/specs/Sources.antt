@@ -1,15 +1,16 @@
 -- Where the rows of a grouping set have what they show.
 use Rattle.std.specs.Prelude.{◌≡◌, ℕ, ⊤, List, [], ◌∷◌, map, slice_get, slice_index_or, unwrap_or}
 use Rattle.std.specs.Global.{Vec}
-use Rattle.values.specs.Datum.{datum_of, null}
-use Rattle.query_tree.specs.Syntax.{ExpressionForm}
+use Rattle.values.specs.Datum.{datum_of}
+use Rattle.semantics.specs.Values.{null}
+use Rattle.semantics.specs.Syntax.{ExpressionForm}
 use Rattle.query_plan.specs.Planned.{PlannedQuery}
-use Rattle.groups.specs.Functions.{Summary, plain}
-use Rattle.groups.specs.Groups.{Key}
-use Rattle.groups.specs.Found.{Found}
+use Rattle.semantics.specs.Aggregates.{Summary, plain}
+use Rattle.semantics.specs.Groups.{Key}
+use Rattle.semantics.specs.Found.{Found}
 use Rattle.rows.specs.declared.source.Source.{Source}
 use Rattle.rows.specs.declared.source.Source.TheVariants.{KeyAt, CellAt, Always}
-use Rattle.rows.specs.Shown.{expression_shown}
+use Rattle.semantics.specs.Rows.{expression_shown}
 
 -- what a row with this key and these cells has there, and NULL where it has nothing
 abbrev pub shown_at : Key → List Summary → Source → Summary

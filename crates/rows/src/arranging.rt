@@ -3,8 +3,9 @@ ghost use Rattle.std.specs.Prelude.{◌≡◌, ◌<◌, All, IfOk, length, map};
 ghost use Rattle.groups.specs.Found.{row_of};
 ghost use Rattle.groups.specs.Fitting.{AreFitting};
 ghost use Rattle.rows.specs.Planned.{HasSetUnder};
-ghost use Rattle.rows.specs.Order.{arranged, rows_shown};
-ghost use Rattle.rows.specs.Shown.{cells_of, row_shown};
+ghost use Rattle.semantics.specs.Order.{arranged, rows_shown};
+ghost use Rattle.rows.specs.Shown.{cells_of};
+ghost use Rattle.semantics.specs.Rows.{row_shown};
 
 use crate::cells::expression_cell;
 use crate::having::rows_having_true;

@@ -1,14 +1,14 @@
 //! What a row shows for the items of SELECT.
 ghost use Rattle.std.specs.Prelude.{◌≡◌, ◌≤◌, IfOk, map, length, slice_get, slice_index_or, unwrap_or};
-ghost use Rattle.values.specs.Datum.{data_of, datum_of, null};
+ghost use Rattle.values.specs.Datum.{data_of, datum_of};
+ghost use Rattle.semantics.specs.Values.{null};
 ghost use Rattle.values.specs.Schema.{fields_of};
 ghost use Rattle.query_tree.specs.Syntax.{expression_form};
-ghost use Rattle.groups.specs.Functions.{plain};
+ghost use Rattle.semantics.specs.Aggregates.{plain};
 ghost use Rattle.groups.specs.Cells.{summary_of};
-ghost use Rattle.rows.specs.Having.{cell_value};
+ghost use Rattle.semantics.specs.Rows.{cell_value, grouping_number, grouping_shown, is_rolled_up, name_shown};
 ghost use Rattle.rows.specs.Planned.{shown_under};
 ghost use Rattle.rows.specs.Sources.{shown_at};
-ghost use Rattle.rows.specs.Shown.{grouping_number, grouping_shown, is_rolled_up, name_shown};
 
 use crate::source::{Source, key_place, source_of};
 use crate::view::PlanView;

@@ -1,11 +1,12 @@
 //! The rows of which HAVING is True.
 ghost use Rattle.std.specs.Prelude.{◌≡◌, IfOk, false, map};
 ghost use Rattle.values.specs.Datum.{datum_of};
-ghost use Rattle.query_tree.specs.Syntax.{between, compare, expression_form, member, name, operand_form, predicate_form, predicate_forms};
-ghost use Rattle.query_truth.specs.Truth.{all_of, any_of, operand_value, truth, truths};
+ghost use Rattle.semantics.specs.Syntax.{between, compare, member, name, predicate_forms};
+ghost use Rattle.query_tree.specs.Syntax.{expression_form, operand_form, predicate_form};
+ghost use Rattle.semantics.specs.Conditions.{all_of, any_of, operand_value, truth, truths};
 ghost use Rattle.groups.specs.Found.{row_of};
 ghost use Rattle.groups.specs.Fitting.{AreFitting};
-ghost use Rattle.rows.specs.Having.{rows_having_true};
+ghost use Rattle.semantics.specs.Rows.{rows_having_true};
 ghost use Rattle.rows.specs.Planned.{AreTypedUnder, FitsUnder, HasSetUnder, IsTypedUnder, value_under};
 
 use crate::cells::{expression_value, name_value};

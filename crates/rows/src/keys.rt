@@ -2,10 +2,10 @@
 ghost use Rattle.std.specs.Prelude.{◌≡◌, IfOk, map};
 ghost use Rattle.values.specs.Datum.{data_of, datum_of};
 ghost use Rattle.query_tree.specs.Syntax.{key_form};
-ghost use Rattle.query_check.specs.Typing.{key_expression};
+ghost use Rattle.semantics.specs.Types.{key_expression};
 ghost use Rattle.groups.specs.Found.{row_of};
-ghost use Rattle.rows.specs.Having.{cell_value};
-ghost use Rattle.rows.specs.Order.{null_order, under_key};
+ghost use Rattle.semantics.specs.Rows.{cell_value};
+ghost use Rattle.semantics.specs.Order.{null_order, under_key};
 ghost use Rattle.rows.specs.Planned.{HasSetUnder, shown_under};
 ghost use Rattle.rows.specs.Inside.Ranked.{key_values, under_values};
 

@@ -1,8 +1,8 @@
 //! Laws of the order of the rows, with no work to do.
 ghost use Rattle.std.specs.Prelude.{List};
-ghost use Rattle.values.specs.Schema.{Field};
-ghost use Rattle.query_tree.specs.Syntax.{TreeForm};
-ghost use Rattle.groups.specs.Found.{Found};
+ghost use Rattle.semantics.specs.Columns.{Field};
+ghost use Rattle.semantics.specs.Syntax.{TreeForm};
+ghost use Rattle.semantics.specs.Found.{Found};
 ghost use Rattle.groups.specs.Fitting.{AreFitting};
 ghost use Rattle.rows.specs.Laws.{IsBlind, IsTheOrder};
 

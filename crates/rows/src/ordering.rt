@@ -6,7 +6,7 @@ ghost use Rattle.std.specs.Ordering.{is_lt};
 ghost use Rattle.query_tree.specs.Syntax.{key_form};
 ghost use Rattle.groups.specs.Found.{row_of};
 ghost use Rattle.groups.specs.Fitting.{AreFitting};
-ghost use Rattle.rows.specs.Order.{before, in_order};
+ghost use Rattle.semantics.specs.Order.{before, in_order};
 ghost use Rattle.rows.specs.Parts.{AreMade, items_of};
 ghost use Rattle.rows.specs.Inside.Ranked.{AreRanked, AreRankedParts, by_key, by_rank, ranked, ranked_in};
 ghost use Rattle.rows.specs.Planned.{HasSetUnder};

@@ -4,7 +4,7 @@ ghost use Rattle.std.specs.Option.{option_map};
 ghost use Rattle.std.specs.Ordering.{nat_cmp, ordering_then};
 ghost use Rattle.std.proofs.Props.{props};
 ghost use Rattle.values.specs.Datum.{data_of};
-ghost use Rattle.groups.specs.Groups.{key_order};
+ghost use Rattle.semantics.specs.Groups.{key_order};
 ghost use Rattle.rows.specs.Inside.Fronts.{AreBytes, IsOfBytes, behind_of, first_text, front_of, text_order, with_digits};
 
 use groups::Group;

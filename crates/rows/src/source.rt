@@ -1,13 +1,13 @@
 //! Where the rows of a grouping set have what they show, which is looked up once for all of them.
 ghost use Rattle.std.specs.Prelude.{◌≡◌, ◌<◌, IfOk, List, length, slice_index_or};
 ghost use Rattle.std.specs.Option.{option_map_or};
-ghost use Rattle.values.specs.Datum.{null};
+ghost use Rattle.semantics.specs.Values.{null};
 ghost use Rattle.values.specs.Schema.{fields_of};
 ghost use Rattle.query_tree.specs.Syntax.{expression_form};
-ghost use Rattle.query_resolution.specs.Sets.{sets_of};
-ghost use Rattle.groups.specs.Functions.{Summary, plain};
-ghost use Rattle.groups.specs.Groups.{Key};
-ghost use Rattle.rows.specs.Shown.{name_shown};
+ghost use Rattle.semantics.specs.Sets.{sets_of};
+ghost use Rattle.semantics.specs.Aggregates.{Summary, plain};
+ghost use Rattle.semantics.specs.Groups.{Key};
+ghost use Rattle.semantics.specs.Rows.{name_shown};
 ghost use Rattle.rows.specs.Sources.{AreSourcesOf, AreSourcesOfEach, IsSourceOf, shown_at, sources_at};
 
 use crate::cells::grouping_value;

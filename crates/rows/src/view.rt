@@ -1,6 +1,6 @@
 //! A plan as the rows of a report are shown under it.
 ghost use Rattle.std.specs.Prelude.{◌≡◌};
-ghost use Rattle.query_resolution.specs.Functions.{functions_of};
+ghost use Rattle.semantics.specs.SetFunctions.{functions_of};
 ghost use Rattle.query_resolution.specs.Planning.{planned_forms};
 
 use query_plan::{Plan, Query, SetFunction};
@@ -32,10 +32,10 @@ impl<'a> Model for PlanView<'a> {
 
 impl<'a> PlanView<'a> {
     ghost use Rattle.std.specs.Prelude.{◌≡◌, IfOk};
-    ghost use Rattle.query_resolution.specs.Functions.{place_among};
+    ghost use Rattle.semantics.specs.SetFunctions.{place_among};
     ghost use Rattle.query_tree.specs.Syntax.{function_form};
     ghost use Rattle.query_resolution.specs.Resolution.{contents};
-    ghost use Rattle.query_resolution.specs.Sets.{sets_of};
+    ghost use Rattle.semantics.specs.Sets.{sets_of};
     ghost use Rattle.query_check.specs.Typing.{IsTyped};
 
     /// The view of a plan.

@@ -5,7 +5,7 @@ use Rattle.std.proofs.lemmas.List.Sorted.{sum_by-IsPermutation}
 use Rattle.std.specs.List.Sorted.{IsPermutation}
 use Rattle.std.specs.Bool.{Decides}
 use Rattle.std.specs.List.{AllByRecursion, cons_option, filter, filter_map, find, flat_map}
-use Rattle.query_resolution.specs.Columns.{distinct}
+use Rattle.semantics.specs.Names.{distinct}
 use Rattle.groups.specs.Bags.{SameBag, weigh}
 
 -- ---- lists made from others

@@ -2,16 +2,19 @@
 use Rattle.std.proofs.Common.{◌≡◌, ℕ, zero, suc, List, [], ◌∷◌, length, map, Option, Some, None, option_map, position, slice_get, refl, sym, ap, ◌∙◌}
 use Rattle.std.proofs.lemmas.List.{length-map}
 use Rattle.std.specs.Option.{option_and_then}
-use Rattle.values.specs.Schema.{Field}
-use Rattle.query_tree.specs.Syntax.{PredicateForm, TreeForm}
+use Rattle.semantics.specs.Columns.{Field}
+use Rattle.semantics.specs.Syntax.{PredicateForm, TreeForm}
 use Rattle.query_check.specs.Filters.{filters_at}
-use Rattle.query_resolution.specs.Functions.{PlannedFunction, filters_of, functions_of, indexed, indexed_functions}
-use Rattle.query_resolution.specs.Inside.Same.{same_predicate}
+use Rattle.semantics.specs.Names.{PlannedFunction}
+use Rattle.query_resolution.specs.Functions.{filters_of, indexed, indexed_functions}
+use Rattle.semantics.specs.SetFunctions.{functions_of}
+use Rattle.semantics.specs.Inside.Same.{same_predicate}
 use Rattle.query_check.proofs.FilterLemmas.{indexes_lead_back}
-use Rattle.query_truth.specs.Kept.{passes}
+use Rattle.semantics.specs.Conditions.{passes}
 use Rattle.groups.specs.Functions.{bound, filter_at}
-use Rattle.groups.specs.Rows.{Row}
-use Rattle.tables.specs.Functions.{aggregate_function, aggregate_functions, filters_kept}
+use Rattle.semantics.specs.Groups.{Row}
+use Rattle.semantics.specs.Found.{aggregate_function, aggregate_functions}
+use Rattle.tables.specs.Functions.{filters_kept}
 
 -- what the filter with an index keeps, where there is such a filter
 got : (fields : List Field) (filters : List PredicateForm) (index : ℕ) (p : PredicateForm) → slice_get filters index ≡ Some p

@@ -1,10 +1,10 @@
 -- Two tables are put together either way round.
 use Rattle.std.proofs.Common.{◌≡◌, ◌+◌, ◌++◌, ◌⊎◌, ℕ, List, Option, Some, None, IfSome, inl, inr, sym, subst, arith}
 use Rattle.std.specs.FinMap as fin
-use Rattle.groups.specs.Functions.{AggregateFunction}
+use Rattle.semantics.specs.Aggregates.{AggregateFunction}
 use Rattle.groups.specs.Inside.Group.{GroupState}
 use Rattle.groups.specs.Inside.Table.{AreGroupsWithin, CanJoin, Contents, IsFitting, IsTableOf}
-use Rattle.groups.specs.Rows.{Row}
+use Rattle.semantics.specs.Groups.{Row}
 use Rattle.query_resolution.specs.declared.function.FilteredFunction.{FilteredFunction}
 use Rattle.groups.proofs.AnyOrder.{table-same}
 use Rattle.tables.proofs.Bags.{weigh-append}

@@ -6,20 +6,18 @@ use Rattle.std.proofs.lemmas.List.Elements.{All-from_recursion}
 use Rattle.std.proofs.lemmas.Map.Made.{AllPairs-from_IsDistinct}
 use Rattle.std.specs.Bool.{Decides}
 use Rattle.std.specs.List.{AllByRecursion, AllPairs, AllZip, IsDistinct, enumerate_from, flat_map, slice_index_or}
-use Rattle.values.specs.Schema.{Field}
-use Rattle.query_tree.specs.Syntax.{TreeForm}
-use Rattle.groups.specs.Functions.{AggregateFunction, Summary}
-use Rattle.query_resolution.specs.Functions.{PlannedFunction, functions_of}
-use Rattle.query_resolution.specs.Sets.{sets_of}
-use Rattle.groups.specs.Rows.{Row}
-use Rattle.groups.specs.Groups.{Key, keys, members, project, same_key}
+use Rattle.semantics.specs.Columns.{Field}
+use Rattle.semantics.specs.Syntax.{TreeForm}
+use Rattle.semantics.specs.Aggregates.{AggregateFunction, Summary}
+use Rattle.semantics.specs.Names.{PlannedFunction}
+use Rattle.semantics.specs.SetFunctions.{functions_of}
+use Rattle.semantics.specs.Sets.{sets_of}
+use Rattle.semantics.specs.Groups.{Row, Key, keys, members, project, same_key}
 use Rattle.groups.specs.Bags.{SameBag, weigh}
 use Rattle.groups.proofs.GroupsLaw.{keys-distinct}
 use Rattle.groups.proofs.Order.{same_key-Decides}
-use Rattle.groups.specs.Found.{Found}
+use Rattle.semantics.specs.Found.{Found, aggregate_function, aggregate_functions, all_found, found}
 use Rattle.groups.specs.Fitting.{AreFitting, HasType}
-use Rattle.tables.specs.Functions.{aggregate_function, aggregate_functions}
-use Rattle.tables.specs.Results.{all_found, found}
 use Rattle.tables.proofs.Bags.{all-append, all-distinct, all-same, weigh-map}
 use Rattle.tables.proofs.Finding.{set_groups}
 use Rattle.tables.proofs.Types.{AllFit, HasTypeOf, IsTyped, found-typed}

@@ -7,10 +7,10 @@ use Rattle.std.proofs.lemmas.List.Recursion.{is_sum_by}
 use Rattle.std.proofs.lemmas.List.Sums.{sum_by-cons}
 use Rattle.std.proofs.lemmas.List.Splits.{length-slice_split}
 use Rattle.std.specs.List.{list_all, onto_first, slice_split}
-use Rattle.values.specs.Schema.{Field}
-use Rattle.lines.specs.declared.fault.LineFault.{LineFault}
-use Rattle.lines.specs.Input.{good, refused}
-use Rattle.lines.specs.Lines.{line_feed, lines, without_empty_last}
+use Rattle.semantics.specs.Columns.{Field}
+use Rattle.semantics.specs.declared.line_fault.LineFault.{LineFault}
+use Rattle.semantics.specs.Records.{good, refused}
+use Rattle.semantics.specs.Lines.{line_feed, lines, without_empty_last}
 use Rattle.lines.specs.Pieces.{AreWholeLines}
 use Rattle.lines.proofs.Fronts.{good-whole_lines, lines-whole_lines, refused-whole_lines}
 use Rattle.groups.specs.Bags.{SameBag, weigh}

@@ -3,12 +3,12 @@ use Rattle.std.proofs.Common.{◌≡◌, ◌+◌, ◌<◌, ◌≤◌, ◌^◌, �
 use Rattle.std.proofs.lemmas.List.{map-append}
 use Rattle.std.proofs.lemmas.List.Elements.{All-append}
 use Rattle.std.specs.List.{All}
-use Rattle.values.specs.Schema.{Field}
-use Rattle.lines.specs.declared.fault.LineFault.{LineFault}
-use Rattle.lines.specs.Input.{good, refused}
-use Rattle.lines.specs.Lines.{lines}
-use Rattle.query_tree.specs.Syntax.{TreeForm}
-use Rattle.query_truth.specs.Kept.{kept}
+use Rattle.semantics.specs.Columns.{Field}
+use Rattle.semantics.specs.declared.line_fault.LineFault.{LineFault}
+use Rattle.semantics.specs.Records.{good, refused}
+use Rattle.semantics.specs.Lines.{lines}
+use Rattle.semantics.specs.Syntax.{TreeForm}
+use Rattle.semantics.specs.Conditions.{kept}
 use Rattle.groups.specs.Bags.{SameBag}
 use Rattle.tables.specs.declared.note.Note.{Note}
 use Rattle.tables.specs.Notes.{IsWellNumbered, Noted, lines_noted, note_in, note_of}

@@ -4,19 +4,16 @@ use Rattle.std.proofs.lemmas.Bool.{ne_eqb}
 use Rattle.std.proofs.lemmas.Bool.Decides.{nat_tests}
 use Rattle.std.proofs.lemmas.List.{map-append}
 use Rattle.std.specs.List.{enumerate_from, flat_map}
-use Rattle.values.specs.Schema.{Field}
-use Rattle.query_tree.specs.Syntax.{TreeForm}
-use Rattle.groups.specs.Functions.{AggregateFunction}
-use Rattle.tables.specs.Functions.{aggregate_functions}
-use Rattle.query_resolution.specs.Sets.{sets_of}
-use Rattle.query_truth.specs.Kept.{kept}
-use Rattle.groups.specs.Rows.{Row}
-use Rattle.groups.specs.Groups.{Key, keys, members}
-use Rattle.groups.specs.GroupSummaries.{group_summary, group_summaries}
+use Rattle.semantics.specs.Columns.{Field}
+use Rattle.semantics.specs.Syntax.{TreeForm}
+use Rattle.semantics.specs.Aggregates.{AggregateFunction}
+use Rattle.semantics.specs.Found.{aggregate_functions, group_summary, Found, found, query_found}
+use Rattle.semantics.specs.Sets.{sets_of}
+use Rattle.semantics.specs.Conditions.{kept}
+use Rattle.semantics.specs.Groups.{Row, Key, keys, members}
+use Rattle.groups.specs.GroupSummaries.{group_summaries}
 use Rattle.groups.specs.Bags.{SameBag, weigh}
-use Rattle.groups.specs.Found.{Found}
 use Rattle.tables.specs.Members.{HasEachRecordOnce, members_of_row, rows_of_set}
-use Rattle.tables.specs.Results.{found, query_found}
 use Rattle.tables.proofs.Finding.{set_groups}
 use Rattle.tables.proofs.Bags.{weigh-append, weigh-flat_map, weigh-map}
 

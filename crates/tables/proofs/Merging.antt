@@ -5,9 +5,9 @@ use Rattle.std.proofs.lemmas.List.{map-append}
 use Rattle.std.proofs.lemmas.List.Sums.{sum_by-append, sum_by-cons}
 use Rattle.std.proofs.lemmas.List.Elements.{All-cons}
 use Rattle.std.specs.List.{All}
-use Rattle.values.specs.Schema.{Field}
-use Rattle.lines.specs.Input.{good, refused}
-use Rattle.lines.specs.Lines.{lines}
+use Rattle.semantics.specs.Columns.{Field}
+use Rattle.semantics.specs.Records.{good, refused}
+use Rattle.semantics.specs.Lines.{lines}
 use Rattle.groups.specs.Bags.{SameBag}
 use Rattle.tables.specs.Notes.{IsWellNumbered, Noted, lines_noted, note_in, note_of}
 use Rattle.tables.specs.declared.note.Note.{Note}

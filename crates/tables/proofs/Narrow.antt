@@ -1,11 +1,11 @@
 -- The whole numbers of a record that fits a schema have 64 bits.
 use Rattle.std.proofs.Common.{pos, negsuc, List, [], ◌∷◌, arith}
 use Rattle.std.proofs.lemmas.Int.{ints}
-use Rattle.values.specs.declared.schema.Kind.{Kind}
-use Rattle.values.specs.declared.schema.Kind.TheVariants as kind
-use Rattle.values.specs.Datum.{Datum, boolean, whole, text, null}
-use Rattle.values.specs.Fit.{Fits, Holds}
-use Rattle.values.specs.Schema.{Field}
+use Rattle.semantics.specs.declared.kind.Kind.{Kind}
+use Rattle.semantics.specs.declared.kind.Kind.TheVariants as kind
+use Rattle.semantics.specs.Values.{Datum, boolean, whole, text, null}
+use Rattle.semantics.specs.Records.{Fits, Holds}
+use Rattle.semantics.specs.Columns.{Field}
 use Rattle.groups.specs.Rows.{IsNarrow, IsNarrowRow}
 
 one : (k : Kind) (d : Datum) → Holds k d → IsNarrow d

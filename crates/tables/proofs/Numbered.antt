@@ -6,12 +6,11 @@ use Rattle.std.proofs.lemmas.List.Elements.{filter-append}
 use Rattle.std.proofs.lemmas.Map.Keys.{sorted_from_strictly_increasing}
 use Rattle.std.specs.List.{AllByRecursion, IsDistinct, enumerate_from, flat_map}
 use Rattle.std.specs.List.Sorted.{IsStrictlyIncreasing}
-use Rattle.values.specs.Datum.{Datum}
-use Rattle.values.specs.Schema.{Field}
-use Rattle.lines.specs.declared.fault.LineFault.{LineFault}
-use Rattle.lines.specs.Input.{refused}
-use Rattle.lines.specs.Lines.{lines}
-use Rattle.lines.specs.Taken.{taken}
+use Rattle.semantics.specs.Values.{Datum}
+use Rattle.semantics.specs.Columns.{Field}
+use Rattle.semantics.specs.declared.line_fault.LineFault.{LineFault}
+use Rattle.semantics.specs.Records.{refused, taken}
+use Rattle.semantics.specs.Lines.{lines}
 use Rattle.groups.specs.Bags.{SameBag, weigh}
 use Rattle.tables.specs.Notes.{AreLinesOf, Noted, note_of, numbered_from}
 use Rattle.tables.specs.Pieces.{AreInOrder, AreNumbered, HaveOwnIndexes, IndexedPiece, all_lines, pieces_before, refused_numbered}

@@ -2,19 +2,18 @@
 use Rattle.std.proofs.Common.{ℕ, List, [], ◌∷◌, Option, Some, None}
 use Rattle.std.proofs.Props.{props}
 use Rattle.std.specs.List.{AllZip}
-use Rattle.values.specs.declared.schema.Kind.{Kind}
-use Rattle.values.specs.declared.schema.Kind.TheVariants as kind
-use Rattle.values.specs.Datum.{Datum, boolean, whole, text, null}
-use Rattle.values.specs.Fit.{Holds}
-use Rattle.values.specs.Schema.{Field}
-use Rattle.query_tree.specs.Syntax.{TreeForm}
-use Rattle.query_resolution.specs.declared.function.ColumnFunction.{ColumnFunction}
-use Rattle.query_resolution.specs.declared.function.ColumnFunction.TheVariants as function
-use Rattle.query_resolution.specs.Columns.{kind_at}
-use Rattle.query_resolution.specs.Functions.{PlannedFunction}
-use Rattle.groups.specs.Functions.{Summary, plain, ratio}
+use Rattle.semantics.specs.declared.kind.Kind.{Kind}
+use Rattle.semantics.specs.declared.kind.Kind.TheVariants as kind
+use Rattle.semantics.specs.Values.{Datum, boolean, whole, text, null}
+use Rattle.semantics.specs.Records.{Holds}
+use Rattle.semantics.specs.Columns.{Field}
+use Rattle.semantics.specs.Syntax.{TreeForm}
+use Rattle.semantics.specs.declared.function.ColumnFunction.{ColumnFunction}
+use Rattle.semantics.specs.declared.function.ColumnFunction.TheVariants as function
+use Rattle.semantics.specs.Names.{kind_at, PlannedFunction}
+use Rattle.semantics.specs.Aggregates.{Summary, plain, ratio}
 use Rattle.groups.specs.Fitting.{AreFitting, HasType, IsAverage, IsCount, IsHeld, IsOfColumn, IsSum}
-use Rattle.groups.specs.Found.{Found}
+use Rattle.semantics.specs.Found.{Found}
 use Rattle.std.specs.Prelude.{pos, negsuc}
 
 zip-prop : {A B : Type 0} (R : A → B → Type 0) → ((x : A) (y : B) → IsProp (R x y)) → (xs : List A) (ys : List B) → IsProp (AllZip R xs ys)

@@ -6,16 +6,16 @@ use Rattle.std.proofs.lemmas.List.FromFn.{length-enumerate_from}
 use Rattle.std.proofs.lemmas.List.Splits.{length-slice_split}
 use Rattle.std.specs.List.{All, AllByRecursion, cons_option, enumerate_from, onto_first, slice_split}
 use Rattle.std.specs.Result.{result_err, result_ok}
-use Rattle.values.specs.Datum.{Datum}
-use Rattle.values.specs.Schema.{Field}
-use Rattle.lines.specs.declared.fault.LineFault.{LineFault}
-use Rattle.lines.specs.Lines.{line_feed, lines, without_empty_last}
-use Rattle.lines.specs.Taken.{taken}
-use Rattle.query_tree.specs.Syntax.{TreeForm}
-use Rattle.tables.specs.Functions.{aggregate_functions}
-use Rattle.query_resolution.specs.Sets.{grouping_places}
-use Rattle.query_truth.specs.Kept.{is_kept, kept}
-use Rattle.groups.specs.Rows.{Row}
+use Rattle.semantics.specs.Values.{Datum}
+use Rattle.semantics.specs.Columns.{Field}
+use Rattle.semantics.specs.declared.line_fault.LineFault.{LineFault}
+use Rattle.semantics.specs.Lines.{line_feed, lines, without_empty_last}
+use Rattle.semantics.specs.Records.{taken}
+use Rattle.semantics.specs.Syntax.{TreeForm}
+use Rattle.semantics.specs.Found.{aggregate_functions}
+use Rattle.semantics.specs.Sets.{grouping_places}
+use Rattle.semantics.specs.Conditions.{is_kept, kept}
+use Rattle.semantics.specs.Groups.{Row}
 use Rattle.groups.specs.Inside.Table.{Contents, IsTableOf}
 use Rattle.tables.specs.declared.folding.Folding.{Folding}
 use Rattle.tables.specs.Folding.{HasRead, good_of, refused_of}

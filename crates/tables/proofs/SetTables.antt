@@ -8,16 +8,17 @@ use Rattle.std.specs.Cmp.Lexicographic.{pointwise}
 use Rattle.std.specs.List.{AllByRecursion, list_any, remove}
 use Rattle.std.specs.List.Sorted.{IsPermutation}
 use Rattle.std.specs.Result.{result_ok}
-use Rattle.values.specs.Schema.{Field}
-use Rattle.query_tree.specs.Syntax.{TreeForm}
-use Rattle.groups.specs.Functions.{AggregateFunction, bound}
-use Rattle.query_resolution.specs.Columns.{places_of}
+use Rattle.semantics.specs.Columns.{Field}
+use Rattle.semantics.specs.Syntax.{TreeForm}
+use Rattle.semantics.specs.Aggregates.{AggregateFunction}
+use Rattle.groups.specs.Functions.{bound}
+use Rattle.semantics.specs.Names.{places_of}
 use Rattle.query_resolution.specs.Resolution.{contents}
-use Rattle.query_resolution.specs.Sets.{grouping_places, sets_of}
+use Rattle.semantics.specs.Sets.{grouping_places, sets_of}
 use Rattle.query_resolution.proofs.DistinctSets.{names_kept, set_of_names, sets_by_names}
 use Rattle.groups.specs.declared.group.Group.{Group}
 use Rattle.groups.specs.Rolled.{AreAmong}
-use Rattle.groups.specs.Rows.{Row}
+use Rattle.semantics.specs.Groups.{Row}
 use Rattle.groups.specs.Inside.Table.{Contents, IsTableOf}
 use Rattle.query_resolution.specs.declared.function.FilteredFunction.{FilteredFunction}
 use Rattle.tables.specs.declared.rolling.Roll.{Roll}

@@ -9,8 +9,8 @@ use Rattle.std.specs.Prelude.{String}
 use Rattle.std.specs.String.{string_eq}
 use Rattle.query_resolution.specs.contracts.function.ColumnFunctionPartialEq.TheImpl.{eq-value}
 use Rattle.query_resolution.specs.contracts.function.FilteredFunctionPartialEq.TheImpl as filtered
-use Rattle.query_resolution.specs.declared.function.ColumnFunction.{ColumnFunction}
-use Rattle.query_resolution.specs.declared.function.ColumnFunction.TheVariants as at
+use Rattle.semantics.specs.declared.function.ColumnFunction.{ColumnFunction}
+use Rattle.semantics.specs.declared.function.ColumnFunction.TheVariants as at
 use Rattle.query_resolution.specs.declared.function.FilteredFunction.{FilteredFunction}
 use Rattle.query_resolution.specs.Resolution.{contents}
 use Rattle.tables.proofs.TypeTests.{both-Decides}

@@ -2,16 +2,14 @@
 use Rattle.std.proofs.Common.{◌≡◌, ℕ, List, map, Some, Result, Ok, Err}
 use Rattle.std.specs.List.{AllByRecursion}
 use Rattle.std.specs.Result.{result_ok}
-use Rattle.values.specs.Datum.{Datum}
-use Rattle.values.specs.Fit.{Fits}
-use Rattle.values.specs.Schema.{Field}
-use Rattle.lines.specs.declared.fault.LineFault.{LineFault}
-use Rattle.lines.specs.Input.{good}
-use Rattle.lines.specs.Lines.{lines}
-use Rattle.lines.specs.Taken.{taken}
+use Rattle.semantics.specs.Values.{Datum}
+use Rattle.semantics.specs.Records.{Fits, good, taken}
+use Rattle.semantics.specs.Columns.{Field}
+use Rattle.semantics.specs.declared.line_fault.LineFault.{LineFault}
+use Rattle.semantics.specs.Lines.{lines}
 use Rattle.lines.proofs.Outcomes.{taken-fits}
-use Rattle.query_tree.specs.Syntax.{TreeForm}
-use Rattle.query_truth.specs.Kept.{is_kept, kept}
+use Rattle.semantics.specs.Syntax.{TreeForm}
+use Rattle.semantics.specs.Conditions.{is_kept, kept}
 use Rattle.tables.specs.Pieces.{IndexedPiece, records_of}
 use Rattle.tables.proofs.Bags.{all-everywhere, all-filter, all-filter_map, all-flat_map, all-map}
 

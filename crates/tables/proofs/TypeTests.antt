@@ -5,16 +5,15 @@ use Rattle.std.proofs.lemmas.Int.{ints}
 use Rattle.std.specs.Bool.{Decides}
 use Rattle.std.specs.Int.{w64}
 use Rattle.std.specs.List.{AllZip}
-use Rattle.values.specs.declared.schema.Kind.{Kind}
-use Rattle.values.specs.declared.schema.Kind.TheVariants as kind
-use Rattle.values.specs.Datum.{Datum, boolean, whole, text, null}
-use Rattle.values.specs.Fit.{Holds}
-use Rattle.values.specs.Schema.{Field}
-use Rattle.lines.specs.Taken.{is_int64}
-use Rattle.query_resolution.specs.declared.function.ColumnFunction.{ColumnFunction}
-use Rattle.query_resolution.specs.declared.function.ColumnFunction.TheVariants as function
-use Rattle.query_resolution.specs.Columns.{kind_at}
-use Rattle.groups.specs.Functions.{Summary, plain, ratio}
+use Rattle.semantics.specs.declared.kind.Kind.{Kind}
+use Rattle.semantics.specs.declared.kind.Kind.TheVariants as kind
+use Rattle.semantics.specs.Values.{Datum, boolean, whole, text, null}
+use Rattle.semantics.specs.Records.{Holds, is_int64}
+use Rattle.semantics.specs.Columns.{Field}
+use Rattle.semantics.specs.declared.function.ColumnFunction.{ColumnFunction}
+use Rattle.semantics.specs.declared.function.ColumnFunction.TheVariants as function
+use Rattle.semantics.specs.Names.{kind_at}
+use Rattle.semantics.specs.Aggregates.{Summary, plain, ratio}
 use Rattle.groups.specs.Fitting.{IsAverage, IsCount, IsHeld, IsOfColumn, IsSum, HasType}
 
 -- ---- truth values that decide

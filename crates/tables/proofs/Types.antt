@@ -7,26 +7,24 @@ use Rattle.std.specs.Prelude.{⊤}
 use Rattle.std.specs.List.{AllByRecursion, AllZip, enumerate_from, filter_map, flat_map, slice_index_or}
 use Rattle.std.specs.Option.{option_map}
 use Rattle.std.specs.Str.{bytes_eq}
-use Rattle.values.specs.Datum.{Datum, null}
-use Rattle.values.specs.Fit.{Fits}
-use Rattle.values.specs.Schema.{Field, names_of}
-use Rattle.query_tree.specs.declared.expression.Aggregate.{Aggregate}
-use Rattle.query_tree.specs.declared.expression.Aggregate.TheVariants as aggregate
-use Rattle.query_tree.specs.Syntax.{FunctionForm, PredicateForm, TreeForm}
-use Rattle.query_resolution.specs.declared.function.ColumnFunction.{ColumnFunction}
-use Rattle.query_resolution.specs.declared.function.ColumnFunction.TheVariants as function
-use Rattle.query_resolution.specs.Columns.{kind_at, place_of, places_of}
-use Rattle.query_resolution.specs.Functions.{PlannedFunction, aggregate_of, column_function, filter_of, functions_of, planned_function, same_planned, set_functions}
-use Rattle.query_resolution.specs.Sets.{grouping_names, grouping_places, ordered_set, sets_of}
+use Rattle.semantics.specs.Values.{Datum, null}
+use Rattle.semantics.specs.Records.{Fits}
+use Rattle.semantics.specs.Columns.{Field, names_of}
+use Rattle.semantics.specs.declared.aggregate.Aggregate.{Aggregate}
+use Rattle.semantics.specs.declared.aggregate.Aggregate.TheVariants as aggregate
+use Rattle.semantics.specs.Syntax.{FunctionForm, PredicateForm, TreeForm}
+use Rattle.semantics.specs.declared.function.ColumnFunction.{ColumnFunction}
+use Rattle.semantics.specs.declared.function.ColumnFunction.TheVariants as function
+use Rattle.semantics.specs.Names.{kind_at, place_of, places_of, PlannedFunction, aggregate_of, column_function, filter_of, planned_function}
+use Rattle.semantics.specs.SetFunctions.{functions_of, set_functions}
+use Rattle.semantics.specs.Inside.Same.{same_planned}
+use Rattle.semantics.specs.Sets.{grouping_names, grouping_places, ordered_set, sets_of}
 use Rattle.query_resolution.proofs.DistinctSets.{names_kept, set_of_names, sets_by_names}
-use Rattle.groups.specs.Rows.{Row, column_values, is_present, column_numbers, value_at}
-use Rattle.groups.specs.Functions.{AggregateFunction, Summary, plain, agg, average_of, filtered, sum_of, value_over}
+use Rattle.semantics.specs.Groups.{Row, value_at, Key, keys, members, project, same_key}
+use Rattle.semantics.specs.Aggregates.{column_values, is_present, column_numbers, AggregateFunction, Summary, plain, agg, average_of, filtered, sum_of, value_over}
 use Rattle.groups.specs.Bags.{SameBag}
-use Rattle.groups.specs.Groups.{Key, keys, members, project, same_key}
 use Rattle.groups.specs.Fitting.{IsHeld, HasType}
-use Rattle.groups.specs.Found.{Found}
-use Rattle.tables.specs.Functions.{aggregate_function, aggregate_functions}
-use Rattle.tables.specs.Results.{all_found, found}
+use Rattle.semantics.specs.Found.{Found, aggregate_function, aggregate_functions, all_found, found}
 use Rattle.tables.proofs.Bags.{all-append, all-decided, all-distinct, all-everywhere, all-filter, all-filter_map, all-map, find-such}
 use Rattle.tables.proofs.Finding.{set_groups}
 use Rattle.tables.proofs.TypeTests.{both-Decides, has_type, held-Decides, is_held, type-Decides, zip-Decides, zip_all}

@@ -2,17 +2,17 @@
 use Rattle.std.specs.Prelude.{◌≡◌, ℕ, ◌+◌, ◌++◌, ◌<◌, ◌^◌, List, length, map, filter_map, option_map}
 use Rattle.std.specs.List.{enumerate_from}
 use Rattle.std.specs.Result.{result_ok, result_err}
-use Rattle.values.specs.Schema.{Field}
-use Rattle.lines.specs.declared.fault.LineFault.{LineFault}
-use Rattle.lines.specs.Taken.{taken}
-use Rattle.query_tree.specs.Syntax.{TreeForm}
-use Rattle.query_resolution.specs.Sets.{grouping_places}
+use Rattle.semantics.specs.Columns.{Field}
+use Rattle.semantics.specs.declared.line_fault.LineFault.{LineFault}
+use Rattle.semantics.specs.Records.{taken}
+use Rattle.semantics.specs.Syntax.{TreeForm}
+use Rattle.semantics.specs.Sets.{grouping_places}
 use Rattle.query_resolution.specs.Functions.{indexed_functions}
-use Rattle.query_truth.specs.Kept.{kept}
-use Rattle.groups.specs.Rows.{Row}
+use Rattle.semantics.specs.Conditions.{kept}
+use Rattle.semantics.specs.Groups.{Row}
 use Rattle.groups.specs.Inside.Table.{Contents, IsOfFew, IsTableOf, TakesOne}
 use Rattle.query_plan.specs.Planned.{PlannedQuery}
-use Rattle.tables.specs.Functions.{aggregate_functions}
+use Rattle.semantics.specs.Found.{aggregate_functions}
 use Rattle.tables.specs.declared.folding.Folding.{Folding}
 
 -- the good records of these lines

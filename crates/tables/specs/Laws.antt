@@ -5,25 +5,24 @@ use Rattle.std.proofs.lemmas.List.{map-append, length-map}
 use Rattle.std.proofs.lemmas.List.Elements.{filter-append}
 use Rattle.std.specs.List.{enumerate_from}
 use Rattle.std.specs.Result.{result_err}
-use Rattle.values.specs.Datum.{Datum}
-use Rattle.values.specs.Schema.{Field}
-use Rattle.lines.specs.declared.fault.LineFault.{LineFault}
+use Rattle.semantics.specs.Values.{Datum}
+use Rattle.semantics.specs.Columns.{Field}
+use Rattle.semantics.specs.declared.line_fault.LineFault.{LineFault}
 use Rattle.lines.specs.declared.pieces.Piece.{Piece}
-use Rattle.lines.specs.Input.{answers, good, refused}
-use Rattle.lines.specs.Lines.{lines}
-use Rattle.lines.specs.Taken.{taken}
-use Rattle.query_tree.specs.Syntax.{TreeForm}
+use Rattle.semantics.specs.Records.{answers, good, refused, taken}
+use Rattle.semantics.specs.Lines.{lines}
+use Rattle.semantics.specs.Syntax.{TreeForm}
 use Rattle.query_resolution.specs.Functions.{indexed_functions}
-use Rattle.query_resolution.specs.Sets.{grouping_places, sets_of}
-use Rattle.query_truth.specs.Kept.{is_kept, kept}
+use Rattle.semantics.specs.Sets.{grouping_places, sets_of}
+use Rattle.semantics.specs.Conditions.{is_kept, kept}
 use Rattle.groups.specs.Bags.{weigh}
-use Rattle.groups.specs.Groups.{members}
-use Rattle.groups.specs.Rows.{Row}
+use Rattle.semantics.specs.Groups.{members, Row}
 use Rattle.groups.proofs.Bags.{weigh-append}
 use Rattle.groups.proofs.Meaning.{has_key, group_at-append}
 use Rattle.groups.proofs.AnyOrder.{options-flip}
 use Rattle.pool.specs.Lawful.{Lawful}
-use Rattle.tables.specs.Functions.{aggregate_functions, filter_texts}
+use Rattle.semantics.specs.Found.{aggregate_functions}
+use Rattle.tables.specs.Functions.{filter_texts}
 use Rattle.tables.specs.Means.{IsMean, both, group_of, mean, mean_at, mean_from, piece_at, piece_from}
 use Rattle.tables.specs.Notes.{note_of}
 use Rattle.tables.specs.Pieces.{IndexedPiece, all_lines, records_of, refused_within}

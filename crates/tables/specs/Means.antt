@@ -2,21 +2,21 @@
 use Rattle.std.specs.Prelude.{◌≡◌, ℕ, ◌+◌, min, List, [], ◌∷◌, length, map, slice_index_or, Option, Some, None, if◌then◌else◌}
 use Rattle.std.specs.FinMap as fin
 use Rattle.std.specs.List.{enumerate_from, list_any}
-use Rattle.values.specs.Schema.{Field}
+use Rattle.semantics.specs.Columns.{Field}
 use Rattle.lines.specs.declared.pieces.Piece.{Piece}
 use Rattle.lines.specs.Pieces.{bytes_of}
-use Rattle.query_tree.specs.Syntax.{TreeForm}
+use Rattle.semantics.specs.Syntax.{TreeForm}
 use Rattle.query_resolution.specs.declared.function.FilteredFunction.{FilteredFunction}
 use Rattle.query_resolution.specs.Functions.{indexed_functions}
-use Rattle.query_resolution.specs.Sets.{grouping_places, sets_of}
-use Rattle.query_truth.specs.Kept.{kept}
+use Rattle.semantics.specs.Sets.{grouping_places, sets_of}
+use Rattle.semantics.specs.Conditions.{kept}
 use Rattle.groups.specs.Bags.{weigh}
-use Rattle.groups.specs.Functions.{AggregateFunction}
-use Rattle.groups.specs.Groups.{Key, keys, members, same_key}
+use Rattle.semantics.specs.Aggregates.{AggregateFunction}
+use Rattle.semantics.specs.Groups.{Key, keys, members, same_key, Row}
 use Rattle.groups.specs.Inside.Group.{GroupState, group_state}
-use Rattle.groups.specs.Rows.{Row}
 use Rattle.groups.specs.Inside.Table.{join_options}
-use Rattle.tables.specs.Functions.{aggregate_functions, filter_texts}
+use Rattle.semantics.specs.Found.{aggregate_functions}
+use Rattle.tables.specs.Functions.{filter_texts}
 use Rattle.tables.specs.Notes.{Noted, note_of}
 use Rattle.tables.specs.Pieces.{IndexedPiece, all_lines, records_of, refused_within}
 use Rattle.tables.specs.States.{PartialState}

@@ -1,15 +1,13 @@
 -- The members that the rows of groups stand for, over all rows of a grouping set.
 use Rattle.std.specs.Prelude.{◌≡◌, ◌==◌, ◌<◌, ℕ, List, filter, length}
 use Rattle.std.specs.List.{flat_map}
-use Rattle.values.specs.Schema.{Field}
-use Rattle.query_tree.specs.Syntax.{TreeForm}
-use Rattle.query_resolution.specs.Sets.{sets_of}
-use Rattle.query_truth.specs.Kept.{kept}
-use Rattle.groups.specs.Rows.{Row}
-use Rattle.groups.specs.Groups.{members}
+use Rattle.semantics.specs.Columns.{Field}
+use Rattle.semantics.specs.Syntax.{TreeForm}
+use Rattle.semantics.specs.Sets.{sets_of}
+use Rattle.semantics.specs.Conditions.{kept}
+use Rattle.semantics.specs.Groups.{Row, members}
 use Rattle.groups.specs.Bags.{SameBag, weigh}
-use Rattle.groups.specs.Fitting.{set_of}
-use Rattle.groups.specs.Found.{Found}
+use Rattle.semantics.specs.Found.{set_of, Found}
 
 -- the rows of the grouping set with this index
 abbrev pub rows_of_set : ℕ → List Found → List Found

@@ -3,10 +3,10 @@ use Rattle.std.specs.Prelude.{◌≡◌, ℕ, ◌+◌, ◌≤◌, List, [], ◌�
 use Rattle.std.specs.List.{sum_by}
 use Rattle.std.specs.List.Sorted.{IsNonDecreasingBy}
 use Rattle.std.specs.Global.{Vec}
-use Rattle.values.specs.Schema.{Field}
-use Rattle.lines.specs.declared.fault.LineFault.{LineFault}
-use Rattle.lines.specs.Lines.{lines}
-use Rattle.lines.specs.Input.{refused}
+use Rattle.semantics.specs.Columns.{Field}
+use Rattle.semantics.specs.declared.line_fault.LineFault.{LineFault}
+use Rattle.semantics.specs.Lines.{lines}
+use Rattle.semantics.specs.Records.{refused}
 use Rattle.tables.specs.declared.note.Note.{Note}
 use Rattle.groups.specs.Bags.{SameBag}
 use Rattle.tables.specs.Pieces.{IndexedPiece}

@@ -1,16 +1,16 @@
 -- What a partial result stands for.
 use Rattle.std.specs.Prelude.{◌≡◌, ℕ, List, [], ◌∷◌, length, map}
-use Rattle.values.specs.Schema.{Field}
-use Rattle.lines.specs.Input.{good, refused}
-use Rattle.query_tree.specs.Syntax.{TreeForm}
-use Rattle.query_resolution.specs.Sets.{grouping_places, sets_of}
+use Rattle.semantics.specs.Columns.{Field}
+use Rattle.semantics.specs.Records.{good, refused}
+use Rattle.semantics.specs.Syntax.{TreeForm}
+use Rattle.semantics.specs.Sets.{grouping_places, sets_of}
 use Rattle.query_resolution.specs.Functions.{indexed_functions}
-use Rattle.query_truth.specs.Kept.{kept}
-use Rattle.groups.specs.Rows.{Row}
+use Rattle.semantics.specs.Conditions.{kept}
+use Rattle.semantics.specs.Groups.{Row}
 use Rattle.groups.specs.Bags.{SameBag}
 use Rattle.groups.specs.Inside.Table.{IsTableOf}
-use Rattle.tables.specs.Functions.{aggregate_functions, filter_texts}
-use Rattle.tables.specs.Results.{query_found}
+use Rattle.semantics.specs.Found.{aggregate_functions, query_found}
+use Rattle.tables.specs.Functions.{filter_texts}
 use Rattle.tables.specs.Notes.{note_of}
 use Rattle.tables.specs.Pieces.{IndexedPiece, IsCutInto, all_lines, records_of, refused_within}
 use Rattle.tables.specs.States.{GroupsState, PartialState}

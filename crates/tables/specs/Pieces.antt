@@ -2,13 +2,13 @@
 use Rattle.std.specs.Prelude.{◌≡◌, ℕ, ◌+◌, nat_eq, nat_lt, List, length, map, filter}
 use Rattle.std.specs.List.{IsDistinct, flat_map}
 use Rattle.std.specs.List.Sorted.{IsStrictlyIncreasing}
-use Rattle.values.specs.Schema.{Field}
-use Rattle.lines.specs.declared.fault.LineFault.{LineFault}
-use Rattle.lines.specs.Lines.{lines}
-use Rattle.lines.specs.Input.{good, refused}
+use Rattle.semantics.specs.Columns.{Field}
+use Rattle.semantics.specs.declared.line_fault.LineFault.{LineFault}
+use Rattle.semantics.specs.Lines.{lines}
+use Rattle.semantics.specs.Records.{good, refused}
 use Rattle.lines.specs.Pieces.{AllButLast, EndsInFeed}
 use Rattle.groups.specs.Bags.{SameBag}
-use Rattle.groups.specs.Rows.{Row}
+use Rattle.semantics.specs.Groups.{Row}
 
 -- a piece of an input: its index among the pieces, and its bytes
 pub record IndexedPiece : Type 0 where

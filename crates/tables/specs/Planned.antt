@@ -1,17 +1,15 @@
 -- What partial results and groups are under a plan: under its columns and its query.
 use Rattle.std.specs.Prelude.{List, map, ℕ}
-use Rattle.query_resolution.specs.Sets.{grouping_places}
-use Rattle.query_truth.specs.Kept.{kept}
+use Rattle.semantics.specs.Sets.{grouping_places}
+use Rattle.semantics.specs.Conditions.{kept}
 use Rattle.groups.specs.declared.group.Group.{Group}
 use Rattle.groups.specs.Bags.{SameBag}
-use Rattle.groups.specs.Groups.{Key, members}
+use Rattle.semantics.specs.Groups.{Key, members, Row}
 use Rattle.groups.specs.GroupSummaries.{group_summaries, group_summary_in}
 use Rattle.groups.specs.Rolled.{AreAmong, finer_members}
-use Rattle.groups.specs.Rows.{Row}
 use Rattle.query_plan.specs.Planned.{PlannedQuery}
 use Rattle.groups.specs.Fitting.{AreFitting}
-use Rattle.groups.specs.Found.{Found}
-use Rattle.tables.specs.Functions.{aggregate_functions}
+use Rattle.semantics.specs.Found.{Found, aggregate_functions}
 use Rattle.tables.specs.Members.{HasEachRecordOnce}
 use Rattle.tables.specs.Partials.{GivesGroups, IsPartialOf, IsResultOf, StandsFor}
 use Rattle.tables.specs.Pieces.{IndexedPiece}

@@ -3,10 +3,10 @@ use Rattle.std.specs.Prelude.{⊤, ℕ, List, [], ◌∷◌, map}
 use Rattle.std.specs.declared.alloc.Global.{Global}
 use Rattle.std.specs.declared.vec.Vec.{Vec}
 use Rattle.groups.specs.declared.group.Group.{Group}
-use Rattle.groups.specs.Functions.{AggregateFunction}
+use Rattle.semantics.specs.Aggregates.{AggregateFunction}
 use Rattle.groups.specs.GroupSummaries.{group_summary_in, group_summaries}
 use Rattle.groups.specs.Bags.{SameBag}
-use Rattle.groups.specs.Rows.{Row}
+use Rattle.semantics.specs.Groups.{Row}
 
 -- the groups are those of a grouping set over the records: one for each key, and no other
 abbrev pub AreGroupsOfSet : List ℕ → List AggregateFunction → List Group → List Row → Type 0

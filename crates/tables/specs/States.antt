@@ -1,9 +1,9 @@
 -- What a partial result and the groups of an input hold, apart from where it lies in memory.
 use Rattle.std.specs.Prelude.{ℕ, List}
-use Rattle.lines.specs.declared.fault.LineFault.{LineFault}
+use Rattle.semantics.specs.declared.line_fault.LineFault.{LineFault}
 use Rattle.query_resolution.specs.declared.function.FilteredFunction.{FilteredFunction}
 use Rattle.groups.specs.Inside.Table.{Contents}
-use Rattle.groups.specs.Found.{Found}
+use Rattle.semantics.specs.Found.{Found}
 use Rattle.tables.specs.Notes.{Noted}
 
 -- A partial result: its grouping sets, its set functions, the canonical texts of their filters, the groups of its table, how many lines and refused lines it counts, and of each piece its note.

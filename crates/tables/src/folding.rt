@@ -1,7 +1,7 @@
 //! Reading the lines of a piece.
 ghost use Rattle.std.specs.Prelude.{◌≡◌, ◌≤◌, [], All, List, IfOk, length};
-ghost use Rattle.lines.specs.Lines.{lines};
-ghost use Rattle.groups.specs.Rows.{Row};
+ghost use Rattle.semantics.specs.Lines.{lines};
+ghost use Rattle.semantics.specs.Groups.{Row};
 ghost use Rattle.tables.specs.Folding.{HasReadUnder, HasRoomUnder, IsTableUnder, refused_of};
 
 use crate::joining::Joiner;
@@ -26,8 +26,8 @@ pub(crate) struct Folding {
 
 impl Folding {
     ghost use Rattle.std.specs.Prelude.{◌≡◌, [], ◌∷◌, ◌++◌, ℕ, List, OnOk};
-    ghost use Rattle.values.specs.Fit.{Fits};
-    ghost use Rattle.groups.specs.Rows.{Row};
+    ghost use Rattle.semantics.specs.Records.{Fits};
+    ghost use Rattle.semantics.specs.Groups.{Row};
     ghost use Rattle.tables.specs.Folding.{HasReadUnder, IsTableUnder, ReadsOneMoreUnder, TakesRecordUnder};
 
     /// No line has been read behind the records that a table has.

@@ -1,10 +1,11 @@
 //! Two tables of records, put together.
 ghost use Rattle.std.specs.Prelude.{◌≡◌, ◌<◌, ◌⊎◌, ◌+◌, ◌++◌, [], All, Bool, ℕ, IfOk, List, map};
 ghost use Rattle.groups.specs.Bags.{SameBag};
-ghost use Rattle.groups.specs.Functions.{AggregateFunction, bound};
+ghost use Rattle.semantics.specs.Aggregates.{AggregateFunction};
+ghost use Rattle.groups.specs.Functions.{bound};
 ghost use Rattle.groups.specs.GroupSummaries.{group_summaries, group_summary_in};
 ghost use Rattle.groups.specs.Inside.Table.{AreGroupsWithin, CanJoin, IsTableOf};
-ghost use Rattle.groups.specs.Rows.{Row};
+ghost use Rattle.semantics.specs.Groups.{Row};
 ghost use Rattle.tables.specs.SetTables.{AreOfFew, AreRolled, HasFiner, HasRolled, set_of_roll};
 ghost use Rattle.query_resolution.specs.declared.function.FilteredFunction.{FilteredFunction};
 

@@ -1,9 +1,9 @@
 //! Laws of partial results and of groups, with no work to do.
 ghost use Rattle.std.specs.Prelude.{◌≡◌, ◌↔◌, ◌+◌, ◌<◌, ◌^◌, ◌++◌, ℕ, [], List, length};
-ghost use Rattle.values.specs.Schema.{Field};
+ghost use Rattle.semantics.specs.Columns.{Field};
 ghost use Rattle.lines.specs.declared.pieces.Piece.{Piece};
-ghost use Rattle.query_tree.specs.Syntax.{TreeForm};
-ghost use Rattle.groups.specs.Rows.{Row};
+ghost use Rattle.semantics.specs.Syntax.{TreeForm};
+ghost use Rattle.semantics.specs.Groups.{Row};
 ghost use Rattle.pool.specs.Totals.{sum_below, total};
 ghost use Rattle.groups.specs.Bags.{SameBag};
 ghost use Rattle.tables.specs.declared.grouped.Groups.{Groups};
@@ -12,7 +12,7 @@ ghost use Rattle.tables.specs.Members.{HasEachRecordOnce};
 ghost use Rattle.tables.specs.Partials.{GivesGroups, StandsFor};
 ghost use Rattle.tables.specs.Means.{both, indexed, indexed_from, mean, mean_at, mean_from, meaning};
 ghost use Rattle.tables.specs.Pieces.{IndexedPiece, all_lines, refused_within};
-ghost use Rattle.tables.specs.Results.{query_found};
+ghost use Rattle.semantics.specs.Found.{query_found};
 
 /// A law, with no work to do: a result stands for the same pieces in any other order.
 pub fn order_law()

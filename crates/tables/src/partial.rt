@@ -76,12 +76,11 @@ impl Model for Partial {
 
 impl Partial {
     ghost use Rattle.std.specs.Prelude.{[], ◌∷◌, ◌++◌, ◌+◌, ◌↔◌, ℕ, List, IfOk, OnOk, IsTrue};
-    ghost use Rattle.values.specs.Schema.{Field};
-    ghost use Rattle.lines.specs.Lines.{lines};
+    ghost use Rattle.semantics.specs.Columns.{Field};
+    ghost use Rattle.semantics.specs.Lines.{lines};
     ghost use Rattle.lines.specs.Pieces.{AreWholeLines};
-    ghost use Rattle.query_tree.specs.Syntax.{TreeForm};
-    ghost use Rattle.groups.specs.Groups.{Key};
-    ghost use Rattle.groups.specs.Rows.{Row};
+    ghost use Rattle.semantics.specs.Syntax.{TreeForm};
+    ghost use Rattle.semantics.specs.Groups.{Key, Row};
     ghost use Rattle.tables.specs.Partials.{HaveOneShape, IsPartialOf, StandsFor, StandsForInput, one_piece, whole_piece};
     ghost use Rattle.tables.specs.Planned.{AreFittingUnder, AreGroupingColumns, GivesGroupsOfSet, GivesGroupsUnder, HasEachRecordOnceUnder, HasMembersOfFiner, IsPartialUnder, IsResultUnder, StandsForUnder};
     ghost use Rattle.tables.specs.Pieces.{AreInOrder, AreNumbered, HaveOwnIndexes, IndexedPiece, IsCutInto, all_lines, records_of, refused_numbered, refused_within};

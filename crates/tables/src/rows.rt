@@ -1,11 +1,11 @@
 //! The groups of all grouping sets, each beside the index of its set.
 ghost use Rattle.std.specs.Prelude.{◌≡◌, ◌++◌, ℕ, IfOk, OnOk, List, map};
-ghost use Rattle.groups.specs.Rows.{Row};
+ghost use Rattle.semantics.specs.Groups.{Row};
 ghost use Rattle.groups.specs.GroupSummaries.{group_summary_in};
 ghost use Rattle.groups.specs.Bags.{SameBag};
 ghost use Rattle.groups.specs.Found.{row_of, rows_from};
 ghost use Rattle.tables.specs.Folding.{IsOfFewUnder, IsTableUnder};
-ghost use Rattle.tables.specs.Results.{query_found};
+ghost use Rattle.semantics.specs.Found.{query_found};
 
 use crate::joining::Joiner;
 use crate::rolling::groups_of_sets;

@@ -27,7 +27,7 @@ impl Drop for Shape {
 }
 
 impl Shape {
-    ghost use Rattle.query_resolution.specs.Sets.{sets_of};
+    ghost use Rattle.semantics.specs.Sets.{sets_of};
     ghost use Rattle.query_resolution.specs.Functions.{indexed_functions};
     ghost use Rattle.tables.specs.Functions.{filter_texts};
 

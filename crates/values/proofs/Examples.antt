@@ -1,15 +1,13 @@
 -- The definitions, computed on examples.
 use Rattle.std.proofs.Common.{◌≡◌, [], ◌∷◌, Ok, Err, pos, negsuc, true, false, refl, codes, arith}
 use Rattle.std.specs.declared.cmp.Ordering.TheVariants.{Less}
-use Rattle.values.specs.declared.schema.Kind.TheVariants as kind
-use Rattle.values.specs.declared.fault.SchemaFault.TheVariants.{Empty, BadName, UnknownType, RepeatedName}
-use Rattle.values.specs.declared.truth.Truth.TheVariants.{True, Unknown, False}
-use Rattle.values.specs.declared.comparison.Op.TheVariants as op
-use Rattle.values.specs.Datum.{boolean, whole, text, null}
-use Rattle.values.specs.Comparison.{comparison}
-use Rattle.values.specs.Fit.{Holds}
-use Rattle.values.specs.Order.{value_order}
-use Rattle.values.specs.Schema.{schema_of}
+use Rattle.semantics.specs.declared.kind.Kind.TheVariants as kind
+use Rattle.semantics.specs.declared.schema_fault.SchemaFault.TheVariants.{Empty, BadName, UnknownType, RepeatedName}
+use Rattle.semantics.specs.declared.truth.Truth.TheVariants.{True, Unknown, False}
+use Rattle.semantics.specs.declared.comparison.Op.TheVariants as op
+use Rattle.semantics.specs.Values.{boolean, whole, text, null, comparison, value_order}
+use Rattle.semantics.specs.Records.{Holds}
+use Rattle.semantics.specs.Columns.{schema_of}
 
 two_columns : schema_of (codes "day:text,cents_2:int") ≡ Ok (record { name = codes "day"; kind = kind.Text } ∷ record { name = codes "cents_2"; kind = kind.Int } ∷ [])
 two_columns = refl

@@ -5,7 +5,7 @@ use Rattle.values.specs.declared.schema.Column.{Column}
 use Rattle.values.specs.declared.value.Value.{Value}
 use Rattle.values.specs.Datum.{datum_of, data_of}
 use Rattle.values.specs.Schema.{fields_of}
-use Rattle.values.specs.Fit.{Holds, Fits}
+use Rattle.semantics.specs.Records.{Holds, Fits}
 
 -- each column holds its value
 abbrev pub EachHolds : List Column → List Value → ℕ → Type 0

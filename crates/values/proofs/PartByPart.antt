@@ -12,10 +12,11 @@ use Rattle.std.proofs.Math.Seq.{take-append_seam}
 use Rattle.std.specs.List.{cons_option, enumerate_from, filter_map, list_any}
 use Rattle.std.specs.Option.{is_none}
 use Rattle.std.specs.Str.{bytes_eq}
-use Rattle.values.specs.declared.schema.Kind.{Kind}
+use Rattle.semantics.specs.declared.kind.Kind.{Kind}
 use Rattle.values.specs.declared.schema.Column.{Column}
-use Rattle.values.specs.declared.fault.SchemaFault.{SchemaFault}
-use Rattle.values.specs.Schema.{Field, fields_of, names_of, is_name, name_of, kind_of, column_of, fault_of, parts, unless_faulty, schema_of, IsSchema}
+use Rattle.semantics.specs.declared.schema_fault.SchemaFault.{SchemaFault}
+use Rattle.semantics.specs.Columns.{Field, names_of, is_name, name_of, kind_of, column_of, fault_of, parts, unless_faulty, schema_of}
+use Rattle.values.specs.Schema.{fields_of, IsSchema}
 
 -- a test of the names of columns
 pub names_any : (test : List ℕ → Bool) (columns : List Column) → list_any (λ column. test (string_bytes column.name)) columns ≡ list_any test (names_of (fields_of columns))

@@ -2,47 +2,24 @@
 
 ghost use Rattle.std.specs.Prelude.{◌≡◌};
 ghost use Rattle.values.specs.Datum.{datum_of};
-ghost use Rattle.values.specs.Comparison.{comparison, AreComparable};
+ghost use Rattle.semantics.specs.Values.{accepts, comparison};
+ghost use Rattle.values.specs.Comparison.{AreComparable};
 
-use crate::truth::Truth;
 use crate::value::Value;
+use semantics::{Op, Truth};
 use std::cmp::Ordering;
 
-/// An operator of a comparison: `=`, `<>`, `<`, `<=`, `>`, `>=` (ISO/IEC 9075-2,
-/// `<comparison predicate>`).
-///
-/// Example: of 2 on the left and 2 on the right `Le` holds, and `Lt` does not.
-#[derive(Clone, Copy, Debug, PartialEq, Eq, Hash)]
-pub enum Op {
-    /// `=`: both are equal.
-    Eq,
-    /// `<>`: they are not equal.
-    Ne,
-    /// `<`: the left one is less.
-    Lt,
-    /// `<=`: the left one is less, or both are equal.
-    Le,
-    /// `>`: the left one is greater.
-    Gt,
-    /// `>=`: the left one is greater, or both are equal.
-    Ge,
-}
-
-impl Op {
-    ghost use Rattle.values.specs.Comparison.{accepts};
-
-    /// Whether the operator holds of operands that stand to each other like this.
-    fn accepts(self, order: Ordering) -> bool
-        ensures table { result ≡ accepts self order }
-    {
-        match self {
-            Op::Eq => order.is_eq(),
-            Op::Ne => order.is_ne(),
-            Op::Lt => order.is_lt(),
-            Op::Le => order.is_le(),
-            Op::Gt => order.is_gt(),
-            Op::Ge => order.is_ge(),
-        }
+/// Whether the operator holds of operands that stand to each other like this.
+fn accepts(op: Op, order: Ordering) -> bool
+    ensures table { result ≡ accepts op order }
+{
+    match op {
+        Op::Eq => order.is_eq(),
+        Op::Ne => order.is_ne(),
+        Op::Lt => order.is_lt(),
+        Op::Le => order.is_le(),
+        Op::Gt => order.is_gt(),
+        Op::Ge => order.is_ge(),
     }
 }
 
@@ -60,6 +37,6 @@ pub fn compare(op: Op, left: &Value, right: &Value) -> Truth
 {
     match (left, right) {
         (Value::Null, _) | (_, Value::Null) => Truth::Unknown,
-        (left, right) => Truth::from(op.accepts(left.order(right))),
+        (left, right) => Truth::from(accepts(op, left.order(right))),
     }
 }

@@ -6,16 +6,13 @@
 #![tactic(auto)]
 
 mod comparison;
-mod fault;
 mod part;
 mod record;
 mod schema;
-mod truth;
 mod value;
 
-pub use comparison::{Op, compare};
-pub use fault::SchemaFault;
+pub use comparison::compare;
 pub use record::Record;
-pub use schema::{Column, Kind, Schema};
-pub use truth::Truth;
+pub use schema::{Column, Schema};
+pub use semantics::{Kind, Op, SchemaFault, Truth};
 pub use value::Value;

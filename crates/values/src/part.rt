@@ -3,10 +3,11 @@
 ghost use Rattle.std.specs.Prelude.{◌≡◌, ◌≢◌, IfErr, IfOk, Some, None};
 ghost use Rattle.std.specs.List.{list_all, list_any};
 ghost use Rattle.std.specs.Str.{bytes_eq};
-ghost use Rattle.values.specs.Schema.{begins_name, column_of, continues_name, fault_of, field_of, fields_of, is_name, kind_named, kind_of, name_of, names_of};
+ghost use Rattle.semantics.specs.Columns.{begins_name, column_of, continues_name, fault_of, is_name, kind_named, kind_of, name_of, names_of};
+ghost use Rattle.values.specs.Schema.{field_of, fields_of};
 
-use crate::fault::SchemaFault;
-use crate::schema::{Column, Kind};
+use crate::schema::Column;
+use semantics::{Kind, SchemaFault};
 use std::alloc::Global;
 
 /// The most columns that a schema has.

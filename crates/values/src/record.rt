@@ -19,7 +19,8 @@ pub struct Record {
 
 impl Model for Record {
     ghost use Rattle.std.specs.Prelude.{List};
-    ghost use Rattle.values.specs.Datum.{Datum, data_of};
+    ghost use Rattle.semantics.specs.Values.{Datum};
+    ghost use Rattle.values.specs.Datum.{data_of};
 
     ghost Value = { List Datum };
 

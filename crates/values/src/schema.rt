@@ -1,48 +1,16 @@
 //! The columns that lines are read under.
 
 ghost use Rattle.std.specs.Prelude.{◌≡◌, ◌≢◌, ◌↔◌, IsTrue, IfErr, IfOk};
-ghost use Rattle.values.specs.Datum.{data_of};
+ghost use Rattle.values.specs.Datum.{data_of, datum_of};
 ghost use Rattle.values.specs.Schema.{fields_of};
-ghost use Rattle.values.specs.Fit.{Fits};
+ghost use Rattle.semantics.specs.Records.{Fits, Holds};
 
-use crate::fault::SchemaFault;
 use crate::part::next_column;
 use crate::record::Record;
 use crate::value::Value;
+use semantics::{Kind, SchemaFault};
 use std::alloc::Global;
 use std::marker::Model;
-
-/// The type of a column. A column of each type may also hold NULL.
-///
-/// Example: the schema text `shop:text,cents:int` has a column of the type `Text` and one of `Int`.
-#[derive(Clone, Copy, Debug, PartialEq, Eq, Hash)]
-pub enum Kind {
-    /// `int`: whole numbers from -2^63 to 2^63-1.
-    Int,
-    /// `text`: texts, of any length.
-    Text,
-    /// `bool`: truth values.
-    Bool,
-}
-
-impl Kind {
-    ghost use Rattle.values.specs.Datum.{datum_of};
-    ghost use Rattle.values.specs.Fit.{Holds};
-
-    /// Whether a column of this type holds a value.
-    fn holds(self, value: &Value) -> bool
-        ensures holds { IsTrue result ↔ Holds self (datum_of value.now) }
-    {
-        match (self, value) {
-            (_, Value::Null) => true,
-            (Kind::Int, Value::Int(number)) => i64::try_from(*number).is_ok(),
-            (Kind::Text, Value::Text(_)) | (Kind::Bool, Value::Bool(_)) => true,
-            (Kind::Int, Value::Text(_) | Value::Bool(_))
-            | (Kind::Text, Value::Int(_) | Value::Bool(_))
-            | (Kind::Bool, Value::Int(_) | Value::Text(_)) => false,
-        }
-    }
-}
 
 /// A column of a schema: the member of its name is taken, as its type says.
 ///
@@ -67,7 +35,8 @@ pub struct Schema {
 
 impl Model for Schema {
     ghost use Rattle.std.specs.Prelude.{List};
-    ghost use Rattle.values.specs.Schema.{Field, fields_of, IsSchema};
+    ghost use Rattle.semantics.specs.Columns.{Field};
+    ghost use Rattle.values.specs.Schema.{fields_of, IsSchema};
 
     ghost Value = { List Field };
 
@@ -77,8 +46,9 @@ impl Model for Schema {
 }
 
 impl Schema {
-    ghost use Rattle.values.specs.Schema.{fields_of, schema_of, IsSchema};
-    ghost use Rattle.values.specs.Fit.{Fits};
+    ghost use Rattle.values.specs.Schema.{fields_of, IsSchema};
+    ghost use Rattle.semantics.specs.Columns.{schema_of};
+    ghost use Rattle.semantics.specs.Records.{Fits};
 
     /// Reads a schema text: parts `name:type` joined by commas, without white space, the type `int`,
     /// `text` or `bool`, as in `day:text,cents:int`.
@@ -126,6 +96,20 @@ impl Schema {
     }
 }
 
+/// Whether a column of this type holds a value.
+fn holds(kind: Kind, value: &Value) -> bool
+    ensures holds { IsTrue result ↔ Holds kind (datum_of value.now) }
+{
+    match (kind, value) {
+        (_, Value::Null) => true,
+        (Kind::Int, Value::Int(number)) => i64::try_from(*number).is_ok(),
+        (Kind::Text, Value::Text(_)) | (Kind::Bool, Value::Bool(_)) => true,
+        (Kind::Int, Value::Text(_) | Value::Bool(_))
+        | (Kind::Text, Value::Int(_) | Value::Bool(_))
+        | (Kind::Bool, Value::Int(_) | Value::Text(_)) => false,
+    }
+}
+
 /// Whether there is one value for each column, and each column holds its value.
 fn all_hold(columns: &[Column], values: &[Value]) -> bool
     ensures fits { IsTrue result ↔ Fits (fields_of columns.now) (data_of values.now) }
@@ -134,7 +118,7 @@ fn all_hold(columns: &[Column], values: &[Value]) -> bool
         return false;
     }
     for (column, value) in columns.iter().zip(values) {
-        if !column.kind.holds(value) {
+        if !holds(column.kind, value) {
             return false;
         }
     }

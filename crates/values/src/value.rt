@@ -25,7 +25,7 @@ pub enum Value {
 
 impl Value {
     ghost use Rattle.values.specs.Datum.{datum_of};
-    ghost use Rattle.values.specs.Order.{value_order};
+    ghost use Rattle.semantics.specs.Values.{value_order};
 
     /// Whether two values are not distinct, as rows of one group are (ISO/IEC 9075-2,
     /// `<distinct predicate>`): NULL is not distinct from NULL. It is what `==` answers.

@@ -2,7 +2,9 @@
 ghost use Rattle.std.specs.Prelude.{◌≡◌, ◌<◌, ◌^◌, ◌∷◌, [], IfOk, length, List, map};
 ghost use Rattle.values.specs.Datum.{data_of, datum_of};
 ghost use Rattle.groups.specs.Functions.{bound};
-ghost use Rattle.groups.specs.Rows.{Row, IsNarrow, IsNarrowRow, is_present, value_at};
+ghost use Rattle.semantics.specs.Groups.{Row, value_at};
+ghost use Rattle.groups.specs.Rows.{IsNarrow, IsNarrowRow};
+ghost use Rattle.semantics.specs.Aggregates.{is_present};
 ghost use Rattle.groups.specs.Inside.Table.{IsTableOf};
 
 use groups::{Cell, Group, Table};

@@ -1,6 +1,6 @@
 //! The result over a front of whole lines, followed by that over the rest, is the result over all.
 ghost use Rattle.std.specs.Prelude.{◌≡◌, ◌^◌, ◌<◌, length, true, IfOk};
-ghost use Rattle.lines.specs.Lines.{lines};
+ghost use Rattle.semantics.specs.Lines.{lines};
 ghost use Rattle.lines.specs.Pieces.{AreWholeLines};
 ghost use Rattle.tables.specs.Partials.{IsPartialOf, StandsForInput};
 

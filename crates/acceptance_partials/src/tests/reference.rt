@@ -1,6 +1,6 @@
 //! What a query finds in an input, by the definitions' plain program: slow, over lists, without tables.
 ghost use Rattle.std.specs.Prelude.{◌<◌, length};
-ghost use Rattle.query_resolution.specs.Functions.{functions_of};
+ghost use Rattle.semantics.specs.SetFunctions.{functions_of};
 
 use lines::{LineFault, LineRefusal, lines_of, read_record};
 use query::{ColumnFunction, Plan, filter_holds};

@@ -4,12 +4,12 @@ use Rattle.std.specs.FinSet as set
 use Rattle.std.specs.Int.{w128}
 use Rattle.std.specs.Option.{option_map_or}
 use Rattle.std.specs.Coded.{Coded, code_by, coded×, coded_ℕ, coded_ℤ}
-use Rattle.values.specs.Datum.{Datum, datum_of, whole, null}
-use Rattle.values.specs.Order.{value_order}
-use Rattle.query_resolution.specs.declared.function.ColumnFunction.{ColumnFunction}
-use Rattle.query_resolution.specs.declared.function.ColumnFunction.TheVariants as function
-use Rattle.groups.specs.Rows.{Row, value_at, present, numbers, column_values, column_numbers}
-use Rattle.groups.specs.Functions.{AggregateFunction, Summary, plain, ratio, total, least, greatest}
+use Rattle.semantics.specs.Values.{Datum, whole, null, value_order}
+use Rattle.values.specs.Datum.{datum_of}
+use Rattle.semantics.specs.declared.function.ColumnFunction.{ColumnFunction}
+use Rattle.semantics.specs.declared.function.ColumnFunction.TheVariants as function
+use Rattle.semantics.specs.Groups.{Row, value_at}
+use Rattle.semantics.specs.Aggregates.{present, numbers, column_values, column_numbers, AggregateFunction, Summary, plain, ratio, total, least, greatest}
 use Rattle.groups.specs.Inside.Coding.{coded_datum}
 use Rattle.groups.specs.Inside.Values.{Values, set_of, falling, first_by}
 use Rattle.groups.specs.declared.accumulator.Accumulator.{Accumulator}

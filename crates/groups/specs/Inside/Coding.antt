@@ -1,7 +1,7 @@
 -- Codes of values and keys, by which tables of them are values of contracts too.
 use Rattle.std.specs.Prelude.{◌≡◌, Bool, true, false, cond, ℕ, ℤ, pos, zero, suc, List, [], refl}
 use Rattle.std.specs.Coded.{Coded, code_by, coded×, coded_ℕ, coded_ℤ, coded_list}
-use Rattle.values.specs.Datum.{Datum, boolean, whole, text, null}
+use Rattle.semantics.specs.Values.{Datum, boolean, whole, text, null}
 
 abbrev pub Parts : Type 0
 Parts = ℕ × (ℤ × List ℕ)

@@ -3,10 +3,9 @@ use Rattle.std.specs.Prelude.{Bool, ℕ, ◌+◌, List, [], ◌∷◌, length, m
 use Rattle.std.specs.List.{AllByRecursion}
 use Rattle.std.specs.Coded.{Coded, code_by, coded×, coded_ℕ, coded_list}
 use Rattle.query_resolution.specs.declared.function.FilteredFunction.{FilteredFunction}
-use Rattle.groups.specs.Rows.{Row}
-use Rattle.groups.specs.Functions.{AggregateFunction}
-use Rattle.groups.specs.Groups.{Key}
-use Rattle.groups.specs.GroupSummaries.{GroupSummary}
+use Rattle.semantics.specs.Groups.{Row, Key}
+use Rattle.semantics.specs.Aggregates.{AggregateFunction}
+use Rattle.semantics.specs.Found.{GroupSummary}
 use Rattle.groups.specs.Inside.Accumulator.{AccumulatorState, accumulator_state, no_state, is_marked, with_member, joined, summary, IsWithin, coded_accumulator}
 
 pub record GroupState : Type 0 where

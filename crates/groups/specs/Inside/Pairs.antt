@@ -1,6 +1,6 @@
 -- Shards of two tables that are put together, in pairs.
 use Rattle.std.specs.Prelude.{◌≡◌, true}
-use Rattle.groups.specs.Groups.{Key}
+use Rattle.semantics.specs.Groups.{Key}
 use Rattle.groups.specs.Inside.Shards.{contents_in}
 use Rattle.groups.specs.Inside.Table.{CanJoin, IsJoined}
 use Rattle.groups.specs.declared.pairs.Pair.{Pair}

@@ -9,9 +9,10 @@ use Rattle.values.specs.declared.value.Value.{Value}
 use Rattle.values.specs.Datum.{data_of}
 use Rattle.query_resolution.specs.declared.function.FilteredFunction.{FilteredFunction}
 use Rattle.groups.specs.Inside.Coding.{coded_key}
-use Rattle.groups.specs.Rows.{Row, IsNarrowRow}
-use Rattle.groups.specs.Functions.{AggregateFunction, bound}
-use Rattle.groups.specs.Groups.{Key, key_order, same_key, keys, members}
+use Rattle.semantics.specs.Groups.{Row, Key, key_order, same_key, keys, members}
+use Rattle.groups.specs.Rows.{IsNarrowRow}
+use Rattle.semantics.specs.Aggregates.{AggregateFunction}
+use Rattle.groups.specs.Functions.{bound}
 use Rattle.groups.specs.Inside.Group.{GroupState, coded_group, group_state, no_group, with_row, join}
 use Rattle.groups.specs.declared.part.Part.{Part}
 use Rattle.groups.specs.declared.part.Part.TheVariants as taken

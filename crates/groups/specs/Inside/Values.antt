@@ -4,9 +4,9 @@ use Rattle.std.specs.declared.cmp.Ordering.{Ordering}
 use Rattle.std.specs.declared.cmp.Ordering.TheVariants.{Less, Equal, Greater}
 use Rattle.std.specs.FinSet as set
 use Rattle.std.specs.Ordering.{is_lt}
-use Rattle.values.specs.Datum.{Datum, data_of, null}
+use Rattle.semantics.specs.Values.{Datum, null, value_order}
+use Rattle.values.specs.Datum.{data_of}
 use Rattle.values.specs.declared.value.Value.{Value}
-use Rattle.values.specs.Order.{value_order}
 
 -- a finite set of values
 abbrev pub Values : Type 0

@@ -2,9 +2,10 @@
 ghost use Rattle.std.specs.Prelude.{◌≡◌, ◌≢◌, ◌<◌, ◌≤◌, ℕ, Some, All, get_or, length, map, set, string_bytes, IfSome, MatchOption};
 ghost use Rattle.serde_json.specs.Data.{Data, Members, no_members};
 ghost use Rattle.values.specs.Datum.{datum_of, data_of};
-ghost use Rattle.values.specs.Schema.{Field, IsSchema, fields_of};
+ghost use Rattle.semantics.specs.Columns.{Field};
+ghost use Rattle.values.specs.Schema.{IsSchema, fields_of};
 ghost use Rattle.lines.specs.Meant.{AreMembers, IsValue};
-ghost use Rattle.lines.specs.Taken.{data_taken, datum_taken};
+ghost use Rattle.semantics.specs.Records.{data_taken, datum_taken};
 
 use crate::tokens::numerals::whole_number;
 use crate::tokens::passing::pass;

@@ -2,15 +2,15 @@
 use Rattle.std.specs.Prelude.{ℕ, Option, List, map, length}
 use Rattle.std.specs.List.{flat_map}
 use Rattle.std.specs.Option.{option_or}
-use Rattle.values.specs.Schema.{Field}
-use Rattle.query_tree.specs.Syntax.{PredicateForm, ElementForm, ItemForm, KeyForm, TreeForm}
-use Rattle.query_print.specs.Canonical.{header_text}
-use Rattle.query_fault.specs.declared.QueryFault.{QueryFault}
+use Rattle.semantics.specs.Columns.{Field}
+use Rattle.semantics.specs.Syntax.{PredicateForm, ElementForm, ItemForm, KeyForm, TreeForm}
+use Rattle.semantics.specs.Canonical.{header_text}
+use Rattle.semantics.specs.declared.query_fault.QueryFault.{QueryFault}
 use Rattle.query_check.specs.declared.scope.Clause.TheVariants as clause
-use Rattle.query_resolution.specs.Columns.{group_names}
-use Rattle.query_resolution.specs.Sets.{expanded}
-use Rattle.query_resolution.specs.Functions.{functions_of}
-use Rattle.query_check.specs.Typing.{key_expression}
+use Rattle.semantics.specs.Names.{group_names}
+use Rattle.semantics.specs.Sets.{expanded}
+use Rattle.semantics.specs.SetFunctions.{functions_of}
+use Rattle.semantics.specs.Types.{key_expression}
 use Rattle.query_check.specs.Inside.FirstFaults.{clause_fault, column_fault, expression_fault, first_fault, headers_fault, limit_fault}
 
 -- WHERE, then the names in GROUP BY, then the number of its expanded sets.

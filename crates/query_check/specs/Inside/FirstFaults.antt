@@ -3,22 +3,23 @@ use Rattle.std.specs.Prelude.{◌≡◌, ◌≢◌, Result, MatchResult, ℕ, �
 use Rattle.std.specs.List.{enumerate_from, list_any}
 use Rattle.std.specs.Option.{option_map_or, option_or}
 use Rattle.std.specs.Str.{bytes_eq}
-use Rattle.values.specs.declared.schema.Kind.{Kind}
-use Rattle.values.specs.declared.schema.Kind.TheVariants as kind
-use Rattle.values.specs.Schema.{Field}
-use Rattle.query_tree.specs.declared.expression.Aggregate.{Aggregate}
-use Rattle.query_tree.specs.declared.predicate.Literal.{Literal}
-use Rattle.query_tree.specs.Syntax.{ExpressionForm, FunctionForm, OperandForm, PredicateForm, PredicateForms, TreeForm, name, grouping, function, over_all, over_filtered, expression, literal, or_of, and_of, not_of, truth_test, compare, between, member, null_test, column, no_parts, part}
-use Rattle.query_print.specs.Canonical.{header_text}
-use Rattle.query_fault.specs.declared.QueryFault.{QueryFault}
-use Rattle.query_fault.specs.declared.QueryFault.TheVariants.{UnknownColumn, TypesDisagree, NotGrouped, OverLimit, FunctionNotAllowed, RepeatedHeader, OutOfMemory}
+use Rattle.semantics.specs.declared.kind.Kind.{Kind}
+use Rattle.semantics.specs.declared.kind.Kind.TheVariants as kind
+use Rattle.semantics.specs.Columns.{Field}
+use Rattle.semantics.specs.declared.aggregate.Aggregate.{Aggregate}
+use Rattle.semantics.specs.declared.literal.Literal.{Literal}
+use Rattle.semantics.specs.Syntax.{ExpressionForm, FunctionForm, OperandForm, PredicateForm, PredicateForms, TreeForm, name, grouping, function, over_all, over_filtered, expression, literal, or_of, and_of, not_of, truth_test, compare, between, member, null_test, column, no_parts, part}
+use Rattle.semantics.specs.Canonical.{header_text}
+use Rattle.semantics.specs.declared.query_fault.QueryFault.{QueryFault}
+use Rattle.semantics.specs.declared.query_fault.QueryFault.TheVariants.{UnknownColumn, TypesDisagree, NotGrouped, OverLimit, FunctionNotAllowed, RepeatedHeader, OutOfMemory}
 use Rattle.query_check.specs.declared.scope.Clause.{Clause}
 use Rattle.query_check.specs.declared.scope.Clause.TheVariants as clause
-use Rattle.query_resolution.specs.Columns.{column_kind, place_of}
-use Rattle.query_resolution.specs.Sets.{expanded, grouping_names, grouping_places}
-use Rattle.query_resolution.specs.Functions.{functions_of}
-use Rattle.query_check.specs.Faults.{same_kind}
-use Rattle.query_check.specs.Typing.{argument_names, key_expression, literal_kind, may_stand, operand_kind, takes}
+use Rattle.semantics.specs.Names.{column_kind, place_of}
+use Rattle.semantics.specs.Sets.{expanded, grouping_names, grouping_places}
+use Rattle.semantics.specs.SetFunctions.{functions_of}
+use Rattle.semantics.specs.Faults.{same_kind}
+use Rattle.query_check.specs.Typing.{argument_names, may_stand, takes}
+use Rattle.semantics.specs.Types.{key_expression, literal_kind, operand_kind}
 
 -- The first fault of the elements of a list, from left to right.
 abbrev pub first_fault : {A : Type 0} → (A → Option QueryFault) → List A → Option QueryFault

@@ -3,21 +3,21 @@
 use base.Stored.{Gv, gnil, gnum, gcons}
 use Rattle.std.proofs.Common.{◌≡◌, ℕ, zero, suc, Bool, false, Option, List, [], ◌∷◌, refl, ap, sym, subst}
 use Rattle.std.specs.Coded.{Coded, code_by, coded×, coded_ℕ, coded_bool, coded_list, coded_option}
-use Rattle.values.specs.declared.comparison.Op.{Op}
-use Rattle.values.specs.declared.comparison.Op.TheVariants.{Eq}
+use Rattle.semantics.specs.declared.comparison.Op.{Op}
+use Rattle.semantics.specs.declared.comparison.Op.TheVariants.{Eq}
 use Rattle.values.specs.contracts.comparison.Op as op
-use Rattle.values.specs.declared.truth.Truth.{Truth}
-use Rattle.values.specs.declared.truth.Truth.TheVariants.{Unknown}
+use Rattle.semantics.specs.declared.truth.Truth.{Truth}
+use Rattle.semantics.specs.declared.truth.Truth.TheVariants.{Unknown}
 use Rattle.values.specs.contracts.truth.Truth as truth
-use Rattle.query_tree.specs.declared.predicate.Literal.{Literal}
+use Rattle.semantics.specs.declared.literal.Literal.{Literal}
 use Rattle.query_tree.specs.contracts.predicate.Literal as literal_contract
-use Rattle.query_tree.specs.declared.expression.Aggregate.{Aggregate}
-use Rattle.query_tree.specs.declared.expression.Aggregate.TheVariants.{CountRows}
+use Rattle.semantics.specs.declared.aggregate.Aggregate.{Aggregate}
+use Rattle.semantics.specs.declared.aggregate.Aggregate.TheVariants.{CountRows}
 use Rattle.query_tree.specs.contracts.expression.Aggregate as aggregate
-use Rattle.values.specs.Schema.{Field}
+use Rattle.semantics.specs.Columns.{Field}
 use Rattle.values.specs.contracts.schema.Schema as schema
 use Rattle.query_plan.specs.Planned.{PlannedQuery}
-use Rattle.query_tree.specs.Syntax.{ElementForm, ElementForms, ExpressionForm, FunctionForm, ItemForm, KeyForm, OperandForm, PredicateForm, PredicateForms, TreeForm, name, grouping, function, over_all, over_filtered, literal, or_of, and_of, not_of, truth_test, compare, between, member, null_test, column, no_parts, part, set, rollup, cube, sets, no_groups, group}
+use Rattle.semantics.specs.Syntax.{ElementForm, ElementForms, ExpressionForm, FunctionForm, ItemForm, KeyForm, OperandForm, PredicateForm, PredicateForms, TreeForm, name, grouping, function, over_all, over_filtered, literal, or_of, and_of, not_of, truth_test, compare, between, member, null_test, column, no_parts, part, set, rollup, cube, sets, no_groups, group}
 
 -- What a node says by itself: which of its kind it is, and the names, the literals, the mark, the
 -- function, the operator and the truth value that it has.

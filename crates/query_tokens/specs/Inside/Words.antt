@@ -1,7 +1,7 @@
 -- The letters of reserved words, for the contracts of private functions and for proofs.
 use Rattle.std.specs.Prelude.{ℕ, List, codes}
-use Rattle.query_tokens.specs.declared.token.Word.{Word}
-use Rattle.query_tokens.specs.declared.token.Word.TheVariants as w
+use Rattle.semantics.specs.declared.token.Word.{Word}
+use Rattle.semantics.specs.declared.token.Word.TheVariants as w
 
 -- The letters of a reserved word, as the table of reserved words has them.
 abbrev pub word_text : Word → List ℕ

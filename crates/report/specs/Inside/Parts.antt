@@ -3,7 +3,7 @@ use Rattle.std.specs.Prelude.{◌≡◌, ℕ, List}
 use Rattle.std.specs.Global.{Vec}
 use Rattle.std.specs.declared.alloc.AllocError.{AllocError}
 use Rattle.std.specs.declared.result.Result.{Result}
-use Rattle.groups.specs.Functions.{Summary}
+use Rattle.semantics.specs.Aggregates.{Summary}
 use Rattle.rows.specs.Parts.{AreOfParts}
 use Rattle.report.specs.Text.{rows_bytes}
 

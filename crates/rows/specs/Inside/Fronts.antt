@@ -4,8 +4,8 @@ use Rattle.std.specs.declared.cmp.Ordering.{Ordering}
 use Rattle.std.specs.declared.cmp.Ordering.TheVariants.{Equal}
 use Rattle.std.specs.Ordering.{nat_cmp}
 use Rattle.std.specs.Cmp.Lexicographic.{slice_cmp}
-use Rattle.values.specs.Datum.{boolean, whole, text, null}
-use Rattle.groups.specs.Groups.{Key}
+use Rattle.semantics.specs.Values.{boolean, whole, text, null}
+use Rattle.semantics.specs.Groups.{Key}
 
 -- each number of a list is a byte
 abbrev pub AreBytes : List ℕ → Type 0

@@ -7,13 +7,15 @@ use Rattle.std.specs.Global.{Vec}
 use Rattle.std.specs.List.Sorted.{IsPermutation}
 use Rattle.std.specs.declared.alloc.AllocError.{AllocError}
 use Rattle.std.specs.declared.result.Result.{Result}
-use Rattle.values.specs.Datum.{Datum, data_of, null}
-use Rattle.values.specs.Schema.{Field}
-use Rattle.query_tree.specs.Syntax.{KeyForm, TreeForm}
-use Rattle.groups.specs.Groups.{key_order}
-use Rattle.groups.specs.Found.{Found, row_of}
+use Rattle.semantics.specs.Values.{Datum, null}
+use Rattle.values.specs.Datum.{data_of}
+use Rattle.semantics.specs.Columns.{Field}
+use Rattle.semantics.specs.Syntax.{KeyForm, TreeForm}
+use Rattle.semantics.specs.Groups.{key_order}
+use Rattle.semantics.specs.Found.{Found}
+use Rattle.groups.specs.Found.{row_of}
 use Rattle.rows.specs.declared.ranked.RankedRow.{RankedRow}
-use Rattle.rows.specs.Order.{key_value, under_key}
+use Rattle.semantics.specs.Order.{key_value, under_key}
 use Rattle.rows.specs.Parts.{AreOfParts}
 
 -- values, which stand beside a row

@@ -2,7 +2,7 @@ use Rattle.std.proofs.Common.{◌≡◌}
 use Rattle.std.specs.Array.Iter.{array_into_iter_items}
 use Rattle.std.specs.List.{AllByRecursion, fold}
 use Rattle.clap.specs.Words.{app_of}
-use Rattle.command_line.specs.Command.{command}
+use Rattle.semantics.specs.CommandLine.{command}
 use Rattle.command_line.proofs.Published.{IsLocal, with_argument}
 use Rattle.command_line.proofs.command.program_command.Given as goal
 

@@ -1,7 +1,7 @@
 use Rattle.std.proofs.Common.{◌∙◌, refl, rules, Some, codes}
 use Rattle.clap.specs.Walk.{texts}
 use Rattle.clap.specs.Words.{HasKind, fault_of}
-use Rattle.command_line.specs.Command.{command}
+use Rattle.semantics.specs.CommandLine.{command}
 use Rattle.command_line.proofs.Flags.{IsSet-read}
 use Rattle.command_line.proofs.Numbers.{IsNumberIn-published, IsNumberOf-read}
 use Rattle.command_line.proofs.Published.{HasKind-refused, fault_of-taken, value_of-matches}

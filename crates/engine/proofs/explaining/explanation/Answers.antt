@@ -3,9 +3,9 @@ use Rattle.std.proofs.lemmas.List.{length-map, take_all}
 use Rattle.std.specs.Global.{Vec}
 use Rattle.std.specs.Prelude.{codes, decimal}
 use Rattle.std.specs.List.{enumerate_from, flat_map}
-use Rattle.query_resolution.specs.Sets.{sets_of}
-use Rattle.query_print.specs.Canonical.{canonical_text}
-use Rattle.engine.specs.Explanation.{set_line}
+use Rattle.semantics.specs.Sets.{sets_of}
+use Rattle.semantics.specs.Canonical.{canonical_text}
+use Rattle.semantics.specs.Explanation.{set_line}
 use Rattle.engine.proofs.Explained.{lines-next, lines_from}
 use Rattle.engine.proofs.explaining.explanation.Goals as goal
 

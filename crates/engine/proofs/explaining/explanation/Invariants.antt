@@ -1,7 +1,7 @@
 use Rattle.std.proofs.Common.{◌≡◌, ◌++◌, string_bytes}
 use Rattle.std.specs.Prelude.{codes}
-use Rattle.query_resolution.specs.Sets.{sets_of}
-use Rattle.query_print.specs.Canonical.{canonical_text}
+use Rattle.semantics.specs.Sets.{sets_of}
+use Rattle.semantics.specs.Canonical.{canonical_text}
 use Rattle.engine.proofs.Explained.{lines_from}
 use Rattle.engine.proofs.explaining.explanation.Given as goal
 

@@ -1,10 +1,10 @@
 use Rattle.std.proofs.Common.{◌∙◌, ap, map, subst, sym}
 use Rattle.std.specs.List.{All}
-use Rattle.lines.specs.Input.{good}
-use Rattle.tables.specs.Results.{query_found}
+use Rattle.semantics.specs.Records.{good}
+use Rattle.semantics.specs.Found.{query_found}
 use Rattle.report.specs.Report.{NamesColumn, refusals_of}
-use Rattle.rows.specs.Shown.{row_shown}
-use Rattle.report.specs.Text.{report_bytes}
+use Rattle.semantics.specs.Rows.{row_shown}
+use Rattle.semantics.specs.Texts.{report_bytes}
 use Rattle.engine.proofs.Named.{refused-named}
 use Rattle.engine.proofs.running.texts_of.Goals as goal
 

@@ -1,10 +1,10 @@
 use Rattle.std.proofs.Common.{◌≡◌, ◌∙◌, List, [], Result, Ok, Err, ap, subst, sym}
 use Rattle.std.specs.Prelude.{IfOk, IsErrAnd, MatchResult, OnOk}
 use Rattle.std.proofs.lemmas.Result.{IfOk-weaker}
-use Rattle.values.specs.Schema.{Field, schema_of}
-use Rattle.query_tree.specs.Syntax.{TreeForm}
-use Rattle.query_check.specs.Faults.{query_faults}
-use Rattle.query_derivation.specs.Derivation.{Derives}
+use Rattle.semantics.specs.Columns.{Field, schema_of}
+use Rattle.semantics.specs.Syntax.{TreeForm}
+use Rattle.semantics.specs.Faults.{query_faults}
+use Rattle.semantics.specs.Reading.{Derives}
 use Rattle.query_plan.specs.Planned.{PlannedQuery}
 use Rattle.engine.proofs.serving.plan_of.Goals as goal
 

@@ -1,6 +1,6 @@
 use Rattle.std.proofs.Common.{◌≡◌, ◌<◌, subst, sym, true}
 use Rattle.std.specs.Prelude.{IfOk}
-use Rattle.engine.specs.Explanation.{Explains, IsAnswerable}
+use Rattle.semantics.specs.Explanation.{Explains, IsAnswerable}
 use Rattle.engine.proofs.serving.serve.Goals as goal
 
 pub returns-in-Ok-carried_out : goal.returns-in-Ok-carried_out

@@ -1,5 +1,5 @@
 use Rattle.std.proofs.Common.{◌∙◌, ◌+◌, ◌<◌, ◌^◌, ◌++◌, length, List, ℕ, Ok, ap, subst, sym, refl, arith, inr, rules}
-use Rattle.lines.specs.Lines.{lines}
+use Rattle.semantics.specs.Lines.{lines}
 use Rattle.lines.specs.Rounds.{RoundsState}
 use Rattle.tables.specs.Partials.{StandsFor, whole_piece}
 use Rattle.gathering.specs.Gathered.{limit_number}

@@ -1,6 +1,6 @@
 use Rattle.std.proofs.Common.{◌≡◌, ◌∙◌, ◌+◌, ◌<◌, ◌≤◌, ◌⊎◌, ◌^◌, true, All, IfErr, IfOk, List, ℕ, length, Ok, ap, refl, subst, sym, vec_len}
 use Rattle.std.proofs.lemmas.Result.{err_from_is_err_and}
-use Rattle.lines.specs.Input.{refused}
+use Rattle.semantics.specs.Records.{refused}
 use Rattle.lines.specs.Rounds.{HasMoved, RoundsState}
 use Rattle.gathering.specs.Gathered.{limit_number}
 use Rattle.gathering.specs.Faults.{IsWant, Refuses, Stops}

@@ -1,7 +1,7 @@
 use Rattle.std.proofs.Common.{◌≡◌, ◌∙◌, ◌+◌, ℕ, inr, length, sym, ap, subst, arith}
 use Rattle.std.proofs.lemmas.Result.{err_from_is_err_and}
 use denote.Param.Send.{sendable}
-use Rattle.lines.specs.Input.{refused}
+use Rattle.semantics.specs.Records.{refused}
 use Rattle.pool.specs.Fanned.{Settles}
 use Rattle.pool.specs.Totals.{sum_below}
 use Rattle.pool.proofs.Shares.{grown_within}

@@ -1,6 +1,6 @@
 use Rattle.std.proofs.Common.{◌≡◌, take}
 use Rattle.values.specs.Datum.{data_of}
-use Rattle.groups.specs.Groups.{project}
+use Rattle.semantics.specs.Groups.{project}
 use Rattle.groups.proofs.key.key_of.Given as goal
 
 abbrev pub invariant-loop-place : goal.invariant-loop-place

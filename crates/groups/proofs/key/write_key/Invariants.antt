@@ -1,6 +1,6 @@
 use Rattle.std.proofs.Common.{◌≡◌, ◌≤◌, length}
 use Rattle.values.specs.Datum.{data_of}
-use Rattle.groups.specs.Groups.{project}
+use Rattle.semantics.specs.Groups.{project}
 use Rattle.groups.proofs.Keys.{written_from}
 use Rattle.groups.proofs.key.write_key.Given as goal
 

@@ -1,5 +1,5 @@
 use Rattle.std.proofs.Common.{◌≡◌, ◌+◌, ◌<◌, ◌≤◌, ℕ, drop, get_or, length}
-use Rattle.groups.specs.Groups.{Key}
+use Rattle.semantics.specs.Groups.{Key}
 use Rattle.groups.specs.Inside.Shards.{contents_in}
 use Rattle.groups.specs.Inside.Table.{IsJoined}
 use Rattle.groups.specs.declared.shard.Shard.{Shard}

@@ -7,7 +7,7 @@ use Rattle.serde_json.specs.Data.{object}
 use Rattle.serde_json.specs.Read.{read}
 use Rattle.values.specs.Datum.{data_of}
 use Rattle.values.specs.Schema.{fields_of}
-use Rattle.lines.specs.Taken.{all_taken, data_taken, record_of}
+use Rattle.semantics.specs.Records.{all_taken, data_taken, record_of}
 use Rattle.lines.specs.Meant.{AreMembers}
 use Rattle.lines.proofs.Meaning.{first-object, read-one}
 use Rattle.lines.proofs.Fitting.{fits-taken}

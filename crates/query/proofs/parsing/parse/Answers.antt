@@ -1,6 +1,6 @@
 use Rattle.std.proofs.Common.{rules, ◌≤◌, ◌-◌, length, subst}
-use Rattle.query_derivation.specs.Prefixes.{IsUnexpected}
-use Rattle.query_derivation.specs.Grammar.{Derives}
+use Rattle.semantics.specs.Prefixes.{IsUnexpected}
+use Rattle.semantics.specs.Grammar.{Derives}
 use Rattle.query_tree.specs.Syntax.{tree_form}
 use Rattle.query.proofs.Places.{unexpected_at, too_much}
 use Rattle.query.proofs.Refusals.{told_no_token, told_unexpected, told_too_much, told_query}

@@ -1,8 +1,9 @@
 use Rattle.std.proofs.Common.{map, refl}
 use Rattle.std.proofs.lemmas.Result.{err_from_is_err_and}
 use Rattle.values.specs.Schema.{fields_of}
-use Rattle.query_tree.specs.Syntax.{element_form, element_forms}
-use Rattle.query_resolution.specs.Columns.{group_names, groups_names}
+use Rattle.query_tree.specs.Syntax.{element_form}
+use Rattle.semantics.specs.Syntax.{element_forms}
+use Rattle.semantics.specs.Names.{group_names, groups_names}
 use Rattle.query_check.proofs.Rows.{goes_on, stops}
 use Rattle.query_check.proofs.names.+check_group.Goals as goal
 

@@ -1,7 +1,8 @@
 use Rattle.std.proofs.Common.{◌≡◌, drop, map}
 use Rattle.values.specs.Schema.{fields_of}
-use Rattle.query_tree.specs.Syntax.{element_form, element_forms}
-use Rattle.query_resolution.specs.Columns.{group_names, groups_names}
+use Rattle.query_tree.specs.Syntax.{element_form}
+use Rattle.semantics.specs.Syntax.{element_forms}
+use Rattle.semantics.specs.Names.{group_names, groups_names}
 use Rattle.query_check.specs.Inside.FirstFaults.{column_fault, first_fault}
 use Rattle.query_check.proofs.names.+check_group.Given as goal
 

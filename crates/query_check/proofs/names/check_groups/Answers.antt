@@ -3,7 +3,7 @@ use Rattle.std.specs.List.{flat_map}
 use Rattle.std.proofs.lemmas.Result.{err_from_is_err_and}
 use Rattle.values.specs.Schema.{fields_of}
 use Rattle.query_tree.specs.Syntax.{element_form}
-use Rattle.query_resolution.specs.Columns.{group_names}
+use Rattle.semantics.specs.Names.{group_names}
 use Rattle.query_check.proofs.Rows.{goes_on, stops}
 use Rattle.query_check.proofs.names.check_groups.Goals as goal
 

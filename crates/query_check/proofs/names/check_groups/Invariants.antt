@@ -2,7 +2,7 @@ use Rattle.std.proofs.Common.{◌≡◌, drop, map}
 use Rattle.std.specs.List.{flat_map}
 use Rattle.values.specs.Schema.{fields_of}
 use Rattle.query_tree.specs.Syntax.{element_form}
-use Rattle.query_resolution.specs.Columns.{group_names}
+use Rattle.semantics.specs.Names.{group_names}
 use Rattle.query_check.specs.Inside.FirstFaults.{column_fault, first_fault}
 use Rattle.query_check.proofs.names.check_groups.Given as goal
 

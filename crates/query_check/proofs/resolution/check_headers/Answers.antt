@@ -1,11 +1,10 @@
-use Rattle.std.proofs.Common.{◌≡◌, ◌∙◌, ◌++◌, ◌∷◌, [], ℕ, List, true, false, map, take, sym, ap, string_bytes}
+use Rattle.std.proofs.Common.{◌≡◌, ◌∙◌, ◌++◌, ◌∷◌, [], ℕ, List, true, false, map, take, sym, ap, string_bytes, Some}
 use Rattle.std.specs.List.{list_any}
 use Rattle.std.specs.Str.{bytes_eq}
 use Rattle.std.proofs.lemmas.List.{map-append}
 use Rattle.query_tree.specs.Syntax.{item_form}
-use Rattle.query_print.specs.Canonical.{header_text}
-use Rattle.query_fault.specs.declared.QueryFault.TheVariants.{RepeatedHeader}
-use Rattle.std.proofs.Common.{Some}
+use Rattle.semantics.specs.Canonical.{header_text}
+use Rattle.semantics.specs.declared.query_fault.QueryFault.TheVariants.{RepeatedHeader}
 use Rattle.query_check.proofs.Headers.{header_at, header_met, header_new, headers_more, headers_of, within_headers}
 use Rattle.query_check.proofs.resolution.check_headers.Goals as goal
 

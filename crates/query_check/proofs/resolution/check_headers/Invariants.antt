@@ -1,7 +1,7 @@
 use Rattle.std.proofs.Common.{◌≡◌, map, take, drop, string_bytes}
 use Rattle.std.specs.List.{enumerate_from}
 use Rattle.query_tree.specs.Syntax.{item_form}
-use Rattle.query_print.specs.Canonical.{header_text}
+use Rattle.semantics.specs.Canonical.{header_text}
 use Rattle.query_check.specs.Inside.FirstFaults.{first_fault, header_fault, headers_fault}
 use Rattle.query_check.proofs.resolution.check_headers.Given as goal
 

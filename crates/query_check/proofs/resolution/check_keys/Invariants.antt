@@ -1,7 +1,7 @@
 use Rattle.std.proofs.Common.{◌≡◌, drop, map}
 use Rattle.values.specs.Schema.{fields_of}
 use Rattle.query_tree.specs.Syntax.{item_form, key_form}
-use Rattle.query_check.specs.Typing.{key_expression}
+use Rattle.semantics.specs.Types.{key_expression}
 use Rattle.query_check.specs.Inside.FirstFaults.{expression_fault, first_fault}
 use Rattle.query_check.proofs.resolution.check_keys.Given as goal
 

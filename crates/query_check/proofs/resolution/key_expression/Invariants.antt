@@ -1,6 +1,6 @@
 use Rattle.std.proofs.Common.{◌≡◌, drop, map}
 use Rattle.query_tree.specs.Syntax.{item_form}
-use Rattle.query_check.specs.Typing.{item_of_alias}
+use Rattle.semantics.specs.Types.{item_of_alias}
 use Rattle.query_check.proofs.resolution.key_expression.Given as goal
 
 abbrev pub invariant-loop-item : goal.invariant-loop-item

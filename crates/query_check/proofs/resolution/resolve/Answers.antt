@@ -1,12 +1,13 @@
 use Rattle.std.proofs.Common.{◌≡◌, ◌∙◌, ◌==◌, ℕ, List, map, ap}
 use Rattle.std.specs.Prelude.{if◌then◌else◌}
 use Rattle.std.specs.List.{flat_map}
-use Rattle.values.specs.Schema.{Field, fields_of}
+use Rattle.semantics.specs.Columns.{Field}
+use Rattle.values.specs.Schema.{fields_of}
 use Rattle.query_tree.specs.declared.group.GroupingElement.{GroupingElement}
 use Rattle.query_tree.specs.Syntax.{element_form, tree_form}
 use Rattle.query_resolution.specs.declared.function.FilteredFunction.{FilteredFunction}
-use Rattle.query_resolution.specs.Columns.{distinct, group_names, places_of}
-use Rattle.query_resolution.specs.Sets.{expanded, grouping_places, ordered_set, same_columns, sets_of}
+use Rattle.semantics.specs.Names.{distinct, group_names, places_of}
+use Rattle.semantics.specs.Sets.{expanded, grouping_places, ordered_set, same_columns, sets_of}
 use Rattle.query_resolution.specs.Functions.{indexed_functions}
 use Rattle.query_resolution.specs.Resolution.{contents, Resolution}
 use Rattle.query_check.proofs.resolution.resolve.Goals as goal

@@ -1,6 +1,7 @@
 use Rattle.std.proofs.Common.{◌≡◌, drop, map}
 use Rattle.values.specs.Schema.{fields_of}
-use Rattle.query_tree.specs.Syntax.{predicate_form, predicate_forms}
+use Rattle.query_tree.specs.Syntax.{predicate_form}
+use Rattle.semantics.specs.Syntax.{predicate_forms}
 use Rattle.query_check.specs.Inside.FirstFaults.{parts_fault}
 use Rattle.query_check.proofs.typing.+check_predicate.Given as goal
 

@@ -1,5 +1,5 @@
 use Rattle.std.proofs.Common.{◌≡◌, drop, Some}
-use Rattle.query_check.specs.Typing.{literal_kind}
+use Rattle.semantics.specs.Types.{literal_kind}
 use Rattle.query_check.specs.Inside.FirstFaults.{agreement_fault, first_fault}
 use Rattle.query_check.proofs.typing.check_literals.Given as goal
 

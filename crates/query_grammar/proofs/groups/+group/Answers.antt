@@ -1,7 +1,7 @@
 use Rattle.std.proofs.Common.{◌≡◌, ◌≤◌, length, map, ◌++◌, ◌∷◌, [], arith}
 use Rattle.std.proofs.lemmas.Result.{err_from_is_err_and}
 use Rattle.std.proofs.lemmas.List.{map_push}
-use Rattle.query_tokens.specs.declared.token.Sign.TheVariants.{Comma}
+use Rattle.semantics.specs.declared.token.Sign.TheVariants.{Comma}
 use Rattle.query_tree.specs.Syntax.{element_form}
 use Rattle.query_leaves.specs.Fronts.{is_sign}
 use Rattle.query_leaves.proofs.More.{unread_goes, unread_ends, unread_fails}

@@ -1,7 +1,7 @@
 use Rattle.std.proofs.Common.{◌≡◌, ◌+◌, ◌-◌, ◌++◌, ◌∷◌, [], map, suc, vec_len, arith}
 use Rattle.std.proofs.lemmas.Result.{err_from_is_err_and}
 use Rattle.std.proofs.lemmas.List.{map_push}
-use Rattle.query_tokens.specs.declared.token.Sign.TheVariants.{Comma}
+use Rattle.semantics.specs.declared.token.Sign.TheVariants.{Comma}
 use Rattle.query_leaves.specs.Fronts.{is_sign}
 use Rattle.query_leaves.proofs.More.{loop_over, loop_ends, loop_fails, front_goes, refused}
 use Rattle.query_leaves.proofs.lists.more_parts.Goals as goal

@@ -1,5 +1,5 @@
 use Rattle.std.proofs.Common.{◌≡◌, ◌+◌, ◌-◌, ◌≤◌, length, map, ◌∷◌, [], vec_len}
-use Rattle.query_tokens.specs.declared.token.Sign.TheVariants.{Comma}
+use Rattle.semantics.specs.declared.token.Sign.TheVariants.{Comma}
 use Rattle.query_leaves.specs.Fronts.{is_sign}
 use Rattle.query_leaves.specs.Steps.{with_front, more}
 use Rattle.query_leaves.proofs.lists.more_parts.Given as goal

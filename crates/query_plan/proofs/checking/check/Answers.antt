@@ -1,5 +1,5 @@
 use Rattle.std.proofs.Common.{◌≡◌, ◌∙◌, Some, ap, subst}
-use Rattle.query_tree.specs.Syntax.{TreeForm}
+use Rattle.semantics.specs.Syntax.{TreeForm}
 use Rattle.query_resolution.specs.Functions.{filters_of}
 use Rattle.query_resolution.specs.Resolution.{resolution_of}
 use Rattle.query_check.specs.Inside.FirstFaults.{query_fault}

@@ -1,9 +1,10 @@
 use Rattle.std.proofs.Common.{◌≡◌, ◌∙◌, ◌<◌, ℕ, List, Some, length, map, option_map, slice_get, string_bytes, arith, ap, sym}
 use Rattle.std.proofs.lemmas.List.{length-map}
 use Rattle.std.proofs.lemmas.Result.{IfOk-weaker}
-use Rattle.query_tree.specs.Syntax.{ItemForm, TreeForm, item_form}
+use Rattle.semantics.specs.Syntax.{ItemForm, TreeForm}
+use Rattle.query_tree.specs.Syntax.{item_form}
 use Rattle.query_tree.specs.declared.tree.Item.{Item}
-use Rattle.query_print.specs.Canonical.{header_text}
+use Rattle.semantics.specs.Canonical.{header_text}
 use Rattle.query_plan.proofs.Filtering.{mapped_at}
 use Rattle.query_plan.proofs.printing.header.Goals as goal
 

@@ -1,6 +1,6 @@
 use Rattle.std.proofs.Common.{◌≡◌, ◌++◌, drop, map, string_bytes}
 use Rattle.query_resolution.specs.Planning.{filter_forms}
-use Rattle.query_print.specs.Canonical.{predicate_text}
+use Rattle.semantics.specs.Canonical.{predicate_text}
 use Rattle.query_plan.proofs.printing.predicate_texts.Given as goal
 
 abbrev pub invariant-loop-predicate : goal.invariant-loop-predicate

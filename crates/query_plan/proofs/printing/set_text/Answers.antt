@@ -4,8 +4,8 @@ use Rattle.std.proofs.lemmas.Option.{slice_get-get_or}
 use Rattle.std.proofs.lemmas.Result.{IfOk-weaker}
 use Rattle.std.specs.Global.{Vec}
 use Rattle.query_resolution.specs.Resolution.{contents}
-use Rattle.query_resolution.specs.Sets.{sets_of}
-use Rattle.query_print.specs.Canonical.{set_text}
+use Rattle.semantics.specs.Sets.{sets_of}
+use Rattle.semantics.specs.Canonical.{set_text}
 use Rattle.query_plan.proofs.printing.set_text.Goals as goal
 
 -- the set at a place of the list, apart from where it lies in memory

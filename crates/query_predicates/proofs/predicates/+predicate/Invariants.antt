@@ -1,7 +1,7 @@
 use Rattle.std.proofs.Common.{◌+◌, ◌*◌, ◌≤◌, length, map}
-use Rattle.query_tokens.specs.declared.token.Word.TheVariants.{And, Or}
+use Rattle.semantics.specs.declared.token.Word.TheVariants.{And, Or}
 use Rattle.query_tree.specs.Syntax.{predicate_form}
-use Rattle.query_derivation.specs.Limits.{standard}
+use Rattle.semantics.specs.Leaves.{standard}
 use Rattle.query_leaves.specs.Fronts.{is_word}
 use Rattle.query_leaves.specs.Steps.{more}
 use Rattle.query_predicates.specs.PredicateSteps.{negation_at, conjunction_at, any_front, inside_of}

@@ -1,9 +1,9 @@
 use Rattle.std.proofs.Common.{◌≡◌, ◌++◌, drop, map, string_bytes}
 use Rattle.std.specs.Prelude.{codes}
 use Rattle.std.specs.List.{flat_map}
-use Rattle.query_tokens.specs.Words.{name_text}
+use Rattle.semantics.specs.Words.{name_text}
 use Rattle.values.specs.Schema.{fields_of}
-use Rattle.query_print.specs.Canonical.{name_at, names_text}
+use Rattle.semantics.specs.Canonical.{name_at, names_text}
 use Rattle.query_print.proofs.clauses.push_columns.Given as goal
 
 abbrev pub invariant-loop-place : goal.invariant-loop-place

@@ -1,6 +1,7 @@
 use Rattle.std.proofs.Common.{◌∙◌, ◌++◌, length, map, append_assoc, string_bytes, sym}
-use Rattle.query_tree.specs.Syntax.{element_form, element_forms}
-use Rattle.query_print.specs.Canonical.{comma_list, group_by_text, group_texts}
+use Rattle.query_tree.specs.Syntax.{element_form}
+use Rattle.semantics.specs.Syntax.{element_forms}
+use Rattle.semantics.specs.Canonical.{comma_list, group_by_text, group_texts}
 use Rattle.query_print.proofs.Pushes.{above_zero, group_clause, written}
 use Rattle.query_print.proofs.clauses.push_group_by.Goals as goal
 

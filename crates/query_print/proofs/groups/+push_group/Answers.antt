@@ -1,7 +1,8 @@
 use Rattle.std.proofs.Common.{◌++◌, map, append_assoc, string_bytes}
 use Rattle.std.specs.Prelude.{codes}
-use Rattle.query_tree.specs.Syntax.{element_form, element_forms}
-use Rattle.query_print.specs.Canonical.{comma_list, group_texts, in_brackets}
+use Rattle.query_tree.specs.Syntax.{element_form}
+use Rattle.semantics.specs.Syntax.{element_forms}
+use Rattle.semantics.specs.Canonical.{comma_list, group_texts, in_brackets}
 use Rattle.query_print.proofs.Pushes.{sets_form, written}
 use Rattle.query_print.proofs.groups.+push_group.Goals as goal
 

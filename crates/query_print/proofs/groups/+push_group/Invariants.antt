@@ -1,8 +1,9 @@
 use Rattle.std.proofs.Common.{◌≡◌, ◌++◌, drop, map, string_bytes}
 use Rattle.std.specs.Prelude.{codes}
 use Rattle.std.specs.List.{flat_map}
-use Rattle.query_tree.specs.Syntax.{element_form, element_forms}
-use Rattle.query_print.specs.Canonical.{comma_list, group_texts}
+use Rattle.query_tree.specs.Syntax.{element_form}
+use Rattle.semantics.specs.Syntax.{element_forms}
+use Rattle.semantics.specs.Canonical.{comma_list, group_texts}
 use Rattle.query_print.proofs.groups.+push_group.Given as goal
 
 abbrev pub invariant-push_groups-loop-group : goal.invariant-push_groups-loop-group

@@ -1,7 +1,7 @@
 use Rattle.std.proofs.Common.{◌≡◌, ◌++◌, drop, map, string_bytes}
 use Rattle.std.specs.Prelude.{codes}
 use Rattle.std.specs.List.{flat_map}
-use Rattle.query_print.specs.Canonical.{comma_list}
+use Rattle.semantics.specs.Canonical.{comma_list}
 use Rattle.query_print.proofs.lists.write_list.Given as goal
 
 abbrev pub invariant-loop-item : goal.invariant-loop-item

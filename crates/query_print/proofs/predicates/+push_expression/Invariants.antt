@@ -1,7 +1,8 @@
 use Rattle.std.proofs.Common.{◌≡◌, ◌++◌, drop, map, string_bytes}
 use Rattle.std.specs.List.{flat_map}
-use Rattle.query_tree.specs.Syntax.{predicate_form, predicate_forms}
-use Rattle.query_print.specs.Canonical.{joined, part_texts}
+use Rattle.query_tree.specs.Syntax.{predicate_form}
+use Rattle.semantics.specs.Syntax.{predicate_forms}
+use Rattle.semantics.specs.Canonical.{joined, part_texts}
 use Rattle.query_print.proofs.predicates.+push_expression.Given as goal
 
 abbrev pub invariant-push_parts-loop-part : goal.invariant-push_parts-loop-part

@@ -1,6 +1,7 @@
 use Rattle.std.proofs.Common.{◌≡◌, ◌+◌, ◌^◌, ◌<◌, drop, map, min, length}
-use Rattle.query_tree.specs.Syntax.{element_form, element_forms}
-use Rattle.query_resolution.specs.Sets.{group_sets, groups_sets}
+use Rattle.query_tree.specs.Syntax.{element_form}
+use Rattle.semantics.specs.Syntax.{element_forms}
+use Rattle.semantics.specs.Sets.{group_sets, groups_sets}
 use Rattle.query_resolution.proofs.counting.+count_group.Given as goal
 
 abbrev pub invariant-loop-unit : goal.invariant-loop-unit

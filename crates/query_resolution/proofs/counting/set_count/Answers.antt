@@ -2,7 +2,7 @@ use Rattle.std.proofs.Common.{◌≡◌, ◌∙◌, ◌+◌, ◌*◌, ℕ, List,
 use Rattle.std.proofs.lemmas.List.{at_drop_all, at_drop_more}
 use Rattle.query_tree.specs.declared.group.GroupingElement.{GroupingElement}
 use Rattle.query_tree.specs.Syntax.{element_form}
-use Rattle.query_resolution.specs.Sets.{expanded, group_sets}
+use Rattle.semantics.specs.Sets.{expanded, group_sets}
 use Rattle.query_resolution.proofs.Counts.{count_turn}
 use Rattle.query_resolution.proofs.counting.set_count.Goals as goal
 

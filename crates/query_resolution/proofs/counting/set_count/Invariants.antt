@@ -1,6 +1,6 @@
 use Rattle.std.proofs.Common.{◌≡◌, ◌*◌, ◌^◌, ◌<◌, drop, map, min, length}
 use Rattle.query_tree.specs.Syntax.{element_form}
-use Rattle.query_resolution.specs.Sets.{expanded}
+use Rattle.semantics.specs.Sets.{expanded}
 use Rattle.query_resolution.proofs.counting.set_count.Given as goal
 
 abbrev pub invariant-loop-group : goal.invariant-loop-group

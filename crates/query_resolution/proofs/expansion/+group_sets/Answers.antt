@@ -1,9 +1,10 @@
 use Rattle.std.proofs.Common.{◌∙◌, ℕ, List, map, sym, ap}
 use Rattle.std.specs.Global.{Vec}
 use Rattle.values.specs.Schema.{fields_of}
-use Rattle.query_tree.specs.Syntax.{ElementForm, element_form, units_form}
-use Rattle.query_resolution.specs.Columns.{places_of}
-use Rattle.query_resolution.specs.Sets.{cube_sets, group_sets, ordered_set, rollup_sets}
+use Rattle.semantics.specs.Syntax.{ElementForm}
+use Rattle.query_tree.specs.Syntax.{element_form, units_form}
+use Rattle.semantics.specs.Names.{places_of}
+use Rattle.semantics.specs.Sets.{cube_sets, group_sets, ordered_set, rollup_sets}
 use Rattle.query_resolution.specs.Resolution.{contents}
 use Rattle.query_resolution.proofs.Expansions.{cube_form, cube_places, rollup_form, rollup_places}
 use Rattle.query_resolution.proofs.Products.{cube_ordered, rollup_ordered}

@@ -1,8 +1,9 @@
 use Rattle.std.proofs.Common.{◌≡◌, ◌++◌, drop, map}
 use Rattle.values.specs.Schema.{fields_of}
-use Rattle.query_tree.specs.Syntax.{element_form, element_forms}
-use Rattle.query_resolution.specs.Columns.{places_of}
-use Rattle.query_resolution.specs.Sets.{group_sets, groups_sets, ordered_set}
+use Rattle.query_tree.specs.Syntax.{element_form}
+use Rattle.semantics.specs.Syntax.{element_forms}
+use Rattle.semantics.specs.Names.{places_of}
+use Rattle.semantics.specs.Sets.{group_sets, groups_sets, ordered_set}
 use Rattle.query_resolution.specs.Resolution.{contents}
 use Rattle.query_resolution.proofs.expansion.+group_sets.Given as goal
 

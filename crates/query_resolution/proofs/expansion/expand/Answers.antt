@@ -3,8 +3,8 @@ use Rattle.std.proofs.lemmas.List.{at_drop_all, at_drop_more}
 use Rattle.values.specs.Schema.{fields_of}
 use Rattle.query_tree.specs.declared.group.GroupingElement.{GroupingElement}
 use Rattle.query_tree.specs.Syntax.{element_form}
-use Rattle.query_resolution.specs.Columns.{places_of}
-use Rattle.query_resolution.specs.Sets.{crossed, expanded, group_sets, ordered_set}
+use Rattle.semantics.specs.Names.{places_of}
+use Rattle.semantics.specs.Sets.{crossed, expanded, group_sets, ordered_set}
 use Rattle.query_resolution.specs.Resolution.{contents}
 use Rattle.query_resolution.proofs.Expansions.{crossed_places}
 use Rattle.query_resolution.proofs.Products.{crossed_end, crossed_start, crossed_turn}

@@ -1,8 +1,8 @@
 use Rattle.std.proofs.Common.{◌≡◌, drop, map}
 use Rattle.values.specs.Schema.{fields_of}
 use Rattle.query_tree.specs.Syntax.{element_form}
-use Rattle.query_resolution.specs.Columns.{places_of}
-use Rattle.query_resolution.specs.Sets.{crossed, expanded, ordered_set}
+use Rattle.semantics.specs.Names.{places_of}
+use Rattle.semantics.specs.Sets.{crossed, expanded, ordered_set}
 use Rattle.query_resolution.proofs.expansion.expand.Given as goal
 
 abbrev pub invariant-loop-group : goal.invariant-loop-group

@@ -4,9 +4,9 @@ use Rattle.std.specs.Global.{Vec}
 use Rattle.std.specs.Str.{bytes_eq}
 use Rattle.values.specs.Schema.{fields_of}
 use Rattle.query_tree.specs.Syntax.{element_form}
-use Rattle.query_resolution.specs.Columns.{distinct, places_of}
+use Rattle.semantics.specs.Names.{distinct, places_of}
 use Rattle.query_resolution.specs.Resolution.{contents}
-use Rattle.query_resolution.specs.Sets.{expanded, ordered_set, same_columns}
+use Rattle.semantics.specs.Sets.{expanded, ordered_set, same_columns}
 use Rattle.query_resolution.proofs.DistinctSets.{kept_sets}
 use Rattle.query_resolution.proofs.Rows.{ok_same}
 use Rattle.query_resolution.proofs.expansion.grouping_sets.Goals as goal

@@ -2,8 +2,9 @@ use Rattle.std.proofs.Common.{map}
 use Rattle.std.proofs.lemmas.List.Elements.{filter_map-append}
 use Rattle.values.specs.Schema.{fields_of}
 use Rattle.query_tree.specs.declared.group.GroupingElement.{GroupingElement}
-use Rattle.query_tree.specs.Syntax.{element_form, element_forms}
-use Rattle.query_resolution.specs.Columns.{group_names, groups_names, place_of, places_of}
+use Rattle.query_tree.specs.Syntax.{element_form}
+use Rattle.semantics.specs.Syntax.{element_forms}
+use Rattle.semantics.specs.Names.{group_names, groups_names, place_of, places_of}
 use Rattle.query_resolution.proofs.Rows.{appended_turn}
 use Rattle.query_resolution.proofs.grouping.+push_group_places.Goals as goal
 

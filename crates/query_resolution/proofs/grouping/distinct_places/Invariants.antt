@@ -1,6 +1,6 @@
 use Rattle.std.proofs.Common.{◌≡◌, take}
 use Rattle.std.specs.Prelude.{◌==◌}
-use Rattle.query_resolution.specs.Columns.{distinct}
+use Rattle.semantics.specs.Names.{distinct}
 use Rattle.query_resolution.proofs.grouping.distinct_places.Given as goal
 
 abbrev pub invariant-loop-place : goal.invariant-loop-place

@@ -4,7 +4,7 @@ use Rattle.std.proofs.lemmas.List.Elements.{filter_map-append}
 use Rattle.values.specs.Schema.{fields_of}
 use Rattle.query_tree.specs.declared.group.GroupingElement.{GroupingElement}
 use Rattle.query_tree.specs.Syntax.{element_form}
-use Rattle.query_resolution.specs.Columns.{group_names, place_of, places_of}
+use Rattle.semantics.specs.Names.{group_names, place_of, places_of}
 use Rattle.query_resolution.proofs.Rows.{appended_turn}
 use Rattle.query_resolution.proofs.grouping.grouping_places.Goals as goal
 

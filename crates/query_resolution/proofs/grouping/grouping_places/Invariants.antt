@@ -2,7 +2,7 @@ use Rattle.std.proofs.Common.{◌≡◌, ◌++◌, drop, map}
 use Rattle.std.specs.List.{flat_map}
 use Rattle.values.specs.Schema.{fields_of}
 use Rattle.query_tree.specs.Syntax.{element_form}
-use Rattle.query_resolution.specs.Columns.{group_names, places_of}
+use Rattle.semantics.specs.Names.{group_names, places_of}
 use Rattle.query_resolution.proofs.grouping.grouping_places.Given as goal
 
 abbrev pub invariant-loop-group : goal.invariant-loop-group

@@ -1,6 +1,6 @@
 use Rattle.std.proofs.Common.{◌≡◌, ◌++◌, drop}
 use Rattle.values.specs.Schema.{fields_of}
-use Rattle.query_resolution.specs.Columns.{places_of}
+use Rattle.semantics.specs.Names.{places_of}
 use Rattle.query_resolution.proofs.grouping.push_places.Given as goal
 
 abbrev pub invariant-loop-name : goal.invariant-loop-name

@@ -4,7 +4,7 @@ use Rattle.std.specs.List.{flat_map}
 use Rattle.std.proofs.lemmas.List.Elements.{filter_map-append}
 use Rattle.values.specs.Schema.{fields_of}
 use Rattle.query_tree.specs.Syntax.{units_form}
-use Rattle.query_resolution.specs.Columns.{place_of, places_of}
+use Rattle.semantics.specs.Names.{place_of, places_of}
 use Rattle.query_resolution.proofs.Rows.{appended_turn}
 use Rattle.query_resolution.proofs.grouping.push_unit_places.Goals as goal
 

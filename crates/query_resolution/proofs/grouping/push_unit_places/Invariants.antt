@@ -2,7 +2,7 @@ use Rattle.std.proofs.Common.{◌≡◌, ◌++◌, drop}
 use Rattle.std.specs.List.{flat_map}
 use Rattle.values.specs.Schema.{fields_of}
 use Rattle.query_tree.specs.Syntax.{units_form}
-use Rattle.query_resolution.specs.Columns.{places_of}
+use Rattle.semantics.specs.Names.{places_of}
 use Rattle.query_resolution.proofs.grouping.push_unit_places.Given as goal
 
 abbrev pub invariant-loop-unit : goal.invariant-loop-unit

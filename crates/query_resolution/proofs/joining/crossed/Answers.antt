@@ -1,7 +1,7 @@
 use Rattle.std.proofs.Common.{◌∙◌, ◌++◌, ℕ, List, map, refl, ap}
 use Rattle.std.specs.Global.{Vec}
 use Rattle.std.proofs.lemmas.List.{map-append}
-use Rattle.query_resolution.specs.Sets.{crossed}
+use Rattle.semantics.specs.Sets.{crossed}
 use Rattle.query_resolution.specs.Resolution.{contents}
 use Rattle.query_resolution.proofs.Rows.{appended_turn}
 use Rattle.query_resolution.proofs.joining.crossed.Goals as goal

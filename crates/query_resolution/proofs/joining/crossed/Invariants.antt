@@ -1,5 +1,5 @@
 use Rattle.std.proofs.Common.{◌≡◌, ◌++◌, drop}
-use Rattle.query_resolution.specs.Sets.{crossed}
+use Rattle.semantics.specs.Sets.{crossed}
 use Rattle.query_resolution.specs.Resolution.{contents}
 use Rattle.query_resolution.proofs.joining.crossed.Given as goal
 

@@ -1,5 +1,5 @@
 use Rattle.std.proofs.Common.{◌≡◌, ◌++◌, drop, map}
-use Rattle.query_resolution.specs.Sets.{ordered_set}
+use Rattle.semantics.specs.Sets.{ordered_set}
 use Rattle.query_resolution.specs.Resolution.{contents}
 use Rattle.query_resolution.proofs.joining.ordered_sets.Given as goal
 

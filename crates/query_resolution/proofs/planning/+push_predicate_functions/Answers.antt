@@ -3,8 +3,10 @@ use Rattle.std.specs.List.{filter_map}
 use Rattle.std.proofs.lemmas.List.Elements.{filter_map-append}
 use Rattle.values.specs.Schema.{fields_of}
 use Rattle.query_tree.specs.declared.expression.Predicate.{Predicate}
-use Rattle.query_tree.specs.Syntax.{predicate_form, predicate_forms}
-use Rattle.query_resolution.specs.Functions.{parts_functions, planned_function, predicate_functions}
+use Rattle.query_tree.specs.Syntax.{predicate_form}
+use Rattle.semantics.specs.Syntax.{predicate_forms}
+use Rattle.semantics.specs.SetFunctions.{parts_functions, predicate_functions}
+use Rattle.semantics.specs.Names.{planned_function}
 use Rattle.query_resolution.specs.Planning.{planned_forms}
 use Rattle.query_resolution.proofs.Rows.{appended_turn}
 use Rattle.query_resolution.proofs.planning.+push_predicate_functions.Goals as goal

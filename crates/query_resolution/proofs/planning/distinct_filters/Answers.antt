@@ -5,9 +5,9 @@ use Rattle.std.proofs.lemmas.List.{get_or-map, length-map, map-append}
 use Rattle.std.specs.Borrow.{Bor}
 use Rattle.query_tree.specs.declared.expression.Predicate.{Predicate}
 use Rattle.query_tree.specs.Syntax.{predicate_form}
-use Rattle.query_resolution.specs.Inside.Same.{same_predicate}
+use Rattle.semantics.specs.Inside.Same.{same_predicate}
 use Rattle.query_resolution.specs.Planning.{filter_forms}
-use Rattle.query_resolution.specs.Columns.{distinct}
+use Rattle.semantics.specs.Names.{distinct}
 use Rattle.query_resolution.proofs.Distinct.{distinct_known, distinct_new}
 use Rattle.query_resolution.proofs.SameTrees.{predicates_are_same}
 use Rattle.query_resolution.proofs.planning.distinct_filters.Goals as goal

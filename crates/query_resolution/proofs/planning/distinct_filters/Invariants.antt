@@ -1,6 +1,6 @@
 use Rattle.std.proofs.Common.{◌≡◌, take}
-use Rattle.query_resolution.specs.Columns.{distinct}
-use Rattle.query_resolution.specs.Inside.Same.{same_predicate}
+use Rattle.semantics.specs.Names.{distinct}
+use Rattle.semantics.specs.Inside.Same.{same_predicate}
 use Rattle.query_resolution.specs.Planning.{filter_forms}
 use Rattle.query_resolution.proofs.planning.distinct_filters.Given as goal
 

@@ -3,9 +3,9 @@ use Rattle.std.specs.Global.{Vec}
 use Rattle.std.specs.List.{list_any}
 use Rattle.std.proofs.lemmas.List.{get_or-map, length-map, map-append}
 use Rattle.query_resolution.specs.declared.planning.Planned.{Planned}
-use Rattle.query_resolution.specs.Functions.{same_planned}
+use Rattle.semantics.specs.Inside.Same.{same_planned}
 use Rattle.query_resolution.specs.Planning.{planned_form, planned_forms}
-use Rattle.query_resolution.specs.Columns.{distinct}
+use Rattle.semantics.specs.Names.{distinct}
 use Rattle.query_resolution.proofs.Distinct.{distinct_known, distinct_new}
 use Rattle.query_resolution.proofs.SameTrees.{planned_are_same}
 use Rattle.query_resolution.proofs.planning.distinct_functions.Goals as goal

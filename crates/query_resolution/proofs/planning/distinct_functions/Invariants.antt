@@ -1,6 +1,6 @@
 use Rattle.std.proofs.Common.{◌≡◌, take}
-use Rattle.query_resolution.specs.Columns.{distinct}
-use Rattle.query_resolution.specs.Functions.{same_planned}
+use Rattle.semantics.specs.Names.{distinct}
+use Rattle.semantics.specs.Inside.Same.{same_planned}
 use Rattle.query_resolution.specs.Planning.{planned_forms}
 use Rattle.query_resolution.proofs.planning.distinct_functions.Given as goal
 

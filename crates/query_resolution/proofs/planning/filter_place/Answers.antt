@@ -4,7 +4,7 @@ use Rattle.std.proofs.lemmas.Iterator.{YieldsList-from_slice}
 use Rattle.std.proofs.lemmas.Iterator.Search.{position_from_yields_List}
 use Rattle.query_tree.specs.declared.expression.Predicate.{Predicate}
 use Rattle.query_tree.specs.Syntax.{predicate_form}
-use Rattle.query_resolution.specs.Inside.Same.{same_predicate}
+use Rattle.semantics.specs.Inside.Same.{same_predicate}
 use Rattle.query_resolution.proofs.Places.{position-map}
 use Rattle.query_resolution.proofs.planning.filter_place.Goals as goal
 

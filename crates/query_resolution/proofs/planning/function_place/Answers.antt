@@ -2,7 +2,7 @@ use Rattle.std.proofs.Common.{rules, tests, ◌∙◌}
 use Rattle.std.proofs.lemmas.Iterator.{YieldsList-from_slice}
 use Rattle.std.proofs.lemmas.Iterator.Search.{position_from_yields_List}
 use Rattle.query_resolution.specs.declared.planning.Planned.{Planned}
-use Rattle.query_resolution.specs.Functions.{same_planned}
+use Rattle.semantics.specs.Inside.Same.{same_planned}
 use Rattle.query_resolution.specs.Planning.{planned_form}
 use Rattle.query_resolution.proofs.Places.{position-map}
 use Rattle.query_resolution.proofs.planning.function_place.Goals as goal

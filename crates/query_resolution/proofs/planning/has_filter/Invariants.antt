@@ -1,7 +1,7 @@
 use Rattle.std.proofs.Common.{◌≡◌, drop}
 use Rattle.std.specs.List.{list_any}
 use Rattle.query_tree.specs.Syntax.{predicate_form}
-use Rattle.query_resolution.specs.Inside.Same.{same_predicate}
+use Rattle.semantics.specs.Inside.Same.{same_predicate}
 use Rattle.query_resolution.specs.Planning.{filter_forms}
 use Rattle.query_resolution.proofs.planning.has_filter.Given as goal
 

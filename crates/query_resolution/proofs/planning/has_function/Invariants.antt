@@ -1,6 +1,6 @@
 use Rattle.std.proofs.Common.{◌≡◌, drop}
 use Rattle.std.specs.List.{list_any}
-use Rattle.query_resolution.specs.Functions.{same_planned}
+use Rattle.semantics.specs.Inside.Same.{same_planned}
 use Rattle.query_resolution.specs.Planning.{planned_form, planned_forms}
 use Rattle.query_resolution.proofs.planning.has_function.Given as goal
 

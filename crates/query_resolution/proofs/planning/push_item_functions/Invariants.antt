@@ -2,7 +2,8 @@ use Rattle.std.proofs.Common.{◌≡◌, ◌++◌, drop, map}
 use Rattle.std.specs.List.{filter_map, flat_map}
 use Rattle.values.specs.Schema.{fields_of}
 use Rattle.query_tree.specs.Syntax.{item_form}
-use Rattle.query_resolution.specs.Functions.{expression_functions, planned_function}
+use Rattle.semantics.specs.SetFunctions.{expression_functions}
+use Rattle.semantics.specs.Names.{planned_function}
 use Rattle.query_resolution.specs.Planning.{planned_forms}
 use Rattle.query_resolution.proofs.planning.push_item_functions.Given as goal
 

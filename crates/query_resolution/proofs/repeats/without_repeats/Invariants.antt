@@ -1,6 +1,6 @@
 use Rattle.std.proofs.Common.{◌≡◌, take}
 use Rattle.std.specs.Str.{bytes_eq}
-use Rattle.query_resolution.specs.Columns.{distinct}
+use Rattle.semantics.specs.Names.{distinct}
 use Rattle.query_resolution.specs.Resolution.{contents}
 use Rattle.query_resolution.proofs.repeats.without_repeats.Given as goal
 

@@ -1,8 +1,9 @@
 use Rattle.std.proofs.Common.{◌∙◌, List, map, sym}
 use Rattle.std.proofs.lemmas.List.{at_drop_all}
 use Rattle.query_tree.specs.declared.expression.Predicate.{Predicate}
-use Rattle.query_tree.specs.Syntax.{predicate_form, predicate_forms}
-use Rattle.query_resolution.specs.Inside.Same.{same_parts}
+use Rattle.query_tree.specs.Syntax.{predicate_form}
+use Rattle.semantics.specs.Syntax.{predicate_forms}
+use Rattle.semantics.specs.Inside.Same.{same_parts}
 use Rattle.query_resolution.proofs.SameTrees.{parts_end}
 use Rattle.query_resolution.proofs.sameness.+is_same_predicate.Goals as goal
 

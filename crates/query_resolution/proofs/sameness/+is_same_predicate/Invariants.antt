@@ -1,6 +1,7 @@
 use Rattle.std.proofs.Common.{◌≡◌, drop, map}
-use Rattle.query_tree.specs.Syntax.{predicate_form, predicate_forms}
-use Rattle.query_resolution.specs.Inside.Same.{same_parts}
+use Rattle.query_tree.specs.Syntax.{predicate_form}
+use Rattle.semantics.specs.Syntax.{predicate_forms}
+use Rattle.semantics.specs.Inside.Same.{same_parts}
 use Rattle.query_resolution.proofs.sameness.+is_same_predicate.Given as goal
 
 abbrev pub invariant-are_same_parts-loop-part : goal.invariant-are_same_parts-loop-part

@@ -1,5 +1,5 @@
 use Rattle.std.proofs.Common.{◌≡◌, drop}
-use Rattle.query_resolution.specs.Inside.Same.{same_literals}
+use Rattle.semantics.specs.Inside.Same.{same_literals}
 use Rattle.query_resolution.proofs.sameness.are_same_literals.Given as goal
 
 abbrev pub invariant-loop-literal : goal.invariant-loop-literal

@@ -1,5 +1,5 @@
 use Rattle.std.proofs.Common.{◌≡◌, drop}
-use Rattle.query_resolution.specs.Inside.Same.{same_names}
+use Rattle.semantics.specs.Inside.Same.{same_names}
 use Rattle.query_resolution.proofs.sameness.are_same_names.Given as goal
 
 abbrev pub invariant-loop-name : goal.invariant-loop-name

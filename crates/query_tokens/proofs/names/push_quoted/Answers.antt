@@ -1,6 +1,6 @@
 use Rattle.std.proofs.Common.{◌≡◌, rules, string_bytes, ◌++◌, ◌∷◌, [], ℕ, List, refl, sym, ap, ◌∙◌, append_assoc}
 use Rattle.std.proofs.lemmas.Str.Pattern.{split_parts}
-use Rattle.query_tokens.specs.Words.{doubled}
+use Rattle.semantics.specs.Words.{doubled}
 use Rattle.query_tokens.proofs.Doubling.{HasNone, doubled_piece, doubled_none}
 use Rattle.query_tokens.proofs.names.push_quoted.Goals as goal
 

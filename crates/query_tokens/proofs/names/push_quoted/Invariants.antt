@@ -1,7 +1,7 @@
 use denote.Text.{Utf8}
 use denote.Shadow.{shadow}
 use Rattle.std.proofs.Common.{◌≡◌, ◌++◌, ◌∷◌, length, string_bytes}
-use Rattle.query_tokens.specs.Words.{doubled}
+use Rattle.semantics.specs.Words.{doubled}
 use Rattle.query_tokens.proofs.names.push_quoted.Given as goal
 
 abbrev pub invariant-loop-piece : goal.invariant-loop-piece

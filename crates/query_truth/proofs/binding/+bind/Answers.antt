@@ -1,10 +1,10 @@
 use Rattle.std.proofs.Common.{ap, map, List, drop, ◌+◌, sym, subst, ◌∙◌}
 use Rattle.values.specs.Schema.{fields_of}
-use Rattle.query_tree.specs.Syntax.{predicate_form, predicate_forms}
+use Rattle.query_tree.specs.Syntax.{predicate_form}
+use Rattle.semantics.specs.Syntax.{predicate_forms}
 use Rattle.query_check.specs.declared.scope.Clause.TheVariants as clause
 use Rattle.query_check.specs.Typing.{IsTypedPredicate}
-use Rattle.query_truth.specs.Kept.{record_value}
-use Rattle.query_truth.specs.Truth.{all_of, any_of, truth, truths}
+use Rattle.semantics.specs.Conditions.{record_value, all_of, any_of, truth, truths}
 use Rattle.query_truth.specs.declared.condition.Condition.{Condition}
 use Rattle.query_truth.proofs.Forms.{and-worth, and_form, column_form, or-worth, or_form}
 use Rattle.query_truth.proofs.Parts.{AreBound, bound-more}

@@ -1,6 +1,6 @@
 use Rattle.std.proofs.Common.{◌≡◌, Some, rules}
 use Rattle.values.specs.Schema.{fields_of}
-use Rattle.query_resolution.specs.Columns.{place_of}
+use Rattle.semantics.specs.Names.{place_of}
 use Rattle.query_truth.proofs.Safety.{column-there}
 use Rattle.query_truth.proofs.binding.column_source.Goals as goal
 

@@ -1,6 +1,6 @@
 use Rattle.std.proofs.Common.{◌≡◌, ◌++◌, drop, map}
 use Rattle.values.specs.Datum.{datum_of}
-use Rattle.query_truth.specs.Truth.{literal_value}
+use Rattle.semantics.specs.Conditions.{literal_value}
 use Rattle.query_truth.proofs.binding.literal_values.Given as goal
 
 abbrev pub invariant-loop-literal : goal.invariant-loop-literal

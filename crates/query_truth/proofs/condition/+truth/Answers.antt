@@ -1,6 +1,6 @@
 use Rattle.std.proofs.Common.{map, ap, refl, ◌∙◌}
 use Rattle.values.specs.Datum.{data_of}
-use Rattle.values.specs.Truth.{conjunction, disjunction}
+use Rattle.semantics.specs.Truth.{conjunction, disjunction}
 use Rattle.query_truth.specs.declared.condition.Condition.{Condition}
 use Rattle.query_truth.specs.Meaning.{condition_truth}
 use Rattle.query_truth.proofs.Truths.{settled-false, settled-true}

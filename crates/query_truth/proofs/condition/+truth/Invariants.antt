@@ -1,9 +1,9 @@
 use Rattle.std.proofs.Common.{◌≡◌, drop, fold, map, true}
 use Rattle.std.specs.List.{list_all}
 use Rattle.values.specs.Datum.{data_of}
-use Rattle.values.specs.Truth.{conjunction, disjunction}
+use Rattle.semantics.specs.Truth.{conjunction, disjunction}
 use Rattle.query_truth.specs.Meaning.{condition_truth, is_safe}
-use Rattle.query_truth.specs.Truth.{all_of, any_of}
+use Rattle.semantics.specs.Conditions.{all_of, any_of}
 use Rattle.query_truth.proofs.condition.+truth.Given as goal
 
 abbrev pub invariant-any_truth-loop-part : goal.invariant-any_truth-loop-part

@@ -1,9 +1,9 @@
 use Rattle.std.proofs.Common.{map, ap, refl, ◌∙◌}
-use Rattle.values.specs.Truth.{disjunction}
+use Rattle.semantics.specs.Truth.{disjunction}
 use Rattle.values.specs.Datum.{datum_of}
 use Rattle.values.specs.declared.value.Value.{Value}
-use Rattle.values.specs.declared.comparison.Op.TheVariants.{Eq}
-use Rattle.values.specs.Comparison.{comparison}
+use Rattle.semantics.specs.declared.comparison.Op.TheVariants.{Eq}
+use Rattle.semantics.specs.Values.{comparison}
 use Rattle.query_truth.proofs.Truths.{settled-true}
 use Rattle.query_truth.proofs.condition.member_truth.Goals as goal
 

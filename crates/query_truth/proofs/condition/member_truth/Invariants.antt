@@ -1,11 +1,11 @@
 use Rattle.std.proofs.Common.{◌≡◌, drop, fold, map, true}
 use Rattle.std.specs.List.{list_all}
-use Rattle.values.specs.declared.comparison.Op.TheVariants.{Eq}
-use Rattle.values.specs.Comparison.{comparison}
+use Rattle.semantics.specs.declared.comparison.Op.TheVariants.{Eq}
+use Rattle.semantics.specs.Values.{comparison}
 use Rattle.values.specs.Datum.{datum_of}
-use Rattle.values.specs.Truth.{disjunction}
+use Rattle.semantics.specs.Truth.{disjunction}
 use Rattle.query_truth.specs.Meaning.{comparable}
-use Rattle.query_truth.specs.Truth.{member_truth}
+use Rattle.semantics.specs.Conditions.{member_truth}
 use Rattle.query_truth.proofs.condition.member_truth.Given as goal
 
 abbrev pub invariant-loop-other : goal.invariant-loop-other

@@ -3,7 +3,8 @@ use Rattle.std.specs.Borrow.{Bor}
 use Rattle.std.proofs.lemmas.List.{map-append, take_more}
 use Rattle.values.specs.Schema.{fields_of}
 use Rattle.query_tree.specs.declared.expression.Predicate.{Predicate}
-use Rattle.query_tree.specs.Syntax.{PredicateForm, predicate_form}
+use Rattle.semantics.specs.Syntax.{PredicateForm}
+use Rattle.query_tree.specs.Syntax.{predicate_form}
 use Rattle.query_resolution.specs.Planning.{filter_forms}
 use Rattle.query_truth.specs.Binding.{AreConditionsOf}
 use Rattle.query_truth.specs.declared.condition.Condition.{Condition}

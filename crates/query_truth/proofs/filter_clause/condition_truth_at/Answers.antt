@@ -1,6 +1,6 @@
 use Rattle.std.proofs.Common.{◌∙◌, Some, ap}
 use Rattle.values.specs.Datum.{data_of}
-use Rattle.values.specs.declared.truth.Truth.{Truth}
+use Rattle.semantics.specs.declared.truth.Truth.{Truth}
 use Rattle.query_truth.proofs.FilterConditions.{safe_at, worth_at}
 use Rattle.query_truth.proofs.filter_clause.condition_truth_at.Goals as goal
 

@@ -1,9 +1,9 @@
 use Rattle.std.proofs.Common.{◌∙◌, ap}
-use Rattle.values.specs.declared.truth.Truth.TheVariants.{True}
+use Rattle.semantics.specs.declared.truth.Truth.TheVariants.{True}
 use Rattle.values.specs.Datum.{data_of}
 use Rattle.query_truth.specs.declared.condition.Condition.{Condition}
 use Rattle.query_truth.specs.Meaning.{condition_truth}
-use Rattle.query_truth.specs.Truth.{same_truth}
+use Rattle.semantics.specs.Conditions.{same_truth}
 use Rattle.query_truth.proofs.FilterConditions.{all_told, next_safe, next_told}
 use Rattle.query_truth.proofs.filter_clause.mark_conditions.Goals as goal
 

@@ -1,9 +1,9 @@
 use Rattle.std.proofs.Common.{◌≡◌, ◌++◌, drop, map, true}
 use Rattle.std.specs.List.{list_all}
-use Rattle.values.specs.declared.truth.Truth.TheVariants.{True}
+use Rattle.semantics.specs.declared.truth.Truth.TheVariants.{True}
 use Rattle.values.specs.Datum.{data_of}
 use Rattle.query_truth.specs.Meaning.{condition_truth, is_safe}
-use Rattle.query_truth.specs.Truth.{same_truth}
+use Rattle.semantics.specs.Conditions.{same_truth}
 use Rattle.query_truth.proofs.filter_clause.mark_conditions.Given as goal
 
 abbrev pub invariant-loop-condition : goal.invariant-loop-condition

@@ -2,14 +2,15 @@ use Rattle.std.proofs.Common.{◌∙◌, Bor, ℕ, List, Some, ap, map, subst, s
 use Rattle.std.specs.List.{flat_map}
 use Rattle.csv.specs.Writing.{text_written}
 use Rattle.query_plan.specs.Planned.{PlannedQuery}
-use Rattle.groups.specs.Functions.{Summary}
+use Rattle.semantics.specs.Aggregates.{Summary}
 use Rattle.groups.specs.declared.group.Group.{Group}
 use Rattle.groups.specs.Fitting.{AreFitting}
-use Rattle.groups.specs.Found.{Found, row_of}
-use Rattle.rows.specs.Order.{rows_shown}
+use Rattle.semantics.specs.Found.{Found}
+use Rattle.groups.specs.Found.{row_of}
+use Rattle.semantics.specs.Order.{rows_shown}
 use Rattle.rows.specs.Parts.{items_of}
 use Rattle.rows.specs.Sources.{cells_at}
-use Rattle.report.specs.Text.{report_bytes}
+use Rattle.semantics.specs.Texts.{report_bytes}
 use Rattle.report.proofs.OnGroups.{groups-shown, groups-within}
 use Rattle.rows.proofs.InParts.{joined-whole}
 use Rattle.report.proofs.Written.{report-joined, texts-joined}

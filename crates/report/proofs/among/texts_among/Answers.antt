@@ -1,6 +1,6 @@
 use Rattle.std.proofs.Common.{◌≡◌, ◌∙◌, ◌*◌, ℕ, Bor, List, IfOk, length, map, take, drop, get_or, ap, sym, subst, arith}
 use Rattle.std.proofs.lemmas.List.{drop-map, length-map, take-map}
-use Rattle.groups.specs.Functions.{Summary}
+use Rattle.semantics.specs.Aggregates.{Summary}
 use Rattle.groups.specs.declared.group.Group.{Group}
 use Rattle.groups.specs.Found.{row_of}
 use Rattle.report.specs.Inside.Parts.{IsTextOf}

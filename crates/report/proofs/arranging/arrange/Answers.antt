@@ -1,8 +1,9 @@
 use Rattle.std.proofs.Common.{◌≡◌, All, IfOk, List, length, map, subst, sym}
 use Rattle.query_plan.specs.Planned.{PlannedQuery}
 use Rattle.groups.specs.Fitting.{AreFitting}
-use Rattle.groups.specs.Found.{Found, row_of}
-use Rattle.rows.specs.Order.{rows_shown}
+use Rattle.semantics.specs.Found.{Found}
+use Rattle.groups.specs.Found.{row_of}
+use Rattle.semantics.specs.Order.{rows_shown}
 use Rattle.rows.specs.Shown.{cells_of}
 use Rattle.report.proofs.arranging.arrange.Goals as goal
 

@@ -1,7 +1,7 @@
 use Rattle.std.proofs.Common.{◌≡◌, [], map, take}
 use Rattle.csv.specs.Records.{fields_of, partial_of}
 use Rattle.groups.specs.Cells.{summary_of}
-use Rattle.report.specs.Text.{cell_field}
+use Rattle.semantics.specs.Texts.{cell_field}
 use Rattle.report.proofs.fields.write_cells.Given as goal
 
 abbrev pub invariant-loop-cell : goal.invariant-loop-cell

@@ -3,7 +3,7 @@ use Rattle.csv.specs.Records.{fields_of, partial_of}
 use Rattle.values.specs.Datum.{data_of}
 use Rattle.groups.specs.Cells.{summary_of}
 use Rattle.rows.specs.Sources.{shown_at}
-use Rattle.report.specs.Text.{cell_field}
+use Rattle.semantics.specs.Texts.{cell_field}
 use Rattle.report.proofs.fields.write_group.Given as goal
 
 abbrev pub invariant-loop-source : goal.invariant-loop-source

@@ -1,10 +1,10 @@
 use Rattle.std.proofs.Common.{[], ◌≡◌, ◌≤◌, ◌+◌, ◌∙◌, ◌++◌, All, ℕ, List, ap, get_or, length, subst, sym, take, take_all}
 use Rattle.std.proofs.lemmas.List.{flat_map_more, take_more}
 use Rattle.std.specs.List.{flat_map}
-use Rattle.lines.specs.declared.fault.LineFault.{LineFault}
-use Rattle.lines.specs.declared.fault.LineFault.TheVariants.{TooLong}
+use Rattle.semantics.specs.declared.line_fault.LineFault.{LineFault}
+use Rattle.semantics.specs.declared.line_fault.LineFault.TheVariants.{TooLong}
 use Rattle.report.specs.Report.{NamesColumn}
-use Rattle.report.specs.Text.{refused_line}
+use Rattle.semantics.specs.Texts.{refused_line}
 use Rattle.report.proofs.refused.refused_text.Goals as goal
 
 pub loop-number-preserved : goal.loop-number-preserved

@@ -1,5 +1,5 @@
 use Rattle.std.proofs.Common.{◌≡◌, take}
-use Rattle.report.specs.Text.{refused_bytes}
+use Rattle.semantics.specs.Texts.{refused_bytes}
 use Rattle.report.proofs.refused.refused_text.Given as goal
 
 abbrev pub invariant-loop-number : goal.invariant-loop-number

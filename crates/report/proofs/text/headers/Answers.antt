@@ -1,5 +1,5 @@
 use Rattle.std.proofs.Common.{◌∙◌, [], ◌∷◌, ◌++◌, sym, string_bytes}
-use Rattle.query_print.specs.Canonical.{header_text}
+use Rattle.semantics.specs.Canonical.{header_text}
 use Rattle.rows.proofs.Maps.{map-next}
 use Rattle.report.proofs.text.headers.Goals as goal
 

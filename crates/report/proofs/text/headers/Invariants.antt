@@ -1,6 +1,6 @@
 use Rattle.std.proofs.Common.{◌≡◌, [], map, take}
 use Rattle.csv.specs.Records.{fields_of, partial_of}
-use Rattle.query_print.specs.Canonical.{header_text}
+use Rattle.semantics.specs.Canonical.{header_text}
 use Rattle.report.proofs.text.headers.Given as goal
 
 abbrev pub invariant-loop-item : goal.invariant-loop-item

@@ -3,7 +3,7 @@ use Rattle.std.specs.Io.KnownBytes.{Appends}
 use Rattle.std.proofs.KnownBytes.{Appends-trans}
 use Rattle.csv.specs.Writing.{text_written}
 use Rattle.groups.specs.declared.group.Group.{Group}
-use Rattle.groups.specs.Functions.{Summary}
+use Rattle.semantics.specs.Aggregates.{Summary}
 use Rattle.groups.specs.Found.{row_of}
 use Rattle.rows.specs.Sources.{cells_at}
 use Rattle.report.specs.Text.{rows_bytes}

@@ -1,12 +1,14 @@
 use Rattle.std.proofs.Common.{◌≡◌, ◌<◌, ◌++◌, ◌∷◌, [], ◌∙◌, Bor, List, ℕ, append_assoc, length, map, sym, ap, subst}
 use Rattle.std.specs.List.{AllByRecursion}
 use Rattle.std.proofs.lemmas.List.{map_push}
-use Rattle.query_resolution.specs.Sets.{sets_of}
+use Rattle.semantics.specs.Sets.{sets_of}
 use Rattle.groups.specs.declared.group.Group.{Group}
-use Rattle.groups.specs.Functions.{Summary}
-use Rattle.groups.specs.Found.{Found, row_of}
-use Rattle.rows.specs.Order.{arranged}
-use Rattle.rows.specs.Shown.{cells_of, row_shown}
+use Rattle.semantics.specs.Aggregates.{Summary}
+use Rattle.semantics.specs.Found.{Found}
+use Rattle.groups.specs.Found.{row_of}
+use Rattle.semantics.specs.Order.{arranged}
+use Rattle.rows.specs.Shown.{cells_of}
+use Rattle.semantics.specs.Rows.{row_shown}
 use Rattle.rows.specs.declared.row.ReportRow.{ReportRow}
 use Rattle.rows.proofs.Keeping.{within-having_true}
 use Rattle.rows.proofs.Wide.{all-wide}

@@ -1,10 +1,11 @@
 use Rattle.std.proofs.Common.{◌≡◌, ◌++◌, ◌<◌, Bor, ℕ, length, map}
 use Rattle.std.specs.List.{AllByRecursion}
-use Rattle.query_resolution.specs.Sets.{sets_of}
+use Rattle.semantics.specs.Sets.{sets_of}
 use Rattle.groups.specs.declared.group.Group.{Group}
 use Rattle.groups.specs.Found.{row_of}
-use Rattle.rows.specs.Order.{rows_shown}
-use Rattle.rows.specs.Shown.{cells_of, row_shown}
+use Rattle.semantics.specs.Order.{rows_shown}
+use Rattle.rows.specs.Shown.{cells_of}
+use Rattle.semantics.specs.Rows.{row_shown}
 use Rattle.rows.proofs.arranging.arranged_rows.Given as goal
 
 -- the rows so far, and then those of the groups that are left, whose indexes are those of sets

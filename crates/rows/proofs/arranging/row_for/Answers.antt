@@ -1,10 +1,11 @@
 use Rattle.std.proofs.Common.{◌≡◌, ◌∙◌, List, map, ap, sym, ℕ, take_all}
-use Rattle.query_tree.specs.Syntax.{ItemForm, TreeForm, item_form}
+use Rattle.semantics.specs.Syntax.{ItemForm, TreeForm}
+use Rattle.query_tree.specs.Syntax.{item_form}
 use Rattle.query_tree.specs.declared.tree.Item.{Item}
 use Rattle.groups.specs.Cells.{summary_of}
 use Rattle.groups.specs.Found.{row_of}
-use Rattle.groups.specs.Fitting.{set_of}
-use Rattle.rows.specs.Shown.{expression_shown}
+use Rattle.semantics.specs.Found.{set_of}
+use Rattle.semantics.specs.Rows.{expression_shown}
 use Rattle.rows.proofs.Maps.{map-pushed, map-twice}
 use Rattle.rows.proofs.RowSets.{set-of-row}
 use Rattle.rows.proofs.arranging.row_for.Goals as goal

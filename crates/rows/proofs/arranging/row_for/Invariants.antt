@@ -2,7 +2,7 @@ use Rattle.std.proofs.Common.{◌≡◌, map, take}
 use Rattle.values.specs.Datum.{data_of}
 use Rattle.query_tree.specs.Syntax.{expression_form}
 use Rattle.groups.specs.Cells.{summary_of}
-use Rattle.rows.specs.Shown.{expression_shown}
+use Rattle.semantics.specs.Rows.{expression_shown}
 use Rattle.rows.proofs.arranging.row_for.Given as goal
 
 abbrev pub invariant-loop-item : goal.invariant-loop-item

@@ -1,6 +1,6 @@
 use Rattle.std.proofs.Common.{◌≡◌, ◌+◌, ◌≤◌, ◌^◌, map, reverse, take}
 use Rattle.values.specs.Schema.{fields_of}
-use Rattle.rows.specs.Shown.{is_rolled_up, number_of_digits}
+use Rattle.semantics.specs.Rows.{is_rolled_up, number_of_digits}
 use Rattle.rows.proofs.cells.grouping_number.Given as goal
 
 -- the number of the digits so far, which has no more digits than these

@@ -1,16 +1,17 @@
 use Rattle.std.proofs.Common.{◌∙◌, List, false, ap, map, refl, subst, sym}
-use Rattle.values.specs.Truth.{conjunction, disjunction}
+use Rattle.semantics.specs.Truth.{conjunction, disjunction}
 use Rattle.query_tree.specs.declared.expression.Predicate.{Predicate}
-use Rattle.query_tree.specs.declared.predicate.Literal.{Literal}
-use Rattle.query_tree.specs.Syntax.{member, operand_form, predicate_form, predicate_forms}
+use Rattle.semantics.specs.declared.literal.Literal.{Literal}
+use Rattle.semantics.specs.Syntax.{member, predicate_forms}
+use Rattle.query_tree.specs.Syntax.{operand_form, predicate_form}
 use Rattle.query_check.specs.declared.scope.Clause.TheVariants as clause
-use Rattle.query_resolution.specs.Sets.{grouping_places}
+use Rattle.semantics.specs.Sets.{grouping_places}
 use Rattle.query_check.specs.Typing.{IsTypedPredicate}
 use Rattle.query_truth.specs.Meaning.{is_truth_value}
-use Rattle.query_truth.specs.Truth.{truth, truths}
+use Rattle.semantics.specs.Conditions.{truth, truths}
 use Rattle.query_truth.proofs.Truths.{settled-false, settled-true}
 use Rattle.groups.specs.Found.{row_of}
-use Rattle.rows.specs.Having.{row_value}
+use Rattle.semantics.specs.Rows.{row_value}
 use Rattle.rows.proofs.RowValues.{column_form, member_form, truth-shown, within}
 use Rattle.rows.proofs.having.+row_truth.Goals as goal
 

@@ -1,12 +1,13 @@
 use Rattle.std.proofs.Common.{◌≡◌, drop, fold, map}
-use Rattle.values.specs.Truth.{conjunction, disjunction}
-use Rattle.query_tree.specs.Syntax.{predicate_form, predicate_forms}
+use Rattle.semantics.specs.Truth.{conjunction, disjunction}
+use Rattle.query_tree.specs.Syntax.{predicate_form}
+use Rattle.semantics.specs.Syntax.{predicate_forms}
 use Rattle.query_check.specs.declared.scope.Clause.TheVariants as clause
-use Rattle.query_resolution.specs.Sets.{grouping_places}
+use Rattle.semantics.specs.Sets.{grouping_places}
 use Rattle.query_check.specs.Typing.{AreTypedParts}
-use Rattle.query_truth.specs.Truth.{all_of, any_of, truths}
+use Rattle.semantics.specs.Conditions.{all_of, any_of, truths}
 use Rattle.groups.specs.Found.{row_of}
-use Rattle.rows.specs.Having.{row_value}
+use Rattle.semantics.specs.Rows.{row_value}
 use Rattle.rows.proofs.having.+row_truth.Given as goal
 
 -- with the parts that are left, what the parts so far tell is what all tell; and those that are left are typed

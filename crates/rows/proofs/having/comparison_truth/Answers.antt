@@ -1,6 +1,6 @@
 use Rattle.values.specs.Datum.{datum_of}
 use Rattle.query_tree.specs.Syntax.{operand_form}
-use Rattle.query_resolution.specs.Sets.{grouping_places}
+use Rattle.semantics.specs.Sets.{grouping_places}
 use Rattle.groups.specs.Found.{row_of}
 use Rattle.rows.proofs.RowValues.{are-comparable}
 use Rattle.rows.proofs.having.comparison_truth.Goals as goal

@@ -1,12 +1,13 @@
 use Rattle.std.proofs.Common.{◌∙◌, ap, map}
 use Rattle.std.specs.List.{list_all}
-use Rattle.values.specs.Datum.{Datum, datum_of}
+use Rattle.semantics.specs.Values.{Datum}
+use Rattle.values.specs.Datum.{datum_of}
 use Rattle.query_tree.specs.Syntax.{operand_form}
-use Rattle.query_resolution.specs.Sets.{grouping_places}
+use Rattle.semantics.specs.Sets.{grouping_places}
 use Rattle.query_truth.specs.Meaning.{comparable}
-use Rattle.query_truth.specs.Truth.{operand_value}
+use Rattle.semantics.specs.Conditions.{operand_value}
 use Rattle.groups.specs.Found.{row_of}
-use Rattle.rows.specs.Having.{row_value}
+use Rattle.semantics.specs.Rows.{row_value}
 use Rattle.rows.proofs.RowValues.{comparable-literals}
 use Rattle.rows.proofs.having.list_truth.Goals as goal
 

@@ -5,10 +5,11 @@ use Rattle.std.proofs.lemmas.Iterator.{YieldsList-from_slice}
 use Rattle.std.proofs.lemmas.Iterator.Consumers.{map_from_collect}
 use Rattle.std.proofs.lemmas.List.{append-nil, at_drop_all}
 use Rattle.std.proofs.lemmas.Result.{IfOk-weaker}
-use Rattle.query_tree.specs.Syntax.{TreeForm, predicate_form}
+use Rattle.semantics.specs.Syntax.{TreeForm}
+use Rattle.query_tree.specs.Syntax.{predicate_form}
 use Rattle.groups.specs.declared.group.Group.{Group}
 use Rattle.groups.specs.Found.{row_of}
-use Rattle.rows.specs.Having.{rows_having_true}
+use Rattle.semantics.specs.Rows.{rows_having_true}
 use Rattle.rows.proofs.Keeping.{all-having_true, group-fits, having-typed}
 use Rattle.rows.proofs.Maps.{map-twice}
 use Rattle.rows.proofs.having.rows_having_true.Goals as goal

@@ -1,7 +1,7 @@
 use Rattle.std.proofs.Common.{◌≡◌, ◌++◌, Bor, ℕ, drop, map}
 use Rattle.groups.specs.declared.group.Group.{Group}
 use Rattle.groups.specs.Found.{row_of}
-use Rattle.rows.specs.Having.{rows_having_true}
+use Rattle.semantics.specs.Rows.{rows_having_true}
 use Rattle.rows.proofs.having.rows_having_true.Given as goal
 
 -- the rows so far of which HAVING is True, and then those of the rows that are left

@@ -1,12 +1,12 @@
 use Rattle.std.proofs.Common.{◌≡◌, ◌∙◌, List, map, ap, sym, ℕ, take_all}
 use Rattle.values.specs.Datum.{datum_of}
-use Rattle.query_tree.specs.Syntax.{KeyForm, TreeForm, key_form}
+use Rattle.semantics.specs.Syntax.{KeyForm, TreeForm}
+use Rattle.query_tree.specs.Syntax.{key_form}
 use Rattle.query_tree.specs.declared.tree.Key.{Key}
-use Rattle.query_check.specs.Typing.{key_expression}
+use Rattle.semantics.specs.Types.{key_expression}
 use Rattle.groups.specs.Found.{row_of}
-use Rattle.groups.specs.Fitting.{set_of}
-use Rattle.rows.specs.Having.{cell_value}
-use Rattle.rows.specs.Shown.{expression_shown}
+use Rattle.semantics.specs.Found.{set_of}
+use Rattle.semantics.specs.Rows.{cell_value, expression_shown}
 use Rattle.rows.proofs.Maps.{map-pushed, map-twice}
 use Rattle.rows.proofs.RowSets.{set-of-row}
 use Rattle.rows.proofs.keys.key_values.Goals as goal

@@ -1,10 +1,9 @@
 use Rattle.std.proofs.Common.{◌≡◌, map, take}
 use Rattle.values.specs.Datum.{data_of}
 use Rattle.query_tree.specs.Syntax.{key_form}
-use Rattle.query_check.specs.Typing.{key_expression}
+use Rattle.semantics.specs.Types.{key_expression}
 use Rattle.groups.specs.Cells.{summary_of}
-use Rattle.rows.specs.Having.{cell_value}
-use Rattle.rows.specs.Shown.{expression_shown}
+use Rattle.semantics.specs.Rows.{cell_value, expression_shown}
 use Rattle.rows.proofs.keys.key_values.Given as goal
 
 abbrev pub invariant-loop-key : goal.invariant-loop-key

@@ -1,5 +1,6 @@
 use Rattle.std.proofs.Common.{◌≡◌, drop, map}
-use Rattle.values.specs.Datum.{data_of, datum_of, null}
+use Rattle.values.specs.Datum.{data_of, datum_of}
+use Rattle.semantics.specs.Values.{null}
 use Rattle.query_tree.specs.Syntax.{key_form}
 use Rattle.rows.specs.Inside.Ranked.{under_values}
 use Rattle.rows.proofs.keys.under_values.Given as goal

@@ -1,7 +1,7 @@
 use Rattle.std.proofs.Common.{◌∙◌, sym, ap, Ordering, nat_cmp, ◌≡◌, Equal}
 use Rattle.std.specs.Ordering.{ordering_then}
 use Rattle.values.specs.Datum.{data_of}
-use Rattle.groups.specs.Groups.{key_order}
+use Rattle.semantics.specs.Groups.{key_order}
 use Rattle.rows.proofs.KeyOrder.{numbers-tell, texts-tell}
 use Rattle.rows.proofs.ordering.compare.Goals as goal
 

@@ -2,7 +2,8 @@ use Rattle.std.proofs.Common.{◌≡◌, ◌∙◌, rules, Bor, List, map, ap, s
 use Rattle.std.specs.Ordering.{is_lt}
 use Rattle.std.proofs.lemmas.Fn.{always_returns_same}
 use Rattle.std.proofs.lemmas.List.Sorted.{ranks_by}
-use Rattle.query_tree.specs.Syntax.{KeyForm, TreeForm, key_form}
+use Rattle.semantics.specs.Syntax.{KeyForm, TreeForm}
+use Rattle.query_tree.specs.Syntax.{key_form}
 use Rattle.rows.specs.Inside.Ranked.{Ranked, by_rank, ranked_in}
 use Rattle.rows.specs.declared.ranked.RankedRow.{RankedRow}
 use Rattle.rows.proofs.Totals.{by_rank-total}

@@ -2,7 +2,7 @@ use Rattle.std.proofs.Common.{◌≡◌, ◌∙◌, ◌*◌, List, IfOk, length,
 use denote.Param.Send.{sendable}
 use Rattle.std.proofs.Crossing as std
 use Rattle.std.proofs.lemmas.List.{drop-map, length-map, take-map}
-use Rattle.groups.specs.Found.{Found}
+use Rattle.semantics.specs.Found.{Found}
 use Rattle.rows.specs.Inside.Ranked.{AreRanked, ranked}
 use Rattle.rows.proofs.InParts.{parts-cover, parts-made}
 use Rattle.rows.proofs.Rows.{row_at}

@@ -1,7 +1,7 @@
 use Rattle.std.proofs.Common.{◌≡◌, ◌∙◌, ap, sym, Equal, Ordering}
 use Rattle.std.specs.Ordering.{ordering_then}
 use Rattle.values.specs.Datum.{data_of}
-use Rattle.groups.specs.Groups.{key_order}
+use Rattle.semantics.specs.Groups.{key_order}
 use Rattle.rows.specs.Inside.Fronts.{first_text, text_order}
 use Rattle.rows.proofs.KeyOrder.{key_cmp-is, texts-known, told_apart}
 use Rattle.rows.proofs.ranked.compare_ties.Goals as goal

@@ -2,10 +2,10 @@ use Rattle.std.proofs.Common.{rules, tests, ◌∙◌, ◌==◌, ℕ, List, Opti
 use Rattle.std.specs.Option.{option_map_or}
 use Rattle.std.proofs.lemmas.Iterator.{YieldsList-from_slice}
 use Rattle.std.proofs.lemmas.Iterator.Search.{position_from_yields_List}
-use Rattle.values.specs.Datum.{null}
+use Rattle.semantics.specs.Values.{null}
 use Rattle.values.specs.Schema.{fields_of}
-use Rattle.query_resolution.specs.Columns.{place_of}
-use Rattle.rows.specs.Shown.{value_in}
+use Rattle.semantics.specs.Names.{place_of}
+use Rattle.semantics.specs.Rows.{value_in}
 use Rattle.rows.proofs.source.key_place.Goals as goal
 
 pub returns-in-Some : goal.returns-in-Some

@@ -1,5 +1,5 @@
 use Rattle.std.proofs.Common.{ap}
-use Rattle.groups.specs.Functions.{plain}
+use Rattle.semantics.specs.Aggregates.{plain}
 use Rattle.rows.proofs.source.name_source.Goals as goal
 
 pub returns-in-Some : goal.returns-in-Some

@@ -2,7 +2,7 @@ use Rattle.std.proofs.Common.{◌≡◌, ◌∙◌, ◌+◌, ◌<◌, ◌≤◌,
 use Rattle.std.specs.Global.{Vec}
 use Rattle.std.proofs.lemmas.List.{get_or-map, length-map}
 use Rattle.query_resolution.specs.Resolution.{contents}
-use Rattle.query_resolution.specs.Sets.{sets_of}
+use Rattle.semantics.specs.Sets.{sets_of}
 use Rattle.rows.specs.declared.source.Source.{Source}
 use Rattle.rows.specs.Sources.{AreSourcesOf, AreSourcesOfEach}
 use Rattle.rows.proofs.Sources.{sources-next}

@@ -1,10 +1,11 @@
 use Rattle.std.proofs.Common.{◌≡◌, ◌∙◌, ◌++◌, [], ◌∷◌, Some, length, map, option_map, refl, ap, sym, take_all, slice_get}
 use Rattle.std.proofs.lemmas.Option.{slice_get_read}
 use Rattle.std.proofs.lemmas.List.{map-append}
-use Rattle.query_tree.specs.Syntax.{ItemForm, TreeForm, expression_form, item_form}
+use Rattle.semantics.specs.Syntax.{ItemForm, TreeForm}
+use Rattle.query_tree.specs.Syntax.{expression_form, item_form}
 use Rattle.query_tree.specs.declared.tree.Item.{Item}
 use Rattle.rows.specs.Sources.{shown_at}
-use Rattle.rows.specs.Shown.{expression_shown}
+use Rattle.semantics.specs.Rows.{expression_shown}
 use Rattle.rows.proofs.Maps.{map-next, map-twice}
 use Rattle.rows.proofs.source.sources_of.Goals as goal
 

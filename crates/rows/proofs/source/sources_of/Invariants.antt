@@ -1,9 +1,9 @@
 use Rattle.std.proofs.Common.{◌≡◌, List, map, take}
 use Rattle.query_tree.specs.Syntax.{expression_form}
-use Rattle.groups.specs.Functions.{Summary}
-use Rattle.groups.specs.Groups.{Key}
+use Rattle.semantics.specs.Aggregates.{Summary}
+use Rattle.semantics.specs.Groups.{Key}
 use Rattle.rows.specs.Sources.{shown_at}
-use Rattle.rows.specs.Shown.{expression_shown}
+use Rattle.semantics.specs.Rows.{expression_shown}
 use Rattle.rows.proofs.source.sources_of.Given as goal
 
 abbrev pub invariant-loop-item : goal.invariant-loop-item

@@ -1,10 +1,12 @@
 use Rattle.std.proofs.Common.{◌≡◌, [], Bool, List, map, ap, subst, ◌∙◌}
 use Rattle.std.proofs.lemmas.Result.{IfOk-weaker}
-use Rattle.groups.specs.Functions.{AggregateFunction, bound}
+use Rattle.semantics.specs.Aggregates.{AggregateFunction}
+use Rattle.groups.specs.Functions.{bound}
 use Rattle.groups.specs.Inside.Table.{Contents, IsTableOf}
-use Rattle.groups.specs.Rows.{Row}
-use Rattle.query_resolution.specs.Sets.{grouping_places}
-use Rattle.tables.specs.Functions.{aggregate_functions, filters_kept}
+use Rattle.semantics.specs.Groups.{Row}
+use Rattle.semantics.specs.Sets.{grouping_places}
+use Rattle.semantics.specs.Found.{aggregate_functions}
+use Rattle.tables.specs.Functions.{filters_kept}
 use Rattle.tables.proofs.Bound.{bound-functions}
 use Rattle.tables.proofs.folding.empty_table.Goals as goal
 

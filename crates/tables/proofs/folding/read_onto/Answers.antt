@@ -2,7 +2,7 @@ use native.Mathlib.Nat.{ℕ_set}
 use Rattle.std.proofs.Common.{◌≡◌, ◌+◌, ◌<◌, ◌^◌, ◌++◌, ◌∷◌, [], ℕ, List, length, rules, subst, sym, ap, ◌∙◌, append_assoc, append-nil, arith, length-append}
 use Rattle.std.proofs.Math.Logic.{∥∥₁_elim, ∥∥₁_map}
 use Rattle.std.proofs.Props.{props}
-use Rattle.lines.specs.Lines.{lines}
+use Rattle.semantics.specs.Lines.{lines}
 use Rattle.tables.specs.Folding.{HasRead}
 use Rattle.tables.proofs.Reading.{nothing-read, well-numbered}
 use Rattle.tables.proofs.folding.read_onto.Goals as goal

@@ -1,6 +1,6 @@
 use Rattle.std.proofs.Common.{List}
-use Rattle.lines.specs.Lines.{lines}
-use Rattle.groups.specs.Rows.{Row}
+use Rattle.semantics.specs.Lines.{lines}
+use Rattle.semantics.specs.Groups.{Row}
 use Rattle.tables.specs.Folding.{IsTableUnder}
 use Rattle.tables.proofs.Reading.{HasReadSome}
 use Rattle.tables.proofs.folding.read_onto.Given as goal

@@ -1,9 +1,9 @@
 use Rattle.std.proofs.Common.{◌∙◌, sym}
-use Rattle.lines.specs.Input.{good, refused}
-use Rattle.lines.specs.Lines.{lines}
-use Rattle.query_resolution.specs.Sets.{grouping_places}
-use Rattle.query_truth.specs.Kept.{is_kept, kept}
-use Rattle.tables.specs.Functions.{aggregate_functions}
+use Rattle.semantics.specs.Records.{good, refused}
+use Rattle.semantics.specs.Lines.{lines}
+use Rattle.semantics.specs.Sets.{grouping_places}
+use Rattle.semantics.specs.Conditions.{is_kept, kept}
+use Rattle.semantics.specs.Found.{aggregate_functions}
 use Rattle.tables.specs.Notes.{note_of}
 use Rattle.tables.specs.Pieces.{all_lines, records_of, refused_within}
 use Rattle.groups.proofs.Bags.{bag-filter, length-bag}

@@ -1,7 +1,7 @@
-use Rattle.query_resolution.specs.Sets.{sets_of}
-use Rattle.query_truth.specs.Kept.{is_kept, kept}
+use Rattle.semantics.specs.Sets.{sets_of}
+use Rattle.semantics.specs.Conditions.{is_kept, kept}
 use Rattle.groups.proofs.Bags.{bag-filter}
-use Rattle.tables.specs.Functions.{aggregate_functions}
+use Rattle.semantics.specs.Found.{aggregate_functions}
 use Rattle.tables.proofs.Finding.{found-same}
 use Rattle.tables.proofs.laws.records_law.Goals as goal
 

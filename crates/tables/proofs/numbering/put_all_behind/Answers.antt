@@ -1,7 +1,7 @@
 use Rattle.std.proofs.Common.{◌≡◌, ◌+◌, ◌<◌, ◌^◌, ◌++◌, ◌∷◌, ℕ, List, All, length, map, slice_index_or, sym, ap, subst, ◌∙◌, arith, append_assoc}
 use Rattle.std.proofs.lemmas.List.Elements.{All-tail}
 use Rattle.std.proofs.lemmas.List.Sums.{sum_by-cons}
-use Rattle.lines.specs.declared.fault.LineFault.{LineFault}
+use Rattle.semantics.specs.declared.line_fault.LineFault.{LineFault}
 use Rattle.tables.specs.declared.note.Note.{Note}
 use Rattle.tables.specs.Notes.{IsWellNumbered, Noted, lines_noted, note_in, notes_in, numbered_from}
 use Rattle.tables.proofs.numbering.put_all_behind.Goals as goal

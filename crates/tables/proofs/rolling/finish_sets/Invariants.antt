@@ -1,7 +1,7 @@
 use Rattle.std.proofs.Common.{All, Bool, List, drop, map, take}
 use Rattle.query_resolution.specs.Resolution.{contents}
 use Rattle.groups.specs.Functions.{bound}
-use Rattle.groups.specs.Rows.{Row}
+use Rattle.semantics.specs.Groups.{Row}
 use Rattle.tables.specs.Sets.{AreGroupsOf}
 use Rattle.tables.specs.SetTables.{AreTablesOf, IsMade}
 use Rattle.tables.proofs.rolling.finish_sets.Given as goal

@@ -1,6 +1,6 @@
 use Rattle.std.proofs.Common.{All, List, ℕ, Bool, map}
 use Rattle.groups.specs.Functions.{bound}
-use Rattle.groups.specs.Rows.{Row}
+use Rattle.semantics.specs.Groups.{Row}
 use Rattle.tables.specs.SetTables.{AreTablesOf, IsMadeOrRolled}
 use Rattle.tables.proofs.SetTables.{IsRolledOutOf}
 use Rattle.tables.proofs.rolling.roll_sets.Given as goal

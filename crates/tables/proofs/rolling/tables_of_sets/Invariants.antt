@@ -1,6 +1,6 @@
 use Rattle.std.proofs.Common.{Bool, List, map}
 use Rattle.groups.specs.Functions.{bound}
-use Rattle.groups.specs.Rows.{Row}
+use Rattle.semantics.specs.Groups.{Row}
 use Rattle.groups.specs.Inside.Table.{IsTableOf}
 use Rattle.tables.specs.SetTables.{AreTablesOf, IsMade}
 use Rattle.tables.proofs.rolling.tables_of_sets.Given as goal

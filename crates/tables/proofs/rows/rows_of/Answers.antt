@@ -3,14 +3,15 @@ use Rattle.std.proofs.Math.Logic.{∥∥₁_map}
 use Rattle.std.proofs.lemmas.Result.{IfOk-weaker}
 use Rattle.query_resolution.specs.declared.function.FilteredFunction.{FilteredFunction}
 use Rattle.query_resolution.specs.Resolution.{contents}
-use Rattle.query_resolution.specs.Sets.{grouping_places, sets_of}
-use Rattle.query_truth.specs.Kept.{kept}
+use Rattle.semantics.specs.Sets.{grouping_places, sets_of}
+use Rattle.semantics.specs.Conditions.{kept}
 use Rattle.groups.specs.Bags.{SameBag}
-use Rattle.groups.specs.Functions.{AggregateFunction, bound}
+use Rattle.semantics.specs.Aggregates.{AggregateFunction}
+use Rattle.groups.specs.Functions.{bound}
 use Rattle.groups.specs.Inside.Table.{IsOfFew, IsTableOf}
 use Rattle.groups.specs.Rolled.{AreAmong}
-use Rattle.tables.specs.Functions.{aggregate_functions, filters_kept}
-use Rattle.tables.specs.Results.{query_found}
+use Rattle.semantics.specs.Found.{aggregate_functions, query_found}
+use Rattle.tables.specs.Functions.{filters_kept}
 use Rattle.tables.specs.Sets.{AreGroupsOf}
 use Rattle.tables.proofs.Bound.{bound-functions}
 use Rattle.tables.proofs.Finding.{all-found}

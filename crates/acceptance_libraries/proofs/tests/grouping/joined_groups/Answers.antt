@@ -1,7 +1,8 @@
 use Rattle.std.proofs.Common.{Bool, List, [], ◌∷◌, length, arith}
 use Rattle.std.proofs.lemmas.List.{length-map}
 use Rattle.groups.specs.Functions.{bound}
-use Rattle.groups.specs.Rows.{Row, is_present, value_at}
+use Rattle.semantics.specs.Groups.{Row, value_at}
+use Rattle.semantics.specs.Aggregates.{is_present}
 use Rattle.groups.proofs.Meaning.{table-within, within-can_join}
 use Rattle.acceptance_libraries.proofs.tests.grouping.joined_groups.Goals as goal
 

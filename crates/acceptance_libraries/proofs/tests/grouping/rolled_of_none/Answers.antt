@@ -1,5 +1,6 @@
 use Rattle.std.proofs.Common.{Bool, List, [], ◌∷◌, arith}
-use Rattle.groups.specs.Rows.{Row, is_present, value_at}
+use Rattle.semantics.specs.Groups.{Row, value_at}
+use Rattle.semantics.specs.Aggregates.{is_present}
 use Rattle.acceptance_libraries.proofs.tests.grouping.rolled_of_none.Goals as goal
 
 abbrev filters : List (Row → Bool)

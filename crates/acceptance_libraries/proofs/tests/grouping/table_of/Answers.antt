@@ -1,6 +1,7 @@
 use Rattle.std.proofs.Common.{Bool, List, [], ◌∷◌, ◌++◌, refl, ap, arith, length-append}
 use Rattle.values.specs.Datum.{data_of}
-use Rattle.groups.specs.Rows.{Row, is_present, value_at}
+use Rattle.semantics.specs.Groups.{Row, value_at}
+use Rattle.semantics.specs.Aggregates.{is_present}
 use Rattle.acceptance_libraries.proofs.tests.grouping.table_of.Goals as goal
 
 abbrev filters : List (Row → Bool)

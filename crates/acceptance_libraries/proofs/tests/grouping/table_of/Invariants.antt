@@ -1,6 +1,7 @@
 use Rattle.std.proofs.Common.{◌≡◌, ◌∷◌, [], List, length, map}
 use Rattle.groups.specs.Functions.{bound}
-use Rattle.groups.specs.Rows.{Row, is_present, value_at}
+use Rattle.semantics.specs.Groups.{Row, value_at}
+use Rattle.semantics.specs.Aggregates.{is_present}
 use Rattle.groups.specs.Inside.Table.{IsTableOf}
 use Rattle.acceptance_libraries.proofs.tests.grouping.table_of.Given as goal
 

@@ -1,7 +1,7 @@
 use Rattle.std.proofs.Common.{None, ◌≡◌, ◌+◌, ◌<◌, ◌^◌, List, set, length, map, sym, ap, subst, ◌∙◌, arith, add-one, length-set}
 use Rattle.std.proofs.lemmas.List.{length-map}
 use Rattle.values.specs.Datum.{data_of}
-use Rattle.query_resolution.specs.declared.function.ColumnFunction.TheVariants.{CountRows}
+use Rattle.semantics.specs.declared.function.ColumnFunction.TheVariants.{CountRows}
 use Rattle.query_resolution.specs.declared.function.FilteredFunction.{FilteredFunction}
 use Rattle.groups.specs.Inside.Accumulator.{AccumulatorState, state_in, IsWithin}
 use Rattle.groups.specs.Inside.Group.{GroupState, all_with_row, IsSound}

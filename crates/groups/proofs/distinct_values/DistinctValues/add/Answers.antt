@@ -2,7 +2,7 @@ use Rattle.std.proofs.Common.{◌≡◌, true, false, sym, ap, ◌∙◌}
 use Rattle.std.proofs.lemmas.Result.{on_ok_weaker}
 use Rattle.std.specs.FinSet as set
 use Rattle.values.specs.Datum.{datum_of}
-use Rattle.groups.specs.Rows.{is_present}
+use Rattle.semantics.specs.Aggregates.{is_present}
 use Rattle.groups.specs.Inside.Values.{Values, values_in}
 use Rattle.groups.proofs.Sets.{union-absent, union-present}
 use Rattle.groups.proofs.distinct_values.DistinctValues.add.Goals as goal

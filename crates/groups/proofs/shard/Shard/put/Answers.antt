@@ -5,7 +5,7 @@ use Rattle.std.specs.Option.{option_copied_mut, is_some}
 use Rattle.std.specs.Map.{lookup}
 use Rattle.std.specs.Cmp.Lexicographic.{pointwise}
 use Rattle.values.specs.Datum.{data_of}
-use Rattle.groups.specs.Groups.{project, same_key}
+use Rattle.semantics.specs.Groups.{project, same_key}
 use Rattle.groups.specs.Inside.Group.{GroupState}
 use Rattle.groups.specs.Inside.Shards.{contents_in}
 use Rattle.groups.specs.Inside.Table.{IsTaken, with_part}

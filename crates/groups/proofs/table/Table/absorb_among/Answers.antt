@@ -1,5 +1,5 @@
 use Rattle.std.proofs.Common.{◌++◌, subst, sym}
-use Rattle.groups.specs.Groups.{Key}
+use Rattle.semantics.specs.Groups.{Key}
 use Rattle.groups.specs.Inside.Table.{Contents, IsJoined, IsTableOf}
 use Rattle.groups.proofs.Meaning.{table-joined}
 use Rattle.groups.proofs.table.Table.absorb_among.Goals as goal

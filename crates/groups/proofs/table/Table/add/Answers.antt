@@ -1,6 +1,6 @@
 use Rattle.std.proofs.lemmas.Result.{on_ok_weaker}
 use Rattle.values.specs.Datum.{data_of}
-use Rattle.groups.specs.Groups.{Key, project}
+use Rattle.semantics.specs.Groups.{Key, project}
 use Rattle.groups.specs.Inside.Table.{IsAdded}
 use Rattle.groups.proofs.Meaning.{table-added, table-takes}
 use Rattle.groups.proofs.table.Table.add.Goals as goal

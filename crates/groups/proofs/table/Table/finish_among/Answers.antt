@@ -1,9 +1,9 @@
 use Rattle.std.proofs.Common.{ℕ, ◌≡◌, List, Vec, Global, map, ap, ◌∙◌}
 use Rattle.std.proofs.lemmas.Result.{IfOk-weaker}
 use Rattle.groups.specs.Bags.{weigh}
-use Rattle.groups.specs.Functions.{AggregateFunction}
+use Rattle.semantics.specs.Aggregates.{AggregateFunction}
 use Rattle.groups.specs.GroupSummaries.{group_summary_in}
-use Rattle.groups.specs.Rows.{Row}
+use Rattle.semantics.specs.Groups.{Row}
 use Rattle.groups.specs.declared.group.Group.{Group}
 use Rattle.groups.specs.Inside.Shards.{all_entries}
 use Rattle.groups.specs.Inside.Table.{IsTableOf, entries_by_key}

@@ -3,8 +3,7 @@ use Rattle.std.proofs.lemmas.Result.{IfOk-weaker}
 use Rattle.query_resolution.specs.declared.function.FilteredFunction.{FilteredFunction}
 use Rattle.std.specs.FinMap as fin
 use Rattle.groups.specs.Functions.{bound}
-use Rattle.groups.specs.Groups.{Key}
-use Rattle.groups.specs.Rows.{Row}
+use Rattle.semantics.specs.Groups.{Key, Row}
 use Rattle.groups.specs.Inside.Group.{no_group}
 use Rattle.groups.specs.Inside.Table.{Contents, IsPut, IsTableOf}
 use Rattle.groups.proofs.Meaning.{table-empty_set, table-no_group}

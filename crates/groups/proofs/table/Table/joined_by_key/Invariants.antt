@@ -2,7 +2,7 @@ use Rattle.std.proofs.Common.{◌≡◌, IfSome}
 use Rattle.std.specs.List.{IsDistinct}
 use Rattle.std.specs.Map.{keys_of}
 use Rattle.std.specs.FinMap.{get, find}
-use Rattle.groups.specs.Groups.{Key, key_order}
+use Rattle.semantics.specs.Groups.{Key, key_order}
 use Rattle.groups.specs.Inside.Keys.{key_eq}
 use Rattle.groups.specs.Inside.Shards.{all_entries}
 use Rattle.groups.specs.Inside.Table.{IsFitting, join_options, entries_by_key}

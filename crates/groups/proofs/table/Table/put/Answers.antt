@@ -2,7 +2,7 @@ use Rattle.std.proofs.Common.{◌≡◌, ◌∙◌, ap, sym, subst, arith, lengt
 use Rattle.std.proofs.lemmas.Result.{on_ok_weaker}
 use Rattle.std.specs.FinMap as fin
 use Rattle.values.specs.Datum.{data_of}
-use Rattle.groups.specs.Groups.{Key, project}
+use Rattle.semantics.specs.Groups.{Key, project}
 use Rattle.groups.specs.Inside.Group.{GroupState}
 use Rattle.groups.specs.Inside.Shards.{AreApart, contents_in, contents_of_shards, place}
 use Rattle.groups.specs.Inside.Table.{Contents, IsTaken, IsWithPart, with_part}

@@ -9,7 +9,7 @@ use Rattle.std.specs.Map.Iter.{deref_pair}
 use Rattle.std.specs.FinMap as fin
 use Rattle.values.specs.declared.value.Value.{Value}
 use Rattle.values.specs.Datum.{data_of}
-use Rattle.groups.specs.Groups.{Key, project}
+use Rattle.semantics.specs.Groups.{Key, project}
 use Rattle.groups.specs.Functions.{bound}
 use Rattle.groups.specs.Inside.Group.{GroupState}
 use Rattle.groups.specs.Inside.Shards.{AreApart, all_entries, contents_of_shards, entries_in}

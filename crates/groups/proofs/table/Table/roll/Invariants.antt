@@ -2,7 +2,7 @@ use Rattle.std.proofs.Common.{◌≡◌, ◌+◌, ◌++◌, Bool, List, Some, dr
 use Rattle.std.specs.List.{AllByRecursion}
 use Rattle.std.specs.FinMap as fin
 use Rattle.values.specs.Datum.{data_of}
-use Rattle.groups.specs.Rows.{Row}
+use Rattle.semantics.specs.Groups.{Row}
 use Rattle.groups.specs.Functions.{bound}
 use Rattle.groups.specs.Inside.Shards.{all_entries}
 use Rattle.groups.specs.Inside.Table.{IsTableOf}

@@ -5,7 +5,7 @@ use Rattle.std.specs.List.{IsDistinct}
 use Rattle.std.specs.Map.{keys_of}
 use Rattle.std.specs.FinMap as fin
 use Rattle.values.specs.Datum.{data_of}
-use Rattle.groups.specs.Groups.{Key, key_order}
+use Rattle.semantics.specs.Groups.{Key, key_order}
 use Rattle.groups.specs.Inside.Group.{GroupState, no_group}
 use Rattle.groups.specs.Inside.Shards.{AreApart, all_entries, contents_of_shards, entries_in}
 use Rattle.groups.specs.Inside.Table.{Contents, IsFitting, IsPut, TakesEach, contents_of, joined_entries}

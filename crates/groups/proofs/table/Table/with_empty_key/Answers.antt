@@ -1,7 +1,7 @@
 use Rattle.std.proofs.Common.{Option, sym, subst}
 use Rattle.std.specs.FinMap as fin
 use Rattle.values.specs.Datum.{data_of}
-use Rattle.groups.specs.Groups.{key_order}
+use Rattle.semantics.specs.Groups.{key_order}
 use Rattle.groups.specs.Inside.Group.{GroupState}
 use Rattle.groups.specs.Inside.Table.{Contents, IsFitting}
 use Rattle.groups.proofs.table.Table.with_empty_key.Goals as goal

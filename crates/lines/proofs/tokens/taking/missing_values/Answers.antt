@@ -2,7 +2,7 @@ use Rattle.std.proofs.Common.{◌≡◌, [], ◌∷◌, ◌++◌, refl, sym, ari
 use Rattle.serde_json.specs.Data.{no_members}
 use Rattle.values.specs.declared.value.Value.TheVariants as value
 use Rattle.values.specs.Schema.{fields_of}
-use Rattle.lines.specs.Taken.{data_taken}
+use Rattle.semantics.specs.Records.{data_taken}
 use Rattle.lines.proofs.Placing.{null_taken}
 use Rattle.lines.proofs.Taking.{split-all, split-more}
 use Rattle.lines.proofs.tokens.taking.missing_values.Goals as goal

@@ -1,6 +1,6 @@
 use Rattle.serde_json.specs.Data.{no_members}
 use Rattle.values.specs.Schema.{fields_of}
-use Rattle.lines.specs.Taken.{data_taken}
+use Rattle.semantics.specs.Records.{data_taken}
 use Rattle.lines.proofs.Taking.{IsSplit}
 use Rattle.lines.proofs.tokens.taking.missing_values.Given as goal
 

@@ -2,7 +2,8 @@ use Rattle.std.proofs.Common.{◌≡◌, ◌≢◌, ◌<◌, ◌≤◌, ℕ, Lis
 use Rattle.std.proofs.lemmas.List.{get_or-map}
 use Rattle.std.proofs.lemmas.Slice.Eq.{bytes_eq-Decides}
 use Rattle.values.specs.declared.schema.Column.{Column}
-use Rattle.values.specs.Schema.{Field, field_of, fields_of}
+use Rattle.semantics.specs.Columns.{Field}
+use Rattle.values.specs.Schema.{field_of, fields_of}
 use Rattle.lines.proofs.tokens.taking.place_between.Goals as goal
 use borrow.Author.Count.{below_more}
 

@@ -1,5 +1,6 @@
 use Rattle.std.proofs.Common.{◌≢◌, ◌<◌, ◌≤◌, ℕ, get_or}
-use Rattle.values.specs.Schema.{Field, fields_of}
+use Rattle.semantics.specs.Columns.{Field}
+use Rattle.values.specs.Schema.{fields_of}
 use Rattle.lines.proofs.tokens.taking.place_between.Given as goal
 
 abbrev pub invariant-loop-place : goal.invariant-loop-place

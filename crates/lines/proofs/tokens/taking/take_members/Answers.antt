@@ -5,7 +5,7 @@ use Rattle.serde_json.specs.Data.{no_members, put}
 use Rattle.serde_json.specs.Read.{of_members}
 use Rattle.values.specs.Datum.{datum_of, data_of}
 use Rattle.values.specs.Schema.{field_of, fields_of}
-use Rattle.lines.specs.Taken.{data_taken, datum_taken, member_of}
+use Rattle.semantics.specs.Records.{data_taken, datum_taken, member_of}
 use Rattle.lines.proofs.Taking.{somes}
 use Rattle.lines.proofs.Meaning.{begins, member-next, members-closed}
 use Rattle.lines.proofs.Placing.{taken-other, taken-place}

@@ -6,9 +6,9 @@ use Rattle.json.specs.Reads.{token_of}
 use Rattle.serde_json.specs.Data.{Num, null, boolean, number, string}
 use Rattle.serde_json.specs.Find.{as_integer}
 use Rattle.serde_json.specs.Read.{number_of}
-use Rattle.values.specs.declared.schema.Kind.TheVariants as kind
-use Rattle.values.specs.Datum.{whole, text}
-use Rattle.lines.specs.Taken.{datum_taken, int64_taken, is_int64}
+use Rattle.semantics.specs.declared.kind.Kind.TheVariants as kind
+use Rattle.semantics.specs.Values.{whole, text}
+use Rattle.semantics.specs.Records.{datum_taken, int64_taken, is_int64}
 use Rattle.lines.proofs.Meaning.{first-boolean, first-null, first-number, first-string}
 use Rattle.lines.proofs.Placing.{null_taken}
 use Rattle.lines.proofs.tokens.taking.take_value.Goals as goal

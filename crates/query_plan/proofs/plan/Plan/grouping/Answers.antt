@@ -3,7 +3,7 @@ use native.Mathlib.Nat.{ℕ_set}
 use Rattle.std.proofs.Common.{◌≡◌, ◌∙◌, ap}
 use Rattle.std.proofs.Math.Logic.{∥∥₁_elim}
 use Rattle.query_resolution.specs.Resolution.{Resolution}
-use Rattle.query_resolution.specs.Sets.{grouping_places}
+use Rattle.semantics.specs.Sets.{grouping_places}
 use Rattle.query_plan.specs.Planned.{PlannedQuery}
 use Rattle.query_plan.proofs.plan.Plan.grouping.Goals as goal
 

@@ -1,8 +1,9 @@
 use Rattle.std.proofs.Common.{◌∙◌, List, map, ap}
-use Rattle.values.specs.Datum.{Datum, data_of}
+use Rattle.semantics.specs.Values.{Datum}
+use Rattle.values.specs.Datum.{data_of}
 use Rattle.query_resolution.specs.Functions.{filters_of}
-use Rattle.query_tree.specs.Syntax.{PredicateForm}
-use Rattle.query_truth.specs.Kept.{passes}
+use Rattle.semantics.specs.Syntax.{PredicateForm}
+use Rattle.semantics.specs.Conditions.{passes}
 use Rattle.query_plan.proofs.Filtering.{marks_are, on_ok_more}
 use Rattle.query_plan.proofs.plan.Plan.mark_filters.Goals as goal
 

@@ -2,9 +2,9 @@ use Rattle.std.proofs.Common.{◌≡◌, ◌∙◌, true, ap, subst, sym}
 use Rattle.std.proofs.Math.Logic.{∥∥₁_elim}
 use Rattle.std.specs.Coded.{Coded-set, coded_bool}
 use Rattle.values.specs.Datum.{data_of}
-use Rattle.values.specs.Fit.{Fits}
+use Rattle.semantics.specs.Records.{Fits}
 use Rattle.query_truth.specs.Binding.{bound_safe}
-use Rattle.query_truth.specs.Kept.{where_truth}
+use Rattle.semantics.specs.Conditions.{where_truth}
 use Rattle.query_plan.specs.Planned.{PlannedQuery}
 use Rattle.query_plan.proofs.TruthCodes.{truths-same}
 use Rattle.query_plan.proofs.plan.Plan.where_truth.Goals as goal

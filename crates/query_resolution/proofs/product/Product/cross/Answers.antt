@@ -1,6 +1,6 @@
 use Rattle.std.proofs.Common.{◌∙◌, ◌++◌, ◌∷◌, [], ℕ, List, map, ap}
 use Rattle.std.specs.Global.{Vec}
-use Rattle.query_resolution.specs.Sets.{crossed, ordered_set}
+use Rattle.semantics.specs.Sets.{crossed, ordered_set}
 use Rattle.query_resolution.specs.Resolution.{contents}
 use Rattle.query_resolution.proofs.Products.{common_more, sets_more}
 use Rattle.query_resolution.proofs.Rows.{only_one}

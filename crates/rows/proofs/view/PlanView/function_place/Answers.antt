@@ -2,10 +2,13 @@ use Rattle.std.proofs.Common.{List, ap, position, ◌∙◌}
 use Rattle.std.proofs.Math.Logic.{∥∥₁_elim}
 use Rattle.std.specs.Coded.{Coded-set, coded_option, coded_ℕ}
 use Rattle.std.specs.Option.{option_and_then}
-use Rattle.values.specs.Schema.{Field, fields_of}
+use Rattle.semantics.specs.Columns.{Field}
+use Rattle.values.specs.Schema.{fields_of}
 use Rattle.query_resolution.specs.declared.planning.Planned.{Planned}
 use Rattle.query_tree.specs.Syntax.{function_form}
-use Rattle.query_resolution.specs.Functions.{PlannedFunction, functions_of, place_among, planned_function, same_planned}
+use Rattle.semantics.specs.Names.{PlannedFunction, planned_function}
+use Rattle.semantics.specs.SetFunctions.{functions_of, place_among}
+use Rattle.semantics.specs.Inside.Same.{same_planned}
 use Rattle.query_resolution.specs.Planning.{planned_forms}
 use Rattle.query_plan.specs.Planned.{PlannedQuery}
 use Rattle.rows.proofs.view.PlanView.function_place.Goals as goal

@@ -1,13 +1,12 @@
 use Rattle.std.proofs.Common.{◌+◌, ◌++◌, ◌∷◌, [], List, sym, ap, subst, ◌∙◌, arith}
 use Rattle.std.proofs.Math.Logic.{∥∥₁_map}
-use Rattle.lines.specs.declared.fault.LineRefusal.{LineRefusal}
-use Rattle.lines.specs.Refusal.{IsRefusal}
-use Rattle.lines.specs.Taken.{taken}
+use Rattle.semantics.specs.declared.line_fault.LineRefusal.{LineRefusal}
+use Rattle.semantics.specs.Records.{IsRefusal, taken}
 use Rattle.tables.specs.declared.folding.Folding.{Folding}
 use Rattle.tables.specs.Folding.{HasRead, good_of}
-use Rattle.query_truth.specs.Kept.{kept}
-use Rattle.query_resolution.specs.Sets.{grouping_places}
-use Rattle.groups.specs.Functions.{AggregateFunction}
+use Rattle.semantics.specs.Conditions.{kept}
+use Rattle.semantics.specs.Sets.{grouping_places}
+use Rattle.semantics.specs.Aggregates.{AggregateFunction}
 use Rattle.groups.specs.Inside.Table.{IsTableOf}
 use Rattle.tables.specs.Functions.{filters_kept}
 use Rattle.tables.proofs.Bound.{bound-functions}

@@ -1,12 +1,15 @@
 use Rattle.std.proofs.Common.{◌≡◌, ◌++◌, ◌∷◌, [], true, List, cond, map, rules, sym, ap, subst, ◌∙◌}
-use Rattle.groups.specs.Functions.{AggregateFunction, bound}
-use Rattle.groups.specs.Rows.{IsNarrowRow, Row}
+use Rattle.semantics.specs.Aggregates.{AggregateFunction}
+use Rattle.groups.specs.Functions.{bound}
+use Rattle.groups.specs.Rows.{IsNarrowRow}
+use Rattle.semantics.specs.Groups.{Row}
 use Rattle.groups.specs.Inside.Table.{IsTableOf}
 use Rattle.values.specs.Datum.{data_of}
 use Rattle.query_resolution.specs.Functions.{filters_of}
-use Rattle.query_resolution.specs.Sets.{grouping_places}
-use Rattle.query_truth.specs.Kept.{is_kept, kept}
-use Rattle.tables.specs.Functions.{aggregate_functions, filters_kept}
+use Rattle.semantics.specs.Sets.{grouping_places}
+use Rattle.semantics.specs.Conditions.{is_kept, kept}
+use Rattle.semantics.specs.Found.{aggregate_functions}
+use Rattle.tables.specs.Functions.{filters_kept}
 use Rattle.tables.proofs.Bound.{bound-functions, marks-kept}
 use Rattle.tables.proofs.Narrow.{narrow-from_fits}
 use Rattle.tables.proofs.Reading.{kept-append}

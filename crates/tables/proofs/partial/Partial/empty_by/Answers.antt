@@ -1,10 +1,10 @@
 use Rattle.std.proofs.Common.{List, [], sym, subst, arith}
 use Rattle.query_resolution.specs.Functions.{indexed_functions}
-use Rattle.query_resolution.specs.Sets.{grouping_places}
+use Rattle.semantics.specs.Sets.{grouping_places}
 use Rattle.query_resolution.specs.declared.function.FilteredFunction.{FilteredFunction}
 use Rattle.groups.specs.Inside.Table.{AreGroupsWithin}
 use Rattle.groups.proofs.Meaning.{table-within}
-use Rattle.tables.specs.Functions.{aggregate_functions}
+use Rattle.semantics.specs.Found.{aggregate_functions}
 use Rattle.tables.proofs.Bound.{as-many}
 use Rattle.tables.proofs.Merging.{no-notes}
 use Rattle.tables.proofs.partial.Partial.empty_by.Goals as goal

@@ -1,17 +1,17 @@
 use Rattle.std.proofs.Common.{◌∙◌, List, map, sym, subst}
 use Rattle.std.proofs.Math.Logic.{∥∥₁_elim, ∥∥₁_map}
 use Rattle.groups.specs.Bags.{SameBag}
-use Rattle.groups.specs.Rows.{Row}
-use Rattle.groups.specs.Functions.{AggregateFunction}
+use Rattle.semantics.specs.Groups.{Row}
+use Rattle.semantics.specs.Aggregates.{AggregateFunction}
 use Rattle.groups.specs.Inside.Table.{IsTableOf}
-use Rattle.query_resolution.specs.Sets.{grouping_places, sets_of}
-use Rattle.query_truth.specs.Kept.{kept}
-use Rattle.groups.specs.Found.{Found, row_of}
-use Rattle.tables.specs.Functions.{aggregate_functions, filters_kept}
+use Rattle.semantics.specs.Sets.{grouping_places, sets_of}
+use Rattle.semantics.specs.Conditions.{kept}
+use Rattle.semantics.specs.Found.{Found, aggregate_functions, all_found, query_found}
+use Rattle.groups.specs.Found.{row_of}
+use Rattle.tables.specs.Functions.{filters_kept}
 use Rattle.tables.specs.Notes.{notes_in}
 use Rattle.tables.specs.Partials.{StandsFor}
 use Rattle.tables.specs.Pieces.{AreNumbered, records_of}
-use Rattle.tables.specs.Results.{all_found, query_found}
 use Rattle.tables.specs.States.{PartialState}
 use Rattle.tables.proofs.Bound.{bound-functions}
 use Rattle.tables.proofs.Cutting.{cut-records, cut-refused}

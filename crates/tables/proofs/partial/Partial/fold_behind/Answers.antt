@@ -2,20 +2,20 @@ use Rattle.std.proofs.Common.{◌≡◌, ◌+◌, ◌≤◌, ◌++◌, List, All
 use Rattle.std.proofs.Math.Logic.{∥∥₁_elim, ∥∥₁_map}
 use Rattle.std.proofs.Props.{props}
 use Rattle.std.proofs.lemmas.List.Elements.{All-same}
-use Rattle.lines.specs.Lines.{lines}
-use Rattle.groups.specs.Rows.{Row}
+use Rattle.semantics.specs.Lines.{lines}
+use Rattle.semantics.specs.Groups.{Row}
 use Rattle.groups.specs.Inside.Table.{AreGroupsWithin, IsTableOf}
 use Rattle.groups.proofs.Meaning.{table-within}
 use Rattle.query_resolution.specs.declared.function.FilteredFunction.{FilteredFunction}
 use Rattle.query_resolution.specs.Functions.{indexed_functions}
-use Rattle.query_resolution.specs.Sets.{grouping_places}
-use Rattle.query_truth.specs.Kept.{kept}
+use Rattle.semantics.specs.Sets.{grouping_places}
+use Rattle.semantics.specs.Conditions.{kept}
 use Rattle.tables.specs.Folding.{good_of}
 use Rattle.tables.specs.Notes.{notes_in}
 use Rattle.tables.specs.Partials.{StandsFor}
 use Rattle.tables.specs.Pieces.{records_of}
 use Rattle.tables.specs.States.{PartialState}
-use Rattle.tables.specs.Functions.{aggregate_functions}
+use Rattle.semantics.specs.Found.{aggregate_functions}
 use Rattle.tables.proofs.Bound.{as-many}
 use Rattle.tables.proofs.Following.{count-behind, followed-note, lines-behind, lines-within, numbers-behind, records-behind, refused-behind, whole-lines}
 use Rattle.tables.proofs.Growing.{few-records}

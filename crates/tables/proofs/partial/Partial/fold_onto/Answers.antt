@@ -2,22 +2,22 @@ use Rattle.std.proofs.Common.{◌≡◌, ◌+◌, ◌++◌, ◌∷◌, [], List,
 use Rattle.std.proofs.Math.Logic.{∥∥₁_elim, ∥∥₁_map}
 use Rattle.std.proofs.Props.{props}
 use Rattle.std.proofs.lemmas.List.{map-append}
-use Rattle.lines.specs.Lines.{lines}
+use Rattle.semantics.specs.Lines.{lines}
 use Rattle.groups.specs.Bags.{SameBag}
-use Rattle.groups.specs.Rows.{Row}
+use Rattle.semantics.specs.Groups.{Row}
 use Rattle.groups.specs.Inside.Table.{AreGroupsWithin, IsTableOf}
 use Rattle.groups.proofs.Meaning.{table-within}
 use Rattle.query_resolution.specs.declared.function.FilteredFunction.{FilteredFunction}
 use Rattle.query_resolution.specs.Functions.{indexed_functions}
-use Rattle.query_resolution.specs.Sets.{grouping_places}
-use Rattle.query_truth.specs.Kept.{kept}
+use Rattle.semantics.specs.Sets.{grouping_places}
+use Rattle.semantics.specs.Conditions.{kept}
 use Rattle.tables.specs.declared.note.Note.{Note}
 use Rattle.tables.specs.Folding.{good_of}
 use Rattle.tables.specs.Notes.{Noted, note_in, note_of}
 use Rattle.tables.specs.Partials.{StandsFor}
 use Rattle.tables.specs.Pieces.{records_of}
 use Rattle.tables.specs.States.{PartialState}
-use Rattle.tables.specs.Functions.{aggregate_functions}
+use Rattle.semantics.specs.Found.{aggregate_functions}
 use Rattle.tables.proofs.Bound.{as-many}
 use Rattle.tables.proofs.Growing.{few-records, lines-more, notes-more, one-noted_more, records-more, refused-more}
 use Rattle.tables.proofs.Reading.{length-kept_behind, length-refused_of}

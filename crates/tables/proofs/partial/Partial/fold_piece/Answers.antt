@@ -1,16 +1,16 @@
 use Rattle.std.proofs.Common.{◌∷◌, [], List, length, map, refl, sym, ap, subst, arith}
-use Rattle.lines.specs.Lines.{lines}
+use Rattle.semantics.specs.Lines.{lines}
 use Rattle.query_resolution.specs.Functions.{indexed_functions}
-use Rattle.query_resolution.specs.Sets.{grouping_places}
-use Rattle.query_truth.specs.Kept.{kept}
+use Rattle.semantics.specs.Sets.{grouping_places}
+use Rattle.semantics.specs.Conditions.{kept}
 use Rattle.tables.specs.Folding.{good_of}
 use Rattle.groups.specs.Bags.{SameBag}
-use Rattle.groups.specs.Rows.{Row}
+use Rattle.semantics.specs.Groups.{Row}
 use Rattle.groups.specs.Inside.Table.{AreGroupsWithin, IsTableOf}
 use Rattle.groups.proofs.Meaning.{table-within}
 use Rattle.query_resolution.specs.declared.function.FilteredFunction.{FilteredFunction}
 use Rattle.tables.specs.Notes.{Noted, note_in, note_of}
-use Rattle.tables.specs.Functions.{aggregate_functions}
+use Rattle.semantics.specs.Found.{aggregate_functions}
 use Rattle.tables.proofs.Bound.{as-many}
 use Rattle.tables.proofs.Growing.{lines-more, notes-more, records-more, refused-more}
 use Rattle.tables.proofs.Merging.{one-note}

@@ -1,15 +1,15 @@
 use Rattle.std.proofs.Common.{◌≡◌, ◌+◌, ◌<◌, ◌≤◌, ◌^◌, ◌++◌, List, All, sym, ap, subst, ◌∙◌, arith}
-use Rattle.groups.specs.Rows.{Row}
-use Rattle.query_resolution.specs.Sets.{grouping_places}
+use Rattle.semantics.specs.Groups.{Row}
+use Rattle.semantics.specs.Sets.{grouping_places}
 use Rattle.query_resolution.specs.declared.function.FilteredFunction.{FilteredFunction}
 use Rattle.groups.specs.Inside.Table.{AreGroupsWithin, IsTableOf}
 use Rattle.groups.proofs.Meaning.{within-can_join}
-use Rattle.tables.specs.Functions.{aggregate_functions}
+use Rattle.semantics.specs.Found.{aggregate_functions}
 use Rattle.tables.specs.Notes.{notes_in}
 use Rattle.tables.specs.Pieces.{records_of}
 use Rattle.tables.specs.Partials.{StandsFor}
 use Rattle.tables.specs.States.{PartialState}
-use Rattle.query_truth.specs.Kept.{kept}
+use Rattle.semantics.specs.Conditions.{kept}
 use Rattle.tables.proofs.Following.{behind-within, followed-count, followed-lines, followed-note, followed-records, followed-refused, lines-within, whole-lines}
 use Rattle.tables.proofs.Merging.{one-note}
 use Rattle.tables.proofs.Reading.{kept-append}

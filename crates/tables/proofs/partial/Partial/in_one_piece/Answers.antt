@@ -1,9 +1,9 @@
 use Rattle.std.proofs.Common.{◌≤◌, List, All, sym, subst, arith}
 use Rattle.groups.specs.Inside.Table.{IsTableOf}
-use Rattle.groups.specs.Rows.{Row}
-use Rattle.query_resolution.specs.Sets.{grouping_places}
-use Rattle.query_truth.specs.Kept.{kept}
-use Rattle.tables.specs.Functions.{aggregate_functions}
+use Rattle.semantics.specs.Groups.{Row}
+use Rattle.semantics.specs.Sets.{grouping_places}
+use Rattle.semantics.specs.Conditions.{kept}
+use Rattle.semantics.specs.Found.{aggregate_functions}
 use Rattle.tables.specs.Notes.{notes_in}
 use Rattle.tables.specs.Partials.{StandsFor}
 use Rattle.tables.specs.States.{PartialState}

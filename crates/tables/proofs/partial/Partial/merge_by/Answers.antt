@@ -3,17 +3,17 @@ use Rattle.std.proofs.Math.Logic.{∥∥₁_map₂}
 use Rattle.std.proofs.lemmas.List.{map-append}
 use Rattle.std.proofs.lemmas.List.Elements.{All-append}
 use Rattle.groups.specs.Bags.{SameBag}
-use Rattle.groups.specs.Rows.{Row}
-use Rattle.query_resolution.specs.Sets.{grouping_places}
+use Rattle.semantics.specs.Groups.{Row}
+use Rattle.semantics.specs.Sets.{grouping_places}
 use Rattle.query_resolution.specs.declared.function.FilteredFunction.{FilteredFunction}
 use Rattle.groups.specs.Inside.Table.{AreGroupsWithin, IsTableOf}
 use Rattle.groups.proofs.Meaning.{within-can_join}
-use Rattle.tables.specs.Functions.{aggregate_functions}
+use Rattle.semantics.specs.Found.{aggregate_functions}
 use Rattle.tables.specs.Notes.{IsWellNumbered, Noted, lines_noted, note_in, note_of, notes_in}
 use Rattle.tables.specs.Pieces.{records_of}
 use Rattle.tables.specs.Partials.{StandsFor}
 use Rattle.tables.specs.States.{PartialState}
-use Rattle.query_truth.specs.Kept.{kept}
+use Rattle.semantics.specs.Conditions.{kept}
 use Rattle.tables.proofs.Reading.{kept-append}
 use Rattle.tables.proofs.Merging.{counted-append, lines-append, notes-append, records-append, refused-append}
 use Rattle.tables.proofs.partial.Partial.merge_by.Goals as goal

@@ -1,13 +1,15 @@
 use Rattle.std.proofs.Common.{◌≡◌, List, map, ap, sym, subst, ◌∙◌}
 use Rattle.std.proofs.Math.Logic.{∥∥₁_map}
 use Rattle.std.proofs.lemmas.Result.{IfOk-weaker}
-use Rattle.groups.specs.Functions.{AggregateFunction, bound}
+use Rattle.semantics.specs.Aggregates.{AggregateFunction}
+use Rattle.groups.specs.Functions.{bound}
 use Rattle.groups.specs.Inside.Table.{IsOfFew, IsTableOf}
 use Rattle.query_resolution.specs.declared.function.FilteredFunction.{FilteredFunction}
 use Rattle.query_resolution.specs.Functions.{indexed_functions}
-use Rattle.query_resolution.specs.Sets.{grouping_places}
-use Rattle.query_truth.specs.Kept.{kept}
-use Rattle.tables.specs.Functions.{aggregate_functions, filters_kept}
+use Rattle.semantics.specs.Sets.{grouping_places}
+use Rattle.semantics.specs.Conditions.{kept}
+use Rattle.semantics.specs.Found.{aggregate_functions}
+use Rattle.tables.specs.Functions.{filters_kept}
 use Rattle.tables.specs.Partials.{StandsFor}
 use Rattle.tables.specs.Pieces.{records_of}
 use Rattle.tables.specs.Sets.{AreGroupsOfSet}

@@ -2,7 +2,7 @@ use Rattle.std.proofs.Common.{IfSome, List, ℕ, Bool, Option, map, refl, sym, s
 use Rattle.std.proofs.lemmas.Result.{IfOk-weaker}
 use Rattle.groups.specs.Functions.{bound}
 use Rattle.groups.specs.Inside.Table.{Contents, IsTableOf}
-use Rattle.groups.specs.Rows.{Row}
+use Rattle.semantics.specs.Groups.{Row}
 use Rattle.tables.specs.SetTables.{AreTablesOf, HasFiner}
 use Rattle.tables.proofs.SetTables.{some-of_ok}
 use Rattle.tables.proofs.rolling.Roll.roll.Goals as goal

@@ -5,7 +5,8 @@ use Rattle.std.proofs.lemmas.Iterator.Consumers.{YieldsList-turn, YieldsList-end
 use Rattle.std.proofs.lemmas.Iterator.Splits.{YieldsList-from_str_split}
 use Rattle.std.proofs.lemmas.Result.{err_from_is_err_and}
 use Rattle.std.specs.Str.Iter.{split_text, split_has_more, split_pattern}
-use Rattle.values.specs.Schema.{fault_of, field_of, fields_of, names_of}
+use Rattle.semantics.specs.Columns.{fault_of, names_of}
+use Rattle.values.specs.Schema.{field_of, fields_of}
 use Rattle.values.proofs.PartByPart.{faulty_turn, good_turn, last_turn, IsSchema-from_text}
 use Rattle.values.proofs.schema.Schema.parse.Goals as goal
 

@@ -1,5 +1,6 @@
 use Rattle.std.proofs.Common.{◌≡◌, [], drop, length}
-use Rattle.values.specs.Schema.{fields_of, parts}
+use Rattle.values.specs.Schema.{fields_of}
+use Rattle.semantics.specs.Columns.{parts}
 use Rattle.values.proofs.PartByPart.{columns_behind}
 use Rattle.values.proofs.schema.Schema.parse.Given as goal
 

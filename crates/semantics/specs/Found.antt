@@ -1,0 +1,50 @@
+-- What the grouping sets of a query find in the records of an input: each group, with the values of
+-- the set functions over its members (ISO/IEC 9075-2, <group by clause>).
+use Rattle.std.specs.Prelude.{ℕ, List, length, map, [], slice_index_or, option_map}
+use Rattle.semantics.specs.Aggregates.{AggregateFunction, Summary, agg}
+use Rattle.semantics.specs.Columns.{Field}
+use Rattle.semantics.specs.Conditions.{passes, kept}
+use Rattle.semantics.specs.Groups.{Row, Key, SetGroup, groups}
+use Rattle.semantics.specs.Names.{PlannedFunction}
+use Rattle.semantics.specs.SetFunctions.{functions_of}
+use Rattle.semantics.specs.Sets.{sets_of}
+use Rattle.semantics.specs.Syntax.{TreeForm}
+
+-- What is shown of a group: its key, the number of its members, and the value of each set function
+-- over them.
+pub record GroupSummary : Type 0 where
+  pub key : Key
+  pub lines : ℕ
+  pub cells : List Summary
+
+-- The summary of a group with this key and these members.
+abbrev pub group_summary : List AggregateFunction → Key → List Row → GroupSummary
+group_summary functions key rows = record { key = key; lines = length rows; cells = map (λ f. agg f rows) functions }
+
+-- The index of a grouping set in the list of sets, beside what is shown of one of its groups.
+abbrev pub Found : Type 0
+Found = ℕ × GroupSummary
+
+-- The columns of the grouping set of a row, by their places.
+abbrev pub set_of : List Field → TreeForm → Found → List ℕ
+set_of fields t row = slice_index_or (sets_of fields t) row.0 []
+
+-- A set function of a query: its FILTER keeps the records of which its predicate is True.
+abbrev pub aggregate_function : List Field → PlannedFunction → AggregateFunction
+aggregate_function fields f = record { function = f.function; filter = option_map (passes fields) f.filter }
+
+-- The different set functions of a query, in the order in which they first stand.
+abbrev pub aggregate_functions : List Field → TreeForm → List AggregateFunction
+aggregate_functions fields q = map (aggregate_function fields) (functions_of fields q)
+
+-- What is shown of a group.
+abbrev pub found : List AggregateFunction → SetGroup → Found
+found functions group = (group.index, group_summary functions group.key group.members)
+
+-- What is shown of all groups of a list of records.
+abbrev pub all_found : List (List ℕ) → List AggregateFunction → List Row → List Found
+all_found sets functions rows = map (found functions) (groups sets rows)
+
+-- What the grouping sets of a query find in the records that its WHERE keeps.
+abbrev pub query_found : List Field → TreeForm → List Row → List Found
+query_found fields q rows = all_found (sets_of fields q) (aggregate_functions fields q) (kept fields q rows)

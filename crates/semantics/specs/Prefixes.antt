@@ -1,0 +1,44 @@
+-- Which tokens begin a query, and where tokens that are none go wrong.
+use Rattle.std.specs.Prelude.{◌≤◌, ◌<◌, ◌+◌, ℕ, List, [], ◌∷◌, ◌++◌, length, take}
+use Rattle.semantics.specs.Grammar.{DerivesWithin}
+use Rattle.semantics.specs.Leaves.{Limits, standard}
+use Rattle.semantics.specs.Syntax.{TreeForm}
+use Rattle.semantics.specs.declared.token.Token.{Token}
+use Rattle.semantics.specs.declared.token.Token.TheVariants as tokens
+use Rattle.semantics.specs.declared.token.Word.TheVariants as w
+use Rattle.semantics.specs.declared.token.Sign.TheVariants as s
+
+-- These tokens begin a query within these limits: with some tokens behind them they derive one.
+pub record BeginsWithin (limits : Limits) (front : List Token) : Type 0 where
+  pub rest : List Token
+  pub tree : TreeForm
+  pub derived : DerivesWithin limits (front ++ rest) tree
+
+-- These tokens begin a query: they do within some limits.
+pub record Begins (front : List Token) : Type 0 where
+  pub limits : Limits
+  pub within : BeginsWithin limits front
+
+-- These tokens keep the limits of the language: they begin a query within them, or those before a
+-- comma or the word FILTER at their end do. What may be too much stands behind these two.
+pub data KeepsLimits : List Token → Type 0 where
+  begins : {front : List Token} → BeginsWithin standard front → KeepsLimits front
+  comma : {front : List Token} → BeginsWithin standard front → KeepsLimits (front ++ tokens.Sign s.Comma ∷ [])
+  filter : {front : List Token} → BeginsWithin standard front → KeepsLimits (front ++ tokens.Word w.Filter ∷ [])
+
+-- The token at this place, from 0, continues no query, or behind the last token the end does not.
+-- The tokens before it begin a query and keep the limits; with it they begin none, and all of the
+-- tokens are none, whatever the limits.
+pub record IsUnexpected (ts : List Token) (place : ℕ) : Type 0 where
+  pub inside : place ≤ length ts
+  pub begins : Begins (take place ts)
+  pub keeps : KeepsLimits (take place ts)
+  pub continues_none : place < length ts → Begins (take (place + 1) ts) → ⊥
+  pub derives_none : (limits : Limits) (q : TreeForm) → DerivesWithin limits ts q → ⊥
+
+-- It is too much: some tokens in front begin a query, and do not keep the limits.
+pub record IsOverLimit (ts : List Token) : Type 0 where
+  pub place : ℕ
+  pub inside : place ≤ length ts
+  pub begins : Begins (take place ts)
+  pub exceeds : KeepsLimits (take place ts) → ⊥

@@ -1,0 +1,106 @@
+-- The record that a line is (RFC 8259), or its first fault; the good records and the refused lines
+-- of an input.
+use Rattle.std.specs.Int.{w64}
+use Rattle.std.specs.List.{enumerate_from, AllZip}
+use Rattle.std.specs.Option.{is_none, option_map_or}
+use Rattle.std.specs.Prelude.{ℕ, ◌^◌, nat_lt, ℤ, pos, negsuc, Bool, List, length, map, filter_map, position, Option, Some, None, option_and_then, unwrap_or, Result, Ok, Err, if◌then◌else◌, option_map, ◌≡◌, ⊤, FitsSigned}
+use Rattle.std.specs.Result.{result_err, result_ok}
+use Rattle.std.specs.Str.{is_utf8}
+use Rattle.serde_json.specs.Data.{Data, Members}
+use Rattle.serde_json.specs.Find.{get_member, as_integer}
+use Rattle.serde_json.specs.Read.{read}
+use Rattle.semantics.specs.Columns.{Field}
+use Rattle.semantics.specs.Lines.{lines}
+use Rattle.semantics.specs.Values.{Datum, boolean, whole, text, null}
+use Rattle.semantics.specs.declared.kind.Kind.{Kind}
+use Rattle.semantics.specs.declared.line_fault.LineFault.{LineFault}
+use Rattle.semantics.specs.declared.line_fault.LineFault.TheVariants.{TooLong, NoJson, NoObject, BadValue}
+use Rattle.semantics.specs.declared.line_fault.LineRefusal.{LineRefusal}
+use Rattle.semantics.specs.declared.line_fault.LineRefusal.TheVariants.{Fault, Memory}
+use Rattle.serde_json.specs.Data as json
+use Rattle.semantics.specs.declared.kind.Kind.TheVariants as kind
+
+-- The greatest length of a line in bytes.
+abbrev pub max_line_len : ℕ
+max_line_len = 1048576
+
+-- The JSON value that a line is (RFC 8259), where it is UTF-8 and the JSON reader has a value for
+-- it.
+abbrev pub reading : List ℕ → Option Data
+reading line = if is_utf8 line then read line else None
+
+-- ---- what a column takes
+
+-- A whole number is at least -2^63, which is negsuc (2^63 - 1), and below 2^63.
+abbrev pub is_int64 : ℤ → Bool
+is_int64 (pos n) = nat_lt n (2 ^ 63)
+is_int64 (negsuc n) = nat_lt n (2 ^ 63)
+
+-- What a column of whole numbers takes of a whole number: one of 64 bits.
+abbrev pub int64_taken : ℤ → Option Datum
+int64_taken z = if is_int64 z then Some (whole z) else None
+
+-- What a column of this type takes of a JSON value: of null NULL, and else a whole number of 64
+-- bits, a string or a truth value, by its type.
+abbrev pub datum_taken : Kind → Data → Option Datum
+datum_taken k json.null = Some null
+datum_taken kind.Int (json.number n) = option_and_then int64_taken (as_integer n)
+datum_taken kind.Text (json.string s) = Some (text s)
+datum_taken kind.Bool (json.boolean b) = Some (boolean b)
+datum_taken k d = None
+
+-- The member of this name; a missing one counts as null.
+abbrev pub member_of : Members → List ℕ → Data
+member_of members name = unwrap_or (get_member name members) json.null
+
+-- What each column takes of the members of an object.
+abbrev pub data_taken : List Field → Members → List (Option Datum)
+data_taken fields members = map (λ field. datum_taken field.kind (member_of members field.name)) fields
+
+-- ---- the record or the fault
+
+-- The data where each column takes something, and else the place of the first column that takes
+-- nothing.
+abbrev pub all_taken : List (Option Datum) → Result (List Datum) LineFault
+all_taken found = option_map_or (λ place. Err (BadValue place)) (position is_none found) (Ok (filter_map (λ o. o) found))
+
+-- The record of a line with this reading.
+abbrev pub record_of : List Field → Option Data → Result (List Datum) LineFault
+record_of fields None = Err NoJson
+record_of fields (Some (json.object members)) = all_taken (data_taken fields members)
+record_of fields (Some other) = Err NoObject
+
+-- The record of a line under a schema, or the line's first fault: it is too long, has no reading,
+-- is no object, or has a member that its column does not take.
+abbrev pub taken : List Field → List ℕ → Result (List Datum) LineFault
+taken fields line = if nat_lt max_line_len (length line) then Err TooLong else record_of fields (reading line)
+
+-- What is taken of each line of the input, in order.
+abbrev pub answers : List Field → List ℕ → List (Result (List Datum) LineFault)
+answers fields input = map (taken fields) (lines input)
+
+-- The records of the lines that have no fault, in order.
+abbrev pub good : List Field → List ℕ → List (List Datum)
+good fields input = filter_map result_ok (answers fields input)
+
+-- The number of each line that has a fault, beside the fault, in order; the first line of the input
+-- has the number 1.
+abbrev pub refused : List Field → List ℕ → List (ℕ × LineFault)
+refused fields input = filter_map (λ p. option_map (λ fault. (p.0, fault)) (result_err p.1)) (enumerate_from 1 (answers fields input))
+
+-- A fault is the one that the line has; want of memory says nothing of the line.
+abbrev pub IsRefusal : LineRefusal → Result (List Datum) LineFault → Type 0
+IsRefusal (Fault fault) taken = taken ≡ Err fault
+IsRefusal Memory taken = ⊤
+
+-- A column of this type holds the value: NULL, or a value of the type, a whole number in 64 bits.
+abbrev pub Holds : Kind → Datum → Type 0
+Holds k null = ⊤
+Holds kind.Int (whole n) = FitsSigned w64 n
+Holds kind.Text (text s) = ⊤
+Holds kind.Bool (boolean b) = ⊤
+Holds k d = ⊥
+
+-- A record fits a schema where it has one value for each column, and each column holds its value.
+abbrev pub Fits : List Field → List Datum → Type 0
+Fits fields values = AllZip (λ f d. Holds f.kind d) fields values
