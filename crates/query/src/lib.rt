@@ -1,8 +1,8 @@
 //! The query language: reading a query, its canonical text, and its plan under a schema.
 //!
 //! This crate is the whole public surface of the language. The crates below it have its parts: the
-//! syntax tree (`query_tree`), the tokens (`query_tokens`), the grammar (`query_derivation` defines
-//! it; `query_leaves`, `query_predicates` and `query_grammar` read it), the canonical text
+//! syntax tree (`query_tree`), the tokens (`query_tokens`), the grammar (`semantics` defines it;
+//! `query_leaves`, `query_predicates` and `query_grammar` read it), the canonical text
 //! (`query_print`), what its parts are resolved to (`query_resolution`), typing (`query_check`), the
 //! truth of predicates (`query_truth`), and queries with their plans (`query_plan`).
 #![tactic(auto)]

@@ -1,6 +1,7 @@
 -- Names, literals, set functions and aliases spell their tokens.
 use Rattle.std.proofs.Common.{arith, ◌≡◌, ℕ, Bool, true, false, cond, List, [], ◌∷◌, ◌++◌, map, Option, Some, None, refl}
 use Rattle.std.specs.Prelude.{codes, is_none}
+use Rattle.std.specs.Option.{option_map_or}
 use Rattle.semantics.specs.declared.token.Token.TheVariants as tokens
 use Rattle.semantics.specs.declared.token.Word.{Word}
 use Rattle.semantics.specs.declared.token.Word.TheVariants as w
@@ -14,11 +15,10 @@ use Rattle.semantics.specs.declared.aggregate.Aggregate.{Aggregate}
 use Rattle.semantics.specs.declared.aggregate.Aggregate.TheVariants as aggregates
 use Rattle.semantics.specs.Syntax.{grouping}
 use Rattle.semantics.specs.Canonical.{comma_list, aggregate_text, literal_text, expression_text}
-use Rattle.query_print.specs.Canonical.{alias_text}
 use Rattle.query_round.proofs.Good.{Filled, Within, GoodName, GoodAggregate, GoodLiteral}
 use Rattle.query_round.proofs.Onto.{Onto, commas_onto, name_onto, argument_onto, aggregate_onto, filter_onto, expression_onto, literal_onto, alias_onto}
 use Rattle.query_round.proofs.Spelled.{no_word, no_name_quote, no_text_quote, spelled_token, spelled_integer, spelled_star}
-use Rattle.query_round.proofs.Goes.{Free, Goes, Begins, free_free, free_goes, goes_free, goes_goes, goes_of, begins_of, nothing_goes, nothing_begins, word_onto, word_goes, word_free, spaced_free, space_breaks, open_free, open_breaks, close_free, close_breaks, commas_go, each_goes}
+use Rattle.query_round.proofs.Goes.{Free, Goes, Begins, free_free, free_goes, goes_free, goes_of, begins_of, nothing_goes, nothing_begins, word_onto, word_goes, word_free, spaced_free, space_breaks, open_free, open_breaks, close_free, close_breaks, commas_go, each_goes}
 
 -- ---- names and literals
 
@@ -95,6 +95,10 @@ filtered_goes f good x = goes_of (goes_free (free_goes (goes_free (aggregate_goe
 
 as_free : Free (codes " AS ") (word_onto w.As)
 as_free = spaced_free (word_free w.As)
+
+-- What an item writes behind its expression.
+abbrev pub alias_text : Option (List ℕ) → List ℕ
+alias_text n = option_map_or (λ a. codes " AS " ++ name_text a) n []
 
 pub alias_goes : (n : Option (List ℕ)) → Within GoodName n → Goes (alias_text n) (alias_onto n)
 alias_goes None g = nothing_goes

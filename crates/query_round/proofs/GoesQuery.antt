@@ -5,7 +5,7 @@ use Rattle.semantics.specs.declared.token.Token.TheVariants as tokens
 use Rattle.semantics.specs.declared.token.Word.TheVariants as w
 use Rattle.semantics.specs.Syntax.{PredicateForm, ElementForm, ItemForm, KeyForm, TreeForm, element_forms}
 use Rattle.semantics.specs.Canonical.{comma_list, item_text, group_texts, nulls_text, direction_text, key_text, predicate_clause, list_clause, canonical_text, group_by_text}
-use Rattle.query_round.proofs.Good.{Each, Within, Good, GoodItem, GoodElement, GoodKey, GoodTree, GoodGroupBy}
+use Rattle.query_round.proofs.Good.{Each, Within, Good, GoodItem, GoodKey, GoodTree, GoodGroupBy}
 use Rattle.query_round.proofs.Onto.{commas_onto, item_onto, group_onto, from_onto, where_onto, group_by_onto, having_onto, direction_onto, nulls_onto, key_onto, order_by_onto, query_onto, distinct_onto}
 use Rattle.query_round.proofs.Spelled.{spelled_lines}
 use Rattle.query_round.proofs.Goes.{Free, Goes, Begins, free_free, free_goes, goes_goes, begins_of, nothing_goes, nothing_begins, word_goes, word_free, spaced_free, space_free, space_breaks, commas_go, each_goes}

@@ -1,4 +1,4 @@
-use Rattle.std.proofs.Common.{◌≡◌, ◌∙◌, ◌<◌, ◌++◌, ℕ, List, take, drop, replicate, slice_index, get_or, subst, sym}
+use Rattle.std.proofs.Common.{◌≡◌, ◌∙◌, ◌++◌, ℕ, List, drop, replicate, slice_index, get_or, subst, sym}
 use Rattle.rows.proofs.Digits.{number-digits, padded}
 use Rattle.rows.proofs.ranked.digits_of.Goals as goal
 
