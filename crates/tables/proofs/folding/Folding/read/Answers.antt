@@ -1,5 +1,6 @@
-use Rattle.std.proofs.Common.{◌+◌, ◌++◌, ◌∷◌, [], List, sym, ap, subst, ◌∙◌, arith}
-use Rattle.std.proofs.Math.Logic.{∥∥₁_map}
+use mir.ValLaws.{Fits-prop}
+use Rattle.std.proofs.Common.{◌≡◌, ◌+◌, ◌++◌, ◌∷◌, [], List, sym, ap, subst, ◌∙◌, arith}
+use Rattle.std.proofs.Math.Logic.{∥∥₁_elim, ∥∥₁_map}
 use Rattle.semantics.specs.declared.line_fault.LineRefusal.{LineRefusal}
 use Rattle.semantics.specs.Records.{IsRefusal, taken}
 use Rattle.tables.specs.declared.folding.Folding.{Folding}
@@ -24,6 +25,17 @@ take-requires-clause-room c =
       is_table = subst (λ (fs : List AggregateFunction). IsTableOf (grouping_places fields q) fs c.args.self.now.table (kept fields q (r.before ++ good_of fields r.seen))) (sym (bound-functions fields q)) r.has_read.table;
       few = (let h = length-kept_behind fields q r.before r.seen in omega (arith, h, r.few));
     })
+
+pub overflow_add-self : goal.overflow_add-self
+overflow_add-self c = ∥∥₁_elim c.requires (Fits-prop _ _) (λ r. omega (arith, r.has_read.lines, r.few))
+
+pub overflow_add-self-2 : goal.overflow_add-self-2
+overflow_add-self-2 c =
+    let same : c.match-read.self.lines ≡ c.args.self.now.lines = elim c.match-read.branch [
+      | in-Ok+in_ok-take-in-Ok w ↦ ap (λ (f : Folding). f.lines) w.self-is ∙ w.in_ok-take-in-Ok.ensures.lines
+      | in-Err-Fault+in_ok-push-in-Err-Fault w ↦ ap (λ (f : Folding). f.lines) w.self-is
+    ] in
+    ∥∥₁_elim c.requires (Fits-prop _ _) (λ r. omega (arith, same, r.has_read.lines, r.few))
 
 pub returns : goal.returns
 returns c = λ before seen h.
