@@ -7,7 +7,7 @@ use Rattle.std.specs.Cmp.Lexicographic.{pointwise}
 use Rattle.std.specs.Option.{option_eq}
 use Rattle.std.specs.Prelude.{String}
 use Rattle.std.specs.String.{string_eq}
-use Rattle.query_resolution.specs.contracts.function.ColumnFunctionPartialEq.TheImpl.{eq-value}
+use Rattle.semantics.specs.contracts.function.ColumnFunctionPartialEq.TheImpl.{eq-value}
 use Rattle.query_resolution.specs.contracts.function.FilteredFunctionPartialEq.TheImpl as filtered
 use Rattle.semantics.specs.declared.function.ColumnFunction.{ColumnFunction}
 use Rattle.semantics.specs.declared.function.ColumnFunction.TheVariants as at

@@ -60,7 +60,7 @@ impl Drop for Partial {
 impl Model for Partial {
     ghost use Rattle.std.specs.Coded.{codes};
     ghost use Rattle.std.specs.Prelude.{map, string_bytes};
-    ghost use Rattle.lines.specs.contracts.fault.LineFault as line_fault;
+    ghost use Rattle.semantics.specs.contracts.line_fault.LineFault as line_fault;
     ghost use Rattle.query_resolution.specs.contracts.function.FilteredFunction as filtered_function;
     ghost use Rattle.query_resolution.specs.Resolution.{contents};
     ghost use Rattle.groups.specs.Inside.Table.{coded_contents};

@@ -5,15 +5,15 @@ use Rattle.std.proofs.Common.{◌≡◌, ℕ, zero, suc, Bool, false, Option, Li
 use Rattle.std.specs.Coded.{Coded, code_by, coded×, coded_ℕ, coded_bool, coded_list, coded_option}
 use Rattle.semantics.specs.declared.comparison.Op.{Op}
 use Rattle.semantics.specs.declared.comparison.Op.TheVariants.{Eq}
-use Rattle.values.specs.contracts.comparison.Op as op
+use Rattle.semantics.specs.contracts.comparison.Op as op
 use Rattle.semantics.specs.declared.truth.Truth.{Truth}
 use Rattle.semantics.specs.declared.truth.Truth.TheVariants.{Unknown}
-use Rattle.values.specs.contracts.truth.Truth as truth
+use Rattle.semantics.specs.contracts.truth.Truth as truth
 use Rattle.semantics.specs.declared.literal.Literal.{Literal}
-use Rattle.query_tree.specs.contracts.predicate.Literal as literal_contract
+use Rattle.semantics.specs.contracts.literal.Literal as literal_contract
 use Rattle.semantics.specs.declared.aggregate.Aggregate.{Aggregate}
 use Rattle.semantics.specs.declared.aggregate.Aggregate.TheVariants.{CountRows}
-use Rattle.query_tree.specs.contracts.expression.Aggregate as aggregate
+use Rattle.semantics.specs.contracts.aggregate.Aggregate as aggregate
 use Rattle.semantics.specs.Columns.{Field}
 use Rattle.values.specs.contracts.schema.Schema as schema
 use Rattle.query_plan.specs.Planned.{PlannedQuery}

@@ -2,7 +2,7 @@ use Rattle.std.proofs.Common.{◌≡◌, ◌==◌, true, refl, eq-eqb, arith, ru
 use Rattle.std.proofs.lemmas.Grind.{common_steps}
 use denote.Enum.Bare.{tag_one}
 use denote.Enum.Declared.{tag_of}
-use Rattle.query_tokens.specs.contracts.token.Word.{the_type}
+use Rattle.semantics.specs.contracts.token.Word.{the_type}
 use Rattle.query_leaves.specs.Fronts.{word_code}
 use Rattle.query_leaves.proofs.fronts.after_word.Goals as goal
 
