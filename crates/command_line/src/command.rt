@@ -2,7 +2,7 @@
 ghost use Rattle.std.specs.Prelude.{◌≡◌, ◌↔◌, [], ℕ, IfErr, IfOk, IfSome, IsNone, Some, codes, true};
 ghost use Rattle.clap.specs.Walk.{texts};
 ghost use Rattle.clap.specs.Words.{app_of, fault_of, found_of, kind_of, new_app, one_text};
-ghost use Rattle.semantics.specs.CommandLine.{IsNumberOf, IsSet, command, value_of, with_version, IsNumberIn, AreInRange, IsRefusalOf};
+ghost use Rattle.semantics.specs.CommandLine.{IsNumberOf, IsSet, command, value_of, IsNumberIn, AreInRange, IsRefusalOf};
 
 use crate::arguments::{
     defaulted_option, flag, is_set, number_of, number_option, required_option, required_word,
@@ -111,7 +111,7 @@ Read on:
 
 /// The command without its arguments, with the texts that help shows around them.
 fn described_command<'a>(alloc: Global) -> Command<'a>
-    ensures { app_of result ≡ with_version (new_app (codes "jlreport")) }
+    ensures { app_of result ≡ record (new_app (codes "jlreport")) { top = record (new_app (codes "jlreport")).top { has_version = true } } }
 {
     Command::new(alloc, "jlreport")
         .version(VERSION)

@@ -10,7 +10,7 @@ use Rattle.semantics.specs.declared.aggregate.Aggregate.TheVariants.{CountRows}
 use Rattle.semantics.specs.Syntax.{ExpressionForm, TreeForm, over_all}
 use Rattle.semantics.specs.Leaves.{Limits, standard, IsAggregate, IsRepeated}
 use Rattle.semantics.specs.Productions.{IsFunction, IsExpression}
-use Rattle.semantics.specs.Grammar.{IsItem, IsWhere, IsGroupBy, IsHaving, IsOrderBy, IsQuery, DerivesWithin}
+use Rattle.semantics.specs.Grammar.{IsItem, IsGroupBy, IsOrderBy, IsQuery, DerivesWithin, IsClause}
 use Rattle.semantics.specs.Prefixes.{BeginsWithin, Begins, KeepsLimits, IsUnexpected, IsOverLimit}
 use Rattle.semantics.specs.Reading.{IsRefusalOf}
 
@@ -26,7 +26,7 @@ unfolding count_of_lines
 select_begins = record {
   rest = count_of_lines;
   tree = record { items = record { expression = ExpressionForm.function (over_all CountRows); alias = None } ∷ []; where_condition = None; distinct_sets = false; groups = []; having_condition = None; keys = [] };
-  derived = IsQuery.query (IsItem.plain (IsExpression.function (IsFunction.plain IsAggregate.count_rows))) IsRepeated.none (omega arith) IsWhere.none IsGroupBy.none IsHaving.none IsOrderBy.none;
+  derived = IsQuery.query (IsItem.plain (IsExpression.function (IsFunction.plain IsAggregate.count_rows))) IsRepeated.none (omega arith) IsClause.none IsGroupBy.none IsClause.none IsOrderBy.none;
 }
 
 -- no tokens begin one

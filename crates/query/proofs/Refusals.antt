@@ -8,7 +8,8 @@ use Rattle.semantics.specs.Tokens.{Spells, StopsAt}
 use Rattle.query_tokens.proofs.Unique.{one as spells_one}
 use Rattle.query_tokens.proofs.Stops.{decided as spells_or_stops, not_both as spells_and_stops, one as stops_one}
 use Rattle.semantics.specs.Syntax.{TreeForm}
-use Rattle.semantics.specs.Grammar.{Derives as TokensDerive}
+use Rattle.semantics.specs.Leaves.{standard}
+use Rattle.semantics.specs.Grammar.{DerivesWithin}
 use Rattle.semantics.specs.Reading.{Derives, SpellsTooMuch, IsUnexpectedAt, IsRefusalOf}
 use Rattle.semantics.specs.Prefixes.{IsUnexpected, IsOverLimit}
 use Rattle.query_grammar.proofs.Faults.{at_most_or, unexpected_once, unexpected_keeps, derived_keeps, decided as derives_or_goes_wrong}
@@ -117,5 +118,5 @@ told_unexpected text byte short u fault f = inl (one text (faults.Unexpected byt
 pub told_too_much : (text : List ℕ) → SpellsTooMuch text → Told text faults.OverLimit
 told_too_much text o fault f = inl (one text faults.OverLimit fault (inr o) f)
 
-pub told_query : (text starts : List ℕ) (ks : List Token) (q : TreeForm) → length text ≤ 65536 → Spells text ks starts → TokensDerive ks q → (fault : QueryFault) → IsRefusalOf text fault → ⊥
+pub told_query : (text starts : List ℕ) (ks : List Token) (q : TreeForm) → length text ≤ 65536 → Spells text ks starts → DerivesWithin standard ks q → (fault : QueryFault) → IsRefusalOf text fault → ⊥
 told_query text starts ks q short s d fault f = not_both text q fault record { short = short; tokens = ks; starts = starts; spelled = s; derived = d } f

@@ -2,7 +2,7 @@
 use Rattle.std.proofs.Common.{◌≡◌, ◌∙◌, ℕ, nat_lt, nat_le, Bool, true, false, not, ◌&&◌, cond, List, [], ◌∷◌, ◌++◌, length, map, take, Option, Some, None, refl, sym, ap, arith}
 use Rattle.std.specs.Prelude.{◌↔◌, slice_get, is_some}
 use Rattle.std.specs.List.{enumerate_from, flat_map, list_any}
-use Rattle.std.specs.Option.{option_or}
+use Rattle.std.specs.Option.{option_map_or, option_or}
 use Rattle.std.specs.Str.{bytes_eq}
 use Rattle.std.proofs.lemmas.Bool.Decides.{nat_tests}
 use Rattle.std.proofs.lemmas.List.Concat.{flat_map-append}
@@ -13,7 +13,7 @@ use Rattle.semantics.specs.declared.aggregate.Aggregate.{Aggregate}
 use Rattle.semantics.specs.declared.aggregate.Aggregate.TheVariants as aggregate
 use Rattle.semantics.specs.declared.literal.Literal.{Literal}
 use Rattle.semantics.specs.declared.literal.Literal.TheVariants as constant
-use Rattle.semantics.specs.Syntax.{ExpressionForm, FunctionForm, ItemForm, KeyForm, OperandForm, PredicateForm, PredicateForms, TreeForm, name, grouping, function, over_all, over_filtered, expression, literal, or_of, and_of, not_of, truth_test, compare, between, member, null_test, column, no_parts, part}
+use Rattle.semantics.specs.Syntax.{ExpressionForm, FunctionForm, ItemForm, KeyForm, OperandForm, PredicateForm, PredicateForms, TreeForm, name, grouping, function, over_all, over_filtered, expression, literal, or_of, and_of, not_of, truth_test, compare, between, member, null_test, column, no_parts, part, operands_of_atoms, operands_of_parts}
 use Rattle.semantics.specs.Canonical.{header_text}
 use Rattle.semantics.specs.declared.query_fault.QueryFault.{QueryFault}
 use Rattle.semantics.specs.declared.query_fault.QueryFault.TheVariants.{UnknownColumn, TypesDisagree, NotGrouped, OverLimit, FunctionNotAllowed, RepeatedHeader}
@@ -24,7 +24,7 @@ use Rattle.semantics.specs.Sets.{expanded, grouping_names, grouping_places}
 use Rattle.semantics.specs.SetFunctions.{functions_of}
 use Rattle.query_check.specs.Typing.{IsTyped, may_stand}
 use Rattle.semantics.specs.Types.{is_average, key_expression, literal_kind, operand_kind}
-use Rattle.semantics.specs.Faults.{agreement_faults, argument_faults, atom_faults, clause_faults, column_faults, function_faults, group_faults, grouped_faults, has_type_among, header_faults, operand_faults, operands_of_atoms, operands_of_parts, predicate_faults, query_faults, record_faults, same_kind, typed_column_faults, unless}
+use Rattle.semantics.specs.Faults.{agreement_faults, argument_faults, atom_faults, clause_faults, column_faults, function_faults, group_faults, grouped_faults, header_faults, operand_faults, predicate_faults, query_faults, record_faults, same_kind, typed_column_faults, unless}
 use Rattle.query_check.specs.Inside.FirstFaults.{agreement_fault, aggregate_fault, argument_fault, clause_fault, column_fault, expression_fault, fault_unless, first_fault, function_fault, grouped_at_fault, grouped_fault, header_fault, headers_fault, kind_fault, limit_fault, operand_fault, parts_fault, predicate_fault, query_fault, tests_of}
 use Rattle.query_check.specs.Standing.{Stands}
 use Rattle.query_check.proofs.FaultNames.{among_groups}
@@ -99,7 +99,7 @@ truth_first (Some kind.Bool) = refl
 -- A name that is to be a column of one of some types.
 typed_column_first : (fields : List Field) (kinds : List Kind) (n : List ℕ) → first (typed_column_faults fields (n, kinds)) ≡ argument_fault fields kinds n
 typed_column_first fields kinds n =
-    let test = has_type_among fields kinds n in
+    let test = option_map_or (λ k. list_any (same_kind k) kinds) (column_kind fields n) false in
     then_first (column_faults fields n) (unless test TypesDisagree) (column_fault fields n) (kind_fault kinds (column_kind fields n)) (column_first fields n) (unless_first test TypesDisagree)
 
 -- The one argument of a set function.

@@ -1,5 +1,5 @@
 -- The different filters of a query: how they are typed, and where each set function finds its own.
-use Rattle.std.proofs.Common.{◌≡◌, ◌∙◌, ℕ, ◌≤◌, nat_lt, Bool, true, false, cond, not, ◌||◌, List, [], ◌∷◌, ◌++◌, length, map, Option, Some, None, refl, sym, ap, arith}
+use Rattle.std.proofs.Common.{◌≡◌, ◌∙◌, ℕ, ◌≤◌, nat_lt, Bool, true, false, cond, not, ◌||◌, List, [], ◌∷◌, ◌++◌, length, map, Option, Some, None, refl, subst, sym, ap, arith}
 use Rattle.std.specs.Prelude.{⊤, filter, find, position, slice_get}
 use Rattle.std.specs.List.{AllByRecursion, cons_option, filter_map, flat_map, list_any, position_or_len}
 use Rattle.std.specs.Option.{option_and_then, option_map, option_map_or}
@@ -16,7 +16,9 @@ use Rattle.semantics.specs.Names.{distinct, PlannedFunction, aggregate_of, colum
 use Rattle.semantics.specs.Sets.{grouping_places}
 use Rattle.semantics.specs.Inside.Same.{same_predicate, same_planned}
 use Rattle.query_resolution.specs.Functions.{different_filters, filters_of, indexed}
-use Rattle.semantics.specs.SetFunctions.{expression_functions, functions_of, operand_functions, parts_functions, predicate_functions, set_functions}
+use Rattle.semantics.specs.SetFunctions.{expression_functions, functions_of, operand_functions, set_functions}
+use Rattle.query_resolution.specs.Inside.Collecting.{clause_functions, parts_functions, predicate_functions}
+use Rattle.query_resolution.proofs.AtomFunctions.{collected}
 use Rattle.query_check.specs.Typing.{AreTypedParts, IsTyped, IsTypedClause, IsTypedExpression, IsTypedFunction, IsTypedOperand, IsTypedPredicate}
 use Rattle.semantics.specs.Types.{key_expression}
 use Rattle.query_check.specs.Filters.{AreTypedFilters, LeadBack, filters_at}
@@ -100,11 +102,12 @@ typed_functions fields t h =
     let P = HasTypedFilter fields in
     let Q : ItemForm → Type 0 = λ i. IsTypedExpression fields grouped clause.Select i.expression in
     let R : KeyForm → Type 0 = λ k. IsTypedExpression fields grouped clause.OrderBy (key_expression t.items k.expression) in
-    each_append P (flat_map (λ i. expression_functions i.expression) t.items ++ option_map_or predicate_functions t.having_condition []) (flat_map (λ k. expression_functions k.expression) t.keys)
+    subst (AllByRecursion P) (collected t)
+    (each_append P (flat_map (λ i. expression_functions i.expression) t.items ++ option_map_or predicate_functions t.having_condition []) (flat_map (λ k. expression_functions k.expression) t.keys)
     (each_append P (flat_map (λ i. expression_functions i.expression) t.items) (option_map_or predicate_functions t.having_condition [])
     (each_flat P Q (λ (i : ItemForm). expression_functions i.expression) (λ i k. typed_expression fields grouped clause.Select i.expression k) t.items (recursion_from_All Q t.items h.items))
     (typed_clause fields grouped clause.Having t.having_condition h.having_condition))
-    (each_flat P R (λ (k : KeyForm). expression_functions k.expression) (λ k e. typed_key fields grouped t.items k.expression e) t.keys (recursion_from_All R t.keys h.keys))
+    (each_flat P R (λ (k : KeyForm). expression_functions k.expression) (λ k e. typed_key fields grouped t.items k.expression e) t.keys (recursion_from_All R t.keys h.keys)))
 
 -- A planned set function has the filter of the one that it is made of.
 planned_one : (fields : List Field) (o : Option ColumnFunction) (q : Option PredicateForm) (fs : List PlannedFunction) → IsTypedClause fields [] clause.Where q → AllByRecursion (λ (f : PlannedFunction). IsTypedClause fields [] clause.Where f.filter) fs → AllByRecursion (λ (f : PlannedFunction). IsTypedClause fields [] clause.Where f.filter) (cons_option (option_map (λ g. record { function = g; filter = q }) o) fs)

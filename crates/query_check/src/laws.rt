@@ -5,7 +5,7 @@ ghost use Rattle.semantics.specs.Columns.{Field};
 ghost use Rattle.semantics.specs.declared.kind.Kind.{Kind};
 ghost use Rattle.semantics.specs.Syntax.{TreeForm};
 ghost use Rattle.semantics.specs.declared.query_fault.QueryFault.{QueryFault};
-ghost use Rattle.query_check.specs.Inside.FirstFaults.{IsFirst, first_fault};
+ghost use Rattle.query_check.specs.Inside.FirstFaults.{IsFirst, first_fault, query_fault};
 ghost use Rattle.semantics.specs.Faults.{query_faults, same_kind};
 ghost use Rattle.query_check.specs.Filters.{AreTypedFilters, LeadBack};
 ghost use Rattle.query_check.specs.Standing.{Stands};
@@ -25,8 +25,10 @@ pub fn first_fault_law<A>()
     ensures kinds { (k l : Kind) → Decides (same_kind k l) (k ≡ l) }
 {}
 
-/// A law: a query has no fault exactly where it is typed, and the first of its faults stands in it.
+/// A law: a query has no fault exactly where it is typed; the first of its faults is that of the first test that it
+/// fails, and stands in it.
 pub fn typed_law()
     ensures typed { (fields : List Field) (t : TreeForm) → query_faults fields t ≡ [] ↔ IsTyped fields t }
+    ensures first { (fields : List Field) (t : TreeForm) → slice_get (query_faults fields t) 0 ≡ query_fault fields t }
     ensures stands { (fields : List Field) (t : TreeForm) (f : QueryFault) → slice_get (query_faults fields t) 0 ≡ Some f → Stands fields t f }
 {}

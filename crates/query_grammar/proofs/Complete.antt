@@ -12,7 +12,7 @@ use Rattle.semantics.specs.Syntax.{ExpressionForm, PredicateForm, ElementForm, I
 use Rattle.query_tree.specs.Syntax.{tree_form}
 use Rattle.query_leaves.specs.declared.fault.GrammarFault.{GrammarFault}
 use Rattle.query_leaves.specs.declared.fault.GrammarFault.TheVariants as faults
-use Rattle.semantics.specs.Leaves.{Limits, standard}
+use Rattle.semantics.specs.Leaves.{Limits, standard, IsOptional}
 use Rattle.query_leaves.specs.Fronts.{is_word, is_sign, after}
 use Rattle.query_leaves.specs.Steps.{Gives, name_at}
 use Rattle.query_grammar.specs.GroupSteps.{group_at}
@@ -20,7 +20,7 @@ use Rattle.query_grammar.specs.QuerySteps.{alias_at, item_at, items_at, from_at,
 use Rattle.query_predicates.specs.ExpressionSteps.{expression_at, begins_expression}
 use Rattle.query_predicates.specs.PredicateSteps.{inside_of, any_front}
 use Rattle.semantics.specs.Productions.{IsExpression, IsPredicate}
-use Rattle.semantics.specs.Grammar.{IsItem, IsWhere, IsGroup, IsGroupBy, IsHaving, IsOrderBy, IsQuery, Derives, DerivesWithin, IsSetQuantifier}
+use Rattle.semantics.specs.Grammar.{IsItem, IsGroup, IsGroupBy, IsOrderBy, IsQuery, DerivesWithin, IsClause}
 use Rattle.query_leaves.proofs.Agree.{Wider, wider_same}
 use Rattle.query_leaves.proofs.CompleteLists.{repeated_follow, repeated_c, unlimited_c}
 use Rattle.query_predicates.proofs.CompleteExpressions.{EndsFunction, expression_c}
@@ -56,10 +56,10 @@ record EndsWhere (r : List Token) : Type 0 where
   predicate : EndsPredicate r
   no_where : after (is_word w.Where) r ≡ None
 
-where_c : {narrow wide : Limits} → Wider narrow wide → {ts r : List Token} {p : Option PredicateForm} → IsWhere narrow ts p r → EndsWhere r → clause_at wide w.Where ts ≡ Ok (p, r)
+where_c : {narrow wide : Limits} → Wider narrow wide → {ts r : List Token} {p : Option PredicateForm} → IsClause w.Where narrow ts p r → EndsWhere r → clause_at wide w.Where ts ≡ Ok (p, r)
 unfolding clause_at
-where_c wider IsWhere.none q = rw q.no_where refl
-where_c {narrow} {wide} wider (IsWhere.condition {ts} {r} {p} i) q = rw (predicate_c narrow wide wider (suc narrow.levels) (suc wide.levels) (omega (arith, wider.levels)) ts r p i q.predicate) refl
+where_c wider IsClause.none q = rw q.no_where refl
+where_c {narrow} {wide} wider (IsClause.condition {ts} {r} {p} i) q = rw (predicate_c narrow wide wider (suc narrow.levels) (suc wide.levels) (omega (arith, wider.levels)) ts r p i q.predicate) refl
 
 -- What may stand behind GROUP BY, written or not.
 record EndsGroups (r : List Token) : Type 0 where
@@ -68,10 +68,10 @@ record EndsGroups (r : List Token) : Type 0 where
   no_comma : after (is_sign s.Comma) r ≡ None
 
 -- A DISTINCT that is not written ends where no DISTINCT stands.
-set_quantifier_c : {ts us : List Token} {d : Bool} → IsSetQuantifier ts d us → after (is_word w.Distinct) us ≡ None → set_quantifier_at ts ≡ (d, us)
+set_quantifier_c : {ts us : List Token} {d : Bool} → IsOptional w.Distinct ts d us → after (is_word w.Distinct) us ≡ None → set_quantifier_at ts ≡ (d, us)
 unfolding set_quantifier_at
-set_quantifier_c IsSetQuantifier.none q = rw q refl
-set_quantifier_c IsSetQuantifier.distinct q = refl
+set_quantifier_c IsOptional.none q = rw q refl
+set_quantifier_c IsOptional.written q = refl
 
 groups_c : {narrow wide : Limits} → Wider narrow wide → {ts r : List Token} {d : Bool} {gs : List ElementForm} → IsGroupBy narrow ts d gs r → EndsGroups r → groups_at wide ts ≡ Ok ((d, gs), r)
 unfolding groups_at elements_at
@@ -93,15 +93,15 @@ record EndsHaving (r : List Token) : Type 0 where
   ends_groups : EndsGroups r
   no_having : after (is_word w.Having) r ≡ None
 
-having_c : {narrow wide : Limits} → Wider narrow wide → {ts r : List Token} {p : Option PredicateForm} → IsHaving narrow ts p r → EndsHaving r → clause_at wide w.Having ts ≡ Ok (p, r)
+having_c : {narrow wide : Limits} → Wider narrow wide → {ts r : List Token} {p : Option PredicateForm} → IsClause w.Having narrow ts p r → EndsHaving r → clause_at wide w.Having ts ≡ Ok (p, r)
 unfolding clause_at
-having_c wider IsHaving.none q = rw q.no_having refl
-having_c {narrow} {wide} wider (IsHaving.condition {ts} {r} {p} i) q = rw (predicate_c narrow wide wider (suc narrow.levels) (suc wide.levels) (omega (arith, wider.levels)) ts r p i q.ends_groups.ends_where.predicate) refl
+having_c wider IsClause.none q = rw q.no_having refl
+having_c {narrow} {wide} wider (IsClause.condition {ts} {r} {p} i) q = rw (predicate_c narrow wide wider (suc narrow.levels) (suc wide.levels) (omega (arith, wider.levels)) ts r p i q.ends_groups.ends_where.predicate) refl
 
 -- GROUP BY ends where HAVING begins, written or not.
-having_begins : {limits : Limits} {ts r : List Token} {p : Option PredicateForm} → IsHaving limits ts p r → EndsHaving r → EndsGroups ts
-having_begins IsHaving.none q = q.ends_groups
-having_begins (IsHaving.condition {ts} i) q = record { ends_where = record { predicate = having_ends ts; no_where = refl }; no_group = refl; no_comma = refl }
+having_begins : {limits : Limits} {ts r : List Token} {p : Option PredicateForm} → IsClause w.Having limits ts p r → EndsHaving r → EndsGroups ts
+having_begins IsClause.none q = q.ends_groups
+having_begins (IsClause.condition {ts} i) q = record { ends_where = record { predicate = having_ends ts; no_where = refl }; no_group = refl; no_comma = refl }
 
 -- What may stand behind a query.
 record EndsQuery (r : List Token) : Type 0 where
@@ -143,12 +143,12 @@ unfolding whole_at
 whole_c wider ts q d = rw (query_c wider d nil_ends_query) refl
 
 -- What is derived is read.
-pub read : (ts : List Token) (r : Result (Box Tree Global) GrammarFault) → Gives (λ t. tree_form t.value) r (whole_at standard ts) → (q : TreeForm) → Derives ts q → MatchResult r (λ t. tree_form t.value ≡ q) (λ e. e ≡ faults.OutOfMemory)
+pub read : (ts : List Token) (r : Result (Box Tree Global) GrammarFault) → Gives (λ t. tree_form t.value) r (whole_at standard ts) → (q : TreeForm) → DerivesWithin standard ts q → MatchResult r (λ t. tree_form t.value ≡ q) (λ e. e ≡ faults.OutOfMemory)
 read ts (Ok t) e q d = ok_is (tree_form t.value) q (sym e ∙ whole_c (wider_same standard) ts q d)
 read ts (Err faults.OutOfMemory) e q d = refl
 read ts (Err (faults.OverLimit n)) e q d = absurd (let k = whole_c (wider_same standard) ts q d in cc)
 read ts (Err (faults.Unexpected n)) e q d = absurd (let k = whole_c (wider_same standard) ts q d in cc)
 
 -- No tokens derive two queries: what they derive is what is read of them.
-pub one : (ts : List Token) (p q : TreeForm) → Derives ts p → Derives ts q → p ≡ q
+pub one : (ts : List Token) (p q : TreeForm) → DerivesWithin standard ts p → DerivesWithin standard ts q → p ≡ q
 one ts p q d e = ok_is p q (sym (whole_c (wider_same standard) ts p d) ∙ whole_c (wider_same standard) ts q e)

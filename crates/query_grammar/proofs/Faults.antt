@@ -12,7 +12,7 @@ use Rattle.query_tree.specs.declared.tree.Tree.{Tree}
 use Rattle.semantics.specs.Syntax.{TreeForm}
 use Rattle.query_tree.specs.Syntax.{tree_form}
 use Rattle.semantics.specs.Leaves.{Limits, standard}
-use Rattle.semantics.specs.Grammar.{DerivesWithin, Derives}
+use Rattle.semantics.specs.Grammar.{DerivesWithin}
 use Rattle.semantics.specs.Prefixes.{BeginsWithin, Begins, KeepsLimits, IsUnexpected, IsOverLimit}
 use Rattle.query_leaves.specs.declared.fault.GrammarFault.{GrammarFault}
 use Rattle.query_leaves.specs.declared.fault.GrammarFault.TheVariants as faults
@@ -87,8 +87,8 @@ unexpected_keeps ts place u o = elim (at_most_or o.place place) [
   | inr h ↦ begins_no_further ts place o.place u h o.inside o.begins
 ]
 
-pub derived_keeps : (ts : List Token) (q : TreeForm) → Derives ts q → IsOverLimit ts → ⊥
-derived_keeps ts q d o = o.exceeds (KeepsLimits.begins record { rest = drop o.place ts; tree = q; derived = subst (λ us. Derives us q) (sym (take-append-drop o.place ts)) d })
+pub derived_keeps : (ts : List Token) (q : TreeForm) → DerivesWithin standard ts q → IsOverLimit ts → ⊥
+derived_keeps ts q d o = o.exceeds (KeepsLimits.begins record { rest = drop o.place ts; tree = q; derived = subst (λ us. DerivesWithin standard us q) (sym (take-append-drop o.place ts)) d })
 
 -- ---- where the reader stops
 
@@ -128,14 +128,14 @@ over_limit view ts (Err (faults.OverLimit n)) g left e = over_at ts n g
 over_limit view ts (Err (faults.Unexpected n)) g left e = absurd cc
 
 -- What is read is derived.
-pub derived : (ts : List Token) (r : Result (Box Tree Global) GrammarFault) → Gives (λ t. tree_form t.value) r (whole_at standard ts) → IfOk r (λ t. Derives ts (tree_form t.value))
+pub derived : (ts : List Token) (r : Result (Box Tree Global) GrammarFault) → Gives (λ t. tree_form t.value) r (whole_at standard ts) → IfOk r (λ t. DerivesWithin standard ts (tree_form t.value))
 derived ts (Ok t) e = read_derives ts (tree_form t.value) e
 derived ts (Err e) h = tt
 
 -- Tokens derive a query, or go wrong somewhere, or are of too much.
-pub decided : (ts : List Token) → ((q : TreeForm) × Derives ts q) ⊎ (((place : ℕ) × IsUnexpected ts place) ⊎ IsOverLimit ts)
+pub decided : (ts : List Token) → ((q : TreeForm) × DerivesWithin standard ts q) ⊎ (((place : ℕ) × IsUnexpected ts place) ⊎ IsOverLimit ts)
 decided ts = of_read (whole_at standard ts) refl where
-  of_read : (o : Result TreeForm GrammarFault) → whole_at standard ts ≡ o → ((q : TreeForm) × Derives ts q) ⊎ (((place : ℕ) × IsUnexpected ts place) ⊎ IsOverLimit ts)
+  of_read : (o : Result TreeForm GrammarFault) → whole_at standard ts ≡ o → ((q : TreeForm) × DerivesWithin standard ts q) ⊎ (((place : ℕ) × IsUnexpected ts place) ⊎ IsOverLimit ts)
   of_read (Ok q) e = inl (q, read_derives ts q e)
   of_read (Err faults.OutOfMemory) e = absurd (read_sure ts e)
   of_read (Err (faults.OverLimit left)) e = inr (inr (over_at ts left e))

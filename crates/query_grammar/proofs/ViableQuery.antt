@@ -11,9 +11,9 @@ use Rattle.semantics.specs.declared.token.Word.TheVariants as w
 use Rattle.semantics.specs.declared.token.Sign.TheVariants as s
 use Rattle.query_tokens.specs.Options.{choose}
 use Rattle.semantics.specs.Syntax.{ExpressionForm, PredicateForm, ElementForm, ItemForm, KeyForm, TreeForm}
-use Rattle.semantics.specs.Leaves.{Limits, standard, Derivation, IsRepeated, IsName}
+use Rattle.semantics.specs.Leaves.{Limits, standard, Derivation, IsRepeated, IsName, IsOptional}
 use Rattle.semantics.specs.Productions.{IsExpression, IsPredicate}
-use Rattle.semantics.specs.Grammar.{IsItem, IsWhere, IsGroup, IsSetQuantifier, IsGroupBy, IsHaving, IsOrderBy, IsQuery}
+use Rattle.semantics.specs.Grammar.{IsItem, IsGroup, IsGroupBy, IsOrderBy, IsQuery, IsClause}
 use Rattle.query_leaves.specs.declared.fault.GrammarFault.{GrammarFault}
 use Rattle.query_leaves.specs.Fronts.{is_word, is_sign, after}
 use Rattle.query_leaves.specs.Steps.{◌>>=◌, Reader, stuck, expected, more, name_at}
@@ -265,12 +265,12 @@ clause_v wide word P absent written =
     viable_word word (λ ts. Ok (None, ts)) (λ a. condition_at a >>= λ p. Ok (Some p.0, p.1)) (viable_ok None absent)
     (viable_made condition_at (λ p. Some p) written (condition_v wide))
 
-where_v : (wide : Bool) → Viable true wide (IsWhere (limits_of wide)) (clause_at standard w.Where)
-where_v wide = clause_v wide w.Where (IsWhere (limits_of wide)) (λ r. IsWhere.none) (λ ts r p q. IsWhere.condition q)
+where_v : (wide : Bool) → Viable true wide (IsClause w.Where (limits_of wide)) (clause_at standard w.Where)
+where_v wide = clause_v wide w.Where (IsClause w.Where (limits_of wide)) (λ r. IsClause.none) (λ ts r p q. IsClause.condition q)
 
-having_v : (wide : Bool) → Viable true wide (IsHaving (limits_of wide)) (clause_at standard w.Having)
+having_v : (wide : Bool) → Viable true wide (IsClause w.Having (limits_of wide)) (clause_at standard w.Having)
 having_v wide =
-    clause_v wide w.Having (IsHaving (limits_of wide)) (λ r. IsHaving.none) (λ ts r p q. IsHaving.condition q)
+    clause_v wide w.Having (IsClause w.Having (limits_of wide)) (λ r. IsClause.none) (λ ts r p q. IsClause.condition q)
 
 -- GROUP BY, with whether DISTINCT is written beside its elements.
 abbrev Groups : Limits → Derivation (Bool × List ElementForm)
@@ -289,7 +289,7 @@ group_by_v true = group_v true 16
 group_by_v false = group_v false 16
 
 elements_behind_v : (wide d : Bool) (front : List Token → List Token)
-    → ((ts : List Token) → IsSetQuantifier (front ts) d ts)
+    → ((ts : List Token) → IsOptional w.Distinct (front ts) d ts)
     → Viable true wide (λ us. Elements (limits_of wide) (front us)) (elements_behind d)
 elements_behind_v wide d front quantifier =
     viable_made (all_at any_front (group_at standard.sets)) (λ gs. (d, gs)) made
@@ -304,8 +304,8 @@ elements_v wide =
     viable_same (elements_at standard)
     (λ ts. choose (after (is_word w.Distinct) ts) (elements_behind false ts) (elements_behind true))
     (flag_way w.Distinct elements_behind) (viable_word w.Distinct (elements_behind false) (elements_behind true)
-    (elements_behind_v wide false (λ ts. ts) (λ ts. IsSetQuantifier.none))
-    (elements_behind_v wide true (λ ts. tokens.Word w.Distinct ∷ ts) (λ ts. IsSetQuantifier.distinct)))
+    (elements_behind_v wide false (λ ts. ts) (λ ts. IsOptional.none))
+    (elements_behind_v wide true (λ ts. tokens.Word w.Distinct ∷ ts) (λ ts. IsOptional.written)))
 
 -- BY and the elements.
 abbrev by_at : Reader (Bool × List ElementForm)
@@ -323,7 +323,7 @@ groups_v wide =
       one = record {
         tokens = group.tokens;
         value = (false, group.value ∷ []);
-        derived = λ other. IsGroupBy.groups IsSetQuantifier.none (group.derived other) IsRepeated.none;
+        derived = λ other. IsGroupBy.groups IsOptional.none (group.derived other) IsRepeated.none;
       }
 
 -- WHERE and GROUP BY, as they are read.
@@ -333,11 +333,11 @@ RecordsForm = Option PredicateForm × Bool × List ElementForm
 -- WHERE and GROUP BY, one behind the other.
 data IsRecords (limits : Limits) : List Token → RecordsForm → List Token → Type 0 where
   records : {ts mid rest : List Token} {p : Option PredicateForm} {d : Bool} {gs : List ElementForm}
-      → IsWhere limits ts p mid → IsGroupBy limits mid d gs rest → IsRecords limits ts (p, d, gs) rest
+      → IsClause w.Where limits ts p mid → IsGroupBy limits mid d gs rest → IsRecords limits ts (p, d, gs) rest
 
 -- GROUP BY behind a WHERE that was read.
 abbrev GroupsBehind : Limits → Option PredicateForm → Derivation RecordsForm
-GroupsBehind limits p us x ws = (vs : List Token) → IsWhere limits vs p us → IsRecords limits vs x ws
+GroupsBehind limits p us x ws = (vs : List Token) → IsClause w.Where limits vs p us → IsRecords limits vs x ws
 
 records_v : (wide : Bool) → Viable true wide (IsRecords (limits_of wide)) (records_at standard)
 unfolding records_at
@@ -360,11 +360,11 @@ RowsForm = Option PredicateForm × List KeyForm
 -- HAVING and ORDER BY, one behind the other.
 data IsRows (limits : Limits) : List Token → RowsForm → List Token → Type 0 where
   rows : {ts mid rest : List Token} {h : Option PredicateForm} {ks : List KeyForm}
-      → IsHaving limits ts h mid → IsOrderBy limits mid ks rest → IsRows limits ts (h, ks) rest
+      → IsClause w.Having limits ts h mid → IsOrderBy limits mid ks rest → IsRows limits ts (h, ks) rest
 
 -- ORDER BY behind a HAVING that was read.
 abbrev KeysBehind : Limits → Option PredicateForm → Derivation RowsForm
-KeysBehind limits h us x ws = (vs : List Token) → IsHaving limits vs h us → IsRows limits vs x ws
+KeysBehind limits h us x ws = (vs : List Token) → IsClause w.Having limits vs h us → IsRows limits vs x ws
 
 rows_v : (wide : Bool) → Viable true wide (IsRows (limits_of wide)) (rows_at standard)
 unfolding rows_at
@@ -423,7 +423,7 @@ records_behind_v wide is =
       none a = record {
         tokens = [];
         value = tree is a (None, []);
-        derived = λ other vs p ts i. query_of wide i p (IsRows.rows IsHaving.none IsOrderBy.none);
+        derived = λ other vs p ts i. query_of wide i p (IsRows.rows IsClause.none IsOrderBy.none);
       }
 
 -- A query.
@@ -433,11 +433,11 @@ query_v wide =
     viable_bind (SelectBehind (limits_of wide)) (select_at standard) records_behind (λ us vs ws is q p r. r us p) none
     (select_v wide) (records_behind_v wide) where
       no_records : (ts : List Token) → IsRecords (limits_of wide) ts (None, false, []) ts
-      no_records ts = IsRecords.records IsWhere.none IsGroupBy.none
+      no_records ts = IsRecords.records IsClause.none IsGroupBy.none
 
       none : (is : List ItemForm) → Phrase (SelectBehind (limits_of wide) is)
       none is = record {
         tokens = [];
         value = tree is (None, false, []) (None, []);
-        derived = λ other vs p. query_of wide p (no_records other) (IsRows.rows IsHaving.none IsOrderBy.none);
+        derived = λ other vs p. query_of wide p (no_records other) (IsRows.rows IsClause.none IsOrderBy.none);
       }

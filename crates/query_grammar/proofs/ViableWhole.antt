@@ -8,7 +8,7 @@ use Rattle.semantics.specs.declared.token.Word.TheVariants as w
 use Rattle.semantics.specs.declared.token.Sign.TheVariants as s
 use Rattle.semantics.specs.Syntax.{TreeForm}
 use Rattle.semantics.specs.Leaves.{Limits, standard}
-use Rattle.semantics.specs.Grammar.{IsQuery, Derives}
+use Rattle.semantics.specs.Grammar.{IsQuery, DerivesWithin}
 use Rattle.semantics.specs.Prefixes.{BeginsWithin, Begins, KeepsLimits}
 use Rattle.query_leaves.specs.declared.fault.GrammarFault.{GrammarFault}
 use Rattle.query_leaves.specs.declared.fault.GrammarFault.TheVariants as faults
@@ -27,14 +27,14 @@ ends_is [] p q e = (refl, ok_is p q e)
 ends_is (x ∷ ts) p q e = absurd cc
 
 -- What is read is derived.
-pub read_derives : (ts : List Token) (q : TreeForm) → whole_at standard ts ≡ Ok q → Derives ts q
+pub read_derives : (ts : List Token) (q : TreeForm) → whole_at standard ts ≡ Ok q → DerivesWithin standard ts q
 unfolding whole_at
 read_derives ts q d =
     let a = bind_ok (query_at standard ts) (λ x. at_end x.1 x.0) q d in
     let k = ends_is a.0.1 a.0.0 q a.2 in
     let t = (query_v false).goes ts a.0.0 a.0.1 a.1 in
     let all : t.front ++ [] ≡ ts = ap (λ (us : List Token). t.front ++ us) (sym k.0) ∙ sym t.is in
-    subst (λ (x : TreeForm). Derives ts x) k.1 (subst (λ (us : List Token). Derives us a.0.0) all (t.derived []))
+    subst (λ (x : TreeForm). DerivesWithin standard ts x) k.1 (subst (λ (us : List Token). DerivesWithin standard us a.0.0) all (t.derived []))
 
 -- A query that was read, where nothing is left.
 abbrev ended : Result (TreeForm × List Token) GrammarFault → Result TreeForm GrammarFault

@@ -5,7 +5,7 @@ ghost use Rattle.std.specs.Option.{option_map};
 ghost use Rattle.semantics.specs.Syntax.{TreeForm};
 ghost use Rattle.query_tree.specs.Syntax.{tree_form, element_form, item_form, key_form, predicate_form};
 ghost use Rattle.query_leaves.specs.declared.fault.GrammarFault.TheVariants.{OutOfMemory, OverLimit, Unexpected};
-ghost use Rattle.semantics.specs.Grammar.{Derives};
+ghost use Rattle.semantics.specs.Grammar.{DerivesWithin};
 ghost use Rattle.semantics.specs.Prefixes.{IsUnexpected, IsOverLimit};
 ghost use Rattle.query_leaves.specs.Steps.{Gives};
 ghost use Rattle.query_grammar.specs.QuerySteps.{from_at, clause_at, select_at, records_at, rows_at, query_at, whole_at};
@@ -135,9 +135,9 @@ fn whole(alloc: Global, tokens: &[Token]) -> Result<Box<Tree>, GrammarFault>
 /// `OutOfMemory`, which says nothing of the tokens.
 pub fn read_query(alloc: Global, tokens: &[Token]) -> Result<Box<Tree>, GrammarFault>
     // What is read is derived.
-    ensures derived { IfOk result (λ tree. Derives tokens.now (tree_form tree.value)) }
+    ensures derived { IfOk result (λ tree. DerivesWithin standard tokens.now (tree_form tree.value)) }
     // What is derived is read, and no other, unless memory runs out.
-    ensures read { (q : TreeForm) → Derives tokens.now q → MatchResult result (λ tree. tree_form tree.value ≡ q) (λ fault. fault ≡ OutOfMemory) }
+    ensures read { (q : TreeForm) → DerivesWithin standard tokens.now q → MatchResult result (λ tree. tree_form tree.value ≡ q) (λ fault. fault ≡ OutOfMemory) }
     // A token that is not expected, or the end, continues no query.
     ensures unexpected { (left : ℕ) → result ≡ Err (Unexpected left) → IsUnexpected tokens.now (length tokens.now - left) }
     // Where it is too much, some tokens in front begin a query that does not keep the limits.

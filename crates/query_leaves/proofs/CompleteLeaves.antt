@@ -9,7 +9,7 @@ use Rattle.semantics.specs.declared.token.Sign.TheVariants as s
 use Rattle.semantics.specs.declared.aggregate.Aggregate.{Aggregate}
 use Rattle.semantics.specs.declared.literal.Literal.{Literal}
 use Rattle.query_leaves.specs.Fronts.{is_word, after}
-use Rattle.semantics.specs.Leaves.{IsRepeated, IsName, IsAggregate, IsLiteral, IsOp, IsTruthValue, IsMark}
+use Rattle.semantics.specs.Leaves.{IsRepeated, IsName, IsAggregate, IsLiteral, IsOp, IsTruthValue, IsOptional}
 use Rattle.query_leaves.specs.Steps.{expected, name_at, begins_name}
 use Rattle.query_leaves.specs.LeafSteps.{closed_name_at, argument_at, counted_at, count_at, aggregate_at, arguments_at, literal_at, begins_literal, literals_at, op_at, truth_at, mark_at}
 use Rattle.query_leaves.proofs.CompleteLists.{Shrinks, bracketed_c}
@@ -113,10 +113,10 @@ truth_no_null IsTruthValue.yes = refl
 truth_no_null IsTruthValue.no = refl
 truth_no_null IsTruthValue.unknown = refl
 
-pub mark_c : {ts r : List Token} {n : Bool} → IsMark ts n r → after (is_word w.Not) r ≡ None → mark_at ts ≡ (n, r)
+pub mark_c : {ts r : List Token} {n : Bool} → IsOptional w.Not ts n r → after (is_word w.Not) r ≡ None → mark_at ts ≡ (n, r)
 unfolding mark_at
-mark_c IsMark.none e = rw e refl
-mark_c IsMark.not e = refl
+mark_c IsOptional.none e = rw e refl
+mark_c IsOptional.written e = refl
 
 pub aggregate_no_literal : {ts r : List Token} {f : Aggregate} → IsAggregate ts f r → literal_at ts ≡ None
 unfolding literal_at
@@ -147,6 +147,6 @@ truth_short _ _ _ IsTruthValue.yes = omega arith
 truth_short _ _ _ IsTruthValue.no = omega arith
 truth_short _ _ _ IsTruthValue.unknown = omega arith
 
-pub mark_short : Shrinks IsMark
-mark_short _ _ _ IsMark.none = omega arith
-mark_short _ _ _ IsMark.not = omega arith
+pub mark_short : Shrinks (IsOptional w.Not)
+mark_short _ _ _ IsOptional.none = omega arith
+mark_short _ _ _ IsOptional.written = omega arith

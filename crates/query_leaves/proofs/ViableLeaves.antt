@@ -18,7 +18,7 @@ use Rattle.semantics.specs.declared.literal.Literal.TheVariants as literals
 use Rattle.query_leaves.specs.Fronts.{is_word, is_sign, after}
 use Rattle.query_leaves.specs.Steps.{◌>>=◌, Reader, stuck, expected, more, listed_at, name_at, begins_name}
 use Rattle.query_leaves.specs.LeafSteps.{closed_name_at, argument_at, counted_at, count_at, aggregate_at, arguments_at, literal_at, begins_literal, literals_at, op_at, truth_at, mark_at}
-use Rattle.semantics.specs.Leaves.{Limits, standard, Derivation, IsName, IsAggregate, IsLiteral, IsOp, IsTruthValue, IsMark, IsRepeated}
+use Rattle.semantics.specs.Leaves.{Limits, standard, Derivation, IsName, IsAggregate, IsLiteral, IsOp, IsTruthValue, IsRepeated, IsOptional}
 use Rattle.query_leaves.proofs.Heads.{after_word_is, after_sign_is}
 use Rattle.query_leaves.proofs.Viable.{Phrase, Viable, Finds, BeginsPart, TellsPart, AtMost, Listed, Closed, Enclosed, counted, phrase_listed, viable_ok, viable_stuck, viable_as, viable_same, viable_made, viable_choose, viable_expected, viable_expected_front, viable_more, viable_listed, viable_closed, viable_enclosed}
 
@@ -48,12 +48,12 @@ flag_way {A} word g ts = of_way (after (is_word word) ts) where
   of_way (Some r) = refl
 
 -- NOT, or none, and what is read behind it.
-pub viable_mark : {A : Type 0} {wide : Bool} {R : Derivation A} (Q : Bool → Derivation A) (g : Bool → Reader A) → ((us vs ws : List Token) (n : Bool) (x : A) → IsMark us n vs → Q n vs x ws → R us x ws) → ((n : Bool) → Viable true wide (Q n) (g n))
+pub viable_mark : {A : Type 0} {wide : Bool} {R : Derivation A} (Q : Bool → Derivation A) (g : Bool → Reader A) → ((us vs ws : List Token) (n : Bool) (x : A) → IsOptional w.Not us n vs → Q n vs x ws → R us x ws) → ((n : Bool) → Viable true wide (Q n) (g n))
     → Viable true wide R (λ ts. g (mark_at ts).0 (mark_at ts).1)
 unfolding mark_at
 viable_mark Q g join vg =
     viable_same (λ ts. g (mark_at ts).0 (mark_at ts).1) (λ ts. choose (after (is_word w.Not) ts) (g false ts) (λ a. g true a)) (flag_way w.Not g)
-    (viable_word w.Not (g false) (g true) (viable_as (λ us ws x q. join us us ws false x IsMark.none q) (vg false)) (viable_as (λ us ws x q. join (tokens.Word w.Not ∷ us) us ws true x IsMark.not q) (vg true)))
+    (viable_word w.Not (g false) (g true) (viable_as (λ us ws x q. join us us ws false x IsOptional.none q) (vg false)) (viable_as (λ us ws x q. join (tokens.Word w.Not ∷ us) us ws true x IsOptional.written q) (vg true)))
 
 -- ---- names
 

@@ -9,7 +9,7 @@ use Rattle.semantics.specs.declared.token.Sign.TheVariants as s
 use Rattle.semantics.specs.declared.aggregate.Aggregate.{Aggregate}
 use Rattle.semantics.specs.declared.literal.Literal.{Literal}
 use Rattle.semantics.specs.Syntax.{ExpressionForm, OperandForm, PredicateForm, truth_test, compare, between, member, null_test, column}
-use Rattle.semantics.specs.Leaves.{Limits, Derivation, IsRepeated, IsAggregate, IsLiteral, IsOp, IsTruthValue, IsMark}
+use Rattle.semantics.specs.Leaves.{Limits, Derivation, IsRepeated, IsAggregate, IsLiteral, IsOp, IsTruthValue, IsOptional}
 use Rattle.query_leaves.specs.Fronts.{is_word, is_sign, after}
 use Rattle.query_leaves.specs.LeafSteps.{literal_at, op_at}
 use Rattle.query_leaves.specs.Steps.{name_at}
@@ -91,20 +91,20 @@ module _ (limits : Limits) (IsInner : Derivation PredicateForm) (inside : Inside
   unfolding tested_atom_at atom_after
   compare_c x o y q = rw (operand_c x (op_no_filter o), op_no_is o, op_c o, operand_c y q) refl
 
-  between_c : {ts u v mid r : List Token} {x y z : OperandForm} {n : Bool} → IsOperand limits IsInner ts x u → IsMark u n (tokens.Word w.Between ∷ v) → IsOperand limits IsInner v y (tokens.Word w.And ∷ mid) → IsOperand limits IsInner mid z r
+  between_c : {ts u v mid r : List Token} {x y z : OperandForm} {n : Bool} → IsOperand limits IsInner ts x u → IsOptional w.Not u n (tokens.Word w.Between ∷ v) → IsOperand limits IsInner v y (tokens.Word w.And ∷ mid) → IsOperand limits IsInner mid z r
       → EndsFunction r → tested_atom_at inside ts ≡ test_after (between x n y z) r
   unfolding tested_atom_at atom_after negated_after between_after op_at
-  between_c x IsMark.none y z q = rw (operand_c x refl, operand_c y refl, operand_c z q) refl
-  between_c x IsMark.not y z q = rw (operand_c x refl, operand_c y refl, operand_c z q) refl
+  between_c x IsOptional.none y z q = rw (operand_c x refl, operand_c y refl, operand_c z q) refl
+  between_c x IsOptional.written y z q = rw (operand_c x refl, operand_c y refl, operand_c z q) refl
 
   member_c : {ts u v mid r : List Token} {x : OperandForm} {n : Bool} {a : Literal} {ls : List Literal}
-      → IsOperand limits IsInner ts x u → IsMark u n (tokens.Word w.In ∷ tokens.Sign s.Open ∷ v) → IsLiteral v a mid → IsRepeated (tokens.Sign s.Comma) IsLiteral mid ls (tokens.Sign s.Close ∷ r) → length ls < limits.literals
+      → IsOperand limits IsInner ts x u → IsOptional w.Not u n (tokens.Word w.In ∷ tokens.Sign s.Open ∷ v) → IsLiteral v a mid → IsRepeated (tokens.Sign s.Comma) IsLiteral mid ls (tokens.Sign s.Close ∷ r) → length ls < limits.literals
       → tested_atom_at inside ts ≡ test_after (member x n (a ∷ ls)) r
   unfolding tested_atom_at atom_after negated_after member_after op_at
-  member_c x IsMark.none a b few = rw (operand_c x refl, literals_c {most = inside.limits.literals} a b (omega (arith, few, wider.literals))) refl
-  member_c x IsMark.not a b few = rw (operand_c x refl, literals_c {most = inside.limits.literals} a b (omega (arith, few, wider.literals))) refl
+  member_c x IsOptional.none a b few = rw (operand_c x refl, literals_c {most = inside.limits.literals} a b (omega (arith, few, wider.literals))) refl
+  member_c x IsOptional.written a b few = rw (operand_c x refl, literals_c {most = inside.limits.literals} a b (omega (arith, few, wider.literals))) refl
 
-  null_c : {ts u r : List Token} {x : OperandForm} {n : Bool} → IsOperand limits IsInner ts x (tokens.Word w.Is ∷ u) → IsMark u n (tokens.Word w.Null ∷ r) → tested_atom_at inside ts ≡ test_after (null_test x n) r
+  null_c : {ts u r : List Token} {x : OperandForm} {n : Bool} → IsOperand limits IsInner ts x (tokens.Word w.Is ∷ u) → IsOptional w.Not u n (tokens.Word w.Null ∷ r) → tested_atom_at inside ts ≡ test_after (null_test x n) r
   unfolding tested_atom_at is_after
   null_c x n = rw (operand_c x refl, mark_c n refl) refl
 
@@ -117,7 +117,7 @@ module _ (limits : Limits) (IsInner : Derivation PredicateForm) (inside : Inside
   unfolding tested_atom_at atom_after column_of test_after
   column_c n r q = rw (name_c n r, q.no_is, q.no_op, q.no_not, q.no_in, q.no_between, q.no_is) refl
 
-  column_test_c : (n : List ℕ) {u v r : List Token} {m : Bool} {t : Truth} → IsMark u m v → IsTruthValue v t r → tested_atom_at inside (tokens.Name n ∷ tokens.Word w.Is ∷ u) ≡ Ok (truth_test (column n) m t, r)
+  column_test_c : (n : List ℕ) {u v r : List Token} {m : Bool} {t : Truth} → IsOptional w.Not u m v → IsTruthValue v t r → tested_atom_at inside (tokens.Name n ∷ tokens.Word w.Is ∷ u) ≡ Ok (truth_test (column n) m t, r)
   unfolding tested_atom_at is_after column_of
   column_test_c n {u} m t = rw (name_c n (tokens.Word w.Is ∷ u), mark_c m (truth_no_not t), truth_no_null t, truth_c t) refl
 
@@ -125,7 +125,7 @@ module _ (limits : Limits) (IsInner : Derivation PredicateForm) (inside : Inside
   unfolding test_after
   test_none p r e = rw e refl
 
-  pub test_some : (p : PredicateForm) {u v r : List Token} {n : Bool} {t : Truth} → IsMark u n v → IsTruthValue v t r → test_after p (tokens.Word w.Is ∷ u) ≡ Ok (truth_test p n t, r)
+  pub test_some : (p : PredicateForm) {u v r : List Token} {n : Bool} {t : Truth} → IsOptional w.Not u n v → IsTruthValue v t r → test_after p (tokens.Word w.Is ∷ u) ≡ Ok (truth_test p n t, r)
   unfolding test_after
   test_some p m t = rw (mark_c m (truth_no_not t), truth_c t) refl
 
@@ -138,7 +138,7 @@ module _ (limits : Limits) (IsInner : Derivation PredicateForm) (inside : Inside
   atom_c (IsAtom.column {n} {r}) q = column_c n r q
 
   -- An atom with its truth test.
-  pub atom_test_c : {ts u v r : List Token} {p : PredicateForm} {n : Bool} {t : Truth} → IsAtom limits IsInner ts p (tokens.Word w.Is ∷ u) → IsMark u n v → IsTruthValue v t r → tested_atom_at inside ts ≡ Ok (truth_test p n t, r)
+  pub atom_test_c : {ts u v r : List Token} {p : PredicateForm} {n : Bool} {t : Truth} → IsAtom limits IsInner ts p (tokens.Word w.Is ∷ u) → IsOptional w.Not u n v → IsTruthValue v t r → tested_atom_at inside ts ≡ Ok (truth_test p n t, r)
   atom_test_c (IsAtom.compare x o y) m t = compare_c x o y refl ∙ test_some _ m t
   atom_test_c (IsAtom.between x n y z) m t = between_c x n y z refl ∙ test_some _ m t
   atom_test_c (IsAtom.member x n a b few) m t = member_c x n a b few ∙ test_some _ m t

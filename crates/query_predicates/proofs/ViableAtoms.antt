@@ -14,7 +14,7 @@ use Rattle.query_leaves.specs.Steps.{◌>>=◌, Reader, expected}
 use Rattle.query_leaves.specs.LeafSteps.{literal_at, literals_at, op_at, truth_at, mark_at}
 use Rattle.query_predicates.specs.ExpressionSteps.{Inside, expression_at}
 use Rattle.query_predicates.specs.AtomSteps.{operand_at, member_after, between_after, negated_after, column_of, atom_after, test_after, is_after, tested_atom_at}
-use Rattle.semantics.specs.Leaves.{Derivation, IsLiteral, IsOp, IsMark}
+use Rattle.semantics.specs.Leaves.{Derivation, IsLiteral, IsOp, IsOptional}
 use Rattle.semantics.specs.Productions.{IsExpression, IsOperand, IsAtom, IsPrimary, IsTest}
 use Rattle.query_leaves.proofs.Viable.{Phrase, Viable, Listed, Enclosed, Exactly, exactly, viable_ok, viable_stuck, viable_as, viable_bind, viable_made, viable_front}
 use Rattle.query_leaves.proofs.ViableLeaves.{limits_of, viable_word, expected_word, viable_mark, literal_finds, Literals, literals_v, op_finds, truth_v}
@@ -54,12 +54,12 @@ module _ (wide : Bool) (IsInner : Derivation PredicateForm) (inside : Inside) (i
 
   -- What derives as an atom behind an operand, its mark and IN.
   abbrev AfterIn : OperandForm → Bool → Derivation PredicateForm
-  AfterIn x n us p ws = (vs ms : List Token) → Operand vs x ms → IsMark ms n (tokens.Word w.In ∷ us) → Atom vs p ws
+  AfterIn x n us p ws = (vs ms : List Token) → Operand vs x ms → IsOptional w.Not ms n (tokens.Word w.In ∷ us) → Atom vs p ws
 
   -- What derives as an atom behind an operand, its mark and BETWEEN.
   abbrev AfterBetween : OperandForm → Bool → Derivation PredicateForm
   AfterBetween x n us p ws =
-      (vs ms : List Token) → Operand vs x ms → IsMark ms n (tokens.Word w.Between ∷ us) → Atom vs p ws
+      (vs ms : List Token) → Operand vs x ms → IsOptional w.Not ms n (tokens.Word w.Between ∷ us) → Atom vs p ws
 
   -- What derives as an atom behind the lower end of a BETWEEN.
   abbrev AfterLow : OperandForm → Bool → OperandForm → Derivation PredicateForm
@@ -84,7 +84,7 @@ module _ (wide : Bool) (IsInner : Derivation PredicateForm) (inside : Inside) (i
   -- What derives as a test behind an operand, IS and its mark.
   abbrev AfterIsMark : OperandForm → Bool → Derivation PredicateForm
   AfterIsMark x n us q ws =
-      (ms vs : List Token) → IsMark ms n us → Operand vs x (tokens.Word w.Is ∷ ms) → Test vs q ws
+      (ms vs : List Token) → IsOptional w.Not ms n us → Operand vs x (tokens.Word w.Is ∷ ms) → Test vs q ws
 
   -- ---- what derives, whatever stands behind
 
@@ -134,7 +134,7 @@ module _ (wide : Bool) (IsInner : Derivation PredicateForm) (inside : Inside) (i
   not_between x = record {
     tokens = tokens.Name a_name ∷ tokens.Word w.And ∷ tokens.Name a_name ∷ [];
     value = between x true (named a_name) (named a_name);
-    derived = λ other vs i. IsAtom.between i IsMark.not of_name of_name;
+    derived = λ other vs i. IsAtom.between i IsOptional.written of_name of_name;
   }
 
   -- Behind IS and its mark may stand NULL.
@@ -207,8 +207,8 @@ module _ (wide : Bool) (IsInner : Derivation PredicateForm) (inside : Inside) (i
       viable_word w.In (λ ts. expected (after (is_word w.Between)) ts >>= λ a. between_after inside x true a)
       (λ a. member_after inside.limits.literals x true a)
       (expected_word w.Between (λ a. between_after inside x true a) (not_between x)
-      (viable_as (λ us ws p q vs i. q vs (tokens.Word w.Not ∷ tokens.Word w.Between ∷ us) i IsMark.not) (between_v x true)))
-      (viable_as (λ us ws p q vs i. q vs (tokens.Word w.Not ∷ tokens.Word w.In ∷ us) i IsMark.not) (member_v x true))
+      (viable_as (λ us ws p q vs i. q vs (tokens.Word w.Not ∷ tokens.Word w.Between ∷ us) i IsOptional.written) (between_v x true)))
+      (viable_as (λ us ws p q vs i. q vs (tokens.Word w.Not ∷ tokens.Word w.In ∷ us) i IsOptional.written) (member_v x true))
 
   -- What is read behind an operand where nothing stands that belongs to its atom.
   abbrev column_at : OperandForm → Reader PredicateForm
@@ -233,7 +233,7 @@ module _ (wide : Bool) (IsInner : Derivation PredicateForm) (inside : Inside) (i
   ranged_v : (x : OperandForm) → Viable true wide (AfterOperand x) (ranged_at x)
   ranged_v x =
       viable_word w.Between (λ ts. column_at x ts) (λ a. between_after inside x false a) (column_v x)
-      (viable_as (λ us ws p q vs i. q vs (tokens.Word w.Between ∷ us) i IsMark.none) (between_v x false))
+      (viable_as (λ us ws p q vs i. q vs (tokens.Word w.Between ∷ us) i IsOptional.none) (between_v x false))
 
   -- What is read behind an operand where no operator or NOT stands.
   abbrev plain_at : OperandForm → Reader PredicateForm
@@ -244,7 +244,7 @@ module _ (wide : Bool) (IsInner : Derivation PredicateForm) (inside : Inside) (i
   plain_v : (x : OperandForm) → Viable true wide (AfterOperand x) (plain_at x)
   plain_v x =
       viable_word w.In (λ ts. ranged_at x ts) (λ a. member_after inside.limits.literals x false a) (ranged_v x)
-      (viable_as (λ us ws p q vs i. q vs (tokens.Word w.In ∷ us) i IsMark.none) (member_v x false))
+      (viable_as (λ us ws p q vs i. q vs (tokens.Word w.In ∷ us) i IsOptional.none) (member_v x false))
 
   -- What derives as an atom behind an operand and its operator.
   abbrev AfterOp : OperandForm → Op → Derivation PredicateForm
@@ -265,7 +265,7 @@ module _ (wide : Bool) (IsInner : Derivation PredicateForm) (inside : Inside) (i
   -- What derives as a test behind a primary, IS and its mark.
   abbrev AfterMark : PredicateForm → Bool → Derivation PredicateForm
   AfterMark p n us q ws =
-      (ms vs : List Token) → IsMark ms n us → Primary vs p (tokens.Word w.Is ∷ ms) → Test vs q ws
+      (ms vs : List Token) → IsOptional w.Not ms n us → Primary vs p (tokens.Word w.Is ∷ ms) → Test vs q ws
 
   -- A truth value, and the test that it makes.
   abbrev truth_test_at : PredicateForm → Bool → Reader PredicateForm

@@ -10,3 +10,4 @@ pub mod DistinctLaw
 pub mod Counts
 pub mod RollupCube
 pub mod CrossedLaw
+pub mod AtomFunctions

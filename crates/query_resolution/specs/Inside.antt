@@ -1,1 +1,2 @@
--- What private calls compute. Of `same_predicate` all is said by its law: it is true exactly where two trees are equal.
+-- What private calls compute.
+pub mod Collecting

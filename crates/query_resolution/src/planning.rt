@@ -8,7 +8,8 @@ ghost use Rattle.semantics.specs.Syntax.{predicate_forms};
 ghost use Rattle.semantics.specs.Names.{distinct, planned_function};
 ghost use Rattle.semantics.specs.Inside.Same.{same_predicate, same_planned};
 ghost use Rattle.query_resolution.specs.Functions.{different_filters, filters_of, indexed, indexed_functions};
-ghost use Rattle.semantics.specs.SetFunctions.{expression_functions, functions_of, operand_functions, parts_functions, predicate_functions, set_functions};
+ghost use Rattle.semantics.specs.SetFunctions.{expression_functions, functions_of, operand_functions};
+ghost use Rattle.query_resolution.specs.Inside.Collecting.{clause_functions, parts_functions, predicate_functions};
 ghost use Rattle.query_resolution.specs.Planning.{filter_forms, planned_form, planned_forms};
 
 use crate::function::{FilteredFunction, column_function};
@@ -186,7 +187,7 @@ fn all_functions<'a>(
     columns: &[Column],
     tree: &'a Tree,
 ) -> Result<Vec<Planned<'a>>, AllocError>
-    ensures { IfOk result (λ v. planned_forms v.items ≡ filter_map (planned_function (fields_of columns.now)) (set_functions (tree_form tree.now))) }
+    ensures { IfOk result (λ v. planned_forms v.items ≡ filter_map (planned_function (fields_of columns.now)) (clause_functions (tree_form tree.now))) }
 {
     let mut functions = Vec::new(alloc);
     push_item_functions(&mut functions, columns, &tree.items)?;

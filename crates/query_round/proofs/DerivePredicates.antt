@@ -17,7 +17,7 @@ use Rattle.semantics.specs.declared.aggregate.Aggregate.{Aggregate}
 use Rattle.semantics.specs.declared.aggregate.Aggregate.TheVariants as aggregates
 use Rattle.semantics.specs.Syntax.{ExpressionForm, FunctionForm, OperandForm, PredicateForm, PredicateForms, name, grouping, function, over_all, over_filtered, or_of, and_of, not_of, truth_test, compare, between, member, null_test, column, no_parts, part, predicate_forms}
 use Rattle.semantics.specs.Canonical.{tightness}
-use Rattle.semantics.specs.Leaves.{standard, Derivation, IsRepeated, IsName, IsAggregate, IsLiteral, IsOp, IsTruthValue, IsMark}
+use Rattle.semantics.specs.Leaves.{standard, Derivation, IsRepeated, IsName, IsAggregate, IsLiteral, IsOp, IsTruthValue, IsOptional}
 use Rattle.semantics.specs.Productions.{IsFunction, IsExpression, IsOperand, IsAtom, IsPrimary, IsTest, IsNegation, IsConjunction, IsDisjunction, IsPredicate}
 use Rattle.query_round.proofs.Good.{Each, Filled, GoodName, GoodFunction, GoodExpression, GoodLiteral, GoodOperand, IsMany, Fits, Good, PartsFit}
 use Rattle.query_round.proofs.Onto.{Onto, others_onto, list_onto, name_onto, aggregate_onto, function_onto, expression_onto, literal_onto, operand_onto, op_sign, truth_word, not_onto, bracketed_onto, predicate_onto, part_ontos}
@@ -76,9 +76,9 @@ truth_d truth.True r = IsTruthValue.yes
 truth_d truth.False r = IsTruthValue.no
 truth_d truth.Unknown r = IsTruthValue.unknown
 
-mark_d : (n : Bool) (r : List Token) → IsMark (not_onto n r) n r
-mark_d true r = IsMark.not
-mark_d false r = IsMark.none
+mark_d : (n : Bool) (r : List Token) → IsOptional w.Not (not_onto n r) n r
+mark_d true r = IsOptional.written
+mark_d false r = IsOptional.none
 
 -- The tokens of an operand derive it, whatever stands behind them.
 abbrev OperandDerives : Derivation PredicateForm → OperandForm → Type 0

@@ -2,12 +2,13 @@
 use Rattle.std.proofs.Common.{ℕ, Bool, true, false, List, [], ◌∷◌, map, Option, Some, None}
 use Rattle.semantics.specs.declared.token.Token.{Token}
 use Rattle.semantics.specs.Syntax.{ExpressionForm, PredicateForm, ElementForm, ItemForm, KeyForm, TreeForm}
-use Rattle.semantics.specs.Leaves.{standard}
-use Rattle.semantics.specs.Grammar.{IsItem, IsWhere, IsGroup, IsSetQuantifier, IsGroupBy, IsHaving, IsDirection, IsNullOrdering, IsKey, IsOrderBy, IsQuery}
+use Rattle.semantics.specs.Leaves.{standard, IsOptional}
+use Rattle.semantics.specs.Grammar.{IsItem, IsGroup, IsGroupBy, IsDirection, IsNullOrdering, IsKey, IsOrderBy, IsQuery, IsClause}
 use Rattle.query_round.proofs.Good.{Each, Within, GoodExpression, Good, GoodItem, GoodElement, GoodGroupBy, GoodKey, GoodTree}
 use Rattle.query_round.proofs.Onto.{expression_onto, alias_onto, item_onto, group_onto, commas_onto, where_onto, distinct_onto, group_by_onto, having_onto, direction_onto, nulls_onto, key_onto, order_by_onto, query_onto}
 use Rattle.query_round.proofs.DerivePredicates.{commas_derive, expression_d, predicate_d}
 use Rattle.query_round.proofs.DeriveGroups.{group_d}
+use Rattle.semantics.specs.declared.token.Word.TheVariants as w
 
 aliased_d : (e : ExpressionForm) (n : Option (List ℕ)) (r : List Token) → GoodExpression e 64
     → IsItem standard (expression_onto e (alias_onto n r)) record { expression = e; alias = n } r
@@ -17,13 +18,13 @@ aliased_d e (Some n) r g = IsItem.named (expression_d e 64 _ g)
 item_d : (i : ItemForm) (r : List Token) → GoodItem i → IsItem standard (item_onto i r) i r
 item_d i r g = aliased_d i.expression i.alias r g.0
 
-where_d : (p : Option PredicateForm) (r : List Token) → Within (λ p. Good p 64) p → IsWhere standard (where_onto p r) p r
-where_d None r g = IsWhere.none
-where_d (Some p) r g = IsWhere.condition (predicate_d p 64 r g)
+where_d : (p : Option PredicateForm) (r : List Token) → Within (λ p. Good p 64) p → IsClause w.Where standard (where_onto p r) p r
+where_d None r g = IsClause.none
+where_d (Some p) r g = IsClause.condition (predicate_d p 64 r g)
 
-set_quantifier_d : (d : Bool) (r : List Token) → IsSetQuantifier (distinct_onto d r) d r
-set_quantifier_d true r = IsSetQuantifier.distinct
-set_quantifier_d false r = IsSetQuantifier.none
+set_quantifier_d : (d : Bool) (r : List Token) → IsOptional w.Distinct (distinct_onto d r) d r
+set_quantifier_d true r = IsOptional.written
+set_quantifier_d false r = IsOptional.none
 
 group_by_d : (d : Bool) (gs : List ElementForm) (r : List Token) → GoodGroupBy d gs → IsGroupBy standard (group_by_onto d gs r) d gs r
 group_by_d true [] r g = absurd g
@@ -31,9 +32,9 @@ group_by_d false [] r g = IsGroupBy.none
 group_by_d d (x ∷ gs) r g =
     IsGroupBy.groups (set_quantifier_d d (commas_onto (map group_onto (x ∷ gs)) r)) (group_d x 16 _ g.0) (commas_derive (IsGroup 16) group_onto GoodElement (λ y. group_d y 16) gs r g.1)
 
-having_d : (p : Option PredicateForm) (r : List Token) → Within (λ p. Good p 64) p → IsHaving standard (having_onto p r) p r
-having_d None r g = IsHaving.none
-having_d (Some p) r g = IsHaving.condition (predicate_d p 64 r g)
+having_d : (p : Option PredicateForm) (r : List Token) → Within (λ p. Good p 64) p → IsClause w.Having standard (having_onto p r) p r
+having_d None r g = IsClause.none
+having_d (Some p) r g = IsClause.condition (predicate_d p 64 r g)
 
 direction_d : (d : Bool) (r : List Token) → IsDirection (direction_onto d r) d r
 direction_d true r = IsDirection.descending

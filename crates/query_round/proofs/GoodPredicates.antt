@@ -11,7 +11,7 @@ use Rattle.semantics.specs.declared.literal.Literal.{Literal}
 use Rattle.semantics.specs.declared.aggregate.Aggregate.{Aggregate}
 use Rattle.semantics.specs.Syntax.{ExpressionForm, FunctionForm, OperandForm, PredicateForm, or_of, and_of, not_of, truth_test, predicate_forms}
 use Rattle.semantics.specs.Canonical.{tightness}
-use Rattle.semantics.specs.Leaves.{standard, Derivation, IsRepeated, IsName, IsAggregate, IsLiteral, IsOp, IsTruthValue, IsMark}
+use Rattle.semantics.specs.Leaves.{standard, Derivation, IsRepeated, IsName, IsAggregate, IsLiteral, IsOp, IsTruthValue, IsOptional}
 use Rattle.semantics.specs.Productions.{IsFunction, IsExpression, IsOperand, IsAtom, IsPrimary, IsTest, IsNegation, IsConjunction, IsDisjunction, IsPredicate, conjunction_of, disjunction_of}
 use Rattle.query_round.proofs.Good.{Each, GoodName, GoodAggregate, GoodFunction, GoodExpression, GoodLiteral, GoodOperand, IsMany, Deeper, Fits, Good, PartsFit, deeper_good}
 use Rattle.query_round.proofs.Sane.{AllSane}
@@ -63,9 +63,9 @@ truth_leaves IsTruthValue.yes h = h.1
 truth_leaves IsTruthValue.no h = h.1
 truth_leaves IsTruthValue.unknown h = h.1
 
-mark_leaves : {ts r : List Token} {n : Bool} → IsMark ts n r → AllSane ts → AllSane r
-mark_leaves IsMark.none h = h
-mark_leaves IsMark.not h = h.1
+mark_leaves : {ts r : List Token} {n : Bool} → IsOptional w.Not ts n r → AllSane ts → AllSane r
+mark_leaves IsOptional.none h = h
+mark_leaves IsOptional.written h = h.1
 
 -- ---- a predicate that holds together at least so tightly
 

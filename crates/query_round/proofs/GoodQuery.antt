@@ -5,9 +5,9 @@ use Rattle.semantics.specs.declared.token.Token.TheVariants as tokens
 use Rattle.semantics.specs.declared.token.Word.TheVariants as w
 use Rattle.semantics.specs.declared.token.Sign.TheVariants as s
 use Rattle.semantics.specs.Syntax.{ExpressionForm, PredicateForm, ElementForm, ItemForm, KeyForm, TreeForm}
-use Rattle.semantics.specs.Leaves.{standard}
+use Rattle.semantics.specs.Leaves.{standard, IsOptional}
 use Rattle.semantics.specs.Productions.{IsExpression, IsPredicate}
-use Rattle.semantics.specs.Grammar.{IsItem, IsWhere, IsGroup, IsGroupBy, IsHaving, IsDirection, IsNullOrdering, IsKey, IsOrderBy, IsQuery, IsSetQuantifier}
+use Rattle.semantics.specs.Grammar.{IsItem, IsGroup, IsGroupBy, IsDirection, IsNullOrdering, IsKey, IsOrderBy, IsQuery, IsClause}
 use Rattle.query_round.proofs.Good.{Each, Within, GoodExpression, Good, GoodItem, GoodElement, GoodKey, GoodTree, GoodGroupBy}
 use Rattle.query_round.proofs.GoodPredicates.{Leaves, repeated_leaves, expression_leaves, predicate_leaves}
 use Rattle.query_round.proofs.GoodGroups.{group_leaves}
@@ -21,13 +21,13 @@ item_leaves : Leaves ItemForm (IsItem standard) GoodItem
 item_leaves ts r _ (IsItem.plain {e} d) h = let g = item_expression_leaves ts r e d h in ((g.0, tt), g.1)
 item_leaves ts r _ (IsItem.named {e} {n} d) h = let g = item_expression_leaves ts (tokens.Word w.As ∷ tokens.Name n ∷ r) e d h in ((g.0, g.1.1.0), g.1.1.1)
 
-where_leaves : Leaves (Option PredicateForm) (IsWhere standard) (Within (λ p. Good p 64))
-where_leaves _ _ _ IsWhere.none h = (tt, h)
-where_leaves _ r _ (IsWhere.condition {ts} {p} d) h = predicate_leaves 65 ts r p d h.1
+where_leaves : Leaves (Option PredicateForm) (IsClause w.Where standard) (Within (λ p. Good p 64))
+where_leaves _ _ _ IsClause.none h = (tt, h)
+where_leaves _ r _ (IsClause.condition {ts} {p} d) h = predicate_leaves 65 ts r p d h.1
 
-set_quantifier_leaves : {ts r : List Token} {d : Bool} → IsSetQuantifier ts d r → AllSane ts → AllSane r
-set_quantifier_leaves IsSetQuantifier.none h = h
-set_quantifier_leaves IsSetQuantifier.distinct h = h.1
+set_quantifier_leaves : {ts r : List Token} {d : Bool} → IsOptional w.Distinct ts d r → AllSane ts → AllSane r
+set_quantifier_leaves IsOptional.none h = h
+set_quantifier_leaves IsOptional.written h = h.1
 
 group_by_leaves : {ts r : List Token} {d : Bool} {gs : List ElementForm} → IsGroupBy standard ts d gs r → AllSane ts → GoodGroupBy d gs × AllSane r
 group_by_leaves IsGroupBy.none h = (tt, h)
@@ -36,9 +36,9 @@ group_by_leaves (IsGroupBy.groups {us} {mid} {g = x} quantifier front tail) h =
     let others = repeated_leaves ElementForm (tokens.Sign s.Comma) (IsGroup 16) GoodElement (group_leaves 16) tail first.1 in
     ((first.0, others.0), others.1)
 
-having_leaves : Leaves (Option PredicateForm) (IsHaving standard) (Within (λ p. Good p 64))
-having_leaves _ _ _ IsHaving.none h = (tt, h)
-having_leaves _ r _ (IsHaving.condition {ts} {p} d) h = predicate_leaves 65 ts r p d h.1
+having_leaves : Leaves (Option PredicateForm) (IsClause w.Having standard) (Within (λ p. Good p 64))
+having_leaves _ _ _ IsClause.none h = (tt, h)
+having_leaves _ r _ (IsClause.condition {ts} {p} d) h = predicate_leaves 65 ts r p d h.1
 
 direction_leaves : {ts r : List Token} {d : Bool} → IsDirection ts d r → AllSane ts → AllSane r
 direction_leaves IsDirection.none h = h

@@ -3,11 +3,12 @@ use Rattle.std.specs.Prelude.{ℕ, List}
 use Rattle.semantics.specs.declared.token.Token.{Token}
 use Rattle.semantics.specs.Tokens.{Spells}
 use Rattle.semantics.specs.Syntax.{TreeForm}
-use Rattle.semantics.specs.Grammar.{Derives}
+use Rattle.semantics.specs.Leaves.{standard}
+use Rattle.semantics.specs.Grammar.{DerivesWithin}
 
 -- A text is one of a query where it spells tokens that derive the query within the limits.
 pub record IsTextOf (text : List ℕ) (q : TreeForm) : Type 0 where
   pub tokens : List Token
   pub starts : List ℕ
   pub spelled : Spells text tokens starts
-  pub derived : Derives tokens q
+  pub derived : DerivesWithin standard tokens q

@@ -3,7 +3,8 @@
 ghost use Rattle.std.specs.Prelude.{◌≡◌, map, true};
 ghost use Rattle.std.specs.List.{list_all};
 ghost use Rattle.values.specs.Datum.{data_of, datum_of};
-ghost use Rattle.semantics.specs.Conditions.{all_of, any_of, between_truth, marked, member_truth, null_truth, value_truth};
+ghost use Rattle.semantics.specs.Values.{is_null};
+ghost use Rattle.semantics.specs.Conditions.{all_of, any_of, between_truth, known, marked, member_truth, value_truth};
 ghost use Rattle.query_truth.specs.Meaning.{comparable, condition_truth, is_safe, is_there, is_truth_value, source_value};
 
 use values::{Op, Truth, Value, compare};
@@ -111,7 +112,7 @@ pub fn marked(not: bool, truth: Truth) -> Truth
 ///
 /// Example: `null_truth(&Value::Null)` is True, and `null_truth(&Value::Int(0))` is False.
 pub fn null_truth(value: &Value) -> Truth
-    ensures { result ≡ null_truth (datum_of value.now) }
+    ensures { result ≡ known (is_null (datum_of value.now)) }
 {
     Truth::from(matches!(value, Value::Null))
 }

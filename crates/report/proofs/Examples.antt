@@ -14,7 +14,8 @@ use Rattle.semantics.specs.declared.literal.Literal.TheVariants as constant
 use Rattle.semantics.specs.Syntax.{KeyForm, PredicateForm, TreeForm, name, grouping, function, over_all, rollup, expression, literal, or_of, not_of, compare, null_test, no_parts, part}
 use Rattle.semantics.specs.Aggregates.{Summary, plain, ratio}
 use Rattle.semantics.specs.Found.{Found}
-use Rattle.semantics.specs.Rows.{having_truth, rows_having_true, number_of_digits}
+use Rattle.semantics.specs.Conditions.{truth}
+use Rattle.semantics.specs.Rows.{number_of_digits, row_value, rows_having_true}
 use Rattle.rows.specs.Inside.Fronts.{behind_of, front_of, with_digits}
 use Rattle.semantics.specs.Order.{arranged, under_key, rows_shown}
 use Rattle.report.specs.Report.{refusals_of, report_of}
@@ -142,7 +143,7 @@ rows-of-a-text : rows_having_true fields (query_having r_is_n) found ≡ group 0
 rows-of-a-text = refl
 
 -- a column that is not in the set of the row is NULL, so a comparison with it is unknown, and NOT is True of no such row
-unknown-where-rolled-up : having_truth fields (query_having r_is_n) (group 1 (text (codes "y") ∷ []) 1) ≡ Unknown
+unknown-where-rolled-up : truth (row_value fields (query_having r_is_n) (group 1 (text (codes "y") ∷ []) 1)) r_is_n ≡ Unknown
 unknown-where-rolled-up = refl
 
 no-row-of-what-is-not-so : rows_having_true fields (query_having (not_of r_is_n)) found ≡ []

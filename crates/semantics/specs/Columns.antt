@@ -1,9 +1,9 @@
 -- The columns that a schema text names: parts `name:type` between commas.
-use Rattle.std.specs.Char.{is_ascii_alphabetic, is_ascii_alphanumeric}
-use Rattle.std.specs.List.{after_first, before_first, enumerate_from, filter_map, list_all, list_any, slice_split}
+use Rattle.std.specs.List.{after_first, before_first, enumerate_from, filter_map, list_any, slice_split}
 use Rattle.std.specs.Option.{is_none}
-use Rattle.std.specs.Prelude.{◌==◌, ℕ, ◌+◌, nat_lt, Bool, false, not, ◌&&◌, ◌||◌, List, [], ◌∷◌, length, take, map, Option, Some, None, option_map, Result, Ok, Err, codes, if◌then◌else◌}
+use Rattle.std.specs.Prelude.{◌==◌, ℕ, ◌+◌, nat_lt, not, List, [], ◌∷◌, length, take, map, Option, Some, None, option_map, Result, Ok, Err, codes, if◌then◌else◌}
 use Rattle.std.specs.Str.{bytes_eq}
+use Rattle.semantics.specs.Words.{is_word}
 use Rattle.semantics.specs.declared.kind.Kind.{Kind}
 use Rattle.semantics.specs.declared.schema_fault.SchemaFault.{SchemaFault}
 use Rattle.semantics.specs.declared.schema_fault.SchemaFault.TheVariants.{Empty, BadName, UnknownType, RepeatedName, TooManyColumns}
@@ -18,20 +18,7 @@ pub record Field : Type 0 where
 abbrev pub names_of : List Field → List (List ℕ)
 names_of fields = map (λ f. f.name) fields
 
--- ---- names and types
-
--- An ASCII letter or `_`.
-abbrev pub begins_name : ℕ → Bool
-begins_name c = is_ascii_alphabetic c || c == 95
-
--- An ASCII letter or digit, or `_`.
-abbrev pub continues_name : ℕ → Bool
-continues_name c = is_ascii_alphanumeric c || c == 95
-
--- A name is one or more ASCII letters, digits and `_`, not beginning with a digit.
-abbrev pub is_name : List ℕ → Bool
-is_name [] = false
-is_name (c ∷ cs) = begins_name c && list_all continues_name cs
+-- ---- parts
 
 -- The type that a text names, where it names one.
 abbrev pub kind_named : List ℕ → Option Kind
@@ -40,8 +27,6 @@ kind_named text =
     else if bytes_eq text (codes "text") then Some kind.Text
     else if bytes_eq text (codes "bool") then Some kind.Bool
     else None
-
--- ---- parts
 
 -- What stands between the commas of a text.
 abbrev pub parts : List ℕ → List (List ℕ)
@@ -59,12 +44,13 @@ kind_of part = kind_named (after_first (λ c. c == 58) part)
 abbrev pub column_of : List ℕ → Option Field
 column_of part = option_map (λ k. record { name = name_of part; kind = k }) (kind_of part)
 
--- The fault of a part behind parts of these names: the first of these four that it has.
+-- The fault of a part behind parts of these names: the first of these four that it has. The name of
+-- a column is a word, reserved ones among them.
 abbrev pub fault_of : List (List ℕ) → List ℕ → Option SchemaFault
 fault_of names part =
     let number = length names + 1 in
     if nat_lt 32 number then Some TooManyColumns
-    else if not (is_name (name_of part)) then Some (BadName number)
+    else if not (is_word (name_of part)) then Some (BadName number)
     else if is_none (kind_of part) then Some (UnknownType number)
     else if list_any (bytes_eq (name_of part)) names then Some (RepeatedName number)
     else None

@@ -42,15 +42,11 @@ number_option name values =
 abbrev pub flag : Text → Rule
 flag name = record (new_rule name) { long = Some name; action = Some SetTrue }
 
--- A command that has a version, which `--version` and `-V` ask for.
-abbrev pub with_version : App → App
-with_version app = record app { top = record app.top { has_version = true } }
-
 -- `jlreport --columns <SPEC> --query <TEXT> [--workers <N>] [--piece <BYTES>] [--max-refused <N>]
 -- [--explain] <FILE>`, with 4 workers and pieces of 1,048,576 bytes where they are not given;
 -- `--help` and `--version` ask for a text instead.
 abbrev pub command : App
-command = fold with_rule (with_version (new_app (codes "jlreport"))) (
+command = fold with_rule (record (new_app (codes "jlreport")) { top = record (new_app (codes "jlreport")).top { has_version = true } }) (
     required_option (codes "columns") ∷ required_option (codes "query")
     ∷ number_option (codes "workers") (codes "4" ∷ []) ∷ number_option (codes "piece") (codes "1048576" ∷ [])
     ∷ number_option (codes "max-refused") [] ∷ flag (codes "explain") ∷ required_word (codes "file") ∷ [])

@@ -15,7 +15,7 @@ use Rattle.semantics.specs.declared.literal.Literal.TheVariants as constant
 
 -- ---- truth values
 
--- A test that is not unknown.
+-- A test that is never unknown, as p IS TRUE and x IS NULL (<boolean test>, <null predicate>).
 abbrev pub known : Bool → Truth
 known b = if b then True else False
 
@@ -39,15 +39,7 @@ same_truth Unknown Unknown = true
 same_truth False False = true
 same_truth t u = false
 
--- p IS t: never unknown (<boolean test>)
-abbrev pub test_truth : Truth → Truth → Truth
-test_truth p t = known (same_truth p t)
-
 -- ---- atoms
-
--- x IS NULL: never unknown (<null predicate>).
-abbrev pub null_truth : Datum → Truth
-null_truth x = known (is_null x)
 
 -- x BETWEEN y AND z is x >= y AND x <= z (<between predicate>).
 abbrev pub between_truth : Datum → Datum → Datum → Truth
@@ -85,11 +77,11 @@ abbrev mutual
   truth v (or_of ps) = any_of (truths v ps)
   truth v (and_of ps) = all_of (truths v ps)
   truth v (not_of p) = negation (truth v p)
-  truth v (truth_test p n t) = marked n (test_truth (truth v p) t)
+  truth v (truth_test p n t) = marked n (known (same_truth (truth v p) t))
   truth v (compare x o y) = comparison o (operand_value v x) (operand_value v y)
   truth v (between x n y z) = marked n (between_truth (operand_value v x) (operand_value v y) (operand_value v z))
   truth v (member x n ls) = marked n (member_truth (operand_value v x) (map literal_value ls))
-  truth v (null_test x n) = marked n (null_truth (operand_value v x))
+  truth v (null_test x n) = marked n (known (is_null (operand_value v x)))
   truth v (column n) = value_truth (v (name n))
 
   -- Those of the parts of an OR or an AND.

@@ -28,12 +28,7 @@ pub record IsAnswerable (columns query : List ℕ) : Type 0 where
   pub derived : Derives query form
   pub faultless : query_faults fields form ≡ []
 
--- The known bytes grew by the explanation of the query that one text derives, under the columns
--- that another says.
+-- They are good, and the known bytes grew by the explanation of the query.
 pub record Explains (columns query : List ℕ) (old new : Option (List ℕ)) : Type 0 where
-  pub fields : List Field
-  pub form : TreeForm
-  pub schema : schema_of columns ≡ Ok fields
-  pub derived : Derives query form
-  pub faultless : query_faults fields form ≡ []
-  pub written : Appends old new (explanation fields form)
+  pub answerable : IsAnswerable columns query
+  pub written : Appends old new (explanation answerable.fields answerable.form)

@@ -7,10 +7,10 @@ use Rattle.std.specs.Prelude.{ℕ, nat_le, Bool, true, false, not, ◌&&◌, Opt
 use Rattle.std.specs.Str.{bytes_eq}
 use Rattle.semantics.specs.Canonical.{header_text}
 use Rattle.semantics.specs.Columns.{Field}
-use Rattle.semantics.specs.Names.{column_kind, place_of, aggregate_of}
+use Rattle.semantics.specs.Names.{column_kind, place_of, aggregate_of, filter_of}
 use Rattle.semantics.specs.SetFunctions.{functions_of}
 use Rattle.semantics.specs.Sets.{expanded, grouping_names}
-use Rattle.semantics.specs.Syntax.{ExpressionForm, FunctionForm, OperandForm, PredicateForm, PredicateForms, TreeForm, name, grouping, function, over_all, over_filtered, expression, literal, or_of, and_of, not_of, truth_test, compare, between, member, null_test, column, no_parts, part}
+use Rattle.semantics.specs.Syntax.{ExpressionForm, FunctionForm, OperandForm, PredicateForm, TreeForm, name, grouping, function, expression, literal, operands_of_atoms}
 use Rattle.semantics.specs.Types.{is_average, key_expression, operand_kind}
 use Rattle.semantics.specs.declared.aggregate.Aggregate.{Aggregate}
 use Rattle.semantics.specs.declared.kind.Kind.{Kind}
@@ -18,7 +18,6 @@ use Rattle.semantics.specs.declared.query_fault.QueryFault.{QueryFault}
 use Rattle.semantics.specs.declared.query_fault.QueryFault.TheVariants.{UnknownColumn, TypesDisagree, NotGrouped, OverLimit, FunctionNotAllowed, RepeatedHeader}
 use Rattle.semantics.specs.declared.kind.Kind.TheVariants as kind
 use Rattle.semantics.specs.declared.aggregate.Aggregate.TheVariants as aggregate
-use Rattle.semantics.specs.declared.literal.Literal.TheVariants as constant
 
 -- This fault, unless the test holds.
 abbrev pub unless : Bool → QueryFault → List QueryFault
@@ -60,40 +59,17 @@ argument_of (aggregate.Min x) = (x, kind.Int ∷ kind.Text ∷ []) ∷ []
 argument_of (aggregate.Max x) = (x, kind.Int ∷ kind.Text ∷ []) ∷ []
 argument_of (aggregate.Avg x) = (x, kind.Int ∷ []) ∷ []
 
--- The type of the column of this name is one of these.
-abbrev pub has_type_among : List Field → List Kind → List ℕ → Bool
-has_type_among fields kinds n =
-    option_map_or (λ k. list_any (same_kind k) kinds) (column_kind fields n) false
-
 -- No column has this name, or its type is none of these.
 abbrev pub typed_column_faults : List Field → List ℕ × List Kind → List QueryFault
 typed_column_faults fields (n, kinds) =
-    column_faults fields n ++ unless (has_type_among fields kinds n) TypesDisagree
+    column_faults fields n
+    ++ unless (option_map_or (λ k. list_any (same_kind k) kinds) (column_kind fields n) false) TypesDisagree
 
 -- The faults of the argument of a set function.
 abbrev pub argument_faults : List Field → Aggregate → List QueryFault
 argument_faults fields a = flat_map (typed_column_faults fields) (argument_of a)
 
 -- ---- predicates
-
-abbrev mutual
-  -- The operands of each atom of a predicate, from left to right. The atoms are comparisons,
-  -- BETWEEN, IN, IS NULL, and names that stand alone; such a name stands beside TRUE.
-  pub operands_of_atoms : PredicateForm → List (List OperandForm)
-  operands_of_atoms (or_of ps) = operands_of_parts ps
-  operands_of_atoms (and_of ps) = operands_of_parts ps
-  operands_of_atoms (not_of p) = operands_of_atoms p
-  operands_of_atoms (truth_test p n t) = operands_of_atoms p
-  operands_of_atoms (compare x o y) = (x ∷ y ∷ []) ∷ []
-  operands_of_atoms (between x n y z) = (x ∷ y ∷ z ∷ []) ∷ []
-  operands_of_atoms (member x n ls) = (x ∷ map literal ls) ∷ []
-  operands_of_atoms (null_test x n) = (x ∷ []) ∷ []
-  operands_of_atoms (column n) = (expression (name n) ∷ literal (constant.Truth true) ∷ []) ∷ []
-
-  -- Those of the parts of an OR or an AND.
-  pub operands_of_parts : PredicateForms → List (List OperandForm)
-  operands_of_parts no_parts = []
-  operands_of_parts (part p ps) = operands_of_atoms p ++ operands_of_parts ps
 
 -- The faults of an operand, given those of each expression. A literal has none.
 abbrev pub operand_faults : (ExpressionForm → List QueryFault) → OperandForm → List QueryFault
@@ -114,6 +90,12 @@ abbrev pub predicate_faults : (ExpressionForm → List QueryFault) → List Fiel
 predicate_faults of_expression fields p =
     flat_map (atom_faults of_expression fields) (operands_of_atoms p)
 
+-- The faults of the predicate of a clause or a FILTER, where it is written.
+abbrev pub clause_faults : (ExpressionForm → List QueryFault) → List Field
+    → Option PredicateForm → List QueryFault
+clause_faults of_expression fields None = []
+clause_faults of_expression fields (Some p) = predicate_faults of_expression fields p
+
 -- ---- expressions
 
 -- The faults of an expression over one record, as in WHERE and in a FILTER: names are columns, and
@@ -123,17 +105,12 @@ record_faults fields (name n) = column_faults fields n
 record_faults fields (grouping ns) = FunctionNotAllowed ∷ []
 record_faults fields (function f) = FunctionNotAllowed ∷ []
 
--- The faults of the FILTER of a set function, where it has one.
-abbrev pub filter_faults : List Field → FunctionForm → List QueryFault
-filter_faults fields (over_all a) = []
-filter_faults fields (over_filtered a p) = predicate_faults (record_faults fields) fields p
-
 -- The faults of a set function: those of its argument, and then those of its FILTER; or that it is
 -- AVG, where the test says that AVG may not stand.
 abbrev pub function_faults : Bool → List Field → FunctionForm → List QueryFault
 function_faults may_average fields f =
     if is_average (aggregate_of f) && not may_average then FunctionNotAllowed ∷ []
-    else argument_faults fields (aggregate_of f) ++ filter_faults fields f
+    else argument_faults fields (aggregate_of f) ++ clause_faults (record_faults fields) fields (filter_of f)
 
 -- The faults of an expression over a group, as in SELECT, HAVING and ORDER BY: names outside of set
 -- functions are among those in GROUP BY, which are given. The test says whether AVG may stand.
@@ -143,12 +120,6 @@ group_faults may_average fields groups (grouping ns) = flat_map (grouped_faults 
 group_faults may_average fields groups (function f) = function_faults may_average fields f
 
 -- ---- the query
-
--- The faults of the predicate of a clause, where it is written.
-abbrev pub clause_faults : (ExpressionForm → List QueryFault) → List Field
-    → Option PredicateForm → List QueryFault
-clause_faults of_expression fields None = []
-clause_faults of_expression fields (Some p) = predicate_faults of_expression fields p
 
 -- Each header that an earlier item has.
 abbrev pub header_faults : List (List ℕ) → List QueryFault

@@ -1,10 +1,11 @@
 -- The grammar of queries within limits, with one case for each production, written as in Leaves
 -- (ISO/IEC 9075-2, <query specification>).
 use Rattle.std.specs.Prelude.{◌<◌, ℕ, zero, suc, Bool, true, false, Option, Some, None, List, [], ◌∷◌, length, codes}
-use Rattle.semantics.specs.Leaves.{Limits, standard, Derivation, IsRepeated, IsName}
+use Rattle.semantics.specs.Leaves.{Limits, Derivation, IsRepeated, IsName, IsOptional}
 use Rattle.semantics.specs.Productions.{IsExpression, IsPredicate}
 use Rattle.semantics.specs.Syntax.{ExpressionForm, PredicateForm, ElementForm, ItemForm, KeyForm, TreeForm, element_forms}
 use Rattle.semantics.specs.declared.token.Token.{Token}
+use Rattle.semantics.specs.declared.token.Word.{Word}
 use Rattle.semantics.specs.declared.token.Token.TheVariants as tokens
 use Rattle.semantics.specs.declared.token.Word.TheVariants as w
 use Rattle.semantics.specs.declared.token.Sign.TheVariants as s
@@ -14,10 +15,10 @@ pub data IsItem (limits : Limits) : List Token → ItemForm → List Token → T
   plain : {ts r : List Token} {e : ExpressionForm} → IsExpression limits (IsPredicate limits limits.levels) ts e r → IsItem limits ts record { expression = e; alias = None } r
   named : {ts r : List Token} {e : ExpressionForm} {n : List ℕ} → IsExpression limits (IsPredicate limits limits.levels) ts e (tokens.Word w.As ∷ tokens.Name n ∷ r) → IsItem limits ts record { expression = e; alias = Some n } r
 
--- [ WHERE pred ], with at most `levels` levels of brackets
-pub data IsWhere (limits : Limits) : List Token → Option PredicateForm → List Token → Type 0 where
-  none : {r : List Token} → IsWhere limits r None r
-  condition : {ts r : List Token} {p : PredicateForm} → IsPredicate limits (suc limits.levels) ts p r → IsWhere limits (tokens.Word w.Where ∷ ts) (Some p) r
+-- [ keyword pred ], as WHERE and HAVING are, with at most `levels` levels of brackets
+pub data IsClause (keyword : Word) (limits : Limits) : List Token → Option PredicateForm → List Token → Type 0 where
+  none : {r : List Token} → IsClause keyword limits r None r
+  condition : {ts r : List Token} {p : PredicateForm} → IsPredicate limits (suc limits.levels) ts p r → IsClause keyword limits (tokens.Word keyword ∷ ts) (Some p) r
 
 -- unit = name | "(" name { "," name } ")"
 pub data IsUnit : List Token → List (List ℕ) → List Token → Type 0 where
@@ -48,22 +49,12 @@ unfoldable pub IsGroup : ℕ → List Token → ElementForm → List Token → T
 IsGroup zero ts g r = IsElement (λ ts g r. ⊥) ts g r
 IsGroup (suc n) ts g r = IsElement (IsGroup n) ts g r
 
--- [ DISTINCT ], and whether it is written
-pub data IsSetQuantifier : List Token → Bool → List Token → Type 0 where
-  none : {r : List Token} → IsSetQuantifier r false r
-  distinct : {r : List Token} → IsSetQuantifier (tokens.Word w.Distinct ∷ r) true r
-
 -- [ GROUP BY [ DISTINCT ] group { "," group } ], whether DISTINCT is written, and the elements, with at most `sets` levels
 -- of GROUPING SETS in one another
 pub data IsGroupBy (limits : Limits) : List Token → Bool → List ElementForm → List Token → Type 0 where
   none : {r : List Token} → IsGroupBy limits r false [] r
-  groups : {ts us mid r : List Token} {d : Bool} {g : ElementForm} {gs : List ElementForm} → IsSetQuantifier ts d us → IsGroup limits.sets us g mid → IsRepeated (tokens.Sign s.Comma) (IsGroup limits.sets) mid gs r
+  groups : {ts us mid r : List Token} {d : Bool} {g : ElementForm} {gs : List ElementForm} → IsOptional w.Distinct ts d us → IsGroup limits.sets us g mid → IsRepeated (tokens.Sign s.Comma) (IsGroup limits.sets) mid gs r
       → IsGroupBy limits (tokens.Word w.Group ∷ tokens.Word w.By ∷ ts) d (g ∷ gs) r
-
--- [ HAVING pred ], with at most `levels` levels of brackets
-pub data IsHaving (limits : Limits) : List Token → Option PredicateForm → List Token → Type 0 where
-  none : {r : List Token} → IsHaving limits r None r
-  condition : {ts r : List Token} {p : PredicateForm} → IsPredicate limits (suc limits.levels) ts p r → IsHaving limits (tokens.Word w.Having ∷ ts) (Some p) r
 
 -- [ ASC | DESC ], and whether it is DESC
 pub data IsDirection : List Token → Bool → List Token → Type 0 where
@@ -94,13 +85,9 @@ pub data IsOrderBy (limits : Limits) : List Token → List KeyForm → List Toke
 pub data IsQuery (limits : Limits) : List Token → TreeForm → List Token → Type 0 where
   query : {ts mid after_from after_where after_groups after_having r : List Token} {i : ItemForm} {is : List ItemForm} {p h : Option PredicateForm} {d : Bool} {gs : List ElementForm} {ks : List KeyForm}
       → IsItem limits ts i mid → IsRepeated (tokens.Sign s.Comma) (IsItem limits) mid is (tokens.Word w.From ∷ tokens.Name (codes "lines") ∷ after_from) → length is < limits.items
-      → IsWhere limits after_from p after_where → IsGroupBy limits after_where d gs after_groups → IsHaving limits after_groups h after_having → IsOrderBy limits after_having ks r
+      → IsClause w.Where limits after_from p after_where → IsGroupBy limits after_where d gs after_groups → IsClause w.Having limits after_groups h after_having → IsOrderBy limits after_having ks r
       → IsQuery limits (tokens.Word w.Select ∷ ts) record { items = i ∷ is; where_condition = p; distinct_sets = d; groups = gs; having_condition = h; keys = ks } r
 
 -- All of the tokens derive the query, within these limits.
 abbrev pub DerivesWithin : Limits → List Token → TreeForm → Type 0
 DerivesWithin limits ts q = IsQuery limits ts q []
-
--- All of the tokens derive the query, within the limits of the language.
-abbrev pub Derives : List Token → TreeForm → Type 0
-Derives ts q = DerivesWithin standard ts q

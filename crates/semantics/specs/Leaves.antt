@@ -9,6 +9,7 @@ use Rattle.semantics.specs.declared.aggregate.Aggregate.{Aggregate}
 use Rattle.semantics.specs.declared.comparison.Op.{Op}
 use Rattle.semantics.specs.declared.literal.Literal.{Literal}
 use Rattle.semantics.specs.declared.token.Token.{Token}
+use Rattle.semantics.specs.declared.token.Word.{Word}
 use Rattle.semantics.specs.declared.truth.Truth.{Truth}
 use Rattle.semantics.specs.declared.comparison.Op.TheVariants as op
 use Rattle.semantics.specs.declared.truth.Truth.TheVariants as truth
@@ -78,7 +79,7 @@ pub data IsTruthValue : List Token → Truth → List Token → Type 0 where
   no : {r : List Token} → IsTruthValue (tokens.Word w.False ∷ r) truth.False r
   unknown : {r : List Token} → IsTruthValue (tokens.Word w.Unknown ∷ r) truth.Unknown r
 
--- [ NOT ], and whether it is written
-pub data IsMark : List Token → Bool → List Token → Type 0 where
-  none : {r : List Token} → IsMark r false r
-  not : {r : List Token} → IsMark (tokens.Word w.Not ∷ r) true r
+-- [ keyword ], and whether it is written
+pub data IsOptional (keyword : Word) : List Token → Bool → List Token → Type 0 where
+  none : {r : List Token} → IsOptional keyword r false r
+  written : {r : List Token} → IsOptional keyword (tokens.Word keyword ∷ r) true r

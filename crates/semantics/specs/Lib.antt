@@ -1,10 +1,10 @@
 pub mod Truth
 pub mod Values
+pub mod Words
 pub mod Columns
 pub mod Lines
 pub mod Records
 pub mod Syntax
-pub mod Words
 pub mod Tokens
 pub mod Leaves
 pub mod Productions

@@ -4,7 +4,7 @@ use Rattle.std.specs.Option.{option_map, option_and_then}
 use Rattle.std.specs.Prelude.{ℕ, Bool, not, Option, List, [], ◌∷◌, ◌++◌, filter, position, slice_get, Some, None}
 use Rattle.std.specs.Str.{bytes_eq}
 use Rattle.semantics.specs.Columns.{Field, names_of}
-use Rattle.semantics.specs.Syntax.{ElementForm, ElementForms, set, rollup, cube, sets, no_groups, group, FunctionForm, PredicateForm, function, over_all, over_filtered}
+use Rattle.semantics.specs.Syntax.{ElementForm, ElementForms, set, rollup, cube, sets, no_groups, group, FunctionForm, PredicateForm, over_all, over_filtered}
 use Rattle.semantics.specs.declared.aggregate.Aggregate.{Aggregate}
 use Rattle.semantics.specs.declared.function.ColumnFunction.{ColumnFunction}
 use Rattle.semantics.specs.declared.kind.Kind.{Kind}

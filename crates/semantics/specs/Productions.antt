@@ -1,7 +1,7 @@
 -- The grammar of expressions and predicates within limits, with one case for each production,
 -- written as in Leaves (ISO/IEC 9075-2, <search condition>).
 use Rattle.std.specs.Prelude.{◌<◌, ℕ, zero, suc, Bool, List, [], ◌∷◌, length}
-use Rattle.semantics.specs.Leaves.{Limits, Derivation, IsRepeated, IsName, IsAggregate, IsLiteral, IsOp, IsTruthValue, IsMark}
+use Rattle.semantics.specs.Leaves.{Limits, Derivation, IsRepeated, IsName, IsAggregate, IsLiteral, IsOp, IsTruthValue, IsOptional}
 use Rattle.semantics.specs.Syntax.{ExpressionForm, FunctionForm, OperandForm, PredicateForm, over_all, over_filtered, or_of, and_of, not_of, truth_test, predicate_forms}
 use Rattle.semantics.specs.declared.aggregate.Aggregate.{Aggregate}
 use Rattle.semantics.specs.declared.comparison.Op.{Op}
@@ -41,9 +41,9 @@ pub data IsOperand (limits : Limits) (IsInner : Derivation PredicateForm) : List
 --      | name
 pub data IsAtom (limits : Limits) (IsInner : Derivation PredicateForm) : List Token → PredicateForm → List Token → Type 0 where
   compare : {ts u v r : List Token} {x y : OperandForm} {o : Op} → IsOperand limits IsInner ts x u → IsOp u o v → IsOperand limits IsInner v y r → IsAtom limits IsInner ts (PredicateForm.compare x o y) r
-  between : {ts u v mid r : List Token} {x y z : OperandForm} {n : Bool} → IsOperand limits IsInner ts x u → IsMark u n (tokens.Word w.Between ∷ v) → IsOperand limits IsInner v y (tokens.Word w.And ∷ mid) → IsOperand limits IsInner mid z r → IsAtom limits IsInner ts (PredicateForm.between x n y z) r
-  member : {ts u v mid r : List Token} {x : OperandForm} {n : Bool} {a : Literal} {ls : List Literal} → IsOperand limits IsInner ts x u → IsMark u n (tokens.Word w.In ∷ tokens.Sign s.Open ∷ v) → IsLiteral v a mid → IsRepeated (tokens.Sign s.Comma) IsLiteral mid ls (tokens.Sign s.Close ∷ r) → length ls < limits.literals → IsAtom limits IsInner ts (PredicateForm.member x n (a ∷ ls)) r
-  null_test : {ts u r : List Token} {x : OperandForm} {n : Bool} → IsOperand limits IsInner ts x (tokens.Word w.Is ∷ u) → IsMark u n (tokens.Word w.Null ∷ r) → IsAtom limits IsInner ts (PredicateForm.null_test x n) r
+  between : {ts u v mid r : List Token} {x y z : OperandForm} {n : Bool} → IsOperand limits IsInner ts x u → IsOptional w.Not u n (tokens.Word w.Between ∷ v) → IsOperand limits IsInner v y (tokens.Word w.And ∷ mid) → IsOperand limits IsInner mid z r → IsAtom limits IsInner ts (PredicateForm.between x n y z) r
+  member : {ts u v mid r : List Token} {x : OperandForm} {n : Bool} {a : Literal} {ls : List Literal} → IsOperand limits IsInner ts x u → IsOptional w.Not u n (tokens.Word w.In ∷ tokens.Sign s.Open ∷ v) → IsLiteral v a mid → IsRepeated (tokens.Sign s.Comma) IsLiteral mid ls (tokens.Sign s.Close ∷ r) → length ls < limits.literals → IsAtom limits IsInner ts (PredicateForm.member x n (a ∷ ls)) r
+  null_test : {ts u r : List Token} {x : OperandForm} {n : Bool} → IsOperand limits IsInner ts x (tokens.Word w.Is ∷ u) → IsOptional w.Not u n (tokens.Word w.Null ∷ r) → IsAtom limits IsInner ts (PredicateForm.null_test x n) r
   column : {n : List ℕ} {r : List Token} → IsAtom limits IsInner (tokens.Name n ∷ r) (PredicateForm.column n) r
 
 -- prim = "(" pred ")" | atom
@@ -54,7 +54,7 @@ pub data IsPrimary (limits : Limits) (IsInner : Derivation PredicateForm) : List
 -- test = prim [ IS [ NOT ] ( TRUE | FALSE | UNKNOWN ) ]
 pub data IsTest (limits : Limits) (IsInner : Derivation PredicateForm) : List Token → PredicateForm → List Token → Type 0 where
   plain : {ts r : List Token} {p : PredicateForm} → IsPrimary limits IsInner ts p r → IsTest limits IsInner ts p r
-  test : {ts u v r : List Token} {p : PredicateForm} {n : Bool} {t : Truth} → IsPrimary limits IsInner ts p (tokens.Word w.Is ∷ u) → IsMark u n v → IsTruthValue v t r → IsTest limits IsInner ts (truth_test p n t) r
+  test : {ts u v r : List Token} {p : PredicateForm} {n : Bool} {t : Truth} → IsPrimary limits IsInner ts p (tokens.Word w.Is ∷ u) → IsOptional w.Not u n v → IsTruthValue v t r → IsTest limits IsInner ts (truth_test p n t) r
 
 -- neg = [ NOT ] test
 pub data IsNegation (limits : Limits) (IsInner : Derivation PredicateForm) : List Token → PredicateForm → List Token → Type 0 where

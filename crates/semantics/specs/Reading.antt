@@ -1,6 +1,7 @@
 -- Which query a text derives, and what a fault says of a text.
 use Rattle.std.specs.Prelude.{◌≤◌, ℕ, List, length, ◌≡◌, ◌<◌, ◌⊎◌, Some, Result, MatchResult, [], ◌∷◌, ◌++◌, slice_get}
-use Rattle.semantics.specs.Grammar.{Derives as TokensDerive}
+use Rattle.semantics.specs.Grammar.{DerivesWithin}
+use Rattle.semantics.specs.Leaves.{standard}
 use Rattle.semantics.specs.Prefixes.{IsUnexpected, IsOverLimit}
 use Rattle.semantics.specs.Syntax.{TreeForm}
 use Rattle.semantics.specs.Tokens.{Spells, StopsAt}
@@ -15,7 +16,7 @@ pub record Derives (text : List ℕ) (q : TreeForm) : Type 0 where
   pub tokens : List Token
   pub starts : List ℕ
   pub spelled : Spells text tokens starts
-  pub derived : TokensDerive tokens q
+  pub derived : DerivesWithin standard tokens q
 
 -- A text spells tokens of which some, in front, begin a query that does not keep the limits.
 pub record SpellsTooMuch (text : List ℕ) : Type 0 where

@@ -12,7 +12,6 @@ use Rattle.semantics.specs.Names.{place_of}
 use Rattle.semantics.specs.SetFunctions.{place_among}
 use Rattle.semantics.specs.Syntax.{ExpressionForm, TreeForm, name, grouping, function}
 use Rattle.semantics.specs.Values.{Datum, whole, null}
-use Rattle.semantics.specs.declared.truth.Truth.{Truth}
 use Rattle.semantics.specs.declared.truth.Truth.TheVariants.{True}
 
 -- The value that a row of a grouping set shows for a column: the column's part of the key, and NULL
@@ -71,13 +70,10 @@ cell_value (ratio sum count) = null
 abbrev pub row_value : List Field → TreeForm → Found → Valuation
 row_value fields t row e = cell_value (expression_shown fields t (set_of fields t row) row.1.key row.1.cells e)
 
--- The truth value of HAVING for a row; it is True where HAVING is not written.
-abbrev pub having_truth : List Field → TreeForm → Found → Truth
-having_truth fields t row = option_map_or (truth (row_value fields t row)) t.having_condition True
-
--- Whether the predicate is True for a row, and not False or Unknown.
+-- Whether the predicate of HAVING is True for a row, and not False or Unknown; it is where HAVING is
+-- not written.
 abbrev pub is_having_true : List Field → TreeForm → Found → Bool
-is_having_true fields t row = same_truth (having_truth fields t row) True
+is_having_true fields t row = same_truth (option_map_or (truth (row_value fields t row)) t.having_condition True) True
 
 -- The rows for which it is True.
 abbrev pub rows_having_true : List Field → TreeForm → List Found → List Found

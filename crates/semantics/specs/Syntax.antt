@@ -1,10 +1,11 @@
 -- The syntax tree of a query (ISO/IEC 9075-2, <query specification>), apart from where its parts
 -- lie in memory. Names and texts are their bytes in UTF-8.
-use Rattle.std.specs.Prelude.{ℕ, Bool, Option, List, [], ◌∷◌}
+use Rattle.std.specs.Prelude.{ℕ, Bool, true, Option, List, [], ◌∷◌, ◌++◌, map}
 use Rattle.semantics.specs.declared.aggregate.Aggregate.{Aggregate}
 use Rattle.semantics.specs.declared.comparison.Op.{Op}
 use Rattle.semantics.specs.declared.literal.Literal.{Literal}
 use Rattle.semantics.specs.declared.truth.Truth.{Truth}
+use Rattle.semantics.specs.declared.literal.Literal.TheVariants as constant
 
 mutual
   -- An expression is a name, a GROUPING of names, or a set function.
@@ -84,3 +85,22 @@ predicate_forms (p ∷ ps) = part p (predicate_forms ps)
 abbrev pub element_forms : List ElementForm → ElementForms
 element_forms [] = no_groups
 element_forms (g ∷ gs) = group g (element_forms gs)
+
+abbrev mutual
+  -- The operands of each atom of a predicate, from left to right. The atoms are comparisons,
+  -- BETWEEN, IN, IS NULL, and names that stand alone; such a name stands beside TRUE.
+  pub operands_of_atoms : PredicateForm → List (List OperandForm)
+  operands_of_atoms (or_of ps) = operands_of_parts ps
+  operands_of_atoms (and_of ps) = operands_of_parts ps
+  operands_of_atoms (not_of p) = operands_of_atoms p
+  operands_of_atoms (truth_test p n t) = operands_of_atoms p
+  operands_of_atoms (compare x o y) = (x ∷ y ∷ []) ∷ []
+  operands_of_atoms (between x n y z) = (x ∷ y ∷ z ∷ []) ∷ []
+  operands_of_atoms (member x n ls) = (x ∷ map literal ls) ∷ []
+  operands_of_atoms (null_test x n) = (x ∷ []) ∷ []
+  operands_of_atoms (column n) = (expression (name n) ∷ literal (constant.Truth true) ∷ []) ∷ []
+
+  -- Those of the parts of an OR or an AND.
+  pub operands_of_parts : PredicateForms → List (List OperandForm)
+  operands_of_parts no_parts = []
+  operands_of_parts (part p ps) = operands_of_atoms p ++ operands_of_parts ps

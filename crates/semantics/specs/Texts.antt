@@ -31,14 +31,10 @@ abbrev pub cell_field : Summary → List ℕ
 cell_field (plain d) = value_field d
 cell_field (ratio sum count) = signed_decimal sum ++ codes "/" ++ decimal count
 
--- The rows of the fields of a report: the header of each item, and then each row.
-abbrev pub report_fields : List ItemForm → List (List Summary) → List (List (List ℕ))
-report_fields items rows = map header_text items ∷ map (map cell_field) rows
-
--- The bytes of a report: each row as CSV, with commas, line feeds, and quotes where they are
--- needed.
+-- The bytes of a report: the header of each item, and then each row, as CSV with commas, line
+-- feeds, and quotes where they are needed.
 abbrev pub report_bytes : List ItemForm → List (List Summary) → List ℕ
-report_bytes items rows = flat_map (row_text default_writer) (report_fields items rows)
+report_bytes items rows = flat_map (row_text default_writer) (map header_text items ∷ map (map cell_field) rows)
 
 -- ---- the refused lines
 

@@ -1,11 +1,11 @@
 -- The types of expressions (ISO/IEC 9075-2, <value expression>).
 use Rattle.std.specs.List.{find}
 use Rattle.std.specs.Option.{option_map_or}
-use Rattle.std.specs.Prelude.{ℕ, Bool, true, false, Option, Some, None, List}
+use Rattle.std.specs.Prelude.{Bool, true, false, Option, Some, None, List}
 use Rattle.std.specs.Str.{bytes_eq}
 use Rattle.semantics.specs.Columns.{Field}
-use Rattle.semantics.specs.Names.{column_kind}
-use Rattle.semantics.specs.Syntax.{ExpressionForm, OperandForm, ItemForm, name, grouping, function, over_all, over_filtered, expression, literal}
+use Rattle.semantics.specs.Names.{aggregate_of, column_kind}
+use Rattle.semantics.specs.Syntax.{ExpressionForm, OperandForm, ItemForm, name, grouping, function, expression, literal}
 use Rattle.semantics.specs.declared.aggregate.Aggregate.{Aggregate}
 use Rattle.semantics.specs.declared.kind.Kind.{Kind}
 use Rattle.semantics.specs.declared.literal.Literal.{Literal}
@@ -42,8 +42,7 @@ aggregate_kind fields (aggregate.Avg x) = None
 abbrev pub expression_kind : List Field → ExpressionForm → Option Kind
 expression_kind fields (name n) = column_kind fields n
 expression_kind fields (grouping ns) = Some kind.Int
-expression_kind fields (function (over_all a)) = aggregate_kind fields a
-expression_kind fields (function (over_filtered a p)) = aggregate_kind fields a
+expression_kind fields (function f) = aggregate_kind fields (aggregate_of f)
 
 -- The type of a literal.
 abbrev pub literal_kind : Literal → Kind
@@ -60,12 +59,8 @@ operand_kind fields (literal a) = Some (literal_kind a)
 
 -- ---- the query
 
--- The item whose alias is this name, where there is one.
-abbrev pub item_of_alias : List ItemForm → List ℕ → Option ItemForm
-item_of_alias items n = find (λ i. option_map_or (bytes_eq n) i.alias false) items
-
--- A key that is an alias stands for its item.
+-- A key that is the alias of an item stands for that item, the first one that has it.
 abbrev pub key_expression : List ItemForm → ExpressionForm → ExpressionForm
-key_expression items (name n) = option_map_or (λ i. i.expression) (item_of_alias items n) (name n)
+key_expression items (name n) = option_map_or (λ i. i.expression) (find (λ i. option_map_or (bytes_eq n) i.alias false) items) (name n)
 key_expression items (grouping ns) = grouping ns
 key_expression items (function f) = function f

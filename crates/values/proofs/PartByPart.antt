@@ -15,7 +15,8 @@ use Rattle.std.specs.Str.{bytes_eq}
 use Rattle.semantics.specs.declared.kind.Kind.{Kind}
 use Rattle.values.specs.declared.schema.Column.{Column}
 use Rattle.semantics.specs.declared.schema_fault.SchemaFault.{SchemaFault}
-use Rattle.semantics.specs.Columns.{Field, names_of, is_name, name_of, kind_of, column_of, fault_of, parts, unless_faulty, schema_of}
+use Rattle.semantics.specs.Columns.{Field, names_of, name_of, kind_of, column_of, fault_of, parts, unless_faulty, schema_of}
+use Rattle.semantics.specs.Words.{is_word}
 use Rattle.values.specs.Schema.{fields_of, IsSchema}
 
 -- a test of the names of columns
@@ -41,14 +42,14 @@ named_of part kind = record { name = name_of part; kind = kind }
 -- what a part without a fault is
 pub record IsFaultless (names : List (List ℕ)) (part : List ℕ) : Type 0 where
   few : nat_lt 32 (length names + 1) ≡ false
-  named : not (is_name (name_of part)) ≡ false
+  named : not (is_word (name_of part)) ≡ false
   column : (kind : Kind) × (column_of part ≡ Some (named_of part kind))
   new : list_any (bytes_eq (name_of part)) names ≡ false
 
 pub faultless : (names : List (List ℕ)) (part : List ℕ) → fault_of names part ≡ None → IsFaultless names part
 faultless names part h =
     let few = passed (nat_lt 32 (length names + 1)) _ _ h in
-    let named = passed (not (is_name (name_of part))) _ _ few.1 in
+    let named = passed (not (is_word (name_of part))) _ _ few.1 in
     let typed = passed (is_none (kind_of part)) _ _ named.1 in
     let new = passed (list_any (bytes_eq (name_of part)) names) _ _ typed.1 in
     let kind = some_from (kind_of part) typed.0 in
@@ -124,7 +125,7 @@ last_turn text before n some end so_far = sym (whole_text text some) ∙ sym so_
 -- some columns of a schema, from the first on
 record IsFront (fields : List Field) : Type 0 where
   few : length fields ≤ 32
-  names : All (λ f. IsTrue (is_name f.name)) fields
+  names : All (λ f. IsTrue (is_word f.name)) fields
   names_differ : AllPairs (λ f g. f.name ≢ g.name) fields
 
 -- a name that none of these has differs from each
@@ -148,7 +149,7 @@ grown before part field front none column =
     let long = length_push before field in
     record {
       few = let few = part_is.few in grind (arith, nat_tests);
-      names = All-push (λ (f : Field). IsTrue (is_name f.name)) before field front.names (subst (λ xs. IsTrue (is_name xs)) name (true_from (is_name (name_of part)) part_is.named));
+      names = All-push (λ (f : Field). IsTrue (is_word f.name)) before field front.names (subst (λ xs. IsTrue (is_word xs)) name (true_from (is_word (name_of part)) part_is.named));
       names_differ = all_pairs_push (λ (f : Field) (g : Field). f.name ≢ g.name) before field front.names_differ (λ k d l. subst (λ xs. (get_or before k d).name ≢ xs) name (differs (name_of part) before part_is.new k d l));
     }
 
@@ -173,7 +174,7 @@ pub IsSchema-from_text : (text : List ℕ) (fields : List Field) → schema_of t
 IsSchema-from_text [] fields h = let clash : ⊥ = cc in absurd clash
 IsSchema-from_text (c ∷ cs) fields h =
     let text = c ∷ cs in
-    let start : IsFront [] = record { few = omega arith; names = All-nil (λ (f : Field). IsTrue (is_name f.name)); names_differ = λ i j d l m. absurd (omega (arith, m)) } in
+    let start : IsFront [] = record { few = omega arith; names = All-nil (λ (f : Field). IsTrue (is_word f.name)); names_differ = λ i j d l m. absurd (omega (arith, m)) } in
     let all = front_of_all (parts text) [] fields start (whole_text text (omega arith) ∙ h) in
     let n = length-slice_split (λ x. x == 44) text in
     record { some = omega (arith, all.1, n); few = all.0.few; names = all.0.names; names_differ = all.0.names_differ }

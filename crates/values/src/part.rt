@@ -3,7 +3,8 @@
 ghost use Rattle.std.specs.Prelude.{◌≡◌, ◌≢◌, IfErr, IfOk, Some, None};
 ghost use Rattle.std.specs.List.{list_all, list_any};
 ghost use Rattle.std.specs.Str.{bytes_eq};
-ghost use Rattle.semantics.specs.Columns.{begins_name, column_of, continues_name, fault_of, is_name, kind_named, kind_of, name_of, names_of};
+ghost use Rattle.semantics.specs.Columns.{column_of, fault_of, kind_named, kind_of, name_of, names_of};
+ghost use Rattle.semantics.specs.Words.{begins_word, continues_word, is_word};
 ghost use Rattle.values.specs.Schema.{field_of, fields_of};
 
 use crate::schema::Column;
@@ -13,35 +14,35 @@ use std::alloc::Global;
 /// The most columns that a schema has.
 const MOST_COLUMNS: usize = 32;
 
-/// Whether a byte may begin a name.
-fn begins_name(byte: u8) -> bool
-    ensures letter { result ≡ begins_name byte }
+/// Whether a word begins with a byte.
+fn begins_word(byte: u8) -> bool
+    ensures letter { result ≡ begins_word byte }
 {
     byte.is_ascii_alphabetic() || byte == b'_'
 }
 
-/// Whether a byte may stand behind the first of a name.
-fn continues_name(byte: u8) -> bool
-    ensures letter { result ≡ continues_name byte }
+/// Whether a word goes on with a byte.
+fn continues_word(byte: u8) -> bool
+    ensures letter { result ≡ continues_word byte }
 {
-    byte.is_ascii_alphanumeric() || byte == b'_'
+    byte.is_ascii_alphabetic() || byte.is_ascii_digit() || byte == b'_'
 }
 
-/// Whether a text is a name.
-fn is_name(text: &str) -> bool
-    ensures name { result ≡ is_name text.now }
+/// Whether a text is a word, as the name of a column is.
+fn is_word(text: &str) -> bool
+    ensures word { result ≡ is_word text.now }
 {
     match text.as_bytes() {
-        [first, rest @ ..] => begins_name(*first) && all_continue(rest),
+        [first, rest @ ..] => begins_word(*first) && all_continue(rest),
         [] => false,
     }
 }
 
-/// Whether each byte may stand behind the first of a name.
+/// Whether a word goes on with each byte.
 fn all_continue(bytes: &[u8]) -> bool
-    ensures all { result ≡ list_all continues_name bytes.now }
+    ensures all { result ≡ list_all continues_word bytes.now }
 {
-    bytes.iter().all(|byte| continues_name(*byte))
+    bytes.iter().all(|byte| continues_word(*byte))
 }
 
 /// The type that a text names.
@@ -89,7 +90,7 @@ pub(crate) fn next_column(
         return Err(SchemaFault::TooManyColumns);
     }
     let (name, kind) = name_and_kind(part);
-    if !is_name(name) {
+    if !is_word(name) {
         return Err(SchemaFault::BadName(number));
     }
     let Some(kind) = kind else {

@@ -1,6 +1,7 @@
 use Rattle.std.proofs.Common.{rules, ◌≤◌, ◌-◌, length, subst}
 use Rattle.semantics.specs.Prefixes.{IsUnexpected}
-use Rattle.semantics.specs.Grammar.{Derives}
+use Rattle.semantics.specs.Grammar.{DerivesWithin}
+use Rattle.semantics.specs.Leaves.{standard}
 use Rattle.query_tree.specs.Syntax.{tree_form}
 use Rattle.query.proofs.Places.{unexpected_at, too_much}
 use Rattle.query.proofs.Refusals.{told_no_token, told_unexpected, told_too_much, told_query}
@@ -22,4 +23,4 @@ returns-in-Err-OverLimit-clause-told c =
 
 pub returns-in-Ok-read_query-clause-told : goal.returns-in-Ok-read_query-clause-told
 returns-in-Ok-read_query-clause-told c =
-    told_query c.args.text.now c.in-Ok.tokens.starts.items c.in-Ok.tokens.all.items (tree_form c.in-Ok-read_query.tree.value) (search (rules, c.if-text-gt-MOST_BYTES.false)) c.in-Ok.ensures.spelled (subst (λ ks. Derives ks (tree_form c.in-Ok-read_query.tree.value)) c.as_slice.ensures.value c.in-Ok-read_query.ensures.derived)
+    told_query c.args.text.now c.in-Ok.tokens.starts.items c.in-Ok.tokens.all.items (tree_form c.in-Ok-read_query.tree.value) (search (rules, c.if-text-gt-MOST_BYTES.false)) c.in-Ok.ensures.spelled (subst (λ ks. DerivesWithin standard ks (tree_form c.in-Ok-read_query.tree.value)) c.as_slice.ensures.value c.in-Ok-read_query.ensures.derived)

@@ -3,7 +3,7 @@ use Rattle.std.specs.List.{filter_map}
 use Rattle.values.specs.Schema.{fields_of}
 use Rattle.query_tree.specs.Syntax.{predicate_form}
 use Rattle.semantics.specs.Syntax.{predicate_forms}
-use Rattle.semantics.specs.SetFunctions.{parts_functions}
+use Rattle.query_resolution.specs.Inside.Collecting.{parts_functions}
 use Rattle.semantics.specs.Names.{planned_function}
 use Rattle.query_resolution.specs.Planning.{planned_forms}
 use Rattle.query_resolution.proofs.planning.+push_predicate_functions.Given as goal
