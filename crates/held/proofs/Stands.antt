@@ -13,7 +13,7 @@ use Rattle.tables.specs.declared.partial.Partial.{Partial}
 use Rattle.tables.specs.Means.{both, indexed_from, mean, mean_from, meaning}
 use Rattle.tables.specs.Partials.{StandsFor}
 use Rattle.tables.specs.Planned.{IsPartialUnder}
-use Rattle.gathering.proofs.Pooled.{IsJobOf}
+use Rattle.jlreport_scan.proofs.Pooled.{IsJobOf}
 
 -- what a pool decides of so many pieces of a job, with indexes from a first one on
 abbrev pub DecidesAll : PlannedQuery → ℕ → List ℕ → List Piece → ℕ → ℕ → Outcome Partial → Type 0

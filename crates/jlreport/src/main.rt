@@ -1,9 +1,9 @@
 //! The program `jlreport`: hands its words, the file and the standard streams to the engine, and
-//! ends with the status that `engine::serve` answers.
+//! ends with the status that `jlreport_engine::serve` answers.
 #![tactic(auto)]
 
-use command_line::{Settings, WordsFault, settings};
-use engine::serve;
+use jlreport_cli::{Settings, WordsFault, settings};
+use jlreport_engine::serve;
 use std::alloc::{AllocError, Global};
 use std::fs::File;
 use std::marker::Sync;

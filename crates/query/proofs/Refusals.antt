@@ -5,8 +5,8 @@ use Rattle.semantics.specs.declared.query_fault.QueryFault.{QueryFault}
 use Rattle.semantics.specs.declared.query_fault.QueryFault.TheVariants as faults
 use Rattle.semantics.specs.declared.token.Token.{Token}
 use Rattle.semantics.specs.Tokens.{Spells, StopsAt}
-use Rattle.query_tokens.proofs.Unique.{one as spells_one}
-use Rattle.query_tokens.proofs.Stops.{decided as spells_or_stops, not_both as spells_and_stops, one as stops_one}
+use Rattle.query_lexer.proofs.Unique.{one as spells_one}
+use Rattle.query_lexer.proofs.Stops.{decided as spells_or_stops, not_both as spells_and_stops, one as stops_one}
 use Rattle.semantics.specs.Syntax.{TreeForm}
 use Rattle.semantics.specs.Leaves.{standard}
 use Rattle.semantics.specs.Grammar.{DerivesWithin}

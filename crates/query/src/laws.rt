@@ -9,7 +9,7 @@ ghost use Rattle.semantics.specs.Reading.{Derives, IsRefusalOf};
 pub fn derives_one()
     ensures { (text : List ℕ) (p q : TreeForm) → Derives text p → Derives text q → p ≡ q }
 {
-    query_tokens::spells_one();
+    query_lexer::spells_one();
     query_grammar::derives_one();
 }
 

@@ -6,8 +6,8 @@ ghost use Rattle.semantics.specs.Syntax.{TreeForm};
 ghost use Rattle.semantics.specs.Reading.{Derives, IsRefusalOf, Refuses};
 
 use query_grammar::{GrammarFault, read_query};
+use query_lexer::{TokenFault, Tokens, read_tokens};
 use query_plan::Query;
-use query_tokens::{TokenFault, Tokens, read_tokens};
 use semantics::QueryFault;
 use std::alloc::Global;
 

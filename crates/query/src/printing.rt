@@ -5,7 +5,7 @@ ghost use Rattle.semantics.specs.Canonical.{canonical_text};
 ghost use Rattle.semantics.specs.Reading.{Derives};
 
 use query_plan::Query;
-use query_print::print_tree;
+use query_printer::print_tree;
 use query_round::reads_again;
 use std::alloc::{AllocError, Global};
 

@@ -7,9 +7,9 @@ use Rattle.semantics.specs.declared.token.Token.TheVariants as tokens
 use Rattle.semantics.specs.declared.token.Word.TheVariants as w
 use Rattle.semantics.specs.declared.token.Sign.TheVariants as s
 use Rattle.query_leaves.proofs.Inversions.{ok_is}
-use Rattle.query_tree.specs.declared.tree.Tree.{Tree}
+use Rattle.query_ast.specs.declared.tree.Tree.{Tree}
 use Rattle.semantics.specs.Syntax.{ExpressionForm, PredicateForm, ElementForm, ItemForm, KeyForm, TreeForm}
-use Rattle.query_tree.specs.Syntax.{tree_form}
+use Rattle.query_ast.specs.Syntax.{tree_form}
 use Rattle.query_leaves.specs.declared.fault.GrammarFault.{GrammarFault}
 use Rattle.query_leaves.specs.declared.fault.GrammarFault.TheVariants as faults
 use Rattle.semantics.specs.Leaves.{Limits, standard, IsOptional}

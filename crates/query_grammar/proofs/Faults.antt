@@ -8,9 +8,9 @@ use Rattle.semantics.specs.declared.token.Sign.TheVariants as s
 use Rattle.std.specs.Prelude.{Box, IfOk}
 use Rattle.std.specs.Global.{Global}
 use Rattle.std.proofs.Math.Seq.{take-append_seam}
-use Rattle.query_tree.specs.declared.tree.Tree.{Tree}
+use Rattle.query_ast.specs.declared.tree.Tree.{Tree}
 use Rattle.semantics.specs.Syntax.{TreeForm}
-use Rattle.query_tree.specs.Syntax.{tree_form}
+use Rattle.query_ast.specs.Syntax.{tree_form}
 use Rattle.semantics.specs.Leaves.{Limits, standard}
 use Rattle.semantics.specs.Grammar.{DerivesWithin}
 use Rattle.semantics.specs.Prefixes.{BeginsWithin, Begins, KeepsLimits, IsUnexpected, IsOverLimit}

@@ -4,7 +4,7 @@ use Rattle.std.specs.Prelude.{codes}
 use Rattle.semantics.specs.declared.token.Token.{Token}
 use Rattle.semantics.specs.declared.token.Token.TheVariants as tokens
 use Rattle.semantics.specs.declared.token.Word.TheVariants as w
-use Rattle.query_tokens.specs.Options.{choose}
+use Rattle.query_lexer.specs.Options.{choose}
 use Rattle.semantics.specs.Syntax.{ExpressionForm, KeyForm}
 use Rattle.semantics.specs.Leaves.{Limits, standard, Derivation}
 use Rattle.semantics.specs.Productions.{IsExpression, IsPredicate}

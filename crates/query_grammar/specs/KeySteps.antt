@@ -3,7 +3,7 @@
 use Rattle.std.specs.Prelude.{Bool, true, false, List, [], Ok}
 use Rattle.semantics.specs.declared.token.Token.{Token}
 use Rattle.semantics.specs.declared.token.Word.TheVariants as w
-use Rattle.query_tokens.specs.Options.{choose}
+use Rattle.query_lexer.specs.Options.{choose}
 use Rattle.semantics.specs.Syntax.{KeyForm}
 use Rattle.semantics.specs.Leaves.{Limits}
 use Rattle.query_leaves.specs.Fronts.{is_word, after}

@@ -5,7 +5,7 @@ use Rattle.std.specs.Str.{bytes_eq}
 use Rattle.semantics.specs.declared.token.Token.{Token}
 use Rattle.semantics.specs.declared.token.Word.{Word}
 use Rattle.semantics.specs.declared.token.Word.TheVariants as w
-use Rattle.query_tokens.specs.Options.{choose}
+use Rattle.query_lexer.specs.Options.{choose}
 use Rattle.semantics.specs.Syntax.{PredicateForm, ElementForm, ItemForm, KeyForm, TreeForm}
 use Rattle.semantics.specs.Leaves.{Limits}
 use Rattle.query_leaves.specs.Fronts.{is_word, after}

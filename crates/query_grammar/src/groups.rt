@@ -2,7 +2,7 @@
 
 ghost use Rattle.std.specs.Prelude.{◌≡◌, ◌<◌, ◌≤◌, ◌∷◌, [], length, map, IfOk};
 ghost use Rattle.semantics.specs.declared.token.Sign.TheVariants.{Comma};
-ghost use Rattle.query_tree.specs.Syntax.{element_form};
+ghost use Rattle.query_ast.specs.Syntax.{element_form};
 ghost use Rattle.query_leaves.specs.Fronts.{is_sign};
 ghost use Rattle.query_leaves.specs.Steps.{Gives, with_front, more};
 ghost use Rattle.query_predicates.specs.PredicateSteps.{any_front};
@@ -11,11 +11,11 @@ ghost use Rattle.query_grammar.specs.QuerySteps.{elements_at, groups_at, set_qua
 ghost use Rattle.semantics.specs.Leaves.{standard};
 
 use crate::units::{set, units};
+use query_ast::GroupingElement;
 use query_leaves::{
     GrammarFault, after_sign, after_word, expect_sign, expect_word, keep, over_limit,
 };
-use query_tokens::{Sign, Token, Word};
-use query_tree::GroupingElement;
+use query_lexer::{Sign, Token, Word};
 use std::alloc::Global;
 
 /// The most levels of GROUPING SETS in one another.

@@ -1,15 +1,15 @@
 //! Reads the items of SELECT.
 
 ghost use Rattle.std.specs.Prelude.{◌<◌, ◌≤◌, length, map, IfOk};
-ghost use Rattle.query_tree.specs.Syntax.{item_form};
+ghost use Rattle.query_ast.specs.Syntax.{item_form};
 ghost use Rattle.query_leaves.specs.Steps.{Gives};
 ghost use Rattle.query_grammar.specs.QuerySteps.{alias_at, item_at, items_at};
 ghost use Rattle.semantics.specs.Leaves.{standard};
 
+use query_ast::{Item, Text};
 use query_leaves::{GrammarFault, Listed, after_word, expect_name, keep, more_parts};
+use query_lexer::{Token, Word};
 use query_predicates::{MOST_LEVELS, begins_expression, expression};
-use query_tokens::{Token, Word};
-use query_tree::{Item, Text};
 use std::alloc::Global;
 
 /// The most items of a query.
@@ -44,7 +44,7 @@ struct SelectItems;
 
 impl Listed for SelectItems {
     ghost use Rattle.semantics.specs.Syntax.{ItemForm};
-    ghost use Rattle.query_tree.specs.Syntax.{item_form};
+    ghost use Rattle.query_ast.specs.Syntax.{item_form};
     ghost use Rattle.query_predicates.specs.ExpressionSteps.{begins_expression};
     ghost use Rattle.semantics.specs.Leaves.{standard};
     ghost use Rattle.query_grammar.specs.QuerySteps.{item_at};

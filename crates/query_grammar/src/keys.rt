@@ -1,15 +1,15 @@
 //! Reads the keys of ORDER BY.
 
 ghost use Rattle.std.specs.Prelude.{◌≡◌, ◌<◌, ◌≤◌, length, map, IfOk};
-ghost use Rattle.query_tree.specs.Syntax.{key_form};
+ghost use Rattle.query_ast.specs.Syntax.{key_form};
 ghost use Rattle.query_leaves.specs.Steps.{Gives};
 ghost use Rattle.query_grammar.specs.KeySteps.{direction_at, null_ordering_at, key_at, keys_at};
 ghost use Rattle.semantics.specs.Leaves.{standard};
 
+use query_ast::Key;
 use query_leaves::{GrammarFault, Listed, after_word, expect_word, keep, more_parts};
+use query_lexer::{Token, Word};
 use query_predicates::{MOST_LEVELS, begins_expression, expression};
-use query_tokens::{Token, Word};
-use query_tree::Key;
 use std::alloc::Global;
 
 /// Whether DESC is written, and what stands behind it or behind ASC.
@@ -65,7 +65,7 @@ struct SortKeys;
 
 impl Listed for SortKeys {
     ghost use Rattle.semantics.specs.Syntax.{KeyForm};
-    ghost use Rattle.query_tree.specs.Syntax.{key_form};
+    ghost use Rattle.query_ast.specs.Syntax.{key_form};
     ghost use Rattle.query_predicates.specs.ExpressionSteps.{begins_expression};
     ghost use Rattle.semantics.specs.Leaves.{standard};
     ghost use Rattle.query_grammar.specs.KeySteps.{key_at};

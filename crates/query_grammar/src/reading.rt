@@ -3,7 +3,7 @@
 ghost use Rattle.std.specs.Prelude.{◌≡◌, ◌<◌, ◌≤◌, ◌-◌, ℕ, Err, length, map, IfOk, MatchResult};
 ghost use Rattle.std.specs.Option.{option_map};
 ghost use Rattle.semantics.specs.Syntax.{TreeForm};
-ghost use Rattle.query_tree.specs.Syntax.{tree_form, element_form, item_form, key_form, predicate_form};
+ghost use Rattle.query_ast.specs.Syntax.{tree_form, element_form, item_form, key_form, predicate_form};
 ghost use Rattle.query_leaves.specs.declared.fault.GrammarFault.TheVariants.{OutOfMemory, OverLimit, Unexpected};
 ghost use Rattle.semantics.specs.Grammar.{DerivesWithin};
 ghost use Rattle.semantics.specs.Prefixes.{IsUnexpected, IsOverLimit};
@@ -14,10 +14,10 @@ ghost use Rattle.semantics.specs.Leaves.{standard};
 use crate::groups::groups;
 use crate::items::items;
 use crate::keys::keys;
+use query_ast::{GroupingElement, Item, Key, Predicate, Tree};
 use query_leaves::{GrammarFault, after_word, expect_name, expect_word, keep, unexpected};
+use query_lexer::{Token, Word};
 use query_predicates::{MOST_LEVELS, predicate};
-use query_tokens::{Token, Word};
-use query_tree::{GroupingElement, Item, Key, Predicate, Tree};
 use std::alloc::Global;
 
 /// What stands behind FROM and the name `lines`.

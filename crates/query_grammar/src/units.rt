@@ -1,16 +1,16 @@
 //! Reads the units and sets of GROUP BY: a name, names in brackets, or brackets round nothing.
 
 ghost use Rattle.std.specs.Prelude.{◌<◌, length, IfOk, IfSome};
-ghost use Rattle.query_tokens.specs.Options.{Tells};
-ghost use Rattle.query_tree.specs.Syntax.{units_form};
+ghost use Rattle.query_lexer.specs.Options.{Tells};
+ghost use Rattle.query_ast.specs.Syntax.{units_form};
 ghost use Rattle.query_leaves.specs.Steps.{Gives};
 ghost use Rattle.query_grammar.specs.GroupSteps.{unit_at, units_at, nothing_at, set_at};
 
+use query_ast::Text;
 use query_leaves::{
     GrammarFault, Listed, Names, after_sign, expect_name, expect_sign, keep, more_parts, name,
 };
-use query_tokens::{Sign, Token};
-use query_tree::Text;
+use query_lexer::{Sign, Token};
 use std::alloc::Global;
 
 /// A name, or names in brackets.

@@ -1,7 +1,7 @@
 -- What follows from a result that is made step by step.
 use Rattle.std.proofs.Common.{Bool, true, false, cond, List, ◌≡◌, ◌⊎◌, inl, inr, Option, Some, None, Result, Ok, Err, refl}
 use Rattle.semantics.specs.declared.token.Token.{Token}
-use Rattle.query_tokens.specs.Options.{choose}
+use Rattle.query_lexer.specs.Options.{choose}
 use Rattle.query_leaves.specs.declared.fault.GrammarFault.{GrammarFault}
 use Rattle.query_leaves.specs.Steps.{◌>>=◌, expected}
 

@@ -1,7 +1,7 @@
 -- A reader looks at no token behind the first one that it leaves: on other tokens with the same front it does the same.
 use Rattle.std.proofs.Common.{arith, length, ◌<◌, ◌≤◌, ◌+◌, ◌≡◌, ◌⊎◌, inl, inr, ℕ, zero, suc, Bool, true, false, cond, List, [], ◌∷◌, ◌++◌, Option, Some, None, Result, Ok, Err, refl, sym, ap, subst, ◌∙◌}
 use Rattle.semantics.specs.declared.token.Token.{Token}
-use Rattle.query_tokens.specs.Options.{choose}
+use Rattle.query_lexer.specs.Options.{choose}
 use Rattle.query_leaves.specs.declared.fault.GrammarFault.{GrammarFault}
 use Rattle.query_leaves.specs.declared.fault.GrammarFault.TheVariants as faults
 use Rattle.query_leaves.specs.Fronts.{after}

@@ -6,7 +6,7 @@ use Rattle.semantics.specs.declared.token.Token.{Token}
 use Rattle.semantics.specs.declared.token.Token.TheVariants as tokens
 use Rattle.semantics.specs.declared.token.Word.TheVariants as w
 use Rattle.semantics.specs.declared.token.Sign.TheVariants as s
-use Rattle.query_tokens.specs.Options.{choose}
+use Rattle.query_lexer.specs.Options.{choose}
 use Rattle.query_leaves.specs.declared.fault.GrammarFault.{GrammarFault}
 use Rattle.query_leaves.specs.declared.fault.GrammarFault.TheVariants as faults
 use Rattle.query_leaves.specs.Fronts.{is_sign, after}

@@ -7,7 +7,7 @@ use Rattle.semantics.specs.declared.token.Token.{Token}
 use Rattle.semantics.specs.declared.token.Token.TheVariants as tokens
 use Rattle.semantics.specs.declared.token.Sign.TheVariants as s
 use Rattle.query_leaves.specs.Fronts.{is_sign, after}
-use Rattle.query_tokens.specs.Options.{choose}
+use Rattle.query_lexer.specs.Options.{choose}
 
 -- A fault that is no want of memory is the one at which reading stops.
 abbrev pub Fails : {Y : Type 0} → GrammarFault → Result Y GrammarFault → Type 0

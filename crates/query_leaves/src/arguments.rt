@@ -8,8 +8,8 @@ ghost use Rattle.semantics.specs.Leaves.{standard};
 use crate::fault::GrammarFault;
 use crate::fronts::{expect_name, expect_sign, name};
 use crate::lists::{Listed, more_parts};
-use query_tokens::{Sign, Token};
-use query_tree::Text;
+use query_ast::Text;
+use query_lexer::{Sign, Token};
 use std::alloc::Global;
 
 /// The most arguments of GROUPING.

@@ -1,14 +1,14 @@
 //! The token in front.
 
 ghost use Rattle.std.specs.Prelude.{◌≡◌, ◌<◌, length, IfOk, IfSome};
-ghost use Rattle.query_tokens.specs.Options.{Tells};
+ghost use Rattle.query_lexer.specs.Options.{Tells};
 ghost use Rattle.query_leaves.specs.declared.fault.GrammarFault.TheVariants.{OverLimit, Unexpected};
 ghost use Rattle.query_leaves.specs.Fronts.{is_word, is_sign, after};
 ghost use Rattle.query_leaves.specs.Steps.{Gives, expected, name_at};
 
 use crate::fault::GrammarFault;
-use query_tokens::{Sign, Token, Word};
-use query_tree::Text;
+use query_ast::Text;
+use query_lexer::{Sign, Token, Word};
 
 /// What stands behind a reserved word in front; `None` where another token or none stands there.
 ///

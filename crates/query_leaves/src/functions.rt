@@ -6,8 +6,8 @@ ghost use Rattle.query_leaves.specs.LeafSteps.{closed_name_at, argument_at, coun
 
 use crate::fault::GrammarFault;
 use crate::fronts::{after_sign, after_word, expect_name, expect_sign, unexpected};
-use query_tokens::{Sign, Token, Word};
-use query_tree::{Aggregate, Text};
+use query_ast::{Aggregate, Text};
+use query_lexer::{Sign, Token, Word};
 
 /// A name and its closing bracket.
 #[tactic(auto, unfolding(crate::specs::LeafSteps::closed_name_at))]

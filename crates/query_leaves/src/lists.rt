@@ -8,7 +8,7 @@ ghost use Rattle.query_leaves.specs.Steps.{Gives, Reader, excess, with_front, mo
 
 use crate::fault::GrammarFault;
 use crate::fronts::{after_sign, over_limit, unexpected};
-use query_tokens::{Sign, Token};
+use query_lexer::{Sign, Token};
 use std::alloc::Global;
 
 /// What stands in a list, with commas between its parts, and how a part is read.

@@ -1,7 +1,7 @@
 //! Reads literals, and the bracketed literals behind IN.
 
 ghost use Rattle.std.specs.Prelude.{◌<◌, length, IfOk, IfSome};
-ghost use Rattle.query_tokens.specs.Options.{Tells};
+ghost use Rattle.query_lexer.specs.Options.{Tells};
 ghost use Rattle.query_leaves.specs.Steps.{Gives};
 ghost use Rattle.query_leaves.specs.LeafSteps.{literal_at, literals_at};
 ghost use Rattle.semantics.specs.Leaves.{standard};
@@ -9,8 +9,8 @@ ghost use Rattle.semantics.specs.Leaves.{standard};
 use crate::fault::GrammarFault;
 use crate::fronts::{expect_sign, unexpected};
 use crate::lists::{Listed, more_parts};
-use query_tokens::{Sign, Token, Word};
-use query_tree::Literal;
+use query_ast::Literal;
+use query_lexer::{Sign, Token, Word};
 use std::alloc::{AllocError, Global};
 
 /// The most literals of an IN list.

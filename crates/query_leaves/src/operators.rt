@@ -1,13 +1,13 @@
 //! Reads operators, truth values and the mark NOT.
 
 ghost use Rattle.std.specs.Prelude.{◌≡◌, ◌<◌, ◌≤◌, length, IfOk, IfSome};
-ghost use Rattle.query_tokens.specs.Options.{Tells};
+ghost use Rattle.query_lexer.specs.Options.{Tells};
 ghost use Rattle.query_leaves.specs.Steps.{Gives};
 ghost use Rattle.query_leaves.specs.LeafSteps.{op_at, truth_at, mark_at};
 
 use crate::fault::GrammarFault;
 use crate::fronts::{after_word, unexpected};
-use query_tokens::{Sign, Token, Word};
+use query_lexer::{Sign, Token, Word};
 use values::{Op, Truth};
 
 /// An operator of a comparison in front, and what stands behind it, ISO/IEC 9075-2 `<comp op>`; `None` where another

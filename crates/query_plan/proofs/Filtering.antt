@@ -12,18 +12,18 @@ use Rattle.semantics.specs.Values.{Datum}
 use Rattle.semantics.specs.Records.{Fits}
 use Rattle.semantics.specs.Columns.{Field}
 use Rattle.semantics.specs.Syntax.{PredicateForm, TreeForm}
-use Rattle.query_resolution.specs.declared.function.FilteredFunction.{FilteredFunction}
-use Rattle.query_check.specs.declared.scope.Clause.TheVariants as clause
-use Rattle.query_check.specs.Filters.{LeadBack}
+use Rattle.query_resolve.specs.declared.function.FilteredFunction.{FilteredFunction}
+use Rattle.query_typecheck.specs.declared.scope.Clause.TheVariants as clause
+use Rattle.query_typecheck.specs.Filters.{LeadBack}
 use Rattle.semantics.specs.Names.{PlannedFunction}
-use Rattle.query_resolution.specs.Functions.{filter_at, filters_of, indexed, indexed_functions}
+use Rattle.query_resolve.specs.Functions.{filter_at, filters_of, indexed, indexed_functions}
 use Rattle.semantics.specs.SetFunctions.{functions_of}
 use Rattle.semantics.specs.Inside.Same.{same_predicate}
-use Rattle.query_check.specs.Typing.{IsTypedPredicate}
-use Rattle.query_truth.specs.declared.condition.Condition.{Condition}
-use Rattle.query_truth.specs.Binding.{AreConditionsOf}
+use Rattle.query_typecheck.specs.Typing.{IsTypedPredicate}
+use Rattle.query_eval.specs.declared.condition.Condition.{Condition}
+use Rattle.query_eval.specs.Binding.{AreConditionsOf}
 use Rattle.semantics.specs.Conditions.{passes, record_value, where_truth, same_truth, truth}
-use Rattle.query_truth.specs.Meaning.{condition_truth, is_safe}
+use Rattle.query_eval.specs.Meaning.{condition_truth, is_safe}
 
 -- One map after another.
 map_twice : {X Y Z : Type 0} (g : Y → Z) (f : X → Y) (xs : List X) → map g (map f xs) ≡ map (λ x. g (f x)) xs

@@ -1,14 +1,14 @@
 -- A plan says the same to every thread, and a predicate.
 use denote.Param.Send.{IsSync, sendable}
 use Rattle.std.proofs.Crossing as std
-use Rattle.query_tree.proofs.group.GroupingElement.TheLaws.TheKnot as group
-use Rattle.query_tree.proofs.expression.Expression.TheLaws.TheKnot as expression
-use Rattle.query_truth.proofs.condition.Condition.TheLaws.TheKnot as condition
-use Rattle.query_tree.specs.contracts.group.GroupingElement as GroupingElement
-use Rattle.query_tree.specs.contracts.expression.Expression as Expression
-use Rattle.query_tree.specs.contracts.expression.Predicate as Predicate
-use Rattle.query_tree.specs.contracts.tree.Tree as Tree
-use Rattle.query_truth.specs.contracts.condition.Condition as Condition
+use Rattle.query_ast.proofs.group.GroupingElement.TheLaws.TheKnot as group
+use Rattle.query_ast.proofs.expression.Expression.TheLaws.TheKnot as expression
+use Rattle.query_eval.proofs.condition.Condition.TheLaws.TheKnot as condition
+use Rattle.query_ast.specs.contracts.group.GroupingElement as GroupingElement
+use Rattle.query_ast.specs.contracts.expression.Expression as Expression
+use Rattle.query_ast.specs.contracts.expression.Predicate as Predicate
+use Rattle.query_ast.specs.contracts.tree.Tree as Tree
+use Rattle.query_eval.specs.contracts.condition.Condition as Condition
 use Rattle.query_plan.specs.contracts.plan.Plan as Plan
 
 group_sync : IsSync (GroupingElement.the_field).row

@@ -2,21 +2,21 @@
 
 ghost use Rattle.std.specs.Prelude.{◌≡◌, ◌≢◌, [], IfErr, IfOk, OnOk, Some, slice_get};
 ghost use Rattle.semantics.specs.Faults.{query_faults};
-ghost use Rattle.query_check.specs.Inside.FirstFaults.{query_fault};
-ghost use Rattle.query_resolution.specs.Resolution.{resolution_of};
-ghost use Rattle.query_check.specs.Typing.{IsTyped};
+ghost use Rattle.query_typecheck.specs.Inside.FirstFaults.{query_fault};
+ghost use Rattle.query_resolve.specs.Resolution.{resolution_of};
+ghost use Rattle.query_typecheck.specs.Typing.{IsTyped};
 ghost use Rattle.semantics.specs.declared.query_fault.QueryFault.TheVariants.{OutOfMemory};
-ghost use Rattle.query_tree.specs.Syntax.{tree_form};
-ghost use Rattle.query_resolution.specs.Functions.{filters_of};
-ghost use Rattle.query_truth.specs.Binding.{AreConditionsOf, IsConditionOf};
+ghost use Rattle.query_ast.specs.Syntax.{tree_form};
+ghost use Rattle.query_resolve.specs.Functions.{filters_of};
+ghost use Rattle.query_eval.specs.Binding.{AreConditionsOf, IsConditionOf};
 ghost use Rattle.values.specs.Schema.{fields_of};
 
 use crate::plan::Plan;
 use crate::query::Query;
-use query_check::{Resolved, check_tree};
-use query_resolution::filters;
-use query_tree::Tree;
-use query_truth::{Condition, bind_filters, bind_where};
+use query_ast::Tree;
+use query_eval::{Condition, bind_filters, bind_where};
+use query_resolve::filters;
+use query_typecheck::{Resolved, check_tree};
 use semantics::QueryFault;
 use std::alloc::{AllocError, Global};
 use values::{Column, Schema};

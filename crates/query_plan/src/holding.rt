@@ -2,7 +2,7 @@
 
 ghost use Rattle.std.specs.Prelude.{◌≡◌, ◌<◌, length};
 ghost use Rattle.semantics.specs.Records.{Fits};
-ghost use Rattle.query_resolution.specs.Functions.{filter_at};
+ghost use Rattle.query_resolve.specs.Functions.{filter_at};
 ghost use Rattle.semantics.specs.SetFunctions.{functions_of};
 ghost use Rattle.semantics.specs.Conditions.{where_truth};
 

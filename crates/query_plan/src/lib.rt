@@ -13,10 +13,10 @@ pub use holding::{filter_holds, holds};
 pub use plan::Plan;
 pub use printing::{filter_texts, header, set_text};
 pub use query::Query;
-pub use query_check::typed_law;
-pub use query_resolution::{ColumnFunction, FilteredFunction};
-pub use query_tree::{
+pub use query_ast::{
     Aggregate, Expression, GroupingElement, Item, Key, Literal, Operand, Predicate, SetFunction,
     Text, Tree,
 };
+pub use query_resolve::{ColumnFunction, FilteredFunction};
+pub use query_typecheck::typed_law;
 pub use semantics::QueryFault;

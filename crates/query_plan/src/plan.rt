@@ -1,15 +1,15 @@
 //! A query that is typed under a schema, and what its names stand for there.
 
 ghost use Rattle.std.specs.Prelude.{◌≡◌};
-ghost use Rattle.query_resolution.specs.Resolution.{resolution_of};
-ghost use Rattle.query_check.specs.Typing.{IsTyped};
-ghost use Rattle.query_resolution.specs.Functions.{filters_of};
-ghost use Rattle.query_truth.specs.Binding.{AreConditionsOf, IsConditionOf};
+ghost use Rattle.query_resolve.specs.Resolution.{resolution_of};
+ghost use Rattle.query_typecheck.specs.Typing.{IsTyped};
+ghost use Rattle.query_resolve.specs.Functions.{filters_of};
+ghost use Rattle.query_eval.specs.Binding.{AreConditionsOf, IsConditionOf};
 
 use crate::query::Query;
-use query_check::{Resolved, filters_law};
-use query_resolution::FilteredFunction;
-use query_truth::{Condition, bound_truth, condition_truth_at, mark_conditions};
+use query_eval::{Condition, bound_truth, condition_truth_at, mark_conditions};
+use query_resolve::FilteredFunction;
+use query_typecheck::{Resolved, filters_law};
 use std::alloc::AllocError;
 use std::marker::Model;
 use values::{Record, Schema, Truth, Value};
@@ -66,12 +66,12 @@ impl Plan {
     ghost use Rattle.semantics.specs.Values.{Datum};
     ghost use Rattle.values.specs.Datum.{data_of};
     ghost use Rattle.semantics.specs.Records.{Fits};
-    ghost use Rattle.query_resolution.specs.Resolution.{contents};
+    ghost use Rattle.query_resolve.specs.Resolution.{contents};
     ghost use Rattle.semantics.specs.Sets.{grouping_places, sets_of};
-    ghost use Rattle.query_resolution.specs.Functions.{filter_at, filters_of, indexed_functions};
+    ghost use Rattle.query_resolve.specs.Functions.{filter_at, filters_of, indexed_functions};
     ghost use Rattle.semantics.specs.SetFunctions.{functions_of};
     ghost use Rattle.semantics.specs.Conditions.{passes, record_value, where_truth, truth};
-    ghost use Rattle.query_truth.specs.Meaning.{condition_truth, is_safe};
+    ghost use Rattle.query_eval.specs.Meaning.{condition_truth, is_safe};
 
     /// The plan of a query that is typed under a schema, of what it is resolved to there, and of the
     /// conditions of its WHERE and of its different filters.

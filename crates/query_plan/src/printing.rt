@@ -2,14 +2,14 @@
 
 ghost use Rattle.std.specs.Prelude.{◌≡◌, ◌<◌, IfOk, Some, length, map, option_map, slice_get, string_bytes};
 ghost use Rattle.semantics.specs.Sets.{sets_of};
-ghost use Rattle.query_resolution.specs.Functions.{filters_of};
-ghost use Rattle.query_resolution.specs.Planning.{filter_forms};
+ghost use Rattle.query_resolve.specs.Functions.{filters_of};
+ghost use Rattle.query_resolve.specs.Planning.{filter_forms};
 ghost use Rattle.semantics.specs.Canonical.{header_text, predicate_text, set_text};
 
 use crate::plan::Plan;
-use query_print::predicate_text;
-use query_resolution::filters;
-use query_tree::Predicate;
+use query_ast::Predicate;
+use query_printer::predicate_text;
+use query_resolve::filters;
 use std::alloc::{AllocError, Global};
 
 /// The header of an item of SELECT, counted from 0: its alias, or its canonical text where it has
@@ -26,7 +26,7 @@ pub fn header(alloc: Global, plan: &Plan, item: usize) -> Result<String, AllocEr
     ensures text { IfOk result (λ text. Some (string_bytes text) ≡ option_map header_text (slice_get plan.now.query.items item)) }
 {
     let items = plan.query().tree().items.as_slice();
-    query_print::header(alloc, &items[item])
+    query_printer::header(alloc, &items[item])
 }
 
 /// The text `(c1, c2)` of a grouping set, counted from 0 among those of the plan: its columns in the
@@ -41,7 +41,7 @@ pub fn set_text(alloc: Global, plan: &Plan, set: usize) -> Result<String, AllocE
     requires { set < length (sets_of plan.now.fields plan.now.query) }
     ensures text { IfOk result (λ text. Some (string_bytes text) ≡ option_map (set_text plan.now.fields) (slice_get (sets_of plan.now.fields plan.now.query) set)) }
 {
-    query_print::set_text(alloc, plan.schema(), &plan.sets()[set])
+    query_printer::set_text(alloc, plan.schema(), &plan.sets()[set])
 }
 
 /// The canonical texts of predicates.

@@ -1,12 +1,12 @@
 //! A query that was derived from some text.
 
 ghost use Rattle.std.specs.Prelude.{◌≡◌, ℕ, List, length, min};
-ghost use Rattle.query_tree.specs.Syntax.{tree_form};
+ghost use Rattle.query_ast.specs.Syntax.{tree_form};
 ghost use Rattle.semantics.specs.Sets.{expanded};
 ghost use Rattle.semantics.specs.Reading.{Derives};
 
-use query_resolution::set_count;
-use query_tree::Tree;
+use query_ast::Tree;
+use query_resolve::set_count;
 use std::marker::Model;
 
 /// A query that some text derives within the limits, which contracts see as the form of its tree.
@@ -20,7 +20,7 @@ pub struct Query {
 
 impl Model for Query {
     ghost use Rattle.semantics.specs.Syntax.{TreeForm};
-    ghost use Rattle.query_tree.specs.Syntax.{tree_form};
+    ghost use Rattle.query_ast.specs.Syntax.{tree_form};
     ghost use Rattle.query_plan.specs.Inside.Coding.{coded_tree};
 
     ghost Value = { TreeForm };

@@ -4,7 +4,7 @@ use Rattle.semantics.specs.declared.token.Token.{Token}
 use Rattle.semantics.specs.declared.token.Token.TheVariants as tokens
 use Rattle.semantics.specs.declared.token.Word.TheVariants as w
 use Rattle.semantics.specs.declared.token.Sign.TheVariants as s
-use Rattle.query_tokens.specs.Options.{choose}
+use Rattle.query_lexer.specs.Options.{choose}
 use Rattle.semantics.specs.Syntax.{ExpressionForm, OperandForm, PredicateForm, over_all, over_filtered, truth_test, compare, between, member, null_test, column, not_of}
 use Rattle.semantics.specs.Productions.{conjunction_of, disjunction_of}
 use Rattle.semantics.specs.Leaves.{Limits}

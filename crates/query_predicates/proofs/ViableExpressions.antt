@@ -5,7 +5,7 @@ use Rattle.semantics.specs.declared.token.Token.{Token}
 use Rattle.semantics.specs.declared.token.Token.TheVariants as tokens
 use Rattle.semantics.specs.declared.token.Word.TheVariants as w
 use Rattle.semantics.specs.declared.token.Sign.TheVariants as s
-use Rattle.query_tokens.specs.Options.{choose}
+use Rattle.query_lexer.specs.Options.{choose}
 use Rattle.semantics.specs.declared.aggregate.Aggregate.{Aggregate}
 use Rattle.semantics.specs.declared.aggregate.Aggregate.TheVariants as aggregates
 use Rattle.semantics.specs.Syntax.{ExpressionForm, FunctionForm, PredicateForm, over_all, over_filtered}

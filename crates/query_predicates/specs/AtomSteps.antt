@@ -4,7 +4,7 @@ use Rattle.std.specs.Prelude.{ℕ, Result, Ok, Bool, true, false, List}
 use Rattle.semantics.specs.declared.token.Token.{Token}
 use Rattle.query_leaves.specs.declared.fault.GrammarFault.{GrammarFault}
 use Rattle.semantics.specs.declared.token.Word.TheVariants as w
-use Rattle.query_tokens.specs.Options.{choose}
+use Rattle.query_lexer.specs.Options.{choose}
 use Rattle.semantics.specs.Syntax.{ExpressionForm, OperandForm, PredicateForm, truth_test, compare, between, member, null_test, column}
 use Rattle.query_leaves.specs.Fronts.{is_word, after}
 use Rattle.query_leaves.specs.Steps.{◌>>=◌, Reader, stuck, expected}

@@ -1,14 +1,14 @@
 //! Reads what stands behind the operands of atoms, and the truth tests behind these.
 
 ghost use Rattle.std.specs.Prelude.{◌<◌, ◌≤◌, length, IfOk};
-ghost use Rattle.query_tree.specs.Syntax.{operand_form, predicate_form};
+ghost use Rattle.query_ast.specs.Syntax.{operand_form, predicate_form};
 ghost use Rattle.query_leaves.specs.Steps.{Gives};
 ghost use Rattle.query_predicates.specs.AtomSteps.{member_after, column_of, test_after, is_after};
 ghost use Rattle.semantics.specs.Leaves.{standard};
 
+use query_ast::{Expression, Operand, Predicate};
 use query_leaves::{GrammarFault, after_word, in_list, keep, mark, truth_value, unexpected};
-use query_tokens::{Token, Word};
-use query_tree::{Expression, Operand, Predicate};
+use query_lexer::{Token, Word};
 use std::alloc::Global;
 
 /// The atom of a first operand and the literals behind its IN.

@@ -3,7 +3,7 @@
 ghost use Rattle.std.specs.Prelude.{◌≡◌};
 ghost use Rattle.query_predicates.specs.ExpressionSteps.{begins_expression};
 
-use query_tokens::{Token, Word};
+use query_lexer::{Token, Word};
 
 /// Whether an expression begins in front of these tokens: a name, GROUPING, or the word of a set
 /// function.

@@ -2,7 +2,7 @@
 
 ghost use Rattle.std.specs.Prelude.{◌≡◌, ◌<◌, ◌≤◌, length, map, IfOk, MatchResult};
 ghost use Rattle.semantics.specs.declared.token.Word.TheVariants.{And, Or};
-ghost use Rattle.query_tree.specs.Syntax.{expression_form, function_form, operand_form, predicate_form};
+ghost use Rattle.query_ast.specs.Syntax.{expression_form, function_form, operand_form, predicate_form};
 ghost use Rattle.query_leaves.specs.declared.fault.GrammarFault.TheVariants.{OutOfMemory};
 ghost use Rattle.query_leaves.specs.Fronts.{is_word};
 ghost use Rattle.semantics.specs.Productions.{conjunction_of, disjunction_of};
@@ -13,12 +13,12 @@ ghost use Rattle.query_predicates.specs.PredicateSteps.{test_at, negation_at, co
 ghost use Rattle.semantics.specs.Leaves.{standard};
 
 use crate::atoms::{column, member, null_or_truth_test, tested};
+use query_ast::{Expression, Operand, Predicate, SetFunction};
 use query_leaves::{
     GrammarFault, after_sign, after_word, aggregate, expect_sign, expect_word, grouping_names,
     keep, literal, name, operator, over_limit,
 };
-use query_tokens::{Sign, Token, Word};
-use query_tree::{Expression, Operand, Predicate, SetFunction};
+use query_lexer::{Sign, Token, Word};
 use std::alloc::Global;
 
 /// The most levels of brackets round a predicate, those of FILTER among them. An expression is read

@@ -8,7 +8,7 @@ use Rattle.semantics.specs.declared.token.Word.TheVariants as w
 use Rattle.semantics.specs.declared.token.Sign.TheVariants as s
 use Rattle.semantics.specs.Words.{is_word, reserved, quoted, is_plain_name, name_text}
 use Rattle.semantics.specs.Tokens.{IsToken}
-use Rattle.query_tokens.proofs.Inversions.{and_both}
+use Rattle.query_lexer.proofs.Inversions.{and_both}
 use Rattle.semantics.specs.declared.literal.Literal.{Literal}
 use Rattle.semantics.specs.declared.literal.Literal.TheVariants as literals
 use Rattle.semantics.specs.declared.aggregate.Aggregate.{Aggregate}

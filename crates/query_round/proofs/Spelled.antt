@@ -16,11 +16,11 @@ use Rattle.semantics.specs.declared.token.Word.{Word}
 use Rattle.semantics.specs.declared.token.Word.TheVariants as w
 use Rattle.semantics.specs.declared.token.Sign.TheVariants as s
 use Rattle.semantics.specs.Words.{continues_word, is_word, reserved}
-use Rattle.query_tokens.specs.Inside.Words.{word_text}
+use Rattle.query_lexer.specs.Inside.Words.{word_text}
 use Rattle.semantics.specs.Tokens.{begins_with, is_digits, IsToken, SpellsFrom}
-use Rattle.query_tokens.specs.Steps.{token_at, sign_at}
-use Rattle.query_tokens.proofs.Digits.{own}
-use Rattle.query_tokens.proofs.Sound.{token_s}
+use Rattle.query_lexer.specs.Steps.{token_at, sign_at}
+use Rattle.query_lexer.proofs.Digits.{own}
+use Rattle.query_lexer.proofs.Sound.{token_s}
 use Rattle.query_round.proofs.Good.{InRange}
 
 -- From any byte on, the text spells these tokens.

@@ -16,7 +16,7 @@ use Rattle.semantics.specs.Aggregates.{Summary, plain, ratio}
 use Rattle.semantics.specs.Found.{Found}
 use Rattle.semantics.specs.Conditions.{truth}
 use Rattle.semantics.specs.Rows.{number_of_digits, row_value, rows_having_true}
-use Rattle.rows.specs.Inside.Fronts.{behind_of, front_of, with_digits}
+use Rattle.report_rows.specs.Inside.Fronts.{behind_of, front_of, with_digits}
 use Rattle.semantics.specs.Order.{arranged, under_key, rows_shown}
 use Rattle.report.specs.Report.{refusals_of, report_of}
 use Rattle.semantics.specs.Texts.{cell_field, marked, report_bytes}

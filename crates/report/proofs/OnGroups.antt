@@ -4,16 +4,16 @@ use Rattle.std.specs.Global.{Vec}
 use Rattle.std.proofs.lemmas.List.Elements.{All-tail}
 use Rattle.semantics.specs.Sets.{sets_of}
 use Rattle.query_plan.specs.Planned.{PlannedQuery}
-use Rattle.groups.specs.declared.group.Group.{Group}
+use Rattle.tables_groups.specs.declared.group.Group.{Group}
 use Rattle.semantics.specs.Found.{Found}
-use Rattle.groups.specs.Found.{row_of}
-use Rattle.rows.specs.declared.source.Source.{Source}
+use Rattle.tables_groups.specs.Found.{row_of}
+use Rattle.report_rows.specs.declared.source.Source.{Source}
 use Rattle.semantics.specs.Order.{arranged, rows_shown}
 use Rattle.semantics.specs.Rows.{row_shown}
-use Rattle.rows.specs.Planned.{HasSetUnder}
-use Rattle.rows.specs.Sources.{AreSourcesOfEach, cells_at}
-use Rattle.rows.proofs.Maps.{map-twice}
-use Rattle.rows.proofs.Sources.{sources-at, sources-count}
+use Rattle.report_rows.specs.Planned.{HasSetUnder}
+use Rattle.report_rows.specs.Sources.{AreSourcesOfEach, cells_at}
+use Rattle.report_rows.proofs.Maps.{map-twice}
+use Rattle.report_rows.proofs.Sources.{sources-at, sources-count}
 
 each-shown : (plan : PlannedQuery) (sources : List (Vec Source)) (groups : List (Bor (ℕ × Group))) → AreSourcesOfEach plan (sets_of plan.fields plan.query) sources
     → All (λ (r : Bor (ℕ × Group)). HasSetUnder plan (row_of r.now)) groups

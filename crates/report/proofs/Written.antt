@@ -11,8 +11,8 @@ use Rattle.semantics.specs.Aggregates.{Summary}
 use Rattle.std.specs.Global.{Vec}
 use Rattle.std.specs.declared.alloc.AllocError.{AllocError}
 use Rattle.std.specs.declared.result.Result.{Result}
-use Rattle.rows.specs.Parts.{AreMade, items_of}
-use Rattle.rows.proofs.InParts.{parts-joined}
+use Rattle.report_rows.specs.Parts.{AreMade, items_of}
+use Rattle.report_rows.proofs.InParts.{parts-joined}
 use Rattle.semantics.specs.Texts.{cell_field, report_bytes}
 use Rattle.report.specs.Text.{rows_bytes}
 use Rattle.report.specs.Inside.Parts.{AreTextsOf, IsTextOf}

@@ -1,23 +1,23 @@
 //! The bytes of a report, whose rows are put in order and written by several threads.
 ghost use Rattle.std.specs.Prelude.{◌≡◌, ◌<◌, All, IfOk, length, map};
-ghost use Rattle.groups.specs.Found.{row_of};
+ghost use Rattle.tables_groups.specs.Found.{row_of};
 ghost use Rattle.tables.specs.Planned.{AreFittingUnder};
 ghost use Rattle.report.specs.Report.{report_of};
 ghost use Rattle.report.specs.Text.{rows_bytes};
 ghost use Rattle.report.specs.Inside.Parts.{AreTextsOf};
-ghost use Rattle.rows.specs.Sources.{cells_at};
+ghost use Rattle.report_rows.specs.Sources.{cells_at};
 
 use crate::parts::joined;
 use crate::text::{begun, ended, put_groups, report_on};
 use csv::WriterBuilder;
-use groups::Group;
 use query_plan::Plan;
-use rows::{PlanView, Source, part_len, shown_among, sources_by_set};
+use report_rows::{PlanView, Source, part_len, shown_among, sources_by_set};
 use std::alloc::{AllocError, Global};
 use std::marker::Sync;
 use std::thread;
 use std::thread::Threads;
 use tables::Groups;
+use tables_groups::Group;
 
 /// The bytes of a report as `report_on` gives them, whose rows are put in order and written by as many threads as there are
 /// hands, the calling one among them, or by fewer where the rows are few or a thread cannot be started.

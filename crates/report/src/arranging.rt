@@ -2,10 +2,10 @@
 ghost use Rattle.std.specs.Prelude.{◌≡◌, All, IfOk, length, map};
 ghost use Rattle.tables.specs.Planned.{AreFittingUnder};
 ghost use Rattle.semantics.specs.Order.{rows_shown};
-ghost use Rattle.rows.specs.Shown.{cells_of};
+ghost use Rattle.report_rows.specs.Shown.{cells_of};
 
 use query_plan::Plan;
-use rows::{PlanView, ReportRow, arranged_rows};
+use report_rows::{PlanView, ReportRow, arranged_rows};
 use std::alloc::{AllocError, Global};
 use tables::Groups;
 

@@ -2,16 +2,16 @@
 ghost use Rattle.std.specs.Prelude.{◌≡◌, [], ◌∷◌, ◌++◌, IfOk, OnOk, codes, decimal, map};
 ghost use Rattle.std.specs.Fmt.{signed_decimal};
 ghost use Rattle.values.specs.Datum.{data_of, datum_of};
-ghost use Rattle.groups.specs.Cells.{summary_of};
+ghost use Rattle.tables_groups.specs.Cells.{summary_of};
 ghost use Rattle.csv.specs.Records.{fields_of, partial_of};
-ghost use Rattle.rows.specs.Sources.{shown_at};
+ghost use Rattle.report_rows.specs.Sources.{shown_at};
 ghost use Rattle.semantics.specs.Texts.{cell_field, marked, value_field};
 
 use csv::ByteRecord;
-use groups::{Cell, Group};
 use itoa::Buffer;
-use rows::Source;
+use report_rows::Source;
 use std::alloc::{AllocError, Global};
+use tables_groups::{Cell, Group};
 use values::Value;
 
 /// Writes the cells of a row as fields over those of another row, whose memory is used again.

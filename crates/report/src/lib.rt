@@ -1,7 +1,7 @@
 //! The bytes of a report, and those of the list of refused lines.
 //!
 //! The definitions are in `specs/`: the two texts (CSV as the crate `csv` writes it). Which rows a report has, what they
-//! show and how they stand is defined in the crate `rows`.
+//! show and how they stand is defined in the crate `report_rows`.
 #![tactic(auto)]
 
 mod among;
@@ -14,5 +14,5 @@ mod text;
 pub use among::report_among;
 pub use arranging::arrange;
 pub use refused::refused_text;
-pub use rows::{ReportRow, arranged_law, order_law};
+pub use report_rows::{ReportRow, arranged_law, order_law};
 pub use text::{report_on, report_text};

@@ -5,24 +5,24 @@ ghost use Rattle.csv.specs.Records.{fields_of};
 ghost use Rattle.csv.specs.Writing.{row_text, default_writer, text_written};
 ghost use Rattle.values.specs.Datum.{data_of};
 ghost use Rattle.semantics.specs.Canonical.{header_text};
-ghost use Rattle.groups.specs.Cells.{summary_of};
-ghost use Rattle.groups.specs.Found.{row_of};
+ghost use Rattle.tables_groups.specs.Cells.{summary_of};
+ghost use Rattle.tables_groups.specs.Found.{row_of};
 ghost use Rattle.tables.specs.Planned.{AreFittingUnder};
 ghost use Rattle.report.specs.Inside.Between.{IsBetweenRows};
-ghost use Rattle.rows.specs.Sources.{cells_at, shown_at};
+ghost use Rattle.report_rows.specs.Sources.{cells_at, shown_at};
 ghost use Rattle.report.specs.Report.{report_of};
-ghost use Rattle.rows.specs.Shown.{cells_of};
+ghost use Rattle.report_rows.specs.Shown.{cells_of};
 ghost use Rattle.semantics.specs.Texts.{cell_field, report_bytes};
 ghost use Rattle.report.specs.Text.{rows_bytes};
 
 use crate::fields::{write_cells, write_group};
 use csv::{ByteRecord, Writer, WriterBuilder};
-use groups::{Cell, Group};
 use query_plan::{Plan, header};
-use rows::{PlanView, ReportRow, Source, shown_groups, sources_at, sources_by_set};
+use report_rows::{PlanView, ReportRow, Source, shown_groups, sources_at, sources_by_set};
 use std::alloc::{AllocError, Global};
 use std::io::Write;
 use tables::Groups;
+use tables_groups::{Cell, Group};
 use values::Value;
 
 /// How many rows are written at a time.

@@ -6,7 +6,7 @@ use Rattle.std.specs.List.Sorted.{IsPermutation}
 use Rattle.std.specs.Bool.{Decides}
 use Rattle.std.specs.List.{AllByRecursion, cons_option, filter, filter_map, find, flat_map}
 use Rattle.semantics.specs.Names.{distinct}
-use Rattle.groups.specs.Bags.{SameBag, weigh}
+use Rattle.tables_groups.specs.Bags.{SameBag, weigh}
 
 -- ---- lists made from others
 

@@ -4,14 +4,14 @@ use Rattle.std.proofs.lemmas.List.{length-map}
 use Rattle.std.specs.Option.{option_and_then}
 use Rattle.semantics.specs.Columns.{Field}
 use Rattle.semantics.specs.Syntax.{PredicateForm, TreeForm}
-use Rattle.query_check.specs.Filters.{filters_at}
+use Rattle.query_typecheck.specs.Filters.{filters_at}
 use Rattle.semantics.specs.Names.{PlannedFunction}
-use Rattle.query_resolution.specs.Functions.{filters_of, indexed, indexed_functions}
+use Rattle.query_resolve.specs.Functions.{filters_of, indexed, indexed_functions}
 use Rattle.semantics.specs.SetFunctions.{functions_of}
 use Rattle.semantics.specs.Inside.Same.{same_predicate}
-use Rattle.query_check.proofs.FilterLemmas.{indexes_lead_back}
+use Rattle.query_typecheck.proofs.FilterLemmas.{indexes_lead_back}
 use Rattle.semantics.specs.Conditions.{passes}
-use Rattle.groups.specs.Functions.{bound, filter_at}
+use Rattle.tables_groups.specs.Functions.{bound, filter_at}
 use Rattle.semantics.specs.Groups.{Row}
 use Rattle.semantics.specs.Found.{aggregate_function, aggregate_functions}
 use Rattle.tables.specs.Functions.{filters_kept}

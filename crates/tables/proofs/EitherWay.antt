@@ -2,11 +2,11 @@
 use Rattle.std.proofs.Common.{◌≡◌, ◌+◌, ◌++◌, ◌⊎◌, ℕ, List, Option, Some, None, IfSome, inl, inr, sym, subst, arith}
 use Rattle.std.specs.FinMap as fin
 use Rattle.semantics.specs.Aggregates.{AggregateFunction}
-use Rattle.groups.specs.Inside.Group.{GroupState}
-use Rattle.groups.specs.Inside.Table.{AreGroupsWithin, CanJoin, Contents, IsFitting, IsTableOf}
+use Rattle.tables_groups.specs.Inside.Group.{GroupState}
+use Rattle.tables_groups.specs.Inside.Table.{AreGroupsWithin, CanJoin, Contents, IsFitting, IsTableOf}
 use Rattle.semantics.specs.Groups.{Row}
-use Rattle.query_resolution.specs.declared.function.FilteredFunction.{FilteredFunction}
-use Rattle.groups.proofs.AnyOrder.{table-same}
+use Rattle.query_resolve.specs.declared.function.FilteredFunction.{FilteredFunction}
+use Rattle.tables_groups.proofs.AnyOrder.{table-same}
 use Rattle.tables.proofs.Bags.{weigh-append}
 
 fits-flip : (a b : Option GroupState) → IfSome b (λ part. IsFitting part a) → IfSome a (λ part. IsFitting part b)

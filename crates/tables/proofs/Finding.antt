@@ -3,13 +3,13 @@ use Rattle.std.proofs.Common.{◌≡◌, ◌+◌, ℕ, List, [], ◌∷◌, map,
 use Rattle.std.proofs.lemmas.List.{map-append}
 use Rattle.std.specs.List.{enumerate_from, flat_map}
 use Rattle.semantics.specs.Aggregates.{AggregateFunction}
-use Rattle.groups.specs.declared.group.Group.{Group}
+use Rattle.tables_groups.specs.declared.group.Group.{Group}
 use Rattle.semantics.specs.Groups.{Row, SetGroup, keys, members}
 use Rattle.semantics.specs.Found.{group_summary, Found, all_found, found}
-use Rattle.groups.specs.GroupSummaries.{group_summaries, group_summary_in}
-use Rattle.groups.specs.Bags.{SameBag, weigh}
+use Rattle.tables_groups.specs.GroupSummaries.{group_summaries, group_summary_in}
+use Rattle.tables_groups.specs.Bags.{SameBag, weigh}
 use Rattle.tables.proofs.Bags.{weigh-append, weigh-map}
-use Rattle.groups.specs.Found.{rows_from}
+use Rattle.tables_groups.specs.Found.{rows_from}
 use Rattle.tables.specs.Sets.{AreGroupsOf}
 
 -- the groups of one grouping set, whose index in the list of sets is this one

@@ -13,11 +13,11 @@ use Rattle.semantics.specs.Names.{PlannedFunction}
 use Rattle.semantics.specs.SetFunctions.{functions_of}
 use Rattle.semantics.specs.Sets.{sets_of}
 use Rattle.semantics.specs.Groups.{Row, Key, keys, members, project, same_key}
-use Rattle.groups.specs.Bags.{SameBag, weigh}
-use Rattle.groups.proofs.GroupsLaw.{keys-distinct}
-use Rattle.groups.proofs.Order.{same_key-Decides}
+use Rattle.tables_groups.specs.Bags.{SameBag, weigh}
+use Rattle.tables_groups.proofs.GroupsLaw.{keys-distinct}
+use Rattle.tables_groups.proofs.Order.{same_key-Decides}
 use Rattle.semantics.specs.Found.{Found, aggregate_function, aggregate_functions, all_found, found}
-use Rattle.groups.specs.Fitting.{AreFitting, HasType}
+use Rattle.tables_groups.specs.Fitting.{AreFitting, HasType}
 use Rattle.tables.proofs.Bags.{all-append, all-distinct, all-same, weigh-map}
 use Rattle.tables.proofs.Finding.{set_groups}
 use Rattle.tables.proofs.Types.{AllFit, HasTypeOf, IsTyped, found-typed}

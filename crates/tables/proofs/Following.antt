@@ -13,7 +13,7 @@ use Rattle.semantics.specs.Records.{good, refused}
 use Rattle.semantics.specs.Lines.{line_feed, lines, without_empty_last}
 use Rattle.lines.specs.Pieces.{AreWholeLines}
 use Rattle.lines.proofs.Fronts.{good-whole_lines, lines-whole_lines, refused-whole_lines}
-use Rattle.groups.specs.Bags.{SameBag, weigh}
+use Rattle.tables_groups.specs.Bags.{SameBag, weigh}
 use Rattle.tables.specs.declared.note.Note.{Note}
 use Rattle.tables.specs.Notes.{AreLinesBehind, AreLinesOf, IsWellNumbered, Noted, lines_noted, note_in, note_of, numbered_from}
 use Rattle.tables.specs.Partials.{one_piece, whole_piece}

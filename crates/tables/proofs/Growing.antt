@@ -9,7 +9,7 @@ use Rattle.semantics.specs.Records.{good, refused}
 use Rattle.semantics.specs.Lines.{lines}
 use Rattle.semantics.specs.Syntax.{TreeForm}
 use Rattle.semantics.specs.Conditions.{kept}
-use Rattle.groups.specs.Bags.{SameBag}
+use Rattle.tables_groups.specs.Bags.{SameBag}
 use Rattle.tables.specs.declared.note.Note.{Note}
 use Rattle.tables.specs.Notes.{IsWellNumbered, Noted, lines_noted, note_in, note_of}
 use Rattle.tables.specs.Pieces.{IndexedPiece, all_lines, records_of, refused_within}

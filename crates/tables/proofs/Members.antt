@@ -11,8 +11,8 @@ use Rattle.semantics.specs.Found.{aggregate_functions, group_summary, Found, fou
 use Rattle.semantics.specs.Sets.{sets_of}
 use Rattle.semantics.specs.Conditions.{kept}
 use Rattle.semantics.specs.Groups.{Row, Key, keys, members}
-use Rattle.groups.specs.GroupSummaries.{group_summaries}
-use Rattle.groups.specs.Bags.{SameBag, weigh}
+use Rattle.tables_groups.specs.GroupSummaries.{group_summaries}
+use Rattle.tables_groups.specs.Bags.{SameBag, weigh}
 use Rattle.tables.specs.Members.{HasEachRecordOnce, members_of_row, rows_of_set}
 use Rattle.tables.proofs.Finding.{set_groups}
 use Rattle.tables.proofs.Bags.{weigh-append, weigh-flat_map, weigh-map}

@@ -11,7 +11,7 @@ use Rattle.semantics.specs.Columns.{Field}
 use Rattle.semantics.specs.declared.line_fault.LineFault.{LineFault}
 use Rattle.semantics.specs.Records.{refused, taken}
 use Rattle.semantics.specs.Lines.{lines}
-use Rattle.groups.specs.Bags.{SameBag, weigh}
+use Rattle.tables_groups.specs.Bags.{SameBag, weigh}
 use Rattle.tables.specs.Notes.{AreLinesOf, Noted, note_of, numbered_from}
 use Rattle.tables.specs.Pieces.{AreInOrder, AreNumbered, HaveOwnIndexes, IndexedPiece, all_lines, pieces_before, refused_numbered}
 use Rattle.tables.proofs.Bags.{bag-map, weigh-flat_map, weigh-same}

@@ -12,7 +12,7 @@ use Rattle.semantics.specs.declared.function.ColumnFunction.{ColumnFunction}
 use Rattle.semantics.specs.declared.function.ColumnFunction.TheVariants as function
 use Rattle.semantics.specs.Names.{kind_at, PlannedFunction}
 use Rattle.semantics.specs.Aggregates.{Summary, plain, ratio}
-use Rattle.groups.specs.Fitting.{AreFitting, HasType, IsAverage, IsCount, IsHeld, IsOfColumn, IsSum}
+use Rattle.tables_groups.specs.Fitting.{AreFitting, HasType, IsAverage, IsCount, IsHeld, IsOfColumn, IsSum}
 use Rattle.semantics.specs.Found.{Found}
 use Rattle.std.specs.Prelude.{pos, negsuc}
 

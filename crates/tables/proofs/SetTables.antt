@@ -11,16 +11,16 @@ use Rattle.std.specs.Result.{result_ok}
 use Rattle.semantics.specs.Columns.{Field}
 use Rattle.semantics.specs.Syntax.{TreeForm}
 use Rattle.semantics.specs.Aggregates.{AggregateFunction}
-use Rattle.groups.specs.Functions.{bound}
+use Rattle.tables_groups.specs.Functions.{bound}
 use Rattle.semantics.specs.Names.{places_of}
-use Rattle.query_resolution.specs.Resolution.{contents}
+use Rattle.query_resolve.specs.Resolution.{contents}
 use Rattle.semantics.specs.Sets.{grouping_places, sets_of}
-use Rattle.query_resolution.proofs.DistinctSets.{names_kept, set_of_names, sets_by_names}
-use Rattle.groups.specs.declared.group.Group.{Group}
-use Rattle.groups.specs.Rolled.{AreAmong}
+use Rattle.query_resolve.proofs.DistinctSets.{names_kept, set_of_names, sets_by_names}
+use Rattle.tables_groups.specs.declared.group.Group.{Group}
+use Rattle.tables_groups.specs.Rolled.{AreAmong}
 use Rattle.semantics.specs.Groups.{Row}
-use Rattle.groups.specs.Inside.Table.{Contents, IsTableOf}
-use Rattle.query_resolution.specs.declared.function.FilteredFunction.{FilteredFunction}
+use Rattle.tables_groups.specs.Inside.Table.{Contents, IsTableOf}
+use Rattle.query_resolve.specs.declared.function.FilteredFunction.{FilteredFunction}
 use Rattle.tables.specs.declared.rolling.Roll.{Roll}
 use Rattle.tables.specs.declared.rolling.SetTable.{SetTable}
 use Rattle.tables.specs.SetTables.{AreRolled, AreTablesOf, HasFiner, IsMade, IsMadeOrRolled}

@@ -8,11 +8,11 @@ use Rattle.std.specs.Option.{option_eq}
 use Rattle.std.specs.Prelude.{String}
 use Rattle.std.specs.String.{string_eq}
 use Rattle.semantics.specs.contracts.function.ColumnFunctionPartialEq.TheImpl.{eq-value}
-use Rattle.query_resolution.specs.contracts.function.FilteredFunctionPartialEq.TheImpl as filtered
+use Rattle.query_resolve.specs.contracts.function.FilteredFunctionPartialEq.TheImpl as filtered
 use Rattle.semantics.specs.declared.function.ColumnFunction.{ColumnFunction}
 use Rattle.semantics.specs.declared.function.ColumnFunction.TheVariants as at
-use Rattle.query_resolution.specs.declared.function.FilteredFunction.{FilteredFunction}
-use Rattle.query_resolution.specs.Resolution.{contents}
+use Rattle.query_resolve.specs.declared.function.FilteredFunction.{FilteredFunction}
+use Rattle.query_resolve.specs.Resolution.{contents}
 use Rattle.tables.proofs.TypeTests.{both-Decides}
 
 pointwise-contents : (test : List ℕ → List ℕ → Bool) (xs ys : List (Vec ℕ Global)) → pointwise (λ x y. test x.items y.items) xs ys ≡ pointwise test (contents xs) (contents ys)

@@ -14,7 +14,7 @@ use Rattle.semantics.specs.declared.function.ColumnFunction.{ColumnFunction}
 use Rattle.semantics.specs.declared.function.ColumnFunction.TheVariants as function
 use Rattle.semantics.specs.Names.{kind_at}
 use Rattle.semantics.specs.Aggregates.{Summary, plain, ratio}
-use Rattle.groups.specs.Fitting.{IsAverage, IsCount, IsHeld, IsOfColumn, IsSum, HasType}
+use Rattle.tables_groups.specs.Fitting.{IsAverage, IsCount, IsHeld, IsOfColumn, IsSum, HasType}
 
 -- ---- truth values that decide
 

@@ -19,11 +19,11 @@ use Rattle.semantics.specs.Names.{kind_at, place_of, places_of, PlannedFunction,
 use Rattle.semantics.specs.SetFunctions.{functions_of, set_functions}
 use Rattle.semantics.specs.Inside.Same.{same_planned}
 use Rattle.semantics.specs.Sets.{grouping_names, grouping_places, ordered_set, sets_of}
-use Rattle.query_resolution.proofs.DistinctSets.{names_kept, set_of_names, sets_by_names}
+use Rattle.query_resolve.proofs.DistinctSets.{names_kept, set_of_names, sets_by_names}
 use Rattle.semantics.specs.Groups.{Row, value_at, Key, keys, members, project, same_key}
 use Rattle.semantics.specs.Aggregates.{column_values, is_present, column_numbers, AggregateFunction, Summary, plain, agg, average_of, filtered, sum_of, value_over}
-use Rattle.groups.specs.Bags.{SameBag}
-use Rattle.groups.specs.Fitting.{IsHeld, HasType}
+use Rattle.tables_groups.specs.Bags.{SameBag}
+use Rattle.tables_groups.specs.Fitting.{IsHeld, HasType}
 use Rattle.semantics.specs.Found.{Found, aggregate_function, aggregate_functions, all_found, found}
 use Rattle.tables.proofs.Bags.{all-append, all-decided, all-distinct, all-everywhere, all-filter, all-filter_map, all-map, find-such}
 use Rattle.tables.proofs.Finding.{set_groups}

@@ -7,10 +7,10 @@ use Rattle.semantics.specs.declared.line_fault.LineFault.{LineFault}
 use Rattle.semantics.specs.Records.{taken}
 use Rattle.semantics.specs.Syntax.{TreeForm}
 use Rattle.semantics.specs.Sets.{grouping_places}
-use Rattle.query_resolution.specs.Functions.{indexed_functions}
+use Rattle.query_resolve.specs.Functions.{indexed_functions}
 use Rattle.semantics.specs.Conditions.{kept}
 use Rattle.semantics.specs.Groups.{Row}
-use Rattle.groups.specs.Inside.Table.{Contents, IsOfFew, IsTableOf, TakesOne}
+use Rattle.tables_groups.specs.Inside.Table.{Contents, IsOfFew, IsTableOf, TakesOne}
 use Rattle.query_plan.specs.Planned.{PlannedQuery}
 use Rattle.semantics.specs.Found.{aggregate_functions}
 use Rattle.tables.specs.declared.folding.Folding.{Folding}

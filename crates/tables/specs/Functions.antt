@@ -3,7 +3,7 @@ use Rattle.std.specs.Prelude.{Bool, ℕ, List, map}
 use Rattle.semantics.specs.Columns.{Field}
 use Rattle.semantics.specs.Syntax.{TreeForm}
 use Rattle.semantics.specs.Canonical.{predicate_text}
-use Rattle.query_resolution.specs.Functions.{filters_of}
+use Rattle.query_resolve.specs.Functions.{filters_of}
 use Rattle.semantics.specs.Conditions.{passes}
 use Rattle.semantics.specs.Groups.{Row}
 

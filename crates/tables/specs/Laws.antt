@@ -12,14 +12,14 @@ use Rattle.lines.specs.declared.pieces.Piece.{Piece}
 use Rattle.semantics.specs.Records.{answers, good, refused, taken}
 use Rattle.semantics.specs.Lines.{lines}
 use Rattle.semantics.specs.Syntax.{TreeForm}
-use Rattle.query_resolution.specs.Functions.{indexed_functions}
+use Rattle.query_resolve.specs.Functions.{indexed_functions}
 use Rattle.semantics.specs.Sets.{grouping_places, sets_of}
 use Rattle.semantics.specs.Conditions.{is_kept, kept}
-use Rattle.groups.specs.Bags.{weigh}
+use Rattle.tables_groups.specs.Bags.{weigh}
 use Rattle.semantics.specs.Groups.{members, Row}
-use Rattle.groups.proofs.Bags.{weigh-append}
-use Rattle.groups.proofs.Meaning.{has_key, group_at-append}
-use Rattle.groups.proofs.AnyOrder.{options-flip}
+use Rattle.tables_groups.proofs.Bags.{weigh-append}
+use Rattle.tables_groups.proofs.Meaning.{has_key, group_at-append}
+use Rattle.tables_groups.proofs.AnyOrder.{options-flip}
 use Rattle.pool.specs.Lawful.{Lawful}
 use Rattle.semantics.specs.Found.{aggregate_functions}
 use Rattle.tables.specs.Functions.{filter_texts}

@@ -6,15 +6,15 @@ use Rattle.semantics.specs.Columns.{Field}
 use Rattle.lines.specs.declared.pieces.Piece.{Piece}
 use Rattle.lines.specs.Pieces.{bytes_of}
 use Rattle.semantics.specs.Syntax.{TreeForm}
-use Rattle.query_resolution.specs.declared.function.FilteredFunction.{FilteredFunction}
-use Rattle.query_resolution.specs.Functions.{indexed_functions}
+use Rattle.query_resolve.specs.declared.function.FilteredFunction.{FilteredFunction}
+use Rattle.query_resolve.specs.Functions.{indexed_functions}
 use Rattle.semantics.specs.Sets.{grouping_places, sets_of}
 use Rattle.semantics.specs.Conditions.{kept}
-use Rattle.groups.specs.Bags.{weigh}
+use Rattle.tables_groups.specs.Bags.{weigh}
 use Rattle.semantics.specs.Aggregates.{AggregateFunction}
 use Rattle.semantics.specs.Groups.{Key, keys, members, same_key, Row}
-use Rattle.groups.specs.Inside.Group.{GroupState, group_state}
-use Rattle.groups.specs.Inside.Table.{join_options}
+use Rattle.tables_groups.specs.Inside.Group.{GroupState, group_state}
+use Rattle.tables_groups.specs.Inside.Table.{join_options}
 use Rattle.semantics.specs.Found.{aggregate_functions}
 use Rattle.tables.specs.Functions.{filter_texts}
 use Rattle.tables.specs.Notes.{Noted, note_of}

@@ -6,7 +6,7 @@ use Rattle.semantics.specs.Syntax.{TreeForm}
 use Rattle.semantics.specs.Sets.{sets_of}
 use Rattle.semantics.specs.Conditions.{kept}
 use Rattle.semantics.specs.Groups.{Row, members}
-use Rattle.groups.specs.Bags.{SameBag, weigh}
+use Rattle.tables_groups.specs.Bags.{SameBag, weigh}
 use Rattle.semantics.specs.Found.{set_of, Found}
 
 -- the rows of the grouping set with this index

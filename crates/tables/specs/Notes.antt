@@ -8,7 +8,7 @@ use Rattle.semantics.specs.declared.line_fault.LineFault.{LineFault}
 use Rattle.semantics.specs.Lines.{lines}
 use Rattle.semantics.specs.Records.{refused}
 use Rattle.tables.specs.declared.note.Note.{Note}
-use Rattle.groups.specs.Bags.{SameBag}
+use Rattle.tables_groups.specs.Bags.{SameBag}
 use Rattle.tables.specs.Pieces.{IndexedPiece}
 
 -- the piece's index, the number of its lines, and its refused lines by their numbers within it

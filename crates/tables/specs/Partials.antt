@@ -4,11 +4,11 @@ use Rattle.semantics.specs.Columns.{Field}
 use Rattle.semantics.specs.Records.{good, refused}
 use Rattle.semantics.specs.Syntax.{TreeForm}
 use Rattle.semantics.specs.Sets.{grouping_places, sets_of}
-use Rattle.query_resolution.specs.Functions.{indexed_functions}
+use Rattle.query_resolve.specs.Functions.{indexed_functions}
 use Rattle.semantics.specs.Conditions.{kept}
 use Rattle.semantics.specs.Groups.{Row}
-use Rattle.groups.specs.Bags.{SameBag}
-use Rattle.groups.specs.Inside.Table.{IsTableOf}
+use Rattle.tables_groups.specs.Bags.{SameBag}
+use Rattle.tables_groups.specs.Inside.Table.{IsTableOf}
 use Rattle.semantics.specs.Found.{aggregate_functions, query_found}
 use Rattle.tables.specs.Functions.{filter_texts}
 use Rattle.tables.specs.Notes.{note_of}

@@ -7,7 +7,7 @@ use Rattle.semantics.specs.declared.line_fault.LineFault.{LineFault}
 use Rattle.semantics.specs.Lines.{lines}
 use Rattle.semantics.specs.Records.{good, refused}
 use Rattle.lines.specs.Pieces.{AllButLast, EndsInFeed}
-use Rattle.groups.specs.Bags.{SameBag}
+use Rattle.tables_groups.specs.Bags.{SameBag}
 use Rattle.semantics.specs.Groups.{Row}
 
 -- a piece of an input: its index among the pieces, and its bytes

@@ -2,13 +2,13 @@
 use Rattle.std.specs.Prelude.{List, map, ℕ}
 use Rattle.semantics.specs.Sets.{grouping_places}
 use Rattle.semantics.specs.Conditions.{kept}
-use Rattle.groups.specs.declared.group.Group.{Group}
-use Rattle.groups.specs.Bags.{SameBag}
+use Rattle.tables_groups.specs.declared.group.Group.{Group}
+use Rattle.tables_groups.specs.Bags.{SameBag}
 use Rattle.semantics.specs.Groups.{Key, members, Row}
-use Rattle.groups.specs.GroupSummaries.{group_summaries, group_summary_in}
-use Rattle.groups.specs.Rolled.{AreAmong, finer_members}
+use Rattle.tables_groups.specs.GroupSummaries.{group_summaries, group_summary_in}
+use Rattle.tables_groups.specs.Rolled.{AreAmong, finer_members}
 use Rattle.query_plan.specs.Planned.{PlannedQuery}
-use Rattle.groups.specs.Fitting.{AreFitting}
+use Rattle.tables_groups.specs.Fitting.{AreFitting}
 use Rattle.semantics.specs.Found.{Found, aggregate_functions}
 use Rattle.tables.specs.Members.{HasEachRecordOnce}
 use Rattle.tables.specs.Partials.{GivesGroups, IsPartialOf, IsResultOf, StandsFor}

@@ -1,11 +1,11 @@
 -- Tables of grouping sets, rolled out of one another.
 use Rattle.std.specs.Prelude.{◌≡◌, ◌≢◌, ◌<◌, ◌^◌, Bool, ℕ, List, All, IfSome, length, map, slice_index_or}
-use Rattle.query_resolution.specs.declared.function.FilteredFunction.{FilteredFunction}
+use Rattle.query_resolve.specs.declared.function.FilteredFunction.{FilteredFunction}
 use Rattle.semantics.specs.Aggregates.{AggregateFunction}
-use Rattle.groups.specs.Functions.{bound}
-use Rattle.groups.specs.Rolled.{AreAmong}
+use Rattle.tables_groups.specs.Functions.{bound}
+use Rattle.tables_groups.specs.Rolled.{AreAmong}
 use Rattle.semantics.specs.Groups.{Row}
-use Rattle.groups.specs.Inside.Table.{IsTableOf}
+use Rattle.tables_groups.specs.Inside.Table.{IsTableOf}
 use Rattle.tables.specs.declared.rolling.Roll.{Roll}
 use Rattle.tables.specs.declared.rolling.SetTable.{SetTable}
 

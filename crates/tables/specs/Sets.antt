@@ -2,10 +2,10 @@
 use Rattle.std.specs.Prelude.{⊤, ℕ, List, [], ◌∷◌, map}
 use Rattle.std.specs.declared.alloc.Global.{Global}
 use Rattle.std.specs.declared.vec.Vec.{Vec}
-use Rattle.groups.specs.declared.group.Group.{Group}
+use Rattle.tables_groups.specs.declared.group.Group.{Group}
 use Rattle.semantics.specs.Aggregates.{AggregateFunction}
-use Rattle.groups.specs.GroupSummaries.{group_summary_in, group_summaries}
-use Rattle.groups.specs.Bags.{SameBag}
+use Rattle.tables_groups.specs.GroupSummaries.{group_summary_in, group_summaries}
+use Rattle.tables_groups.specs.Bags.{SameBag}
 use Rattle.semantics.specs.Groups.{Row}
 
 -- the groups are those of a grouping set over the records: one for each key, and no other

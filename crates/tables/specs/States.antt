@@ -1,8 +1,8 @@
 -- What a partial result and the groups of an input hold, apart from where it lies in memory.
 use Rattle.std.specs.Prelude.{ℕ, List}
 use Rattle.semantics.specs.declared.line_fault.LineFault.{LineFault}
-use Rattle.query_resolution.specs.declared.function.FilteredFunction.{FilteredFunction}
-use Rattle.groups.specs.Inside.Table.{Contents}
+use Rattle.query_resolve.specs.declared.function.FilteredFunction.{FilteredFunction}
+use Rattle.tables_groups.specs.Inside.Table.{Contents}
 use Rattle.semantics.specs.Found.{Found}
 use Rattle.tables.specs.Notes.{Noted}
 

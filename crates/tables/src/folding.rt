@@ -5,10 +5,10 @@ ghost use Rattle.semantics.specs.Groups.{Row};
 ghost use Rattle.tables.specs.Folding.{HasReadUnder, HasRoomUnder, IsTableUnder, refused_of};
 
 use crate::joining::Joiner;
-use groups::Table;
 use lines::{LineFault, LineRefusal, RecordReader, lines_of};
 use query_plan::{Plan, holds};
 use std::alloc::{AllocError, Global};
+use tables_groups::Table;
 use values::{Record, Truth};
 
 /// The lines of a piece, as far as they have been read.

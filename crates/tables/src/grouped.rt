@@ -2,14 +2,14 @@
 ghost use Rattle.std.specs.Prelude.{◌≡◌, ◌<◌, map};
 ghost use Rattle.std.proofs.Props.{props};
 ghost use Rattle.tables.specs.Planned.{FitSomePlan};
-ghost use Rattle.groups.specs.Found.{row_of};
+ghost use Rattle.tables_groups.specs.Found.{row_of};
 
-use groups::Group;
 use lines::LineFault;
 use std::alloc::Global;
 use std::marker::{Model, Sync};
 use std::thread;
 use std::thread::Threads;
+use tables_groups::Group;
 
 /// How many groups there are at least whose memory several threads give back: that of fewer is given back sooner than a
 /// thread is started.
@@ -41,7 +41,7 @@ impl Drop for Groups {
 
 impl Model for Groups {
     ghost use Rattle.std.specs.Prelude.{map};
-    ghost use Rattle.groups.specs.Found.{row_of};
+    ghost use Rattle.tables_groups.specs.Found.{row_of};
     ghost use Rattle.tables.specs.States.{GroupsState};
 
     ghost Value = { GroupsState };

@@ -1,21 +1,21 @@
 //! Two tables of records, put together.
 ghost use Rattle.std.specs.Prelude.{◌≡◌, ◌<◌, ◌⊎◌, ◌+◌, ◌++◌, [], All, Bool, ℕ, IfOk, List, map};
-ghost use Rattle.groups.specs.Bags.{SameBag};
+ghost use Rattle.tables_groups.specs.Bags.{SameBag};
 ghost use Rattle.semantics.specs.Aggregates.{AggregateFunction};
-ghost use Rattle.groups.specs.Functions.{bound};
-ghost use Rattle.groups.specs.GroupSummaries.{group_summaries, group_summary_in};
-ghost use Rattle.groups.specs.Inside.Table.{AreGroupsWithin, CanJoin, IsTableOf};
+ghost use Rattle.tables_groups.specs.Functions.{bound};
+ghost use Rattle.tables_groups.specs.GroupSummaries.{group_summaries, group_summary_in};
+ghost use Rattle.tables_groups.specs.Inside.Table.{AreGroupsWithin, CanJoin, IsTableOf};
 ghost use Rattle.semantics.specs.Groups.{Row};
 ghost use Rattle.tables.specs.SetTables.{AreOfFew, AreRolled, HasFiner, HasRolled, set_of_roll};
-ghost use Rattle.query_resolution.specs.declared.function.FilteredFunction.{FilteredFunction};
+ghost use Rattle.query_resolve.specs.declared.function.FilteredFunction.{FilteredFunction};
 
 use crate::rolling::{Roll, SetTable};
-use groups::{Group, Table};
 use query_plan::FilteredFunction;
 use std::alloc::{AllocError, Global};
 use std::marker::Sync;
 use std::thread;
 use std::thread::Threads;
+use tables_groups::{Group, Table};
 
 /// Who puts two tables of groups together, begins them, rolls them and finishes them.
 ///

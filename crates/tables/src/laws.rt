@@ -5,7 +5,7 @@ ghost use Rattle.lines.specs.declared.pieces.Piece.{Piece};
 ghost use Rattle.semantics.specs.Syntax.{TreeForm};
 ghost use Rattle.semantics.specs.Groups.{Row};
 ghost use Rattle.pool.specs.Totals.{sum_below, total};
-ghost use Rattle.groups.specs.Bags.{SameBag};
+ghost use Rattle.tables_groups.specs.Bags.{SameBag};
 ghost use Rattle.tables.specs.declared.grouped.Groups.{Groups};
 ghost use Rattle.tables.specs.declared.partial.Partial.{Partial};
 ghost use Rattle.tables.specs.Members.{HasEachRecordOnce};
@@ -21,12 +21,12 @@ pub fn order_law()
 {}
 
 /// A law: in the same records in any other order a query finds the same: each row of its groups as often. So the rows that
-/// a report shows are one list, whatever the order of the records, by `arranged_law` of `rows`.
+/// a report shows are one list, whatever the order of the records, by `arranged_law` of `report_rows`.
 pub fn records_law()
     ensures { (fields : List Field) (q : TreeForm) (rows others : List Row) → SameBag rows others
         → SameBag (query_found fields q rows) (query_found fields q others) }
 {
-    groups::records_law();
+    tables_groups::records_law();
 }
 
 /// A law: where groups are those that a query finds in a list of records, each record that WHERE keeps is a member of
@@ -35,7 +35,7 @@ pub fn members_law()
     ensures { (fields : List Field) (q : TreeForm) (groups : Groups) (rows : List Row)
         → GivesGroups fields q groups rows → HasEachRecordOnce fields q groups.found rows }
 {
-    groups::members_law();
+    tables_groups::members_law();
 }
 
 /// A law, with no work to do: a result stands for pieces exactly where it means what they come to.

@@ -16,9 +16,9 @@ mod rows;
 mod shape;
 
 pub use grouped::Groups;
-pub use groups::{Cell, Group};
 pub use job::{Job, JobBy};
 pub use joining::{CallingThread, Hands, Joiner};
 pub use laws::{job_law, meaning_law, members_law, order_law, records_law};
 pub use partial::Partial;
 pub use rolling::{Roll, SetTable};
+pub use tables_groups::{Cell, Group};

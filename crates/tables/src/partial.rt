@@ -3,7 +3,7 @@ ghost use Rattle.std.specs.Prelude.{◌≡◌, ◌<◌, ◌≤◌, ◌^◌, ◌�
 ghost use Rattle.tables.specs.declared.note.Note.{Note};
 ghost use Rattle.std.proofs.Props.{props};
 ghost use Rattle.tables.specs.Notes.{IsWellNumbered, lines_noted, notes_in};
-ghost use Rattle.groups.specs.Inside.Table.{AreGroupsWithin};
+ghost use Rattle.tables_groups.specs.Inside.Table.{AreGroupsWithin};
 
 use crate::folding::{Folding, empty_table, read_onto};
 use crate::grouped::Groups;
@@ -13,11 +13,11 @@ use crate::note::Note;
 use crate::numbering::{number, number_behind, put_behind};
 use crate::rows::rows_of;
 use crate::shape::Shape;
-use groups::{Group, Table, roll_law};
 use lines::LineFault;
 use query_plan::Plan;
 use std::alloc::{AllocError, Global};
 use std::marker::Model;
+use tables_groups::{Group, Table, roll_law};
 
 /// The result of a query over some pieces of an input: the groups of their good records that are kept, the counts
 /// of their lines, and their refused lines.
@@ -61,9 +61,9 @@ impl Model for Partial {
     ghost use Rattle.std.specs.Coded.{codes};
     ghost use Rattle.std.specs.Prelude.{map, string_bytes};
     ghost use Rattle.semantics.specs.contracts.line_fault.LineFault as line_fault;
-    ghost use Rattle.query_resolution.specs.contracts.function.FilteredFunction as filtered_function;
-    ghost use Rattle.query_resolution.specs.Resolution.{contents};
-    ghost use Rattle.groups.specs.Inside.Table.{coded_contents};
+    ghost use Rattle.query_resolve.specs.contracts.function.FilteredFunction as filtered_function;
+    ghost use Rattle.query_resolve.specs.Resolution.{contents};
+    ghost use Rattle.tables_groups.specs.Inside.Table.{coded_contents};
     ghost use Rattle.tables.specs.Notes.{notes_in};
     ghost use Rattle.tables.specs.States.{PartialState};
 

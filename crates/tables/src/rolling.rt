@@ -3,20 +3,20 @@ ghost use Rattle.std.specs.Prelude.{◌≡◌, ◌≢◌, ◌≤◌, ◌<◌, �
 ghost use Rattle.std.specs.Cmp.Lexicographic.{pointwise};
 ghost use Rattle.std.specs.List.{list_any};
 ghost use Rattle.std.specs.List.Sorted.{IsPermutation};
-ghost use Rattle.query_resolution.specs.Resolution.{contents};
+ghost use Rattle.query_resolve.specs.Resolution.{contents};
 ghost use Rattle.semantics.specs.Aggregates.{AggregateFunction};
-ghost use Rattle.groups.specs.Functions.{bound};
+ghost use Rattle.tables_groups.specs.Functions.{bound};
 ghost use Rattle.semantics.specs.Groups.{Row};
-ghost use Rattle.groups.specs.Rolled.{AreAmong};
-ghost use Rattle.groups.specs.Inside.Table.{IsOfFew, IsTableOf};
+ghost use Rattle.tables_groups.specs.Rolled.{AreAmong};
+ghost use Rattle.tables_groups.specs.Inside.Table.{IsOfFew, IsTableOf};
 ghost use Rattle.tables.specs.SetTables.{AreOfFew, AreTablesOf, HasFiner, HasRolled, IsMade, IsMadeOrRolled, set_of_roll};
 ghost use Rattle.tables.specs.Sets.{AreGroupsOf};
 
 use crate::joining::Joiner;
 use crate::shape::copied_sets;
-use groups::{Group, Table};
 use query_plan::FilteredFunction;
 use std::alloc::{AllocError, Global};
+use tables_groups::{Group, Table};
 
 /// The table of a grouping set.
 ///

@@ -1,17 +1,17 @@
 //! The groups of all grouping sets, each beside the index of its set.
 ghost use Rattle.std.specs.Prelude.{◌≡◌, ◌++◌, ℕ, IfOk, OnOk, List, map};
 ghost use Rattle.semantics.specs.Groups.{Row};
-ghost use Rattle.groups.specs.GroupSummaries.{group_summary_in};
-ghost use Rattle.groups.specs.Bags.{SameBag};
-ghost use Rattle.groups.specs.Found.{row_of, rows_from};
+ghost use Rattle.tables_groups.specs.GroupSummaries.{group_summary_in};
+ghost use Rattle.tables_groups.specs.Bags.{SameBag};
+ghost use Rattle.tables_groups.specs.Found.{row_of, rows_from};
 ghost use Rattle.tables.specs.Folding.{IsOfFewUnder, IsTableUnder};
 ghost use Rattle.semantics.specs.Found.{query_found};
 
 use crate::joining::Joiner;
 use crate::rolling::groups_of_sets;
-use groups::{Group, Table};
 use query_plan::Plan;
 use std::alloc::{AllocError, Global};
+use tables_groups::{Group, Table};
 
 /// The groups of each grouping set of a plan, each beside the index of its set, by the table of all grouping columns. The
 /// joiner finishes them.

@@ -1,6 +1,6 @@
 //! What two partial results have the same that can be merged.
 ghost use Rattle.std.specs.Prelude.{◌≡◌, IfOk, IsTrue, ◌↔◌, map, string_bytes};
-ghost use Rattle.query_resolution.specs.Resolution.{contents};
+ghost use Rattle.query_resolve.specs.Resolution.{contents};
 
 use query_plan::{FilteredFunction, Plan, filter_texts};
 use std::alloc::{AllocError, Global};
@@ -28,7 +28,7 @@ impl Drop for Shape {
 
 impl Shape {
     ghost use Rattle.semantics.specs.Sets.{sets_of};
-    ghost use Rattle.query_resolution.specs.Functions.{indexed_functions};
+    ghost use Rattle.query_resolve.specs.Functions.{indexed_functions};
     ghost use Rattle.tables.specs.Functions.{filter_texts};
 
     /// The shape of a plan.

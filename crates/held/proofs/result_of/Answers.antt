@@ -1,8 +1,8 @@
 use Rattle.std.proofs.Common.{◌≡◌, ◌∙◌, length, arith}
 use denote.Param.Send.{sendable}
 use Rattle.tables.proofs.Sharing.{hands_sync, job_by_sync}
-use Rattle.gathering.proofs.Cuts.{same-lines}
-use Rattle.gathering.proofs.Pooled.{few-loads}
+use Rattle.jlreport_scan.proofs.Cuts.{same-lines}
+use Rattle.jlreport_scan.proofs.Pooled.{few-loads}
 use Rattle.held.proofs.Stands.{is-job, stands-for}
 use Rattle.held.proofs.result_of.Goals as goal
 

@@ -4,7 +4,7 @@ use Rattle.std.specs.Global.{Vec}
 use Rattle.std.specs.declared.alloc.AllocError.{AllocError}
 use Rattle.std.specs.declared.result.Result.{Result}
 use Rattle.semantics.specs.Aggregates.{Summary}
-use Rattle.rows.specs.Parts.{AreOfParts}
+use Rattle.report_rows.specs.Parts.{AreOfParts}
 use Rattle.report.specs.Text.{rows_bytes}
 
 -- a text has the bytes of rows

@@ -2,7 +2,7 @@ use Rattle.std.proofs.Common.{rules, ◌≤◌, ◌-◌, length, subst}
 use Rattle.semantics.specs.Prefixes.{IsUnexpected}
 use Rattle.semantics.specs.Grammar.{DerivesWithin}
 use Rattle.semantics.specs.Leaves.{standard}
-use Rattle.query_tree.specs.Syntax.{tree_form}
+use Rattle.query_ast.specs.Syntax.{tree_form}
 use Rattle.query.proofs.Places.{unexpected_at, too_much}
 use Rattle.query.proofs.Refusals.{told_no_token, told_unexpected, told_too_much, told_query}
 use Rattle.query.proofs.parsing.parse.Goals as goal

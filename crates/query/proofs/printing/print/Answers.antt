@@ -1,7 +1,7 @@
 use Rattle.std.proofs.Common.{◌≡◌, ◌≤◌, length, string_bytes, ◌∙◌, ap, sym, subst}
 use Rattle.std.proofs.lemmas.Result.{IfOk-weaker}
 use Rattle.semantics.specs.Canonical.{canonical_text}
-use Rattle.query_tree.specs.Syntax.{tree_form}
+use Rattle.query_ast.specs.Syntax.{tree_form}
 use Rattle.semantics.specs.Reading.{Derives}
 use Rattle.query.proofs.Again.{derives-again}
 use Rattle.query.proofs.printing.print.Goals as goal

@@ -2,7 +2,7 @@ use Rattle.std.proofs.Common.{◌≡◌, ◌≤◌, length, map, ◌++◌, ◌�
 use Rattle.std.proofs.lemmas.Result.{err_from_is_err_and}
 use Rattle.std.proofs.lemmas.List.{map_push}
 use Rattle.semantics.specs.declared.token.Sign.TheVariants.{Comma}
-use Rattle.query_tree.specs.Syntax.{element_form}
+use Rattle.query_ast.specs.Syntax.{element_form}
 use Rattle.query_leaves.specs.Fronts.{is_sign}
 use Rattle.query_leaves.proofs.More.{unread_goes, unread_ends, unread_fails}
 use Rattle.query_predicates.specs.PredicateSteps.{any_front}

@@ -1,6 +1,6 @@
 use Rattle.std.proofs.Common.{◌+◌, ◌*◌, ◌≤◌, length, map, ◌∷◌, []}
 use Rattle.semantics.specs.declared.token.Sign.TheVariants.{Comma}
-use Rattle.query_tree.specs.Syntax.{element_form}
+use Rattle.query_ast.specs.Syntax.{element_form}
 use Rattle.query_leaves.specs.Fronts.{is_sign}
 use Rattle.query_leaves.specs.Steps.{with_front, more}
 use Rattle.query_leaves.proofs.More.{Unread}

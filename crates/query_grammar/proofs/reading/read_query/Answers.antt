@@ -1,5 +1,5 @@
 use Rattle.query_grammar.proofs.Complete.{read}
-use Rattle.query_tree.specs.Syntax.{tree_form}
+use Rattle.query_ast.specs.Syntax.{tree_form}
 use Rattle.query_grammar.proofs.Faults.{derived, unexpected, over_limit}
 use Rattle.query_grammar.proofs.reading.read_query.Goals as goal
 

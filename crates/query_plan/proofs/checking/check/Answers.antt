@@ -1,11 +1,11 @@
 use Rattle.std.proofs.Common.{◌≡◌, ◌∙◌, Some, ap, subst}
 use Rattle.semantics.specs.Syntax.{TreeForm}
-use Rattle.query_resolution.specs.Functions.{filters_of}
-use Rattle.query_resolution.specs.Resolution.{resolution_of}
-use Rattle.query_check.specs.Inside.FirstFaults.{query_fault}
-use Rattle.query_check.specs.Typing.{IsTyped}
-use Rattle.query_check.proofs.FaultHeads.{faultless_is_typed, first_of_faults}
-use Rattle.query_truth.specs.Binding.{AreConditionsOf, IsConditionOf}
+use Rattle.query_resolve.specs.Functions.{filters_of}
+use Rattle.query_resolve.specs.Resolution.{resolution_of}
+use Rattle.query_typecheck.specs.Inside.FirstFaults.{query_fault}
+use Rattle.query_typecheck.specs.Typing.{IsTyped}
+use Rattle.query_typecheck.proofs.FaultHeads.{faultless_is_typed, first_of_faults}
+use Rattle.query_eval.specs.Binding.{AreConditionsOf, IsConditionOf}
 use Rattle.query_plan.proofs.checking.check.Goals as goal
 
 pub new-requires-clause-typed : goal.new-requires-clause-typed

@@ -2,8 +2,8 @@ use Rattle.std.proofs.Common.{◌≡◌, ◌∙◌, ◌<◌, ℕ, List, Some, le
 use Rattle.std.proofs.lemmas.List.{length-map}
 use Rattle.std.proofs.lemmas.Result.{IfOk-weaker}
 use Rattle.semantics.specs.Syntax.{ItemForm, TreeForm}
-use Rattle.query_tree.specs.Syntax.{item_form}
-use Rattle.query_tree.specs.declared.tree.Item.{Item}
+use Rattle.query_ast.specs.Syntax.{item_form}
+use Rattle.query_ast.specs.declared.tree.Item.{Item}
 use Rattle.semantics.specs.Canonical.{header_text}
 use Rattle.query_plan.proofs.Filtering.{mapped_at}
 use Rattle.query_plan.proofs.printing.header.Goals as goal

@@ -1,5 +1,5 @@
 use Rattle.std.proofs.Common.{◌≡◌, ◌++◌, drop, map, string_bytes}
-use Rattle.query_resolution.specs.Planning.{filter_forms}
+use Rattle.query_resolve.specs.Planning.{filter_forms}
 use Rattle.semantics.specs.Canonical.{predicate_text}
 use Rattle.query_plan.proofs.printing.predicate_texts.Given as goal
 

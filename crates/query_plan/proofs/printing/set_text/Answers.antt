@@ -3,7 +3,7 @@ use Rattle.std.proofs.lemmas.List.{get_or-map, length-map}
 use Rattle.std.proofs.lemmas.Option.{slice_get-get_or}
 use Rattle.std.proofs.lemmas.Result.{IfOk-weaker}
 use Rattle.std.specs.Global.{Vec}
-use Rattle.query_resolution.specs.Resolution.{contents}
+use Rattle.query_resolve.specs.Resolution.{contents}
 use Rattle.semantics.specs.Sets.{sets_of}
 use Rattle.semantics.specs.Canonical.{set_text}
 use Rattle.query_plan.proofs.printing.set_text.Goals as goal

@@ -2,7 +2,7 @@ use Rattle.std.proofs.Common.{◌≡◌, ◌++◌, ◌∷◌, [], map, length, a
 use Rattle.std.proofs.lemmas.Result.{err_from_is_err_and}
 use Rattle.std.proofs.lemmas.List.{map_push}
 use Rattle.semantics.specs.declared.token.Word.TheVariants.{And, Or}
-use Rattle.query_tree.specs.Syntax.{predicate_form}
+use Rattle.query_ast.specs.Syntax.{predicate_form}
 use Rattle.semantics.specs.Leaves.{standard}
 use Rattle.query_leaves.specs.Fronts.{is_word}
 use Rattle.query_predicates.specs.PredicateSteps.{negation_at, conjunction_at, any_front, inside_of}

@@ -1,6 +1,6 @@
 use Rattle.std.proofs.Common.{◌+◌, ◌*◌, ◌≤◌, length, map}
 use Rattle.semantics.specs.declared.token.Word.TheVariants.{And, Or}
-use Rattle.query_tree.specs.Syntax.{predicate_form}
+use Rattle.query_ast.specs.Syntax.{predicate_form}
 use Rattle.semantics.specs.Leaves.{standard}
 use Rattle.query_leaves.specs.Fronts.{is_word}
 use Rattle.query_leaves.specs.Steps.{more}

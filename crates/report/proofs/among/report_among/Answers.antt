@@ -3,16 +3,16 @@ use Rattle.std.specs.List.{flat_map}
 use Rattle.csv.specs.Writing.{text_written}
 use Rattle.query_plan.specs.Planned.{PlannedQuery}
 use Rattle.semantics.specs.Aggregates.{Summary}
-use Rattle.groups.specs.declared.group.Group.{Group}
-use Rattle.groups.specs.Fitting.{AreFitting}
+use Rattle.tables_groups.specs.declared.group.Group.{Group}
+use Rattle.tables_groups.specs.Fitting.{AreFitting}
 use Rattle.semantics.specs.Found.{Found}
-use Rattle.groups.specs.Found.{row_of}
+use Rattle.tables_groups.specs.Found.{row_of}
 use Rattle.semantics.specs.Order.{rows_shown}
-use Rattle.rows.specs.Parts.{items_of}
-use Rattle.rows.specs.Sources.{cells_at}
+use Rattle.report_rows.specs.Parts.{items_of}
+use Rattle.report_rows.specs.Sources.{cells_at}
 use Rattle.semantics.specs.Texts.{report_bytes}
 use Rattle.report.proofs.OnGroups.{groups-shown, groups-within}
-use Rattle.rows.proofs.InParts.{joined-whole}
+use Rattle.report_rows.proofs.InParts.{joined-whole}
 use Rattle.report.proofs.Written.{report-joined, texts-joined}
 use Rattle.report.proofs.among.report_among.Goals as goal
 

@@ -1,12 +1,12 @@
 use Rattle.std.proofs.Common.{◌≡◌, ◌∙◌, ◌*◌, ℕ, Bor, List, IfOk, length, map, take, drop, get_or, ap, sym, subst, arith}
 use Rattle.std.proofs.lemmas.List.{drop-map, length-map, take-map}
 use Rattle.semantics.specs.Aggregates.{Summary}
-use Rattle.groups.specs.declared.group.Group.{Group}
-use Rattle.groups.specs.Found.{row_of}
+use Rattle.tables_groups.specs.declared.group.Group.{Group}
+use Rattle.tables_groups.specs.Found.{row_of}
 use Rattle.report.specs.Inside.Parts.{IsTextOf}
-use Rattle.rows.specs.Sources.{cells_at}
+use Rattle.report_rows.specs.Sources.{cells_at}
 use Rattle.report.specs.Text.{rows_bytes}
-use Rattle.rows.proofs.InParts.{parts-cover, parts-made}
+use Rattle.report_rows.proofs.InParts.{parts-cover, parts-made}
 use Rattle.report.proofs.among.texts_among.Goals as goal
 
 pub returns : goal.returns

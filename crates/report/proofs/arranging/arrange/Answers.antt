@@ -1,10 +1,10 @@
 use Rattle.std.proofs.Common.{◌≡◌, All, IfOk, List, length, map, subst, sym}
 use Rattle.query_plan.specs.Planned.{PlannedQuery}
-use Rattle.groups.specs.Fitting.{AreFitting}
+use Rattle.tables_groups.specs.Fitting.{AreFitting}
 use Rattle.semantics.specs.Found.{Found}
-use Rattle.groups.specs.Found.{row_of}
+use Rattle.tables_groups.specs.Found.{row_of}
 use Rattle.semantics.specs.Order.{rows_shown}
-use Rattle.rows.specs.Shown.{cells_of}
+use Rattle.report_rows.specs.Shown.{cells_of}
 use Rattle.report.proofs.arranging.arrange.Goals as goal
 
 pub arranged_rows-requires : goal.arranged_rows-requires

@@ -1,6 +1,6 @@
 use Rattle.std.proofs.Common.{◌≡◌, ◌++◌}
 use Rattle.std.specs.List.{flat_map}
-use Rattle.rows.specs.Parts.{AreMade, items_of}
+use Rattle.report_rows.specs.Parts.{AreMade, items_of}
 use Rattle.report.proofs.parts.joined.Given as goal
 
 -- all parts were made if those that are left were, and the items of these behind those so far are all

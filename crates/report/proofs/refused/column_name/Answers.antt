@@ -4,7 +4,7 @@ use Rattle.std.proofs.lemmas.Option.{slice_get_read}
 use Rattle.values.specs.declared.schema.Column.{Column}
 use Rattle.values.specs.Schema.{field_of}
 use Rattle.semantics.specs.Canonical.{name_at}
-use Rattle.query_print.proofs.Pushes.{name_there}
+use Rattle.query_printer.proofs.Pushes.{name_there}
 use Rattle.report.proofs.refused.column_name.Goals as goal
 
 pub returns : goal.returns

@@ -1,6 +1,6 @@
 use Rattle.std.proofs.Common.{◌∙◌, [], ◌∷◌, ◌++◌, sym, string_bytes}
 use Rattle.semantics.specs.Canonical.{header_text}
-use Rattle.rows.proofs.Maps.{map-next}
+use Rattle.report_rows.proofs.Maps.{map-next}
 use Rattle.report.proofs.text.headers.Goals as goal
 
 pub loop-item-preserved : goal.loop-item-preserved

@@ -1,10 +1,10 @@
 use Rattle.std.proofs.Common.{◌≡◌, ◌∙◌, ◌+◌, ◌<◌, Bor, ℕ, Some, length, map, take, refl, ap, sym, subst, slice_get, option_map}
 use Rattle.std.proofs.lemmas.Option.{slice_get_read}
 use Rattle.csv.specs.Writing.{text_written}
-use Rattle.groups.specs.declared.group.Group.{Group}
-use Rattle.groups.specs.Found.{row_of}
-use Rattle.rows.specs.Sources.{cells_at, shown_at}
-use Rattle.rows.proofs.Maps.{map-next}
+use Rattle.tables_groups.specs.declared.group.Group.{Group}
+use Rattle.tables_groups.specs.Found.{row_of}
+use Rattle.report_rows.specs.Sources.{cells_at, shown_at}
+use Rattle.report_rows.proofs.Maps.{map-next}
 use Rattle.report.proofs.Written.{appended-next, appended-none}
 use Rattle.report.proofs.text.put_few.Goals as goal
 

@@ -1,10 +1,10 @@
 use Rattle.std.proofs.Common.{Bor, ℕ, Some, map, take}
 use Rattle.std.specs.Io.KnownBytes.{Appends}
 use Rattle.csv.specs.Writing.{text_written}
-use Rattle.groups.specs.declared.group.Group.{Group}
-use Rattle.groups.specs.Found.{row_of}
+use Rattle.tables_groups.specs.declared.group.Group.{Group}
+use Rattle.tables_groups.specs.Found.{row_of}
 use Rattle.report.specs.Inside.Between.{IsBetweenRows}
-use Rattle.rows.specs.Sources.{cells_at}
+use Rattle.report_rows.specs.Sources.{cells_at}
 use Rattle.report.specs.Text.{rows_bytes}
 use Rattle.report.proofs.text.put_few.Given as goal
 

@@ -2,12 +2,12 @@ use Rattle.std.proofs.Common.{◌≡◌, ◌∙◌, ◌+◌, ◌++◌, ◌-◌, 
 use Rattle.std.specs.Io.KnownBytes.{Appends}
 use Rattle.std.proofs.KnownBytes.{Appends-trans}
 use Rattle.csv.specs.Writing.{text_written}
-use Rattle.groups.specs.declared.group.Group.{Group}
+use Rattle.tables_groups.specs.declared.group.Group.{Group}
 use Rattle.semantics.specs.Aggregates.{Summary}
-use Rattle.groups.specs.Found.{row_of}
-use Rattle.rows.specs.Sources.{cells_at}
+use Rattle.tables_groups.specs.Found.{row_of}
+use Rattle.report_rows.specs.Sources.{cells_at}
 use Rattle.report.specs.Text.{rows_bytes}
-use Rattle.rows.proofs.Maps.{map-more}
+use Rattle.report_rows.proofs.Maps.{map-more}
 use Rattle.report.proofs.Written.{rows-append}
 use Rattle.report.proofs.text.put_groups.Goals as goal
 

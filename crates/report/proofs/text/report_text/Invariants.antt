@@ -1,7 +1,7 @@
 use Rattle.std.proofs.Common.{◌≡◌, Some, map, take}
 use Rattle.csv.specs.Writing.{text_written}
 use Rattle.report.specs.Inside.Between.{IsBetweenRows}
-use Rattle.rows.specs.Shown.{cells_of}
+use Rattle.report_rows.specs.Shown.{cells_of}
 use Rattle.semantics.specs.Texts.{report_bytes}
 use Rattle.report.proofs.text.report_text.Given as goal
 

@@ -1,8 +1,8 @@
 use Rattle.std.proofs.Common.{◌≡◌, [], Bool, List, map, ap, subst, ◌∙◌}
 use Rattle.std.proofs.lemmas.Result.{IfOk-weaker}
 use Rattle.semantics.specs.Aggregates.{AggregateFunction}
-use Rattle.groups.specs.Functions.{bound}
-use Rattle.groups.specs.Inside.Table.{Contents, IsTableOf}
+use Rattle.tables_groups.specs.Functions.{bound}
+use Rattle.tables_groups.specs.Inside.Table.{Contents, IsTableOf}
 use Rattle.semantics.specs.Groups.{Row}
 use Rattle.semantics.specs.Sets.{grouping_places}
 use Rattle.semantics.specs.Found.{aggregate_functions}

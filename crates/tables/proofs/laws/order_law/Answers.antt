@@ -6,9 +6,9 @@ use Rattle.semantics.specs.Conditions.{is_kept, kept}
 use Rattle.semantics.specs.Found.{aggregate_functions}
 use Rattle.tables.specs.Notes.{note_of}
 use Rattle.tables.specs.Pieces.{all_lines, records_of, refused_within}
-use Rattle.groups.proofs.Bags.{bag-filter, length-bag}
+use Rattle.tables_groups.proofs.Bags.{bag-filter, length-bag}
 use Rattle.tables.proofs.Bags.{bag-map}
-use Rattle.groups.proofs.AnyOrder.{table-same}
+use Rattle.tables_groups.proofs.AnyOrder.{table-same}
 use Rattle.tables.proofs.SameBags.{bag-flat_map}
 use Rattle.tables.proofs.laws.order_law.Goals as goal
 

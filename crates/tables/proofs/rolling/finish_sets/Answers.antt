@@ -2,10 +2,10 @@ use Rattle.std.proofs.Common.{All, ◌≡◌, ◌+◌, ◌++◌, ◌∷◌, [], 
 use Rattle.std.proofs.Math.Logic.{∥∥₁_map}
 use Rattle.std.proofs.lemmas.List.{drop_more, length-drop, map-append, take_all, take_more}
 use Rattle.std.proofs.lemmas.List.Elements.{All-head, All-tail}
-use Rattle.groups.specs.declared.group.Group.{Group}
-use Rattle.groups.specs.Functions.{bound}
-use Rattle.groups.specs.Inside.Table.{IsTableOf}
-use Rattle.query_resolution.specs.Resolution.{contents}
+use Rattle.tables_groups.specs.declared.group.Group.{Group}
+use Rattle.tables_groups.specs.Functions.{bound}
+use Rattle.tables_groups.specs.Inside.Table.{IsTableOf}
+use Rattle.query_resolve.specs.Resolution.{contents}
 use Rattle.tables.specs.Sets.{AreGroupsOf}
 use Rattle.tables.specs.SetTables.{IsMade}
 use Rattle.tables.proofs.SetTables.{groups-more, none-same, not-true}

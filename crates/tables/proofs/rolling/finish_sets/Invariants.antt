@@ -1,6 +1,6 @@
 use Rattle.std.proofs.Common.{All, Bool, List, drop, map, take}
-use Rattle.query_resolution.specs.Resolution.{contents}
-use Rattle.groups.specs.Functions.{bound}
+use Rattle.query_resolve.specs.Resolution.{contents}
+use Rattle.tables_groups.specs.Functions.{bound}
 use Rattle.semantics.specs.Groups.{Row}
 use Rattle.tables.specs.Sets.{AreGroupsOf}
 use Rattle.tables.specs.SetTables.{AreTablesOf, IsMade}

@@ -2,7 +2,7 @@ use Rattle.std.proofs.Common.{All, List, Vec, Global, ℕ, sym, subst}
 use Rattle.std.proofs.Math.Logic.{∥∥₁_map}
 use Rattle.std.proofs.lemmas.List.Sorted.{All-permutation, IsPermutation-sym}
 use Rattle.std.proofs.lemmas.Result.{IfOk-weaker}
-use Rattle.groups.specs.Rolled.{AreAmong}
+use Rattle.tables_groups.specs.Rolled.{AreAmong}
 use Rattle.tables.specs.SetTables.{IsMade}
 use Rattle.tables.proofs.SetTables.{all-contents, all-from_contents}
 use Rattle.tables.proofs.rolling.groups_of_sets.Goals as goal

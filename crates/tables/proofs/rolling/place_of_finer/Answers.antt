@@ -1,7 +1,7 @@
 use Rattle.std.proofs.Common.{All, ◌<◌, ◌≤◌, length, slice_index_or, sym, subst, ◌∙◌, arith}
 use Rattle.std.proofs.lemmas.List.{take_all}
 use Rattle.std.proofs.lemmas.List.Elements.{All-more, at_read}
-use Rattle.groups.specs.Rolled.{AreAmong}
+use Rattle.tables_groups.specs.Rolled.{AreAmong}
 use Rattle.tables.specs.declared.rolling.SetTable.{SetTable}
 use Rattle.tables.proofs.SetTables.{under}
 use Rattle.tables.proofs.rolling.place_of_finer.Goals as goal

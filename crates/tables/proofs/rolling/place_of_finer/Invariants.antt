@@ -1,5 +1,5 @@
 use Rattle.std.proofs.Common.{All, ◌<◌, ◌≤◌, length, slice_index_or, take}
-use Rattle.groups.specs.Rolled.{AreAmong}
+use Rattle.tables_groups.specs.Rolled.{AreAmong}
 use Rattle.tables.specs.declared.rolling.SetTable.{SetTable}
 use Rattle.tables.proofs.rolling.place_of_finer.Given as goal
 

@@ -1,8 +1,8 @@
 use Rattle.std.proofs.Common.{◌≡◌, ◌∙◌, ◌∷◌, [], All, List, slice_index_or, drop, length, map, ap, sym, subst, arith}
 use Rattle.std.proofs.lemmas.List.{nil_from_length}
 use Rattle.std.proofs.lemmas.List.Elements.{All-head, All-push, All-tail}
-use Rattle.groups.specs.Functions.{bound}
-use Rattle.groups.specs.Inside.Table.{IsTableOf}
+use Rattle.tables_groups.specs.Functions.{bound}
+use Rattle.tables_groups.specs.Inside.Table.{IsTableOf}
 use Rattle.tables.specs.declared.rolling.Roll.{Roll}
 use Rattle.tables.specs.declared.rolling.SetTable.{SetTable}
 use Rattle.tables.specs.SetTables.{AreRolled, AreTablesOf, HasFiner, IsMadeOrRolled}

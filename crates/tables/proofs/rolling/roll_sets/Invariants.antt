@@ -1,5 +1,5 @@
 use Rattle.std.proofs.Common.{All, List, ℕ, Bool, map}
-use Rattle.groups.specs.Functions.{bound}
+use Rattle.tables_groups.specs.Functions.{bound}
 use Rattle.semantics.specs.Groups.{Row}
 use Rattle.tables.specs.SetTables.{AreTablesOf, IsMadeOrRolled}
 use Rattle.tables.proofs.SetTables.{IsRolledOutOf}

@@ -1,9 +1,9 @@
 use Rattle.std.proofs.Common.{ℕ, List, map, sym, subst}
 use Rattle.std.proofs.Math.Logic.{∥∥₁_map}
 use Rattle.std.proofs.lemmas.Result.{IfOk-weaker}
-use Rattle.groups.specs.Functions.{bound}
-use Rattle.groups.specs.Inside.Table.{IsTableOf}
-use Rattle.groups.specs.Rolled.{AreAmong}
+use Rattle.tables_groups.specs.Functions.{bound}
+use Rattle.tables_groups.specs.Inside.Table.{IsTableOf}
+use Rattle.tables_groups.specs.Rolled.{AreAmong}
 use Rattle.tables.specs.declared.rolling.SetTable.{SetTable}
 use Rattle.tables.proofs.SetTables.{table-at}
 use Rattle.tables.proofs.rolling.rolled_out.Goals as goal

@@ -1,8 +1,8 @@
 use Rattle.std.proofs.Common.{Vec, Global, ℕ, map, take, slice_index_or, sym, subst}
 use Rattle.std.proofs.Math.Logic.{∥∥₁_map}
 use Rattle.std.proofs.lemmas.List.Elements.{All-take}
-use Rattle.groups.specs.Functions.{bound}
-use Rattle.groups.specs.Rolled.{AreAmong}
+use Rattle.tables_groups.specs.Functions.{bound}
+use Rattle.tables_groups.specs.Rolled.{AreAmong}
 use Rattle.tables.specs.declared.rolling.SetTable.{SetTable}
 use Rattle.tables.specs.SetTables.{AreTablesOf, IsMade}
 use Rattle.tables.proofs.SetTables.{finer-there}

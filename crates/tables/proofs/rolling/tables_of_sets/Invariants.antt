@@ -1,7 +1,7 @@
 use Rattle.std.proofs.Common.{Bool, List, map}
-use Rattle.groups.specs.Functions.{bound}
+use Rattle.tables_groups.specs.Functions.{bound}
 use Rattle.semantics.specs.Groups.{Row}
-use Rattle.groups.specs.Inside.Table.{IsTableOf}
+use Rattle.tables_groups.specs.Inside.Table.{IsTableOf}
 use Rattle.tables.specs.SetTables.{AreTablesOf, IsMade}
 use Rattle.tables.proofs.rolling.tables_of_sets.Given as goal
 

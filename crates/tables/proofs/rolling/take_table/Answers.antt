@@ -1,7 +1,7 @@
 use Rattle.std.proofs.Common.{List, map, sym, subst}
 use Rattle.std.proofs.Math.Logic.{∥∥₁_map}
 use Rattle.std.proofs.lemmas.Result.{IfOk-weaker}
-use Rattle.groups.specs.Functions.{bound}
+use Rattle.tables_groups.specs.Functions.{bound}
 use Rattle.tables.specs.declared.rolling.SetTable.{SetTable}
 use Rattle.tables.specs.SetTables.{AreTablesOf, IsMade}
 use Rattle.tables.proofs.SetTables.{among-self, made-left, placed-at, table-of, tables-left}

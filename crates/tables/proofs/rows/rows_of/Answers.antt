@@ -1,15 +1,15 @@
 use Rattle.std.proofs.Common.{All, List, ◌≡◌, map, ap, sym, subst, ◌∙◌}
 use Rattle.std.proofs.Math.Logic.{∥∥₁_map}
 use Rattle.std.proofs.lemmas.Result.{IfOk-weaker}
-use Rattle.query_resolution.specs.declared.function.FilteredFunction.{FilteredFunction}
-use Rattle.query_resolution.specs.Resolution.{contents}
+use Rattle.query_resolve.specs.declared.function.FilteredFunction.{FilteredFunction}
+use Rattle.query_resolve.specs.Resolution.{contents}
 use Rattle.semantics.specs.Sets.{grouping_places, sets_of}
 use Rattle.semantics.specs.Conditions.{kept}
-use Rattle.groups.specs.Bags.{SameBag}
+use Rattle.tables_groups.specs.Bags.{SameBag}
 use Rattle.semantics.specs.Aggregates.{AggregateFunction}
-use Rattle.groups.specs.Functions.{bound}
-use Rattle.groups.specs.Inside.Table.{IsOfFew, IsTableOf}
-use Rattle.groups.specs.Rolled.{AreAmong}
+use Rattle.tables_groups.specs.Functions.{bound}
+use Rattle.tables_groups.specs.Inside.Table.{IsOfFew, IsTableOf}
+use Rattle.tables_groups.specs.Rolled.{AreAmong}
 use Rattle.semantics.specs.Found.{aggregate_functions, query_found}
 use Rattle.tables.specs.Functions.{filters_kept}
 use Rattle.tables.specs.Sets.{AreGroupsOf}

@@ -1,5 +1,5 @@
 use Rattle.std.proofs.Common.{◌≡◌, take}
-use Rattle.query_resolution.specs.Resolution.{contents}
+use Rattle.query_resolve.specs.Resolution.{contents}
 use Rattle.tables.proofs.shape.copied_sets.Given as goal
 
 -- the sets so far are copied

@@ -3,13 +3,13 @@ use Rattle.std.proofs.Math.Logic.{∥∥₁_elim}
 use Rattle.std.specs.Coded.{Coded-set, coded_bool}
 use Rattle.std.specs.List.{list_all}
 use Rattle.std.proofs.lemmas.List.Elements.{recursion_from_All}
-use Rattle.query_check.specs.declared.scope.Clause.TheVariants as clause
+use Rattle.query_typecheck.specs.declared.scope.Clause.TheVariants as clause
 use Rattle.semantics.specs.Records.{Fits}
-use Rattle.query_resolution.specs.Functions.{filters_of}
-use Rattle.query_check.specs.Typing.{IsTypedPredicate}
-use Rattle.query_truth.specs.declared.condition.Condition.{Condition}
+use Rattle.query_resolve.specs.Functions.{filters_of}
+use Rattle.query_typecheck.specs.Typing.{IsTypedPredicate}
+use Rattle.query_eval.specs.declared.condition.Condition.{Condition}
 use Rattle.semantics.specs.Conditions.{record_value, truth}
-use Rattle.query_truth.specs.Meaning.{condition_truth, is_safe}
+use Rattle.query_eval.specs.Meaning.{condition_truth, is_safe}
 use Rattle.query_plan.specs.Planned.{PlannedQuery}
 use Rattle.query_plan.proofs.Filtering.{all_safe, all_worth}
 use Rattle.query_plan.proofs.TruthCodes.{all-truths-same}

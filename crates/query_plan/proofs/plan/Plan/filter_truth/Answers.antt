@@ -3,8 +3,8 @@ use Rattle.std.specs.Option.{option_and_then}
 use Rattle.values.specs.Datum.{data_of}
 use Rattle.semantics.specs.declared.truth.Truth.{Truth}
 use Rattle.semantics.specs.declared.function.ColumnFunction.TheVariants.{CountRows}
-use Rattle.query_resolution.specs.declared.function.FilteredFunction.{FilteredFunction}
-use Rattle.query_resolution.specs.Functions.{filter_at, filters_of}
+use Rattle.query_resolve.specs.declared.function.FilteredFunction.{FilteredFunction}
+use Rattle.query_resolve.specs.Functions.{filter_at, filters_of}
 use Rattle.query_plan.proofs.Filtering.{as_many, filter_read, index_below, no_filter, place_within, read_at, worth_read}
 use Rattle.query_plan.proofs.plan.Plan.filter_truth.Goals as goal
 

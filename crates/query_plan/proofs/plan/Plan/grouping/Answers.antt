@@ -2,7 +2,7 @@ use mathlib.Core.List.{is_set}
 use native.Mathlib.Nat.{ℕ_set}
 use Rattle.std.proofs.Common.{◌≡◌, ◌∙◌, ap}
 use Rattle.std.proofs.Math.Logic.{∥∥₁_elim}
-use Rattle.query_resolution.specs.Resolution.{Resolution}
+use Rattle.query_resolve.specs.Resolution.{Resolution}
 use Rattle.semantics.specs.Sets.{grouping_places}
 use Rattle.query_plan.specs.Planned.{PlannedQuery}
 use Rattle.query_plan.proofs.plan.Plan.grouping.Goals as goal

@@ -1,7 +1,7 @@
 use Rattle.std.proofs.Common.{◌∙◌, List, map, ap}
 use Rattle.semantics.specs.Values.{Datum}
 use Rattle.values.specs.Datum.{data_of}
-use Rattle.query_resolution.specs.Functions.{filters_of}
+use Rattle.query_resolve.specs.Functions.{filters_of}
 use Rattle.semantics.specs.Syntax.{PredicateForm}
 use Rattle.semantics.specs.Conditions.{passes}
 use Rattle.query_plan.proofs.Filtering.{marks_are, on_ok_more}

@@ -1,5 +1,5 @@
 use Rattle.std.proofs.Common.{ap, subst}
-use Rattle.query_check.specs.Typing.{IsTyped}
+use Rattle.query_typecheck.specs.Typing.{IsTyped}
 use Rattle.query_plan.specs.Planned.{PlannedQuery}
 use Rattle.query_plan.proofs.plan.Plan.query.Goals as goal
 

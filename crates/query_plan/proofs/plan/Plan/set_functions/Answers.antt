@@ -1,7 +1,7 @@
 use Rattle.std.proofs.Common.{◌∙◌, ap}
 use Rattle.std.proofs.Math.Logic.{∥∥₁_elim}
-use Rattle.query_resolution.specs.Functions.{indexed_functions}
-use Rattle.query_resolution.specs.Resolution.{Resolution}
+use Rattle.query_resolve.specs.Functions.{indexed_functions}
+use Rattle.query_resolve.specs.Resolution.{Resolution}
 use Rattle.query_plan.specs.Planned.{PlannedQuery}
 use Rattle.query_plan.proofs.FunctionCodes.{functions-same}
 use Rattle.query_plan.proofs.plan.Plan.set_functions.Goals as goal

@@ -3,7 +3,7 @@ use Rattle.std.proofs.Math.Logic.{∥∥₁_elim}
 use Rattle.std.specs.Coded.{Coded-set, coded_bool}
 use Rattle.values.specs.Datum.{data_of}
 use Rattle.semantics.specs.Records.{Fits}
-use Rattle.query_truth.specs.Binding.{bound_safe}
+use Rattle.query_eval.specs.Binding.{bound_safe}
 use Rattle.semantics.specs.Conditions.{where_truth}
 use Rattle.query_plan.specs.Planned.{PlannedQuery}
 use Rattle.query_plan.proofs.TruthCodes.{truths-same}

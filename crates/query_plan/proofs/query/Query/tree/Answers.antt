@@ -1,7 +1,7 @@
 use Rattle.std.proofs.Common.{◌∙◌, ℕ, List, ap, subst}
 use Rattle.semantics.specs.Reading.{Derives}
 use Rattle.semantics.specs.Syntax.{TreeForm}
-use Rattle.query_tree.specs.Syntax.{tree_form}
+use Rattle.query_ast.specs.Syntax.{tree_form}
 use Rattle.query_plan.proofs.query.Query.tree.Goals as goal
 
 pub returns : goal.returns

@@ -8,7 +8,7 @@ use Rattle.tables.specs.Folding.{HasRead, good_of}
 use Rattle.semantics.specs.Conditions.{kept}
 use Rattle.semantics.specs.Sets.{grouping_places}
 use Rattle.semantics.specs.Aggregates.{AggregateFunction}
-use Rattle.groups.specs.Inside.Table.{IsTableOf}
+use Rattle.tables_groups.specs.Inside.Table.{IsTableOf}
 use Rattle.tables.specs.Functions.{filters_kept}
 use Rattle.tables.proofs.Bound.{bound-functions}
 use Rattle.tables.proofs.Reading.{length-kept_behind, read-err, read-ok}

@@ -1,11 +1,11 @@
 use Rattle.std.proofs.Common.{◌≡◌, ◌++◌, ◌∷◌, [], true, List, cond, map, rules, sym, ap, subst, ◌∙◌}
 use Rattle.semantics.specs.Aggregates.{AggregateFunction}
-use Rattle.groups.specs.Functions.{bound}
-use Rattle.groups.specs.Rows.{IsNarrowRow}
+use Rattle.tables_groups.specs.Functions.{bound}
+use Rattle.tables_groups.specs.Rows.{IsNarrowRow}
 use Rattle.semantics.specs.Groups.{Row}
-use Rattle.groups.specs.Inside.Table.{IsTableOf}
+use Rattle.tables_groups.specs.Inside.Table.{IsTableOf}
 use Rattle.values.specs.Datum.{data_of}
-use Rattle.query_resolution.specs.Functions.{filters_of}
+use Rattle.query_resolve.specs.Functions.{filters_of}
 use Rattle.semantics.specs.Sets.{grouping_places}
 use Rattle.semantics.specs.Conditions.{is_kept, kept}
 use Rattle.semantics.specs.Found.{aggregate_functions}

@@ -1,4 +1,4 @@
-use Rattle.groups.proofs.Meaning.{tables-within}
+use Rattle.tables_groups.proofs.Meaning.{tables-within}
 use Rattle.tables.proofs.EitherWay.{joins-either_way, within-either_way}
 use Rattle.tables.proofs.joining.CallingThreadJoiner.join.Goals as goal
 

@@ -1,9 +1,9 @@
 use Rattle.std.proofs.Common.{List, [], sym, subst, arith}
-use Rattle.query_resolution.specs.Functions.{indexed_functions}
+use Rattle.query_resolve.specs.Functions.{indexed_functions}
 use Rattle.semantics.specs.Sets.{grouping_places}
-use Rattle.query_resolution.specs.declared.function.FilteredFunction.{FilteredFunction}
-use Rattle.groups.specs.Inside.Table.{AreGroupsWithin}
-use Rattle.groups.proofs.Meaning.{table-within}
+use Rattle.query_resolve.specs.declared.function.FilteredFunction.{FilteredFunction}
+use Rattle.tables_groups.specs.Inside.Table.{AreGroupsWithin}
+use Rattle.tables_groups.proofs.Meaning.{table-within}
 use Rattle.semantics.specs.Found.{aggregate_functions}
 use Rattle.tables.proofs.Bound.{as-many}
 use Rattle.tables.proofs.Merging.{no-notes}

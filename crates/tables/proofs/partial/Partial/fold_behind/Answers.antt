@@ -4,10 +4,10 @@ use Rattle.std.proofs.Props.{props}
 use Rattle.std.proofs.lemmas.List.Elements.{All-same}
 use Rattle.semantics.specs.Lines.{lines}
 use Rattle.semantics.specs.Groups.{Row}
-use Rattle.groups.specs.Inside.Table.{AreGroupsWithin, IsTableOf}
-use Rattle.groups.proofs.Meaning.{table-within}
-use Rattle.query_resolution.specs.declared.function.FilteredFunction.{FilteredFunction}
-use Rattle.query_resolution.specs.Functions.{indexed_functions}
+use Rattle.tables_groups.specs.Inside.Table.{AreGroupsWithin, IsTableOf}
+use Rattle.tables_groups.proofs.Meaning.{table-within}
+use Rattle.query_resolve.specs.declared.function.FilteredFunction.{FilteredFunction}
+use Rattle.query_resolve.specs.Functions.{indexed_functions}
 use Rattle.semantics.specs.Sets.{grouping_places}
 use Rattle.semantics.specs.Conditions.{kept}
 use Rattle.tables.specs.Folding.{good_of}

@@ -3,12 +3,12 @@ use Rattle.std.proofs.Math.Logic.{∥∥₁_elim, ∥∥₁_map}
 use Rattle.std.proofs.Props.{props}
 use Rattle.std.proofs.lemmas.List.{map-append}
 use Rattle.semantics.specs.Lines.{lines}
-use Rattle.groups.specs.Bags.{SameBag}
+use Rattle.tables_groups.specs.Bags.{SameBag}
 use Rattle.semantics.specs.Groups.{Row}
-use Rattle.groups.specs.Inside.Table.{AreGroupsWithin, IsTableOf}
-use Rattle.groups.proofs.Meaning.{table-within}
-use Rattle.query_resolution.specs.declared.function.FilteredFunction.{FilteredFunction}
-use Rattle.query_resolution.specs.Functions.{indexed_functions}
+use Rattle.tables_groups.specs.Inside.Table.{AreGroupsWithin, IsTableOf}
+use Rattle.tables_groups.proofs.Meaning.{table-within}
+use Rattle.query_resolve.specs.declared.function.FilteredFunction.{FilteredFunction}
+use Rattle.query_resolve.specs.Functions.{indexed_functions}
 use Rattle.semantics.specs.Sets.{grouping_places}
 use Rattle.semantics.specs.Conditions.{kept}
 use Rattle.tables.specs.declared.note.Note.{Note}

@@ -1,14 +1,14 @@
 use Rattle.std.proofs.Common.{◌∷◌, [], List, length, map, refl, sym, ap, subst, arith}
 use Rattle.semantics.specs.Lines.{lines}
-use Rattle.query_resolution.specs.Functions.{indexed_functions}
+use Rattle.query_resolve.specs.Functions.{indexed_functions}
 use Rattle.semantics.specs.Sets.{grouping_places}
 use Rattle.semantics.specs.Conditions.{kept}
 use Rattle.tables.specs.Folding.{good_of}
-use Rattle.groups.specs.Bags.{SameBag}
+use Rattle.tables_groups.specs.Bags.{SameBag}
 use Rattle.semantics.specs.Groups.{Row}
-use Rattle.groups.specs.Inside.Table.{AreGroupsWithin, IsTableOf}
-use Rattle.groups.proofs.Meaning.{table-within}
-use Rattle.query_resolution.specs.declared.function.FilteredFunction.{FilteredFunction}
+use Rattle.tables_groups.specs.Inside.Table.{AreGroupsWithin, IsTableOf}
+use Rattle.tables_groups.proofs.Meaning.{table-within}
+use Rattle.query_resolve.specs.declared.function.FilteredFunction.{FilteredFunction}
 use Rattle.tables.specs.Notes.{Noted, note_in, note_of}
 use Rattle.semantics.specs.Found.{aggregate_functions}
 use Rattle.tables.proofs.Bound.{as-many}

@@ -1,9 +1,9 @@
 use Rattle.std.proofs.Common.{◌≡◌, ◌+◌, ◌<◌, ◌≤◌, ◌^◌, ◌++◌, List, All, sym, ap, subst, ◌∙◌, arith}
 use Rattle.semantics.specs.Groups.{Row}
 use Rattle.semantics.specs.Sets.{grouping_places}
-use Rattle.query_resolution.specs.declared.function.FilteredFunction.{FilteredFunction}
-use Rattle.groups.specs.Inside.Table.{AreGroupsWithin, IsTableOf}
-use Rattle.groups.proofs.Meaning.{within-can_join}
+use Rattle.query_resolve.specs.declared.function.FilteredFunction.{FilteredFunction}
+use Rattle.tables_groups.specs.Inside.Table.{AreGroupsWithin, IsTableOf}
+use Rattle.tables_groups.proofs.Meaning.{within-can_join}
 use Rattle.semantics.specs.Found.{aggregate_functions}
 use Rattle.tables.specs.Notes.{notes_in}
 use Rattle.tables.specs.Pieces.{records_of}

@@ -1,5 +1,5 @@
 use Rattle.std.proofs.Common.{◌≤◌, List, All, sym, subst, arith}
-use Rattle.groups.specs.Inside.Table.{IsTableOf}
+use Rattle.tables_groups.specs.Inside.Table.{IsTableOf}
 use Rattle.semantics.specs.Groups.{Row}
 use Rattle.semantics.specs.Sets.{grouping_places}
 use Rattle.semantics.specs.Conditions.{kept}

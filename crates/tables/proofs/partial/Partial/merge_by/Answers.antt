@@ -2,12 +2,12 @@ use Rattle.std.proofs.Common.{◌≡◌, ◌+◌, ◌<◌, ◌^◌, ◌++◌, Li
 use Rattle.std.proofs.Math.Logic.{∥∥₁_map₂}
 use Rattle.std.proofs.lemmas.List.{map-append}
 use Rattle.std.proofs.lemmas.List.Elements.{All-append}
-use Rattle.groups.specs.Bags.{SameBag}
+use Rattle.tables_groups.specs.Bags.{SameBag}
 use Rattle.semantics.specs.Groups.{Row}
 use Rattle.semantics.specs.Sets.{grouping_places}
-use Rattle.query_resolution.specs.declared.function.FilteredFunction.{FilteredFunction}
-use Rattle.groups.specs.Inside.Table.{AreGroupsWithin, IsTableOf}
-use Rattle.groups.proofs.Meaning.{within-can_join}
+use Rattle.query_resolve.specs.declared.function.FilteredFunction.{FilteredFunction}
+use Rattle.tables_groups.specs.Inside.Table.{AreGroupsWithin, IsTableOf}
+use Rattle.tables_groups.proofs.Meaning.{within-can_join}
 use Rattle.semantics.specs.Found.{aggregate_functions}
 use Rattle.tables.specs.Notes.{IsWellNumbered, Noted, lines_noted, note_in, note_of, notes_in}
 use Rattle.tables.specs.Pieces.{records_of}

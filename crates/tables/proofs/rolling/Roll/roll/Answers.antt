@@ -1,7 +1,7 @@
 use Rattle.std.proofs.Common.{IfSome, List, ℕ, Bool, Option, map, refl, sym, subst}
 use Rattle.std.proofs.lemmas.Result.{IfOk-weaker}
-use Rattle.groups.specs.Functions.{bound}
-use Rattle.groups.specs.Inside.Table.{Contents, IsTableOf}
+use Rattle.tables_groups.specs.Functions.{bound}
+use Rattle.tables_groups.specs.Inside.Table.{Contents, IsTableOf}
 use Rattle.semantics.specs.Groups.{Row}
 use Rattle.tables.specs.SetTables.{AreTablesOf, HasFiner}
 use Rattle.tables.proofs.SetTables.{some-of_ok}

@@ -1,4 +1,0 @@
-use Rattle.acceptance_pool.proofs.tests.refusal_of_fan_on.Given as goal
-
-abbrev pub ghosts-on_deal : goal.ghosts-on_deal
-ghosts-on_deal g a = record { name = a.blank.name; parts = a.blank.parts }

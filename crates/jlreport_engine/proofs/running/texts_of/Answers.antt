@@ -1,0 +1,36 @@
+use Rattle.std.proofs.Common.{◌∙◌, ap, map, subst, sym}
+use Rattle.std.specs.List.{All}
+use Rattle.semantics.specs.Records.{good}
+use Rattle.semantics.specs.Found.{query_found}
+use Rattle.report.specs.Report.{NamesColumn, refusals_of}
+use Rattle.semantics.specs.Rows.{row_shown}
+use Rattle.semantics.specs.Texts.{report_bytes}
+use Rattle.jlreport_engine.proofs.Named.{refused-named}
+use Rattle.jlreport_engine.proofs.running.texts_of.Goals as goal
+
+pub refused_text-requires : goal.refused_text-requires
+refused_text-requires g c =
+    let plan = c.args.plan.now in
+    let whole = c.requires.of_input.1 in
+    let is = c.in_ok-groups.ensures.whole c.requires.of_input.0 whole.pieces whole.stands whole.cut in
+    subst (λ fields. All (λ line. NamesColumn fields line.1) c.in_ok-groups.groups.refused) (sym c.schema.ensures.schema)
+    (subst (λ refused. All (λ line. NamesColumn plan.fields line.1) refused) (sym is.refused) (refused-named plan.fields c.requires.of_input.0))
+
+pub returns-clause-report : goal.returns-clause-report
+returns-clause-report g c = λ input whole.
+    let fields = c.args.plan.now.fields in
+    let q = c.args.plan.now.query in
+    let groups = c.in_ok-groups.groups in
+    let is = c.in_ok-groups.ensures.whole input whole.pieces whole.stands whole.cut in
+    let fit = c.in_ok-groups.ensures.fit in
+    let blind = c.arranged_law.ensures fields q groups.found fit
+    (query_found fields q (good fields input)) is.rows in
+    c.in_ok-report.ensures ∙ ap (λ rows. report_bytes q.items (map (row_shown fields q) rows)) (sym blind)
+
+pub returns-clause-refused : goal.returns-clause-refused
+returns-clause-refused g c = λ input whole.
+    let fields = c.args.plan.now.fields in
+    let is = c.in_ok-groups.ensures.whole input whole.pieces whole.stands whole.cut in
+    c.in_ok-refused.ensures
+    ∙ ap (λ columns. refusals_of columns c.in_ok-groups.groups.refused) c.schema.ensures.schema
+    ∙ ap (refusals_of fields) is.refused

@@ -1,0 +1,216 @@
+//! A run: from a reader to the report and the list of refused lines.
+ghost use Rattle.std.specs.Prelude.{◌≡◌, ◌≢◌, ℕ, List, IfErr, IfOk, IfSome, OnOk, length};
+ghost use Rattle.std.specs.Io.KnownBytes.{Appends};
+ghost use Rattle.semantics.specs.Columns.{Field};
+ghost use Rattle.semantics.specs.Records.{refused};
+ghost use Rattle.semantics.specs.Lines.{lines};
+ghost use Rattle.semantics.specs.Syntax.{TreeForm};
+ghost use Rattle.tables.specs.Partials.{StandsForInput};
+ghost use Rattle.semantics.specs.Run.{IsDecided, IsWithin, Leaves, refusals, report};
+ghost use Rattle.jlreport_engine.specs.Run.{LeavesOfInput};
+
+use crate::reporting::Writers;
+use crate::writing::put_both;
+use jlreport_cli::Options;
+use jlreport_scan::{gather, gather_alone};
+use query::Plan;
+use report::{arranged_law, refused_text};
+use semantics::RunFault;
+use std::alloc::{AllocError, Global};
+use std::io::{Read, Write};
+use std::marker::{Send, Sync};
+use std::sync::Wait;
+use std::thread::Threads;
+use tables::{CallingThread, Groups, Hands, Partial};
+
+/// The counts of an input.
+///
+/// Example: of the input of the line `{}` and an empty line, each ended by a line feed, `lines` is
+/// 2 and `refused` is 1.
+#[derive(Clone, Copy, Debug, PartialEq, Eq)]
+pub struct Done {
+    /// How many lines the input has, refused ones among them.
+    pub lines: u64,
+    /// How many of them are refused.
+    pub refused: u64,
+}
+
+/// What is written of an input, and what that is made of.
+#[derive(Drop)]
+struct Texts {
+    /// The report.
+    report: Vec<u8>,
+    /// The list of refused lines.
+    refused: Vec<u8>,
+    /// The groups, whose memory is given back once both are written, so that nobody waits for that.
+    groups: Groups,
+}
+
+/// Answers the query of a plan over what a reader gives, by as many threads as there are workers,
+/// the calling one among them: writes the report to `out` and flushes it, and then the list of
+/// refused lines to `err` and flushes it. What is written does not depend on the number of workers,
+/// on the size of a piece or on which thread works on which piece. It answers how many lines and
+/// how many refused lines there are. Nothing is written before all of the input was read.
+///
+/// Where there are several workers, one thread more may read on meanwhile. With one worker no
+/// thread is started.
+///
+/// Example: with the plan of `SELECT SUM(q) AS s FROM lines` under `q:int`, and the one line
+/// `{"q":5}` as the input, `run(&rt, alloc, &plan, options, input, &mut out, &mut err)`, where it
+/// is done, answers `Done { lines: 1, refused: 0 }`; the lines `s` and `5` were written to `out`,
+/// and nothing to `err`.
+///
+/// # Errors
+///
+/// `Reading` where a read fails or the input has 2^63 bytes or more, `OutOfMemory` where memory runs
+/// out, `ThreadNotStarted` where a thread cannot be started, which one worker never answers,
+/// `TooManyRefused` where more lines are refused than the options allow: then nothing was written.
+/// `WritingReport` where a write or the flush of the report fails: then a beginning of it was
+/// written, and nothing of the list. `WritingRefused` where a write or the flush of the list fails:
+/// then the report was written, and a beginning of the list.
+pub fn run<R: Read + Drop + Send, O: Write, E: Write, H: Threads + Wait + Sync>(
+    rt: &H,
+    alloc: Global,
+    plan: &Plan,
+    options: Options,
+    reader: R,
+    out: &mut O,
+    err: &mut E,
+) -> Result<Done, RunFault>
+    ensures report { OnOk result (IfSome (R.remaining reader) (λ input.
+        Appends (O.contents out.old) (O.contents out.new)
+        (report plan.now.fields plan.now.query input))) }
+    ensures refusals { OnOk result (IfSome (R.remaining reader) (λ input.
+        Appends (E.contents err.old) (E.contents err.new) (refusals plan.now.fields input))) }
+    ensures lines { IfOk result (λ done. IfSome (R.remaining reader) (λ input.
+        done.lines ≡ length (lines input))) }
+    ensures refused { IfOk result (λ done. IfSome (R.remaining reader) (λ input.
+        done.refused ≡ length (refused plan.now.fields input))) }
+    ensures limit { IfOk result (λ done. IsWithin options.max_refused done.refused) }
+    // Where nothing is refused to it, the limit alone decides.
+    ensures decided { IfSome (R.remaining reader) (λ input.
+        IsDecided result options.max_refused (length (refused plan.now.fields input))) }
+    ensures fault { IfErr result (λ fault. Leaves fault options.max_refused
+        plan.now.fields plan.now.query (R.remaining reader)
+        (O.contents out.old) (O.contents out.new) (E.contents err.old) (E.contents err.new)) }
+    // One worker starts no thread.
+    ensures started { options.workers ≡ 1 → IfErr result (λ fault. fault ≢ RunFault.ThreadNotStarted) }
+{
+    let whole = gather(rt, alloc, plan, options, reader)?;
+    let hands = Hands {
+        rt,
+        count: options.workers(),
+    };
+    write_whole(&hands, alloc, plan, whole, out, err)
+}
+
+/// Does what `run` does on the calling thread, without a thread of its own. The number of workers is
+/// not looked at.
+///
+/// Example: with the plan of `SELECT COUNT(*) AS n FROM lines`, and an input without a byte,
+/// `run_alone(alloc, &plan, options, input, &mut out, &mut err)`, where it is done, answers
+/// `Done { lines: 0, refused: 0 }`; the lines `n` and `0` were written to `out`, and nothing to
+/// `err`.
+///
+/// # Errors
+///
+/// Those of `run`, but never `ThreadNotStarted`.
+pub fn run_alone<R: Read + Drop, O: Write, E: Write>(
+    alloc: Global,
+    plan: &Plan,
+    options: Options,
+    reader: R,
+    out: &mut O,
+    err: &mut E,
+) -> Result<Done, RunFault>
+    ensures report { OnOk result (IfSome (R.remaining reader) (λ input.
+        Appends (O.contents out.old) (O.contents out.new)
+        (report plan.now.fields plan.now.query input))) }
+    ensures refusals { OnOk result (IfSome (R.remaining reader) (λ input.
+        Appends (E.contents err.old) (E.contents err.new) (refusals plan.now.fields input))) }
+    ensures lines { IfOk result (λ done. IfSome (R.remaining reader) (λ input.
+        done.lines ≡ length (lines input))) }
+    ensures refused { IfOk result (λ done. IfSome (R.remaining reader) (λ input.
+        done.refused ≡ length (refused plan.now.fields input))) }
+    ensures limit { IfOk result (λ done. IsWithin options.max_refused done.refused) }
+    // Where nothing is refused to it, the limit alone decides.
+    ensures decided { IfSome (R.remaining reader) (λ input.
+        IsDecided result options.max_refused (length (refused plan.now.fields input))) }
+    ensures fault { IfErr result (λ fault. Leaves fault options.max_refused
+        plan.now.fields plan.now.query (R.remaining reader)
+        (O.contents out.old) (O.contents out.new) (E.contents err.old) (E.contents err.new)) }
+    ensures started { IfErr result (λ fault. fault ≢ RunFault.ThreadNotStarted) }
+{
+    let whole = gather_alone(alloc, plan, options, reader)?;
+    write_whole(&CallingThread, alloc, plan, whole, out, err)
+}
+
+/// Writes the report and the list of refused lines by the result over an input.
+fn write_whole<T: Writers, O: Write, E: Write>(
+    writers: &T,
+    alloc: Global,
+    plan: &Plan,
+    whole: Partial,
+    out: &mut O,
+    err: &mut E,
+) -> Result<Done, RunFault>
+    requires ready { T.ready writers.now }
+    requires of_input { (input : List ℕ) × StandsForInput plan.now.fields plan.now.query whole input }
+    ensures report { OnOk result ((input : List ℕ) → StandsForInput plan.now.fields plan.now.query whole input
+        → Appends (O.contents out.old) (O.contents out.new) (report plan.now.fields plan.now.query input)) }
+    ensures refusals { OnOk result ((input : List ℕ) → StandsForInput plan.now.fields plan.now.query whole input
+        → Appends (E.contents err.old) (E.contents err.new) (refusals plan.now.fields input)) }
+    ensures lines { IfOk result (λ done. done.lines ≡ whole.lines) }
+    ensures refused { IfOk result (λ done. done.refused ≡ whole.refused) }
+    ensures fault { IfErr result (λ fault. (input : List ℕ) → StandsForInput plan.now.fields plan.now.query whole input
+        → LeavesOfInput fault plan.now.fields plan.now.query input
+        (O.contents out.old) (O.contents out.new) (E.contents err.old) (E.contents err.new)) }
+{
+    let done = Done {
+        lines: whole.lines(),
+        refused: whole.refused(),
+    };
+    let texts = texts_of(writers, alloc, plan, whole)?;
+    if let Err(fault) = put_both(out, texts.report.as_slice(), err, texts.refused.as_slice()) {
+        return Err(fault);
+    }
+    let Texts {
+        report,
+        refused,
+        groups,
+    } = texts;
+    // The two large pieces of memory go back before the many small ones: a large one has the allocator look at each small
+    // one that lies with it.
+    drop(report);
+    drop(refused);
+    writers.give_back(alloc, groups);
+    Ok(done)
+}
+
+/// What is written of an input, by the result over it.
+fn texts_of<T: Writers>(
+    writers: &T,
+    alloc: Global,
+    plan: &Plan,
+    partial: Partial,
+) -> Result<Texts, AllocError>
+    requires ready { T.ready writers.now }
+    requires of_input { (input : List ℕ) × StandsForInput plan.now.fields plan.now.query partial input }
+    ensures report { IfOk result (λ texts. (input : List ℕ)
+        → StandsForInput plan.now.fields plan.now.query partial input
+        → texts.report.items ≡ report plan.now.fields plan.now.query input) }
+    ensures refused { IfOk result (λ texts. (input : List ℕ)
+        → StandsForInput plan.now.fields plan.now.query partial input
+        → texts.refused.items ≡ refusals plan.now.fields input) }
+{
+    let groups = writers.groups(plan, partial)?;
+    let report = writers.report(alloc, &groups, plan)?;
+    let refused = refused_text(alloc, &groups, plan.schema())?;
+    // The groups came in the order of a walk over a table, which the report does not show.
+    arranged_law();
+    Ok(Texts {
+        report,
+        refused,
+        groups,
+    })
+}

@@ -1,0 +1,13 @@
+use Rattle.std.proofs.Common.{◌-◌}
+use Rattle.jlreport_scan.specs.Pieces.{StandsForRounds}
+use Rattle.jlreport_scan.specs.Gathered.{limit_number}
+use Rattle.jlreport_scan.proofs.rounds.gather_alone.Given as goal
+
+-- the result stands for all rounds so far
+abbrev pub invariant-loop-whole : goal.invariant-loop-whole
+invariant-loop-whole g l =
+    StandsForRounds l.plan.fields l.plan.query (g.R.Read.remaining l.fn.reader) (limit_number l.options.max_refused) l.rounds l.whole
+
+-- each round has a byte
+abbrev pub decreases-loop-whole : goal.decreases-loop-whole
+decreases-loop-whole g l = 9223372036854775808 - l.rounds.given

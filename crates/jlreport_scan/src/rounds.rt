@@ -1,0 +1,296 @@
+//! The result of a query over an input that is read in rounds.
+ghost use Rattle.std.specs.Prelude.{◌≡◌, ◌≢◌, ◌+◌, ◌<◌, ◌≤◌, ◌^◌, ◌⊎◌, true, ℕ, All, IfErr, IfOk, List, Option, length, vec_len};
+ghost use Rattle.lines.specs.Rounds.{HasMoved};
+ghost use Rattle.semantics.specs.Records.{refused};
+ghost use Rattle.lines.specs.Pieces.{AreWholeLines};
+ghost use Rattle.tables.specs.Partials.{StandsForInput};
+ghost use Rattle.jlreport_scan.specs.Gathered.{IsWhole, limit_number};
+ghost use Rattle.jlreport_scan.specs.Faults.{IsWant, Refuses, Stops};
+ghost use Rattle.jlreport_scan.specs.Pieces.{IsAhead, IsTaken, StandsBehind, most_turns};
+
+use crate::fault::GatherFault;
+use crate::working::{Worked, round_among, within_limit};
+use jlreport_cli::Options;
+use lines::{ReadFault, Round, Rounds, Waiter};
+use pool::{Book, Share};
+use query_plan::Plan;
+use std::alloc::Global;
+use std::io::Read;
+use std::marker::{Brand, Send, Sync};
+use std::sync::Wait;
+use std::sync::atomic::{AtomicBool, Ordering};
+use std::sync::ledger::{Blank, Ledger};
+use std::thread::{Threads, join};
+use tables::{Hands, Partial};
+
+/// The most bytes of a round that is worked on by the calling thread alone: so few that they stay near the processor
+/// from the read to the last look at them, and no memory has to be touched for the first time beyond them.
+const LONGEST_ALONE: usize = 2_097_152;
+
+/// The result of a query over what a reader gives, worked on round by round on the calling thread. The records of all rounds
+/// go into one table. Neither the number of workers nor the length of a piece is looked at.
+///
+/// Example: with the plan of `SELECT COUNT(*) AS n FROM lines`, and an input of one empty line,
+/// `gather_alone(alloc, &plan, options, input)`, where there is memory for it, answers a result of which `lines()` and
+/// `refused()` are 1.
+///
+/// # Errors
+///
+/// Those of `gather`, but never `ThreadNotStarted`.
+pub fn gather_alone<R: Read + Drop>(
+    alloc: Global,
+    plan: &Plan,
+    options: Options,
+    reader: R,
+) -> Result<Partial, GatherFault>
+    ensures whole { IfOk result (IsWhole plan.now.fields plan.now.query (R.remaining reader)) }
+    ensures limit { IfOk result (λ partial. partial.refused ≤ limit_number options.max_refused) }
+    ensures fault { IfErr result (λ fault. Stops fault options.max_refused plan.now.fields (R.remaining reader)) }
+    ensures started { IfErr result (λ fault. fault ≢ GatherFault.ThreadNotStarted) }
+{
+    let mut rounds = Rounds::new(alloc, reader, options.round().min(LONGEST_ALONE))?;
+    let mut whole = Partial::empty(alloc, plan)?;
+    while rounds.advance()? {
+        whole = whole.fold_behind(plan, rounds.round())?;
+        within_limit(options, whole.refused())?;
+    }
+    Ok(whole)
+}
+
+/// The result of a query over what a reader gives, worked on round by round by as many threads as there are workers, the
+/// calling one among them. Where there are several, one thread more reads the next round meanwhile, if there may be one.
+/// With one worker it is `gather_alone`, and no thread is started.
+///
+/// Example: with the plan of `SELECT SUM(q) AS s FROM lines` under `q:int`, and the one line `{"q":5}` as the input,
+/// `gather(&rt, alloc, &plan, options, input)`, where nothing is refused to it, answers a result of which `lines()` is 1
+/// and `refused()` is 0.
+///
+/// # Errors
+///
+/// `Reading` where a read fails or the input has 2^63 bytes or more, `OutOfMemory` where memory runs out,
+/// `ThreadNotStarted` where a thread cannot be started, which one worker never answers, `TooManyRefused` where more lines
+/// are refused than the options allow.
+pub fn gather<R: Read + Drop + Send, H: Threads + Wait + Sync>(
+    rt: &H,
+    alloc: Global,
+    plan: &Plan,
+    options: Options,
+    reader: R,
+) -> Result<Partial, GatherFault>
+    ensures whole { IfOk result (IsWhole plan.now.fields plan.now.query (R.remaining reader)) }
+    ensures limit { IfOk result (λ partial. partial.refused ≤ limit_number options.max_refused) }
+    ensures fault { IfErr result (λ fault. Stops fault options.max_refused plan.now.fields (R.remaining reader)) }
+    ensures started { options.workers ≡ 1 → IfErr result (λ fault. fault ≢ GatherFault.ThreadNotStarted) }
+{
+    if options.workers() == 1 {
+        return gather_alone(alloc, plan, options, reader);
+    }
+    let blank = Blank::new(options.workers() as u64);
+    reading_ahead::<Brand, R, H>(rt, alloc, plan, options, reader, blank)
+}
+
+/// The same with one book of refused lines over all rounds, whose ledger is L, and with two buffers: while a round is
+/// worked on, the next one is read into the other.
+fn reading_ahead<L: Ledger + Send + Sync, R: Read + Drop + Send, H: Threads + Wait + Sync>(
+    rt: &H,
+    alloc: Global,
+    plan: &Plan,
+    options: Options,
+    reader: R,
+    blank: Blank,
+) -> Result<Partial, GatherFault>
+    requires name { blank.name ≡ L.name }
+    requires parts { (blank.parts ≡ L.parts) × (L.parts ≡ options.workers) }
+    ensures whole { IfOk result (IsWhole plan.now.fields plan.now.query (R.remaining reader)) }
+    ensures limit { IfOk result (λ partial. partial.refused ≤ limit_number options.max_refused) }
+    ensures fault { IfErr result (λ fault. Stops fault options.max_refused plan.now.fields (R.remaining reader)) }
+{
+    let (book, shares) = Book::<L>::new(alloc, blank, options.workers())?;
+    let mut ahead = first_ahead(rt, alloc, plan, options, reader, shares)?;
+    while ahead.found {
+        ahead = work_ahead(rt, alloc, plan, options, &book, ahead)?;
+    }
+    let Ahead { whole, shares, .. } = ahead;
+    book.close(shares);
+    Ok(whole)
+}
+
+/// How far an input has come of which a round is read while the one before is worked on.
+#[derive(Drop)]
+struct Ahead<L: Ledger, R: Read + Drop> {
+    /// The result of the rounds that were worked on.
+    whole: Partial,
+    /// The input, and the round that was read, which is still to be worked on.
+    rounds: Rounds<R>,
+    /// Whether there was such a round: else all of the input was worked on.
+    found: bool,
+    /// A buffer for the round after it.
+    spare: Round,
+    shares: Vec<Share<L>>,
+}
+
+/// Reads the first round.
+fn first_ahead<L: Ledger, R: Read + Drop, H: Threads + Sync>(
+    rt: &H,
+    alloc: Global,
+    plan: &Plan,
+    options: Options,
+    reader: R,
+    shares: Vec<Share<L>>,
+) -> Result<Ahead<L, R>, GatherFault>
+    requires hands { vec_len shares ≡ options.workers }
+    requires none { All (λ share. share.sum ≤ 0) shares.items }
+    ensures ahead { IfOk result (λ ahead. IsAhead plan.now.fields plan.now.query (R.remaining reader) (limit_number options.max_refused) options.round options.workers (λ share. share.sum)
+        ahead.whole ahead.rounds ahead.found ahead.spare ahead.shares) }
+    ensures fault { IfErr result (λ fault. Stops fault options.max_refused plan.now.fields (R.remaining reader)) }
+{
+    let mut rounds = Rounds::new(alloc, reader, options.round())?;
+    let spare = Round::new(alloc, options.round())?;
+    let hands = Hands {
+        rt,
+        count: options.workers(),
+    };
+    let whole = Partial::empty_by(alloc, plan, &hands)?;
+    let found = rounds.advance()?;
+    Ok(Ahead {
+        whole,
+        rounds,
+        found,
+        spare,
+        shares,
+    })
+}
+
+/// Works on the round that was read, and reads the next one meanwhile. What the work answers is looked at first, so that
+/// a read that fails tells nothing before the limit of refused lines does.
+fn work_ahead<L: Ledger + Send + Sync, R: Read + Drop + Send, H: Threads + Wait + Sync>(
+    rt: &H,
+    alloc: Global,
+    plan: &Plan,
+    options: Options,
+    book: &Book<L>,
+    ahead: Ahead<L, R>,
+) -> Result<Ahead<L, R>, GatherFault>
+    requires found { ahead.found ≡ true }
+    requires ahead { (known : Option (List ℕ)) × IsAhead plan.now.fields plan.now.query known (limit_number options.max_refused) options.round options.workers (λ share. share.sum)
+        ahead.whole ahead.rounds ahead.found ahead.spare ahead.shares }
+    ensures ahead { (known : Option (List ℕ)) → IsAhead plan.now.fields plan.now.query known (limit_number options.max_refused) options.round options.workers (λ share. share.sum)
+        ahead.whole ahead.rounds ahead.found ahead.spare ahead.shares
+        → IfOk result (λ next. IsAhead plan.now.fields plan.now.query known (limit_number options.max_refused) options.round options.workers (λ share. share.sum)
+        next.whole next.rounds next.found next.spare next.shares) }
+    ensures fault { (known : Option (List ℕ)) → IsAhead plan.now.fields plan.now.query known (limit_number options.max_refused) options.round options.workers (λ share. share.sum)
+        ahead.whole ahead.rounds ahead.found ahead.spare ahead.shares
+        → IfErr result (λ fault. Stops fault options.max_refused plan.now.fields known) }
+    ensures fewer { IfOk result (λ next. most_turns next.rounds next.found < most_turns ahead.rounds ahead.found) }
+{
+    let Ahead {
+        whole,
+        mut rounds,
+        spare,
+        shares,
+        ..
+    } = ahead;
+    let round = rounds.hand_out(spare);
+    let Beside { read, kept, worked } = round_beside(
+        rt, alloc, plan, options, whole, rounds, &round, book, shares,
+    );
+    let Worked { whole, shares, .. } = worked?;
+    let found = read?;
+    Ok(Ahead {
+        whole,
+        rounds: kept,
+        found,
+        spare: round,
+        shares,
+    })
+}
+
+/// Reads on to the next round, which ends early where it is waited for, and hands the input back.
+fn read_on<R: Read + Drop, W: Waiter>(
+    rounds: Rounds<R>,
+    waiter: &W,
+) -> (Result<bool, ReadFault>, Rounds<R>)
+    ensures { HasMoved rounds result.0 result.1 }
+{
+    let mut rounds = rounds;
+    let found = rounds.advance_for(waiter);
+    (found, rounds)
+}
+
+/// What a round comes to, and what reading on meanwhile came to.
+struct Beside<L: Ledger, R: Read + Drop> {
+    /// Whether there is a next round.
+    read: Result<bool, ReadFault>,
+    /// The input, read on.
+    kept: Rounds<R>,
+    /// What came of the round.
+    worked: Result<Worked<L>, GatherFault>,
+}
+
+/// Works on a round behind the rounds before it, as `round_among` does, and meanwhile reads the next one on a thread of its
+/// own, where the round may not be the last one. When the work is done, the next round ends early.
+fn round_beside<L: Ledger + Send + Sync, R: Read + Drop + Send, H: Threads + Wait + Sync>(
+    rt: &H,
+    alloc: Global,
+    plan: &Plan,
+    options: Options,
+    before: Partial,
+    rounds: Rounds<R>,
+    round: &Round,
+    book: &Book<L>,
+    shares: Vec<Share<L>>,
+) -> Beside<L, R>
+    requires front { (front : List ℕ) × StandsForInput plan.now.fields plan.now.query before front × AreWholeLines front }
+    requires short { before.lines + length round.now.bytes < 2 ^ 63 }
+    requires hands { (1 ≤ vec_len shares) × (vec_len shares ≤ 64) }
+    requires reported { All (λ share. share.sum ≤ before.refused) shares.items }
+    ensures read { HasMoved rounds result.read result.kept }
+    ensures whole { IfOk result.worked (λ r. StandsBehind plan.now.fields plan.now.query before round.now.bytes r.whole) }
+    ensures limit { IfOk result.worked (λ r. r.whole.refused ≤ limit_number options.max_refused) }
+    ensures taken { IfOk result.worked (λ r. IsTaken (vec_len shares) round.now.bytes r.pieces.items r.hands.items) }
+    ensures hands { IfOk result.worked (λ r. vec_len r.shares ≡ vec_len shares) }
+    ensures reported { IfOk result.worked (λ r. All (λ share. share.sum ≤ r.whole.refused) r.shares.items) }
+    ensures fault { IfErr result.worked (λ fault. IsWant fault
+        ⊎ Refuses fault options.max_refused (before.refused + length (refused plan.now.fields round.now.bytes))) }
+{
+    let done = AtomicBool::new(false);
+    let waiter = &done;
+    if rounds.is_over() {
+        let worked = round_among(
+            rt,
+            alloc,
+            plan,
+            options,
+            before,
+            round.bytes(),
+            book,
+            shares,
+        );
+        let (read, kept) = read_on(rounds, waiter);
+        return Beside { read, kept, worked };
+    }
+    let ((read, kept), worked) = join(
+        rt,
+        move || read_on(rounds, waiter),
+        move || -> Result<Worked<L>, GatherFault>
+            requires front { (front : List ℕ) × StandsForInput plan.now.fields plan.now.query before front × AreWholeLines front }
+            requires short { before.lines + length round.now.bytes < 2 ^ 63 }
+            requires hands { (1 ≤ vec_len shares) × (vec_len shares ≤ 64) }
+            requires reported { All (λ share. share.sum ≤ before.refused) shares.items }
+        {
+            let worked = round_among(
+                rt,
+                alloc,
+                plan,
+                options,
+                before,
+                round.bytes(),
+                book,
+                shares,
+            );
+            waiter.store(true, Ordering::Relaxed);
+            worked
+        },
+    );
+    Beside { read, kept, worked }
+}

@@ -1,0 +1,121 @@
+//! The result of a query over one round of an input behind the rounds before it, by its pieces.
+ghost use Rattle.std.specs.Prelude.{◌≡◌, ◌+◌, ◌<◌, ◌≤◌, ◌^◌, ◌⊎◌, ℕ, All, IfErr, IfOk, List, OnOk, length, vec_len};
+ghost use Rattle.semantics.specs.Records.{refused};
+ghost use Rattle.lines.specs.Pieces.{AreWholeLines};
+ghost use Rattle.pool.specs.declared.laws.Outcome.TheVariants as Outcome;
+ghost use Rattle.tables.specs.Partials.{StandsForInput};
+ghost use Rattle.jlreport_scan.specs.Pieces.{IsTaken, IsUnder, StandsBehind};
+ghost use Rattle.jlreport_scan.specs.Gathered.{limit_number};
+ghost use Rattle.jlreport_scan.specs.Faults.{IsWant, Refuses};
+
+use crate::cutting::pieces_of;
+use crate::fault::GatherFault;
+use jlreport_cli::Options;
+use lines::Piece;
+use pool::{Book, Hand, Outcome, Share, fan_deal_onto};
+use query_plan::Plan;
+use std::alloc::Global;
+use std::marker::{Send, Sync};
+use std::sync::Wait;
+use std::sync::ledger::Ledger;
+use std::thread::Threads;
+use tables::{Hands, Job, JobBy, Partial, job_law};
+
+/// Nothing, where so many refused lines are not more than may be; else the fault that says so.
+pub(crate) fn within_limit(options: Options, count: u64) -> Result<(), GatherFault>
+    ensures within { OnOk result (count ≤ limit_number options.max_refused) }
+    ensures over { IfErr result (λ fault. Refuses fault options.max_refused count) }
+{
+    match options.max_refused() {
+        Some(most) if count > most => Err(GatherFault::TooManyRefused(most)),
+        Some(_) | None => Ok(()),
+    }
+}
+
+/// What came of a round.
+#[derive(Drop)]
+pub(crate) struct Worked<L: Ledger> {
+    /// The result over the rounds before and this one.
+    pub(crate) whole: Partial,
+    /// The pieces that the round was cut into.
+    pub(crate) pieces: Vec<Piece>,
+    /// The hands that these were dealt to.
+    pub(crate) hands: Vec<Hand>,
+    pub(crate) shares: Vec<Share<L>>,
+}
+
+/// The result of a query over the rounds before and a round behind them, worked on in pieces by as many threads as there
+/// are shares, the calling one among them, which goes on with the result over the rounds before; and the shares. Those
+/// rounds are whole lines, and no share has reported more lines than were refused in them. The pieces come back, and the
+/// hands, in whose lists each piece is once.
+pub(crate) fn round_among<L: Ledger + Send + Sync, H: Threads + Wait + Sync>(
+    rt: &H,
+    alloc: Global,
+    plan: &Plan,
+    options: Options,
+    before: Partial,
+    round: &[u8],
+    book: &Book<L>,
+    shares: Vec<Share<L>>,
+) -> Result<Worked<L>, GatherFault>
+    requires front { (front : List ℕ) × StandsForInput plan.now.fields plan.now.query before front × AreWholeLines front }
+    requires short { before.lines + length round.now < 2 ^ 63 }
+    requires hands { (1 ≤ vec_len shares) × (vec_len shares ≤ 64) }
+    requires reported { All (λ share. share.sum ≤ before.refused) shares.items }
+    ensures whole { IfOk result (λ r. StandsBehind plan.now.fields plan.now.query before round.now r.whole) }
+    ensures limit { IfOk result (λ r. r.whole.refused ≤ limit_number options.max_refused) }
+    ensures taken { IfOk result (λ r. IsTaken (vec_len shares) round.now r.pieces.items r.hands.items) }
+    ensures hands { IfOk result (λ r. vec_len r.shares ≡ vec_len shares) }
+    ensures reported { IfOk result (λ r. All (λ share. share.sum ≤ r.whole.refused) r.shares.items) }
+    ensures fault { IfErr result (λ fault. IsWant fault
+        ⊎ Refuses fault options.max_refused (before.refused + length (refused plan.now.fields round.now))) }
+{
+    let pieces = pieces_of(alloc, round, options.piece())?;
+    let front = before.in_one_piece()?;
+    job_law();
+    let joiner = Hands {
+        rt,
+        count: shares.len(),
+    };
+    // The front is the piece of index 0.
+    let job = JobBy::new(Job::new(alloc, plan, round, pieces.as_slice()), &joiner, 1);
+    let limit = limit_of(options);
+    let (outcome, hands, shares) = fan_deal_onto(
+        rt,
+        alloc,
+        &job,
+        front,
+        pieces.len() as u32,
+        limit,
+        book,
+        limit as u128,
+        shares,
+    )?;
+    let whole = decided(options, outcome)?;
+    Ok(Worked {
+        whole,
+        pieces,
+        hands,
+        shares,
+    })
+}
+
+/// The limit of refused lines as a number: the greatest one where there is no limit.
+fn limit_of(options: Options) -> u64
+    ensures { result ≡ limit_number options.max_refused }
+{
+    options.max_refused().unwrap_or(u64::MAX)
+}
+
+/// The result that a pool answers; Over is the fault that too many lines are refused.
+fn decided(options: Options, outcome: Outcome<Partial>) -> Result<Partial, GatherFault>
+    requires { (count : ℕ) × (count < 2 ^ 63) × IsUnder count (limit_number options.max_refused) outcome }
+    ensures whole { IfOk result (λ partial. outcome ≡ Outcome.Whole partial) }
+    ensures fault { (count : ℕ) → IsUnder count (limit_number options.max_refused) outcome → IfErr result (λ fault. Refuses fault options.max_refused count) }
+{
+    match (outcome, options.max_refused()) {
+        (Outcome::Whole(partial), _) => Ok(partial),
+        (Outcome::Over, Some(most)) => Err(GatherFault::TooManyRefused(most)),
+        (Outcome::Over, None) => unreachable!(),
+    }
+}

@@ -1,9 +1,0 @@
-use Rattle.std.proofs.Common.{◌≡◌, drop}
-use Rattle.std.specs.List.{flat_map}
-use Rattle.values.specs.Schema.{fields_of}
-use Rattle.query_tree.specs.Syntax.{units_form}
-use Rattle.query_check.specs.Inside.FirstFaults.{column_fault, first_fault}
-use Rattle.query_check.proofs.names.check_units.Given as goal
-
-abbrev pub invariant-loop-unit : goal.invariant-loop-unit
-invariant-loop-unit l = first_fault (column_fault (fields_of l.columns)) (flat_map (λ unit. unit) (units_form (drop l.unit-index l.units))) ≡ first_fault (column_fault (fields_of l.columns)) (flat_map (λ unit. unit) (units_form l.units))

@@ -1,7 +1,0 @@
-use Rattle.std.proofs.Common.{◌≡◌, ◌++◌, drop}
-use Rattle.semantics.specs.Sets.{crossed}
-use Rattle.query_resolution.specs.Resolution.{contents}
-use Rattle.query_resolution.proofs.joining.crossed.Given as goal
-
-abbrev pub invariant-loop-first : goal.invariant-loop-first
-invariant-loop-first l = contents l.sets.items ++ crossed (contents (drop l.first-index l.firsts)) (contents l.seconds) ≡ crossed (contents l.firsts) (contents l.seconds)

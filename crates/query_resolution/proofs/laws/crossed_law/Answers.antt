@@ -1,5 +1,0 @@
-use Rattle.query_resolution.proofs.CrossedLaw.{crossed_is}
-use Rattle.query_resolution.proofs.laws.crossed_law.Goals as goal
-
-pub returns : goal.returns
-returns c = λ firsts seconds. crossed_is firsts seconds

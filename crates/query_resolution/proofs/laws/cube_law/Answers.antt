@@ -1,5 +1,0 @@
-use Rattle.query_resolution.proofs.RollupCube.{cube_is}
-use Rattle.query_resolution.proofs.laws.cube_law.Goals as goal
-
-pub returns : goal.returns
-returns c = λ units. cube_is units

@@ -1,5 +1,0 @@
-use Rattle.query_resolution.proofs.DistinctLaw.{distinct_keeps}
-use Rattle.query_resolution.proofs.laws.kept_law.Goals as goal
-
-pub returns : goal.returns
-returns c start = λ same itself joined xs. distinct_keeps same itself joined xs

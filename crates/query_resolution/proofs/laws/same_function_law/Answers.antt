@@ -1,5 +1,0 @@
-use Rattle.query_resolution.proofs.SameTrees.{same_planned-Decides}
-use Rattle.query_resolution.proofs.laws.same_function_law.Goals as goal
-
-pub returns : goal.returns
-returns c = λ f g. same_planned-Decides f g

@@ -1,8 +1,0 @@
-use Rattle.std.proofs.Common.{◌≡◌, take}
-use Rattle.std.specs.Str.{bytes_eq}
-use Rattle.semantics.specs.Names.{distinct}
-use Rattle.query_resolution.specs.Resolution.{contents}
-use Rattle.query_resolution.proofs.repeats.without_repeats.Given as goal
-
-abbrev pub invariant-loop-set : goal.invariant-loop-set
-invariant-loop-set l = contents l.found.items ≡ distinct bytes_eq (contents (take l.set-index l.sets))

@@ -1,0 +1,41 @@
+-- The first fault of some clauses of a query, as private calls test them.
+use Rattle.std.specs.Prelude.{ℕ, Option, List, map, length}
+use Rattle.std.specs.List.{flat_map}
+use Rattle.std.specs.Option.{option_or}
+use Rattle.semantics.specs.Columns.{Field}
+use Rattle.semantics.specs.Syntax.{PredicateForm, ElementForm, ItemForm, KeyForm, TreeForm}
+use Rattle.semantics.specs.Canonical.{header_text}
+use Rattle.semantics.specs.declared.query_fault.QueryFault.{QueryFault}
+use Rattle.query_typecheck.specs.declared.scope.Clause.TheVariants as clause
+use Rattle.semantics.specs.Names.{group_names}
+use Rattle.semantics.specs.Sets.{expanded}
+use Rattle.semantics.specs.SetFunctions.{functions_of}
+use Rattle.semantics.specs.Types.{key_expression}
+use Rattle.query_typecheck.specs.Inside.FirstFaults.{clause_fault, column_fault, expression_fault, first_fault, headers_fault, limit_fault}
+
+-- WHERE, then the names in GROUP BY, then the number of its expanded sets.
+unfoldable pub records_fault : List Field → List ℕ → Option PredicateForm → List ElementForm → Option QueryFault
+records_fault fields grouped where_condition groups =
+    option_or (clause_fault fields grouped clause.Where where_condition)
+    (option_or (first_fault (column_fault fields) (flat_map group_names groups))
+    (limit_fault 256 (length (expanded groups))))
+
+-- The items of SELECT, then their headers.
+unfoldable pub select_fault : List Field → List ℕ → List ItemForm → Option QueryFault
+select_fault fields grouped items =
+    option_or (first_fault (λ i. expression_fault fields grouped clause.Select i.expression) items)
+    (headers_fault (map header_text items))
+
+-- SELECT, then HAVING, then ORDER BY.
+unfoldable pub rows_fault : List Field → List ℕ → List ItemForm → Option PredicateForm → List KeyForm → Option QueryFault
+rows_fault fields grouped items having_condition keys =
+    option_or (select_fault fields grouped items)
+    (option_or (clause_fault fields grouped clause.Having having_condition)
+    (first_fault (λ k. expression_fault fields grouped clause.OrderBy (key_expression items k.expression)) keys))
+
+-- WHERE and GROUP BY, then SELECT, HAVING and ORDER BY, then the number of different set functions.
+unfoldable pub clauses_fault : List Field → List ℕ → TreeForm → Option QueryFault
+clauses_fault fields grouped t =
+    option_or (records_fault fields grouped t.where_condition t.groups)
+    (option_or (rows_fault fields grouped t.items t.having_condition t.keys)
+    (limit_fault 64 (length (functions_of fields t))))

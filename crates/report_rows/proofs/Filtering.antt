@@ -1,0 +1,42 @@
+-- The rows of which HAVING is True fit the query as all rows do.
+use Rattle.std.proofs.Common.{◌≡◌, ◌≢◌, ◌<◌, ◌+◌, ℕ, Bool, true, false, cond, List, [], ◌∷◌, length, refl, sym, ap, ◌∙◌, arith}
+use Rattle.std.specs.Prelude.{filter}
+use Rattle.std.specs.List.{AllZip}
+use Rattle.std.proofs.lemmas.List.Elements.{All-filter}
+use Rattle.std.proofs.lemmas.List.Kept.{AllPairs-filter}
+use Rattle.semantics.specs.Columns.{Field}
+use Rattle.semantics.specs.Syntax.{TreeForm}
+use Rattle.semantics.specs.Names.{kind_at}
+use Rattle.semantics.specs.SetFunctions.{functions_of}
+use Rattle.semantics.specs.Sets.{sets_of}
+use Rattle.tables_groups.specs.Bags.{SameBag, weigh}
+use Rattle.tables_groups.specs.Fitting.{AreFitting, HasType, IsHeld}
+use Rattle.semantics.specs.Found.{set_of, Found}
+use Rattle.semantics.specs.Rows.{is_having_true, rows_having_true}
+
+pub fit-having_true : (fields : List Field) (t : TreeForm) (found : List Found) → AreFitting fields t found → AreFitting fields t (rows_having_true fields t found)
+fit-having_true fields t found fit =
+    let p = is_having_true fields t in
+    record {
+      indexes = All-filter p (λ (row : Found). row.0 < length (sets_of fields t)) found fit.indexes;
+      keys = All-filter p (λ (row : Found). length row.1.key ≡ length (set_of fields t row)) found fit.keys;
+      key_types = All-filter p (λ (row : Found). AllZip (λ place d. IsHeld (kind_at fields place) d) (set_of fields t row) row.1.key) found fit.key_types;
+      cells = All-filter p (λ (row : Found). length row.1.cells ≡ length (functions_of fields t)) found fit.cells;
+      cell_types = All-filter p (λ (row : Found). AllZip (λ f cell. HasType fields f.function cell) (functions_of fields t) row.1.cells) found fit.cell_types;
+      distinct = AllPairs-filter (λ (x y : Found). x.0 ≡ y.0 → x.1.key ≢ y.1.key) p found fit.distinct;
+    }
+
+-- what is filtered weighs what passes of each thing
+weigh-filter : {X : Type 0} (weight : X → ℕ) (p : X → Bool) (xs : List X) → weigh weight (filter p xs) ≡ weigh (λ x. cond (p x) (weight x) 0) xs
+weigh-filter {X} weight p [] = refl
+weigh-filter {X} weight p (x ∷ xs) =
+    elim (p x) as (λ (b : Bool). weigh weight (cond b (x ∷ filter p xs) (filter p xs)) ≡ cond b (weight x) 0 + weigh (λ (y : X). cond (p y) (weight y) 0) xs) [
+      | true ↦ ap (λ n. weight x + n) (weigh-filter weight p xs)
+      | false ↦ let bare : (n : ℕ) → n ≡ 0 + n = λ n. omega arith in weigh-filter weight p xs ∙ bare (weigh (λ (y : X). cond (p y) (weight y) 0) xs)
+    ]
+
+-- rows that are the same bag are so where those are left of which HAVING is True
+pub bag-having_true : (fields : List Field) (t : TreeForm) (xs ys : List Found) → SameBag xs ys → SameBag (rows_having_true fields t xs) (rows_having_true fields t ys)
+bag-having_true fields t xs ys same weight =
+    let p = is_having_true fields t in
+    weigh-filter weight p xs ∙ same (λ x. cond (p x) (weight x) 0) ∙ sym (weigh-filter weight p ys)

@@ -1,0 +1,268 @@
+-- The value that a row shows for an expression that is typed in HAVING is of the type of the expression, or NULL.
+use Rattle.std.proofs.Common.{◌≡◌, ◌∙◌, ◌<◌, inl, inr, ℕ, zero, suc, pos, negsuc, ◌==◌, ◌&&◌, Bool, true, false, cond, Option, Some, None, List, [], ◌∷◌, get_or, length, map, nat_lt, position, refl, sym, ap, subst, arith, All}
+use Rattle.std.proofs.lemmas.Bool.Decides.{nat_tests}
+use Rattle.std.proofs.lemmas.List.Elements.{recursion_from_All}
+use Rattle.std.proofs.lemmas.List.Quantifiers.{position-Some}
+use Rattle.std.specs.Global.{Vec}
+use Rattle.std.specs.List.{AllByRecursion, AllZip, list_all}
+use Rattle.std.specs.Option.{option_and_then, option_map, option_map_or}
+use Rattle.std.specs.Prelude.{slice_get, unwrap_or}
+use Rattle.semantics.specs.declared.kind.Kind.{Kind}
+use Rattle.semantics.specs.declared.kind.Kind.TheVariants as kind
+use Rattle.values.specs.Comparison.{AreComparable}
+use Rattle.semantics.specs.Values.{Datum, boolean, whole, text, null}
+use Rattle.semantics.specs.Columns.{Field}
+use Rattle.semantics.specs.declared.aggregate.Aggregate.{Aggregate}
+use Rattle.semantics.specs.declared.aggregate.Aggregate.TheVariants as aggregate
+use Rattle.semantics.specs.declared.literal.Literal.{Literal}
+use Rattle.query_ast.specs.declared.expression.Operand.{Operand}
+use Rattle.query_ast.specs.declared.expression.Predicate.TheVariants as predicate
+use Rattle.query_ast.specs.declared.expression.Expression.TheOpen as layer
+use Rattle.query_ast.specs.declared.expression.Expression.TheFolds.{fold-roll-Predicate}
+use Rattle.query_ast.specs.declared.expression.Expression.TheViews.{roll-Predicate}
+use Rattle.semantics.specs.Syntax.{ExpressionForm, FunctionForm, OperandForm, PredicateForm, TreeForm, column, member, name, grouping, function, over_all, over_filtered, expression, literal}
+use Rattle.query_ast.specs.Syntax.{expression_step, function_step, operand_form, operand_step, predicate_form, predicate_step}
+use Rattle.semantics.specs.declared.function.ColumnFunction.{ColumnFunction}
+use Rattle.semantics.specs.declared.function.ColumnFunction.TheVariants as at
+use Rattle.query_typecheck.specs.declared.scope.Clause.TheVariants as clause
+use Rattle.semantics.specs.Names.{column_kind, kind_at, place_of, PlannedFunction, column_function}
+use Rattle.semantics.specs.SetFunctions.{functions_of}
+use Rattle.semantics.specs.Inside.Same.{same_function, same_planned}
+use Rattle.semantics.specs.Sets.{sets_of}
+use Rattle.query_typecheck.specs.Typing.{IsOfOneKind, IsTypedExpression, IsTypedOperand, IsTypedPredicate, may_stand}
+use Rattle.semantics.specs.Types.{aggregate_kind, expression_kind, literal_kind, operand_kind}
+use Rattle.query_eval.specs.Meaning.{comparable, is_truth_value}
+use Rattle.semantics.specs.Conditions.{literal_value, operand_value}
+use Rattle.query_eval.proofs.Safety.{both-true, cases, comparable-of, is_of, is_of-held, is_of-literal, truth-of}
+use Rattle.query_eval.proofs.Truths.{comparable-is}
+use Rattle.semantics.specs.Aggregates.{Summary, plain, ratio}
+use Rattle.semantics.specs.Groups.{Key}
+use Rattle.tables_groups.specs.Fitting.{AreFitting, HasType, IsHeld}
+use Rattle.semantics.specs.Found.{set_of, Found}
+use Rattle.semantics.specs.Rows.{cell_value, row_value, grouping_number, grouping_shown, name_shown, value_in}
+use Rattle.report_rows.proofs.Places.{value_in-first, value_in-missing, value_in-other}
+
+-- the index of a row that fits is that of a grouping set
+pub within : (fields : List Field) (t : TreeForm) (row : Found) → AreFitting fields t (row ∷ []) → row.0 < length (sets_of fields t)
+within fields t row fit = (recursion_from_All (λ (r : Found). r.0 < length (sets_of fields t)) (row ∷ []) fit.indexes).0
+
+-- ---- NULL and what a column holds
+
+null-of : (k : Kind) → is_of k null ≡ true
+null-of k = refl
+
+some-is : {A : Type 0} (x y : A) → Some x ≡ Some y → x ≡ y
+some-is x y h = cc
+
+held-of : (k : Kind) (o : Option Kind) (d : Datum) → o ≡ Some k → IsHeld o d → is_of k d ≡ true
+held-of k None d e h = absurd h
+held-of k (Some l) d e h = subst (λ (j : Kind). is_of j d ≡ true) (some-is l k e) (is_of-held l d h)
+
+-- ---- grouping columns
+
+same-place : (g p : ℕ) → (g == p) ≡ true → g ≡ p
+same-place g p h = grind (arith, nat_tests)
+
+-- what a key has for a column
+value_in-of : (fields : List Field) (p : ℕ) (k : Kind) (set : List ℕ) (key : Key)
+    → AllZip (λ place d. IsHeld (kind_at fields place) d) set key → kind_at fields p ≡ Some k → is_of k (value_in set key p) ≡ true
+value_in-of fields p k [] key held has = ap (is_of k) (value_in-missing p [] key tt) ∙ null-of k
+value_in-of fields p k (g ∷ set) [] held has = absurd held
+value_in-of fields p k (g ∷ set) (d ∷ key) held has =
+    elim (g == p) as (λ (b : Bool). (g == p) ≡ b → is_of k (value_in (g ∷ set) (d ∷ key) p) ≡ true) [
+      | true ↦ λ e.
+          let same = same-place g p e in
+          ap (λ (q : ℕ). is_of k (value_in (g ∷ set) (d ∷ key) q)) (sym same)
+          ∙ ap (is_of k) (value_in-first g set d key)
+          ∙ held-of k (kind_at fields g) d (ap (kind_at fields) same ∙ has) held.0
+      | false ↦ λ e. ap (is_of k) (value_in-other g p set d key e) ∙ value_in-of fields p k set key held.1 has
+    ] refl
+
+name-of : (fields : List Field) (k : Kind) (set : List ℕ) (key : Key) (n : List ℕ)
+    → AllZip (λ place d. IsHeld (kind_at fields place) d) set key → column_kind fields n ≡ Some k → is_of k (name_shown fields set key n) ≡ true
+name-of fields k set key n held has =
+    elim (place_of fields n) as (λ (o : Option ℕ). option_and_then (kind_at fields) o ≡ Some k → is_of k (option_map_or (value_in set key) o null) ≡ true) [
+      | None ↦ λ e. null-of k
+      | Some p ↦ λ e. value_in-of fields p k set key held e
+    ] has
+
+grouping-of : (fields : List Field) (k : Kind) (set : List ℕ) (names : List (List ℕ)) → Some kind.Int ≡ Some k → is_of k (grouping_shown fields set names) ≡ true
+grouping-of fields k set names e =
+    subst (λ (j : Kind). is_of j (grouping_shown fields set names) ≡ true) (some-is kind.Int k e)
+    (elim (nat_lt 8 (length names)) as (λ (b : Bool). is_of kind.Int (cond b null (whole (pos (grouping_number fields set names)))) ≡ true) [ true ↦ refl | false ↦ refl ])
+
+-- ---- set functions
+
+same_function-is : (f g : ColumnFunction) → same_function f g ≡ true → f ≡ g
+same_function-is at.CountRows at.CountRows e = refl
+same_function-is (at.Count a) (at.Count b) e = ap at.Count (same-place a b e)
+same_function-is (at.CountDistinct a) (at.CountDistinct b) e = ap at.CountDistinct (same-place a b e)
+same_function-is (at.Sum a) (at.Sum b) e = ap at.Sum (same-place a b e)
+same_function-is (at.Min a) (at.Min b) e = ap at.Min (same-place a b e)
+same_function-is (at.Max a) (at.Max b) e = ap at.Max (same-place a b e)
+same_function-is (at.Avg a) (at.Avg b) e = ap at.Avg (same-place a b e)
+same_function-is f g e = absurd cc
+
+first-true : (a b : Bool) → (a && b) ≡ true → a ≡ true
+first-true true b e = refl
+first-true false b e = e
+
+-- a cell has the type of its set function, apart from the filter
+abbrev HasTypeOf : List Field → PlannedFunction → Summary → Type 0
+HasTypeOf fields f cell = HasType fields f.function cell
+
+-- the function that stands for one past the last
+abbrev no_function : PlannedFunction
+no_function = record { function = at.CountRows; filter = None }
+
+typed-at : (fields : List Field) (fs : List PlannedFunction) (cells : List Summary) (i : ℕ) → AllZip (HasTypeOf fields) fs cells → i < length fs
+    → HasType fields (get_or fs i no_function).function (unwrap_or (slice_get cells i) (plain null))
+typed-at fields [] cells i h lt = absurd (omega (arith, lt))
+typed-at fields (f ∷ fs) [] i h lt = absurd h
+typed-at fields (f ∷ fs) (c ∷ cells) zero h lt = h.0
+typed-at fields (f ∷ fs) (c ∷ cells) (suc i) h lt = typed-at fields fs cells i h.1 (omega (arith, lt))
+
+-- the type of a set function of a column
+function_kind : List Field → ColumnFunction → Option Kind
+function_kind fields at.CountRows = Some kind.Int
+function_kind fields (at.Count p) = Some kind.Int
+function_kind fields (at.CountDistinct p) = Some kind.Int
+function_kind fields (at.Sum p) = Some kind.Int
+function_kind fields (at.Min p) = kind_at fields p
+function_kind fields (at.Max p) = kind_at fields p
+function_kind fields (at.Avg p) = None
+
+count-of : (k : Kind) (cell : Summary) → Some kind.Int ≡ Some k → HasType [] at.CountRows cell → is_of k (cell_value cell) ≡ true
+count-of k cell e h = subst (λ (j : Kind). is_of j (cell_value cell) ≡ true) (some-is kind.Int k e) (go cell h)
+  where
+    go : (cell : Summary) → HasType [] at.CountRows cell → is_of kind.Int (cell_value cell) ≡ true
+    go (plain (whole (pos n))) h = refl
+    go (plain (whole (negsuc n))) h = absurd h
+    go (plain (boolean b)) h = absurd h
+    go (plain (text s)) h = absurd h
+    go (plain null) h = absurd h
+    go (ratio s n) h = absurd h
+
+sum-of : (k : Kind) (cell : Summary) → Some kind.Int ≡ Some k → HasType [] (at.Sum 0) cell → is_of k (cell_value cell) ≡ true
+sum-of k cell e h = subst (λ (j : Kind). is_of j (cell_value cell) ≡ true) (some-is kind.Int k e) (go cell h)
+  where
+    go : (cell : Summary) → HasType [] (at.Sum 0) cell → is_of kind.Int (cell_value cell) ≡ true
+    go (plain (whole n)) h = refl
+    go (plain (boolean b)) h = absurd h
+    go (plain (text s)) h = absurd h
+    go (plain null) h = refl
+    go (ratio s n) h = absurd h
+
+extreme-of : (fields : List Field) (k : Kind) (p : ℕ) (cell : Summary) → kind_at fields p ≡ Some k → HasType fields (at.Min p) cell → is_of k (cell_value cell) ≡ true
+extreme-of fields k p (plain d) e h = held-of k (kind_at fields p) d e h
+extreme-of fields k p (ratio s n) e h = absurd h
+
+cell-of : (fields : List Field) (k : Kind) (f : ColumnFunction) (cell : Summary) → function_kind fields f ≡ Some k → HasType fields f cell → is_of k (cell_value cell) ≡ true
+unfolding function_kind
+cell-of fields k at.CountRows cell e h = count-of k cell e h
+cell-of fields k (at.Count p) cell e h = count-of k cell e h
+cell-of fields k (at.CountDistinct p) cell e h = count-of k cell e h
+cell-of fields k (at.Sum p) cell e h = sum-of k cell e h
+cell-of fields k (at.Min p) cell e h = extreme-of fields k p cell e h
+cell-of fields k (at.Max p) cell e h = extreme-of fields k p cell e h
+cell-of fields k (at.Avg p) cell e h = absurd cc
+
+-- the cell at the place of a set function
+placed-of : (fields : List Field) (k : Kind) (f : PlannedFunction) (fs : List PlannedFunction) (cells : List Summary) → AllZip (HasTypeOf fields) fs cells → function_kind fields f.function ≡ Some k
+    → is_of k (cell_value (unwrap_or (option_and_then (slice_get cells) (position (same_planned f) fs)) (plain null))) ≡ true
+placed-of fields k f fs cells h has =
+    elim (cases (position (same_planned f) fs)) [
+      | inl e ↦ ap (λ (o : Option ℕ). is_of k (cell_value (unwrap_or (option_and_then (slice_get cells) o) (plain null)))) e ∙ null-of k
+      | inr found ↦ (
+          let i = found.0 in
+          let there = position-Some (same_planned f) fs i no_function found.1 in
+          let same : f.function ≡ (get_or fs i no_function).function = same_function-is f.function (get_or fs i no_function).function (first-true _ _ there.1) in
+          ap (λ (o : Option ℕ). is_of k (cell_value (unwrap_or (option_and_then (slice_get cells) o) (plain null)))) found.1
+          ∙ cell-of fields k (get_or fs i no_function).function (unwrap_or (slice_get cells i) (plain null)) (ap (function_kind fields) (sym same) ∙ has) (typed-at fields fs cells i h there.0))
+    ]
+
+-- a set function of the column of a name, if there is one
+column-of : (fields : List Field) (k : Kind) (make : ℕ → ColumnFunction) (filter : Option PredicateForm) (fs : List PlannedFunction) (cells : List Summary) (o : Option ℕ) → AllZip (HasTypeOf fields) fs cells
+    → ((p : ℕ) → o ≡ Some p → function_kind fields (make p) ≡ Some k)
+    → is_of k (cell_value (unwrap_or (option_and_then (slice_get cells) (option_and_then (λ f. position (same_planned f) fs) (option_map (λ g. record { function = g; filter = filter }) (option_map make o)))) (plain null))) ≡ true
+column-of fields k make filter fs cells None h has = null-of k
+column-of fields k make filter fs cells (Some p) h has = placed-of fields k (record { function = make p; filter = filter }) fs cells h (has p refl)
+
+function-of : (fields : List Field) (t : TreeForm) (k : Kind) (cells : List Summary) (a : Aggregate) (filter : Option PredicateForm) → AllZip (HasTypeOf fields) (functions_of fields t) cells
+    → may_stand clause.Having a ≡ true → aggregate_kind fields a ≡ Some k
+    → is_of k (cell_value (unwrap_or (option_and_then (slice_get cells) (option_and_then (λ f. position (same_planned f) (functions_of fields t)) (option_map (λ g. record { function = g; filter = filter }) (column_function fields a)))) (plain null))) ≡ true
+unfolding function_kind
+function-of fields t k cells aggregate.CountRows filter h may has = placed-of fields k (record { function = at.CountRows; filter = filter }) (functions_of fields t) cells h has
+function-of fields t k cells (aggregate.Count x) filter h may has = column-of fields k at.Count filter (functions_of fields t) cells (place_of fields x) h (λ p e. has)
+function-of fields t k cells (aggregate.CountDistinct x) filter h may has = column-of fields k at.CountDistinct filter (functions_of fields t) cells (place_of fields x) h (λ p e. has)
+function-of fields t k cells (aggregate.Sum x) filter h may has = column-of fields k at.Sum filter (functions_of fields t) cells (place_of fields x) h (λ p e. has)
+function-of fields t k cells (aggregate.Min x) filter h may has =
+    column-of fields k at.Min filter (functions_of fields t) cells (place_of fields x) h (λ p e. sym (ap (option_and_then (kind_at fields)) e) ∙ has)
+function-of fields t k cells (aggregate.Max x) filter h may has =
+    column-of fields k at.Max filter (functions_of fields t) cells (place_of fields x) h (λ p e. sym (ap (option_and_then (kind_at fields)) e) ∙ has)
+function-of fields t k cells (aggregate.Avg x) filter h may has = absurd cc
+
+-- ---- operands
+
+shown-of : (fields : List Field) (t : TreeForm) (row : Found) (grouped : List ℕ) (k : Kind) (e : ExpressionForm) → AreFitting fields t (row ∷ [])
+    → IsTypedExpression fields grouped clause.Having e → expression_kind fields e ≡ Some k → is_of k (row_value fields t row e) ≡ true
+shown-of fields t row grouped k (name n) fit typed has =
+    name-of fields k (set_of fields t row) row.1.key n (recursion_from_All (λ (r : Found). AllZip (λ place d. IsHeld (kind_at fields place) d) (set_of fields t r) r.1.key) (row ∷ []) fit.key_types).0 has
+shown-of fields t row grouped k (grouping ns) fit typed has = grouping-of fields k (set_of fields t row) ns has
+shown-of fields t row grouped k (function (over_all a)) fit typed has =
+    function-of fields t k row.1.cells a None (recursion_from_All (λ (r : Found). AllZip (HasTypeOf fields) (functions_of fields t) r.1.cells) (row ∷ []) fit.cell_types).0 typed.0 has
+shown-of fields t row grouped k (function (over_filtered a p)) fit typed has =
+    function-of fields t k row.1.cells a (Some p) (recursion_from_All (λ (r : Found). AllZip (HasTypeOf fields) (functions_of fields t) r.1.cells) (row ∷ []) fit.cell_types).0 typed.0 has
+
+operand-of : (fields : List Field) (t : TreeForm) (row : Found) (grouped : List ℕ) (k : Kind) (x : OperandForm) → AreFitting fields t (row ∷ [])
+    → IsTypedOperand fields grouped clause.Having x → operand_kind fields x ≡ Some k → is_of k (operand_value (row_value fields t row) x) ≡ true
+operand-of fields t row grouped k (expression e) fit typed has = shown-of fields t row grouped k e fit typed has
+operand-of fields t row grouped k (literal a) fit typed has = subst (λ (l : Kind). is_of l (literal_value a) ≡ true) (some-is (literal_kind a) k has) (is_of-literal a)
+
+-- the values of two operands of one type can be compared
+comparable-typed : (fields : List Field) (t : TreeForm) (row : Found) (grouped : List ℕ) (x y : OperandForm) → AreFitting fields t (row ∷ [])
+    → IsTypedOperand fields grouped clause.Having x → IsTypedOperand fields grouped clause.Having y → IsOfOneKind (operand_kind fields x) (operand_kind fields y)
+    → comparable (operand_value (row_value fields t row) x) (operand_value (row_value fields t row) y) ≡ true
+comparable-typed fields t row grouped x y fit xt yt one =
+    comparable-of one.0 _ _ (operand-of fields t row grouped one.0 x fit xt one.1) (operand-of fields t row grouped one.0 y fit yt one.2)
+
+-- so can values that are theirs
+pub comparable-values : (fields : List Field) (t : TreeForm) (row : Found) (grouped : List ℕ) (x y : OperandForm) (d e : Datum)
+    → d ≡ operand_value (row_value fields t row) x → e ≡ operand_value (row_value fields t row) y → AreFitting fields t (row ∷ [])
+    → IsTypedOperand fields grouped clause.Having x → IsTypedOperand fields grouped clause.Having y → IsOfOneKind (operand_kind fields x) (operand_kind fields y)
+    → comparable d e ≡ true
+comparable-values fields t row grouped x y d e is_x is_y fit xt yt one =
+    ap (λ (v : Datum). comparable v e) is_x ∙ ap (comparable (operand_value (row_value fields t row) x)) is_y ∙ comparable-typed fields t row grouped x y fit xt yt one
+
+pub are-comparable : (fields : List Field) (t : TreeForm) (row : Found) (grouped : List ℕ) (x y : OperandForm) (d e : Datum)
+    → d ≡ operand_value (row_value fields t row) x → e ≡ operand_value (row_value fields t row) y → AreFitting fields t (row ∷ [])
+    → IsTypedOperand fields grouped clause.Having x → IsTypedOperand fields grouped clause.Having y → IsOfOneKind (operand_kind fields x) (operand_kind fields y)
+    → AreComparable d e
+are-comparable fields t row grouped x y d e is_x is_y fit xt yt one = comparable-is _ _ (comparable-values fields t row grouped x y d e is_x is_y fit xt yt one)
+
+-- the value of an operand can be compared with those of literals of its type
+pub comparable-literals : (fields : List Field) (t : TreeForm) (row : Found) (grouped : List ℕ) (x : OperandForm) (ls : List Literal) → AreFitting fields t (row ∷ [])
+    → IsTypedOperand fields grouped clause.Having x → All (λ a. IsOfOneKind (operand_kind fields x) (Some (literal_kind a))) ls
+    → list_all (comparable (operand_value (row_value fields t row) x)) (map literal_value ls) ≡ true
+comparable-literals fields t row grouped x ls fit xt same = go ls (recursion_from_All (λ a. IsOfOneKind (operand_kind fields x) (Some (literal_kind a))) ls same)
+  where
+    go : (ls : List Literal) → AllByRecursion (λ a. IsOfOneKind (operand_kind fields x) (Some (literal_kind a))) ls → list_all (comparable (operand_value (row_value fields t row) x)) (map literal_value ls) ≡ true
+    go [] h = refl
+    go (a ∷ ls) h = both-true _ _ (comparable-typed fields t row grouped x (literal a) fit xt tt h.0) (go ls h.1)
+
+-- ---- the form of an IN
+
+pub member_form : (x : Operand) (n : Bool) (v : Vec Literal) → predicate_form (predicate.In x n v) ≡ member (operand_form x) n v.items
+unfolding roll-Predicate denote.Hole.Carrier.roll
+member_form x n v = fold-roll-Predicate ExpressionForm OperandForm PredicateForm FunctionForm expression_step operand_step predicate_step function_step (layer.In x n v)
+
+-- ---- a bare name
+
+pub column_form : (n : List ℕ) → predicate_form (predicate.Column n) ≡ column n
+unfolding roll-Predicate denote.Hole.Carrier.roll
+column_form n = fold-roll-Predicate ExpressionForm OperandForm PredicateForm FunctionForm expression_step operand_step predicate_step function_step (layer.Column n)
+
+-- the value of a name that stands alone is a truth value, or NULL
+pub truth-shown : (fields : List Field) (t : TreeForm) (row : Found) (grouped n : List ℕ) → AreFitting fields t (row ∷ [])
+    → IsTypedPredicate fields grouped clause.Having (column n) → is_truth_value (row_value fields t row (name n)) ≡ true
+truth-shown fields t row grouped n fit typed = truth-of (row_value fields t row (name n)) (shown-of fields t row grouped kind.Bool (name n) fit typed.0 typed.1)

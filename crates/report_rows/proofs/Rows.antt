@@ -1,0 +1,193 @@
+-- The order of rows that fit a query.
+use Rattle.std.proofs.Common.{◌≡◌, ◌≢◌, ◌<◌, ℕ, suc, ◌==◌, Bool, true, false, List, [], ◌∷◌, length, map, get_or, slice_index_or, refl, sym, ap, subst, ◌∙◌, arith, All, AllPairs, IsPermutation, IsSortedBy, Bor}
+use Rattle.std.specs.Prelude.{filter}
+use Rattle.std.specs.declared.cmp.Ordering.{Ordering}
+use Rattle.std.specs.declared.cmp.Ordering.TheVariants.{Less, Equal, Greater}
+use Rattle.std.specs.Ordering.{is_eq, is_gt, is_lt, nat_cmp, ordering_then}
+use Rattle.std.specs.Cmp.{Equal-is}
+use Rattle.std.specs.Cmp.Lexicographic.{slice_cmp}
+use Rattle.std.specs.List.{AllByRecursion, list_any}
+use Rattle.std.proofs.lemmas.List.{get_or-map, length-map}
+use Rattle.std.proofs.lemmas.List.Elements.{All-from_recursion, recursion_from_All}
+use Rattle.std.proofs.lemmas.List.Sorted.{All-permutation, IsPermutation-map}
+use Rattle.std.proofs.lemmas.Map.Lookups.{exact_unsigned}
+use Rattle.semantics.specs.Values.{Datum, null, value_order}
+use Rattle.semantics.specs.Columns.{Field}
+use Rattle.semantics.specs.Syntax.{KeyForm, TreeForm}
+use Rattle.semantics.specs.Names.{places_of}
+use Rattle.semantics.specs.Sets.{grouping_names, grouping_places, sets_of}
+use Rattle.query_resolve.proofs.DistinctSets.{names_kept, set_of_names, sets_by_names}
+use Rattle.tables_groups.specs.declared.group.Group.{Group}
+use Rattle.semantics.specs.Groups.{key_order}
+use Rattle.tables_groups.specs.Bags.{SameBag}
+use Rattle.tables_groups.proofs.Order.{key_antisymmetric}
+use Rattle.semantics.specs.Found.{Found, set_of}
+use Rattle.tables_groups.specs.Found.{row_of}
+use Rattle.semantics.specs.Rows.{rows_having_true}
+use Rattle.semantics.specs.Order.{grouping_values, key_value, under_key, under_keys, before, in_order, arranged}
+use Rattle.report_rows.specs.Order.{NoneBefore, Ascends}
+use Rattle.report_rows.specs.Inside.Ranked.{Ranked, by_key, by_rank, key_values, ranked, under_values}
+use Rattle.tables_groups.specs.Fitting.{AreFitting}
+use Rattle.report_rows.specs.Laws.{IsTheOrder, IsBlind}
+use Rattle.report_rows.proofs.Filtering.{bag-having_true, fit-having_true}
+use Rattle.report_rows.proofs.Totals.{before-total, by_rank-total}
+use Rattle.report_rows.proofs.Sorting.{Apart, apart-in_order, ascends-in_order, ascends-sorted, bag-permutation, one-list, weigh-in_order}
+use Rattle.report_rows.proofs.Sameness.{both-tied, found-tells, same_found}
+use Rattle.query_plan.specs.Planned.{PlannedQuery}
+use Rattle.report_rows.specs.Planned.{HasSetUnder}
+use Rattle.report_rows.proofs.Maps.{all-of-map, map-twice}
+use Rattle.report_rows.proofs.Places.{different-distinct, order-same_set}
+
+-- ---- one row and another
+
+-- the index of the row is that of a set, and its key has a value for each column
+abbrev pub IsFit : List Field → TreeForm → Found → Type 0
+IsFit fields t x = (x.0 < length (sets_of fields t)) × (length x.1.key ≡ length (set_of fields t x))
+
+-- the grouping columns that are in the set that is written with these names
+abbrev is_in : List Field → List (List ℕ) → ℕ → Bool
+is_in fields names c = list_any (λ p. p == c) (places_of fields names)
+
+set-part : (fields : List Field) (t : TreeForm) (x : Found) → x.0 < length (sets_of fields t) → set_of fields t x ≡ filter (is_in fields (get_or (names_kept fields t) x.0 [])) (grouping_places fields t)
+set-part fields t x within =
+    let n = ap length (sets_by_names fields t) ∙ length-map (names_kept fields t) (set_of_names fields t) in
+    ap (λ (sets : List (List ℕ)). get_or sets x.0 []) (sets_by_names fields t)
+    ∙ get_or-map (set_of_names fields t) (names_kept fields t) x.0 [] [] (omega (arith, within, n))
+
+-- how two rows stand to each other by the index of their grouping set, and in one set by what they show for the grouping columns
+abbrev by_columns : List Field → TreeForm → Found → Found → Ordering
+by_columns fields t x y = ordering_then (nat_cmp x.0 y.0) (slice_cmp value_order (grouping_values fields t x) (grouping_values fields t y))
+
+-- rows that fit stand so as their keys do
+same-order : (fields : List Field) (t : TreeForm) (x y : Found) → IsFit fields t x → IsFit fields t y → by_columns fields t x y ≡ by_key x y
+same-order fields t x y fx fy =
+    elim (nat_cmp x.0 y.0) as (λ (o : Ordering). nat_cmp x.0 y.0 ≡ o → ordering_then o (slice_cmp value_order (grouping_values fields t x) (grouping_values fields t y)) ≡ ordering_then o (key_order x.1.key y.1.key)) [
+      | Less ↦ λ _. refl
+      | Equal ↦ λ e.
+          order-same_set (grouping_places fields t) (set_of fields t x) (set_of fields t y) (is_in fields (get_or (names_kept fields t) x.0 [])) (different-distinct (places_of fields (grouping_names t)))
+          (set-part fields t x fx.0) (ap (λ (i : ℕ). get_or (sets_of fields t) i []) (sym (exact_unsigned x.0 y.0 e))) x.1.key y.1.key fx.1 fy.1
+      | Greater ↦ λ _. refl
+    ] refl
+
+-- the first value of each list out of the way
+later : (place : ℕ) (ks : List KeyForm) (x y : Datum) (xs ys : List Datum) → under_values (suc place) ks (x ∷ xs) (y ∷ ys) ≡ under_values place ks xs ys
+later place [] x y xs ys = refl
+later place (k ∷ ks) x y xs ys = ap (ordering_then (under_key k (slice_index_or xs place null) (slice_index_or ys place null))) (later (suc place) ks x y xs ys)
+
+-- the values of the keys stand as the rows do under the keys
+same-values : (fields : List Field) (t : TreeForm) (x y : Found) (ks : List KeyForm) → under_keys fields t ks x y ≡ under_values 0 ks (map (key_value fields t x) ks) (map (key_value fields t y) ks)
+same-values fields t x y [] = refl
+same-values fields t x y (k ∷ ks) =
+    ap (ordering_then (under_key k (key_value fields t x k) (key_value fields t y k)))
+    (same-values fields t x y ks ∙ sym (later 0 ks (key_value fields t x k) (key_value fields t y k) (map (key_value fields t x) ks) (map (key_value fields t y) ks)))
+
+-- the values beside the row are those of the keys, and the row fits
+abbrev IsRight : List Field → TreeForm → Ranked → Type 0
+IsRight fields t r = (r.0 ≡ key_values fields t r.1) × IsFit fields t r.1
+
+-- rows that fit stand as the values beside them have them
+same-rank : (fields : List Field) (t : TreeForm) (r s : Ranked) → IsRight fields t r → IsRight fields t s → before fields t r.1 s.1 ≡ by_rank t.keys r s
+same-rank fields t r s p q =
+    ap (λ (o : Ordering). ordering_then o (by_columns fields t r.1 s.1)) (same-values fields t r.1 s.1 t.keys ∙ (λ i. under_values 0 t.keys (sym p.0 i) (sym q.0 i)))
+    ∙ ap (ordering_then (under_values 0 t.keys r.0 s.0)) (same-order fields t r.1 s.1 p.1 q.1)
+
+-- ---- lists of rows
+
+abbrev row_beside : Ranked → Found
+row_beside r = r.1
+
+none-same : (fields : List Field) (t : TreeForm) (r : Ranked) (rs : List Ranked) → IsRight fields t r → AllByRecursion (IsRight fields t) rs → NoneBefore (by_rank t.keys) r rs → NoneBefore (before fields t) r.1 (map row_beside rs)
+none-same fields t r [] p all n = tt
+none-same fields t r (s ∷ rs) p all n = (ap is_gt (same-rank fields t r s p all.0) ∙ n.0, none-same fields t r rs p all.1 n.1)
+
+ascends-same : (fields : List Field) (t : TreeForm) (rs : List Ranked) → AllByRecursion (IsRight fields t) rs → Ascends (by_rank t.keys) rs → Ascends (before fields t) (map row_beside rs)
+ascends-same fields t [] all a = tt
+ascends-same fields t (r ∷ rs) all a = (none-same fields t r rs all.0 all.1 a.0, ascends-same fields t rs all.1 a.1)
+
+-- two rows with other keys under one index do not tie
+untied : (fields : List Field) (t : TreeForm) (x y : Found) → IsFit fields t x → IsFit fields t y → (x.0 ≡ y.0 → x.1.key ≢ y.1.key) → is_eq (before fields t x y) ≡ false
+untied fields t x y fx fy other =
+    elim (is_eq (before fields t x y)) as (λ (b : Bool). is_eq (before fields t x y) ≡ b → b ≡ false) [
+      | true ↦ λ e.
+          let under = both-tied (under_keys fields t t.keys x y) (by_columns fields t x y) ((Equal-is (before fields t x y)).0 e) in
+          let tied = both-tied (nat_cmp x.0 y.0) (key_order x.1.key y.1.key) (sym (same-order fields t x y fx fy) ∙ under.1) in
+          absurd (other (exact_unsigned x.0 y.0 tied.0) (key_antisymmetric x.1.key y.1.key tied.1))
+      | false ↦ λ _. refl
+    ] refl
+
+untied-all : (fields : List Field) (t : TreeForm) (x : Found) (ys : List Found) → IsFit fields t x → AllByRecursion (IsFit fields t) ys → AllByRecursion (λ y. x.0 ≡ y.0 → x.1.key ≢ y.1.key) ys → AllByRecursion (λ y. is_eq (before fields t x y) ≡ false) ys
+untied-all fields t x [] fx all others = tt
+untied-all fields t x (y ∷ ys) fx all others = (untied fields t x y fx all.0 others.0, untied-all fields t x ys fx all.1 others.1)
+
+apart : (fields : List Field) (t : TreeForm) (found : List Found) → AllByRecursion (IsFit fields t) found → AllPairs (λ x y. x.0 ≡ y.0 → x.1.key ≢ y.1.key) found → Apart (before fields t) found
+apart fields t [] all pairs = tt
+apart fields t (x ∷ found) all pairs = (
+  untied-all fields t x found all.0 all.1 (recursion_from_All (λ (y : Found). x.0 ≡ y.0 → x.1.key ≢ y.1.key) found (λ k d within. pairs 0 (suc k) d (omega arith) (omega arith))),
+  apart fields t found all.1 (λ i j d below within. pairs (suc i) (suc j) d (omega arith) (omega arith)),
+)
+
+all-fit : (fields : List Field) (t : TreeForm) (found : List Found) → AreFitting fields t found → All (IsFit fields t) found
+all-fit fields t found fit k d within = (fit.indexes k d within, fit.keys k d within)
+
+apart-fitting : (fields : List Field) (t : TreeForm) (found : List Found) → AreFitting fields t found → Apart (before fields t) (in_order (before fields t) found)
+apart-fitting fields t found fit =
+    apart-in_order (before-total fields t) found (apart fields t found (recursion_from_All (IsFit fields t) found (all-fit fields t found fit)) fit.distinct)
+
+-- ---- the laws
+
+-- rows that ascend are in order
+only-order : (fields : List Field) (t : TreeForm) (found others : List Found) → AreFitting fields t found → SameBag found others → Ascends (before fields t) others → others ≡ in_order (before fields t) found
+only-order fields t found others fit bag up =
+    sym (one-list (before-total fields t) same_found found-tells (in_order (before fields t) found) others (apart-fitting fields t found fit) (ascends-in_order (before-total fields t) found) up
+    (λ f. weigh-in_order (before fields t) f found ∙ bag f))
+
+pub the-order : (fields : List Field) (t : TreeForm) (found : List Found) → AreFitting fields t found → IsTheOrder fields t found
+the-order fields t found fit = record {
+  same = λ f. sym (weigh-in_order (before fields t) f (rows_having_true fields t found));
+  ascends = ascends-in_order (before-total fields t) (rows_having_true fields t found);
+  only = λ others. only-order fields t (rows_having_true fields t found) others (fit-having_true fields t found fit);
+}
+
+pub is-blind : (fields : List Field) (t : TreeForm) (found : List Found) → AreFitting fields t found → IsBlind fields t found
+is-blind fields t found fit others bag =
+    only-order fields t (rows_having_true fields t found) (arranged fields t others) (fit-having_true fields t found fit)
+    (λ f. bag-having_true fields t found others bag f ∙ sym (weigh-in_order (before fields t) f (rows_having_true fields t others)))
+    (ascends-in_order (before-total fields t) (rows_having_true fields t others))
+
+-- ---- the code's sort
+
+-- what a reference to a group of the code shows
+abbrev pub row_at : Bor (ℕ × Group) → Found
+row_at r = row_of r.now
+
+each-right : (fields : List Field) (t : TreeForm) (found : List Found) → AllByRecursion (IsFit fields t) found → AllByRecursion (IsRight fields t) (map (ranked fields t) found)
+each-right fields t [] all = tt
+each-right fields t (x ∷ found) all = ((refl, all.0), each-right fields t found all.1)
+
+rows-beside : (fields : List Field) (t : TreeForm) (found : List Found) → map row_beside (map (ranked fields t) found) ≡ found
+rows-beside fields t [] = refl
+rows-beside fields t (x ∷ found) = ap (λ (xs : List Found). x ∷ xs) (rows-beside fields t found)
+
+-- what is a permutation of rows beside the values of the keys
+pub ranks-moved : {Y : Type 0} (rank : Y → Ranked) (fields : List Field) (t : TreeForm) (found : List Found) (gathered sorted : List Y) → map rank gathered ≡ map (ranked fields t) found → IsPermutation gathered sorted
+    → IsPermutation (map (ranked fields t) found) (map rank sorted)
+ranks-moved rank fields t found gathered sorted are moved = subst (λ (rs : List Ranked). IsPermutation rs (map rank sorted)) are (IsPermutation-map rank gathered sorted moved)
+
+-- what is sorted by values that are those of the keys, by index and by key has the rows in their order
+pub sorted-ranks : {Y : Type 0} (rank : Y → Ranked) (fields : List Field) (t : TreeForm) (found : List Found) (sorted : List Y) → IsPermutation (map (ranked fields t) found) (map rank sorted)
+    → IsSortedBy (λ a b. is_lt (by_rank t.keys (rank a) (rank b))) sorted → AreFitting fields t found → map (λ y. (rank y).1) sorted ≡ in_order (before fields t) found
+sorted-ranks {Y} rank fields t found sorted there up fit =
+    let fits : AllByRecursion (IsRight fields t) (map (ranked fields t) found) = each-right fields t found (recursion_from_All (IsFit fields t) found (all-fit fields t found fit)) in
+    let right : AllByRecursion (IsRight fields t) (map rank sorted) =
+    recursion_from_All (IsRight fields t) (map rank sorted) (All-permutation (IsRight fields t) (map (ranked fields t) found) (map rank sorted) there (All-from_recursion (IsRight fields t) (map (ranked fields t) found) fits)) in
+    let rows : IsPermutation found (map row_beside (map rank sorted)) =
+    subst (λ (xs : List Found). IsPermutation xs (map row_beside (map rank sorted))) (rows-beside fields t found) (IsPermutation-map row_beside (map (ranked fields t) found) (map rank sorted) there) in
+    sym (map-twice row_beside rank sorted)
+    ∙ only-order fields t found (map row_beside (map rank sorted)) fit (bag-permutation found (map row_beside (map rank sorted)) rows)
+    (ascends-same fields t (map rank sorted) right (ascends-sorted (by_rank-total t.keys) rank sorted up))
+
+-- rows that fit have indexes of sets
+pub sets-fitting : (plan : PlannedQuery) (groups : List (Bor (ℕ × Group))) → AreFitting plan.fields plan.query (map row_at groups) → All (λ r. HasSetUnder plan (row_at r)) groups
+sets-fitting plan groups fit =
+    All-from_recursion (λ (r : Bor (ℕ × Group)). HasSetUnder plan (row_at r)) groups
+    (all-of-map row_at (HasSetUnder plan) groups (recursion_from_All (HasSetUnder plan) (map row_at groups) fit.indexes))

@@ -1,0 +1,50 @@
+use Rattle.std.proofs.Common.{◌≡◌, ◌<◌, ◌++◌, ◌∷◌, [], ◌∙◌, Bor, List, ℕ, append_assoc, length, map, sym, ap, subst}
+use Rattle.std.specs.List.{AllByRecursion}
+use Rattle.std.proofs.lemmas.List.{map_push}
+use Rattle.semantics.specs.Sets.{sets_of}
+use Rattle.tables_groups.specs.declared.group.Group.{Group}
+use Rattle.semantics.specs.Aggregates.{Summary}
+use Rattle.semantics.specs.Found.{Found}
+use Rattle.tables_groups.specs.Found.{row_of}
+use Rattle.semantics.specs.Order.{arranged}
+use Rattle.report_rows.specs.Shown.{cells_of}
+use Rattle.semantics.specs.Rows.{row_shown}
+use Rattle.report_rows.specs.declared.row.ReportRow.{ReportRow}
+use Rattle.report_rows.proofs.Keeping.{within-having_true}
+use Rattle.report_rows.proofs.Wide.{all-wide}
+use Rattle.report_rows.proofs.arranging.arranged_rows.Goals as goal
+
+pub loop-group-init : goal.loop-group-init
+loop-group-init c =
+    let fields = c.args.plan.now.fields in
+    let t = c.args.plan.now.query in
+    let found = (map row_of c.args.groups.now) in
+    let shows = λ (r : Bor (ℕ × Group)). row_of r.now in
+    let rest : c.into_iter-group-iterator.result.rest.items ≡ c.in_ok-shown.shown.items = c.into_iter-group-iterator.ensures.into_iter_gives.0 in
+    let left : map shows c.into_iter-group-iterator.result.rest.items ≡ arranged fields t found = ap (map shows) rest ∙ c.in_ok-shown.ensures.shown in
+    record {
+      shown = ap (λ (rows : List ReportRow). map cells_of rows ++ map (row_shown fields t) (map shows c.into_iter-group-iterator.result.rest.items)) c.in_ok-rows.ensures.items ∙ ap (map (row_shown fields t)) left;
+      within = subst (λ (f : List Found). AllByRecursion (λ x. x.0 < length (sets_of fields t)) f) (sym left) (within-having_true fields t found c.requires);
+    }
+
+pub loop-group-preserved : goal.loop-group-preserved
+loop-group-preserved c =
+    let fields = c.args.plan.now.fields in
+    let t = c.args.plan.now.query in
+    let shows = λ (r : Bor (ℕ × Group)). row_of r.now in
+    let rows = c.loop-group.rows.items in
+    let row = c.in_ok-row_for.field-0 in
+    let rest = c.next.new.self.rest.items in
+    let later = map (row_shown fields t) (map shows rest) in
+    let is : c.loop-group.group-iterator.rest.items ≡ c.in-Some.group ∷ rest = c.in-Some.ensures.steps.0 in
+    record {
+      shown = ap (λ (rs : List ReportRow). map cells_of rs ++ later) c.in_ok-push.ensures.items ∙ ap (λ (zs : List (List Summary)). zs ++ later) (map_push cells_of rows row) ∙ append_assoc (map cells_of rows) (cells_of row ∷ []) later
+          ∙ ap (λ (z : List Summary). map cells_of rows ++ z ∷ later) c.in_ok-row_for.ensures ∙ ap (λ (gs : List (Bor (ℕ × Group))). map cells_of rows ++ map (row_shown fields t) (map shows gs)) (sym is) ∙ c.loop-group.invariant.shown;
+      within = (subst (λ (gs : List (Bor (ℕ × Group))). AllByRecursion (λ x. x.0 < length (sets_of fields t)) (map shows gs)) is c.loop-group.invariant.within).1;
+    }
+
+pub returns-clause-wide : goal.returns-clause-wide
+returns-clause-wide c =
+    let fields = c.args.plan.now.fields in
+    let t = c.args.plan.now.query in
+    all-wide fields t c.loop-group.rows.items (map (row_shown fields t) (map (λ (r : Bor (ℕ × Group)). row_of r.now) c.loop-group.group-iterator.rest.items)) (arranged fields t (map row_of c.args.groups.now)) c.loop-group.invariant.shown

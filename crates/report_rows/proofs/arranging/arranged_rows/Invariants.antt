@@ -1,0 +1,16 @@
+use Rattle.std.proofs.Common.{◌≡◌, ◌++◌, ◌<◌, Bor, ℕ, length, map}
+use Rattle.std.specs.List.{AllByRecursion}
+use Rattle.semantics.specs.Sets.{sets_of}
+use Rattle.tables_groups.specs.declared.group.Group.{Group}
+use Rattle.tables_groups.specs.Found.{row_of}
+use Rattle.semantics.specs.Order.{rows_shown}
+use Rattle.report_rows.specs.Shown.{cells_of}
+use Rattle.semantics.specs.Rows.{row_shown}
+use Rattle.report_rows.proofs.arranging.arranged_rows.Given as goal
+
+-- the rows so far, and then those of the groups that are left, whose indexes are those of sets
+abbrev pub invariant-loop-group : goal.invariant-loop-group
+invariant-loop-group l = record {
+  shown : map cells_of l.rows.items ++ map (row_shown l.plan.fields l.plan.query) (map (λ (r : Bor (ℕ × Group)). row_of r.now) l.group-iterator.rest.items) ≡ rows_shown l.plan.fields l.plan.query (map row_of l.groups);
+  within : AllByRecursion (λ x. x.0 < length (sets_of l.plan.fields l.plan.query)) (map (λ (r : Bor (ℕ × Group)). row_of r.now) l.group-iterator.rest.items);
+}

@@ -1,0 +1,42 @@
+-- Where the rows of a grouping set have what they show.
+use Rattle.std.specs.Prelude.{◌≡◌, ℕ, ⊤, List, [], ◌∷◌, map, slice_get, slice_index_or, unwrap_or}
+use Rattle.std.specs.Global.{Vec}
+use Rattle.values.specs.Datum.{datum_of}
+use Rattle.semantics.specs.Values.{null}
+use Rattle.semantics.specs.Syntax.{ExpressionForm}
+use Rattle.query_plan.specs.Planned.{PlannedQuery}
+use Rattle.semantics.specs.Aggregates.{Summary, plain}
+use Rattle.semantics.specs.Groups.{Key}
+use Rattle.semantics.specs.Found.{Found}
+use Rattle.report_rows.specs.declared.source.Source.{Source}
+use Rattle.report_rows.specs.declared.source.Source.TheVariants.{KeyAt, CellAt, Always}
+use Rattle.semantics.specs.Rows.{expression_shown}
+
+-- what a row with this key and these cells has there, and NULL where it has nothing
+abbrev pub shown_at : Key → List Summary → Source → Summary
+shown_at key cells (KeyAt place) = plain (slice_index_or key place null)
+shown_at key cells (CellAt place) = unwrap_or (slice_get cells place) (plain null)
+shown_at key cells (Always value) = plain (datum_of value)
+
+-- each row of the grouping set has there what it shows for the expression
+abbrev pub IsSourceOf : PlannedQuery → List ℕ → ExpressionForm → Source → Type 0
+IsSourceOf plan set e source = (key : Key) (cells : List Summary) → shown_at key cells source ≡ expression_shown plan.fields plan.query set key cells e
+
+-- each row of the grouping set has there what it shows for the items of SELECT
+abbrev pub AreSourcesOf : PlannedQuery → List ℕ → List Source → Type 0
+AreSourcesOf plan set sources = (key : Key) (cells : List Summary) → map (shown_at key cells) sources ≡ map (λ item. expression_shown plan.fields plan.query set key cells item.expression) plan.query.items
+
+-- so do the rows of each grouping set, in the order of the sets
+abbrev pub AreSourcesOfEach : PlannedQuery → List (List ℕ) → List (Vec Source) → Type 0
+AreSourcesOfEach plan [] [] = ⊤
+AreSourcesOfEach plan [] (sources ∷ others) = ⊥
+AreSourcesOfEach plan (set ∷ sets) [] = ⊥
+AreSourcesOfEach plan (set ∷ sets) (sources ∷ others) = AreSourcesOf plan set sources.items × AreSourcesOfEach plan sets others
+
+-- those of the grouping set at an index
+abbrev pub sources_at : List (Vec Source) → ℕ → List Source
+sources_at all index = slice_index_or (map (λ sources. sources.items) all) index []
+
+-- what the row of a group has where its grouping set has what it shows
+abbrev pub cells_at : List (Vec Source) → Found → List Summary
+cells_at all row = map (shown_at row.1.key row.1.cells) (sources_at all row.0)

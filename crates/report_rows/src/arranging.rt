@@ -1,0 +1,116 @@
+//! The rows of a report in their order.
+ghost use Rattle.std.specs.Prelude.{◌≡◌, ◌<◌, All, IfOk, length, map};
+ghost use Rattle.tables_groups.specs.Found.{row_of};
+ghost use Rattle.tables_groups.specs.Fitting.{AreFitting};
+ghost use Rattle.report_rows.specs.Planned.{HasSetUnder};
+ghost use Rattle.semantics.specs.Order.{arranged, rows_shown};
+ghost use Rattle.report_rows.specs.Shown.{cells_of};
+ghost use Rattle.semantics.specs.Rows.{row_shown};
+
+use crate::cells::expression_cell;
+use crate::having::rows_having_true;
+use crate::ordering::{in_order, in_order_among};
+use crate::parts::part_len;
+use crate::row::ReportRow;
+use crate::view::PlanView;
+use std::alloc::{AllocError, Global};
+use std::marker::Sync;
+use std::thread::Threads;
+use tables_groups::Group;
+
+/// The rows of a report on groups, each of which stands beside the index of its grouping set. They are those for which
+/// the predicate of HAVING is True, and all where HAVING is not written (ISO/IEC 9075-2, `<having clause>`), by the keys of
+/// ORDER BY (`<sort specification list>`), then by the index of the grouping set, and in one set by the grouping columns
+/// in the order in which GROUP BY first names them, ascending and with NULL last.
+///
+/// The groups fit the plan: the index of each is that of a grouping set, its key has a value for each column of the set,
+/// it has a cell for each set function, each value and cell is of its type, and no index and key stand twice together.
+///
+/// Example: for `SELECT d, COUNT(*) AS n FROM lines GROUP BY d`, and the groups of records whose `d` are `'y'`, `'x'` and
+/// `'x'`, it answers the rows `'x'`, 2 and `'y'`, 1.
+///
+/// # Errors
+///
+/// `AllocError` where there is no memory for the rows.
+pub fn arranged_rows(
+    alloc: Global,
+    groups: &[(usize, Group)],
+    plan: &PlanView<'_>,
+) -> Result<Vec<ReportRow>, AllocError>
+    requires { AreFitting plan.now.fields plan.now.query (map row_of groups.now) }
+    ensures cells { IfOk result (λ rows. map cells_of rows.items ≡ rows_shown plan.now.fields plan.now.query (map row_of groups.now)) }
+    ensures wide { IfOk result (λ rows. All (λ row. length row.cells.items ≡ length plan.now.query.items) rows.items) }
+{
+    let shown = shown_groups(alloc, groups, plan)?;
+    let mut rows = Vec::with_capacity(alloc, shown.len())?;
+    for group in shown {
+        rows.push(row_for(alloc, plan, group)?)?;
+    }
+    Ok(rows)
+}
+
+/// The groups that a report shows, in the order of its rows, each beside the index of its grouping set.
+///
+/// The groups fit the plan, as `arranged_rows` asks for.
+///
+/// Example: it answers the groups of which `arranged_rows` makes rows, in the same order.
+///
+/// # Errors
+///
+/// `AllocError` where there is no memory for the list.
+pub fn shown_groups<'a>(
+    alloc: Global,
+    groups: &'a [(usize, Group)],
+    plan: &PlanView<'_>,
+) -> Result<Vec<&'a (usize, Group)>, AllocError>
+    requires { AreFitting plan.now.fields plan.now.query (map row_of groups.now) }
+    ensures shown { IfOk result (λ v. map (λ r. row_of r.now) v.items ≡ arranged plan.now.fields plan.now.query (map row_of groups.now)) }
+    ensures sets { IfOk result (λ v. All (λ r. HasSetUnder plan.now (row_of r.now)) v.items) }
+{
+    let unordered = rows_having_true(alloc, plan, groups)?;
+    in_order(alloc, plan, unordered)
+}
+
+/// As `shown_groups`; the groups are put in order by as many threads as there are hands, the calling one among them, or by
+/// fewer where they are few or a thread cannot be started. There is a hand.
+///
+/// Example: with whatever number of hands it answers what `shown_groups` answers, unless memory runs out.
+///
+/// # Errors
+///
+/// `AllocError` where there is no memory for it.
+pub fn shown_among<'a, H: Threads + Sync>(
+    rt: &H,
+    alloc: Global,
+    groups: &'a [(usize, Group)],
+    plan: &PlanView<'_>,
+    hands: usize,
+) -> Result<Vec<&'a (usize, Group)>, AllocError>
+    requires fit { AreFitting plan.now.fields plan.now.query (map row_of groups.now) }
+    requires hands { 0 < hands }
+    ensures shown { IfOk result (λ v. map (λ r. row_of r.now) v.items ≡ arranged plan.now.fields plan.now.query (map row_of groups.now)) }
+    ensures sets { IfOk result (λ v. All (λ r. HasSetUnder plan.now (row_of r.now)) v.items) }
+{
+    let unordered = rows_having_true(alloc, plan, groups)?;
+    let size = part_len(unordered.len(), hands);
+    in_order_among(rt, alloc, plan, unordered, size)
+}
+
+/// The row of a group, which stands beside the index of its grouping set.
+fn row_for(
+    alloc: Global,
+    plan: &PlanView<'_>,
+    found: &(usize, Group),
+) -> Result<ReportRow, AllocError>
+    requires { HasSetUnder plan.now (row_of found.now) }
+    ensures { IfOk result (λ row. cells_of row ≡ row_shown plan.now.fields plan.now.query (row_of found.now)) }
+{
+    let (index, group) = found;
+    let set = &plan.sets()[*index];
+    let items = plan.query().tree().items.as_slice();
+    let mut cells = Vec::with_capacity(alloc, items.len())?;
+    for item in items {
+        cells.push(expression_cell(plan, set, group, &item.expression)?)?;
+    }
+    Ok(ReportRow { cells })
+}

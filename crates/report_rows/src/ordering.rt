@@ -1,0 +1,228 @@
+//! The order of rows.
+ghost use Rattle.std.specs.Prelude.{◌≡◌, ◌<◌, ◌++◌, All, IfOk, OnOk, map};
+ghost use Rattle.std.specs.List.{flat_map};
+ghost use Rattle.std.specs.List.Sorted.{IsPermutation, IsSortedBy};
+ghost use Rattle.std.specs.Ordering.{is_lt};
+ghost use Rattle.query_ast.specs.Syntax.{key_form};
+ghost use Rattle.tables_groups.specs.Found.{row_of};
+ghost use Rattle.tables_groups.specs.Fitting.{AreFitting};
+ghost use Rattle.semantics.specs.Order.{before, in_order};
+ghost use Rattle.report_rows.specs.Parts.{AreMade, items_of};
+ghost use Rattle.report_rows.specs.Inside.Ranked.{AreRanked, AreRankedParts, by_key, by_rank, ranked, ranked_in};
+ghost use Rattle.report_rows.specs.Planned.{HasSetUnder};
+
+use crate::keys::{key_values, under_values};
+use crate::ranked::{RankedRow, behind_of, compare_keys, first_text, front_of};
+use crate::view::PlanView;
+use query_plan::Key;
+use std::alloc::{AllocError, Global};
+use std::cmp::Ordering;
+use std::marker::Sync;
+use std::thread;
+use std::thread::Threads;
+use tables_groups::Group;
+
+/// How two groups stand to each other: by the index of their grouping set, and in one set by their keys.
+fn compare(a: &RankedRow, b: &RankedRow) -> Ordering
+    ensures { result ≡ by_key (row_of a.now.found.now) (row_of b.now.found.now) }
+{
+    match a.set.cmp(&b.set) {
+        Ordering::Equal => compare_keys(a, b),
+        other => other,
+    }
+}
+
+/// How two groups stand to each other by the values of these keys for them, and else by their sets and keys.
+fn compare_ranked(keys: &[Key], a: &RankedRow, b: &RankedRow) -> Ordering
+    ensures { result ≡ by_rank (map key_form keys.now) (ranked_in a.now) (ranked_in b.now) }
+{
+    match under_values(keys, a.values.as_slice(), b.values.as_slice()) {
+        Ordering::Equal => compare(a, b),
+        other => other,
+    }
+}
+
+/// The groups in the order of their rows: by the keys of ORDER BY, where there are some, and else by their sets and keys.
+pub(crate) fn in_order<'a>(
+    alloc: Global,
+    plan: &PlanView<'_>,
+    rows: Vec<&'a (usize, Group)>,
+) -> Result<Vec<&'a (usize, Group)>, AllocError>
+    requires { AreFitting plan.now.fields plan.now.query (map (λ r. row_of r.now) rows.items) }
+    ensures { IfOk result (λ v. map (λ r. row_of r.now) v.items ≡ in_order (before plan.now.fields plan.now.query) (map (λ r. row_of r.now) rows.entry.items)) }
+{
+    let ranked = rank(alloc, plan, rows.as_slice())?;
+    let ordered = sorted(plan, ranked);
+    groups_in(alloc, ordered)
+}
+
+/// As `in_order`. Where there are more groups than one part has, they are put in order in parts of so many, each by a thread
+/// of its own where one can be started, and the parts then together.
+pub(crate) fn in_order_among<'a, H: Threads + Sync>(
+    rt: &H,
+    alloc: Global,
+    plan: &PlanView<'_>,
+    rows: Vec<&'a (usize, Group)>,
+    size: usize,
+) -> Result<Vec<&'a (usize, Group)>, AllocError>
+    requires fit { AreFitting plan.now.fields plan.now.query (map (λ r. row_of r.now) rows.items) }
+    requires size { 0 < size }
+    ensures { IfOk result (λ v. map (λ r. row_of r.now) v.items ≡ in_order (before plan.now.fields plan.now.query) (map (λ r. row_of r.now) rows.entry.items)) }
+{
+    if rows.len() <= size {
+        return in_order(alloc, plan, rows);
+    }
+    let parts = parts_in_order(rt, alloc, plan, rows.as_slice(), size)?;
+    let ranked = rows_of_parts(alloc, parts.as_slice(), rows.len())?;
+    let ordered = merged(plan, ranked)?;
+    groups_at(alloc, ordered)
+}
+
+/// The groups in parts of so many, each beside what their rows are put in order by, and each part in that order.
+fn parts_in_order<'a, H: Threads + Sync>(
+    rt: &H,
+    alloc: Global,
+    plan: &PlanView<'_>,
+    rows: &[&'a (usize, Group)],
+    size: usize,
+) -> Result<Vec<Result<Vec<RankedRow<'a>>, AllocError>>, AllocError>
+    requires size { 0 < size }
+    requires sets { All (λ r. HasSetUnder plan.now (row_of r.now)) rows.now }
+    ensures { IfOk result (λ parts. AreRankedParts (ranked plan.now.fields plan.now.query) size (map (λ r. row_of r.now) rows.now) parts.items) }
+{
+    let parts = thread::map_chunks(
+        rt,
+        alloc,
+        rows,
+        size,
+        &|_, part: &[&(usize, Group)]| -> Result<Vec<RankedRow<'_>>, AllocError>
+            requires { All (λ r. HasSetUnder plan.now (row_of r.now)) part.now }
+            ensures { IfOk result (λ v. AreRanked (ranked plan.entry.now.fields plan.entry.now.query) (map (λ r. row_of r.now) part.entry.now) v.items) }
+        { part_in_order(alloc, plan, part) },
+    )?;
+    Ok(parts)
+}
+
+/// The groups of one part beside what their rows are put in order by, in that order.
+fn part_in_order<'a>(
+    alloc: Global,
+    plan: &PlanView<'_>,
+    rows: &[&'a (usize, Group)],
+) -> Result<Vec<RankedRow<'a>>, AllocError>
+    requires { All (λ r. HasSetUnder plan.now (row_of r.now)) rows.now }
+    ensures { IfOk result (λ v. AreRanked (ranked plan.now.fields plan.now.query) (map (λ r. row_of r.now) rows.now) v.items) }
+{
+    let ranked = rank(alloc, plan, rows)?;
+    Ok(sorted(plan, ranked))
+}
+
+/// The groups beside what their rows are put in order by.
+fn rank<'a>(
+    alloc: Global,
+    plan: &PlanView<'_>,
+    rows: &[&'a (usize, Group)],
+) -> Result<Vec<RankedRow<'a>>, AllocError>
+    requires { All (λ r. HasSetUnder plan.now (row_of r.now)) rows.now }
+    ensures { IfOk result (λ v. map ranked_in v.items ≡ map (ranked plan.now.fields plan.now.query) (map (λ r. row_of r.now) rows.now)) }
+{
+    let mut ranked = Vec::with_capacity(alloc, rows.len())?;
+    for found in rows {
+        let values = key_values(alloc, plan, found)?;
+        ranked.push(RankedRow {
+            values,
+            set: found.0,
+            front: front_of(found.1.key.as_slice()),
+            behind: behind_of(found.1.key.as_slice()),
+            text: first_text(found.1.key.as_slice()),
+            found: *found,
+        })?;
+    }
+    Ok(ranked)
+}
+
+/// The groups in the order of what stands beside them, in which no two are equal.
+fn sorted<'a>(plan: &PlanView<'_>, ranked: Vec<RankedRow<'a>>) -> Vec<RankedRow<'a>>
+    ensures permutation { IsPermutation ranked.entry.items result.items }
+    ensures sorted { IsSortedBy (λ a b. is_lt (by_rank plan.now.query.keys (ranked_in a) (ranked_in b))) result.items }
+{
+    let keys = plan.query().tree().keys.as_slice();
+    let mut ranked = ranked;
+    ranked.sort_unstable_by(|a, b| compare_ranked(keys, a, b));
+    ranked
+}
+
+/// The groups alone, in the order in which they stand.
+fn groups_in<'a>(
+    alloc: Global,
+    ranked: Vec<RankedRow<'a>>,
+) -> Result<Vec<&'a (usize, Group)>, AllocError>
+    ensures { IfOk result (λ v. map (λ r. row_of r.now) v.items ≡ map (λ r. (ranked_in r).1) ranked.entry.items) }
+{
+    let mut groups = Vec::with_capacity(alloc, ranked.len())?;
+    for row in ranked {
+        groups.push(row.found)?;
+    }
+    Ok(groups)
+}
+
+/// The rows of all parts, one part after the other, where each of them was made. There may be as many as `count`; for more
+/// the list gets longer.
+fn rows_of_parts<'r, 'a>(
+    alloc: Global,
+    parts: &'r [Result<Vec<RankedRow<'a>>, AllocError>],
+    count: usize,
+) -> Result<Vec<&'r RankedRow<'a>>, AllocError>
+    ensures made { OnOk result (AreMade parts.entry.now) }
+    ensures rows { IfOk result (λ rows. map (λ r. r.now) rows.items ≡ flat_map items_of parts.entry.now) }
+{
+    let mut rows = Vec::with_capacity(alloc, count)?;
+    for part in parts {
+        match part {
+            Ok(part) => put_rows(&mut rows, part.as_slice())?,
+            Err(_) => return Err(AllocError),
+        }
+    }
+    Ok(rows)
+}
+
+/// Puts the rows of a part behind others.
+fn put_rows<'r, 'a>(
+    rows: &mut Vec<&'r RankedRow<'a>>,
+    part: &'r [RankedRow<'a>],
+) -> Result<(), AllocError>
+    ensures { OnOk result (map (λ r. r.now) rows.new.items ≡ map (λ r. r.now) rows.old.items ++ part.entry.now) }
+{
+    for row in part {
+        rows.push(row)?;
+    }
+    Ok(())
+}
+
+/// Rows that stand in order part by part, in the order of what stands beside them. The parts are put together by moving
+/// what leads to the rows, not the rows.
+fn merged<'r, 'a>(
+    plan: &PlanView<'_>,
+    rows: Vec<&'r RankedRow<'a>>,
+) -> Result<Vec<&'r RankedRow<'a>>, AllocError>
+    ensures permutation { IfOk result (λ v. IsPermutation rows.entry.items v.items) }
+    ensures sorted { IfOk result (λ v. IsSortedBy (λ a b. is_lt (by_rank plan.now.query.keys (ranked_in a.now) (ranked_in b.now))) v.items) }
+{
+    let keys = plan.query().tree().keys.as_slice();
+    let mut rows = rows;
+    rows.sort_by(|a, b| compare_ranked(keys, *a, *b))?;
+    Ok(rows)
+}
+
+/// The groups that these rows are of, in the order in which the rows stand.
+fn groups_at<'a>(
+    alloc: Global,
+    rows: Vec<&RankedRow<'a>>,
+) -> Result<Vec<&'a (usize, Group)>, AllocError>
+    ensures { IfOk result (λ v. map (λ r. row_of r.now) v.items ≡ map (λ r. (ranked_in r.now).1) rows.entry.items) }
+{
+    let mut groups = Vec::with_capacity(alloc, rows.len())?;
+    for row in rows {
+        groups.push(row.found)?;
+    }
+    Ok(groups)
+}

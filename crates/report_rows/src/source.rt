@@ -1,0 +1,106 @@
+//! Where the rows of a grouping set have what they show, which is looked up once for all of them.
+ghost use Rattle.std.specs.Prelude.{◌≡◌, ◌<◌, IfOk, List, length, slice_index_or};
+ghost use Rattle.std.specs.Option.{option_map_or};
+ghost use Rattle.semantics.specs.Values.{null};
+ghost use Rattle.values.specs.Schema.{fields_of};
+ghost use Rattle.query_ast.specs.Syntax.{expression_form};
+ghost use Rattle.semantics.specs.Sets.{sets_of};
+ghost use Rattle.semantics.specs.Aggregates.{Summary, plain};
+ghost use Rattle.semantics.specs.Groups.{Key};
+ghost use Rattle.semantics.specs.Rows.{name_shown};
+ghost use Rattle.report_rows.specs.Sources.{AreSourcesOf, AreSourcesOfEach, IsSourceOf, shown_at, sources_at};
+
+use crate::cells::grouping_value;
+use crate::view::PlanView;
+use query_plan::{Expression, Text};
+use query_resolve::place_of;
+use std::alloc::{AllocError, Global};
+use values::{Column, Value};
+
+/// Where the rows of a grouping set have what they show for an expression.
+///
+/// Example: under GROUP BY ROLLUP of `d`, where the set has no column, all rows show NULL for `d`, which is `Always`.
+#[derive(Drop)]
+pub enum Source {
+    /// The value at this place of their key.
+    KeyAt(usize),
+    /// Their cell at this place.
+    CellAt(usize),
+    /// All of them show this value.
+    Always(Value),
+}
+
+/// The place in the keys of a grouping set of the value for the column of a name; `None` where the set has no such
+/// column.
+pub(crate) fn key_place(columns: &[Column], set: &[usize], name: &Text) -> Option<usize>
+    ensures { (key : Key) → option_map_or (λ at. slice_index_or key at null) result null ≡ name_shown (fields_of columns.now) set.now key name.now }
+{
+    match place_of(columns, name.as_str()) {
+        Some(place) => set.iter().position(|column| *column == place),
+        None => None,
+    }
+}
+
+/// Where the rows of a grouping set have what they show for the column of a name.
+fn name_source(columns: &[Column], set: &[usize], name: &Text) -> Source
+    ensures { (key : Key) (cells : List Summary) → shown_at key cells result ≡ plain (name_shown (fields_of columns.now) set.now key name.now) }
+{
+    match key_place(columns, set, name) {
+        Some(at) => Source::KeyAt(at),
+        None => Source::Always(Value::Null),
+    }
+}
+
+/// Where the rows of a grouping set have what they show for an expression.
+pub(crate) fn source_of(plan: &PlanView<'_>, set: &[usize], expression: &Expression) -> Source
+    ensures { IsSourceOf plan.now set.now (expression_form expression.now) result }
+{
+    let columns = plan.schema().columns();
+    match expression {
+        Expression::Name(name) => name_source(columns, set, name),
+        Expression::Grouping(names) => Source::Always(grouping_value(columns, set, names)),
+        Expression::Function(function) => match plan.function_place(function) {
+            Some(place) => Source::CellAt(place),
+            None => Source::Always(Value::Null),
+        },
+    }
+}
+
+/// Where the rows of a grouping set have what they show for each item of SELECT.
+fn sources_of(alloc: Global, plan: &PlanView<'_>, set: &[usize]) -> Result<Vec<Source>, AllocError>
+    ensures { IfOk result (λ sources. AreSourcesOf plan.now set.now sources.items) }
+{
+    let items = plan.query().tree().items.as_slice();
+    let mut sources = Vec::with_capacity(alloc, items.len())?;
+    for item in items {
+        sources.push(source_of(plan, set, &item.expression))?;
+    }
+    Ok(sources)
+}
+
+/// Where the rows of each grouping set of the plan, in their order, have what they show for each item of SELECT.
+///
+/// Example: for `SELECT d, COUNT(*) FROM lines GROUP BY d` it answers one list, of `KeyAt(0)` and `CellAt(0)`.
+///
+/// # Errors
+///
+/// `AllocError` where there is no memory for the lists.
+pub fn sources_by_set(alloc: Global, plan: &PlanView<'_>) -> Result<Vec<Vec<Source>>, AllocError>
+    ensures { IfOk result (λ all. AreSourcesOfEach plan.now (sets_of plan.now.fields plan.now.query) all.items) }
+{
+    let mut all = Vec::with_capacity(alloc, plan.sets().len())?;
+    for set in plan.sets() {
+        all.push(sources_of(alloc, plan, set)?)?;
+    }
+    Ok(all)
+}
+
+/// Where the rows of the grouping set at an index have what they show. There is a grouping set at the index.
+///
+/// Example: of two lists, `sources_at(sources, 1)` is the second one.
+pub fn sources_at(sources: &[Vec<Source>], index: usize) -> &[Source]
+    requires { index < length sources.now }
+    ensures { result.now ≡ sources_at sources.now index }
+{
+    sources[index].as_slice()
+}

@@ -1,0 +1,320 @@
+-- A table of another set, made of the groups of a finer table.
+use Rattle.std.proofs.Common.{◌≡◌, ◌+◌, ◌<◌, ◌^◌, ℕ, Bool, filter, true, false, ◌||◌, ◌&&◌, cond, List, [], ◌∷◌, ◌++◌, map, length, Option, Some, None, unwrap_or, Vec, Global, refl, sym, ap, subst, ◌∙◌, arith, append_assoc, length-append}
+use Rattle.std.proofs.Props.{props}
+use Rattle.std.proofs.lemmas.List.{length-map}
+use Rattle.std.specs.List.{list_any, IsDistinct, AllByRecursion}
+use Rattle.std.specs.Map.{keys_of}
+use Rattle.std.specs.FinMap as fin
+use Rattle.values.specs.Datum.{data_of}
+use Rattle.values.specs.declared.value.Value.{Value}
+use Rattle.query_resolve.specs.declared.function.FilteredFunction.{FilteredFunction}
+use Rattle.semantics.specs.Groups.{Row, Key, project, key_order, same_key, members}
+use Rattle.semantics.specs.Aggregates.{AggregateFunction}
+use Rattle.tables_groups.specs.Functions.{bound}
+use Rattle.tables_groups.specs.Inside.Accumulator.{accumulator_state}
+use Rattle.tables_groups.specs.Inside.Group.{GroupState, group_state, no_group, join}
+use Rattle.tables_groups.specs.Bags.{SameBag}
+use Rattle.tables_groups.specs.Rolled.{rolled, AreAmong, finer_keys, finer_members}
+use Rattle.tables_groups.specs.Inside.Table.{Contents, IsTableOf, IsEnlarged, IsFittingNew, IsPut, TakesEach, enlarged, join_options, joined_entries, joined_states, entries_by_key, contents_of}
+use Rattle.tables_groups.proofs.Order.{key_total, same_key-Decides, key_eq-ties}
+use Rattle.tables_groups.proofs.Entries.{Entries, key_eq, find-first}
+use Rattle.tables_groups.proofs.Distinct.{distinct-shown}
+use Rattle.tables_groups.proofs.Meaning.{has_key, group_at, group_at-append, group_state-at, group_state-append, no_group-is, no_members, filter-le, append-nil, any-key}
+use Rattle.tables_groups.proofs.AnyOrder.{group_at-bag, table-same}
+use Rattle.tables_groups.proofs.Bags.{length-bag}
+use Rattle.tables_groups.proofs.Covering.{spread, spread-bag, own-key}
+use Rattle.tables_groups.proofs.Rolled.{rolled-project, members-rolled, members-partition}
+
+or-false : (b : Bool) → (b || false) ≡ b
+or-false true = refl
+or-false false = refl
+
+and-true : (b : Bool) → (b && true) ≡ b
+and-true true = refl
+and-true false = refl
+
+or-and : (a b : Bool) → (a || (a && b)) ≡ (a && true)
+or-and true b = refl
+or-and false b = refl
+
+-- ---- the members of one key of the finer set, as records of the other set
+
+any-rolled : (finer set : List ℕ) (k q : Key) (rows : List Row) → AreAmong set finer
+    → list_any (same_key k) (map (project set) (members finer q rows)) ≡ (same_key k (rolled finer set q) && list_any (same_key q) (map (project finer) rows))
+any-rolled finer set k q [] a = elim (same_key k (rolled finer set q)) as (λ b. false ≡ (b && false)) [ true ↦ refl | false ↦ refl ]
+any-rolled finer set k q (row ∷ rows) a =
+    elim (same_key q (project finer row)) as (λ b. same_key q (project finer row) ≡ b
+    → list_any (same_key k) (map (project set) (cond b (row ∷ members finer q rows) (members finer q rows)))
+    ≡ (same_key k (rolled finer set q) && (b || list_any (same_key q) (map (project finer) rows)))) [
+      | true ↦ λ e.
+          let is : project set row ≡ rolled finer set q = sym (rolled-project finer set row a) ∙ ap (rolled finer set) (sym ((same_key-Decides q (project finer row)).0 e)) in
+          (λ i. same_key k (is i) || any-rolled finer set k q rows a i)
+          ∙ or-and (same_key k (rolled finer set q)) (list_any (same_key q) (map (project finer) rows))
+      | false ↦ λ e. any-rolled finer set k q rows a
+    ] refl
+
+has_key-rolled : (finer set : List ℕ) (k q : Key) (rows : List Row) → AreAmong set finer → has_key finer q rows ≡ true
+    → has_key set k (members finer q rows) ≡ same_key k (rolled finer set q)
+has_key-rolled finer [] k q rows a h = or-false (same_key k [])
+has_key-rolled [] (s ∷ ss) k q rows a h = let n : false ≡ true = a.0 in cc
+has_key-rolled (f ∷ fs) (s ∷ ss) k q rows a h =
+    any-key k (map (project (s ∷ ss)) (members (f ∷ fs) q rows))
+    ∙ any-rolled (f ∷ fs) (s ∷ ss) k q rows a
+    ∙ ap (λ b. same_key k (rolled (f ∷ fs) (s ∷ ss) q) && b) (sym (any-key q (map (project (f ∷ fs)) rows)) ∙ h)
+    ∙ and-true (same_key k (rolled (f ∷ fs) (s ∷ ss) q))
+
+cond-both : (fs : List AggregateFunction) (c : Bool) (m : List Row) → cond c (Some (group_state fs (cond c m []))) None ≡ cond c (Some (group_state fs m)) None
+cond-both fs true m = refl
+cond-both fs false m = refl
+
+group_at-rolled : (finer set : List ℕ) (fs : List AggregateFunction) (k q : Key) (rows : List Row) → AreAmong set finer → has_key finer q rows ≡ true
+    → group_at set fs k (members finer q rows) ≡ cond (same_key k (rolled finer set q)) (Some (group_state fs (members finer q rows))) None
+group_at-rolled finer set fs k q rows a h =
+    (λ i. cond (has_key-rolled finer set k q rows a h i) (Some (group_state fs (members-rolled finer set k q rows a i))) None)
+    ∙ cond-both fs (same_key k (rolled finer set q)) (members finer q rows)
+
+-- ---- one more group of the finer table
+
+group-there : (b : Bool) (x h : GroupState) → cond b (Some x) None ≡ Some h → (b ≡ true) × (x ≡ h)
+group-there true x h e = (refl, ap (λ o. unwrap_or o x) e)
+group-there false x h e = cc
+
+-- a group of a table is that of the members of its key
+group-of : (set : List ℕ) (fs : List AggregateFunction) (t : Contents) (rows : List Row) (q : Key) (h : GroupState) → IsTableOf set fs t rows → fin.get t q ≡ Some h
+    → (has_key set q rows ≡ true) × (group_state fs (members set q rows) ≡ h)
+group-of set fs t rows q h a e = group-there (has_key set q rows) (group_state fs (members set q rows)) h (sym (a q) ∙ e)
+
+enlarged-at : (functions : List FilteredFunction) (fs : List AggregateFunction) (c : Bool) (o : Option GroupState) (m : List Row) → no_group functions ≡ group_state fs []
+    → cond c (Some (enlarged functions o (group_state fs m))) o ≡ join_options o (cond c (Some (group_state fs m)) None)
+enlarged-at functions fs true None m e = ap (λ g. Some (join g (group_state fs m))) e ∙ ap Some (sym (group_state-append fs [] m))
+enlarged-at functions fs true (Some g) m e = refl
+enlarged-at functions fs false None m e = refl
+enlarged-at functions fs false (Some g) m e = refl
+
+pub table-enlarged : (finer set : List ℕ) (functions : List FilteredFunction) (filters : List (Row → Bool)) (t old new : Contents) (rows done : List Row) (q : Key) (h : GroupState)
+    → AreAmong set finer → IsTableOf finer (map (bound filters) functions) t rows → fin.get t q ≡ Some h → IsTableOf set (map (bound filters) functions) old done
+    → ((k : Key) → IsEnlarged functions old new (rolled finer set q) h k) → IsTableOf set (map (bound filters) functions) new (done ++ members finer q rows)
+table-enlarged finer set functions filters t old new rows done q h a is e b j k =
+    let fs = map (bound filters) functions in
+    let g = group-of finer fs t rows q h is e in
+    let m = members finer q rows in
+    let c = same_key k (rolled finer set q) in
+    j k
+    ∙ ap (λ x. cond c (Some (enlarged functions (fin.get old k) x)) (fin.get old k)) (sym g.1)
+    ∙ ap (λ o. cond c (Some (enlarged functions o (group_state fs m))) o) (b k)
+    ∙ enlarged-at functions fs c (group_at set fs k done) m (no_group-is filters functions)
+    ∙ ap (join_options (group_at set fs k done)) (sym (group_at-rolled finer set fs k q rows a g.0))
+    ∙ sym (group_at-append set fs k done m)
+
+fitting-at : (functions : List FilteredFunction) (fs : List AggregateFunction) (b : Bool) (x m : List Row) → length fs ≡ length functions → length x + length m < 2 ^ 63
+    → IsFittingNew functions (group_state fs m) (cond b (Some (group_state fs x)) None)
+fitting-at functions fs true x m e few = ((few, length-map fs (λ f. accumulator_state f m) ∙ sym (length-map fs (λ f. accumulator_state f x))), omega (arith, few), length-map fs (λ f. accumulator_state f m) ∙ e)
+fitting-at functions fs false x m e few = (tt, omega (arith, few), length-map fs (λ f. accumulator_state f m) ∙ e)
+
+pub fitting-prop : (fs : List FilteredFunction) (part : GroupState) (g : Option GroupState) → IsProp (IsFittingNew fs part g)
+fitting-prop fs part g = Prim.hlevel props
+
+-- it fits, since all records are few
+pub table-fitting : (finer set : List ℕ) (functions : List FilteredFunction) (filters : List (Row → Bool)) (t old : Contents) (rows done : List Row) (q p : Key) (h : GroupState)
+    → IsTableOf finer (map (bound filters) functions) t rows → fin.get t q ≡ Some h → IsTableOf set (map (bound filters) functions) old done
+    → length done + length (members finer q rows) < 2 ^ 63 → IsFittingNew functions h (fin.get old p)
+table-fitting finer set functions filters t old rows done q p h is e b few =
+    let fs = map (bound filters) functions in
+    let g = group-of finer fs t rows q h is e in
+    subst (λ (x : GroupState). IsFittingNew functions x (fin.get old p)) g.1
+    (subst (λ (o : Option GroupState). IsFittingNew functions (group_state fs (members finer q rows)) o) (sym (b p))
+    (fitting-at functions fs (has_key set p done) (members set p done) (members finer q rows) (length-map functions (bound filters))
+    (omega (arith, few, filter-le (λ r. same_key p (project set r)) done))))
+
+-- ---- the entries of the finer table
+
+abbrev pub firsts : Entries → List Key
+firsts es = map (λ e. e.0) (entries_by_key es)
+
+find-any : (q : Key) (es : Entries) (h : GroupState) → fin.find key_order q (entries_by_key es) ≡ Some h → list_any (same_key q) (firsts es) ≡ true
+find-any q [] h e = cc
+find-any q (x ∷ es) h e =
+    elim (same_key q (data_of x.0.items)) as (λ b. cond b (Some x.1) (fin.find key_order q (entries_by_key es)) ≡ Some h → (b || list_any (same_key q) (firsts es)) ≡ true) [
+      | true ↦ λ i. refl
+      | false ↦ λ i. find-any q es h i
+    ] e
+
+-- all keys of the records are among those of the entries
+entries-cover : (set : List ℕ) (fs : List AggregateFunction) (es : Entries) (t : Contents) (rows : List Row) → contents_of es ≡ t → IsTableOf set fs t rows
+    → (q : Key) → list_any (same_key q) (map (project set) rows) ≡ true → list_any (same_key q) (firsts es) ≡ true
+entries-cover set fs es t rows v is q h =
+    find-any q es (group_state fs (members set q rows))
+    (sym (fin.get-from_entries key_total (entries_by_key es) q) ∙ ap (λ m. fin.get m q) v ∙ is q
+    ∙ ap (λ b. cond b (Some (group_state fs (members set q rows))) None) (own-key set q rows h))
+
+pub spread-entries : (set : List ℕ) (fs : List AggregateFunction) (es : Entries) (t : Contents) (rows : List Row) → contents_of es ≡ t → IsDistinct key_eq (keys_of es)
+    → IsTableOf set fs t rows → SameBag (spread set rows (firsts es)) rows
+spread-entries set fs es t rows v d is = spread-bag set (firsts es) (distinct-shown es d) rows (entries-cover set fs es t rows v is)
+
+-- each entry is found by its key
+still-found : (e : Vec Value Global × GroupState) (es xs : Entries) → AllByRecursion (λ y. key_eq e.0 y ≡ false) (keys_of xs)
+    → AllByRecursion (λ x. fin.find key_order (data_of x.0.items) (entries_by_key es) ≡ Some x.1) xs
+    → AllByRecursion (λ x. fin.find key_order (data_of x.0.items) (entries_by_key (e ∷ es)) ≡ Some x.1) xs
+still-found e es [] d h = tt
+still-found e es (x ∷ xs) d h = (
+  elim (same_key (data_of x.0.items) (data_of e.0.items)) as (λ b. same_key (data_of x.0.items) (data_of e.0.items) ≡ b
+      → cond b (Some e.1) (fin.find key_order (data_of x.0.items) (entries_by_key es)) ≡ Some x.1) [
+        | true ↦ λ i.
+            let same : same_key (data_of e.0.items) (data_of x.0.items) ≡ true = (same_key-Decides (data_of e.0.items) (data_of x.0.items)).1 (sym ((same_key-Decides (data_of x.0.items) (data_of e.0.items)).0 i)) in
+            let other : same_key (data_of e.0.items) (data_of x.0.items) ≡ false = sym (key_eq-ties e.0.items x.0.items) ∙ d.0 in
+            cc
+        | false ↦ λ i. h.0
+      ] refl,
+  still-found e es xs d.1 h.1,
+)
+
+find-each : (es : Entries) → IsDistinct key_eq (keys_of es) → AllByRecursion (λ x. fin.find key_order (data_of x.0.items) (entries_by_key es) ≡ Some x.1) es
+unfolding IsDistinct
+find-each [] d = tt
+find-each (e ∷ es) d = (find-first e es, still-found e es es d.0 (find-each es d.1))
+
+all-got : (es xs : Entries) (t : Contents) → contents_of es ≡ t
+    → AllByRecursion (λ x. fin.find key_order (data_of x.0.items) (entries_by_key es) ≡ Some x.1) xs
+    → AllByRecursion (λ x. fin.get t (data_of x.0.items) ≡ Some x.1) xs
+all-got es [] t v h = tt
+all-got es (x ∷ xs) t v h = (ap (λ m. fin.get m (data_of x.0.items)) (sym v) ∙ fin.get-from_entries key_total (entries_by_key es) (data_of x.0.items) ∙ h.0, all-got es xs t v h.1)
+
+pub get-each : (es : Entries) (t : Contents) → contents_of es ≡ t → IsDistinct key_eq (keys_of es) → AllByRecursion (λ x. fin.get t (data_of x.0.items) ≡ Some x.1) es
+get-each es t v d = all-got es es t v (find-each es d)
+
+-- ---- the walk over them
+
+-- the table is that of some records, which with the members of the keys that are left are those of all keys
+pub record IsRolled (finer set : List ℕ) (fs : List AggregateFunction) (table : Contents) (left all : Entries) (rows : List Row) : Type 0 where
+  pub done : List Row
+  pub is_table : IsTableOf set fs table done
+  pub whole : done ++ spread finer rows (firsts left) ≡ spread finer rows (firsts all)
+
+pub rolled-step : (finer set : List ℕ) (functions : List FilteredFunction) (filters : List (Row → Bool)) (t old new : Contents) (e : Vec Value Global × GroupState) (left all : Entries) (rows : List Row)
+    → AreAmong set finer → IsTableOf finer (map (bound filters) functions) t rows → fin.get t (data_of e.0.items) ≡ Some e.1
+    → ((k : Key) → IsEnlarged functions old new (rolled finer set (data_of e.0.items)) e.1 k)
+    → IsRolled finer set (map (bound filters) functions) old (e ∷ left) all rows → IsRolled finer set (map (bound filters) functions) new left all rows
+rolled-step finer set functions filters t old new e left all rows a is g j r = record {
+  done = r.done ++ members finer (data_of e.0.items) rows;
+  is_table = table-enlarged finer set functions filters t old new rows r.done (data_of e.0.items) e.1 a is g r.is_table j;
+  whole = append_assoc r.done (members finer (data_of e.0.items) rows) (spread finer rows (firsts left)) ∙ r.whole;
+}
+
+pub rolled-fitting : (finer set : List ℕ) (functions : List FilteredFunction) (filters : List (Row → Bool)) (t old : Contents) (e : Vec Value Global × GroupState) (left all : Entries) (rows : List Row) (p : Key)
+    → contents_of all ≡ t → IsDistinct key_eq (keys_of all) → length rows < 2 ^ 63 → IsTableOf finer (map (bound filters) functions) t rows
+    → fin.get t (data_of e.0.items) ≡ Some e.1 → IsRolled finer set (map (bound filters) functions) old (e ∷ left) all rows → IsFittingNew functions e.1 (fin.get old p)
+rolled-fitting finer set functions filters t old e left all rows p v d few is g r =
+    let m = members finer (data_of e.0.items) rows in
+    let rest = spread finer rows (firsts left) in
+    let whole : length (r.done ++ (m ++ rest)) ≡ length rows = ap length r.whole ∙ length-bag (spread finer rows (firsts all)) rows (spread-entries finer (map (bound filters) functions) all t rows v d is) in
+    table-fitting finer set functions filters t old rows r.done (data_of e.0.items) p e.1 is g r.is_table
+    (omega (arith, few, whole, length-append r.done (m ++ rest), length-append m rest))
+
+pub rolled-all : (finer set : List ℕ) (fs : List AggregateFunction) (t table : Contents) (left all : Entries) (rows : List Row) → contents_of all ≡ t → IsDistinct key_eq (keys_of all) → left ≡ []
+    → IsTableOf finer fs t rows → IsRolled finer set fs table left all rows → IsTableOf set fs table rows
+rolled-all finer set fs t table left all rows v d none is r =
+    table-same set fs table (spread finer rows (firsts all)) rows (spread-entries finer fs all t rows v d is)
+    (subst (λ (xs : List Row). IsTableOf set fs table xs)
+    (sym (append-nil r.done) ∙ ap (λ es. r.done ++ spread finer rows (firsts es)) (sym none) ∙ r.whole) r.is_table)
+
+-- ---- all groups, put to one
+
+members-all : (rows : List Row) → members [] [] rows ≡ rows
+members-all [] = refl
+members-all (row ∷ rows) = ap (λ xs. row ∷ xs) (members-all rows)
+
+group_state-bag : (fs : List AggregateFunction) (l m : List Row) → SameBag l m → group_state fs l ≡ group_state fs m
+group_state-bag fs l m s =
+    ap (group_state fs) (sym (members-all l))
+    ∙ ap (λ (o : Option GroupState). unwrap_or o (group_state fs [])) (group_at-bag [] fs [] l m s)
+    ∙ ap (group_state fs) (members-all m)
+
+joined-spread : (finer : List ℕ) (fs : List AggregateFunction) (t : Contents) (rows done : List Row) (es : Entries) → IsTableOf finer fs t rows
+    → AllByRecursion (λ e. fin.get t (data_of e.0.items) ≡ Some e.1) es → joined_entries (group_state fs done) es ≡ group_state fs (done ++ spread finer rows (firsts es))
+joined-spread finer fs t rows done [] is each = ap (group_state fs) (sym (append-nil done))
+joined-spread finer fs t rows done (e ∷ es) is each =
+    let m = members finer (data_of e.0.items) rows in
+    let g = group-of finer fs t rows (data_of e.0.items) e.1 is each.0 in
+    ap (λ (h : GroupState). joined_entries (join (group_state fs done) h) es) (sym g.1)
+    ∙ ap (λ (h : GroupState). joined_entries h es) (sym (group_state-append fs done m))
+    ∙ joined-spread finer fs t rows (done ++ m) es is each.1
+    ∙ ap (group_state fs) (append_assoc done m (spread finer rows (firsts es)))
+
+takes-spread : (finer : List ℕ) (fs : List AggregateFunction) (t : Contents) (rows done : List Row) (es : Entries) → IsTableOf finer fs t rows
+    → AllByRecursion (λ e. fin.get t (data_of e.0.items) ≡ Some e.1) es → length done + length (spread finer rows (firsts es)) < 2 ^ 63 → TakesEach (group_state fs done) es
+takes-spread finer fs t rows done [] is each few = tt
+takes-spread finer fs t rows done (e ∷ es) is each few =
+    let m = members finer (data_of e.0.items) rows in
+    let rest = spread finer rows (firsts es) in
+    let a = length-append m rest in
+    let b = length-append done m in
+    let g = group-of finer fs t rows (data_of e.0.items) e.1 is each.0 in
+    subst (λ (h : GroupState). (length done + h.lines < 2 ^ 63) × (length h.parts ≡ length (map (λ f. accumulator_state f done) fs)) × TakesEach (join (group_state fs done) h) es) g.1 (
+      omega (arith, few, a),
+      length-map fs (λ f. accumulator_state f m) ∙ sym (length-map fs (λ f. accumulator_state f done)),
+      subst (λ (h : GroupState). TakesEach h es) (group_state-append fs done m) (takes-spread finer fs t rows (done ++ m) es is each.1 (omega (arith, few, a, b))),
+    )
+
+pub takes-prop : (g : GroupState) (es : Entries) → IsProp (TakesEach g es)
+takes-prop g [] = Prim.hlevel props
+takes-prop g (e ∷ es) = let p = takes-prop (join g e.1) es in Prim.hlevel (props, p)
+
+-- a group without members takes the groups of a table of few records
+pub takes-all : (finer : List ℕ) (functions : List FilteredFunction) (filters : List (Row → Bool)) (t : Contents) (es : Entries) (rows : List Row) → contents_of es ≡ t → IsDistinct key_eq (keys_of es)
+    → length rows < 2 ^ 63 → IsTableOf finer (map (bound filters) functions) t rows → TakesEach (no_group functions) es
+takes-all finer functions filters t es rows v d few is =
+    let fs = map (bound filters) functions in
+    let whole = length-bag (spread finer rows (firsts es)) rows (spread-entries finer fs es t rows v d is) in
+    subst (λ (g : GroupState). TakesEach g es) (sym (no_group-is filters functions)) (takes-spread finer fs t rows [] es is (get-each es t v d) (omega (arith, few, whole)))
+
+pub joined_entries-append : (g : GroupState) (xs ys : Entries) → joined_entries g (xs ++ ys) ≡ joined_entries (joined_entries g xs) ys
+joined_entries-append g [] ys = refl
+joined_entries-append g (x ∷ xs) ys = joined_entries-append (join g x.1) xs ys
+
+pub takes-append : (g : GroupState) (xs ys : Entries) → TakesEach g (xs ++ ys) → TakesEach g xs × TakesEach (joined_entries g xs) ys
+takes-append g [] ys h = (tt, h)
+takes-append g (x ∷ xs) ys h = let more = takes-append (join g x.1) xs ys h.2 in ((h.0, h.1, more.0), more.1)
+
+all-kept : (rows : List Row) → filter (λ (row : Row). true) rows ≡ rows
+all-kept [] = refl
+all-kept (row ∷ rows) = ap (λ (xs : List Row). row ∷ xs) (all-kept rows)
+
+one-at : (fs : List AggregateFunction) (b : Bool) (group : GroupState) (rows : List Row) → group ≡ group_state fs rows
+    → cond b (Some group) None ≡ cond (b || false) (Some (group_state fs (filter (λ (row : Row). b) rows))) None
+one-at fs true group rows is = ap Some (is ∙ ap (group_state fs) (sym (all-kept rows)))
+one-at fs false group rows is = refl
+
+-- a table with one group, of the empty key
+table-of_one : (fs : List AggregateFunction) (t : Contents) (group : GroupState) (rows : List Row) → group ≡ group_state fs rows → ((k : Key) → IsPut fin.empty t [] group k) → IsTableOf [] fs t rows
+table-of_one fs t group rows is h k =
+    h k
+    ∙ ap (λ (o : Option GroupState). cond (same_key k []) (join_options o (Some group)) o) (fin.get-empty key_order k)
+    ∙ one-at fs (same_key k []) group rows is
+
+-- what all groups of a table come to is the one group of the empty set
+pub rolled-to_one : (finer : List ℕ) (functions : List FilteredFunction) (filters : List (Row → Bool)) (t table : Contents) (es : Entries) (rows : List Row) → contents_of es ≡ t → IsDistinct key_eq (keys_of es)
+    → IsTableOf finer (map (bound filters) functions) t rows → ((k : Key) → IsPut fin.empty table [] (joined_entries (no_group functions) es) k) → IsTableOf [] (map (bound filters) functions) table rows
+rolled-to_one finer functions filters t table es rows v d is h =
+    let fs = map (bound filters) functions in
+    let group = ap (λ (g : GroupState). joined_entries g es) (no_group-is filters functions) ∙ joined-spread finer fs t rows [] es is (get-each es t v d)
+    ∙ group_state-bag fs (spread finer rows (firsts es)) rows (spread-entries finer fs es t rows v d is) in
+    table-of_one fs table (joined_entries (no_group functions) es) rows group h
+
+-- ---- what is kept of a group, by the groups of a finer table
+
+kept-at : (set : List ℕ) (fs : List AggregateFunction) (t : Contents) (rows : List Row) (q : Key) → IsTableOf set fs t rows → group_state fs (members set q rows) ≡ unwrap_or (fin.get t q) (group_state fs [])
+kept-at set fs t rows q is = sym (ap (λ (o : Option GroupState). unwrap_or o (group_state fs [])) (is q) ∙ group_state-at fs (has_key set q rows) (members set q rows) (no_members set q rows))
+
+states-spread : (set : List ℕ) (fs : List AggregateFunction) (t : Contents) (rows : List Row) (qs : List Key) → IsTableOf set fs t rows
+    → group_state fs (spread set rows qs) ≡ joined_states fs t qs
+states-spread set fs t rows [] is = refl
+states-spread set fs t rows (q ∷ qs) is =
+    group_state-append fs (members set q rows) (spread set rows qs) ∙ (λ i. join (kept-at set fs t rows q is i) (states-spread set fs t rows qs is i))
+
+-- what is kept of the group of a key is what the finer table keeps of the keys that are rolled to it, put together
+pub group-rolled : (finer set : List ℕ) (fs : List AggregateFunction) (t table : Contents) (key : Key) (group : GroupState) (rows : List Row) → AreAmong set finer
+    → IsTableOf finer fs t rows → IsTableOf set fs table rows → fin.get table key ≡ Some group → group ≡ joined_states fs t (finer_keys finer set key rows)
+group-rolled finer set fs t table key group rows a is b e =
+    sym ((group-of set fs table rows key group b e).1)
+    ∙ sym (group_state-bag fs (finer_members finer set key rows) (members set key rows) (members-partition finer set key rows a))
+    ∙ states-spread finer fs t rows (finer_keys finer set key rows) is

@@ -1,0 +1,23 @@
+use Rattle.std.proofs.Common.{◌≡◌, true, false, sym, ap, ◌∙◌}
+use Rattle.std.proofs.lemmas.Result.{on_ok_weaker}
+use Rattle.std.specs.FinSet as set
+use Rattle.values.specs.Datum.{datum_of}
+use Rattle.semantics.specs.Aggregates.{is_present}
+use Rattle.tables_groups.specs.Inside.Values.{Values, values_in}
+use Rattle.tables_groups.proofs.Sets.{union-absent, union-present}
+use Rattle.tables_groups.proofs.distinct_values.DistinctValues.add.Goals as goal
+
+pub returns-then-not-is_present : goal.returns-then-not-is_present
+returns-then-not-is_present c =
+    let absent : is_present (datum_of c.args.value.now) ≡ false = cc in
+    sym (union-absent c.args.self.now (datum_of c.args.value.now) absent)
+
+pub returns : goal.returns
+returns c =
+    let value = c.args.value.now in
+    let there : is_present (datum_of value) ≡ true = cc in
+    on_ok_weaker c.insert_copy.result
+    (λ (h : values_in c.insert_copy.new.values.keys ≡ set.insert (values_in c.deref_mut.result.now.keys) (datum_of value)).
+    h ∙ ap (λ box. set.insert (values_in box.keys) (datum_of value)) c.deref_mut.ensures.value
+    ∙ ap (λ (s : Values). set.insert s (datum_of value)) c.self.view_is ∙ sym (union-present c.args.self.now (datum_of value) there))
+    c.insert_copy.ensures

@@ -1,0 +1,48 @@
+use Rattle.std.proofs.Common.{◌≡◌, ◌∷◌, [], Vec, Global, ap, sym, subst, ◌∙◌}
+use Rattle.std.proofs.lemmas.Map.Iter.{rest_more, rest_all}
+use Rattle.std.specs.Map.Iter.{deref_pair}
+use Rattle.values.specs.declared.value.Value.{Value}
+use Rattle.tables_groups.specs.Inside.Group.{GroupState}
+use Rattle.tables_groups.specs.Inside.Shards.{entries_in}
+use Rattle.tables_groups.specs.Inside.Table.{TakesEach, joined_entries}
+use Rattle.tables_groups.proofs.Entries.{Entries}
+use Rattle.tables_groups.proofs.shard.Shard.put_copies_to.Goals as goal
+
+pub loop-key-init : goal.loop-key-init
+loop-key-init c =
+    let is : c.into_iter-key-iterator.result ≡ entries_in c.args.self.now = c.into_iter-key-iterator.ensures.into_iter_gives.0 in
+    record {
+      takes = subst (λ (es : Entries). TakesEach c.args.group.now es) (sym is) c.requires;
+      joined = ap (joined_entries c.args.group.now) is;
+    }
+
+pub absorb_copies-requires-clause-room : goal.absorb_copies-requires-clause-room
+absorb_copies-requires-clause-room c =
+    let e : Vec Value Global × GroupState = (c.in-Some._key.now, c.in-Some.part.now) in
+    let more : c.loop-key._key-iterator ≡ e ∷ c.next.new.self =
+    rest_more (deref_pair {K = Vec Value Global} {X = GroupState}) c.loop-key._key-iterator c.next.new.self c.next.result (c.in-Some._key, c.in-Some.part) c.in-Some.is c.next.ensures.steps in
+    (subst (λ (es : Entries). TakesEach c.loop-key.group es) more c.loop-key.invariant.takes).0
+
+pub absorb_copies-requires-clause-one_each : goal.absorb_copies-requires-clause-one_each
+absorb_copies-requires-clause-one_each c =
+    let e : Vec Value Global × GroupState = (c.in-Some._key.now, c.in-Some.part.now) in
+    let more : c.loop-key._key-iterator ≡ e ∷ c.next.new.self =
+    rest_more (deref_pair {K = Vec Value Global} {X = GroupState}) c.loop-key._key-iterator c.next.new.self c.next.result (c.in-Some._key, c.in-Some.part) c.in-Some.is c.next.ensures.steps in
+    (subst (λ (es : Entries). TakesEach c.loop-key.group es) more c.loop-key.invariant.takes).1
+
+pub loop-key-preserved : goal.loop-key-preserved
+loop-key-preserved c =
+    let e : Vec Value Global × GroupState = (c.in-Some._key.now, c.in-Some.part.now) in
+    let rest : Entries = c.next.new.self in
+    let more : c.loop-key._key-iterator ≡ e ∷ rest =
+    rest_more (deref_pair {K = Vec Value Global} {X = GroupState}) c.loop-key._key-iterator rest c.next.result (c.in-Some._key, c.in-Some.part) c.in-Some.is c.next.ensures.steps in
+    let takes = subst (λ (es : Entries). TakesEach c.loop-key.group es) more c.loop-key.invariant.takes in
+    record {
+      takes = subst (λ (g : GroupState). TakesEach g rest) (sym c.in_ok-absorb_copies.ensures) takes.2;
+      joined = ap (λ (g : GroupState). joined_entries g rest) c.in_ok-absorb_copies.ensures ∙ ap (joined_entries c.loop-key.group) (sym more) ∙ c.loop-key.invariant.joined;
+    }
+
+pub returns : goal.returns
+returns c =
+    let none : c.loop-key._key-iterator ≡ [] = rest_all (deref_pair {K = Vec Value Global} {X = GroupState}) c.loop-key._key-iterator c.next.new.self c.next.result c.in-None.is c.next.ensures.steps in
+    ap (joined_entries c.loop-key.group) (sym none) ∙ c.loop-key.invariant.joined

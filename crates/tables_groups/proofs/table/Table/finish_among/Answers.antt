@@ -1,0 +1,27 @@
+use Rattle.std.proofs.Common.{ℕ, ◌≡◌, List, Vec, Global, map, ap, ◌∙◌}
+use Rattle.std.proofs.lemmas.Result.{IfOk-weaker}
+use Rattle.tables_groups.specs.Bags.{weigh}
+use Rattle.semantics.specs.Aggregates.{AggregateFunction}
+use Rattle.tables_groups.specs.GroupSummaries.{group_summary_in}
+use Rattle.semantics.specs.Groups.{Row}
+use Rattle.tables_groups.specs.declared.group.Group.{Group}
+use Rattle.tables_groups.specs.Inside.Shards.{all_entries}
+use Rattle.tables_groups.specs.Inside.Table.{IsTableOf, entries_by_key}
+use Rattle.tables_groups.proofs.Distinct.{distinct-shown}
+use Rattle.tables_groups.proofs.Entries.{Entries}
+use Rattle.tables_groups.proofs.GroupsLaw.{lines-bag}
+use Rattle.tables_groups.proofs.Shards.{distinct-all}
+use Rattle.tables_groups.proofs.Walks.{summaries}
+use Rattle.tables_groups.proofs.table.Table.finish_among.Goals as goal
+
+pub returns : goal.returns
+returns g c =
+    let shards = c.self.inside.shards.items in
+    let es : Entries = all_entries shards in
+    record {
+      groups = IfOk-weaker c.groups_among.result _ _
+          (λ (all : Vec Group Global). λ (is : map group_summary_in all.items ≡ summaries es).
+          λ (set : List ℕ) (fs : List AggregateFunction) (rows : List Row) (a : IsTableOf set fs c.args.self rows) f.
+          ap (weigh f) is ∙ lines-bag set fs rows (entries_by_key es) c.args.self c.self.view_is a (distinct-shown es (distinct-all shards c.self.inside.apart)) f)
+          c.groups_among.ensures;
+    }

@@ -1,0 +1,87 @@
+use Rattle.std.proofs.Common.{◌≡◌, ◌+◌, ◌++◌, [], List, Option, drop, sym, ap, subst, ◌∙◌}
+use Rattle.std.proofs.Math.Logic.{∥∥₁_elim}
+use Rattle.std.proofs.lemmas.List.{drop_more, drop_all}
+use Rattle.std.specs.List.{IsDistinct}
+use Rattle.std.specs.Map.{keys_of}
+use Rattle.std.specs.FinMap as fin
+use Rattle.values.specs.Datum.{data_of}
+use Rattle.semantics.specs.Groups.{Key, key_order}
+use Rattle.tables_groups.specs.Inside.Group.{GroupState, no_group}
+use Rattle.tables_groups.specs.Inside.Shards.{AreApart, all_entries, contents_of_shards, entries_in}
+use Rattle.tables_groups.specs.Inside.Table.{Contents, IsFitting, IsPut, TakesEach, contents_of, joined_entries}
+use Rattle.tables_groups.specs.declared.shard.Shard.{Shard}
+use Rattle.tables_groups.proofs.Entries.{Entries, key_eq}
+use Rattle.tables_groups.proofs.Rolling.{joined_entries-append, rolled-to_one, takes-all, takes-append, takes-prop}
+use Rattle.tables_groups.proofs.Shards.{distinct-all}
+use Rattle.tables_groups.proofs.table.Table.rolled_to_one.Goals as goal
+
+distinct-read : (shards inside : List Shard) → shards ≡ inside → AreApart inside → IsDistinct key_eq (keys_of (all_entries shards))
+distinct-read shards inside is apart = subst (λ (ss : List Shard). IsDistinct key_eq (keys_of (all_entries ss))) (sym is) (distinct-all inside apart)
+
+pub loop-shard-init : goal.loop-shard-init
+loop-shard-init c =
+    let shards : List Shard = c.deref-shard-items.result.now in
+    let is : shards ≡ c.self.inside.shards.items = c.deref-shard-items.ensures.value in
+    let es : Entries = all_entries shards in
+    let fs = c.args.functions.now in
+    let view : contents_of es ≡ c.args.self.now = ap contents_of_shards is ∙ c.self.view_is in
+    let distinct : IsDistinct key_eq (keys_of es) = distinct-read shards c.self.inside.shards.items is c.self.inside.apart in
+    record {
+      takes = subst (λ (g : GroupState). TakesEach g es) (sym c.in_ok-group.ensures)
+          (∥∥₁_elim c.requires.few (takes-prop (no_group fs) es) (λ few. takes-all few.0 fs few.1.filters c.args.self.now es few.1.rows view distinct few.1.few few.1.is_table));
+      joined = ap (λ (g : GroupState). joined_entries g es) c.in_ok-group.ensures;
+    }
+
+pub put_copies_to-requires : goal.put_copies_to-requires
+put_copies_to-requires c =
+    let shards : List Shard = c.deref-shard-items.result.now in
+    let index = c.loop-shard.shard-index in
+    let here : Entries = entries_in c.shard-item.result in
+    let others : Entries = all_entries (drop (index + 1) shards) in
+    let left : all_entries (drop index shards) ≡ here ++ others =
+    ap all_entries (drop_more shards index c.shard-item.result c.loop-shard-test.true) ∙ ap (λ (es : Entries). es ++ others) (ap entries_in (sym c.shard-item.is)) in
+    (takes-append c.loop-shard.group here others (subst (λ (es : Entries). TakesEach c.loop-shard.group es) left c.loop-shard.invariant.takes)).0
+
+pub loop-shard-preserved : goal.loop-shard-preserved
+loop-shard-preserved c =
+    let shards : List Shard = c.deref-shard-items.result.now in
+    let index = c.loop-shard.shard-index in
+    let old = c.loop-shard.group in
+    let here : Entries = entries_in c.shard-item.result in
+    let others : Entries = all_entries (drop (index + 1) shards) in
+    let left : all_entries (drop index shards) ≡ here ++ others =
+    ap all_entries (drop_more shards index c.shard-item.result c.loop-shard-test.true) ∙ ap (λ (es : Entries). es ++ others) (ap entries_in (sym c.shard-item.is)) in
+    let takes = takes-append old here others (subst (λ (es : Entries). TakesEach old es) left c.loop-shard.invariant.takes) in
+    record {
+      takes = subst (λ (g : GroupState). TakesEach g others) (sym c.in_ok-put_copies_to.ensures) takes.1;
+      joined = ap (λ (g : GroupState). joined_entries g others) c.in_ok-put_copies_to.ensures ∙ sym (joined_entries-append old here others)
+          ∙ ap (joined_entries old) (sym left) ∙ c.loop-shard.invariant.joined;
+    }
+
+pub put_to_group-requires : goal.put_to_group-requires
+put_to_group-requires c =
+    let k = data_of c.new-2.result.items in
+    let part = c.loop-shard.group in
+    subst (λ (t : Contents). IsFitting part (fin.get t k)) (sym c.in_ok-one.ensures)
+    (subst (λ (o : Option GroupState). IsFitting part o) (sym (fin.get-empty key_order k)) tt)
+
+pub returns : goal.returns
+returns c =
+    let shards : List Shard = c.deref-shard-items.result.now in
+    let is : shards ≡ c.self.inside.shards.items = c.deref-shard-items.ensures.value in
+    let es : Entries = all_entries shards in
+    let fs = c.args.functions.now in
+    let group = c.loop-shard.group in
+    let old = c.in_ok-one.one in
+    let new = c.put_to_group.new.self in
+    let items = c.new-2.result.items in
+    let none : all_entries (drop c.loop-shard.shard-index shards) ≡ [] = ap all_entries (drop_all c.loop-shard.shard-index shards c.loop-shard-test.false) in
+    let whole : group ≡ joined_entries (no_group fs) es = ap (joined_entries group) (sym none) ∙ c.loop-shard.invariant.joined in
+    let put : (k : Key) → IsPut fin.empty new [] (joined_entries (no_group fs) es) k =
+    λ k. subst (λ (t : Contents). IsPut t new [] (joined_entries (no_group fs) es) k) c.in_ok-one.ensures
+    (subst (λ (key : Key). IsPut old new key (joined_entries (no_group fs) es) k) (ap data_of c.new-2.ensures.items)
+    (subst (λ (g : GroupState). IsPut old new (data_of items) g k) whole (c.in_ok-put_to_group.ensures k))) in
+    record {
+      rolled = λ finer filters rows table. rolled-to_one finer fs filters c.args.self.now new es rows
+          (ap contents_of_shards is ∙ c.self.view_is) (distinct-read shards c.self.inside.shards.items is c.self.inside.apart) table put;
+    }

@@ -1,0 +1,13 @@
+-- Set functions whose FILTERs are given by their indexes.
+use Rattle.std.specs.Prelude.{ℕ, Bool, false, List, filter, option_map, slice_index_or}
+use Rattle.query_resolve.specs.declared.function.FilteredFunction.{FilteredFunction}
+use Rattle.semantics.specs.Groups.{Row}
+use Rattle.semantics.specs.Aggregates.{AggregateFunction}
+
+-- which records the filter with this index keeps, of a list of filters; where there is no such filter none
+abbrev pub filter_at : List (Row → Bool) → ℕ → Row → Bool
+filter_at filters index = slice_index_or filters index (λ row. false)
+
+-- a set function whose FILTER is given by its index in a list of filters
+abbrev pub bound : List (Row → Bool) → FilteredFunction → AggregateFunction
+bound filters f = record { function = f.function; filter = option_map (filter_at filters) f.filter }

@@ -1,0 +1,67 @@
+-- The shards of a table. Each keeps the groups of some keys, and which these are is told by a number that is mixed of a key's values.
+use Rattle.std.specs.Prelude.{◌≡◌, ◌+◌, ◌-◌, ◌*◌, ◌/◌, ◌%◌, ◌<◌, ℕ, cond, List, IfSome, length, drop, get_or, unsigned_abs}
+use Rattle.std.specs.List.{fold, flat_map}
+use Rattle.std.specs.FinMap as fin
+use Rattle.std.specs.declared.alloc.Global.{Global}
+use Rattle.std.specs.declared.vec.Vec.{Vec}
+use Rattle.values.specs.declared.value.Value.{Value}
+use Rattle.semantics.specs.Values.{Datum, boolean, whole, text, null}
+use Rattle.semantics.specs.Groups.{Key}
+use Rattle.tables_groups.specs.Inside.Group.{GroupState}
+use Rattle.tables_groups.specs.Inside.Table.{CanJoin, Contents, IsJoined, contents_of}
+use Rattle.tables_groups.specs.declared.shard.Shard.{Shard}
+
+-- ---- which shard keeps a key
+
+-- a number of 32 bits with one more number mixed into it: multiplied by the one that parts 2^32 in the golden ratio, as multiplicative hashing does
+abbrev pub mixed : ℕ → ℕ → ℕ
+mixed digest n = (digest * 2654435761 + n) % 4294967296
+
+-- the last four bytes of a text, or all of a shorter one
+abbrev pub last_bytes : List ℕ → List ℕ
+last_bytes bytes = drop (length bytes - 4) bytes
+
+-- a number with a value mixed into it: of a text its last bytes, of a whole number its last 32 bits
+abbrev pub with_value : ℕ → Datum → ℕ
+with_value digest (boolean b) = mixed digest (cond b 1 0)
+with_value digest (whole n) = mixed digest (unsigned_abs n % 4294967296)
+with_value digest (text bytes) = fold mixed digest (last_bytes bytes)
+with_value digest null = mixed digest 2
+
+-- the 32 bits that all values of a key mix to
+abbrev pub digest : Key → ℕ
+digest key = mixed (fold with_value 0 key) 0
+
+-- the number of the shard that keeps a key among n of them, below n: as far along them as its digest lies along the numbers of 32 bits
+abbrev pub place : ℕ → Key → ℕ
+place n key = digest key * n / 4294967296
+
+-- ---- what shards have
+
+-- the entries of a shard
+abbrev pub entries_in : Shard → List (Vec Value Global × GroupState)
+entries_in shard = shard.groups.entries
+
+-- what a shard has
+abbrev pub contents_in : Shard → Contents
+contents_in shard = contents_of (entries_in shard)
+
+-- the entries of all shards, one shard after the other
+abbrev pub all_entries : List Shard → List (Vec Value Global × GroupState)
+all_entries shards = flat_map entries_in shards
+
+-- what all shards have
+abbrev pub contents_of_shards : List Shard → Contents
+contents_of_shards shards = contents_of (all_entries shards)
+
+-- each shard has keys of its own place alone, among as many as there are shards
+abbrev pub AreApart : List Shard → Type 0
+AreApart shards = (i : ℕ) (d : Shard) (key : Key) → i < length shards → IfSome (fin.get (contents_in (get_or shards i d)) key) (λ _. place (length shards) key ≡ i)
+
+-- each shard can take the groups of the other list's shard of the same place
+abbrev pub CanJoinEach : List Shard → List Shard → Type 0
+CanJoinEach shards others = (i : ℕ) (d : Shard) → i < length shards → CanJoin (contents_in (get_or shards i d)) (contents_in (get_or others i d))
+
+-- each shard of the last list has what those of its place in the other two have
+abbrev pub AreJoined : List Shard → List Shard → List Shard → Type 0
+AreJoined shards others joined = (i : ℕ) (d : Shard) → i < length shards → (key : Key) → IsJoined (contents_in (get_or shards i d)) (contents_in (get_or others i d)) (contents_in (get_or joined i d)) key

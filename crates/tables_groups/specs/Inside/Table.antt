@@ -1,0 +1,134 @@
+-- A table of groups, apart from where it lies in memory, and what it is for a table to be that of a list of records.
+use Rattle.std.specs.Prelude.{⊤, ◌≡◌, ◌+◌, ◌<◌, ◌≤◌, ◌^◌, ℕ, Bool, cond, List, map, length, [], ◌∷◌, Option, Some, None, IfSome, unwrap_or, if◌then◌else◌}
+use Rattle.std.specs.declared.alloc.Global.{Global}
+use Rattle.std.specs.declared.vec.Vec.{Vec}
+use Rattle.std.specs.Coded.{Coded}
+use Rattle.std.specs.FinMap as fin
+use Rattle.std.specs.List.{list_any}
+use Rattle.values.specs.declared.value.Value.{Value}
+use Rattle.values.specs.Datum.{data_of}
+use Rattle.query_resolve.specs.declared.function.FilteredFunction.{FilteredFunction}
+use Rattle.tables_groups.specs.Inside.Coding.{coded_key}
+use Rattle.semantics.specs.Groups.{Row, Key, key_order, same_key, keys, members}
+use Rattle.tables_groups.specs.Rows.{IsNarrowRow}
+use Rattle.semantics.specs.Aggregates.{AggregateFunction}
+use Rattle.tables_groups.specs.Functions.{bound}
+use Rattle.tables_groups.specs.Inside.Group.{GroupState, coded_group, group_state, no_group, with_row, join}
+use Rattle.tables_groups.specs.declared.part.Part.{Part}
+use Rattle.tables_groups.specs.declared.part.Part.TheVariants as taken
+
+-- what is kept of each group, by its key
+abbrev pub Contents : Type 0
+Contents = fin.FinMap key_order GroupState
+
+abbrev pub coded_contents : Coded Contents
+coded_contents = fin.code coded_key coded_group
+
+abbrev pub entries_by_key : List (Vec Value Global × GroupState) → List (Key × GroupState)
+entries_by_key entries = map (λ e. (data_of e.0.items, e.1)) entries
+
+-- the contents of a hashed map of the code
+abbrev pub contents_of : List (Vec Value Global × GroupState) → Contents
+contents_of entries = fin.from_entries (entries_by_key entries)
+
+-- a table is that of a list of records under a grouping set: at each of their keys it has what is kept of the members, and at no other key anything
+abbrev pub IsTableOf : List ℕ → List AggregateFunction → Contents → List Row → Type 0
+IsTableOf set functions table rows = (key : Key) → fin.get table key ≡ (if list_any (same_key key) (keys set rows) then Some (group_state functions (members set key rows)) else None)
+
+-- the table of some list of records, fewer than 2^63 with one more, whatever the filters keep
+pub record TakesOne (set : List ℕ) (functions : List FilteredFunction) (table : Contents) : Type 0 where
+  pub filters : List (Row → Bool)
+  pub rows : List Row
+  pub is_table : IsTableOf set (map (bound filters) functions) table rows
+  pub few : length rows + 1 < 2 ^ 63
+
+-- the table of some list of fewer than 2^63 records, whatever the filters keep
+pub record IsOfFew (set : List ℕ) (functions : List FilteredFunction) (table : Contents) : Type 0 where
+  pub filters : List (Row → Bool)
+  pub rows : List Row
+  pub is_table : IsTableOf set (map (bound filters) functions) table rows
+  pub few : length rows < 2 ^ 63
+
+-- what a table keeps of some keys, put together
+abbrev pub joined_states : List AggregateFunction → Contents → List Key → GroupState
+joined_states functions table [] = group_state functions []
+joined_states functions table (key ∷ keys) = join (unwrap_or (fin.get table key) (group_state functions [])) (joined_states functions table keys)
+
+-- ---- steps
+
+-- what is kept of a group after one more record, of which the marks say which filters keep it; of a group that is new, after its first one
+abbrev pub grown : List FilteredFunction → List Bool → Option GroupState → Row → GroupState
+grown functions marks old row = with_row functions marks (unwrap_or old (no_group functions)) row
+
+-- at the key k the table has the record added, where it is the record's key, and else what it had
+abbrev pub IsAdded : List FilteredFunction → List Bool → Contents → Contents → Key → Row → Key → Type 0
+IsAdded functions marks old new key row k = fin.get new k ≡ cond (same_key k key) (Some (grown functions marks (fin.get old k) row)) (fin.get old k)
+
+abbrev pub join_options : Option GroupState → Option GroupState → Option GroupState
+join_options None b = b
+join_options (Some a) None = Some a
+join_options (Some a) (Some b) = Some (join a b)
+
+-- at the key k the table has one more part of the group of a key
+abbrev pub IsPut : Contents → Contents → Key → GroupState → Key → Type 0
+IsPut old new key part k = fin.get new k ≡ cond (same_key k key) (join_options (fin.get old k) (Some part)) (fin.get old k)
+
+-- what is kept of a group after one more part; of a group that is new, after its first one
+abbrev pub enlarged : List FilteredFunction → Option GroupState → GroupState → GroupState
+enlarged functions old part = join (unwrap_or old (no_group functions)) part
+
+-- at the key k the table has one more part of the group of a key, put to what it had or to nothing
+abbrev pub IsEnlarged : List FilteredFunction → Contents → Contents → Key → GroupState → Key → Type 0
+IsEnlarged functions old new key part k = fin.get new k ≡ cond (same_key k key) (Some (enlarged functions (fin.get old k) part)) (fin.get old k)
+
+-- at the key k the table has what both have
+abbrev pub IsJoined : Contents → Contents → Contents → Key → Type 0
+IsJoined old other new k = fin.get new k ≡ join_options (fin.get old k) (fin.get other k)
+
+-- a group takes one more record
+abbrev pub HasPlace : List FilteredFunction → Option GroupState → Type 0
+HasPlace functions group = IfSome group (λ g. (g.lines + 1 < 2 ^ 63) × (length g.parts ≡ length functions))
+
+-- a group takes a part
+abbrev pub IsFitting : GroupState → Option GroupState → Type 0
+IsFitting part group = IfSome group (λ g. (g.lines + part.lines < 2 ^ 63) × (length part.parts ≡ length g.parts))
+
+-- a part that a group takes, or a new one for these functions
+abbrev pub IsFittingNew : List FilteredFunction → GroupState → Option GroupState → Type 0
+IsFittingNew functions part group = IsFitting part group × (part.lines < 2 ^ 63) × (length part.parts ≡ length functions)
+
+-- a group, or a new one for these functions, takes a part: a record, or what is kept of some members
+abbrev pub IsTaken : List FilteredFunction → Option GroupState → Part → Type 0
+IsTaken functions group (taken.Record row marks) = IsNarrowRow (data_of row.now) × HasPlace functions group
+IsTaken functions group (taken.Copies members) = IsFittingNew functions members.now group
+
+-- what is kept of a group after one more part; of a group that is new, after its first one
+abbrev pub with_part : List FilteredFunction → Option GroupState → Part → GroupState
+with_part functions old (taken.Record row marks) = grown functions marks.now old (data_of row.now)
+with_part functions old (taken.Copies members) = enlarged functions old members.now
+
+-- at the key k the table has one more part of the group of a key, put to what it had or to nothing
+abbrev pub IsWithPart : List FilteredFunction → Contents → Contents → Key → Part → Key → Type 0
+IsWithPart functions old new key part k = fin.get new k ≡ cond (same_key k key) (Some (with_part functions (fin.get old k) part)) (fin.get old k)
+
+-- what is kept of a group after the parts of all entries
+abbrev pub joined_entries : GroupState → List (Vec Value Global × GroupState) → GroupState
+joined_entries group [] = group
+joined_entries group (e ∷ entries) = joined_entries (join group e.1) entries
+
+-- a group takes the parts of all entries, one after the other
+abbrev pub TakesEach : GroupState → List (Vec Value Global × GroupState) → Type 0
+TakesEach group [] = ⊤
+TakesEach group (e ∷ entries) = (group.lines + e.1.lines < 2 ^ 63) × (length e.1.parts ≡ length group.parts) × TakesEach (join group e.1) entries
+
+-- each group of the other table is a part that the group of its key takes, where there is one
+abbrev pub CanJoin : Contents → Contents → Type 0
+CanJoin table other = (key : Key) → IfSome (fin.get other key) (λ part. IsFitting part (fin.get table key))
+
+-- what is kept of a group is of at most so many records, and has one accumulator for each function
+abbrev pub IsGroupWithin : ℕ → List FilteredFunction → GroupState → Type 0
+IsGroupWithin lines functions group = (group.lines ≤ lines) × (length group.parts ≡ length functions)
+
+-- so are all groups of the table
+abbrev pub AreGroupsWithin : ℕ → List FilteredFunction → Contents → Type 0
+AreGroupsWithin lines functions table = (key : Key) → IfSome (fin.get table key) (IsGroupWithin lines functions)

@@ -1,0 +1,98 @@
+//! The different values that `COUNT(DISTINCT x)` counts.
+ghost use Rattle.std.specs.Prelude.{◌≡◌, OnOk};
+ghost use Rattle.std.specs.FinSet as set;
+ghost use Rattle.values.specs.Datum.{datum_of};
+ghost use Rattle.tables_groups.specs.Inside.Values.{values_in};
+
+use crate::accumulator::is_present;
+use crate::copy::copy_of;
+use std::alloc::{AllocError, Global};
+use std::collections::HashSet;
+use std::marker::Model;
+use values::Value;
+
+/// The different values of those that were taken, NULL excepted.
+///
+/// They stand in a box, so that the accumulators of other set functions are small.
+#[derive(Drop)]
+pub(crate) struct DistinctValues {
+    values: Box<HashSet<Value>>,
+}
+
+impl Model for DistinctValues {
+    ghost use Rattle.std.specs.FinSet as set;
+    ghost use Rattle.tables_groups.specs.Inside.Coding.{coded_datum};
+    ghost use Rattle.tables_groups.specs.Inside.Values.{Values, values_in};
+
+    ghost Value = { Values };
+
+    ghost coded = { set.code coded_datum };
+
+    ghost view = { λ d. values_in d.values.value.keys };
+}
+
+impl DistinctValues {
+    ghost use Rattle.std.specs.Prelude.{◌≡◌, [], ◌∷◌, IfOk, OnOk};
+    ghost use Rattle.std.specs.FinSet as set;
+    ghost use Rattle.values.specs.Datum.{datum_of};
+    ghost use Rattle.semantics.specs.Aggregates.{present};
+    ghost use Rattle.tables_groups.specs.Inside.Values.{set_of};
+
+    /// No value.
+    pub(crate) fn new(alloc: Global) -> Result<DistinctValues, AllocError>
+        ensures { IfOk result (λ values. values ≡ set.empty) }
+    {
+        let values = Box::new(alloc, HashSet::new(alloc))?;
+        Ok(DistinctValues { values })
+    }
+
+    /// Takes one more value, of which a copy is kept where it is a new one.
+    pub(crate) fn add(&mut self, value: &Value) -> Result<(), AllocError>
+        ensures { OnOk result (self.new ≡ set.union self.old (set_of (present (datum_of value.now ∷ [])))) }
+    {
+        if !is_present(value) {
+            return Ok(());
+        }
+        insert_copy(&mut *self.values, value)
+    }
+
+    /// Takes the values of another set, which move into this one.
+    pub(crate) fn absorb(&mut self, other: DistinctValues) -> Result<(), AllocError>
+        ensures { OnOk result (self.new ≡ set.union self.old other) }
+    {
+        let DistinctValues { values } = other;
+        for value in Box::into_inner(values) {
+            self.values.insert(value)?;
+        }
+        Ok(())
+    }
+
+    /// Takes copies of the values of another set, of those that are new ones.
+    pub(crate) fn absorb_copies(&mut self, other: &DistinctValues) -> Result<(), AllocError>
+        ensures { OnOk result (self.new ≡ set.union self.old other.now) }
+    {
+        for value in other.values.iter() {
+            insert_copy(&mut *self.values, value)?;
+        }
+        Ok(())
+    }
+
+    /// How many they are.
+    pub(crate) fn count(self) -> u64
+        ensures { result ≡ set.len self }
+    {
+        self.values.len() as u64
+    }
+}
+
+/// Puts a copy of a value into a set that does not have it.
+fn insert_copy(values: &mut HashSet<Value>, value: &Value) -> Result<(), AllocError>
+    ensures { OnOk result (values_in values.new.keys ≡ set.insert (values_in values.old.keys) (datum_of value.now)) }
+{
+    if values.contains(value) {
+        return Ok(());
+    }
+    let copy = copy_of(value)?;
+    values.insert(copy)?;
+    Ok(())
+}

@@ -1,0 +1,47 @@
+//! Laws of tables and of their groups, which have no work to do.
+ghost use Rattle.std.specs.Prelude.{◌≡◌, ℕ, List, Some, length};
+ghost use Rattle.std.specs.FinMap as fin;
+ghost use Rattle.std.specs.List.{flat_map};
+ghost use Rattle.semantics.specs.Groups.{Key, keys, members, Row};
+ghost use Rattle.tables_groups.specs.Rolled.{AreAmong, finer_keys, finer_members};
+ghost use Rattle.tables_groups.specs.Inside.Group.{GroupState};
+ghost use Rattle.tables_groups.specs.GroupSummaries.{group_summaries};
+ghost use Rattle.tables_groups.specs.Bags.{SameBag, weigh};
+ghost use Rattle.semantics.specs.Aggregates.{AggregateFunction};
+ghost use Rattle.tables_groups.specs.Inside.Table.{Contents, IsTableOf, joined_states};
+
+/// A table of records is that of the same records in any other order.
+pub fn order_law()
+    ensures { (set : List ℕ) (functions : List AggregateFunction) (table : Contents) (rows others : List Row)
+        → SameBag rows others → IsTableOf set functions table rows → IsTableOf set functions table others }
+{}
+
+/// The same records in any other order have the same keys under each grouping set, each key has the same members, and of
+/// each group the same is shown.
+pub fn records_law()
+    ensures keys { (set : List ℕ) (rows others : List Row)
+        → SameBag rows others → SameBag (keys set rows) (keys set others) }
+    ensures members { (set : List ℕ) (key : Key) (rows others : List Row)
+        → SameBag rows others → SameBag (members set key rows) (members set key others) }
+    ensures groups { (set : List ℕ) (functions : List AggregateFunction) (rows others : List Row)
+        → SameBag rows others
+        → SameBag (group_summaries set functions rows) (group_summaries set functions others) }
+{}
+
+/// Under each grouping set a record is a member of exactly one group, and the numbers of members add up to that of the
+/// records.
+pub fn members_law()
+    ensures members { (set : List ℕ) (rows : List Row) → SameBag (flat_map (λ key. members set key rows) (keys set rows)) rows }
+    ensures lines { (set : List ℕ) (functions : List AggregateFunction) (rows : List Row)
+        → weigh (λ group. group.lines) (group_summaries set functions rows) ≡ length rows }
+{}
+
+/// The members of a key are those of the keys of a finer set that have its values in the columns of the set, joined,
+/// each as often. So what a table keeps of a group is what a table of the finer set keeps of those keys, put together.
+pub fn roll_law()
+    ensures members { (finer set : List ℕ) (key : Key) (rows : List Row)
+        → AreAmong set finer → SameBag (finer_members finer set key rows) (members set key rows) }
+    ensures groups { (finer set : List ℕ) (functions : List AggregateFunction) (table rolled : Contents) (key : Key) (group : GroupState) (rows : List Row)
+        → AreAmong set finer → IsTableOf finer functions table rows → IsTableOf set functions rolled rows
+        → fin.get rolled key ≡ Some group → group ≡ joined_states functions table (finer_keys finer set key rows) }
+{}

@@ -1,0 +1,100 @@
+//! Shards of two tables that are put together by several threads.
+ghost use Rattle.std.specs.Prelude.{◌≡◌, ◌<◌, ℕ, true, All, IfOk, length, map, slice_index_or, vec_len};
+ghost use Rattle.tables_groups.specs.Inside.Shards.{AreJoined, CanJoinEach};
+ghost use Rattle.tables_groups.specs.Inside.Pairs.{CanJoinPair, HasJoined};
+ghost use Rattle.tables_groups.specs.declared.pairs.Pair.{Pair};
+
+use crate::shard::Shard;
+use std::alloc::{AllocError, Global};
+use std::marker::Sync;
+use std::thread::Threads;
+use std::{mem, thread};
+
+/// A shard, and that of another table which is put to it.
+#[derive(Drop)]
+struct Pair {
+    shard: Shard,
+    other: Shard,
+    /// Whether they were put together.
+    is_joined: bool,
+}
+
+impl Pair {
+    /// Puts the groups of the other shard to the shard.
+    fn join(&mut self, alloc: Global)
+        requires { CanJoinPair self.old }
+        ensures { HasJoined self.old self.new }
+    {
+        let other = mem::replace(&mut self.other, Shard::new(alloc));
+        self.is_joined = self.shard.absorb(other).is_ok();
+    }
+}
+
+/// The shards, each with the groups of the other list's shard of the same place, which as many threads as there are hands
+/// put to it.
+pub(crate) fn join_shards_among<H: Threads + Sync>(
+    rt: &H,
+    alloc: Global,
+    hands: usize,
+    shards: Vec<Shard>,
+    others: Vec<Shard>,
+) -> Result<Vec<Shard>, AllocError>
+    requires hands { 0 < hands }
+    requires count { vec_len others ≡ vec_len shards }
+    requires each { CanJoinEach shards.items others.items }
+    ensures count { IfOk result (λ joined. vec_len joined ≡ vec_len shards) }
+    ensures joined { IfOk result (λ joined. AreJoined shards.items others.items joined.items) }
+{
+    let mut pairs = pairs_of(alloc, shards, others)?;
+    join_pairs(rt, alloc, hands, pairs.as_mut_slice());
+    shards_of(alloc, pairs)
+}
+
+/// The shards of two lists, in pairs.
+fn pairs_of(alloc: Global, shards: Vec<Shard>, others: Vec<Shard>) -> Result<Vec<Pair>, AllocError>
+    requires count { vec_len others ≡ vec_len shards }
+    ensures shards { IfOk result (λ pairs. map (λ pair. pair.shard) pairs.items ≡ shards.items) }
+    ensures others { IfOk result (λ pairs. map (λ pair. pair.other) pairs.items ≡ others.items) }
+{
+    let mut pairs = Vec::with_capacity(alloc, shards.len())?;
+    for (shard, other) in shards.into_iter().zip(others) {
+        pairs.push(Pair {
+            shard,
+            other,
+            is_joined: false,
+        })?;
+    }
+    Ok(pairs)
+}
+
+/// Puts the shards of each pair together, by as many threads as there are hands.
+fn join_pairs<H: Threads + Sync>(rt: &H, alloc: Global, hands: usize, pairs: &mut [Pair])
+    requires hands { 0 < hands }
+    requires each { All CanJoinPair pairs.old }
+    ensures { (i : ℕ) (d : Pair) → i < length pairs.old → HasJoined (slice_index_or pairs.old i d) (slice_index_or pairs.new i d) }
+{
+    thread::for_each_mut(
+        rt,
+        pairs,
+        hands,
+        &|_place: usize, pair: &mut Pair|
+            requires { CanJoinPair pair.now }
+            ensures { HasJoined pair.entry.now pair.exit.now }
+        { pair.join(alloc) },
+    );
+}
+
+/// The first shards of the pairs, where all were put together.
+fn shards_of(alloc: Global, pairs: Vec<Pair>) -> Result<Vec<Shard>, AllocError>
+    ensures shards { IfOk result (λ shards. shards.items ≡ map (λ pair. pair.shard) pairs.items) }
+    ensures joined { IfOk result (λ _. All (λ pair. pair.is_joined ≡ true) pairs.items) }
+{
+    let mut shards = Vec::with_capacity(alloc, pairs.len())?;
+    for pair in pairs {
+        if !pair.is_joined {
+            return Err(AllocError);
+        }
+        shards.push(pair.shard)?;
+    }
+    Ok(shards)
+}

@@ -1,0 +1,67 @@
+//! Which shard of a table keeps a key.
+ghost use Rattle.std.specs.Prelude.{◌≡◌, ◌<◌, ◌≤◌, ◌^◌};
+ghost use Rattle.std.specs.List.{fold};
+ghost use Rattle.values.specs.Datum.{data_of, datum_of};
+ghost use Rattle.tables_groups.specs.Inside.Shards.{last_bytes, mixed, place, with_value};
+
+use values::Value;
+
+/// The number of shards of a table that several hands put to another one. Any other table has one.
+pub(crate) const SHARDS: usize = 4;
+
+/// How many bytes at the end of a text tell its shard.
+const LAST: usize = 4;
+
+/// The number of the shard that keeps a key among so many of them. Where there is one, the key is not looked at.
+pub(crate) fn place_of(key: &[Value], count: usize) -> usize
+    requires some { 0 < count }
+    requires few { count ≤ 4 }
+    ensures place { result ≡ place count (data_of key.now) }
+    ensures within { result < count }
+{
+    if count == 1 {
+        return 0;
+    }
+    let mut digest = 0;
+    for value in key {
+        digest = with_value(digest, value);
+    }
+    (mixed(digest, 0) * count as u64 / 4_294_967_296) as usize
+}
+
+/// A number with a value mixed into it.
+fn with_value(digest: u64, value: &Value) -> u64
+    requires { digest < 2 ^ 32 }
+    ensures value { result ≡ with_value digest (datum_of value.now) }
+    ensures below { result < 2 ^ 32 }
+{
+    match value {
+        Value::Bool(truth) => mixed(digest, u64::from(*truth)),
+        Value::Int(number) => mixed(digest, (number.unsigned_abs() % 4_294_967_296) as u64),
+        Value::Text(text) => with_text(digest, text.as_bytes()),
+        Value::Null => mixed(digest, 2),
+    }
+}
+
+/// A number with the last bytes of a text mixed into it.
+fn with_text(digest: u64, text: &[u8]) -> u64
+    requires { digest < 2 ^ 32 }
+    ensures value { result ≡ fold mixed digest (last_bytes text.now) }
+    ensures below { result < 2 ^ 32 }
+{
+    let mut digest = digest;
+    for byte in &text[text.len().saturating_sub(LAST)..] {
+        digest = mixed(digest, u64::from(*byte));
+    }
+    digest
+}
+
+/// A number with one more number mixed into it.
+fn mixed(digest: u64, number: u64) -> u64
+    requires digest { digest < 2 ^ 32 }
+    requires number { number < 2 ^ 32 }
+    ensures value { result ≡ mixed digest number }
+    ensures below { result < 2 ^ 32 }
+{
+    (digest * 2_654_435_761 + number) % 4_294_967_296
+}

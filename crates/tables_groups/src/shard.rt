@@ -1,0 +1,125 @@
+//! A shard of a table: a hashed map of groups.
+ghost use Rattle.std.specs.Prelude.{◌≤◌, ◌^◌};
+ghost use Rattle.std.specs.HashMap.{hash_map_len};
+ghost use Rattle.std.specs.List.{IsDistinct};
+ghost use Rattle.std.proofs.Props.{props};
+ghost use Rattle.std.specs.Map.{keys_of};
+ghost use Rattle.tables_groups.specs.Inside.Keys.{key_eq};
+
+use crate::accumulators::Accumulators;
+use crate::key::key_of;
+use crate::part::Part;
+use query_resolve::FilteredFunction;
+use std::alloc::{AllocError, Global};
+use std::collections::HashMap;
+use values::Value;
+
+/// The most groups of a shard. No memory has room for as many, so that their number is always one of 64 bits.
+const MOST: usize = 576_460_752_303_423_488;
+
+/// Some groups of a table, each by its key.
+#[derive(Drop)]
+pub(crate) struct Shard {
+    pub(crate) groups: HashMap<Vec<Value>, Accumulators>,
+    ghost few: { hash_map_len groups ≤ 2 ^ 59 },
+    ghost distinct: { IsDistinct key_eq (keys_of groups.entries) } by { Prim.hlevel props },
+}
+
+impl Shard {
+    ghost use Rattle.std.specs.Prelude.{◌≡◌, ◌≤◌, ◌^◌, Bool, false, [], OnOk, length};
+    ghost use Rattle.std.specs.FinMap as fin;
+    ghost use Rattle.values.specs.Datum.{data_of};
+    ghost use Rattle.semantics.specs.Groups.{Key, project, same_key};
+    ghost use Rattle.tables_groups.specs.Inside.Shards.{contents_in, entries_in};
+    ghost use Rattle.tables_groups.specs.Inside.Table.{CanJoin, IsFitting, IsJoined, IsPut, IsTaken, IsWithPart, TakesEach, joined_entries};
+
+    /// The shard that has no group.
+    pub(crate) fn new(alloc: Global) -> Shard
+        ensures { entries_in result ≡ [] }
+    {
+        Shard {
+            groups: HashMap::new(alloc),
+        }
+    }
+
+    /// The number of its groups.
+    pub(crate) fn len(&self) -> usize
+        ensures len { result ≡ length (entries_in self.now) }
+        ensures few { result ≤ 2 ^ 59 }
+    {
+        self.groups.len()
+    }
+
+    /// Puts one more part to the group of a record's key. At each other key there is afterwards what was there, also
+    /// after an error.
+    pub(crate) fn put(
+        &mut self,
+        alloc: Global,
+        key: &Vec<Value>,
+        set: &[usize],
+        functions: &[FilteredFunction],
+        row: &[Value],
+        part: Part<'_>,
+    ) -> Result<(), AllocError>
+        requires key { data_of key.now.items ≡ project set.now (data_of row.now) }
+        requires taken { IsTaken functions.now (fin.get (contents_in self.old) (project set.now (data_of row.now))) part }
+        ensures put { OnOk result ((k : Key) → IsWithPart functions.now (contents_in self.old) (contents_in self.new) (project set.now (data_of row.now)) part.entry k) }
+        ensures others { (k : Key) → same_key k (project set.now (data_of row.now)) ≡ false → fin.get (contents_in self.new) k ≡ fin.get (contents_in self.old) k }
+    {
+        if let Some(group) = self.groups.get_mut(key) {
+            return part.put_to(group, functions);
+        }
+        if self.groups.len() >= MOST {
+            return Err(AllocError);
+        }
+        let mut group = Accumulators::new(alloc, functions)?;
+        part.put_to(&mut group, functions)?;
+        let key = key_of(alloc, set, row)?;
+        self.groups.insert(key, group)?;
+        Ok(())
+    }
+
+    /// Moves one more part to the group of a key. At each other key there is afterwards what was there, also after an
+    /// error.
+    pub(crate) fn put_group(
+        &mut self,
+        key: Vec<Value>,
+        part: Accumulators,
+    ) -> Result<(), AllocError>
+        requires { IsFitting part (fin.get (contents_in self.old) (data_of key.items)) }
+        ensures put { OnOk result ((k : Key) → IsPut (contents_in self.old) (contents_in self.new) (data_of key.items) part k) }
+        ensures others { (k : Key) → same_key k (data_of key.items) ≡ false → fin.get (contents_in self.new) k ≡ fin.get (contents_in self.old) k }
+    {
+        if let Some(group) = self.groups.get_mut(&key) {
+            return group.absorb(part);
+        }
+        if self.groups.len() >= MOST {
+            return Err(AllocError);
+        }
+        self.groups.insert(key, part)?;
+        Ok(())
+    }
+
+    /// Puts the groups of another shard to these.
+    pub(crate) fn absorb(&mut self, other: Shard) -> Result<(), AllocError>
+        requires { CanJoin (contents_in self.old) (contents_in other) }
+        ensures { OnOk result ((k : Key) → IsJoined (contents_in self.old) (contents_in other) (contents_in self.new) k) }
+    {
+        let Shard { groups } = other;
+        for (key, part) in groups {
+            self.put_group(key, part)?;
+        }
+        Ok(())
+    }
+
+    /// Puts copies of what is kept of all groups to a group, whatever their keys. After an error the group is of no use.
+    pub(crate) fn put_copies_to(&self, group: &mut Accumulators) -> Result<(), AllocError>
+        requires { TakesEach group.old (entries_in self.now) }
+        ensures { OnOk result (group.new ≡ joined_entries group.old (entries_in self.now)) }
+    {
+        for (_key, part) in &self.groups {
+            group.absorb_copies(part)?;
+        }
+        Ok(())
+    }
+}

@@ -1,0 +1,499 @@
+//! A hashed table of groups.
+ghost use Rattle.std.specs.Prelude.{◌≡◌, ◌<◌, ◌≤◌, IfOk, vec_len};
+ghost use Rattle.std.proofs.Props.{props};
+ghost use Rattle.tables_groups.specs.Inside.Shards.{AreApart, AreJoined, CanJoinEach};
+
+use crate::accumulators::Accumulators;
+use crate::finishing::groups_among;
+use crate::group::Group;
+use crate::key::{indices_in, write_key};
+use crate::pairs::join_shards_among;
+use crate::part::Part;
+use crate::place::{SHARDS, place_of};
+use crate::shard::Shard;
+use crate::walk::{fewest, put_rest, put_turn, walks_over};
+use query_resolve::FilteredFunction;
+use std::alloc::{AllocError, Global};
+use std::marker::{Model, Sync};
+use std::mem;
+use std::thread::Threads;
+use values::Value;
+
+/// How many groups a table has at least that several threads put to another one, or finish: fewer are put there sooner than
+/// a thread is started.
+const FEWEST: usize = 4_096;
+
+/// The groups of one grouping set over the records that were taken so far, each by its key.
+///
+/// It keeps neither its grouping set nor its set functions: each call that needs them is given the same ones. Of a
+/// group it keeps the number of its members, and for each set function what its value comes of: COUNT DISTINCT keeps
+/// each different value.
+///
+/// Example: the table that has taken the records `'x'`, `'y'` and `'x'`, grouped by their one column with `COUNT(*)`,
+/// has two groups: that of `'x'` with 2 members, and that of `'y'` with 1.
+pub struct Table {
+    alloc: Global,
+    /// The groups, each in the shard of its key's place. Either there are several shards, so that tables can be put
+    /// together shard by shard, by several threads; or there is one, in which the groups lie in the order in which they
+    /// came.
+    shards: Vec<Shard>,
+    /// The key by which a group was last searched. It is written over the one before, so that no memory is taken for a
+    /// record whose group is there. A new group gets a key of its own, with room for its own texts and no more; this
+    /// one keeps room for the longest text of each column so far, which is no longer than a line may be.
+    scratch: Vec<Value>,
+    ghost some: { 0 < vec_len shards },
+    ghost few: { vec_len shards ≤ 4 },
+    ghost apart: { AreApart shards.items } by { Prim.hlevel props },
+}
+
+// A function of its own: a derived one is written out, and proved, wherever a table is given up.
+impl Drop for Table {
+    fn drop(self) {
+        let Table {
+            alloc: _,
+            shards,
+            scratch,
+        } = self;
+        drop(shards);
+        drop(scratch);
+    }
+}
+
+impl Model for Table {
+    ghost use Rattle.tables_groups.specs.Inside.Table.{Contents, coded_contents};
+    ghost use Rattle.tables_groups.specs.Inside.Shards.{contents_of_shards};
+
+    ghost Value = { Contents };
+
+    ghost coded = { coded_contents };
+
+    ghost view = { λ t. contents_of_shards t.shards.items };
+}
+
+impl Table {
+    ghost use Rattle.std.specs.Prelude.{◌≡◌, ◌<◌, ◌≤◌, Bool, ℕ, [], ◌∷◌, ◌++◌, OnOk, IfOk, List, map};
+    ghost use Rattle.semantics.specs.Groups.{Row, Key, project};
+    ghost use Rattle.tables_groups.specs.Rows.{IsNarrowRow};
+    ghost use Rattle.semantics.specs.Aggregates.{AggregateFunction};
+    ghost use Rattle.tables_groups.specs.Functions.{bound};
+    ghost use Rattle.std.specs.FinMap as fin;
+    ghost use Rattle.values.specs.Datum.{data_of};
+    ghost use Rattle.tables_groups.specs.Inside.Group.{no_group};
+    ghost use Rattle.tables_groups.specs.GroupSummaries.{group_summary_in, group_summaries};
+    ghost use Rattle.tables_groups.specs.Bags.{SameBag};
+    ghost use Rattle.tables_groups.specs.Inside.Shards.{contents_in};
+    ghost use Rattle.tables_groups.specs.Inside.Table.{CanJoin, IsPut, IsFitting, IsJoined, IsOfFew, IsTableOf, IsTaken, IsWithPart, TakesOne};
+    ghost use Rattle.tables_groups.specs.Rolled.{AreAmong};
+
+    /// The table of no records under a grouping set, for these set functions, whatever their filters keep. The set has
+    /// the places of its columns, from 0. The empty set has its one group from the start, with the empty key.
+    ///
+    /// Example: `Table::new(alloc, &[], functions)` answers a table whose `len()` is 1; with `&[0]` it is 0.
+    ///
+    /// # Errors
+    ///
+    /// `AllocError` where there is no memory for it.
+    pub fn new(
+        alloc: Global,
+        set: &[usize],
+        functions: &[FilteredFunction],
+    ) -> Result<Table, AllocError>
+        ensures empty { IfOk result (λ table. (filters : List (Row → Bool)) → IsTableOf set.now (map (bound filters) functions.now) table []) }
+    {
+        Table::for_hands(alloc, 1, set, functions)
+    }
+
+    /// The table of no records that `new` gives, kept in such a way that as many hands put it to another one soonest
+    /// (`absorb_among`), where that one is kept so too. What is taken and given does not depend on the hands.
+    ///
+    /// Example: `Table::for_hands(alloc, 4, &[], functions)` answers a table whose `len()` is 1; with `&[0]` it is 0.
+    ///
+    /// # Errors
+    ///
+    /// `AllocError` where there is no memory for it.
+    pub fn for_hands(
+        alloc: Global,
+        hands: usize,
+        set: &[usize],
+        functions: &[FilteredFunction],
+    ) -> Result<Table, AllocError>
+        ensures empty { IfOk result (λ table. (filters : List (Row → Bool)) → IsTableOf set.now (map (bound filters) functions.now) table []) }
+    {
+        let count = hands.clamp(1, SHARDS);
+        if set.is_empty() {
+            return Table::with_empty_key(alloc, count, functions);
+        }
+        Table::without_groups(alloc, count)
+    }
+
+    /// The table of so many shards that has no group.
+    fn without_groups(alloc: Global, count: usize) -> Result<Table, AllocError>
+        requires some { 0 < count }
+        requires few { count ≤ 4 }
+        ensures { IfOk result (λ table. table ≡ fin.empty) }
+    {
+        let mut shards = Vec::with_capacity(alloc, count)?;
+        for _ in 0..count {
+            shards.push(Shard::new(alloc))?;
+        }
+        Ok(Table {
+            alloc,
+            shards,
+            scratch: Vec::new(alloc),
+        })
+    }
+
+    /// The table of so many shards of no records under the empty set, whose one key is there from the start.
+    fn with_empty_key(
+        alloc: Global,
+        count: usize,
+        functions: &[FilteredFunction],
+    ) -> Result<Table, AllocError>
+        requires some { 0 < count }
+        requires few { count ≤ 4 }
+        ensures { IfOk result (λ table. (k : Key) → IsPut fin.empty table [] (no_group functions.now) k) }
+    {
+        let mut table = Table::without_groups(alloc, count)?;
+        let group = Accumulators::new(alloc, functions)?;
+        table.put_to_group(Vec::new(alloc), group)?;
+        Ok(table)
+    }
+
+    /// Takes one more record into the group of its key. `row` has the values of the record, and `marks` says of each
+    /// filter, by its index from 0, whether it keeps the record: the mark of a set function is that with the index of
+    /// its FILTER. A value in a column that the record does not have counts as NULL.
+    ///
+    /// This is a table under this set for these functions, of fewer than 2^63 - 1 records, and no whole number of the
+    /// record is below -2^63 or above 2^63.
+    ///
+    /// Example: a record whose key has no group yet makes `len()` one more; the next one with that key leaves it so.
+    ///
+    /// # Errors
+    ///
+    /// `AllocError` where there is no memory for it; the table is of no use then.
+    pub fn add(
+        &mut self,
+        set: &[usize],
+        functions: &[FilteredFunction],
+        row: &[Value],
+        marks: &[bool],
+    ) -> Result<(), AllocError>
+        requires narrow { IsNarrowRow (data_of row.now) }
+        requires room { ∥ TakesOne set.now functions.now self.old ∥₁ }
+        ensures added { OnOk result ((filters : List (Row → Bool)) (rows : List Row) → marks.now ≡ map (λ keeps. keeps (data_of row.now)) filters
+            → IsTableOf set.now (map (bound filters) functions.now) self.old rows
+            → IsTableOf set.now (map (bound filters) functions.now) self.new (rows ++ data_of row.now ∷ [])) }
+    {
+        self.put(set, functions, row, Part::Record(row, marks))
+    }
+
+    /// Takes the records of another table under the same set for the same functions, whose groups move into this one.
+    ///
+    /// Where both have a group of one key, the two have fewer than 2^63 members together, and are for as many
+    /// functions.
+    ///
+    /// Example: a table with 2 members of the key `'x'` that takes one with 1 of `'x'` and 1 of `'y'` has 3 of `'x'`
+    /// and 1 of `'y'`.
+    ///
+    /// # Errors
+    ///
+    /// `AllocError` where there is no memory for it; the table is of no use then.
+    pub fn absorb(&mut self, other: Table) -> Result<(), AllocError>
+        requires { CanJoin self.old other }
+        ensures groups { OnOk result ((k : Key) → IsJoined self.old other self.new k) }
+        ensures joined { OnOk result ((set : List ℕ) (functions : List AggregateFunction) (rows more : List Row)
+            → IsTableOf set functions self.old rows → IsTableOf set functions other more → IsTableOf set functions self.new (rows ++ more)) }
+    {
+        let fresh = Table::without_groups(self.alloc, 1)?;
+        let table = mem::replace(self, fresh);
+        *self = table.joined(other)?;
+        Ok(())
+    }
+
+    /// What `absorb` does, by as many threads as there are hands, the calling one among them, where the other table has
+    /// many groups and both are kept for several hands (`for_hands`).
+    ///
+    /// Where both have a group of one key, the two have fewer than 2^63 members together, and are for as many
+    /// functions. There is a hand.
+    ///
+    /// Example: `table.absorb_among(&rt, 4, other)?` leaves what `table.absorb(other)?` leaves.
+    ///
+    /// # Errors
+    ///
+    /// `AllocError` where there is no memory for it; the table is of no use then. Where a thread cannot be started, the one
+    /// that wanted to start it does its part.
+    pub fn absorb_among<H: Threads + Sync>(
+        &mut self,
+        rt: &H,
+        hands: usize,
+        other: Table,
+    ) -> Result<(), AllocError>
+        requires join { CanJoin self.old other }
+        requires hands { 0 < hands }
+        ensures groups { OnOk result ((k : Key) → IsJoined self.old other self.new k) }
+        ensures joined { OnOk result ((set : List ℕ) (functions : List AggregateFunction) (rows more : List Row)
+            → IsTableOf set functions self.old rows → IsTableOf set functions other more → IsTableOf set functions self.new (rows ++ more)) }
+    {
+        if hands == 1 || other.len() < FEWEST {
+            return self.absorb(other);
+        }
+        let fresh = Table::without_groups(self.alloc, 1)?;
+        let table = mem::replace(self, fresh);
+        *self = table.joined_among(rt, hands, other)?;
+        Ok(())
+    }
+
+    /// The table of the same records under another set, made of the groups of this one, which stays as it is. So it may
+    /// be made of a table that was rolled before.
+    ///
+    /// This is a table under the set `finer` for these functions, of fewer than 2^63 records, and each column of `set`
+    /// is one of `finer`, in whatever order.
+    ///
+    /// Example: a table with 2 members of the key `('Quay', 'sale')` and 1 of `('Quay', 'refund')` gives, rolled to its
+    /// first column, one with 3 members of `'Quay'`.
+    ///
+    /// # Errors
+    ///
+    /// `AllocError` where there is no memory for it.
+    pub fn roll(
+        &self,
+        finer: &[usize],
+        set: &[usize],
+        functions: &[FilteredFunction],
+    ) -> Result<Table, AllocError>
+        requires among { AreAmong set.now finer.now }
+        requires few { ∥ IsOfFew finer.now functions.now self.now ∥₁ }
+        ensures rolled { IfOk result (λ table. (filters : List (Row → Bool)) (rows : List Row)
+            → IsTableOf finer.now (map (bound filters) functions.now) self.now rows → IsTableOf set.now (map (bound filters) functions.now) table rows) }
+    {
+        if set.is_empty() {
+            return self.rolled_to_one(functions);
+        }
+        let indices = indices_in(self.alloc, finer, set)?;
+        let mut rolled = Table::new(self.alloc, set, functions)?;
+        for shard in &self.shards {
+            for (key, part) in &shard.groups {
+                rolled.put(
+                    indices.as_slice(),
+                    functions,
+                    key.as_slice(),
+                    Part::Copies(part),
+                )?;
+            }
+        }
+        Ok(rolled)
+    }
+
+    /// The table under the empty set. Its one group takes what is kept of each group, and no key is searched.
+    fn rolled_to_one(&self, functions: &[FilteredFunction]) -> Result<Table, AllocError>
+        requires few { ∥ ((finer : List ℕ) × IsOfFew finer functions.now self.now) ∥₁ }
+        ensures rolled { IfOk result (λ table. (finer : List ℕ) (filters : List (Row → Bool)) (rows : List Row)
+            → IsTableOf finer (map (bound filters) functions.now) self.now rows → IsTableOf [] (map (bound filters) functions.now) table rows) }
+    {
+        let mut group = Accumulators::new(self.alloc, functions)?;
+        for shard in &self.shards {
+            shard.put_copies_to(&mut group)?;
+        }
+        let mut one = Table::without_groups(self.alloc, 1)?;
+        one.put_to_group(Vec::new(self.alloc), group)?;
+        Ok(one)
+    }
+
+    /// The number of its groups: of the different keys of its records, and 1 under the empty set.
+    pub fn len(&self) -> usize
+        ensures { result ≡ fin.len self.now }
+    {
+        let mut count = 0;
+        for shard in &self.shards {
+            count += shard.len();
+        }
+        count
+    }
+
+    /// One group for each key of the records, in no order that is said: with the number of its members, and the value
+    /// of each set function over those that its FILTER keeps, or over all where it has none.
+    ///
+    /// Example: under the empty set over no records it gives one group, with the empty key and 0 members, where each
+    /// COUNT is 0 and each other set function NULL.
+    ///
+    /// # Errors
+    ///
+    /// `AllocError` where there is no memory for the groups; the table is given up then.
+    pub fn finish(self) -> Result<Vec<Group>, AllocError>
+        ensures groups { IfOk result (λ groups. (set : List ℕ) (functions : List AggregateFunction) (rows : List Row)
+            → IsTableOf set functions self rows → SameBag (map group_summary_in groups.items) (group_summaries set functions rows)) }
+    {
+        let count = self.len();
+        let Table {
+            alloc,
+            shards,
+            scratch,
+        } = self;
+        drop(scratch);
+        let turns = fewest(shards.as_slice());
+        let mut walks = walks_over(alloc, shards)?;
+        let mut groups = Vec::with_capacity(alloc, count)?;
+        for _ in 0..turns {
+            put_turn(alloc, &mut groups, &mut walks)?;
+        }
+        put_rest(alloc, groups, walks)
+    }
+
+    /// What `finish` gives, by as many threads as there are hands, the calling one among them, or by fewer where the
+    /// groups are few or a thread cannot be started. There is a hand.
+    ///
+    /// Example: `table.finish_among(&rt, 4)?` gives the groups that `table.finish()?` gives.
+    ///
+    /// # Errors
+    ///
+    /// `AllocError` where there is no memory for the groups; the table is given up then.
+    pub fn finish_among<H: Threads + Sync>(
+        self,
+        rt: &H,
+        hands: usize,
+    ) -> Result<Vec<Group>, AllocError>
+        ensures groups { IfOk result (λ groups. (set : List ℕ) (functions : List AggregateFunction) (rows : List Row)
+            → IsTableOf set functions self rows → SameBag (map group_summary_in groups.items) (group_summaries set functions rows)) }
+    {
+        let count = self.len();
+        if hands < self.shards.len() || count < FEWEST {
+            return self.finish();
+        }
+        let Table {
+            alloc,
+            shards,
+            scratch,
+        } = self;
+        drop(scratch);
+        groups_among(rt, alloc, count, shards)
+    }
+
+    /// Puts one more part to the group of a record's key.
+    fn put(
+        &mut self,
+        set: &[usize],
+        functions: &[FilteredFunction],
+        row: &[Value],
+        part: Part<'_>,
+    ) -> Result<(), AllocError>
+        requires { IsTaken functions.now (fin.get self.old (project set.now (data_of row.now))) part }
+        ensures { OnOk result ((k : Key) → IsWithPart functions.now self.old self.new (project set.now (data_of row.now)) part.entry k) }
+    {
+        write_key(&mut self.scratch, set, row)?;
+        let place = place_of(self.scratch.as_slice(), self.shards.len());
+        self.shards[place].put(self.alloc, &self.scratch, set, functions, row, part)
+    }
+
+    /// Moves one more part to the group of a key.
+    fn put_to_group(&mut self, key: Vec<Value>, part: Accumulators) -> Result<(), AllocError>
+        requires { IsFitting part (fin.get self.old (data_of key.items)) }
+        ensures { OnOk result ((k : Key) → IsPut self.old self.new (data_of key.items) part k) }
+    {
+        let place = place_of(key.as_slice(), self.shards.len());
+        self.shards[place].put_group(key, part)
+    }
+
+    /// Puts the groups of a shard of another table to these, each to the group of its key.
+    fn absorb_shard(&mut self, shard: Shard) -> Result<(), AllocError>
+        requires { CanJoin self.old (contents_in shard) }
+        ensures { OnOk result ((k : Key) → IsJoined self.old (contents_in shard) self.new k) }
+    {
+        let Shard { groups } = shard;
+        for (key, part) in groups {
+            self.put_to_group(key, part)?;
+        }
+        Ok(())
+    }
+
+    /// The table of the groups of both, group by group, however many shards each has.
+    fn joined_by_key(self, other: Table) -> Result<Table, AllocError>
+        requires { CanJoin self other }
+        ensures { IfOk result (λ table. (k : Key) → IsJoined self other table k) }
+    {
+        let Table {
+            alloc: _,
+            shards,
+            scratch,
+        } = other;
+        drop(scratch);
+        let mut joined = self;
+        for shard in shards {
+            joined.absorb_shard(shard)?;
+        }
+        Ok(joined)
+    }
+
+    /// The table of the groups of both: shard by shard, where one has as many as the other.
+    fn joined(self, other: Table) -> Result<Table, AllocError>
+        requires { CanJoin self other }
+        ensures { IfOk result (λ table. (k : Key) → IsJoined self other table k) }
+    {
+        if self.shards.len() != other.shards.len() {
+            return self.joined_by_key(other);
+        }
+        let Table {
+            alloc,
+            shards,
+            scratch,
+        } = self;
+        let Table {
+            alloc: _,
+            shards: other_shards,
+            scratch: other_scratch,
+        } = other;
+        drop(other_scratch);
+        let shards = join_shards(shards, other_shards)?;
+        Ok(Table {
+            alloc,
+            shards,
+            scratch,
+        })
+    }
+
+    /// The same: by as many threads as there are hands, where one has as many shards as the other.
+    fn joined_among<H: Threads + Sync>(
+        self,
+        rt: &H,
+        hands: usize,
+        other: Table,
+    ) -> Result<Table, AllocError>
+        requires join { CanJoin self other }
+        requires hands { 0 < hands }
+        ensures { IfOk result (λ table. (k : Key) → IsJoined self other table k) }
+    {
+        if self.shards.len() != other.shards.len() {
+            return self.joined_by_key(other);
+        }
+        let Table {
+            alloc,
+            shards,
+            scratch,
+        } = self;
+        let Table {
+            alloc: _,
+            shards: other_shards,
+            scratch: other_scratch,
+        } = other;
+        drop(other_scratch);
+        let shards = join_shards_among(rt, alloc, hands, shards, other_shards)?;
+        Ok(Table {
+            alloc,
+            shards,
+            scratch,
+        })
+    }
+}
+
+/// The shards, each with the groups of the other list's shard of the same place.
+fn join_shards(shards: Vec<Shard>, others: Vec<Shard>) -> Result<Vec<Shard>, AllocError>
+    requires count { vec_len others ≡ vec_len shards }
+    requires each { CanJoinEach shards.items others.items }
+    ensures count { IfOk result (λ joined. vec_len joined ≡ vec_len shards) }
+    ensures joined { IfOk result (λ joined. AreJoined shards.items others.items joined.items) }
+{
+    let mut joined = shards;
+    for (place, other) in others.into_iter().enumerate() {
+        joined[place].absorb(other)?;
+    }
+    Ok(joined)
+}

@@ -1,0 +1,14 @@
+use Rattle.std.proofs.Common.{◌++◌}
+use Rattle.std.proofs.lemmas.Result.{IfOk-weaker}
+use Rattle.tables.specs.Partials.{whole_piece}
+use Rattle.test_partials.proofs.tests.following.folded_behind.Goals as goal
+
+pub fold_behind-requires-clause-of_plan : goal.fold_behind-requires-clause-of_plan
+fold_behind-requires-clause-of_plan g c = let s = c.in_ok-whole.ensures in ∣ (s.pieces, s.stands) ∣₁
+
+pub returns : goal.returns
+returns g c =
+    let front = c.args.front.now in
+    IfOk-weaker c.fold_behind.result _ _
+    (λ _ stands. ∣ (whole_piece (front ++ c.args.rest.now), stands front c.in_ok-whole.ensures c.requires) ∣₁)
+    c.fold_behind.ensures.stands
