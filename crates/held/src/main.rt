@@ -28,7 +28,7 @@ use values::Schema;
 const PIECE: usize = 1_048_576;
 
 /// The most pieces that are shared among threads.
-const MOST_PIECES: usize = 1_048_576;
+const MAX_PIECES: usize = 1_048_576;
 
 /// The greatest length of an input, in bytes.
 const LONGEST: usize = 0x7fff_ffff_ffff_ffff;
@@ -56,7 +56,7 @@ fn result_of<R: Threads + Wait + Sync>(
     let Ok(pieces) = cut(alloc, input, PIECE) else {
         return None;
     };
-    if pieces.len() > MOST_PIECES {
+    if pieces.len() > MAX_PIECES {
         return None;
     }
     job_law();

@@ -7,12 +7,12 @@ use Rattle.semantics.specs.Values.{Datum}
 use Rattle.semantics.specs.Columns.{Field}
 use Rattle.semantics.specs.declared.line_fault.LineFault.{LineFault}
 use Rattle.semantics.specs.declared.line_fault.LineFault.TheVariants.{TooLong, NoJson, NoObject, BadValue}
-use Rattle.semantics.specs.Records.{refused, taken}
+use Rattle.semantics.specs.Records.{refused, decode_line}
 use Rattle.semantics.specs.Lines.{lines}
 use Rattle.lines.proofs.Outcomes.{taken-bad_value}
 use Rattle.report.specs.Report.{NamesColumn}
 
-taken-named : (fields : List Field) (line : List ℕ) (fault : LineFault) → taken fields line ≡ Err fault → NamesColumn fields fault
+taken-named : (fields : List Field) (line : List ℕ) (fault : LineFault) → decode_line fields line ≡ Err fault → NamesColumn fields fault
 taken-named fields line TooLong is = tt
 taken-named fields line NoJson is = tt
 taken-named fields line NoObject is = tt
@@ -22,13 +22,13 @@ abbrev numbered_fault : ℕ × Result (List Datum) LineFault → Option (ℕ × 
 numbered_fault p = option_map (λ fault. (p.0, fault)) (result_err p.1)
 
 named-from : (fields : List Field) (n : ℕ) (ls : List (List ℕ))
-    → AllByRecursion (λ line. NamesColumn fields line.1) (filter_map numbered_fault (enumerate_from n (map (taken fields) ls)))
+    → AllByRecursion (λ line. NamesColumn fields line.1) (filter_map numbered_fault (enumerate_from n (map (decode_line fields) ls)))
 named-from fields n [] = tt
-named-from fields n (line ∷ ls) = go (taken fields line) refl (named-from fields (n + 1) ls)
+named-from fields n (line ∷ ls) = go (decode_line fields line) refl (named-from fields (n + 1) ls)
   where
-    go : (t : Result (List Datum) LineFault) → taken fields line ≡ t
-        → AllByRecursion (λ line. NamesColumn fields line.1) (filter_map numbered_fault (enumerate_from (n + 1) (map (taken fields) ls)))
-        → AllByRecursion (λ line. NamesColumn fields line.1) (filter_map numbered_fault ((n, t) ∷ enumerate_from (n + 1) (map (taken fields) ls)))
+    go : (t : Result (List Datum) LineFault) → decode_line fields line ≡ t
+        → AllByRecursion (λ line. NamesColumn fields line.1) (filter_map numbered_fault (enumerate_from (n + 1) (map (decode_line fields) ls)))
+        → AllByRecursion (λ line. NamesColumn fields line.1) (filter_map numbered_fault ((n, t) ∷ enumerate_from (n + 1) (map (decode_line fields) ls)))
     go (Ok row) is rest = rest
     go (Err fault) is rest = (taken-named fields line fault is, rest)
 

@@ -9,7 +9,7 @@ use Rattle.semantics.specs.Groups.{Row}
 use Rattle.semantics.specs.declared.line_fault.LineFault.{LineFault}
 use Rattle.semantics.specs.Records.{refused}
 use Rattle.semantics.specs.Lines.{lines}
-use Rattle.lines.specs.Trim.{trim}
+use Rattle.lines.specs.Trim.{clip_lines}
 use Rattle.lines.proofs.Trims.{count-trim, good-trim, refused-trim}
 use Rattle.report.specs.Report.{refusals_of, report_of}
 use Rattle.tables.specs.Partials.{StandsForInput}
@@ -20,7 +20,7 @@ use Rattle.jlreport_scan.specs.declared.fault.GatherFault.{GatherFault}
 use Rattle.jlreport_scan.specs.declared.fault.GatherFault.TheVariants as gathering
 use Rattle.jlreport_scan.specs.Faults.{Stops}
 use Rattle.jlreport_scan.specs.Gathered.{IsWhole, limit_number}
-use Rattle.semantics.specs.Run.{Hinders, IsDecided, IsWithin, Leaves, refusals, report, AppendsBeginning}
+use Rattle.semantics.specs.Run.{IsResourceFault, IsDecided, IsWithin, Leaves, refusals, report, AppendsBeginning}
 use Rattle.jlreport_engine.specs.Run.{LeavesOfInput}
 use Rattle.jlreport_scan.specs.RunFaults.{fault_of_gathering}
 use Rattle.jlreport_engine.specs.Written.{LeavesWritten}
@@ -28,16 +28,16 @@ use Rattle.jlreport_scan.proofs.Tallies.{lines-of-input, refused-of-input}
 use Rattle.std.specs.Io.KnownBytes.{Appends, Keeps}
 
 -- what holds of all that was read holds of what the reader gives, where that is known
-of-known : (P : List ℕ → Type 0) (bytes : List ℕ) (known : Option (List ℕ)) → ((input : List ℕ) → P (trim input) → P input) → IfSome known (λ input. bytes ≡ trim input)
+of-known : (P : List ℕ → Type 0) (bytes : List ℕ) (known : Option (List ℕ)) → ((input : List ℕ) → P (clip_lines input) → P input) → IfSome known (λ input. bytes ≡ clip_lines input)
     → P bytes → IfSome known P
 of-known P bytes None trimmed same h = tt
 of-known P bytes (Some input) trimmed same h = trimmed input (subst P same h)
 
 -- the texts of a trimmed input are those of the input
-report-trimmed : (fields : List Field) (q : TreeForm) (input : List ℕ) → report fields q (trim input) ≡ report fields q input
+report-trimmed : (fields : List Field) (q : TreeForm) (input : List ℕ) → report fields q (clip_lines input) ≡ report fields q input
 report-trimmed fields q input = ap (λ (rows : List Row). report_of fields q (query_found fields q rows)) (good-trim fields input)
 
-refusals-trimmed : (fields : List Field) (input : List ℕ) → refusals fields (trim input) ≡ refusals fields input
+refusals-trimmed : (fields : List Field) (input : List ℕ) → refusals fields (clip_lines input) ≡ refusals fields input
 refusals-trimmed fields input = ap (λ (found : List (ℕ × LineFault)). refusals_of fields found) (refused-trim fields input)
 
 -- so of the report and the list that are written
@@ -99,7 +99,7 @@ decided-stopped limit fields (Some input) gathering.OutOfMemory h = λ free. abs
 decided-stopped limit fields (Some input) gathering.ThreadNotStarted h = λ free. absurd (free tt)
 decided-stopped limit fields (Some input) (gathering.TooManyRefused most) h = stopped limit (length (refused fields input)) most h.0 h.1
 
-hinders : (fields : List Field) (q : TreeForm) (input : List ℕ) (oo on eo en : Option (List ℕ)) (fault : RunFault) → LeavesOfInput fault fields q input oo on eo en → Hinders fault
+hinders : (fields : List Field) (q : TreeForm) (input : List ℕ) (oo on eo en : Option (List ℕ)) (fault : RunFault) → LeavesOfInput fault fields q input oo on eo en → IsResourceFault fault
 hinders fields q input oo on eo en Reading h = absurd h
 hinders fields q input oo on eo en OutOfMemory h = tt
 hinders fields q input oo on eo en ThreadNotStarted h = absurd h
@@ -107,14 +107,14 @@ hinders fields q input oo on eo en (TooManyRefused most) h = absurd h
 hinders fields q input oo on eo en WritingReport h = tt
 hinders fields q input oo on eo en WritingRefused h = tt
 
-decided-count : (r : Result Done RunFault) (limit : Option ℕ) (known : Option (List ℕ)) (count : List ℕ → ℕ) (n : ℕ) → n ≤ limit_number limit → IfErr r Hinders
+decided-count : (r : Result Done RunFault) (limit : Option ℕ) (known : Option (List ℕ)) (count : List ℕ → ℕ) (n : ℕ) → n ≤ limit_number limit → IfErr r IsResourceFault
     → IfSome known (λ input. n ≡ count input) → IfSome known (λ input. IsDecided r limit (count input))
 decided-count r limit None count n few h same = tt
 decided-count (Ok done) limit (Some input) count n few h same = λ _. (λ _. within limit n (count input) few (sym same), λ _. refl)
 decided-count (Err fault) limit (Some input) count n few h same = λ free. absurd (free h)
 
 err-hinders : (r : Result Done RunFault) (fields : List Field) (q : TreeForm) (bytes : List ℕ) (partial : PartialState) (oo on eo en : Option (List ℕ)) → StandsForInput fields q partial bytes
-    → IfErr r (λ fault. (input : List ℕ) → StandsForInput fields q partial input → LeavesOfInput fault fields q input oo on eo en) → IfErr r Hinders
+    → IfErr r (λ fault. (input : List ℕ) → StandsForInput fields q partial input → LeavesOfInput fault fields q input oo on eo en) → IfErr r IsResourceFault
 err-hinders (Ok done) fields q bytes partial oo on eo en s h = tt
 err-hinders (Err fault) fields q bytes partial oo on eo en s h = hinders fields q bytes oo on eo en fault (h bytes s)
 
@@ -136,10 +136,10 @@ leaves-stopped limit fields q known out err (gathering.TooManyRefused most) h a 
 
 -- what is within the limit of a trimmed input is so of the input
 within-trimmed : (limit : Option ℕ) (fields : List Field) (input : List ℕ)
-    → IsWithin limit (length (refused fields (trim input))) → IsWithin limit (length (refused fields input))
+    → IsWithin limit (length (refused fields (clip_lines input))) → IsWithin limit (length (refused fields input))
 within-trimmed limit fields input few = subst (λ (found : List (ℕ × LineFault)). IsWithin limit (length found)) (refused-trim fields input) few
 
-fault-leaves : (limit : Option ℕ) (fields : List Field) (q : TreeForm) (bytes : List ℕ) (known oo on eo en : Option (List ℕ)) (fault : RunFault) → IfSome known (λ input. bytes ≡ trim input)
+fault-leaves : (limit : Option ℕ) (fields : List Field) (q : TreeForm) (bytes : List ℕ) (known oo on eo en : Option (List ℕ)) (fault : RunFault) → IfSome known (λ input. bytes ≡ clip_lines input)
     → IsWithin limit (length (refused fields bytes))
     → LeavesOfInput fault fields q bytes oo on eo en → Leaves fault limit fields q known oo on eo en
 fault-leaves limit fields q bytes known oo on eo en Reading same few h = absurd h

@@ -146,13 +146,13 @@ pub fn serve<
         → Explains settings.columns.now settings.query.now (O.contents out.old) (O.contents out.new)) }
 {
     match asked {
-        Ok(settings) => match carried_out(rt, alloc, settings, opener, out, err) {
+        Ok(settings) => match execute(rt, alloc, settings, opener, out, err) {
             Ok(status) => status,
-            Err(ending) => ended(alloc, &ending, err),
+            Err(ending) => report_failure(alloc, &ending, err),
         },
-        Err(WordsFault::Clap(error)) => answered(alloc, &error, out, err),
-        Err(WordsFault::Range) => ended(alloc, &Ending::Range, err),
-        Err(WordsFault::NotUtf8) => ended(alloc, &Ending::NotUtf8, err),
+        Err(WordsFault::Clap(error)) => report_cli_error(alloc, &error, out, err),
+        Err(WordsFault::Range) => report_failure(alloc, &Ending::Range, err),
+        Err(WordsFault::NotUtf8) => report_failure(alloc, &Ending::NotUtf8, err),
     }
 }
 
@@ -168,7 +168,7 @@ fn plan_of(alloc: Global, settings: Settings<'_>) -> Result<Plan, Ending>
 }
 
 /// Explains the query that is asked for, or answers it over the file that is asked for.
-fn carried_out<
+fn execute<
     R: Read + Drop + Send,
     O: Write,
     E: Write,
@@ -213,7 +213,7 @@ fn explained<O: Write>(alloc: Global, plan: &Plan, out: &mut O) -> Result<u8, En
 }
 
 /// Says on standard error why the program ends, and answers the status.
-fn ended<E: Write>(alloc: Global, ending: &Ending, err: &mut E) -> u8
+fn report_failure<E: Write>(alloc: Global, ending: &Ending, err: &mut E) -> u8
     ensures { 2 ≤ result }
 {
     match ending.line(alloc) {
@@ -230,17 +230,17 @@ fn ended<E: Write>(alloc: Global, ending: &Ending, err: &mut E) -> u8
 
 /// Says what `clap` answers in place of settings: help and the version on standard output, a fault of
 /// the words on standard error.
-fn answered<O: Write, E: Write>(
+fn report_cli_error<O: Write, E: Write>(
     alloc: Global,
     error: &clap::Error,
     out: &mut O,
     err: &mut E,
 ) -> u8 {
     if error.kind() == ErrorKind::OutOfMemory {
-        return ended(alloc, &Ending::OUT_OF_MEMORY, err);
+        return report_failure(alloc, &Ending::OUT_OF_MEMORY, err);
     }
     let Ok(text) = error.to_string(alloc) else {
-        return ended(alloc, &Ending::OUT_OF_MEMORY, err);
+        return report_failure(alloc, &Ending::OUT_OF_MEMORY, err);
     };
     if error.use_stderr() {
         let _ = put_and_flush(err, text.as_bytes());
@@ -248,6 +248,6 @@ fn answered<O: Write, E: Write>(
     }
     match put_and_flush(out, text.as_bytes()) {
         Ok(()) => 0,
-        Err(_) => ended(alloc, &Ending::Run(RunFault::WritingReport), err),
+        Err(_) => report_failure(alloc, &Ending::Run(RunFault::WritingReport), err),
     }
 }

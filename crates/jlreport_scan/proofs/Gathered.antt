@@ -11,7 +11,7 @@ use Rattle.semantics.specs.Records.{refused}
 use Rattle.semantics.specs.Lines.{line_feed, lines}
 use Rattle.lines.specs.Pieces.{AreWholeLines, EndsInFeed}
 use Rattle.lines.specs.Rounds.{HasMoved, RoundsState}
-use Rattle.lines.specs.Trim.{trim}
+use Rattle.lines.specs.Trim.{clip_lines}
 use Rattle.lines.proofs.Fronts.{refused-whole_lines}
 use Rattle.lines.proofs.Trims.{refused-trim}
 use Rattle.semantics.specs.Syntax.{TreeForm}
@@ -43,13 +43,13 @@ refused-both fields front rest whole =
 -- ---- what was read so far, where it is known what the reader gives
 
 -- where nothing is left, it is all, trimmed
-at-end : (known left : Option (List ℕ)) (bytes : List ℕ) → Consumes (option_map trim known) left bytes → IsAtEnd left → IfSome known (λ input. bytes ≡ trim input)
+at-end : (known left : Option (List ℕ)) (bytes : List ℕ) → Consumes (option_map clip_lines known) left bytes → IsAtEnd left → IfSome known (λ input. bytes ≡ clip_lines input)
 at-end None left bytes h end = tt
 at-end (Some input) None bytes h end = absurd h
 at-end (Some input) (Some rest) bytes h end = sym (h ∙ ap (λ xs. bytes ++ xs) end ∙ append-nil bytes)
 
 -- not more of its lines are refused than of the whole input
-refused-so_far : (fields : List Field) (known left : Option (List ℕ)) (bytes : List ℕ) → Consumes (option_map trim known) left bytes → AreWholeLines bytes ⊎ IsAtEnd left
+refused-so_far : (fields : List Field) (known left : Option (List ℕ)) (bytes : List ℕ) → Consumes (option_map clip_lines known) left bytes → AreWholeLines bytes ⊎ IsAtEnd left
     → IfSome known (λ input. length (refused fields bytes) ≤ length (refused fields input))
 refused-so_far fields None left bytes h ends = tt
 refused-so_far fields (Some input) None bytes h ends = absurd h
@@ -110,7 +110,7 @@ module _ {R : Type 0} (fields : List Field) (q : TreeForm) (known : Option (List
       record {
         bytes = s.bytes ++ new.round;
         stands = all-rounds behind;
-        left = Consumes-trans (option_map trim known) old.left new.left s.bytes new.round s.left given.left;
+        left = Consumes-trans (option_map clip_lines known) old.left new.left s.bytes new.round s.left given.left;
         count = (let c = s.count in let g = given.given in omega (arith, c, g, length-append s.bytes new.round));
         ends = ends-after s.bytes new given.feed;
         within = few;
@@ -131,12 +131,12 @@ less-left old new false moved = let g = (moved.none refl).given in omega (arith,
 
 -- before the first round
 pub no-round : {R : Type 0} (fields : List Field) (q : TreeForm) (known : Option (List ℕ)) (limit : ℕ) (rounds : RoundsState R) (partial : PartialState)
-    → rounds.left ≡ option_map trim known → rounds.given ≡ 0 → StandsFor fields q partial [] → StandsForRounds fields q known limit rounds partial
+    → rounds.left ≡ option_map clip_lines known → rounds.given ≡ 0 → StandsFor fields q partial [] → StandsForRounds fields q known limit rounds partial
 no-round fields q known limit rounds partial left given stands =
     record {
       bytes = [];
       stands = record { pieces = []; stands = stands; cut = record { in_order = λ k lt. absurd (omega (arith, lt)); joined = refl; feeds = tt } };
-      left = subst (λ l. Consumes (option_map trim known) l []) (sym left) (Consumes-nil (option_map trim known));
+      left = subst (λ l. Consumes (option_map clip_lines known) l []) (sym left) (Consumes-nil (option_map clip_lines known));
       count = given;
       ends = inl (inl refl);
       within = (let r = stands.refused in omega (arith, r));
@@ -190,7 +190,7 @@ stops-there fields q known limit most old new found partial (TooManyRefused n) s
     let given = moved.round is in
     let whole = whole-before s.bytes old new found moved is s.ends in
     let so_far = length (refused fields (s.bytes ++ new.round)) in
-    let left = Consumes-trans (option_map trim known) old.left new.left s.bytes new.round s.left given.left in
+    let left = Consumes-trans (option_map clip_lines known) old.left new.left s.bytes new.round s.left given.left in
     let more : n < so_far = omega (arith, h.1, refused-of-input fields q partial s.bytes s.stands, refused-both fields s.bytes new.round whole) in
     (h.0, above known (λ input. length (refused fields input)) n so_far more (refused-so_far fields known new.left (s.bytes ++ new.round) left (end-after s.bytes new given.last given.feed)))
 

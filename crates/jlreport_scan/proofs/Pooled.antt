@@ -15,7 +15,7 @@ use Rattle.query_plan.specs.Planned.{PlannedQuery}
 use Rattle.tables.specs.declared.job.Job.{Job}
 use Rattle.tables.specs.declared.partial.Partial.{Partial}
 use Rattle.tables.specs.Laws.{means_lawful_from}
-use Rattle.tables.specs.Means.{Mean, both, indexed, indexed_from, mean, mean_at, mean_from, meaning}
+use Rattle.tables.specs.Means.{Denotation, both, indexed, indexed_from, mean, mean_at, mean_from, meaning}
 use Rattle.tables.specs.Partials.{StandsFor, StandsForInput, one_piece}
 use Rattle.tables.specs.Pieces.{IndexedPiece, IsCutInto, all_lines, refused_within}
 use Rattle.tables.specs.States.{PartialState}
@@ -79,7 +79,7 @@ pub refused-whole : (front : PartialState) (p : PlannedQuery) (first : ℕ) (b :
 refused-whole front p first b ps n limit outcome partial is d =
     let whole = subst (DecidesBehind front p first b ps n limit) is d in
     let laws = means_lawful_from p.fields p.query first b ps in
-    let count : partial.refused ≡ front.refused + weights_of p b ps n = ap (λ (m : Mean). m.refused) whole.0 ∙ ap (λ k. front.refused + k) (total_weight laws n) in
+    let count : partial.refused ≡ front.refused + weights_of p b ps n = ap (λ (m : Denotation). m.refused) whole.0 ∙ ap (λ k. front.refused + k) (total_weight laws n) in
     let few = whole.1 in
     (count, omega (arith, count, few))
 

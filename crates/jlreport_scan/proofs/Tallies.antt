@@ -9,7 +9,7 @@ use Rattle.semantics.specs.Values.{Datum}
 use Rattle.semantics.specs.Columns.{Field}
 use Rattle.semantics.specs.declared.line_fault.LineFault.{LineFault}
 use Rattle.semantics.specs.Lines.{line_feed, lines, without_empty_last}
-use Rattle.semantics.specs.Records.{taken, answers, refused}
+use Rattle.semantics.specs.Records.{decode_line, answers, refused}
 use Rattle.semantics.specs.Syntax.{TreeForm}
 use Rattle.tables.specs.Partials.{StandsForInput}
 use Rattle.tables.specs.Pieces.{IndexedPiece, all_lines, refused_within}
@@ -47,7 +47,7 @@ length-lines (x ∷ bytes) = either-le (x == line_feed) x (slice_split (λ b. b 
 
 -- the faults of lines, without their numbers
 abbrev pub faults_of : List Field → List (List ℕ) → List LineFault
-faults_of fields ls = filter_map result_err (map (taken fields) ls)
+faults_of fields ls = filter_map result_err (map (decode_line fields) ls)
 
 numbered : (n : ℕ) (rs : List (Result (List Datum) LineFault)) → length {A = ℕ × LineFault} (filter_map (λ p. option_map (λ fault. (p.0, fault)) (result_err p.1)) (enumerate_from n rs)) ≡ length (filter_map result_err rs)
 numbered n [] = refl
@@ -58,7 +58,7 @@ length-refused : (fields : List Field) (input : List ℕ) → length (refused fi
 length-refused fields input = numbered 1 (answers fields input)
 
 faults-append : (fields : List Field) (xs ys : List (List ℕ)) → faults_of fields (xs ++ ys) ≡ faults_of fields xs ++ faults_of fields ys
-faults-append fields xs ys = ap (filter_map result_err) (map-append (taken fields) xs ys) ∙ filter_map-append result_err (map (taken fields) xs) (map (taken fields) ys)
+faults-append fields xs ys = ap (filter_map result_err) (map-append (decode_line fields) xs ys) ∙ filter_map-append result_err (map (decode_line fields) xs) (map (decode_line fields) ys)
 
 pub length-within : (fields : List Field) (pieces : List IndexedPiece) → length (refused_within fields pieces) ≡ length (faults_of fields (all_lines pieces))
 length-within fields [] = refl
@@ -87,7 +87,7 @@ few-faults (Err fault ∷ rs) = omega (arith, few-faults rs)
 -- an input has at most as many refused lines as bytes
 pub few-refused : (fields : List Field) (input : List ℕ) → length (refused fields input) ≤ length input
 few-refused fields input =
-    omega (arith, length-refused fields input, few-faults (map (taken fields) (lines input)), length-map (lines input) (taken fields), length-lines input)
+    omega (arith, length-refused fields input, few-faults (map (decode_line fields) (lines input)), length-map (lines input) (decode_line fields), length-lines input)
 
 -- ---- the numbers of a result over an input
 

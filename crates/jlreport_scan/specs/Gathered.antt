@@ -1,7 +1,7 @@
 -- The result of a query over all that a reader gives.
 use Rattle.std.specs.Prelude.{◌≡◌, ℕ, List, Option, IfSome, unwrap_or}
 use Rattle.semantics.specs.Columns.{Field}
-use Rattle.lines.specs.Trim.{trim}
+use Rattle.lines.specs.Trim.{clip_lines}
 use Rattle.semantics.specs.Syntax.{TreeForm}
 use Rattle.tables.specs.Partials.{StandsForInput}
 use Rattle.tables.specs.States.{PartialState}
@@ -10,7 +10,7 @@ use Rattle.tables.specs.States.{PartialState}
 pub record IsWhole (fields : List Field) (q : TreeForm) (known : Option (List ℕ)) (partial : PartialState) : Type 0 where
   pub bytes : List ℕ
   pub stands : StandsForInput fields q partial bytes
-  pub trimmed : IfSome known (λ input. bytes ≡ trim input)
+  pub trimmed : IfSome known (λ input. bytes ≡ clip_lines input)
 
 -- where there is no limit, the greatest number of 64 bits stands for it
 abbrev pub limit_number : Option ℕ → ℕ

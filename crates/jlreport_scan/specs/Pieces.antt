@@ -7,7 +7,7 @@ use Rattle.semantics.specs.Columns.{Field}
 use Rattle.lines.specs.declared.pieces.Piece.{Piece}
 use Rattle.lines.specs.Pieces.{AreWholeLines}
 use Rattle.lines.specs.Rounds.{HasMoved, RoundState, RoundsState}
-use Rattle.lines.specs.Trim.{trim}
+use Rattle.lines.specs.Trim.{clip_lines}
 use Rattle.pool.specs.declared.laws.Outcome.{Outcome}
 use Rattle.pool.specs.declared.laws.Outcome.TheVariants.{Whole, Over}
 use Rattle.pool.specs.Holding.{Holding}
@@ -40,7 +40,7 @@ pub record StandsBehind (fields : List Field) (q : TreeForm) (before : PartialSt
 pub record StandsForRounds {R : Type 0} (fields : List Field) (q : TreeForm) (known : Option (List ℕ)) (limit : ℕ) (rounds : RoundsState R) (partial : PartialState) : Type 0 where
   pub bytes : List ℕ
   pub stands : StandsForInput fields q partial bytes
-  pub left : Consumes (option_map trim known) rounds.left bytes
+  pub left : Consumes (option_map clip_lines known) rounds.left bytes
   pub count : rounds.given ≡ length bytes
   pub ends : AreWholeLines bytes ⊎ (rounds.over ≡ true)
   pub within : partial.refused ≤ limit

@@ -8,7 +8,7 @@ use lines::{Piece, cut};
 use std::alloc::{AllocError, Global};
 
 /// The most pieces that an input is cut into.
-const MOST_PIECES: usize = 1_048_576;
+const MAX_PIECES: usize = 1_048_576;
 
 /// The pieces of an input, each of `piece` bytes or more but perhaps the last. Where these would be
 /// more than 1,048,576 pieces, they are longer.
@@ -20,5 +20,5 @@ pub(crate) fn pieces_of(alloc: Global, input: &[u8], piece: usize) -> Result<Vec
     ensures cut { IfOk result (λ pieces. IsCutInto input.now (indexed input.now pieces.items)) }
     ensures lines { IfOk result (λ pieces. all_lines (indexed input.now pieces.items) ≡ lines input.now) }
 {
-    cut(alloc, input, piece.max(input.len() / MOST_PIECES + 1))
+    cut(alloc, input, piece.max(input.len() / MAX_PIECES + 1))
 }

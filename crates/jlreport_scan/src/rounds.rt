@@ -11,7 +11,7 @@ ghost use Rattle.jlreport_scan.specs.Pieces.{IsAhead, IsTaken, StandsBehind, mos
 use crate::fault::GatherFault;
 use crate::working::{Worked, round_among, within_limit};
 use jlreport_cli::Options;
-use lines::{ReadFault, Round, Rounds, Waiter};
+use lines::{Demand, ReadFault, Round, Rounds};
 use pool::{Book, Share};
 use query_plan::Plan;
 use std::alloc::Global;
@@ -206,7 +206,7 @@ fn work_ahead<L: Ledger + Send + Sync, R: Read + Drop + Send, H: Threads + Wait 
 }
 
 /// Reads on to the next round, which ends early where it is waited for, and hands the input back.
-fn read_on<R: Read + Drop, W: Waiter>(
+fn read_on<R: Read + Drop, W: Demand>(
     rounds: Rounds<R>,
     waiter: &W,
 ) -> (Result<bool, ReadFault>, Rounds<R>)

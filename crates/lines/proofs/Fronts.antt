@@ -7,7 +7,7 @@ use Rattle.std.specs.Result.{result_err, result_ok}
 use Rattle.semantics.specs.Values.{Datum}
 use Rattle.semantics.specs.Columns.{Field}
 use Rattle.semantics.specs.declared.line_fault.LineFault.{LineFault}
-use Rattle.semantics.specs.Records.{answers, good, refused, taken}
+use Rattle.semantics.specs.Records.{answers, valid_records, refused, decode_line}
 use Rattle.semantics.specs.Lines.{line_feed, lines}
 use Rattle.lines.specs.Pieces.{AreWholeLines, EndsInFeed}
 use Rattle.lines.proofs.Splits.{lines-append}
@@ -20,9 +20,9 @@ lines-front front rest e =
     ∙ ap (λ xs. lines xs ++ lines rest) (sym e.is)
 
 answers-front : (fields : List Field) (front rest : List ℕ) → EndsInFeed front → answers fields (front ++ rest) ≡ answers fields front ++ answers fields rest
-answers-front fields front rest e = ap (map (taken fields)) (lines-front front rest e) ∙ map-append (taken fields) (lines front) (lines rest)
+answers-front fields front rest e = ap (map (decode_line fields)) (lines-front front rest e) ∙ map-append (decode_line fields) (lines front) (lines rest)
 
-good-front : (fields : List Field) (front rest : List ℕ) → EndsInFeed front → good fields (front ++ rest) ≡ good fields front ++ good fields rest
+good-front : (fields : List Field) (front rest : List ℕ) → EndsInFeed front → valid_records fields (front ++ rest) ≡ valid_records fields front ++ valid_records fields rest
 good-front fields front rest e = ap (filter_map result_ok) (answers-front fields front rest e) ∙ filter_map-append result_ok (answers fields front) (answers fields rest)
 
 -- ---- numbers
@@ -58,7 +58,7 @@ refused-front : (fields : List Field) (front rest : List ℕ) → EndsInFeed fro
 refused-front fields front rest e =
     ap (refused_from 1) (answers-front fields front rest e)
     ∙ refused_from-append 1 (answers fields front) (answers fields rest)
-    ∙ ap (λ m. refused fields front ++ refused_from m (answers fields rest)) (let n : 1 + length (answers fields front) ≡ length (lines front) + 1 = omega (arith, length-map (lines front) (taken fields)) in n)
+    ∙ ap (λ m. refused fields front ++ refused_from m (answers fields rest)) (let n : 1 + length (answers fields front) ≡ length (lines front) + 1 = omega (arith, length-map (lines front) (decode_line fields)) in n)
     ∙ ap (λ ls. refused fields front ++ ls) (refused_from-shift (length (lines front)) 1 (answers fields rest))
 
 -- ---- a front of no bytes, or one that ends in a line feed
@@ -71,8 +71,8 @@ pub lines-whole_lines : (front rest : List ℕ) → AreWholeLines front → line
 lines-whole_lines front rest (inl none) = ap (λ bytes. lines (bytes ++ rest)) none ∙ ap (λ bytes. lines bytes ++ lines rest) (sym none)
 lines-whole_lines front rest (inr feed) = lines-front front rest feed
 
-pub good-whole_lines : (fields : List Field) (front rest : List ℕ) → AreWholeLines front → good fields (front ++ rest) ≡ good fields front ++ good fields rest
-good-whole_lines fields front rest (inl none) = ap (λ bytes. good fields (bytes ++ rest)) none ∙ ap (λ bytes. good fields bytes ++ good fields rest) (sym none)
+pub good-whole_lines : (fields : List Field) (front rest : List ℕ) → AreWholeLines front → valid_records fields (front ++ rest) ≡ valid_records fields front ++ valid_records fields rest
+good-whole_lines fields front rest (inl none) = ap (λ bytes. valid_records fields (bytes ++ rest)) none ∙ ap (λ bytes. valid_records fields bytes ++ valid_records fields rest) (sym none)
 good-whole_lines fields front rest (inr feed) = good-front fields front rest feed
 
 pub refused-whole_lines : (fields : List Field) (front rest : List ℕ) → AreWholeLines front

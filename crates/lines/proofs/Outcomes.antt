@@ -8,7 +8,7 @@ use Rattle.std.proofs.lemmas.Bool.{ltb-true}
 use Rattle.serde_json.specs.Data as json
 use Rattle.serde_json.specs.Data.{Data}
 use Rattle.semantics.specs.Values.{Datum}
-use Rattle.semantics.specs.Records.{Fits, all_taken, data_taken, datum_taken, max_line_len, member_of, reading, record_of, taken}
+use Rattle.semantics.specs.Records.{Fits, all_taken, data_taken, datum_taken, max_line_len, member_of, reading, record_of, decode_line}
 use Rattle.semantics.specs.Columns.{Field}
 use Rattle.semantics.specs.declared.line_fault.LineFault.{LineFault}
 use Rattle.semantics.specs.declared.line_fault.LineFault.TheVariants.{TooLong, NoJson, NoObject, BadValue}
@@ -67,7 +67,7 @@ unless_long-fits fields true value r e = cc
 unless_long-fits fields false value r e = record_of-fits fields value r e
 
 -- the record of a line fits the schema
-pub taken-fits : (fields : List Field) (line : List ℕ) (r : List Datum) → taken fields line ≡ Ok r → Fits fields r
+pub taken-fits : (fields : List Field) (line : List ℕ) (r : List Datum) → decode_line fields line ≡ Ok r → Fits fields r
 taken-fits fields line r e = unless_long-fits fields (nat_lt max_line_len (length line)) (reading line) r e
 
 -- ---- a bad value
@@ -114,5 +114,5 @@ unless_long-within fields true value place e = cc
 unless_long-within fields false value place e = record_of-within fields value place e
 
 -- a bad value of a line is that of a column
-pub taken-bad_value : (fields : List Field) (line : List ℕ) (place : ℕ) → taken fields line ≡ Err (BadValue place) → place < length fields
+pub taken-bad_value : (fields : List Field) (line : List ℕ) (place : ℕ) → decode_line fields line ≡ Err (BadValue place) → place < length fields
 taken-bad_value fields line place e = unless_long-within fields (nat_lt max_line_len (length line)) (reading line) place e

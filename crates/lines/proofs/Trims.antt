@@ -6,10 +6,10 @@ use Rattle.std.proofs.lemmas.Bool.Decides.{nat_tests}
 use Rattle.std.specs.List.{onto_first, enumerate_from}
 use Rattle.semantics.specs.Columns.{Field}
 use Rattle.semantics.specs.Lines.{line_feed, lines, without_empty_last}
-use Rattle.semantics.specs.Records.{answers, good, refused, max_line_len, reading, record_of, taken}
+use Rattle.semantics.specs.Records.{answers, valid_records, refused, max_line_len, reading, record_of, decode_line}
 use Rattle.semantics.specs.declared.line_fault.LineFault.TheVariants.{TooLong}
 use Rattle.std.specs.Result.{result_err, result_ok}
-use Rattle.lines.specs.Trim.{parts, trim_from, trimmed_len, trim}
+use Rattle.lines.specs.Trim.{parts, trim_from, trimmed_len, clip_lines}
 
 abbrev is_feed : ℕ → Bool
 is_feed b = b == line_feed
@@ -88,19 +88,19 @@ lines-trim_from : (most : ℕ) (s : List ℕ) → 0 < most → lines (trim_from 
 lines-trim_from most s h =
     ap without_empty_last (parts-trim_from most 0 s ∙ cut_parts-all most (parts s)) ∙ without_empty_last-cut most (parts s) h
 
-pub parts-trim : (s : List ℕ) → parts (trim s) ≡ map (take trimmed_len) (parts s)
+pub parts-trim : (s : List ℕ) → parts (clip_lines s) ≡ map (take trimmed_len) (parts s)
 parts-trim s = parts-trim_from trimmed_len 0 s ∙ cut_parts-all trimmed_len (parts s)
 
-pub lines-trim : (s : List ℕ) → lines (trim s) ≡ map (take trimmed_len) (lines s)
+pub lines-trim : (s : List ℕ) → lines (clip_lines s) ≡ map (take trimmed_len) (lines s)
 lines-trim s = lines-trim_from trimmed_len s (omega arith)
 
-pub count-trim : (s : List ℕ) → length (lines (trim s)) ≡ length (lines s)
+pub count-trim : (s : List ℕ) → length (lines (clip_lines s)) ≡ length (lines s)
 count-trim s = ap length (lines-trim s) ∙ length-map (lines s) (take trimmed_len)
 
 -- ---- what is taken of a cut line
 
 taken_by_length : (fields : List Field) (line : List ℕ) (is_long : Bool) → nat_lt max_line_len (length line) ≡ is_long
-    → taken fields (take trimmed_len line) ≡ taken fields line
+    → decode_line fields (take trimmed_len line) ≡ decode_line fields line
 taken_by_length fields line true h =
     let long : max_line_len < length line = grind (arith, nat_tests) in
     let cut : length (take trimmed_len line) ≡ trimmed_len = omega (arith, length-take trimmed_len line) in
@@ -109,20 +109,20 @@ taken_by_length fields line true h =
     ∙ sym (ap (λ b. cond b (Err TooLong) (record_of fields (reading line))) h)
 taken_by_length fields line false h =
     let short : length line ≤ trimmed_len = grind (arith, nat_tests) in
-    ap (taken fields) (take_all trimmed_len line short)
+    ap (decode_line fields) (take_all trimmed_len line short)
 
-taken-cut : (fields : List Field) (line : List ℕ) → taken fields (take trimmed_len line) ≡ taken fields line
+taken-cut : (fields : List Field) (line : List ℕ) → decode_line fields (take trimmed_len line) ≡ decode_line fields line
 taken-cut fields line = taken_by_length fields line (nat_lt max_line_len (length line)) refl
 
-all_taken-cut : (fields : List Field) (ls : List (List ℕ)) → map (taken fields) (map (take trimmed_len) ls) ≡ map (taken fields) ls
+all_taken-cut : (fields : List Field) (ls : List (List ℕ)) → map (decode_line fields) (map (take trimmed_len) ls) ≡ map (decode_line fields) ls
 all_taken-cut fields [] = refl
 all_taken-cut fields (line ∷ ls) = cc (taken-cut fields line, all_taken-cut fields ls)
 
-answers-trim : (fields : List Field) (s : List ℕ) → answers fields (trim s) ≡ answers fields s
-answers-trim fields s = ap (map (taken fields)) (lines-trim s) ∙ all_taken-cut fields (lines s)
+answers-trim : (fields : List Field) (s : List ℕ) → answers fields (clip_lines s) ≡ answers fields s
+answers-trim fields s = ap (map (decode_line fields)) (lines-trim s) ∙ all_taken-cut fields (lines s)
 
-pub good-trim : (fields : List Field) (s : List ℕ) → good fields (trim s) ≡ good fields s
+pub good-trim : (fields : List Field) (s : List ℕ) → valid_records fields (clip_lines s) ≡ valid_records fields s
 good-trim fields s = ap (filter_map result_ok) (answers-trim fields s)
 
-pub refused-trim : (fields : List Field) (s : List ℕ) → refused fields (trim s) ≡ refused fields s
+pub refused-trim : (fields : List Field) (s : List ℕ) → refused fields (clip_lines s) ≡ refused fields s
 refused-trim fields s = ap (λ found. filter_map (λ p. option_map (λ fault. (p.0, fault)) (result_err p.1)) (enumerate_from 1 found)) (answers-trim fields s)

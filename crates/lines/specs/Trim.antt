@@ -21,5 +21,5 @@ abbrev pub trimmed_len : ℕ
 trimmed_len = max_line_len + 1
 
 -- the input with each line cut to so many bytes; its line feeds stay
-abbrev pub trim : List ℕ → List ℕ
-trim input = trim_from trimmed_len 0 input
+abbrev pub clip_lines : List ℕ → List ℕ
+clip_lines input = trim_from trimmed_len 0 input

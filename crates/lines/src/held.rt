@@ -4,14 +4,14 @@ ghost use Rattle.lines.specs.Holding.{IsHeld, left_with, open_part};
 ghost use Rattle.lines.specs.Pieces.{NoFeedBetween};
 ghost use Rattle.lines.specs.Trim.{trimmed_len};
 
-use crate::holding::Held;
+use crate::holding::LineBuffer;
 use memchr::{memchr, memrchr};
 
 /// How many bytes of a line are kept: it is too long already.
 pub(crate) const TRIMMED_LEN: usize = 1_048_577;
 
 /// Passes over the lines that end among the next `window` bytes. It answers whether there is one.
-pub(crate) fn pass(held: &mut Held, window: usize) -> bool
+pub(crate) fn skip_lines(held: &mut LineBuffer, window: usize) -> bool
     requires held { IsHeld held.old }
     requires short { window ≤ trimmed_len }
     requires within { held.old.cut + window ≤ held.old.filled }
@@ -36,7 +36,7 @@ pub(crate) fn pass(held: &mut Held, window: usize) -> bool
 }
 
 /// Throws away what is too much of an open line, and passes over the line where it ends.
-pub(crate) fn throw(held: &mut Held)
+pub(crate) fn discard_excess(held: &mut LineBuffer)
     requires held { IsHeld held.old }
     requires full { held.old.full ≡ true }
     requires long { held.old.cut + trimmed_len < held.old.filled }
@@ -62,7 +62,7 @@ pub(crate) fn throw(held: &mut Held)
 
 /// Passes over lines, and throws away what is too much of a line, until few bytes are open or the whole lines
 /// come near to `size` bytes.
-pub(crate) fn settle(held: &mut Held, size: usize)
+pub(crate) fn scan_lines(held: &mut LineBuffer, size: usize)
     requires held { IsHeld held.old }
     requires within { held.old.cut ≤ size }
     ensures held { IsHeld held.new }
@@ -75,15 +75,15 @@ pub(crate) fn settle(held: &mut Held, size: usize)
 {
     while held.cut + TRIMMED_LEN < size && held.filled - held.cut > TRIMMED_LEN {
         if held.full {
-            throw(held);
-        } else if !pass(held, TRIMMED_LEN) {
+            discard_excess(held);
+        } else if !skip_lines(held, TRIMMED_LEN) {
             held.full = true;
         }
     }
 }
 
 /// Lets go the whole lines in front.
-pub(crate) fn release(held: &mut Held)
+pub(crate) fn release(held: &mut LineBuffer)
     requires held { IsHeld held.old }
     ensures held { IsHeld held.new }
     ensures len { vec_len held.new.buffer ≡ vec_len held.old.buffer }
@@ -98,7 +98,7 @@ pub(crate) fn release(held: &mut Held)
 }
 
 /// Lets go all that is held.
-pub(crate) fn let_go(held: &mut Held)
+pub(crate) fn let_go(held: &mut LineBuffer)
     ensures buffer { held.new.buffer ≡ held.old.buffer }
     ensures cut { held.new.cut ≡ 0 }
     ensures filled { held.new.filled ≡ 0 }

@@ -2,7 +2,7 @@
 
 /// The first `cut` bytes of the buffer are whole lines, and up to `filled` follow the bytes behind them.
 #[derive(Drop)]
-pub(crate) struct Held {
+pub(crate) struct LineBuffer {
     pub(crate) buffer: Vec<u8>,
     pub(crate) cut: usize,
     pub(crate) filled: usize,

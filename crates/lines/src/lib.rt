@@ -20,7 +20,7 @@ pub use fault::ReadFault;
 pub use laws::{front_law, trim_law};
 pub use pieces::Piece;
 pub use reading::{RecordReader, read_record};
-pub use rounds::{Round, Rounds, Waiter};
+pub use rounds::{Demand, Round, Rounds};
 pub use semantics::{LineFault, LineRefusal};
 pub use splitting::{Lines, lines_of};
 pub use tree::read_by_tree;

@@ -3,11 +3,11 @@ ghost use Rattle.std.specs.Prelude.{◌≡◌, [], ◌+◌, ◌-◌, ◌<◌, �
 ghost use Rattle.std.specs.Io.KnownBytes.{Consumes, IsAtEnd, Keeps};
 ghost use Rattle.lines.specs.Holding.{IsBetween, IsHeld, left_behind, left_of, open_part, whole_lines};
 ghost use Rattle.lines.specs.Rounds.{HasCause, HasMoved, HasRead};
-ghost use Rattle.lines.specs.Trim.{trim, trimmed_len};
+ghost use Rattle.lines.specs.Trim.{clip_lines, trimmed_len};
 
 use crate::fault::ReadFault;
-use crate::held::{TRIMMED_LEN, let_go, pass, release, settle};
-use crate::holding::Held;
+use crate::held::{TRIMMED_LEN, let_go, release, scan_lines, skip_lines};
+use crate::holding::LineBuffer;
 use crate::source::Source;
 use std::alloc::{AllocError, Global};
 use std::io::Read;
@@ -16,24 +16,24 @@ use std::mem;
 use std::sync::atomic::{AtomicBool, Ordering};
 
 /// The room for bytes that are read beyond a round, so that no read has to be small.
-const SPARE: usize = 65_536;
+const READ_SLACK: usize = 65_536;
 
 /// By how many bytes a buffer gets longer, until it has its length.
-const STEP: usize = 1_048_576;
+const GROWTH_STEP: usize = 1_048_576;
 
 /// How many bytes the first round has, about, where more may be held, so that work begins soon; and how many a round
 /// has about, at least, that ends early, because it is waited for.
-const FIRST: usize = 8_388_608;
+const EARLY_BLOCK_LEN: usize = 8_388_608;
 
 /// Whoever a round is read for.
 ///
 /// Example: a thread that works on the round before, and stores `true` in an `AtomicBool` when it is done.
-pub trait Waiter {
+pub trait Demand {
     /// Whether they have nothing else to do until the round is there.
     fn is_waiting(&self) -> bool;
 }
 
-impl Waiter for AtomicBool {
+impl Demand for AtomicBool {
     /// Whether `true` is stored.
     fn is_waiting(&self) -> bool {
         self.load(Ordering::Relaxed)
@@ -43,7 +43,7 @@ impl Waiter for AtomicBool {
 /// Nobody, who never waits.
 struct Nobody;
 
-impl Waiter for Nobody {
+impl Demand for Nobody {
     fn is_waiting(&self) -> bool {
         false
     }
@@ -64,7 +64,7 @@ fn make_room(buffer: &mut Vec<u8>, filled: usize, most: usize)
     if filled < buffer.len() {
         return;
     }
-    match buffer.resize(most.min(filled.saturating_add(STEP)), 0) {
+    match buffer.resize(most.min(filled.saturating_add(GROWTH_STEP)), 0) {
         Ok(()) => {}
         Err(_) => unreachable!(),
     }
@@ -73,7 +73,7 @@ fn make_room(buffer: &mut Vec<u8>, filled: usize, most: usize)
 /// One read behind what is held, into a buffer of at most `most` bytes. It answers how many bytes the reader gave.
 fn read_more<R: Read + Drop>(
     source: &mut Source<R>,
-    held: &mut Held,
+    held: &mut LineBuffer,
     most: usize,
 ) -> Result<usize, ReadFault>
     requires held { IsHeld held.old }
@@ -104,7 +104,7 @@ fn read_more<R: Read + Drop>(
 /// answers whether the input is at its end.
 fn fill<R: Read + Drop>(
     source: &mut Source<R>,
-    held: &mut Held,
+    held: &mut LineBuffer,
     aim: usize,
     size: usize,
 ) -> Result<bool, ReadFault>
@@ -129,23 +129,23 @@ fn fill<R: Read + Drop>(
         → (held.new.filled ≤ held.new.cut + trimmed_len) × (held.new.filled ≤ size)) }
     ensures whole { IfOk result (λ ended. IsFalse ended → aim ≤ held.new.cut + trimmed_len) }
 {
-    settle(held, aim);
+    scan_lines(held, aim);
     while held.cut + TRIMMED_LEN < aim {
-        let count = read_more(source, held, size + SPARE)?;
+        let count = read_more(source, held, size + READ_SLACK)?;
         if count == 0 {
             return Ok(true);
         }
-        settle(held, aim);
+        scan_lines(held, aim);
     }
     Ok(false)
 }
 
-/// Reads as `fill` does, first for about `FIRST` bytes and then for more, until the whole lines come near to `aim` bytes,
-/// or are waited for, or the input is at its end. It answers whether the input is at its end, and to how many bytes the
-/// whole lines were to come near at last.
-fn fill_for<R: Read + Drop, W: Waiter>(
+/// Reads as `fill` does, first for about `EARLY_BLOCK_LEN` bytes and then for more, until the whole lines come near to
+/// `aim` bytes, or are waited for, or the input is at its end. It answers whether the input is at its end, and to how
+/// many bytes the whole lines were to come near at last.
+fn fill_for<R: Read + Drop, W: Demand>(
     source: &mut Source<R>,
-    held: &mut Held,
+    held: &mut LineBuffer,
     aim: usize,
     size: usize,
     waiter: &W,
@@ -173,10 +173,10 @@ fn fill_for<R: Read + Drop, W: Waiter>(
         → (held.new.filled ≤ held.new.cut + trimmed_len) × (held.new.filled ≤ size)) }
     ensures whole { IfOk result (λ r. IsFalse r.0 → r.1 ≤ held.new.cut + trimmed_len) }
 {
-    let mut near = aim.min(held.cut.max(FIRST));
+    let mut near = aim.min(held.cut.max(EARLY_BLOCK_LEN));
     let mut ended = fill(source, held, near, size)?;
     while !ended && near < aim && !waiter.is_waiting() {
-        near = aim.min(near.saturating_add(STEP));
+        near = aim.min(near.saturating_add(GROWTH_STEP));
         ended = fill(source, held, near, size)?;
     }
     Ok((ended, near))
@@ -184,9 +184,9 @@ fn fill_for<R: Read + Drop, W: Waiter>(
 
 /// Lets go the round before, and holds the next round in front, of about `aim` bytes and at most `size`. It answers
 /// whether it is the last.
-fn turn<R: Read + Drop, W: Waiter>(
+fn read_block<R: Read + Drop, W: Demand>(
     source: &mut Source<R>,
-    held: &mut Held,
+    held: &mut LineBuffer,
     aim: usize,
     size: usize,
     waiter: &W,
@@ -219,7 +219,7 @@ fn turn<R: Read + Drop, W: Waiter>(
         held.cut = held.filled;
     } else if !held.full {
         let window = held.filled.min(near) - held.cut;
-        pass(held, window);
+        skip_lines(held, window);
     }
     Ok(ended)
 }
@@ -249,7 +249,7 @@ fn copy_front(to: &mut [u8], from: &[u8])
 }
 
 /// Goes on in another buffer of at most `most` bytes with what follows the whole lines, and gives up this one.
-fn trade(held: &mut Held, spare: Vec<u8>, most: usize) -> Vec<u8>
+fn swap_buffer(held: &mut LineBuffer, spare: Vec<u8>, most: usize) -> Vec<u8>
     requires cut { held.old.cut ≤ held.old.filled }
     requires filled { held.old.filled ≤ vec_len held.old.buffer }
     requires short { vec_len held.old.buffer ≤ most }
@@ -327,7 +327,7 @@ fn buffer_of(alloc: Global, size: usize) -> Result<Vec<u8>, AllocError>
     ensures empty { IfOk result (λ v. vec_len v ≡ 0) }
     ensures room { IfOk result (λ v. size + 65536 ≤ vec_capacity v) }
 {
-    match size.checked_add(SPARE) {
+    match size.checked_add(READ_SLACK) {
         Some(capacity) => Vec::with_capacity(alloc, capacity),
         None => Err(AllocError),
     }
@@ -343,7 +343,7 @@ fn buffer_of(alloc: Global, size: usize) -> Result<Vec<u8>, AllocError>
 /// of the long line, its line feed, and `ab` with its line feed, where it has one.
 pub struct Rounds<R: Read + Drop> {
     source: Source<R>,
-    held: Held,
+    held: LineBuffer,
     /// How many bytes the next round has, about.
     aim: usize,
     size: usize,
@@ -405,7 +405,7 @@ impl<R: Read + Drop> Rounds<R> {
         requires { trimmed_len < size }
         ensures { IfOk result (λ rounds. rounds ≡ record {
           reader = reader;
-          left = option_map trim (R.remaining reader);
+          left = option_map clip_lines (R.remaining reader);
           round = [];
           size = size;
           given = 0;
@@ -417,7 +417,7 @@ impl<R: Read + Drop> Rounds<R> {
         }) }
     {
         let buffer = buffer_of(alloc, size)?;
-        let held = Held {
+        let held = LineBuffer {
             buffer,
             cut: 0,
             filled: 0,
@@ -426,7 +426,7 @@ impl<R: Read + Drop> Rounds<R> {
         Ok(Rounds {
             source: Source::new(reader),
             held,
-            aim: size.min(FIRST),
+            aim: size.min(EARLY_BLOCK_LEN),
             size,
             given: 0,
             over: false,
@@ -456,7 +456,7 @@ impl<R: Read + Drop> Rounds<R> {
     /// # Errors
     ///
     /// As for [`Rounds::advance`].
-    pub fn advance_for<W: Waiter>(&mut self, waiter: &W) -> Result<bool, ReadFault>
+    pub fn advance_for<W: Demand>(&mut self, waiter: &W) -> Result<bool, ReadFault>
         ensures { HasMoved self.old result self.new }
     {
         if self.failed {
@@ -467,7 +467,7 @@ impl<R: Read + Drop> Rounds<R> {
             return Ok(false);
         }
         let (aim, size) = (self.aim, self.size);
-        match turn(&mut self.source, &mut self.held, aim, size, waiter) {
+        match read_block(&mut self.source, &mut self.held, aim, size, waiter) {
             Ok(ended) => {
                 self.aim = size;
                 if self.held.cut == 0 {
@@ -519,7 +519,7 @@ impl<R: Read + Drop> Rounds<R> {
             len: _,
             size,
         } = spare;
-        let buffer = trade(&mut self.held, buffer, size + SPARE);
+        let buffer = swap_buffer(&mut self.held, buffer, size + READ_SLACK);
         Round { buffer, len, size }
     }
 }

@@ -1,6 +1,6 @@
 //! Reading a line as a record by its tokens, without a tree of it.
 ghost use Rattle.std.specs.Prelude.{◌≡◌, ◌≤◌, Ok, IfSome, length};
-ghost use Rattle.semantics.specs.Records.{Fits, max_line_len, taken};
+ghost use Rattle.semantics.specs.Records.{Fits, max_line_len, decode_line};
 
 mod numerals;
 mod passing;
@@ -20,7 +20,7 @@ pub(crate) fn record_by_tokens(
     spare: &mut Spare,
 ) -> Option<Record>
     requires { length line.now ≤ max_line_len }
-    ensures ok { IfSome result (λ «record». taken schema.now line.now ≡ Ok «record») }
+    ensures ok { IfSome result (λ «record». decode_line schema.now line.now ≡ Ok «record») }
     ensures fits { IfSome result (λ «record». Fits schema.now «record») }
 {
     let text = simdutf8::compat::from_utf8(line).ok()?;

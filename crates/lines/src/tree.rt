@@ -3,7 +3,7 @@ ghost use Rattle.std.specs.Prelude.{◌≡◌, ◌≢◌, ◌<◌, ℕ, IfErr, I
 ghost use Rattle.serde_json.specs.Find.{get_member};
 ghost use Rattle.serde_json.specs.View.{members_view, view};
 ghost use Rattle.values.specs.Datum.{datum_of, data_of};
-ghost use Rattle.semantics.specs.Records.{Fits, IsRefusal, all_taken, data_taken, datum_taken, max_line_len, member_of, taken};
+ghost use Rattle.semantics.specs.Records.{Fits, IsRefusal, all_taken, data_taken, datum_taken, max_line_len, member_of, decode_line};
 ghost use Rattle.values.specs.Schema.{IsSchema, fields_of};
 
 use crate::reading::MAX_LINE_LEN;
@@ -21,8 +21,8 @@ use values::{Column, Kind, Record, Schema, Value};
 /// `Fault` with the first fault that the line has, or `Memory` where there was no memory to read it. A line that
 /// is too long is refused as `TooLong`, whatever memory there is.
 pub fn read_by_tree(alloc: Global, schema: &Schema, line: &[u8]) -> Result<Record, LineRefusal>
-    ensures ok { IfOk result (λ «record». taken schema.now line.now ≡ Ok «record») }
-    ensures refused { IfErr result (λ refusal. IsRefusal refusal (taken schema.now line.now)) }
+    ensures ok { IfOk result (λ «record». decode_line schema.now line.now ≡ Ok «record») }
+    ensures refused { IfErr result (λ refusal. IsRefusal refusal (decode_line schema.now line.now)) }
     ensures fits { IfOk result (λ «record». Fits schema.now «record») }
 
     // A line that is too long is not looked into, so its refusal never is for want of memory.

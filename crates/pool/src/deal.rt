@@ -13,7 +13,7 @@ ghost use Rattle.pool.specs.Dealing.{times};
 ghost use Rattle.crossbeam_deque.specs.Handles.{worker_deque, worker_flavor, worker_view, view as pass_view, IsPassOf};
 
 use crate::protocol::{Dealing, GiveOpen, GiveShut, LendOpen, LendShut, Seal, Taken, Within};
-use crate::source::Gap;
+use crate::source::CachePad;
 use crate::view::{Packed, Task, View};
 use crossbeam_deque::{Pass, Steal, Stealer, Worker};
 use std::alloc::Global;
@@ -25,13 +25,13 @@ pub type Deque = Worker<Packed, Global, View, Dealing>;
 
 /// The end of a deque that its own hand takes from.
 #[derive(Drop)]
-pub struct Own {
-    pub gap: Gap,
+pub struct LocalQueue {
+    pub gap: CachePad,
     pub worker: Deque,
     pub closed: bool,
 }
 
-impl Model for Own {
+impl Model for LocalQueue {
     ghost use Rattle.std.specs.Prelude.{◌≡◌};
     ghost use Rattle.pool.specs.Seen.{Owned};
     ghost use Rattle.pool.specs.Inside.Views.{owned_of, IsOwner};
@@ -46,13 +46,13 @@ impl Model for Own {
 
 /// The end of another hand's deque.
 #[derive(Drop)]
-pub struct Reach {
+pub struct StealHandle {
     pub thief: Stealer<Packed, Global, View, Dealing>,
     pub pass: Pass<Packed, View, Global>,
     pub closed: bool,
 }
 
-impl Model for Reach {
+impl Model for StealHandle {
     ghost use Rattle.std.specs.Prelude.{◌≡◌};
     ghost use Rattle.pool.specs.Seen.{Seen};
     ghost use Rattle.pool.specs.Inside.Views.{seen_of, IsThief};
@@ -65,7 +65,7 @@ impl Model for Reach {
     ghost invariant = { λ r. IsPassOf (stealer_deque r.thief) r.pass × (stealer_flavor r.thief ≡ 0) × IsThief (pass_view r.pass) r.closed };
 }
 
-impl Own {
+impl LocalQueue {
     /// The first number of the deque. None, where only end marks are left: from then on there is none for good.
     fn take(&mut self) -> Option<u32>
         requires { self.old.closed ≡ false }
@@ -84,7 +84,7 @@ impl Own {
     }
 }
 
-impl Reach {
+impl StealHandle {
     /// The first number of the deque, if this one try got it.
     fn take(&mut self) -> Option<u32>
         ensures { MatchOption result (self.new ≡ self.old) (λ x. Took self.old x self.new) }
@@ -127,8 +127,8 @@ pub struct Hand {
     number: usize,
     hands: usize,
     pieces: u32,
-    own: Own,
-    others: Vec<Reach>,
+    own: LocalQueue,
+    others: Vec<StealHandle>,
     spent: bool,
 }
 
@@ -159,7 +159,7 @@ impl Model for Hand {
 }
 
 /// One try at each, in turn, until one gives a number.
-fn steal(others: &mut Vec<Reach>) -> Option<u32>
+fn steal(others: &mut Vec<StealHandle>) -> Option<u32>
     ensures { Steals others.old.items result others.new.items }
 {
     for r in 0..others.len() {
@@ -172,7 +172,7 @@ fn steal(others: &mut Vec<Reach>) -> Option<u32>
 }
 
 /// The first of its own deque, unless it was found to have none before.
-fn own_first(own: &mut Own) -> Option<u32>
+fn own_first(own: &mut LocalQueue) -> Option<u32>
     ensures none { IfNone result (own.new ≡ now_closed own.old) }
     ensures some { IfSome result (λ x. (s : Seen) × Took own.old.seen x s × (own.new ≡ with_seen own.old s) × (own.old.closed ≡ false)) }
 {
@@ -204,7 +204,7 @@ impl Hand {
     }
 }
 
-impl Own {
+impl LocalQueue {
     /// The owner looks at what all other hands have of the deque, whether or not numbers are left there: with its own list, they hold no number more often than it was dealt, and each as often once no number is left.
     fn apart(&mut self, before: &mut [Hand], after: &mut [Hand])
         requires few { length before.old + length after.old < 64 }
@@ -234,7 +234,7 @@ impl Hand {
         self.pieces
     }
 
-    /// As `Own::apart`, at this hand's deque.
+    /// As `LocalQueue::apart`, at this hand's deque.
     fn apart(&mut self, before: &mut [Hand], after: &mut [Hand])
         requires few { length before.old + length after.old < 64 }
         requires count { self.old.own.made ≡ length before.old + length after.old + 1 }
@@ -303,7 +303,7 @@ pub fn settled(hands: &mut [Hand]) -> bool
 }
 
 /// A hand that has taken nothing.
-pub fn first_hand(number: usize, hands: usize, pieces: u32, own: Own, others: Vec<Reach>) -> Hand
+pub fn first_hand(number: usize, hands: usize, pieces: u32, own: LocalQueue, others: Vec<StealHandle>) -> Hand
     requires { IsHolding (new_holding number hands pieces own others.items) }
     ensures is { result ≡ new_holding number hands pieces own others.items }
     ensures holding { IsHolding result }
@@ -347,7 +347,7 @@ fn give_back(worker: &mut Deque, closed: bool) -> Pass<Packed, View, Global>
     worker.another::<GiveOpen>()
 }
 
-impl Reach {
+impl StealHandle {
     /// The owner of the deque takes in this hand's seat.
     #[cycle(compare)]
     fn lend(&mut self, worker: &mut Deque, others: &mut [Hand], more: &mut [Hand], place: usize)

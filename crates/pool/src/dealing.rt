@@ -10,7 +10,7 @@ ghost use Rattle.std.specs.declared.alloc.Global.{Global};
 ghost use mathlib.Core.Option.{some};
 ghost use lib.ListN.{get_elem?};
 
-use crate::deal::{Hand, Reach, first_hand};
+use crate::deal::{Hand, StealHandle, first_hand};
 use crate::growing::put_last;
 use crate::source::{Filling, Source};
 use std::alloc::{AllocError, Global};
@@ -19,7 +19,7 @@ use std::marker::Model;
 /// The seats that one hand has at the deques of the others.
 #[derive(Drop)]
 struct Round {
-    seats: Vec<Reach>,
+    seats: Vec<StealHandle>,
 }
 
 impl Model for Round {
@@ -40,13 +40,13 @@ impl Round {
         }
     }
 
-    fn push(&mut self, seat: Reach) -> Result<(), AllocError>
+    fn push(&mut self, seat: StealHandle) -> Result<(), AllocError>
         ensures { OnOk result (self.new ≡ self.old ++ seat ∷ []) }
     {
         put_last(&mut self.seats, seat)
     }
 
-    fn into_seats(self) -> Vec<Reach>
+    fn into_seats(self) -> Vec<StealHandle>
         ensures { result.items ≡ self }
     {
         let Round { seats } = self;

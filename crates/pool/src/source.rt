@@ -4,7 +4,7 @@ ghost use Rattle.pool.specs.Dealing.{dealt};
 ghost use Rattle.pool.specs.Seen.{Seen, Owned};
 ghost use Rattle.pool.specs.Inside.Views.{Offer, seated, offered, owned_first};
 
-use crate::deal::{Deque, Own, Reach};
+use crate::deal::{Deque, LocalQueue, StealHandle};
 use crate::protocol::{Fill, Mark, Seal, Seat};
 use crate::view::Packed;
 use std::alloc::{AllocError, Global};
@@ -15,12 +15,12 @@ const LINE: usize = 8;
 
 /// Room that nobody uses, taken before a deque is made. It keeps what the owner of one deque reads at each take off
 /// the line of the cache that the owner of the next one writes at each take.
-pub type Gap = Vec<u64>;
+pub type CachePad = Vec<u64>;
 
 /// A deque that is being filled. Contracts see it as its numbers.
 #[derive(Drop)]
 pub struct Filling {
-    gap: Gap,
+    gap: CachePad,
     worker: Deque,
 }
 
@@ -38,7 +38,7 @@ impl Model for Filling {
 
 #[derive(Drop)]
 pub struct Source {
-    gap: Gap,
+    gap: CachePad,
     worker: Deque,
     hands: usize,
 }
@@ -61,7 +61,7 @@ impl Filling {
     pub fn new(alloc: Global, room: usize) -> Result<Filling, AllocError>
         ensures { IfOk result (λ f. f ≡ []) }
     {
-        let gap = Gap::with_capacity(alloc, LINE)?;
+        let gap = CachePad::with_capacity(alloc, LINE)?;
         let Ok(worker) = Deque::fifo_as(alloc, room) else {
             return Err(AllocError);
         };
@@ -97,7 +97,7 @@ impl Filling {
 
 impl Source {
     /// A seat for the next hand in the round.
-    pub fn seat(&mut self) -> Result<Reach, AllocError>
+    pub fn seat(&mut self) -> Result<StealHandle, AllocError>
         requires { self.old.made < self.old.hands }
         ensures left { IfOk result (λ r. self.new ≡ offered self.old (self.old.made + 1)) }
         ensures seat { IfOk result (λ r. r ≡ seated self.old) }
@@ -106,7 +106,7 @@ impl Source {
             return Err(AllocError);
         };
         let pass = self.worker.another::<Seat>();
-        Ok(Reach {
+        Ok(StealHandle {
             thief,
             pass,
             closed: false,
@@ -114,7 +114,7 @@ impl Source {
     }
 
     /// The owner's own end, once each other hand has its seat.
-    pub fn own(self) -> Own
+    pub fn own(self) -> LocalQueue
         requires { self.made ≡ self.hands }
         ensures { result ≡ owned_first self }
     {
@@ -123,7 +123,7 @@ impl Source {
             worker,
             hands: _,
         } = self;
-        Own {
+        LocalQueue {
             gap,
             worker,
             closed: false,

@@ -12,7 +12,7 @@ use semantics::QueryFault;
 use std::alloc::Global;
 
 /// The most bytes of a query.
-const MOST_BYTES: usize = 65_536;
+const MAX_BYTES: usize = 65_536;
 
 /// Reads a query: the one that the text derives, ISO/IEC 9075-2 `<query specification>` with its
 /// `<order by clause>`, in the profile of `docs/LANGUAGE.md`.
@@ -40,7 +40,7 @@ pub fn parse(alloc: Global, text: &str) -> Result<Query, QueryFault>
     // A fault of the text is told, and no other, unless memory runs out.
     ensures told { (fault : QueryFault) → IsRefusalOf text.now fault → Refuses result fault }
 {
-    if text.len() > MOST_BYTES {
+    if text.len() > MAX_BYTES {
         return Err(QueryFault::OverLimit);
     }
     let tokens = match read_tokens(alloc, text) {

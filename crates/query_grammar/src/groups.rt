@@ -19,7 +19,7 @@ use query_lexer::{Sign, Token, Word};
 use std::alloc::Global;
 
 /// The most levels of GROUPING SETS in one another.
-const MOST_LEVELS: u32 = 16;
+const MAX_LEVELS: u32 = 16;
 
 /// An element of GROUP BY, with at most so many levels of GROUPING SETS in one another.
 #[cycle(group)]
@@ -114,8 +114,8 @@ fn elements(
     ensures shorter { IfOk result (λ x. length x.1.now < length tokens.now) }
 {
     let (distinct, rest) = set_quantifier(tokens);
-    let (first, rest) = group(alloc, rest, MOST_LEVELS)?;
-    let (all, rest) = more_groups(alloc, first, rest, MOST_LEVELS)?;
+    let (first, rest) = group(alloc, rest, MAX_LEVELS)?;
+    let (all, rest) = more_groups(alloc, first, rest, MAX_LEVELS)?;
     Ok(((distinct, all), rest))
 }
 

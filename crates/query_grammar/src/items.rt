@@ -9,11 +9,11 @@ ghost use Rattle.semantics.specs.Leaves.{standard};
 use query_ast::{Item, Text};
 use query_leaves::{GrammarFault, Listed, after_word, expect_name, keep, more_parts};
 use query_lexer::{Token, Word};
-use query_predicates::{MOST_LEVELS, begins_expression, expression};
+use query_predicates::{MAX_LEVELS, begins_expression, expression};
 use std::alloc::Global;
 
 /// The most items of a query.
-const MOST_ITEMS: usize = 64;
+const MAX_ITEMS: usize = 64;
 
 /// An alias, or none.
 #[tactic(auto, unfolding(crate::specs::QuerySteps::alias_at))]
@@ -34,7 +34,7 @@ fn item(alloc: Global, tokens: &[Token]) -> Result<(Item, &[Token]), GrammarFaul
     ensures exact { Gives (λ x. (item_form x.0, x.1.now)) result (item_at standard tokens.now) }
     ensures shorter { IfOk result (λ x. length x.1.now < length tokens.now) }
 {
-    let (expression, rest) = expression(alloc, tokens, MOST_LEVELS)?;
+    let (expression, rest) = expression(alloc, tokens, MAX_LEVELS)?;
     let (expression, (alias, rest)) = keep(expression, alias(rest))?;
     Ok((Item { expression, alias }, rest))
 }
@@ -75,5 +75,5 @@ pub fn items(alloc: Global, tokens: &[Token]) -> Result<(Vec<Item>, &[Token]), G
     ensures shorter { IfOk result (λ x. length x.1.now < length tokens.now) }
 {
     let (first, rest) = item(alloc, tokens)?;
-    more_parts::<SelectItems>(alloc, first, rest, MOST_ITEMS - 1)
+    more_parts::<SelectItems>(alloc, first, rest, MAX_ITEMS - 1)
 }

@@ -9,7 +9,7 @@ ghost use Rattle.semantics.specs.Leaves.{standard};
 use query_ast::Key;
 use query_leaves::{GrammarFault, Listed, after_word, expect_word, keep, more_parts};
 use query_lexer::{Token, Word};
-use query_predicates::{MOST_LEVELS, begins_expression, expression};
+use query_predicates::{MAX_LEVELS, begins_expression, expression};
 use std::alloc::Global;
 
 /// Whether DESC is written, and what stands behind it or behind ASC.
@@ -49,7 +49,7 @@ fn key(alloc: Global, tokens: &[Token]) -> Result<(Key, &[Token]), GrammarFault>
     ensures exact { Gives (λ x. (key_form x.0, x.1.now)) result (key_at standard tokens.now) }
     ensures shorter { IfOk result (λ x. length x.1.now < length tokens.now) }
 {
-    let (expression, rest) = expression(alloc, tokens, MOST_LEVELS)?;
+    let (expression, rest) = expression(alloc, tokens, MAX_LEVELS)?;
     let (descending, rest) = direction(rest);
     let (expression, (nulls_first, rest)) = keep(expression, null_ordering(rest, descending))?;
     let key = Key {

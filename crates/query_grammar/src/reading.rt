@@ -17,7 +17,7 @@ use crate::keys::keys;
 use query_ast::{GroupingElement, Item, Key, Predicate, Tree};
 use query_leaves::{GrammarFault, after_word, expect_name, expect_word, keep, unexpected};
 use query_lexer::{Token, Word};
-use query_predicates::{MOST_LEVELS, predicate};
+use query_predicates::{MAX_LEVELS, predicate};
 use std::alloc::Global;
 
 /// What stands behind FROM and the name `lines`.
@@ -47,7 +47,7 @@ fn clause(
     let Some(rest) = after_word(tokens, word) else {
         return Ok((None, tokens));
     };
-    let (predicate, rest) = predicate(alloc, rest, MOST_LEVELS + 1)?;
+    let (predicate, rest) = predicate(alloc, rest, MAX_LEVELS + 1)?;
     Ok((Some(predicate), rest))
 }
 

@@ -13,7 +13,7 @@ use query_lexer::{Sign, Token};
 use std::alloc::Global;
 
 /// The most arguments of GROUPING.
-const MOST_ARGUMENTS: usize = 8;
+const MAX_ARGUMENTS: usize = 8;
 
 /// Names, as a kind of list.
 ///
@@ -64,7 +64,7 @@ pub fn grouping_names(
 {
     let rest = expect_sign(tokens, Sign::Open)?;
     let (first, rest) = expect_name(rest)?;
-    let (all, rest) = more_parts::<Names>(alloc, first.try_clone()?, rest, MOST_ARGUMENTS - 1)?;
+    let (all, rest) = more_parts::<Names>(alloc, first.try_clone()?, rest, MAX_ARGUMENTS - 1)?;
     let rest = expect_sign(rest, Sign::Close)?;
     Ok((all, rest))
 }

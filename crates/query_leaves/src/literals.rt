@@ -14,7 +14,7 @@ use query_lexer::{Sign, Token, Word};
 use std::alloc::{AllocError, Global};
 
 /// The most literals of an IN list.
-const MOST_LITERALS: usize = 64;
+const MAX_LITERALS: usize = 64;
 
 /// A literal in front, and what stands behind it, ISO/IEC 9075-2 `<literal>`; `None` where another token or none
 /// stands there. NULL and UNKNOWN are none.
@@ -95,7 +95,7 @@ pub fn in_list(alloc: Global, tokens: &[Token]) -> Result<(Vec<Literal>, &[Token
 {
     let rest = expect_sign(tokens, Sign::Open)?;
     let (first, rest) = Literals::read(alloc, rest)?;
-    let (all, rest) = more_parts::<Literals>(alloc, first, rest, MOST_LITERALS - 1)?;
+    let (all, rest) = more_parts::<Literals>(alloc, first, rest, MAX_LITERALS - 1)?;
     let rest = expect_sign(rest, Sign::Close)?;
     Ok((all, rest))
 }

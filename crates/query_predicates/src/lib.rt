@@ -6,4 +6,4 @@ mod expressions;
 mod predicates;
 
 pub use expressions::begins_expression;
-pub use predicates::{MOST_LEVELS, expression, predicate};
+pub use predicates::{MAX_LEVELS, expression, predicate};

@@ -23,7 +23,7 @@ use std::alloc::Global;
 
 /// The most levels of brackets round a predicate, those of FILTER among them. An expression is read
 /// with this number, a predicate of WHERE or HAVING with one more.
-pub const MOST_LEVELS: u32 = 64;
+pub const MAX_LEVELS: u32 = 64;
 
 /// The AND of a first part and the others, or the first part alone.
 fn and_of(first: Predicate, mut others: Vec<Predicate>) -> Result<Predicate, GrammarFault>

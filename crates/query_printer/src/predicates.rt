@@ -1,7 +1,7 @@
 //! Expressions and predicates, which hold one another.
 
 ghost use Rattle.std.specs.Prelude.{◌≡◌, ◌++◌, codes, IfOk, map, OnOk, string_bytes};
-ghost use Rattle.semantics.specs.Canonical.{bracketed_below, expression_text, function_text, joined, operand_text, part_texts, predicate_text, tightness};
+ghost use Rattle.semantics.specs.Canonical.{bracketed_below, expression_text, function_text, joined, operand_text, part_texts, predicate_text, precedence};
 ghost use Rattle.query_ast.specs.Syntax.{expression_form, function_form, operand_form, predicate_form};
 ghost use Rattle.semantics.specs.Syntax.{predicate_forms};
 
@@ -14,8 +14,8 @@ use query_lexer::push_name;
 use std::alloc::{AllocError, Global};
 
 /// How tightly a predicate holds together: OR least, then AND, NOT and a truth test, and an atom most.
-fn tightness(predicate: &Predicate) -> u32
-    ensures { result ≡ tightness (predicate_form predicate.now) }
+fn precedence(predicate: &Predicate) -> u32
+    ensures { result ≡ precedence (predicate_form predicate.now) }
 {
     match predicate {
         Predicate::Or(_) => 0,
@@ -127,9 +127,9 @@ pub(crate) fn push_predicate(out: &mut String, predicate: &Predicate) -> Result<
 /// Writes a part at the end, in brackets where it holds together less tightly than its place asks.
 #[cycle(push_expression)]
 fn push_part(out: &mut String, least: u32, part: &Predicate) -> Result<(), AllocError>
-    ensures { OnOk result (string_bytes out.new ≡ string_bytes out.old ++ bracketed_below least (tightness (predicate_form part.now)) (predicate_text (predicate_form part.now))) }
+    ensures { OnOk result (string_bytes out.new ≡ string_bytes out.old ++ bracketed_below least (precedence (predicate_form part.now)) (predicate_text (predicate_form part.now))) }
 {
-    if tightness(part) < least {
+    if precedence(part) < least {
         out.push_str("(")?;
         push_predicate(out, part)?;
         return out.push_str(")");

@@ -16,7 +16,7 @@ use Rattle.semantics.specs.declared.literal.Literal.TheVariants as literals
 use Rattle.semantics.specs.declared.aggregate.Aggregate.{Aggregate}
 use Rattle.semantics.specs.declared.aggregate.Aggregate.TheVariants as aggregates
 use Rattle.semantics.specs.Syntax.{ExpressionForm, FunctionForm, OperandForm, PredicateForm, PredicateForms, name, grouping, function, over_all, over_filtered, or_of, and_of, not_of, truth_test, compare, between, member, null_test, column, no_parts, part, predicate_forms}
-use Rattle.semantics.specs.Canonical.{tightness}
+use Rattle.semantics.specs.Canonical.{precedence}
 use Rattle.semantics.specs.Leaves.{standard, Derivation, IsRepeated, IsName, IsAggregate, IsLiteral, IsOp, IsTruthValue, IsOptional}
 use Rattle.semantics.specs.Productions.{IsFunction, IsExpression, IsOperand, IsAtom, IsPrimary, IsTest, IsNegation, IsConjunction, IsDisjunction, IsPredicate}
 use Rattle.query_round.proofs.Good.{Each, Filled, GoodName, GoodFunction, GoodExpression, GoodLiteral, GoodOperand, IsMany, Fits, Good, PartsFit}
@@ -178,7 +178,7 @@ mutual
   function_d (over_filtered f p) zero r g = absurd g.1
   function_d (over_filtered f p) (suc n) r g =
       let closed : List Token = tokens.Sign s.Close ∷ r in
-      IsFunction.filtered (aggregate_d f _) (as_predicate (tightness p) n (predicate_onto p closed) closed p (good_d p n closed g.1))
+      IsFunction.filtered (aggregate_d f _) (as_predicate (precedence p) n (predicate_onto p closed) closed p (good_d p n closed g.1))
 
   pub expression_d : (e : ExpressionForm) (n : ℕ) (r : List Token) → GoodExpression e n → IsExpression standard (IsPredicate standard n) (expression_onto e r) e r
   expression_d (name m) n r g = IsExpression.name
@@ -189,12 +189,12 @@ mutual
   operand_d (OperandForm.expression e) n g r = IsOperand.expression (expression_d e n r g)
   operand_d (OperandForm.literal a) n g r = IsOperand.literal (literal_d a r g)
 
-  pub good_d : (p : PredicateForm) (n : ℕ) (r : List Token) → Good p n → At (tightness p) n (predicate_onto p r) p r
+  pub good_d : (p : PredicateForm) (n : ℕ) (r : List Token) → Good p n → At (precedence p) n (predicate_onto p r) p r
   good_d (or_of ps) n r g = or_d ps n r g.0 (parts_d (tokens.Word w.Or) 1 ps n r (omega arith) g.1)
   good_d (and_of ps) n r g = and_d ps n r g.0 (parts_d (tokens.Word w.And) 2 ps n r (omega arith) g.1)
-  good_d (not_of p) n r g = IsNegation.not (fits_d 3 (tightness p) n p (predicate_onto p) (Good p) (good_d p) (omega arith) r g)
+  good_d (not_of p) n r g = IsNegation.not (fits_d 3 (precedence p) n p (predicate_onto p) (Good p) (good_d p) (omega arith) r g)
   good_d (truth_test p b t) n r g =
-      IsTest.test (fits_d 4 (tightness p) n p (predicate_onto p) (Good p) (good_d p) (omega arith) _ g) (mark_d b _) (truth_d t r)
+      IsTest.test (fits_d 4 (precedence p) n p (predicate_onto p) (Good p) (good_d p) (omega arith) _ g) (mark_d b _) (truth_d t r)
   good_d (compare x o y) n r g = IsPrimary.atom (IsAtom.compare (operand_d x n g.0 _) (op_d o _) (operand_d y n g.1 r))
   good_d (between x b y z) n r g = IsPrimary.atom (IsAtom.between (operand_d x n g.0 _) (mark_d b _) (operand_d y n g.1 _) (operand_d z n g.2 r))
   good_d (member x b ls) n r g = IsPrimary.atom (member_d (IsPredicate standard n) x b ls r (operand_d x n g.0) g.1)
@@ -204,14 +204,14 @@ mutual
   parts_d : (sep : Token) (k : ℕ) (ps : PredicateForms) (n : ℕ) (r : List Token) → k ≤ 4 → PartsFit k ps n → PartsDerive k sep ps n r
   parts_d sep k no_parts n r room g = tt
   parts_d sep k (part p ps) n r room g =
-      (fits_d k (tightness p) n p (predicate_onto p) (Good p) (good_d p) room _ g.0, others_d sep k ps n r room g.1)
+      (fits_d k (precedence p) n p (predicate_onto p) (Good p) (good_d p) room _ g.0, others_d sep k ps n r room g.1)
 
   others_d : (sep : Token) (k : ℕ) (ps : PredicateForms) (n : ℕ) (r : List Token) → k ≤ 4 → PartsFit k ps n
       → IsRepeated sep (At k n) (others_onto sep (part_ontos k ps) r) (listed ps) r
   others_d sep k no_parts n r room g = IsRepeated.none
   others_d sep k (part p ps) n r room g =
-      IsRepeated.more (fits_d k (tightness p) n p (predicate_onto p) (Good p) (good_d p) room _ g.0) (others_d sep k ps n r room g.1)
+      IsRepeated.more (fits_d k (precedence p) n p (predicate_onto p) (Good p) (good_d p) room _ g.0) (others_d sep k ps n r room g.1)
 
 -- The tokens of a good predicate derive it.
 pub predicate_d : (p : PredicateForm) (n : ℕ) (r : List Token) → Good p n → IsPredicate standard (suc n) (predicate_onto p r) p r
-predicate_d p n r g = as_predicate (tightness p) n (predicate_onto p r) r p (good_d p n r g)
+predicate_d p n r g = as_predicate (precedence p) n (predicate_onto p r) r p (good_d p n r g)

@@ -14,7 +14,7 @@ use Rattle.query_lexer.specs.Inside.Words.{word_text}
 use Rattle.query_lexer.specs.Steps.{token_at, sign_at, order_at, sign_behind_less, sign_behind_greater}
 use Rattle.semantics.specs.declared.literal.Literal.{Literal}
 use Rattle.semantics.specs.Syntax.{ExpressionForm, FunctionForm, OperandForm, PredicateForm, PredicateForms, name, grouping, function, over_all, over_filtered, or_of, and_of, not_of, truth_test, compare, between, member, null_test, column, no_parts, part}
-use Rattle.semantics.specs.Canonical.{op_text, truth_text, not_text, literal_text, function_text, expression_text, operand_text, tightness, bracketed_below, in_brackets, predicate_text, part_texts}
+use Rattle.semantics.specs.Canonical.{op_text, truth_text, not_text, literal_text, function_text, expression_text, operand_text, precedence, bracketed_below, in_brackets, predicate_text, part_texts}
 use Rattle.query_round.proofs.Good.{Filled, GoodLiteral, GoodFunction, GoodExpression, GoodOperand, Deeper, Fits, Good, PartsFit}
 use Rattle.query_round.proofs.Onto.{Onto, op_sign, truth_word, not_onto, literal_onto, function_onto, expression_onto, operand_onto, brackets_onto, bracketed_onto, predicate_onto, part_ontos}
 use Rattle.query_round.proofs.Spelled.{Spelled, spelled_space, spelled_read}
@@ -99,9 +99,9 @@ fits_some least has (suc n) G (inl h) = (n, h.1)
 fits_some least has n G (inr h) = (n, h.1)
 
 part_goes : (least : ℕ) (p : PredicateForm) (n : ℕ) → ((m : ℕ) → Good p m → Goes (predicate_text p) (predicate_onto p))
-    → Fits least (tightness p) (Good p) n
-    → Goes (bracketed_below least (tightness p) (predicate_text p)) (bracketed_onto least (tightness p) (predicate_onto p))
-part_goes least p n goes g = let h = fits_some least (tightness p) n (Good p) g in bracketed_at (nat_lt (tightness p) least) (goes h.0 h.1)
+    → Fits least (precedence p) (Good p) n
+    → Goes (bracketed_below least (precedence p) (predicate_text p)) (bracketed_onto least (precedence p) (predicate_onto p))
+part_goes least p n goes g = let h = fits_some least (precedence p) n (Good p) g in bracketed_at (nat_lt (precedence p) least) (goes h.0 h.1)
 
 test_goes : {a : List ℕ} {f : Onto} (n : Bool) (t : Truth) → Goes a f
     → Goes (a ++ codes " IS " ++ not_text n ++ truth_text t) (λ ks. f (tokens.Word w.Is ∷ not_onto n (tokens.Word (truth_word t) ∷ ks)))

@@ -7,7 +7,7 @@ use Rattle.semantics.specs.declared.literal.Literal.TheVariants as literals
 use Rattle.semantics.specs.declared.aggregate.Aggregate.{Aggregate}
 use Rattle.semantics.specs.declared.aggregate.Aggregate.TheVariants as aggregates
 use Rattle.semantics.specs.Syntax.{ExpressionForm, FunctionForm, OperandForm, PredicateForm, PredicateForms, ElementForm, ElementForms, ItemForm, KeyForm, TreeForm, name, grouping, function, over_all, over_filtered, or_of, and_of, not_of, truth_test, compare, between, member, null_test, column, no_parts, part, set, rollup, cube, sets, no_groups, group}
-use Rattle.semantics.specs.Canonical.{tightness}
+use Rattle.semantics.specs.Canonical.{precedence}
 
 -- ---- lists
 
@@ -91,8 +91,8 @@ abbrev mutual
   pub Good : PredicateForm → ℕ → Type 0
   Good (or_of ps) n = IsMany ps × PartsFit 1 ps n
   Good (and_of ps) n = IsMany ps × PartsFit 2 ps n
-  Good (not_of p) n = Fits 3 (tightness p) (Good p) n
-  Good (truth_test p b t) n = Fits 4 (tightness p) (Good p) n
+  Good (not_of p) n = Fits 3 (precedence p) (Good p) n
+  Good (truth_test p b t) n = Fits 4 (precedence p) (Good p) n
   Good (compare x o y) n = GoodOperand x n × GoodOperand y n
   Good (between x b y z) n = GoodOperand x n × GoodOperand y n × GoodOperand z n
   Good (member x b ls) n = GoodOperand x n × Filled 64 GoodLiteral ls
@@ -101,7 +101,7 @@ abbrev mutual
 
   pub PartsFit : ℕ → PredicateForms → ℕ → Type 0
   PartsFit least no_parts n = Unit {0}
-  PartsFit least (part p ps) n = Fits least (tightness p) (Good p) n × PartsFit least ps n
+  PartsFit least (part p ps) n = Fits least (precedence p) (Good p) n × PartsFit least ps n
 
 -- ---- the query
 
@@ -182,8 +182,8 @@ mutual
   pub good_more : (p : PredicateForm) (n : ℕ) → Good p n → Good p (suc n)
   good_more (or_of ps) n g = (g.0, parts_more 1 ps n g.1)
   good_more (and_of ps) n g = (g.0, parts_more 2 ps n g.1)
-  good_more (not_of p) n g = fits_more 3 (tightness p) (Good p) (good_more p) n g
-  good_more (truth_test p b t) n g = fits_more 4 (tightness p) (Good p) (good_more p) n g
+  good_more (not_of p) n g = fits_more 3 (precedence p) (Good p) (good_more p) n g
+  good_more (truth_test p b t) n g = fits_more 4 (precedence p) (Good p) (good_more p) n g
   good_more (compare x o y) n g = (operand_more x n g.0, operand_more y n g.1)
   good_more (between x b y z) n g = (operand_more x n g.0, operand_more y n g.1, operand_more z n g.2)
   good_more (member x b ls) n g = (operand_more x n g.0, g.1)
@@ -192,7 +192,7 @@ mutual
 
   pub parts_more : (least : ℕ) (ps : PredicateForms) (n : ℕ) → PartsFit least ps n → PartsFit least ps (suc n)
   parts_more least no_parts n g = tt
-  parts_more least (part p ps) n g = (fits_more least (tightness p) (Good p) (good_more p) n g.0, parts_more least ps n g.1)
+  parts_more least (part p ps) n g = (fits_more least (precedence p) (Good p) (good_more p) n g.0, parts_more least ps n g.1)
 
 pub deeper_good : (p : PredicateForm) (n : ℕ) → Deeper (Good p) n → Good p n
 deeper_good p n d = deeper_more (Good p) (good_more p) n d

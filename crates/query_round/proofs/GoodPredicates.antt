@@ -10,7 +10,7 @@ use Rattle.semantics.specs.declared.token.Sign.TheVariants as s
 use Rattle.semantics.specs.declared.literal.Literal.{Literal}
 use Rattle.semantics.specs.declared.aggregate.Aggregate.{Aggregate}
 use Rattle.semantics.specs.Syntax.{ExpressionForm, FunctionForm, OperandForm, PredicateForm, or_of, and_of, not_of, truth_test, predicate_forms}
-use Rattle.semantics.specs.Canonical.{tightness}
+use Rattle.semantics.specs.Canonical.{precedence}
 use Rattle.semantics.specs.Leaves.{standard, Derivation, IsRepeated, IsName, IsAggregate, IsLiteral, IsOp, IsTruthValue, IsOptional}
 use Rattle.semantics.specs.Productions.{IsFunction, IsExpression, IsOperand, IsAtom, IsPrimary, IsTest, IsNegation, IsConjunction, IsDisjunction, IsPredicate, conjunction_of, disjunction_of}
 use Rattle.query_round.proofs.Good.{Each, GoodName, GoodAggregate, GoodFunction, GoodExpression, GoodLiteral, GoodOperand, IsMany, Deeper, Fits, Good, PartsFit, deeper_good}
@@ -70,13 +70,13 @@ mark_leaves IsOptional.written h = h.1
 -- ---- a predicate that holds together at least so tightly
 
 pub record Tight (top n : ℕ) (p : PredicateForm) : Type 0 where
-  pub fits : (k : ℕ) → k ≤ top → Fits k (tightness p) (Good p) n
+  pub fits : (k : ℕ) → k ≤ top → Fits k (precedence p) (Good p) n
 
-tight_good : (top n : ℕ) (p : PredicateForm) → top ≤ tightness p → Good p n → Tight top n p
+tight_good : (top n : ℕ) (p : PredicateForm) → top ≤ precedence p → Good p n → Tight top n p
 tight_good top n p h g = record { fits = λ k room. inr (omega (arith, h, room), g) }
 
 tight_deeper : (n : ℕ) (p : PredicateForm) → Deeper (Good p) n → Tight 4 n p
-tight_deeper n p d = record { fits = λ k room. elim (cases_lt (tightness p) k) [ inl h ↦ inl (h, d) | inr h ↦ inr (h, deeper_good p n d) ] }
+tight_deeper n p d = record { fits = λ k room. elim (cases_lt (precedence p) k) [ inl h ↦ inl (h, d) | inr h ↦ inr (h, deeper_good p n d) ] }
 
 tight_less : (a b n : ℕ) (p : PredicateForm) → b ≤ a → Tight a n p → Tight b n p
 tight_less a b n p h t = record { fits = λ k room. t.fits k (omega (arith, h, room)) }
@@ -87,7 +87,7 @@ Loose top D n = Leaves PredicateForm D (Tight top n)
 -- ---- levels
 
 abbrev FitAt : ℕ → ℕ → PredicateForm → Type 0
-FitAt k n p = Fits k (tightness p) (Good p) n
+FitAt k n p = Fits k (precedence p) (Good p) n
 
 parts_fit : (k n : ℕ) (ps : List PredicateForm) → Each (FitAt k n) ps → PartsFit k (predicate_forms ps) n
 parts_fit k n [] h = tt
@@ -193,4 +193,4 @@ unfolding IsPredicate
 predicate_leaves zero ts r p d h = absurd d
 predicate_leaves (suc n) ts r p d h =
     let g = disjunction_leaves n (IsPredicate standard n) (predicate_leaves n) ts r p d h in
-    (loosest (tightness p) (Good p) n (g.0.fits 0 (omega arith)), g.1)
+    (loosest (precedence p) (Good p) n (g.0.fits 0 (omega arith)), g.1)

@@ -16,7 +16,7 @@ use Rattle.semantics.specs.declared.literal.Literal.TheVariants as literals
 use Rattle.semantics.specs.declared.aggregate.Aggregate.{Aggregate}
 use Rattle.semantics.specs.declared.aggregate.Aggregate.TheVariants as aggregates
 use Rattle.semantics.specs.Syntax.{ExpressionForm, FunctionForm, OperandForm, PredicateForm, PredicateForms, ElementForm, ElementForms, ItemForm, KeyForm, TreeForm, name, grouping, function, over_all, over_filtered, or_of, and_of, not_of, truth_test, compare, between, member, null_test, column, no_parts, part, set, rollup, cube, sets, no_groups, group}
-use Rattle.semantics.specs.Canonical.{tightness}
+use Rattle.semantics.specs.Canonical.{precedence}
 
 -- Tokens in front of others.
 abbrev pub Onto : Type 0
@@ -107,9 +107,9 @@ abbrev mutual
   pub predicate_onto : PredicateForm → Onto
   predicate_onto (or_of ps) = list_onto (tokens.Word w.Or) (part_ontos 1 ps)
   predicate_onto (and_of ps) = list_onto (tokens.Word w.And) (part_ontos 2 ps)
-  predicate_onto (not_of p) = λ r. tokens.Word w.Not ∷ bracketed_onto 3 (tightness p) (predicate_onto p) r
+  predicate_onto (not_of p) = λ r. tokens.Word w.Not ∷ bracketed_onto 3 (precedence p) (predicate_onto p) r
   predicate_onto (truth_test p n t) =
-      λ r. bracketed_onto 4 (tightness p) (predicate_onto p) (tokens.Word w.Is ∷ not_onto n (tokens.Word (truth_word t) ∷ r))
+      λ r. bracketed_onto 4 (precedence p) (predicate_onto p) (tokens.Word w.Is ∷ not_onto n (tokens.Word (truth_word t) ∷ r))
   predicate_onto (compare x o y) = λ r. operand_onto x (tokens.Sign (op_sign o) ∷ operand_onto y r)
   predicate_onto (between x n y z) = λ r. operand_onto x (not_onto n (tokens.Word w.Between ∷ operand_onto y (tokens.Word w.And ∷ operand_onto z r)))
   predicate_onto (member x n ls) = λ r. operand_onto x (not_onto n (tokens.Word w.In ∷ brackets_onto (commas_onto (map literal_onto ls)) r))
@@ -118,7 +118,7 @@ abbrev mutual
 
   pub part_ontos : ℕ → PredicateForms → List Onto
   part_ontos least no_parts = []
-  part_ontos least (part p ps) = bracketed_onto least (tightness p) (predicate_onto p) ∷ part_ontos least ps
+  part_ontos least (part p ps) = bracketed_onto least (precedence p) (predicate_onto p) ∷ part_ontos least ps
 
 -- ---- the query
 

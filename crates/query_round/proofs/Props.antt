@@ -5,7 +5,7 @@ use Rattle.std.proofs.Math.Bridge.{le_prop}
 use Rattle.semantics.specs.declared.literal.Literal.TheVariants as literals
 use Rattle.semantics.specs.declared.aggregate.Aggregate.TheVariants as aggregates
 use Rattle.semantics.specs.Syntax.{ExpressionForm, FunctionForm, OperandForm, PredicateForm, PredicateForms, ElementForm, ElementForms, name, grouping, function, over_all, over_filtered, or_of, and_of, not_of, truth_test, compare, between, member, null_test, column, no_parts, part, set, rollup, cube, sets, no_groups, group}
-use Rattle.semantics.specs.Canonical.{tightness}
+use Rattle.semantics.specs.Canonical.{precedence}
 use Rattle.query_round.proofs.Good.{Each, Inhabited, Filled, Within, GoodName, GoodAggregate, GoodFunction, GoodExpression, InRange, GoodLiteral, GoodOperand, IsMany, Deeper, Fits, Good, PartsFit, GoodItem, GoodUnit, IsFilled, GoodGroup, GoodGroups, GoodElement, IsPlain, GoodGroupBy, GoodKey, GoodTree}
 
 le_one : (a b : ℕ) → IsProp (a ≤ b)
@@ -110,8 +110,8 @@ mutual
   good_one : (p : PredicateForm) (n : ℕ) → IsProp (Good p n)
   good_one (or_of ps) n = both_one (many_one ps) (parts_one 1 ps n)
   good_one (and_of ps) n = both_one (many_one ps) (parts_one 2 ps n)
-  good_one (not_of p) n = fits_one 3 (tightness p) (Good p) (good_one p) n
-  good_one (truth_test p b t) n = fits_one 4 (tightness p) (Good p) (good_one p) n
+  good_one (not_of p) n = fits_one 3 (precedence p) (Good p) (good_one p) n
+  good_one (truth_test p b t) n = fits_one 4 (precedence p) (Good p) (good_one p) n
   good_one (compare x o y) n = both_one (operand_one x n) (operand_one y n)
   good_one (between x b y z) n = three_one (operand_one x n) (operand_one y n) (operand_one z n)
   good_one (member x b ls) n = both_one (operand_one x n) (filled_one 64 GoodLiteral literal_one ls)
@@ -120,7 +120,7 @@ mutual
 
   parts_one : (least : ℕ) (ps : PredicateForms) (n : ℕ) → IsProp (PartsFit least ps n)
   parts_one least no_parts n = unit_one
-  parts_one least (part p ps) n = both_one (fits_one least (tightness p) (Good p) (good_one p) n) (parts_one least ps n)
+  parts_one least (part p ps) n = both_one (fits_one least (precedence p) (Good p) (good_one p) n) (parts_one least ps n)
 
 -- ---- the query
 

@@ -14,7 +14,7 @@ use Rattle.semantics.specs.declared.function.ColumnFunction.TheVariants as at
 use Rattle.semantics.specs.Faults.{query_faults}
 use Rattle.query_typecheck.specs.Inside.FirstFaults.{query_fault, tests_of}
 use Rattle.query_resolve.specs.Functions.{filters_of, indexed_functions}
-use Rattle.query_typecheck.specs.Standing.{Stands}
+use Rattle.query_typecheck.specs.Standing.{IsViolation}
 use Rattle.query_typecheck.specs.Typing.{takes}
 
 -- a text, a whole number and a truth value
@@ -106,15 +106,15 @@ filter_of_text = refl
 -- ---- where the faults stand
 
 -- WHERE d = 1 names no column: d
-unknown_stands : Stands fields (where_one (codes "d")) (faults.UnknownColumn (codes "d"))
+unknown_stands : IsViolation fields (where_one (codes "d")) (faults.UnknownColumn (codes "d"))
 unknown_stands = (inr (clause.Where, name (codes "d"), (is_one (codes "d"), inl (0, omega arith, refl), (0, omega arith, refl)), (0, omega arith, refl)), λ is. let clash : ⊥ = cc in clash)
 
 -- it never names a column of the schema
-column_is_known : Stands fields (where_one (codes "d")) (faults.UnknownColumn (codes "q")) → ⊥
+column_is_known : IsViolation fields (where_one (codes "d")) (faults.UnknownColumn (codes "q")) → ⊥
 column_is_known h = h.1 refl
 
 -- WHERE c = 1 compares a text and a whole number
-types_disagree : Stands fields (where_one (codes "c")) faults.TypesDisagree
+types_disagree : IsViolation fields (where_one (codes "c")) faults.TypesDisagree
 types_disagree = inl (
   clause.Where,
   is_one (codes "c"),
@@ -129,7 +129,7 @@ not_taken (suc zero, below, e) = absurd cc
 not_taken (suc (suc k), below, e) = absurd (omega arith)
 
 -- MIN(b) is taken of a truth value
-least_truth : Stands fields (selected (item (function (over_all (aggregate.Min (codes "b")))) ∷ [])) faults.TypesDisagree
+least_truth : IsViolation fields (selected (item (function (over_all (aggregate.Min (codes "b")))) ∷ [])) faults.TypesDisagree
 least_truth = inr (clause.Select, over_all (aggregate.Min (codes "b")), (0, omega arith, refl), (codes "b", kind.Bool, (0, omega arith, refl), refl, not_taken))
 
 -- q is none of the names in GROUP BY c
@@ -138,23 +138,23 @@ none_of_group (zero, below, e) = let wrong : true ≡ false = ap (bytes_eq (code
 none_of_group (suc k, below, e) = absurd (omega arith)
 
 -- SELECT c, q .. GROUP BY c: q is not grouped
-not_grouped : Stands fields (selected (item c ∷ item q ∷ [])) (faults.NotGrouped (codes "q"))
+not_grouped : IsViolation fields (selected (item c ∷ item q ∷ [])) (faults.NotGrouped (codes "q"))
 not_grouped = (clause.Select, q, (1, omega arith, refl), λ e. (let clash : ⊥ = cc in clash), (0, omega arith, refl), refl, none_of_group)
 
 -- a column that GROUP BY names is grouped
-grouped : Stands fields (selected (item c ∷ item q ∷ [])) (faults.NotGrouped (codes "c")) → ⊥
+grouped : IsViolation fields (selected (item c ∷ item q ∷ [])) (faults.NotGrouped (codes "c")) → ⊥
 grouped h = h.6 (0, omega arith, refl)
 
 -- SELECT COUNT(*), COUNT(*): the header COUNT(*) stands twice
-repeated : Stands fields (selected (item (function (over_all aggregate.CountRows)) ∷ item (function (over_all aggregate.CountRows)) ∷ [])) (faults.RepeatedHeader (codes "COUNT(*)"))
+repeated : IsViolation fields (selected (item (function (over_all aggregate.CountRows)) ∷ item (function (over_all aggregate.CountRows)) ∷ [])) (faults.RepeatedHeader (codes "COUNT(*)"))
 repeated = (codes "COUNT(*)" ∷ [], [], refl, (0, omega arith, refl))
 
 -- ORDER BY m, which is AVG(q)
-average_ordered : Stands fields by_average faults.FunctionNotAllowed
+average_ordered : IsViolation fields by_average faults.FunctionNotAllowed
 average_ordered = (clause.OrderBy, average, (0, omega arith, refl), refl)
 
 -- no fault of a text stands in a query that was read
-of_a_text : Stands fields by_average (faults.NoToken 0) → ⊥
+of_a_text : IsViolation fields by_average (faults.NoToken 0) → ⊥
 of_a_text h = h
 
 -- ---- FILTER
@@ -164,7 +164,7 @@ abbrev counted : PredicateForm → ExpressionForm
 counted p = function (over_filtered aggregate.CountRows p)
 
 -- SELECT COUNT(*) FILTER (WHERE d = 1) names no column: d
-unknown_in_filter : Stands fields (selected (item (counted (is_one (codes "d"))) ∷ [])) (faults.UnknownColumn (codes "d"))
+unknown_in_filter : IsViolation fields (selected (item (counted (is_one (codes "d"))) ∷ [])) (faults.UnknownColumn (codes "d"))
 unknown_in_filter = (
   inr (
     clause.Where,
@@ -176,7 +176,7 @@ unknown_in_filter = (
 )
 
 -- SELECT COUNT(*) FILTER (WHERE c): c is a text, no truth value
-types_in_filter : Stands fields (selected (item (counted (column (codes "c"))) ∷ [])) faults.TypesDisagree
+types_in_filter : IsViolation fields (selected (item (counted (column (codes "c"))) ∷ [])) faults.TypesDisagree
 types_in_filter = inl (
   clause.Where,
   column (codes "c"),
@@ -189,7 +189,7 @@ abbrev counts_one : PredicateForm
 counts_one = compare (expression (function (over_all aggregate.CountRows))) Eq (literal (constant.Integer (pos 1)))
 
 -- SELECT COUNT(*) FILTER (WHERE COUNT(*) = 1): a set function in a FILTER
-function_in_filter : Stands fields (selected (item (counted counts_one) ∷ [])) faults.FunctionNotAllowed
+function_in_filter : IsViolation fields (selected (item (counted counts_one) ∷ [])) faults.FunctionNotAllowed
 function_in_filter = (
   clause.Where,
   function (over_all aggregate.CountRows),

@@ -26,7 +26,7 @@ use Rattle.query_typecheck.specs.Typing.{IsTyped, may_stand}
 use Rattle.semantics.specs.Types.{is_average, key_expression, literal_kind, operand_kind}
 use Rattle.semantics.specs.Faults.{agreement_faults, argument_faults, atom_faults, clause_faults, column_faults, function_faults, group_faults, grouped_faults, header_faults, operand_faults, predicate_faults, query_faults, record_faults, same_kind, typed_column_faults, unless}
 use Rattle.query_typecheck.specs.Inside.FirstFaults.{agreement_fault, aggregate_fault, argument_fault, clause_fault, column_fault, expression_fault, fault_unless, first_fault, function_fault, grouped_at_fault, grouped_fault, header_fault, headers_fault, kind_fault, limit_fault, operand_fault, parts_fault, predicate_fault, query_fault, tests_of}
-use Rattle.query_typecheck.specs.Standing.{Stands}
+use Rattle.query_typecheck.specs.Standing.{IsViolation}
 use Rattle.query_typecheck.proofs.FaultNames.{among_groups}
 use Rattle.query_typecheck.proofs.StandingWhole.{first_stands}
 use Rattle.query_typecheck.proofs.WholeLemmas.{none_from_typed, typed_from_none}
@@ -345,5 +345,5 @@ faultless_is_typed fields t = (
 )
 
 -- The fault that is told stands in the query.
-pub told_stands : (fields : List Field) (t : TreeForm) (f : QueryFault) → slice_get (query_faults fields t) 0 ≡ Some f → Stands fields t f
+pub told_stands : (fields : List Field) (t : TreeForm) (f : QueryFault) → slice_get (query_faults fields t) 0 ≡ Some f → IsViolation fields t f
 told_stands fields t f h = first_stands fields t f (sym (first_of_faults fields t) ∙ h)

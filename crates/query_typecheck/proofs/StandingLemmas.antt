@@ -20,7 +20,7 @@ use Rattle.semantics.specs.Sets.{grouping_names, grouping_places}
 use Rattle.query_typecheck.specs.Typing.{IsColumn, argument_names, may_stand, takes}
 use Rattle.query_typecheck.specs.Inside.FirstFaults.{first_fault, fault_unless, column_fault, grouped_at_fault, grouped_fault, name_fault, kind_fault, argument_fault, aggregate_fault, function_fault, grouping_fault, expression_fault, predicate_fault}
 use Rattle.semantics.specs.Faults.{same_kind}
-use Rattle.query_typecheck.specs.Standing.{IsFilterIn, IsOfOtherKind, IsWrittenIn, Stands, StandsIn, names, outer_names}
+use Rattle.query_typecheck.specs.Standing.{IsFilterIn, IsOfOtherKind, IsWrittenIn, IsViolation, StandsIn, names, outer_names}
 use Rattle.query_resolve.proofs.Rows.{or_true}
 use Rattle.query_resolve.proofs.Distinct.{any_distinct}
 use Rattle.query_typecheck.proofs.TypedLemmas.{holds, test_from_among}
@@ -116,10 +116,10 @@ grouping_met fields t n place at h = any_distinct (λ a b. a == b) (λ a b e. gr
 -- ---- names
 
 -- A name without a column is unknown, where it is asked for.
-pub column_stands : (fields : List Field) (t : TreeForm) (n : List ℕ) (f : QueryFault) → Contains (grouping_names t) n ⊎ ((c : Clause) × (e : ExpressionForm) × StandsIn t c e × Contains (names e) n) → column_fault fields n ≡ Some f → Stands fields t f
+pub column_stands : (fields : List Field) (t : TreeForm) (n : List ℕ) (f : QueryFault) → Contains (grouping_names t) n ⊎ ((c : Clause) × (e : ExpressionForm) × StandsIn t c e × Contains (names e) n) → column_fault fields n ≡ Some f → IsViolation fields t f
 column_stands fields t n f asked h =
     let k = fails (is_some (place_of fields n)) (UnknownColumn n) f h in
-    subst (Stands fields t) k.1 (asked, λ is. let wrong : true ≡ false = sym is ∙ k.0 in let clash : ⊥ = cc in clash)
+    subst (IsViolation fields t) k.1 (asked, λ is. let wrong : true ≡ false = sym is ∙ k.0 in let clash : ⊥ = cc in clash)
 
 -- A name that is to be a grouping column has no column, or one at a place that is none of a grouping column.
 grouped_cases : (grouped n : List ℕ) (o : Option ℕ) (f : QueryFault) → grouped_at_fault grouped n o ≡ Some f → ((o ≡ None) × (UnknownColumn n ≡ f)) ⊎ ((place : ℕ) × (o ≡ Some place) × (list_any (λ g. g == place) grouped ≡ false) × (NotGrouped n ≡ f))
@@ -127,11 +127,11 @@ grouped_cases grouped n None f h = inl (refl, cc)
 grouped_cases grouped n (Some place) f h = let k = fails (list_any (λ g. g == place) grouped) (NotGrouped n) f h in inr (place, refl, k.0, k.1)
 
 -- A name that is to be a grouping column, and is none.
-grouped_stands : (fields : List Field) (t : TreeForm) (c : Clause) (e : ExpressionForm) (n : List ℕ) (f : QueryFault) → StandsIn t c e → c ≢ clause.Where → Contains (outer_names e) n → Contains (names e) n → grouped_fault fields (grouping_places fields t) n ≡ Some f → Stands fields t f
+grouped_stands : (fields : List Field) (t : TreeForm) (c : Clause) (e : ExpressionForm) (n : List ℕ) (f : QueryFault) → StandsIn t c e → c ≢ clause.Where → Contains (outer_names e) n → Contains (names e) n → grouped_fault fields (grouping_places fields t) n ≡ Some f → IsViolation fields t f
 grouped_stands fields t c e n f at behind outer among h =
     elim (grouped_cases (grouping_places fields t) n (place_of fields n) f h) [
-      | inl none ↦ subst (Stands fields t) none.1 (inr (c, e, at, among), λ is. let wrong : is_some (place_of fields n) ≡ false = rw none.0 refl in let clash : ⊥ = cc in clash)
-      | inr some ↦ subst (Stands fields t) some.3 (c, e, at, behind, outer, is_there (place_of fields n) some.0 some.1, λ met. let found = grouping_met fields t n some.0 some.1 met in let not_found = some.2 in let clash : ⊥ = cc in clash)
+      | inl none ↦ subst (IsViolation fields t) none.1 (inr (c, e, at, among), λ is. let wrong : is_some (place_of fields n) ≡ false = rw none.0 refl in let clash : ⊥ = cc in clash)
+      | inr some ↦ subst (IsViolation fields t) some.3 (c, e, at, behind, outer, is_there (place_of fields n) some.0 some.1, λ met. let found = grouping_met fields t n some.0 some.1 met in let not_found = some.2 in let clash : ⊥ = cc in clash)
     ]
 
 -- No other clause is WHERE.
@@ -147,21 +147,21 @@ order_other : clause.OrderBy ≢ clause.Where
 order_other e = let clash : ⊥ = cc in clash
 
 -- A name that may not stand in its clause.
-pub name_stands : (fields : List Field) (t : TreeForm) (c : Clause) (n : List ℕ) (f : QueryFault) → StandsIn t c (name n) → name_fault fields (grouping_places fields t) c n ≡ Some f → Stands fields t f
+pub name_stands : (fields : List Field) (t : TreeForm) (c : Clause) (n : List ℕ) (f : QueryFault) → StandsIn t c (name n) → name_fault fields (grouping_places fields t) c n ≡ Some f → IsViolation fields t f
 name_stands fields t clause.Where n f at h = column_stands fields t n f (inr (clause.Where, name n, at, (0, omega arith, refl))) h
 name_stands fields t clause.Select n f at h = grouped_stands fields t clause.Select (name n) n f at select_other (0, omega arith, refl) (0, omega arith, refl) h
 name_stands fields t clause.Having n f at h = grouped_stands fields t clause.Having (name n) n f at having_other (0, omega arith, refl) (0, omega arith, refl) h
 name_stands fields t clause.OrderBy n f at h = grouped_stands fields t clause.OrderBy (name n) n f at order_other (0, omega arith, refl) (0, omega arith, refl) h
 
 -- Arguments of GROUPING that may not stand there.
-all_grouped_stand : (fields : List Field) (t : TreeForm) (c : Clause) (ns : List (List ℕ)) (f : QueryFault) → StandsIn t c (grouping ns) → c ≢ clause.Where → first_fault (grouped_fault fields (grouping_places fields t)) ns ≡ Some f → Stands fields t f
+all_grouped_stand : (fields : List Field) (t : TreeForm) (c : Clause) (ns : List (List ℕ)) (f : QueryFault) → StandsIn t c (grouping ns) → c ≢ clause.Where → first_fault (grouped_fault fields (grouping_places fields t)) ns ≡ Some f → IsViolation fields t f
 all_grouped_stand fields t c ns f at behind h =
     let found = first_at (grouped_fault fields (grouping_places fields t)) ns f h in
     grouped_stands fields t c (grouping ns) found.0 f at behind found.1 found.1 found.2
 
 -- A GROUPING that may not stand in its clause, or whose arguments may not.
-grouping_stands : (fields : List Field) (t : TreeForm) (c : Clause) (ns : List (List ℕ)) (f : QueryFault) → StandsIn t c (grouping ns) → grouping_fault fields (grouping_places fields t) c ns ≡ Some f → Stands fields t f
-grouping_stands fields t clause.Where ns f at h = let same : FunctionNotAllowed ≡ f = cc in subst (Stands fields t) same (clause.Where, grouping ns, at, refl)
+grouping_stands : (fields : List Field) (t : TreeForm) (c : Clause) (ns : List (List ℕ)) (f : QueryFault) → StandsIn t c (grouping ns) → grouping_fault fields (grouping_places fields t) c ns ≡ Some f → IsViolation fields t f
+grouping_stands fields t clause.Where ns f at h = let same : FunctionNotAllowed ≡ f = cc in subst (IsViolation fields t) same (clause.Where, grouping ns, at, refl)
 grouping_stands fields t clause.Select ns f at h = all_grouped_stand fields t clause.Select ns f at select_other h
 grouping_stands fields t clause.Having ns f at h = all_grouped_stand fields t clause.Having ns f at having_other h
 grouping_stands fields t clause.OrderBy ns f at h = all_grouped_stand fields t clause.OrderBy ns f at order_other h
@@ -176,20 +176,20 @@ kind_fails fields kinds x f is h =
     (has.0, has.1, λ among. let found = test_from_among kinds has.0 among in let not_found = k.0 in let clash : ⊥ = cc in clash, k.1)
 
 -- A set function that does not take its column, where a name without a column stands, and a column of another type.
-argument_stands : (fields : List Field) (t : TreeForm) (a : Aggregate) (f : QueryFault) → ((x : List ℕ) → Contains (argument_names a) x → column_fault fields x ≡ Some f → Stands fields t f) → (IsOfOtherKind fields a → TypesDisagree ≡ f → Stands fields t f) → aggregate_fault fields a ≡ Some f → Stands fields t f
+argument_stands : (fields : List Field) (t : TreeForm) (a : Aggregate) (f : QueryFault) → ((x : List ℕ) → Contains (argument_names a) x → column_fault fields x ≡ Some f → IsViolation fields t f) → (IsOfOtherKind fields a → TypesDisagree ≡ f → IsViolation fields t f) → aggregate_fault fields a ≡ Some f → IsViolation fields t f
 argument_stands fields t a f unknown other h =
     let found = first_at (argument_fault fields (takes a)) (argument_names a) f h in
-    either (column_fault fields found.0) _ f (Stands fields t f) (unknown found.0 found.1)
+    either (column_fault fields found.0) _ f (IsViolation fields t f) (unknown found.0 found.1)
     (λ none later.
     let k = kind_fails fields (takes a) found.0 f (holds (is_some (place_of fields found.0)) (UnknownColumn found.0) none) later in
     other (found.0, k.0, found.1, k.1, k.2) k.3)
     found.2
 
 -- A set function that stands in a clause and does not take its column.
-aggregate_stands : (fields : List Field) (t : TreeForm) (c : Clause) (g : FunctionForm) (f : QueryFault) → StandsIn t c (function g) → aggregate_fault fields (aggregate_of g) ≡ Some f → Stands fields t f
+aggregate_stands : (fields : List Field) (t : TreeForm) (c : Clause) (g : FunctionForm) (f : QueryFault) → StandsIn t c (function g) → aggregate_fault fields (aggregate_of g) ≡ Some f → IsViolation fields t f
 aggregate_stands fields t c g f at h =
     argument_stands fields t (aggregate_of g) f (λ x among k. column_stands fields t x f (inr (c, function g, at, among)) k)
-    (λ other same. subst (Stands fields t) same (inr (c, g, at, other)))
+    (λ other same. subst (IsViolation fields t) same (inr (c, g, at, other)))
     h
 
 -- A choice with a fault: the test holds and its first side has it, or the test fails and the fault is the other one.
@@ -213,14 +213,14 @@ is_written t clause.OrderBy a e may at = at
 
 -- The fault of each FILTER in a query stands in the query.
 abbrev pub FiltersStand : List Field → TreeForm → QueryFault → Type 0
-FiltersStand fields t f = (p : PredicateForm) → IsFilterIn t p → predicate_fault fields [] clause.Where p ≡ Some f → Stands fields t f
+FiltersStand fields t f = (p : PredicateForm) → IsFilterIn t p → predicate_fault fields [] clause.Where p ≡ Some f → IsViolation fields t f
 
 -- A set function that may not stand.
-misplaced_stands : (fields : List Field) (t : TreeForm) (c : Clause) (g : FunctionForm) (f : QueryFault) → StandsIn t c (function g) → may_stand c (aggregate_of g) ≡ false → FunctionNotAllowed ≡ f → Stands fields t f
-misplaced_stands fields t c g f at may_not same = subst (Stands fields t) same (c, function g, at, may_not)
+misplaced_stands : (fields : List Field) (t : TreeForm) (c : Clause) (g : FunctionForm) (f : QueryFault) → StandsIn t c (function g) → may_stand c (aggregate_of g) ≡ false → FunctionNotAllowed ≡ f → IsViolation fields t f
+misplaced_stands fields t c g f at may_not same = subst (IsViolation fields t) same (c, function g, at, may_not)
 
 -- A set function that may not stand in its clause, does not take its column, or has a FILTER with a fault.
-function_stands : (fields : List Field) (t : TreeForm) (c : Clause) (g : FunctionForm) (f : QueryFault) → (c ≢ clause.Where → FiltersStand fields t f) → StandsIn t c (function g) → function_fault fields c g ≡ Some f → Stands fields t f
+function_stands : (fields : List Field) (t : TreeForm) (c : Clause) (g : FunctionForm) (f : QueryFault) → (c ≢ clause.Where → FiltersStand fields t f) → StandsIn t c (function g) → function_fault fields c g ≡ Some f → IsViolation fields t f
 function_stands fields t c (over_all a) f deeper at h =
     elim (chosen_cases (may_stand c a) (aggregate_fault fields a) FunctionNotAllowed f h) [
       | inl may ↦ aggregate_stands fields t c (over_all a) f at may.1
@@ -228,7 +228,7 @@ function_stands fields t c (over_all a) f deeper at h =
     ]
 function_stands fields t c (over_filtered a p) f deeper at h =
     elim (chosen_cases (may_stand c a) (option_or (aggregate_fault fields a) (predicate_fault fields [] clause.Where p)) FunctionNotAllowed f h) [
-      | inl may ↦ either (aggregate_fault fields a) (predicate_fault fields [] clause.Where p) f (Stands fields t f)
+      | inl may ↦ either (aggregate_fault fields a) (predicate_fault fields [] clause.Where p) f (IsViolation fields t f)
           (λ k. aggregate_stands fields t c (over_filtered a p) f at k)
           (λ _ k. deeper (not_where c a may.0) p (c, a, is_written t c a (function (over_filtered a p)) may.0 at) k)
           may.1
@@ -238,7 +238,7 @@ function_stands fields t c (over_filtered a p) f deeper at h =
 -- ---- expressions
 
 -- An expression with a fault, wherever it stands.
-pub expression_stands : (fields : List Field) (t : TreeForm) (c : Clause) (e : ExpressionForm) (f : QueryFault) → (c ≢ clause.Where → FiltersStand fields t f) → StandsIn t c e → expression_fault fields (grouping_places fields t) c e ≡ Some f → Stands fields t f
+pub expression_stands : (fields : List Field) (t : TreeForm) (c : Clause) (e : ExpressionForm) (f : QueryFault) → (c ≢ clause.Where → FiltersStand fields t f) → StandsIn t c e → expression_fault fields (grouping_places fields t) c e ≡ Some f → IsViolation fields t f
 expression_stands fields t c (name n) f deeper at h = name_stands fields t c n f at h
 expression_stands fields t c (grouping ns) f deeper at h = grouping_stands fields t c ns f at h
 expression_stands fields t c (function g) f deeper at h = function_stands fields t c g f deeper at h

@@ -28,7 +28,7 @@ use Rattle.query_typecheck.specs.Typing.{IsColumn, IsTypedAggregate, IsTypedName
 use Rattle.semantics.specs.Types.{aggregate_kind, key_expression, literal_kind, operand_kind}
 use Rattle.query_typecheck.specs.Inside.FirstFaults.{Answers, first_fault, column_fault, name_fault, expression_fault, operand_fault, agreement_fault, between_agreement, member_agreement, predicate_fault, parts_fault, clause_fault, header_fault, headers_fault, limit_fault, query_fault, tests_of}
 use Rattle.semantics.specs.Faults.{same_kind}
-use Rattle.query_typecheck.specs.Standing.{AreOfTwoKinds, Disagrees, IsAtomIn, Stands, StandsIn, StandsTwice, atoms, operands, parts_atoms}
+use Rattle.query_typecheck.specs.Standing.{AreOfTwoKinds, Disagrees, IsAtomIn, IsViolation, StandsIn, StandsTwice, atoms, operands, parts_atoms}
 use Rattle.query_typecheck.proofs.TypedLemmas.{name_from_none, operand_from_none, same_itself}
 use Rattle.query_typecheck.proofs.StandingLemmas.{FiltersStand, column_has_kind, column_stands, either, expression_stands, fails, first_at, kind_fails, mapped, name_stands}
 
@@ -42,7 +42,7 @@ in_atom t clause.Having p e atom among = (p, atom, among)
 in_atom t clause.OrderBy p e atom among = let below = atom.1 in absurd (omega arith)
 
 -- An operand with a fault.
-operand_stands : (fields : List Field) (t : TreeForm) (c : Clause) (p : PredicateForm) (x : OperandForm) (f : QueryFault) → (c ≢ clause.Where → FiltersStand fields t f) → IsAtomIn t c p → Contains (operands p) x → operand_fault fields (grouping_places fields t) c x ≡ Some f → Stands fields t f
+operand_stands : (fields : List Field) (t : TreeForm) (c : Clause) (p : PredicateForm) (x : OperandForm) (f : QueryFault) → (c ≢ clause.Where → FiltersStand fields t f) → IsAtomIn t c p → Contains (operands p) x → operand_fault fields (grouping_places fields t) c x ≡ Some f → IsViolation fields t f
 operand_stands fields t c p (expression e) f deeper atom among h = expression_stands fields t c e f deeper (in_atom t c p e atom among) h
 operand_stands fields t c p (literal a) f deeper atom among h = absurd cc
 
@@ -107,38 +107,38 @@ two_kinds (Some k) None f some_a some_b h = absurd cc
 two_kinds (Some k) (Some l) f some_a some_b h = let n = fails (same_kind k l) TypesDisagree f h in ((k, l, refl, refl, differ k l n.0), n.1)
 
 -- Two operands of an atom whose types do not agree.
-pair_stands : (fields : List Field) (t : TreeForm) (c : Clause) (p : PredicateForm) (x y : OperandForm) (f : QueryFault) → IsAtomIn t c p → (AreOfTwoKinds (operand_kind fields x) (operand_kind fields y) → Disagrees fields p) → operand_fault fields (grouping_places fields t) c x ≡ None → operand_fault fields (grouping_places fields t) c y ≡ None → agreement_fault (operand_kind fields x) (operand_kind fields y) ≡ Some f → Stands fields t f
+pair_stands : (fields : List Field) (t : TreeForm) (c : Clause) (p : PredicateForm) (x y : OperandForm) (f : QueryFault) → IsAtomIn t c p → (AreOfTwoKinds (operand_kind fields x) (operand_kind fields y) → Disagrees fields p) → operand_fault fields (grouping_places fields t) c x ≡ None → operand_fault fields (grouping_places fields t) c y ≡ None → agreement_fault (operand_kind fields x) (operand_kind fields y) ≡ Some f → IsViolation fields t f
 pair_stands fields t c p x y f atom disagree fine_x fine_y h =
     let two = two_kinds (operand_kind fields x) (operand_kind fields y) f (operand_has_kind fields t c p x atom fine_x) (operand_has_kind fields t c p y atom fine_y) h in
-    subst (Stands fields t) two.1 (inl (c, p, atom, disagree two.0))
+    subst (IsViolation fields t) two.1 (inl (c, p, atom, disagree two.0))
 
 -- ---- atoms
 
 -- A comparison with a fault.
-compare_stands : (fields : List Field) (t : TreeForm) (c : Clause) (p : PredicateForm) (x y : OperandForm) (f : QueryFault) → (c ≢ clause.Where → FiltersStand fields t f) → IsAtomIn t c p → Contains (operands p) x → Contains (operands p) y → (AreOfTwoKinds (operand_kind fields x) (operand_kind fields y) → Disagrees fields p) → option_or (operand_fault fields (grouping_places fields t) c x) (option_or (operand_fault fields (grouping_places fields t) c y) (agreement_fault (operand_kind fields x) (operand_kind fields y))) ≡ Some f → Stands fields t f
+compare_stands : (fields : List Field) (t : TreeForm) (c : Clause) (p : PredicateForm) (x y : OperandForm) (f : QueryFault) → (c ≢ clause.Where → FiltersStand fields t f) → IsAtomIn t c p → Contains (operands p) x → Contains (operands p) y → (AreOfTwoKinds (operand_kind fields x) (operand_kind fields y) → Disagrees fields p) → option_or (operand_fault fields (grouping_places fields t) c x) (option_or (operand_fault fields (grouping_places fields t) c y) (agreement_fault (operand_kind fields x) (operand_kind fields y))) ≡ Some f → IsViolation fields t f
 compare_stands fields t c p x y f deeper atom in_x in_y disagree h =
-    either (operand_fault fields (grouping_places fields t) c x) _ f (Stands fields t f)
+    either (operand_fault fields (grouping_places fields t) c x) _ f (IsViolation fields t f)
     (λ k. operand_stands fields t c p x f deeper atom in_x k)
-    (λ fine_x later. either (operand_fault fields (grouping_places fields t) c y) _ f (Stands fields t f)
+    (λ fine_x later. either (operand_fault fields (grouping_places fields t) c y) _ f (IsViolation fields t f)
     (λ k. operand_stands fields t c p y f deeper atom in_y k)
     (λ fine_y last. pair_stands fields t c p x y f atom disagree fine_x fine_y last)
     later)
     h
 
 -- A BETWEEN with a fault.
-between_stands : (fields : List Field) (t : TreeForm) (c : Clause) (x : OperandForm) (n : Bool) (y z : OperandForm) (f : QueryFault) → (c ≢ clause.Where → FiltersStand fields t f) → IsAtomIn t c (between x n y z) → predicate_fault fields (grouping_places fields t) c (between x n y z) ≡ Some f → Stands fields t f
+between_stands : (fields : List Field) (t : TreeForm) (c : Clause) (x : OperandForm) (n : Bool) (y z : OperandForm) (f : QueryFault) → (c ≢ clause.Where → FiltersStand fields t f) → IsAtomIn t c (between x n y z) → predicate_fault fields (grouping_places fields t) c (between x n y z) ≡ Some f → IsViolation fields t f
 between_stands fields t c x n y z f deeper atom h =
     let p = between x n y z in
     let in_x : Contains (operands p) x = (0, omega arith, refl) in
     let in_y : Contains (operands p) y = (1, omega arith, refl) in
     let in_z : Contains (operands p) z = (2, omega arith, refl) in
-    either (operand_fault fields (grouping_places fields t) c x) _ f (Stands fields t f)
+    either (operand_fault fields (grouping_places fields t) c x) _ f (IsViolation fields t f)
     (λ k. operand_stands fields t c p x f deeper atom in_x k)
-    (λ fine_x h1. either (operand_fault fields (grouping_places fields t) c y) _ f (Stands fields t f)
+    (λ fine_x h1. either (operand_fault fields (grouping_places fields t) c y) _ f (IsViolation fields t f)
     (λ k. operand_stands fields t c p y f deeper atom in_y k)
-    (λ fine_y h2. either (operand_fault fields (grouping_places fields t) c z) _ f (Stands fields t f)
+    (λ fine_y h2. either (operand_fault fields (grouping_places fields t) c z) _ f (IsViolation fields t f)
     (λ k. operand_stands fields t c p z f deeper atom in_z k)
-    (λ fine_z h3. either (agreement_fault (operand_kind fields x) (operand_kind fields y)) _ f (Stands fields t f)
+    (λ fine_z h3. either (agreement_fault (operand_kind fields x) (operand_kind fields y)) _ f (IsViolation fields t f)
     (λ k. pair_stands fields t c p x y f atom (λ two. (x, y, in_x, in_y, two)) fine_x fine_y k)
     (λ _ h4. pair_stands fields t c p x z f atom (λ two. (x, z, in_x, in_z, two)) fine_x fine_z h4)
     h3)
@@ -147,11 +147,11 @@ between_stands fields t c x n y z f deeper atom h =
     h
 
 -- An IN with a fault.
-member_stands : (fields : List Field) (t : TreeForm) (c : Clause) (x : OperandForm) (n : Bool) (ls : List Literal) (f : QueryFault) → (c ≢ clause.Where → FiltersStand fields t f) → IsAtomIn t c (member x n ls) → predicate_fault fields (grouping_places fields t) c (member x n ls) ≡ Some f → Stands fields t f
+member_stands : (fields : List Field) (t : TreeForm) (c : Clause) (x : OperandForm) (n : Bool) (ls : List Literal) (f : QueryFault) → (c ≢ clause.Where → FiltersStand fields t f) → IsAtomIn t c (member x n ls) → predicate_fault fields (grouping_places fields t) c (member x n ls) ≡ Some f → IsViolation fields t f
 member_stands fields t c x n ls f deeper atom h =
     let p = member x n ls in
     let in_x : Contains (operands p) x = (0, omega arith, refl) in
-    either (operand_fault fields (grouping_places fields t) c x) _ f (Stands fields t f)
+    either (operand_fault fields (grouping_places fields t) c x) _ f (IsViolation fields t f)
     (λ k. operand_stands fields t c p x f deeper atom in_x k)
     (λ fine_x later.
     let found = first_at (λ a. agreement_fault (operand_kind fields x) (Some (literal_kind a))) ls f later in
@@ -160,20 +160,20 @@ member_stands fields t c x n ls f deeper atom h =
     h
 
 -- A name that stands alone, with a fault.
-truth_stands : (fields : List Field) (t : TreeForm) (c : Clause) (n : List ℕ) (f : QueryFault) → IsAtomIn t c (column n) → predicate_fault fields (grouping_places fields t) c (column n) ≡ Some f → Stands fields t f
+truth_stands : (fields : List Field) (t : TreeForm) (c : Clause) (n : List ℕ) (f : QueryFault) → IsAtomIn t c (column n) → predicate_fault fields (grouping_places fields t) c (column n) ≡ Some f → IsViolation fields t f
 truth_stands fields t c n f atom h =
-    either (name_fault fields (grouping_places fields t) c n) _ f (Stands fields t f)
+    either (name_fault fields (grouping_places fields t) c n) _ f (IsViolation fields t f)
     (λ k. name_stands fields t c n f (in_atom t c (column n) (name n) atom (0, omega arith, refl)) k)
     (λ fine later.
     let k = kind_fails fields (kind.Bool ∷ []) n f (typed_is_column fields (grouping_places fields t) c n (name_from_none fields (grouping_places fields t) c n fine)) later in
-    subst (Stands fields t) k.3 (inl (c, column n, atom, (k.0, kind.Bool, k.1, refl, λ e. k.2 (0, omega arith, sym e)))))
+    subst (IsViolation fields t) k.3 (inl (c, column n, atom, (k.0, kind.Bool, k.1, refl, λ e. k.2 (0, omega arith, sym e)))))
     h
 
 -- ---- predicates
 
 mutual
   -- A predicate with a fault, whose atoms stand in a clause.
-  predicate_stands : (fields : List Field) (t : TreeForm) (c : Clause) (p : PredicateForm) (f : QueryFault) → (c ≢ clause.Where → FiltersStand fields t f) → ((a : PredicateForm) → Contains (atoms p) a → IsAtomIn t c a) → predicate_fault fields (grouping_places fields t) c p ≡ Some f → Stands fields t f
+  predicate_stands : (fields : List Field) (t : TreeForm) (c : Clause) (p : PredicateForm) (f : QueryFault) → (c ≢ clause.Where → FiltersStand fields t f) → ((a : PredicateForm) → Contains (atoms p) a → IsAtomIn t c a) → predicate_fault fields (grouping_places fields t) c p ≡ Some f → IsViolation fields t f
   predicate_stands fields t c (or_of ps) f deeper inside h = parts_stand fields t c ps f deeper inside h
   predicate_stands fields t c (and_of ps) f deeper inside h = parts_stand fields t c ps f deeper inside h
   predicate_stands fields t c (not_of p) f deeper inside h = predicate_stands fields t c p f deeper inside h
@@ -187,10 +187,10 @@ mutual
   predicate_stands fields t c (column n) f deeper inside h = truth_stands fields t c n f (inside (column n) (0, omega arith, refl)) h
 
   -- Parts with a fault, whose atoms stand in a clause.
-  parts_stand : (fields : List Field) (t : TreeForm) (c : Clause) (ps : PredicateForms) (f : QueryFault) → (c ≢ clause.Where → FiltersStand fields t f) → ((a : PredicateForm) → Contains (parts_atoms ps) a → IsAtomIn t c a) → parts_fault fields (grouping_places fields t) c ps ≡ Some f → Stands fields t f
+  parts_stand : (fields : List Field) (t : TreeForm) (c : Clause) (ps : PredicateForms) (f : QueryFault) → (c ≢ clause.Where → FiltersStand fields t f) → ((a : PredicateForm) → Contains (parts_atoms ps) a → IsAtomIn t c a) → parts_fault fields (grouping_places fields t) c ps ≡ Some f → IsViolation fields t f
   parts_stand fields t c no_parts f deeper inside h = absurd cc
   parts_stand fields t c (part p ps) f deeper inside h =
-      either (predicate_fault fields (grouping_places fields t) c p) (parts_fault fields (grouping_places fields t) c ps) f (Stands fields t f)
+      either (predicate_fault fields (grouping_places fields t) c p) (parts_fault fields (grouping_places fields t) c ps) f (IsViolation fields t f)
       (λ k. predicate_stands fields t c p f deeper (λ a at. inside a (Contains-append_left (atoms p) (parts_atoms ps) a at)) k)
       (λ _ k. parts_stand fields t c ps f deeper (λ a at. inside a (Contains-append_right (atoms p) (parts_atoms ps) a at)) k)
       h
@@ -237,7 +237,7 @@ filter_stands fields t f p at h =
 -- ---- clauses
 
 -- A clause of a predicate with a fault.
-clause_stands : (fields : List Field) (t : TreeForm) (c : Clause) (o : Option PredicateForm) (f : QueryFault) → ((a : PredicateForm) → Contains (option_map_or atoms o []) a → IsAtomIn t c a) → clause_fault fields (grouping_places fields t) c o ≡ Some f → Stands fields t f
+clause_stands : (fields : List Field) (t : TreeForm) (c : Clause) (o : Option PredicateForm) (f : QueryFault) → ((a : PredicateForm) → Contains (option_map_or atoms o []) a → IsAtomIn t c a) → clause_fault fields (grouping_places fields t) c o ≡ Some f → IsViolation fields t f
 clause_stands fields t c None f inside h = absurd cc
 clause_stands fields t c (Some p) f inside h = predicate_stands fields t c p f (λ _. filter_stands fields t f) inside h
 
@@ -288,30 +288,30 @@ over most n f h =
 -- ---- the query
 
 -- The first fault of a query stands in it.
-pub first_stands : (fields : List Field) (t : TreeForm) (f : QueryFault) → query_fault fields t ≡ Some f → Stands fields t f
+pub first_stands : (fields : List Field) (t : TreeForm) (f : QueryFault) → query_fault fields t ≡ Some f → IsViolation fields t f
 unfolding tests_of
 first_stands fields t f h =
     let grouped = grouping_places fields t in
-    either (clause_fault fields grouped clause.Where t.where_condition) _ f (Stands fields t f)
+    either (clause_fault fields grouped clause.Where t.where_condition) _ f (IsViolation fields t f)
     (λ k. clause_stands fields t clause.Where t.where_condition f (λ a at. inl at) k)
-    (λ _ a. either (first_fault (column_fault fields) (grouping_names t)) _ f (Stands fields t f)
+    (λ _ a. either (first_fault (column_fault fields) (grouping_names t)) _ f (IsViolation fields t f)
     (λ k. let found = first_at (column_fault fields) (grouping_names t) f k in column_stands fields t found.0 f (inl found.1) found.2)
-    (λ _ b. either (limit_fault 256 (length (expanded t.groups))) _ f (Stands fields t f)
-    (λ k. let n = over 256 (length (expanded t.groups)) f k in subst (Stands fields t) n.1 (inl n.0))
-    (λ _ c. either (first_fault (λ (i : ItemForm). expression_fault fields grouped clause.Select i.expression) t.items) _ f (Stands fields t f)
+    (λ _ b. either (limit_fault 256 (length (expanded t.groups))) _ f (IsViolation fields t f)
+    (λ k. let n = over 256 (length (expanded t.groups)) f k in subst (IsViolation fields t) n.1 (inl n.0))
+    (λ _ c. either (first_fault (λ (i : ItemForm). expression_fault fields grouped clause.Select i.expression) t.items) _ f (IsViolation fields t f)
     (λ k.
     let found = first_at (λ (i : ItemForm). expression_fault fields grouped clause.Select i.expression) t.items f k in
     expression_stands fields t clause.Select found.0.expression f (λ _. filter_stands fields t f) (mapped (λ (i : ItemForm). i.expression) t.items found.0 found.1) found.2)
-    (λ _ d. either (headers_fault (map header_text t.items)) _ f (Stands fields t f)
-    (λ k. let n = header_stands [] (map header_text t.items) f k in subst (Stands fields t) n.2 n.1)
-    (λ _ e. either (clause_fault fields grouped clause.Having t.having_condition) _ f (Stands fields t f)
+    (λ _ d. either (headers_fault (map header_text t.items)) _ f (IsViolation fields t f)
+    (λ k. let n = header_stands [] (map header_text t.items) f k in subst (IsViolation fields t) n.2 n.1)
+    (λ _ e. either (clause_fault fields grouped clause.Having t.having_condition) _ f (IsViolation fields t f)
     (λ k. clause_stands fields t clause.Having t.having_condition f (λ a at. at) k)
-    (λ _ g. either (first_fault (λ (k : KeyForm). expression_fault fields grouped clause.OrderBy (key_expression t.items k.expression)) t.keys) _ f (Stands fields t f)
+    (λ _ g. either (first_fault (λ (k : KeyForm). expression_fault fields grouped clause.OrderBy (key_expression t.items k.expression)) t.keys) _ f (IsViolation fields t f)
     (λ k.
     let found = first_at (λ (k : KeyForm). expression_fault fields grouped clause.OrderBy (key_expression t.items k.expression)) t.keys f k in
     expression_stands fields t clause.OrderBy (key_expression t.items found.0.expression) f (λ _. filter_stands fields t f) (mapped (λ (k : KeyForm). key_expression t.items k.expression) t.keys found.0 found.1) found.2)
-    (λ _ i. either (limit_fault 64 (length (functions_of fields t))) None f (Stands fields t f)
-    (λ k. let n = over 64 (length (functions_of fields t)) f k in subst (Stands fields t) n.1 (inr n.0))
+    (λ _ i. either (limit_fault 64 (length (functions_of fields t))) None f (IsViolation fields t f)
+    (λ k. let n = over 64 (length (functions_of fields t)) f k in subst (IsViolation fields t) n.1 (inr n.0))
     (λ _ j. absurd cc)
     i)
     g)
@@ -323,6 +323,6 @@ first_stands fields t f h =
     h
 
 -- A query that is refused, other than for want of memory, has the fault.
-pub stands_err : {X : Type 0} (fields : List Field) (t : TreeForm) (r : Result X QueryFault) → Answers r (query_fault fields t) → IfErr r (λ f. f ≢ OutOfMemory → Stands fields t f)
+pub stands_err : {X : Type 0} (fields : List Field) (t : TreeForm) (r : Result X QueryFault) → Answers r (query_fault fields t) → IfErr r (λ f. f ≢ OutOfMemory → IsViolation fields t f)
 stands_err fields t (Ok x) h = tt
 stands_err fields t (Err f) h = λ other. first_stands fields t f (h other)

@@ -124,13 +124,13 @@ StandsTwice h headers = (before : List (List ℕ)) × (behind : List (List ℕ))
 -- too much, where there are more than 256 grouping sets or more than 64 different set functions;
 -- a repeated header, where two items have it.
 -- A query that was read has no fault of its text. Want of memory says nothing.
-abbrev pub Stands : List Field → TreeForm → QueryFault → Type 0
-Stands fields t (faults.UnknownColumn n) = (Contains (grouping_names t) n ⊎ ((c : Clause) × (e : ExpressionForm) × StandsIn t c e × Contains (names e) n)) × (IsColumn fields n → ⊥)
-Stands fields t (faults.NotGrouped n) = (c : Clause) × (e : ExpressionForm) × StandsIn t c e × (c ≢ clause.Where) × Contains (outer_names e) n × IsColumn fields n × (Contains (grouping_names t) n → ⊥)
-Stands fields t faults.TypesDisagree = ((c : Clause) × (p : PredicateForm) × IsAtomIn t c p × Disagrees fields p) ⊎ ((c : Clause) × (f : FunctionForm) × StandsIn t c (function f) × IsOfOtherKind fields (aggregate_of f))
-Stands fields t faults.FunctionNotAllowed = (c : Clause) × (e : ExpressionForm) × StandsIn t c e × IsMisplaced c e
-Stands fields t faults.OverLimit = (256 < length (expanded t.groups)) ⊎ (64 < length (functions_of fields t))
-Stands fields t (faults.RepeatedHeader h) = StandsTwice h (map header_text t.items)
-Stands fields t (faults.NoToken byte) = ⊥
-Stands fields t (faults.Unexpected byte) = ⊥
-Stands fields t faults.OutOfMemory = ⊤
+abbrev pub IsViolation : List Field → TreeForm → QueryFault → Type 0
+IsViolation fields t (faults.UnknownColumn n) = (Contains (grouping_names t) n ⊎ ((c : Clause) × (e : ExpressionForm) × StandsIn t c e × Contains (names e) n)) × (IsColumn fields n → ⊥)
+IsViolation fields t (faults.NotGrouped n) = (c : Clause) × (e : ExpressionForm) × StandsIn t c e × (c ≢ clause.Where) × Contains (outer_names e) n × IsColumn fields n × (Contains (grouping_names t) n → ⊥)
+IsViolation fields t faults.TypesDisagree = ((c : Clause) × (p : PredicateForm) × IsAtomIn t c p × Disagrees fields p) ⊎ ((c : Clause) × (f : FunctionForm) × StandsIn t c (function f) × IsOfOtherKind fields (aggregate_of f))
+IsViolation fields t faults.FunctionNotAllowed = (c : Clause) × (e : ExpressionForm) × StandsIn t c e × IsMisplaced c e
+IsViolation fields t faults.OverLimit = (256 < length (expanded t.groups)) ⊎ (64 < length (functions_of fields t))
+IsViolation fields t (faults.RepeatedHeader h) = StandsTwice h (map header_text t.items)
+IsViolation fields t (faults.NoToken byte) = ⊥
+IsViolation fields t (faults.Unexpected byte) = ⊥
+IsViolation fields t faults.OutOfMemory = ⊤

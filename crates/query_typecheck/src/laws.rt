@@ -8,7 +8,7 @@ ghost use Rattle.semantics.specs.declared.query_fault.QueryFault.{QueryFault};
 ghost use Rattle.query_typecheck.specs.Inside.FirstFaults.{IsFirst, first_fault, query_fault};
 ghost use Rattle.semantics.specs.Faults.{query_faults, same_kind};
 ghost use Rattle.query_typecheck.specs.Filters.{AreTypedFilters, LeadBack};
-ghost use Rattle.query_typecheck.specs.Standing.{Stands};
+ghost use Rattle.query_typecheck.specs.Standing.{IsViolation};
 ghost use Rattle.query_typecheck.specs.Typing.{IsTyped};
 
 /// A law: the index of each set function of a query leads to its own FILTER, and each FILTER of a typed query is typed
@@ -30,5 +30,5 @@ pub fn first_fault_law<A>()
 pub fn typed_law()
     ensures typed { (fields : List Field) (t : TreeForm) → query_faults fields t ≡ [] ↔ IsTyped fields t }
     ensures first { (fields : List Field) (t : TreeForm) → slice_get (query_faults fields t) 0 ≡ query_fault fields t }
-    ensures stands { (fields : List Field) (t : TreeForm) (f : QueryFault) → slice_get (query_faults fields t) 0 ≡ Some f → Stands fields t f }
+    ensures stands { (fields : List Field) (t : TreeForm) (f : QueryFault) → slice_get (query_faults fields t) 0 ≡ Some f → IsViolation fields t f }
 {}

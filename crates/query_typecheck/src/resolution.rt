@@ -13,7 +13,7 @@ ghost use Rattle.query_typecheck.specs.Typing.{IsTyped};
 ghost use Rattle.semantics.specs.Types.{key_expression};
 ghost use Rattle.query_typecheck.specs.Inside.FirstFaults.{Answers, clause_fault, expression_fault, first_fault, headers_fault, limit_fault, query_fault};
 ghost use Rattle.query_typecheck.specs.Inside.Clauses.{clauses_fault, records_fault, rows_fault, select_fault};
-ghost use Rattle.query_typecheck.specs.Standing.{Stands};
+ghost use Rattle.query_typecheck.specs.Standing.{IsViolation};
 ghost use Rattle.semantics.specs.declared.query_fault.QueryFault.TheVariants.{OutOfMemory, RepeatedHeader};
 ghost use Rattle.query_resolve.specs.Resolution.{resolution_of};
 
@@ -31,10 +31,10 @@ use std::marker::Model;
 use values::{Column, Schema};
 
 /// The most grouping sets in the expanded list.
-const MOST_GROUPING_SETS: u64 = 256;
+const MAX_GROUPING_SETS: u64 = 256;
 
 /// The most different set functions.
-const MOST_SET_FUNCTIONS: u64 = 64;
+const MAX_SET_FUNCTIONS: u64 = 64;
 
 /// What a query is resolved to under a schema: places of columns, from 0, in place of their names.
 ///
@@ -182,7 +182,7 @@ fn check_limit(most: u64, count: u64) -> Result<(), QueryFault>
 fn check_set_count(groups: &[GroupingElement]) -> Result<(), QueryFault>
     ensures fault { Answers result (limit_fault 256 (length (expanded (map element_form groups.now)))) }
 {
-    check_limit(MOST_GROUPING_SETS, set_count(groups))
+    check_limit(MAX_GROUPING_SETS, set_count(groups))
 }
 
 /// Whether WHERE and GROUP BY are typed.
@@ -247,7 +247,7 @@ fn check_clauses(
     check_records(&scope, tree)?;
     check_rows(alloc, columns, grouping, tree)?;
     let functions = indexed_functions(alloc, columns, tree)?;
-    check_limit(MOST_SET_FUNCTIONS, functions.len() as u64)?;
+    check_limit(MAX_SET_FUNCTIONS, functions.len() as u64)?;
     Ok(functions)
 }
 
@@ -284,7 +284,7 @@ pub fn check_tree(alloc: Global, tree: &Tree, schema: &Schema) -> Result<Resolve
     ensures untyped { IfErr result (λ f. f ≢ OutOfMemory → IsTyped schema.now (tree_form tree.now) → ⊥) }
     ensures fault { Answers result (query_fault schema.now (tree_form tree.now)) }
     // A fault stands in the query.
-    ensures stands { IfErr result (λ f. f ≢ OutOfMemory → Stands schema.now (tree_form tree.now) f) }
+    ensures stands { IfErr result (λ f. f ≢ OutOfMemory → IsViolation schema.now (tree_form tree.now) f) }
 {
     resolve(alloc, tree, schema)
 }

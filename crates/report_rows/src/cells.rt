@@ -19,7 +19,7 @@ use tables_groups::{Cell, Group};
 use values::{Column, Value};
 
 /// The most columns that GROUPING takes.
-const MOST_COLUMNS: usize = 8;
+const MAX_COLUMNS: usize = 8;
 
 /// What a group of a grouping set shows for an expression.
 pub(crate) fn expression_cell(
@@ -115,7 +115,7 @@ fn grouping_number(columns: &[Column], set: &[usize], names: &[Text]) -> u64
 pub(crate) fn grouping_value(columns: &[Column], set: &[usize], names: &[Text]) -> Value
     ensures { datum_of result ≡ grouping_shown (fields_of columns.now) set.now names.now }
 {
-    if names.len() > MOST_COLUMNS {
+    if names.len() > MAX_COLUMNS {
         return Value::Null;
     }
     Value::Int(i128::from(grouping_number(columns, set, names)))

@@ -3,7 +3,7 @@ ghost use Rattle.std.specs.Prelude.{◌≡◌, ◌+◌, ◌/◌, ◌%◌, ◌<�
 
 /// How many groups a part has at least, where there is more than one part: the work on fewer is done sooner than a thread
 /// is started.
-const FEWEST: usize = 4_096;
+const PARALLEL_MIN_GROUPS: usize = 4_096;
 
 /// How many groups each part has, but perhaps the last, where so many groups are worked on by so many hands. There is a
 /// hand.
@@ -14,5 +14,5 @@ pub fn part_len(groups: usize, hands: usize) -> usize
     ensures len { result ≡ max 4096 (groups / hands + min 1 (groups % hands)) }
     ensures some { 0 < result }
 {
-    FEWEST.max(groups.div_ceil(hands))
+    PARALLEL_MIN_GROUPS.max(groups.div_ceil(hands))
 }

@@ -75,16 +75,16 @@ not_text n = if n then codes "NOT " else []
 
 -- How tightly a predicate holds together: OR least, then AND, NOT and a truth test, and an atom
 -- most.
-abbrev pub tightness : PredicateForm → ℕ
-tightness (or_of ps) = 0
-tightness (and_of ps) = 1
-tightness (not_of p) = 2
-tightness (truth_test p n t) = 3
-tightness (compare a c b) = 4
-tightness (between a n b c) = 4
-tightness (member a n ls) = 4
-tightness (null_test a n) = 4
-tightness (column n) = 4
+abbrev pub precedence : PredicateForm → ℕ
+precedence (or_of ps) = 0
+precedence (and_of ps) = 1
+precedence (not_of p) = 2
+precedence (truth_test p n t) = 3
+precedence (compare a c b) = 4
+precedence (between a n b c) = 4
+precedence (member a n ls) = 4
+precedence (null_test a n) = 4
+precedence (column n) = 4
 
 -- A part of a predicate stands in brackets exactly where it holds together less tightly than its
 -- place asks.
@@ -113,18 +113,18 @@ abbrev mutual
   pub predicate_text : PredicateForm → List ℕ
   predicate_text (or_of ps) = joined (codes " OR ") (part_texts 1 ps)
   predicate_text (and_of ps) = joined (codes " AND ") (part_texts 2 ps)
-  predicate_text (not_of p) = codes "NOT " ++ bracketed_below 3 (tightness p) (predicate_text p)
-  predicate_text (truth_test p n t) = bracketed_below 4 (tightness p) (predicate_text p) ++ codes " IS " ++ not_text n ++ truth_text t
+  predicate_text (not_of p) = codes "NOT " ++ bracketed_below 3 (precedence p) (predicate_text p)
+  predicate_text (truth_test p n t) = bracketed_below 4 (precedence p) (predicate_text p) ++ codes " IS " ++ not_text n ++ truth_text t
   predicate_text (compare a c b) = operand_text a ++ codes " " ++ op_text c ++ codes " " ++ operand_text b
   predicate_text (between a n b c) = operand_text a ++ codes " " ++ not_text n ++ codes "BETWEEN " ++ operand_text b ++ codes " AND " ++ operand_text c
   predicate_text (member a n ls) = operand_text a ++ codes " " ++ not_text n ++ codes "IN " ++ in_brackets (comma_list (map literal_text ls))
   predicate_text (null_test a n) = operand_text a ++ codes " IS " ++ not_text n ++ codes "NULL"
   predicate_text (column n) = name_text n
 
-  -- The parts of an OR or an AND, in places that ask for this tightness.
+  -- The parts of an OR or an AND, in places that ask for this precedence.
   pub part_texts : ℕ → PredicateForms → List (List ℕ)
   part_texts least no_parts = []
-  part_texts least (part p ps) = bracketed_below least (tightness p) (predicate_text p) ∷ part_texts least ps
+  part_texts least (part p ps) = bracketed_below least (precedence p) (predicate_text p) ∷ part_texts least ps
 
 -- ---- groups
 

@@ -72,16 +72,16 @@ record_of fields (Some other) = Err NoObject
 
 -- The record of a line under a schema, or the line's first fault: it is too long, has no reading,
 -- is no object, or has a member that its column does not take.
-abbrev pub taken : List Field → List ℕ → Result (List Datum) LineFault
-taken fields line = if nat_lt max_line_len (length line) then Err TooLong else record_of fields (reading line)
+abbrev pub decode_line : List Field → List ℕ → Result (List Datum) LineFault
+decode_line fields line = if nat_lt max_line_len (length line) then Err TooLong else record_of fields (reading line)
 
 -- What is taken of each line of the input, in order.
 abbrev pub answers : List Field → List ℕ → List (Result (List Datum) LineFault)
-answers fields input = map (taken fields) (lines input)
+answers fields input = map (decode_line fields) (lines input)
 
 -- The records of the lines that have no fault, in order.
-abbrev pub good : List Field → List ℕ → List (List Datum)
-good fields input = filter_map result_ok (answers fields input)
+abbrev pub valid_records : List Field → List ℕ → List (List Datum)
+valid_records fields input = filter_map result_ok (answers fields input)
 
 -- The number of each line that has a fault, beside the fault, in order; the first line of the input
 -- has the number 1.

@@ -4,7 +4,7 @@ use Rattle.std.specs.Prelude.{◌≡◌, ◌++◌, ℕ, List, Option, ◌<◌, �
 use Rattle.semantics.specs.Columns.{Field}
 use Rattle.semantics.specs.Found.{query_found}
 use Rattle.semantics.specs.Order.{rows_shown}
-use Rattle.semantics.specs.Records.{good, refused}
+use Rattle.semantics.specs.Records.{valid_records, refused}
 use Rattle.semantics.specs.Syntax.{TreeForm}
 use Rattle.semantics.specs.Texts.{refused_bytes, report_bytes}
 use Rattle.semantics.specs.declared.run_fault.RunFault.{RunFault}
@@ -16,7 +16,7 @@ AppendsBeginning old new text = (front : List ℕ) × (rest : List ℕ) × (text
 
 -- The report of a query on an input: what the query finds in the good records of all lines.
 abbrev pub report : List Field → TreeForm → List ℕ → List ℕ
-report fields q input = report_bytes q.items (rows_shown fields q (query_found fields q (good fields input)))
+report fields q input = report_bytes q.items (rows_shown fields q (query_found fields q (valid_records fields input)))
 
 -- The list of the refused lines of an input.
 abbrev pub refusals : List Field → List ℕ → List ℕ
@@ -28,14 +28,14 @@ IsWithin None count = ⊤
 IsWithin (Some limit) count = count ≤ limit
 
 -- A fault by which something was refused to the run: a read, memory, a thread or a write.
-abbrev pub Hinders : RunFault → Type 0
-Hinders (TooManyRefused most) = ⊥
-Hinders fault = ⊤
+abbrev pub IsResourceFault : RunFault → Type 0
+IsResourceFault (TooManyRefused most) = ⊥
+IsResourceFault fault = ⊤
 
 -- Where nothing was refused to the run, it is done exactly where not more lines are refused than
 -- the limit, and else it answers that too many are.
 abbrev pub IsDecided : {X : Type 0} → Result X RunFault → Option ℕ → ℕ → Type 0
-IsDecided result limit count = IfErr result (λ fault. Hinders fault → ⊥) → (IsOk result ↔ IsWithin limit count)
+IsDecided result limit count = IfErr result (λ fault. IsResourceFault fault → ⊥) → (IsOk result ↔ IsWithin limit count)
 
 -- What a fault says, and what it leaves of the two outputs. Nothing was written where a read
 -- failed, memory or a thread was refused, or more lines are refused than the limit. Where a write

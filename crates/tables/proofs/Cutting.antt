@@ -7,7 +7,7 @@ use Rattle.std.specs.Result.{result_ok}
 use Rattle.semantics.specs.Values.{Datum}
 use Rattle.semantics.specs.Columns.{Field}
 use Rattle.semantics.specs.declared.line_fault.LineFault.{LineFault}
-use Rattle.semantics.specs.Records.{good, refused, taken}
+use Rattle.semantics.specs.Records.{valid_records, refused, decode_line}
 use Rattle.semantics.specs.Lines.{line_feed, lines}
 use Rattle.lines.specs.Pieces.{AllButLast, EndsInFeed}
 use Rattle.lines.proofs.Splits as splits
@@ -33,12 +33,12 @@ cut-lines (p ∷ q ∷ more) f = ap (λ ls. lines p.bytes ++ ls) (cut-lines (q �
 pub records-good : (fields : List Field) (pieces : List IndexedPiece) → records_of fields pieces ≡ good_of fields (all_lines pieces)
 records-good fields [] = refl
 records-good fields (p ∷ more) =
-    ap (λ rows. good fields p.bytes ++ rows) (records-good fields more)
-    ∙ sym (ap (filter_map result_ok) (map-append (taken fields) (lines p.bytes) (all_lines more)) ∙ filter_map-append result_ok (map (taken fields) (lines p.bytes)) (map (taken fields) (all_lines more)))
+    ap (λ rows. valid_records fields p.bytes ++ rows) (records-good fields more)
+    ∙ sym (ap (filter_map result_ok) (map-append (decode_line fields) (lines p.bytes) (all_lines more)) ∙ filter_map-append result_ok (map (decode_line fields) (lines p.bytes)) (map (decode_line fields) (all_lines more)))
 
 -- the refused ones of these lines, the first of which has the number n
 abbrev pub refused_from : List Field → ℕ → List (List ℕ) → List (ℕ × LineFault)
-refused_from fields n ls = filter_map numbered_fault (enumerate_from n (map (taken fields) ls))
+refused_from fields n ls = filter_map numbered_fault (enumerate_from n (map (decode_line fields) ls))
 
 shifted : (n m : ℕ) (rs : List (Result (List Datum) LineFault))
     → map (λ line. (n + line.0, line.1)) (filter_map numbered_fault (enumerate_from m rs)) ≡ filter_map numbered_fault (enumerate_from (n + m) rs)
@@ -48,23 +48,23 @@ shifted n m (Err fault ∷ rs) = ap (λ ls. (n + m, fault) ∷ ls) (shifted n (m
 
 refused_from-append : (fields : List Field) (n : ℕ) (ls ms : List (List ℕ)) → refused_from fields n (ls ++ ms) ≡ refused_from fields n ls ++ refused_from fields (n + length ls) ms
 refused_from-append fields n ls ms =
-    ap (λ rs. filter_map numbered_fault (enumerate_from n rs)) (map-append (taken fields) ls ms)
-    ∙ ap (filter_map numbered_fault) (enumerate-append n (map (taken fields) ls) (map (taken fields) ms))
-    ∙ filter_map-append numbered_fault (enumerate_from n (map (taken fields) ls)) (enumerate_from (n + length (map (taken fields) ls)) (map (taken fields) ms))
-    ∙ ap (λ k. refused_from fields n ls ++ filter_map numbered_fault (enumerate_from (n + k) (map (taken fields) ms))) (length-map ls (taken fields))
+    ap (λ rs. filter_map numbered_fault (enumerate_from n rs)) (map-append (decode_line fields) ls ms)
+    ∙ ap (filter_map numbered_fault) (enumerate-append n (map (decode_line fields) ls) (map (decode_line fields) ms))
+    ∙ filter_map-append numbered_fault (enumerate_from n (map (decode_line fields) ls)) (enumerate_from (n + length (map (decode_line fields) ls)) (map (decode_line fields) ms))
+    ∙ ap (λ k. refused_from fields n ls ++ filter_map numbered_fault (enumerate_from (n + k) (map (decode_line fields) ms))) (length-map ls (decode_line fields))
 
 -- numbered one piece after the other, the refused lines are those of all lines
 pub numbered-lines : (fields : List Field) (n : ℕ) (pieces : List IndexedPiece) → numbered_from n (map (note_of fields) pieces) ≡ refused_from fields (n + 1) (all_lines pieces)
 numbered-lines fields n [] = refl
 numbered-lines fields n (p ∷ more) =
     let ls = lines p.bytes in
-    ap (λ front. front ++ numbered_from (n + length ls) (map (note_of fields) more)) (shifted n 1 (map (taken fields) ls))
+    ap (λ front. front ++ numbered_from (n + length ls) (map (note_of fields) more)) (shifted n 1 (map (decode_line fields) ls))
     ∙ ap (λ rest. refused_from fields (n + 1) ls ++ rest) (numbered-lines fields (n + length ls) more)
     ∙ ap (λ k. refused_from fields (n + 1) ls ++ refused_from fields k (all_lines more)) (let e : n + length ls + 1 ≡ n + 1 + length ls = omega arith in e)
     ∙ sym (refused_from-append fields (n + 1) ls (all_lines more))
 
 -- what the pieces of an input that was cut between its lines come to
-pub cut-records : (fields : List Field) (input : List ℕ) (pieces : List IndexedPiece) → IsCutInto input pieces → records_of fields pieces ≡ good fields input
+pub cut-records : (fields : List Field) (input : List ℕ) (pieces : List IndexedPiece) → IsCutInto input pieces → records_of fields pieces ≡ valid_records fields input
 cut-records fields input pieces c = records-good fields pieces ∙ ap (good_of fields) (cut-lines pieces c.feeds ∙ ap lines c.joined)
 
 pub cut-refused : (fields : List Field) (input : List ℕ) (pieces : List IndexedPiece) → IsCutInto input pieces → numbered_from 0 (map (note_of fields) pieces) ≡ refused fields input

@@ -9,12 +9,12 @@ use Rattle.std.proofs.lemmas.List.Splits.{length-slice_split}
 use Rattle.std.specs.List.{list_all, onto_first, slice_split}
 use Rattle.semantics.specs.Columns.{Field}
 use Rattle.semantics.specs.declared.line_fault.LineFault.{LineFault}
-use Rattle.semantics.specs.Records.{good, refused}
+use Rattle.semantics.specs.Records.{valid_records, refused}
 use Rattle.semantics.specs.Lines.{line_feed, lines, without_empty_last}
 use Rattle.lines.specs.Pieces.{AreWholeLines}
 use Rattle.lines.proofs.Fronts.{good-whole_lines, lines-whole_lines, refused-whole_lines}
 use Rattle.tables_groups.specs.Bags.{SameBag, weigh}
-use Rattle.tables.specs.declared.note.Note.{Note}
+use Rattle.tables.specs.declared.note.PieceRefusals.{PieceRefusals}
 use Rattle.tables.specs.Notes.{AreLinesBehind, AreLinesOf, IsWellNumbered, Noted, lines_noted, note_in, note_of, numbered_from}
 use Rattle.tables.specs.Partials.{one_piece, whole_piece}
 use Rattle.tables.specs.Pieces.{IndexedPiece, IsCutInto, all_lines, records_of, refused_within}
@@ -132,9 +132,9 @@ refused-in_order fields input pieces notes found c same are = lines-in_order fie
 pub followed-records : (fields : List Field) (front back : List ℕ) (pieces more : List IndexedPiece) → AreWholeLines front → IsCutInto front pieces → IsCutInto back more
     → records_of fields (whole_piece (front ++ back)) ≡ records_of fields pieces ++ records_of fields more
 followed-records fields front back pieces more whole c d =
-    append-nil (good fields (front ++ back))
+    append-nil (valid_records fields (front ++ back))
     ∙ good-whole_lines fields front back whole
-    ∙ ap (λ rows. rows ++ good fields back) (sym (cut-records fields front pieces c))
+    ∙ ap (λ rows. rows ++ valid_records fields back) (sym (cut-records fields front pieces c))
     ∙ ap (λ rows. records_of fields pieces ++ rows) (sym (cut-records fields back more d))
 
 pub whole-lines : (input : List ℕ) → length (all_lines (whole_piece input)) ≡ length (lines input)
@@ -176,9 +176,9 @@ pub one-piece : (input : List ℕ) → IsCutInto input (whole_piece input)
 one-piece input = record { in_order = λ k lt. absurd (omega (arith, lt)); joined = append-nil input; feeds = tt }
 
 pub records-behind : (fields : List Field) (front rest : List ℕ) (pieces : List IndexedPiece) → AreWholeLines front → IsCutInto front pieces
-    → records_of fields (whole_piece (front ++ rest)) ≡ records_of fields pieces ++ good fields rest
+    → records_of fields (whole_piece (front ++ rest)) ≡ records_of fields pieces ++ valid_records fields rest
 records-behind fields front rest pieces whole c =
-    followed-records fields front rest pieces (whole_piece rest) whole c (one-piece rest) ∙ ap (λ rows. records_of fields pieces ++ rows) (append-nil (good fields rest))
+    followed-records fields front rest pieces (whole_piece rest) whole c (one-piece rest) ∙ ap (λ rows. records_of fields pieces ++ rows) (append-nil (valid_records fields rest))
 
 pub lines-behind : (front rest : List ℕ) (pieces : List IndexedPiece) → AreWholeLines front → IsCutInto front pieces
     → length (lines (front ++ rest)) ≡ length (all_lines pieces) + length (lines rest)
@@ -215,7 +215,7 @@ numbers-behind before count found more all low within behind =
 abbrev noted : ℕ → ℕ → List (ℕ × LineFault) → Noted
 noted index count found = record { index = index; lines = count; refused = found }
 
-pub followed-note : (fields : List Field) (input : List ℕ) (notes : List Note) (note : Note) → notes ≡ note ∷ [] → note.index ≡ 0 → note.lines ≡ length (lines input)
+pub followed-note : (fields : List Field) (input : List ℕ) (notes : List PieceRefusals) (note : PieceRefusals) → notes ≡ note ∷ [] → note.index ≡ 0 → note.lines ≡ length (lines input)
     → note.refused.items ≡ refused fields input → SameBag (map (note_of fields) (whole_piece input)) (map note_in notes)
 followed-note fields input notes note is first count found =
     let same : note_in note ≡ noted 0 (length (lines input)) (refused fields input) =
@@ -227,7 +227,7 @@ followed-note fields input notes note is first count found =
 -- the records, the lines and the refused lines of an input as one piece are those of its pieces
 pub one-records : (fields : List Field) (input : List ℕ) (pieces : List IndexedPiece) → IsCutInto input pieces → records_of fields (one_piece input) ≡ records_of fields pieces
 one-records fields [] pieces c = sym (cut-records fields [] pieces c)
-one-records fields (byte ∷ bytes) pieces c = append-nil (good fields (byte ∷ bytes)) ∙ sym (cut-records fields (byte ∷ bytes) pieces c)
+one-records fields (byte ∷ bytes) pieces c = append-nil (valid_records fields (byte ∷ bytes)) ∙ sym (cut-records fields (byte ∷ bytes) pieces c)
 
 pub one-lines : (input : List ℕ) (pieces : List IndexedPiece) → IsCutInto input pieces → length (all_lines (one_piece input)) ≡ length (all_lines pieces)
 one-lines [] pieces c = sym (count-lines [] pieces c)
@@ -248,22 +248,22 @@ some-line : (b : ℕ) (bytes : List ℕ) → 0 < length (lines (b ∷ bytes))
 some-line b bytes = some-parts b (b == line_feed) (slice_split (λ x. x == line_feed) bytes) (let n = length-slice_split (λ (x : ℕ). x == line_feed) bytes in omega (arith, n))
 
 -- the notes of an input as one piece: there is one where there is a line, and else none
-abbrev AreOneNote : ℕ → List (ℕ × LineFault) → List Note → Type 0
+abbrev AreOneNote : ℕ → List (ℕ × LineFault) → List PieceRefusals → Type 0
 AreOneNote count found notes =
-    (count ≡ 0 → notes ≡ []) × (0 < count → (note : Note) × (note.index ≡ 0) × (note.lines ≡ count) × (note.refused.items ≡ found) × (notes ≡ note ∷ []))
+    (count ≡ 0 → notes ≡ []) × (0 < count → (note : PieceRefusals) × (note.index ≡ 0) × (note.lines ≡ count) × (note.refused.items ≡ found) × (notes ≡ note ∷ []))
 
-pub one-noted : (fields : List Field) (input : List ℕ) (pieces : List IndexedPiece) (count : ℕ) (found : List (ℕ × LineFault)) (notes : List Note) → IsCutInto input pieces
+pub one-noted : (fields : List Field) (input : List ℕ) (pieces : List IndexedPiece) (count : ℕ) (found : List (ℕ × LineFault)) (notes : List PieceRefusals) → IsCutInto input pieces
     → count ≡ length (all_lines pieces) → found ≡ refused fields input → AreOneNote count found notes → SameBag (map (note_of fields) (one_piece input)) (map note_in notes)
 one-noted fields [] pieces count found notes c counted same are =
     let none = count-lines [] pieces c in
-    subst (λ (ns : List Note). SameBag [] (map note_in ns)) (sym (are.0 (omega (arith, counted, none)))) (λ f. refl)
+    subst (λ (ns : List PieceRefusals). SameBag [] (map note_in ns)) (sym (are.0 (omega (arith, counted, none)))) (λ f. refl)
 one-noted fields (b ∷ bytes) pieces count found notes c counted same are =
     let some = some-line b bytes in
     let all = count-lines (b ∷ bytes) pieces c in
     let note = are.1 (omega (arith, some, all, counted)) in
     followed-note fields (b ∷ bytes) notes note.0 note.4 note.1 (let n = note.2 in omega (arith, n, counted, all)) (note.3 ∙ same)
 
-pub one-sound : (count : ℕ) (found : List (ℕ × LineFault)) (notes : List Note) → All (λ line. line.0 ≤ count) found → AreOneNote count found notes
+pub one-sound : (count : ℕ) (found : List (ℕ × LineFault)) (notes : List PieceRefusals) → All (λ line. line.0 ≤ count) found → AreOneNote count found notes
     → (lines_noted (map note_in notes) ≡ count) × All IsWellNumbered (map note_in notes)
 one-sound zero found notes low are = no-notes notes (are.0 refl)
 one-sound (suc n) found notes low are =

@@ -5,12 +5,12 @@ use Rattle.std.proofs.lemmas.List.Elements.{All-append}
 use Rattle.std.specs.List.{All}
 use Rattle.semantics.specs.Columns.{Field}
 use Rattle.semantics.specs.declared.line_fault.LineFault.{LineFault}
-use Rattle.semantics.specs.Records.{good, refused}
+use Rattle.semantics.specs.Records.{valid_records, refused}
 use Rattle.semantics.specs.Lines.{lines}
 use Rattle.semantics.specs.Syntax.{TreeForm}
 use Rattle.semantics.specs.Conditions.{kept}
 use Rattle.tables_groups.specs.Bags.{SameBag}
-use Rattle.tables.specs.declared.note.Note.{Note}
+use Rattle.tables.specs.declared.note.PieceRefusals.{PieceRefusals}
 use Rattle.tables.specs.Notes.{IsWellNumbered, Noted, lines_noted, note_in, note_of}
 use Rattle.tables.specs.Pieces.{IndexedPiece, all_lines, records_of, refused_within}
 use Rattle.tables.proofs.Merging.{counted-append, lines-append, notes-append, one-note, records-append, refused-append}
@@ -24,7 +24,7 @@ few-records fields [] = omega arith
 few-records fields (p ∷ pieces) =
     let more = few-records fields pieces in
     let here = length-good_of fields (lines p.bytes) in
-    let a = length-append (good fields p.bytes) (records_of fields pieces) in
+    let a = length-append (valid_records fields p.bytes) (records_of fields pieces) in
     let b = length-append (lines p.bytes) (all_lines pieces) in
     omega (arith, more, here, a, b)
 
@@ -42,9 +42,9 @@ abbrev piece_at : ℕ → List ℕ → IndexedPiece
 piece_at index bytes = record { index = index; bytes = bytes }
 
 pub records-more : (fields : List Field) (pieces : List IndexedPiece) (index : ℕ) (bytes : List ℕ)
-    → records_of fields (pieces ++ piece_at index bytes ∷ []) ≡ records_of fields pieces ++ good fields bytes
+    → records_of fields (pieces ++ piece_at index bytes ∷ []) ≡ records_of fields pieces ++ valid_records fields bytes
 records-more fields pieces index bytes =
-    records-append fields pieces (piece_at index bytes ∷ []) ∙ ap (λ rows. records_of fields pieces ++ rows) (append-nil (good fields bytes))
+    records-append fields pieces (piece_at index bytes ∷ []) ∙ ap (λ rows. records_of fields pieces ++ rows) (append-nil (valid_records fields bytes))
 
 pub lines-more : (pieces : List IndexedPiece) (index : ℕ) (bytes : List ℕ)
     → length (all_lines (pieces ++ piece_at index bytes ∷ [])) ≡ length (all_lines pieces) + length (lines bytes)
@@ -70,7 +70,7 @@ notes-more fields pieces ns index bytes n rs e f p =
     (λ f. refl))
 
 -- one note more
-pub one-noted_more : (old new : List Note) (note : Note) (n : ℕ) → new ≡ old ++ note ∷ [] → lines_noted (map note_in old) ≡ n → All IsWellNumbered (map note_in old)
+pub one-noted_more : (old new : List PieceRefusals) (note : PieceRefusals) (n : ℕ) → new ≡ old ++ note ∷ [] → lines_noted (map note_in old) ≡ n → All IsWellNumbered (map note_in old)
     → IsWellNumbered (note_in note) → (lines_noted (map note_in new) ≡ n + note.lines) × All IsWellNumbered (map note_in new)
 one-noted_more old new note n e counted well w =
     let one = one-note (note ∷ []) note refl w in

@@ -10,7 +10,7 @@ use Rattle.semantics.specs.Syntax.{TreeForm}
 use Rattle.pool.specs.Totals as pool
 use Rattle.pool.proofs.Sums.{total_load, total_weight}
 use Rattle.tables.specs.Laws.{mean-append, means_lawful}
-use Rattle.tables.specs.Means.{IsMean, Mean, both, indexed, indexed_from, mean, mean_at, mean_from, meaning, no_bytes, piece_at, piece_from, with_index}
+use Rattle.tables.specs.Means.{IsMean, Denotation, both, indexed, indexed_from, mean, mean_at, mean_from, meaning, no_bytes, piece_at, piece_from, with_index}
 use Rattle.tables.specs.Partials.{StandsFor}
 use Rattle.tables.specs.Pieces.{IndexedPiece, all_lines, refused_within}
 use Rattle.tables.specs.States.{PartialState}
@@ -31,13 +31,13 @@ mean-from_stands fields q partial pieces p =
 
 pub stands-from_mean : (fields : List Field) (q : TreeForm) (partial : PartialState) (pieces : List IndexedPiece) → meaning partial ≡ mean fields q pieces → StandsFor fields q partial pieces
 stands-from_mean fields q partial pieces e = record {
-  sets = ap (λ (m : Mean). m.sets) e;
-  functions = ap (λ (m : Mean). m.functions) e;
-  filters = ap (λ (m : Mean). m.filters) e;
-  table = λ key. ap (λ (m : Mean). m.table key) e;
-  lines = ap (λ (m : Mean). m.lines) e;
-  refused = ap (λ (m : Mean). m.refused) e;
-  notes = λ weight. sym (ap (λ (m : Mean). m.notes weight) e);
+  sets = ap (λ (m : Denotation). m.sets) e;
+  functions = ap (λ (m : Denotation). m.functions) e;
+  filters = ap (λ (m : Denotation). m.filters) e;
+  table = λ key. ap (λ (m : Denotation). m.table key) e;
+  lines = ap (λ (m : Denotation). m.lines) e;
+  refused = ap (λ (m : Denotation). m.refused) e;
+  notes = λ weight. sym (ap (λ (m : Denotation). m.notes weight) e);
 }
 
 -- what stands for the pieces of both means what both come to together
@@ -116,9 +116,9 @@ total-behind fields q front first rest pieces few =
 pub refused-all : (fields : List Field) (q : TreeForm) (input : List ℕ) (pieces : List Piece)
     → pool.sum_below (λ i. (mean_at fields q input pieces i).refused) (length pieces) ≡ length (refused_within fields (indexed input pieces))
 refused-all fields q input pieces =
-    sym (total_weight (means_lawful fields q input pieces) (length pieces)) ∙ ap (λ (m : Mean). m.refused) (total-all fields q input pieces)
+    sym (total_weight (means_lawful fields q input pieces) (length pieces)) ∙ ap (λ (m : Denotation). m.refused) (total-all fields q input pieces)
 
 pub lines-all : (fields : List Field) (q : TreeForm) (input : List ℕ) (pieces : List Piece)
     → pool.sum_below (λ i. (mean_at fields q input pieces i).lines) (length pieces) ≡ length (all_lines (indexed input pieces))
 lines-all fields q input pieces =
-    sym (total_load (means_lawful fields q input pieces) (length pieces)) ∙ ap (λ (m : Mean). m.lines) (total-all fields q input pieces)
+    sym (total_load (means_lawful fields q input pieces) (length pieces)) ∙ ap (λ (m : Denotation). m.lines) (total-all fields q input pieces)

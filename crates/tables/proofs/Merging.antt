@@ -6,18 +6,18 @@ use Rattle.std.proofs.lemmas.List.Sums.{sum_by-append, sum_by-cons}
 use Rattle.std.proofs.lemmas.List.Elements.{All-cons}
 use Rattle.std.specs.List.{All}
 use Rattle.semantics.specs.Columns.{Field}
-use Rattle.semantics.specs.Records.{good, refused}
+use Rattle.semantics.specs.Records.{valid_records, refused}
 use Rattle.semantics.specs.Lines.{lines}
 use Rattle.tables_groups.specs.Bags.{SameBag}
 use Rattle.tables.specs.Notes.{IsWellNumbered, Noted, lines_noted, note_in, note_of}
-use Rattle.tables.specs.declared.note.Note.{Note}
+use Rattle.tables.specs.declared.note.PieceRefusals.{PieceRefusals}
 use Rattle.tables.specs.Pieces.{IndexedPiece, all_lines, records_of, refused_within}
 use Rattle.tables.proofs.Bags.{bag-append}
 
 -- ---- the pieces of both
 
 pub records-append : (fields : List Field) (pieces more : List IndexedPiece) → records_of fields (pieces ++ more) ≡ records_of fields pieces ++ records_of fields more
-records-append fields pieces more = flat_map-append (λ piece. good fields piece.bytes) pieces more
+records-append fields pieces more = flat_map-append (λ piece. valid_records fields piece.bytes) pieces more
 
 pub lines-append : (pieces more : List IndexedPiece) → length (all_lines (pieces ++ more)) ≡ length (all_lines pieces) + length (all_lines more)
 lines-append pieces more = ap length (flat_map-append (λ piece. lines piece.bytes) pieces more) ∙ length-append (all_lines pieces) (all_lines more)
@@ -35,12 +35,12 @@ pub counted-append : (ns ms : List Noted) (m n : ℕ) → lines_noted ns ≡ m �
 counted-append ns ms m n a b = let s = sum_by-append (λ (note : Noted). note.lines) ns ms in omega (arith, s, a, b)
 
 -- no notes
-pub no-notes : (ns : List Note) → ns ≡ [] → (lines_noted (map note_in ns) ≡ 0) × All IsWellNumbered (map note_in ns)
-no-notes ns e = (ap (λ (xs : List Note). lines_noted (map note_in xs)) e, subst (λ (xs : List Note). All IsWellNumbered (map note_in xs)) (sym e) (λ k d l. absurd (omega (arith, l))))
+pub no-notes : (ns : List PieceRefusals) → ns ≡ [] → (lines_noted (map note_in ns) ≡ 0) × All IsWellNumbered (map note_in ns)
+no-notes ns e = (ap (λ (xs : List PieceRefusals). lines_noted (map note_in xs)) e, subst (λ (xs : List PieceRefusals). All IsWellNumbered (map note_in xs)) (sym e) (λ k d l. absurd (omega (arith, l))))
 
 -- the one note of a piece
-pub one-note : (ns : List Note) (note : Note) → ns ≡ note ∷ [] → IsWellNumbered (note_in note) → (lines_noted (map note_in ns) ≡ note.lines) × All IsWellNumbered (map note_in ns)
+pub one-note : (ns : List PieceRefusals) (note : PieceRefusals) → ns ≡ note ∷ [] → IsWellNumbered (note_in note) → (lines_noted (map note_in ns) ≡ note.lines) × All IsWellNumbered (map note_in ns)
 one-note ns note e w = (
-  ap (λ (xs : List Note). lines_noted (map note_in xs)) e ∙ (let s = sum_by-cons (λ (n : Noted). n.lines) (note_in note) [] in omega (arith, s)),
-  subst (λ (xs : List Note). All IsWellNumbered (map note_in xs)) (sym e) (All-cons IsWellNumbered (note_in note) [] w (λ k d l. absurd (omega (arith, l)))),
+  ap (λ (xs : List PieceRefusals). lines_noted (map note_in xs)) e ∙ (let s = sum_by-cons (λ (n : Noted). n.lines) (note_in note) [] in omega (arith, s)),
+  subst (λ (xs : List PieceRefusals). All IsWellNumbered (map note_in xs)) (sym e) (All-cons IsWellNumbered (note_in note) [] w (λ k d l. absurd (omega (arith, l)))),
 )

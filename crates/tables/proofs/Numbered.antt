@@ -9,7 +9,7 @@ use Rattle.std.specs.List.Sorted.{IsStrictlyIncreasing}
 use Rattle.semantics.specs.Values.{Datum}
 use Rattle.semantics.specs.Columns.{Field}
 use Rattle.semantics.specs.declared.line_fault.LineFault.{LineFault}
-use Rattle.semantics.specs.Records.{refused, taken}
+use Rattle.semantics.specs.Records.{refused, decode_line}
 use Rattle.semantics.specs.Lines.{lines}
 use Rattle.tables_groups.specs.Bags.{SameBag, weigh}
 use Rattle.tables.specs.Notes.{AreLinesOf, Noted, note_of, numbered_from}
@@ -214,5 +214,5 @@ lines-numbered fields pieces notes lines own same are =
     record {
       same = λ f. ap (weigh f) (is ∙ numbered-rising fields (sorted pieces) rise) ∙ numbered-same fields (sorted pieces) pieces bag f;
       ascending = subst (λ (ls : List (ℕ × LineFault)). IsStrictlyIncreasing (map (λ line. line.0) ls)) (sym (is ∙ all))
-          (strict-from_rises (λ (line : ℕ × LineFault). line.0) (refused_from fields (0 + 1) (all_lines (sorted pieces))) (faults-rise (0 + 1) (map (taken fields) (all_lines (sorted pieces)))));
+          (strict-from_rises (λ (line : ℕ × LineFault). line.0) (refused_from fields (0 + 1) (all_lines (sorted pieces))) (faults-rise (0 + 1) (map (decode_line fields) (all_lines (sorted pieces)))));
     }

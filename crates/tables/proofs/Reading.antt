@@ -10,7 +10,7 @@ use Rattle.semantics.specs.Values.{Datum}
 use Rattle.semantics.specs.Columns.{Field}
 use Rattle.semantics.specs.declared.line_fault.LineFault.{LineFault}
 use Rattle.semantics.specs.Lines.{line_feed, lines, without_empty_last}
-use Rattle.semantics.specs.Records.{taken}
+use Rattle.semantics.specs.Records.{decode_line}
 use Rattle.semantics.specs.Syntax.{TreeForm}
 use Rattle.semantics.specs.Found.{aggregate_functions}
 use Rattle.semantics.specs.Sets.{grouping_places}
@@ -47,13 +47,13 @@ length-lines (x ∷ bytes) = either-le (x == line_feed) x (slice_split (λ b. b 
 
 -- ---- one more line
 
-good-more : (fields : List Field) (ls : List (List ℕ)) (line : List ℕ) → good_of fields (ls ++ line ∷ []) ≡ good_of fields ls ++ filter_map result_ok (taken fields line ∷ [])
-good-more fields ls line = ap (filter_map result_ok) (map-append (taken fields) ls (line ∷ [])) ∙ filter_map-append result_ok (map (taken fields) ls) (taken fields line ∷ [])
+good-more : (fields : List Field) (ls : List (List ℕ)) (line : List ℕ) → good_of fields (ls ++ line ∷ []) ≡ good_of fields ls ++ filter_map result_ok (decode_line fields line ∷ [])
+good-more fields ls line = ap (filter_map result_ok) (map-append (decode_line fields) ls (line ∷ [])) ∙ filter_map-append result_ok (map (decode_line fields) ls) (decode_line fields line ∷ [])
 
-pub good-ok : (fields : List Field) (ls : List (List ℕ)) (line : List ℕ) (row : List Datum) → taken fields line ≡ Ok row → good_of fields (ls ++ line ∷ []) ≡ good_of fields ls ++ row ∷ []
+pub good-ok : (fields : List Field) (ls : List (List ℕ)) (line : List ℕ) (row : List Datum) → decode_line fields line ≡ Ok row → good_of fields (ls ++ line ∷ []) ≡ good_of fields ls ++ row ∷ []
 good-ok fields ls line row e = good-more fields ls line ∙ ap (λ t. good_of fields ls ++ filter_map result_ok (t ∷ [])) e
 
-pub good-err : (fields : List Field) (ls : List (List ℕ)) (line : List ℕ) (fault : LineFault) → taken fields line ≡ Err fault → good_of fields (ls ++ line ∷ []) ≡ good_of fields ls
+pub good-err : (fields : List Field) (ls : List (List ℕ)) (line : List ℕ) (fault : LineFault) → decode_line fields line ≡ Err fault → good_of fields (ls ++ line ∷ []) ≡ good_of fields ls
 good-err fields ls line fault e = good-more fields ls line ∙ ap (λ t. good_of fields ls ++ filter_map result_ok (t ∷ [])) e ∙ append-nil (good_of fields ls)
 
 pub enumerate-append : {X : Type 0} (n : ℕ) (xs ys : List X) → enumerate_from n (xs ++ ys) ≡ enumerate_from n xs ++ enumerate_from (n + length xs) ys
@@ -65,18 +65,18 @@ abbrev pub numbered_fault : ℕ × Result (List Datum) LineFault → Option (ℕ
 numbered_fault p = option_map (λ fault. (p.0, fault)) (result_err p.1)
 
 refused-more : (fields : List Field) (ls : List (List ℕ)) (line : List ℕ)
-    → refused_of fields (ls ++ line ∷ []) ≡ refused_of fields ls ++ filter_map numbered_fault ((length ls + 1, taken fields line) ∷ [])
+    → refused_of fields (ls ++ line ∷ []) ≡ refused_of fields ls ++ filter_map numbered_fault ((length ls + 1, decode_line fields line) ∷ [])
 refused-more fields ls line =
-    ap (λ rs. filter_map numbered_fault (enumerate_from 1 rs)) (map-append (taken fields) ls (line ∷ []))
-    ∙ ap (filter_map numbered_fault) (enumerate-append 1 (map (taken fields) ls) (taken fields line ∷ []))
-    ∙ filter_map-append numbered_fault (enumerate_from 1 (map (taken fields) ls)) (enumerate_from (1 + length (map (taken fields) ls)) (taken fields line ∷ []))
-    ∙ ap (λ n. refused_of fields ls ++ filter_map numbered_fault ((n, taken fields line) ∷ []))
-    (let long = length-map ls (taken fields) in let e : 1 + length (map (taken fields) ls) ≡ length ls + 1 = omega (arith, long) in e)
+    ap (λ rs. filter_map numbered_fault (enumerate_from 1 rs)) (map-append (decode_line fields) ls (line ∷ []))
+    ∙ ap (filter_map numbered_fault) (enumerate-append 1 (map (decode_line fields) ls) (decode_line fields line ∷ []))
+    ∙ filter_map-append numbered_fault (enumerate_from 1 (map (decode_line fields) ls)) (enumerate_from (1 + length (map (decode_line fields) ls)) (decode_line fields line ∷ []))
+    ∙ ap (λ n. refused_of fields ls ++ filter_map numbered_fault ((n, decode_line fields line) ∷ []))
+    (let long = length-map ls (decode_line fields) in let e : 1 + length (map (decode_line fields) ls) ≡ length ls + 1 = omega (arith, long) in e)
 
-pub refused-ok : (fields : List Field) (ls : List (List ℕ)) (line : List ℕ) (row : List Datum) → taken fields line ≡ Ok row → refused_of fields (ls ++ line ∷ []) ≡ refused_of fields ls
+pub refused-ok : (fields : List Field) (ls : List (List ℕ)) (line : List ℕ) (row : List Datum) → decode_line fields line ≡ Ok row → refused_of fields (ls ++ line ∷ []) ≡ refused_of fields ls
 refused-ok fields ls line row e = refused-more fields ls line ∙ ap (λ t. refused_of fields ls ++ filter_map numbered_fault ((length ls + 1, t) ∷ [])) e ∙ append-nil (refused_of fields ls)
 
-pub refused-err : (fields : List Field) (ls : List (List ℕ)) (line : List ℕ) (fault : LineFault) → taken fields line ≡ Err fault
+pub refused-err : (fields : List Field) (ls : List (List ℕ)) (line : List ℕ) (fault : LineFault) → decode_line fields line ≡ Err fault
     → refused_of fields (ls ++ line ∷ []) ≡ refused_of fields ls ++ (length ls + 1, fault) ∷ []
 refused-err fields ls line fault e = refused-more fields ls line ∙ ap (λ t. refused_of fields ls ++ filter_map numbered_fault ((length ls + 1, t) ∷ [])) e
 
@@ -91,7 +91,7 @@ kept-le f [] = omega arith
 kept-le f (x ∷ xs) = cons-le (f x) (filter_map f xs) (length xs) (kept-le f xs)
 
 pub length-good_of : (fields : List Field) (ls : List (List ℕ)) → length (good_of fields ls) ≤ length ls
-length-good_of fields ls = let h = kept-le result_ok (map (taken fields) ls) in let long = length-map ls (taken fields) in omega (arith, h, long)
+length-good_of fields ls = let h = kept-le result_ok (map (decode_line fields) ls) in let long = length-map ls (decode_line fields) in omega (arith, h, long)
 
 -- ---- the records that are kept
 
@@ -111,9 +111,9 @@ kept-append fields q rows more = filter-append (is_kept fields q) rows more
 
 pub length-refused_of : (fields : List Field) (ls : List (List ℕ)) → length (refused_of fields ls) ≤ length ls
 length-refused_of fields ls =
-    let rs = map (taken fields) ls in
+    let rs = map (decode_line fields) ls in
     let h = kept-le numbered_fault (enumerate_from 1 rs) in
-    let long = length-map ls (taken fields) in
+    let long = length-map ls (decode_line fields) in
     let same = length-enumerate_from 1 rs in
     omega (arith, h, long, same)
 
@@ -129,7 +129,7 @@ at-most n (l ∷ ls) h = (let a = h.0 in omega (arith, a), at-most n ls h.1)
 -- no refused line has a number above that of the lines
 pub refused-numbers : (fields : List Field) (ls : List (List ℕ)) → All (λ line. line.0 ≤ length ls) (refused_of fields ls)
 refused-numbers fields ls = All-from_recursion (λ line. line.0 ≤ length ls) (refused_of fields ls)
-    (at-most (length ls) (refused_of fields ls) (numbers-below (length ls + 1) 1 (map (taken fields) ls) (let long = length-map ls (taken fields) in omega (arith, long))))
+    (at-most (length ls) (refused_of fields ls) (numbers-below (length ls + 1) 1 (map (decode_line fields) ls) (let long = length-map ls (decode_line fields) in omega (arith, long))))
 
 -- behind these records no line has been read
 pub nothing-read : (fields : List Field) (q : TreeForm) (before : List Row) (table : Contents) (folding : Folding)
@@ -150,7 +150,7 @@ pub record HasReadSome (fields : List Field) (q : TreeForm) (before : List Row) 
 
 -- ---- a line that has been read
 
-pub read-ok : (fields : List Field) (q : TreeForm) (before : List Row) (old new : Folding) (seen : List (List ℕ)) (line : List ℕ) (row : List Datum) → taken fields line ≡ Ok row → HasRead fields q before old seen
+pub read-ok : (fields : List Field) (q : TreeForm) (before : List Row) (old new : Folding) (seen : List (List ℕ)) (line : List ℕ) (row : List Datum) → decode_line fields line ≡ Ok row → HasRead fields q before old seen
     → ((rows : List (List Datum)) → IsTableOf (grouping_places fields q) (aggregate_functions fields q) old.table (kept fields q rows) → IsTableOf (grouping_places fields q) (aggregate_functions fields q) new.table (kept fields q (rows ++ row ∷ [])))
     → new.lines ≡ old.lines → new.refused.items ≡ old.refused.items
     → HasRead fields q before (record { table = new.table; lines = new.lines + 1; refused = new.refused; marks = new.marks }) (seen ++ line ∷ [])
@@ -162,7 +162,7 @@ read-ok fields q before old new seen line row e h added same stay = record {
   refused = stay ∙ h.refused ∙ sym (refused-ok fields seen line row e);
 }
 
-pub read-err : (fields : List Field) (q : TreeForm) (before : List Row) (old new : Folding) (seen : List (List ℕ)) (line : List ℕ) (fault : LineFault) → taken fields line ≡ Err fault → HasRead fields q before old seen
+pub read-err : (fields : List Field) (q : TreeForm) (before : List Row) (old new : Folding) (seen : List (List ℕ)) (line : List ℕ) (fault : LineFault) → decode_line fields line ≡ Err fault → HasRead fields q before old seen
     → new.table ≡ old.table → new.lines ≡ old.lines → new.refused.items ≡ old.refused.items ++ (old.lines + 1, fault) ∷ []
     → HasRead fields q before (record { table = new.table; lines = new.lines + 1; refused = new.refused; marks = new.marks }) (seen ++ line ∷ [])
 read-err fields q before old new seen line fault e h stay same more = record {

@@ -3,7 +3,7 @@ use Rattle.std.proofs.Common.{◌≡◌, ℕ, List, map, Some, Result, Ok, Err}
 use Rattle.std.specs.List.{AllByRecursion}
 use Rattle.std.specs.Result.{result_ok}
 use Rattle.semantics.specs.Values.{Datum}
-use Rattle.semantics.specs.Records.{Fits, good, taken}
+use Rattle.semantics.specs.Records.{Fits, valid_records, decode_line}
 use Rattle.semantics.specs.Columns.{Field}
 use Rattle.semantics.specs.declared.line_fault.LineFault.{LineFault}
 use Rattle.semantics.specs.Lines.{lines}
@@ -20,14 +20,14 @@ ok-is : (a : Outcome) (r : List Datum) → result_ok a ≡ Some r → a ≡ Ok r
 ok-is (Ok x) r e = cc
 ok-is (Err n) r e = cc
 
-good-fits : (fields : List Field) (input : List ℕ) → AllByRecursion (Fits fields) (good fields input)
+good-fits : (fields : List Field) (input : List ℕ) → AllByRecursion (Fits fields) (valid_records fields input)
 good-fits fields input =
-    all-filter_map (Fits fields) result_ok (map (taken fields) (lines input))
-    (all-map (λ (a : Outcome). (r : List Datum) → result_ok a ≡ Some r → Fits fields r) (taken fields) (lines input)
-    (all-everywhere _ (lines input) (λ line r e. taken-fits fields line r (ok-is (taken fields line) r e))))
+    all-filter_map (Fits fields) result_ok (map (decode_line fields) (lines input))
+    (all-map (λ (a : Outcome). (r : List Datum) → result_ok a ≡ Some r → Fits fields r) (decode_line fields) (lines input)
+    (all-everywhere _ (lines input) (λ line r e. taken-fits fields line r (ok-is (decode_line fields line) r e))))
 
 pub kept-fits : (fields : List Field) (q : TreeForm) (pieces : List IndexedPiece)
     → AllByRecursion (Fits fields) (kept fields q (records_of fields pieces))
 kept-fits fields q pieces =
     all-filter (Fits fields) (is_kept fields q) (records_of fields pieces)
-    (all-flat_map (Fits fields) (λ piece. good fields piece.bytes) pieces (λ piece. good-fits fields piece.bytes))
+    (all-flat_map (Fits fields) (λ piece. valid_records fields piece.bytes) pieces (λ piece. good-fits fields piece.bytes))

@@ -4,7 +4,7 @@ use Rattle.std.specs.List.{enumerate_from}
 use Rattle.std.specs.Result.{result_ok, result_err}
 use Rattle.semantics.specs.Columns.{Field}
 use Rattle.semantics.specs.declared.line_fault.LineFault.{LineFault}
-use Rattle.semantics.specs.Records.{taken}
+use Rattle.semantics.specs.Records.{decode_line}
 use Rattle.semantics.specs.Syntax.{TreeForm}
 use Rattle.semantics.specs.Sets.{grouping_places}
 use Rattle.query_resolve.specs.Functions.{indexed_functions}
@@ -17,11 +17,11 @@ use Rattle.tables.specs.declared.folding.Folding.{Folding}
 
 -- the good records of these lines
 abbrev pub good_of : List Field → List (List ℕ) → List Row
-good_of fields ls = filter_map result_ok (map (taken fields) ls)
+good_of fields ls = filter_map result_ok (map (decode_line fields) ls)
 
 -- the refused ones of these lines, numbered from 1
 abbrev pub refused_of : List Field → List (List ℕ) → List (ℕ × LineFault)
-refused_of fields ls = filter_map (λ p. option_map (λ fault. (p.0, fault)) (result_err p.1)) (enumerate_from 1 (map (taken fields) ls))
+refused_of fields ls = filter_map (λ p. option_map (λ fault. (p.0, fault)) (result_err p.1)) (enumerate_from 1 (map (decode_line fields) ls))
 
 -- behind the records of earlier pieces these lines have been read
 pub record HasRead (fields : List Field) (q : TreeForm) (before : List Row) (folding : Folding) (ls : List (List ℕ)) : Type 0 where

@@ -9,7 +9,7 @@ use Rattle.semantics.specs.Values.{Datum}
 use Rattle.semantics.specs.Columns.{Field}
 use Rattle.semantics.specs.declared.line_fault.LineFault.{LineFault}
 use Rattle.lines.specs.declared.pieces.Piece.{Piece}
-use Rattle.semantics.specs.Records.{answers, good, refused, taken}
+use Rattle.semantics.specs.Records.{answers, valid_records, refused, decode_line}
 use Rattle.semantics.specs.Lines.{lines}
 use Rattle.semantics.specs.Syntax.{TreeForm}
 use Rattle.query_resolve.specs.Functions.{indexed_functions}
@@ -30,7 +30,7 @@ use Rattle.tables.specs.Pieces.{IndexedPiece, all_lines, records_of, refused_wit
 -- ---- what pieces have, joined
 
 records-append : (fields : List Field) (pieces more : List IndexedPiece) → records_of fields (pieces ++ more) ≡ records_of fields pieces ++ records_of fields more
-records-append fields pieces more = flat_map-append (λ piece. good fields piece.bytes) pieces more
+records-append fields pieces more = flat_map-append (λ piece. valid_records fields piece.bytes) pieces more
 
 kept-append : (fields : List Field) (q : TreeForm) (rows more : List Row) → kept fields q (rows ++ more) ≡ kept fields q rows ++ kept fields q more
 kept-append fields q rows more = filter-append (is_kept fields q) rows more
@@ -101,7 +101,7 @@ few-refused fields [] = omega arith
 few-refused fields (p ∷ pieces) =
     let more = few-refused fields pieces in
     let here = few-faults 1 (answers fields p.bytes) in
-    let many = length-map (lines p.bytes) (taken fields) in
+    let many = length-map (lines p.bytes) (decode_line fields) in
     let a = length-append (refused fields p.bytes) (refused_within fields pieces) in
     let b = length-append (lines p.bytes) (all_lines pieces) in
     omega (arith, more, here, many, a, b)

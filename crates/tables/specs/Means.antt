@@ -23,7 +23,7 @@ use Rattle.tables.specs.States.{PartialState}
 
 -- the grouping sets, the set functions and the canonical texts of their filters; under all grouping columns what is kept of each key's group; how many lines and refused lines there are; and of
 -- the notes of the pieces what they weigh together, whatever each weighs
-pub record Mean : Type 0 where
+pub record Denotation : Type 0 where
   pub sets : List (List ℕ)
   pub functions : List FilteredFunction
   pub filters : List (List ℕ)
@@ -39,7 +39,7 @@ abbrev pub group_of : List ℕ → List AggregateFunction → List Row → Key �
 group_of set functions rows key = if list_any (same_key key) (keys set rows) then Some (group_state functions (members set key rows)) else None
 
 -- what pieces come to under a schema and a query
-abbrev pub mean : List Field → TreeForm → List IndexedPiece → Mean
+abbrev pub mean : List Field → TreeForm → List IndexedPiece → Denotation
 mean fields q pieces = record {
   sets = sets_of fields q;
   functions = indexed_functions fields q;
@@ -51,13 +51,13 @@ mean fields q pieces = record {
 }
 
 -- some pieces come to this
-abbrev pub IsMean : List Field → TreeForm → Mean → Type 0
+abbrev pub IsMean : List Field → TreeForm → Denotation → Type 0
 IsMean fields q m = (pieces : List IndexedPiece) × (m ≡ mean fields q pieces)
 
 -- ---- of two
 
 -- what two come to together
-abbrev pub both : Mean → Mean → Mean
+abbrev pub both : Denotation → Denotation → Denotation
 both a b = record {
   sets = a.sets;
   functions = a.functions;
@@ -87,7 +87,7 @@ abbrev pub piece_at : List ℕ → List Piece → ℕ → IndexedPiece
 piece_at input pieces index = with_index input (index, slice_index_or pieces index no_bytes)
 
 -- what the piece with this index comes to
-abbrev pub mean_at : List Field → TreeForm → List ℕ → List Piece → ℕ → Mean
+abbrev pub mean_at : List Field → TreeForm → List ℕ → List Piece → ℕ → Denotation
 mean_at fields q input pieces index = mean fields q (piece_at input pieces index ∷ [])
 
 -- ---- pieces of the rest of an input, whose indexes begin behind those of its front
@@ -102,13 +102,13 @@ abbrev pub piece_from : ℕ → List ℕ → List Piece → ℕ → IndexedPiece
 piece_from first rest pieces place = with_index rest (min (first + place) 4294967295, slice_index_or pieces place no_bytes)
 
 -- what that piece comes to
-abbrev pub mean_from : List Field → TreeForm → ℕ → List ℕ → List Piece → ℕ → Mean
+abbrev pub mean_from : List Field → TreeForm → ℕ → List ℕ → List Piece → ℕ → Denotation
 mean_from fields q first rest pieces place = mean fields q (piece_from first rest pieces place ∷ [])
 
 -- ---- of a partial result
 
 -- what a partial result means
-abbrev pub meaning : PartialState → Mean
+abbrev pub meaning : PartialState → Denotation
 meaning partial = record {
   sets = partial.sets;
   functions = partial.functions;

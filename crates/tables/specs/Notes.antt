@@ -7,7 +7,7 @@ use Rattle.semantics.specs.Columns.{Field}
 use Rattle.semantics.specs.declared.line_fault.LineFault.{LineFault}
 use Rattle.semantics.specs.Lines.{lines}
 use Rattle.semantics.specs.Records.{refused}
-use Rattle.tables.specs.declared.note.Note.{Note}
+use Rattle.tables.specs.declared.note.PieceRefusals.{PieceRefusals}
 use Rattle.tables_groups.specs.Bags.{SameBag}
 use Rattle.tables.specs.Pieces.{IndexedPiece}
 
@@ -23,10 +23,10 @@ note_of fields piece = record { index = piece.index; lines = length (lines piece
 
 -- ---- in the code
 
-abbrev pub note_in : Note → Noted
+abbrev pub note_in : PieceRefusals → Noted
 note_in note = record { index = note.index; lines = note.lines; refused = note.refused.items }
 
-abbrev pub notes_in : Vec Note → List Noted
+abbrev pub notes_in : Vec PieceRefusals → List Noted
 notes_in notes = map note_in notes.items
 
 -- all lines that the notes count

@@ -1,7 +1,7 @@
 -- What a partial result stands for.
 use Rattle.std.specs.Prelude.{◌≡◌, ℕ, List, [], ◌∷◌, length, map}
 use Rattle.semantics.specs.Columns.{Field}
-use Rattle.semantics.specs.Records.{good, refused}
+use Rattle.semantics.specs.Records.{valid_records, refused}
 use Rattle.semantics.specs.Syntax.{TreeForm}
 use Rattle.semantics.specs.Sets.{grouping_places, sets_of}
 use Rattle.query_resolve.specs.Functions.{indexed_functions}
@@ -57,5 +57,5 @@ GivesGroups fields q groups rows = SameBag groups.found (query_found fields q ro
 
 -- the rows are those of the groups of the good records of an input, and the refused lines are its refused lines
 pub record IsResultOf (fields : List Field) (q : TreeForm) (groups : GroupsState) (input : List ℕ) : Type 0 where
-  pub rows : GivesGroups fields q groups (good fields input)
+  pub rows : GivesGroups fields q groups (valid_records fields input)
   pub refused : groups.refused ≡ refused fields input

@@ -5,7 +5,7 @@ use Rattle.std.specs.List.Sorted.{IsStrictlyIncreasing}
 use Rattle.semantics.specs.Columns.{Field}
 use Rattle.semantics.specs.declared.line_fault.LineFault.{LineFault}
 use Rattle.semantics.specs.Lines.{lines}
-use Rattle.semantics.specs.Records.{good, refused}
+use Rattle.semantics.specs.Records.{valid_records, refused}
 use Rattle.lines.specs.Pieces.{AllButLast, EndsInFeed}
 use Rattle.tables_groups.specs.Bags.{SameBag}
 use Rattle.semantics.specs.Groups.{Row}
@@ -25,7 +25,7 @@ all_lines pieces = flat_map (λ piece. lines piece.bytes) pieces
 
 -- the good records of all lines of the pieces
 abbrev pub records_of : List Field → List IndexedPiece → List Row
-records_of fields pieces = flat_map (λ piece. good fields piece.bytes) pieces
+records_of fields pieces = flat_map (λ piece. valid_records fields piece.bytes) pieces
 
 -- the refused lines of the pieces, each by its number within its piece
 abbrev pub refused_within : List Field → List IndexedPiece → List (ℕ × LineFault)

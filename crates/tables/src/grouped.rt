@@ -13,7 +13,7 @@ use tables_groups::Group;
 
 /// How many groups there are at least whose memory several threads give back: that of fewer is given back sooner than a
 /// thread is started.
-const FEWEST: usize = 4_096;
+const PARALLEL_MIN_GROUPS: usize = 4_096;
 
 /// What the grouping sets of a query find in an input: their groups, and the refused lines.
 ///
@@ -84,7 +84,7 @@ impl Groups {
     {
         let Groups { refused, mut rows } = self;
         drop(refused);
-        if hands == 1 || rows.len() < FEWEST {
+        if hands == 1 || rows.len() < PARALLEL_MIN_GROUPS {
             return;
         }
         thread::for_each_mut(

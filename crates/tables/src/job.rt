@@ -69,12 +69,12 @@ impl<'a> Job<'a> {
 
 impl<'a> Work for Job<'a> {
     ghost use Rattle.tables.specs.Jobs.{IsMeanUnder, mean_of_piece, no_mean, input_of_job, pieces_of_job, plan_of_job};
-    ghost use Rattle.tables.specs.Means.{Mean, both, meaning};
+    ghost use Rattle.tables.specs.Means.{Denotation, both, meaning};
     ghost use Rattle.tables.specs.Laws.{means_lawful};
 
     type Part = Partial;
 
-    ghost Meaning = { Mean };
+    ghost Meaning = { Denotation };
 
     ghost meaning = { λ part. meaning part };
 
@@ -154,12 +154,12 @@ impl<'a, J: Joiner> JobBy<'a, J> {
 
 impl<'a, J: Joiner> Work for JobBy<'a, J> {
     ghost use Rattle.tables.specs.Jobs.{IsMeanUnder, mean_of_piece_from, no_mean, first_of_job, input_of_job, joined_job, pieces_of_job, plan_of_job};
-    ghost use Rattle.tables.specs.Means.{Mean, both, meaning};
+    ghost use Rattle.tables.specs.Means.{Denotation, both, meaning};
     ghost use Rattle.tables.specs.Laws.{means_lawful_from};
 
     type Part = Partial;
 
-    ghost Meaning = { Mean };
+    ghost Meaning = { Denotation };
 
     ghost meaning = { λ part. meaning part };
 

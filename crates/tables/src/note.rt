@@ -3,7 +3,7 @@ use lines::LineFault;
 
 /// What is kept of the lines of a piece, beside their groups.
 #[derive(Drop)]
-pub(crate) struct Note {
+pub(crate) struct PieceRefusals {
     /// The piece's index.
     pub(crate) index: u32,
     /// The number of its lines.

@@ -3,13 +3,13 @@ ghost use Rattle.std.specs.Prelude.{◌≡◌, ◌+◌, ◌<◌, ◌++◌, ◌^�
 ghost use Rattle.std.specs.List.Sorted.{IsPermutation, IsNonDecreasingBy};
 ghost use Rattle.tables.specs.Notes.{AreLinesBehind, AreLinesOf, IsWellNumbered, lines_noted, notes_in, numbered_from};
 
-use crate::note::Note;
+use crate::note::PieceRefusals;
 use lines::LineFault;
 use std::alloc::{AllocError, Global};
 
 /// The refused lines of the pieces by ascending index, each numbered by its place within its piece
 /// and the line counts of the pieces before.
-pub(crate) fn number(alloc: Global, notes: Vec<Note>) -> Result<Vec<(u64, LineFault)>, AllocError>
+pub(crate) fn number(alloc: Global, notes: Vec<PieceRefusals>) -> Result<Vec<(u64, LineFault)>, AllocError>
     requires few { lines_noted (notes_in notes) < 2 ^ 63 }
     requires numbered { All IsWellNumbered (notes_in notes) }
     ensures { IfOk result (λ lines. AreLinesOf (notes_in notes) lines.items) }
@@ -23,7 +23,7 @@ pub(crate) fn number(alloc: Global, notes: Vec<Note>) -> Result<Vec<(u64, LineFa
 pub(crate) fn number_behind(
     numbered: &mut Vec<(u64, LineFault)>,
     before: u64,
-    notes: Vec<Note>,
+    notes: Vec<PieceRefusals>,
 ) -> Result<(), AllocError>
     requires few { before + lines_noted (notes_in notes) < 2 ^ 63 }
     requires numbered { All IsWellNumbered (notes_in notes) }
@@ -34,7 +34,7 @@ pub(crate) fn number_behind(
 }
 
 /// The notes by ascending index.
-fn sorted(mut notes: Vec<Note>) -> Vec<Note>
+fn sorted(mut notes: Vec<PieceRefusals>) -> Vec<PieceRefusals>
     ensures permutation { IsPermutation notes.items result.items }
     ensures ascending { IsNonDecreasingBy (λ note. note.index) result.items }
 {
@@ -44,7 +44,7 @@ fn sorted(mut notes: Vec<Note>) -> Vec<Note>
 
 /// The refused lines of the pieces in the order of the notes, each numbered by its place within its
 /// piece and the line counts of the pieces before. Those of the first piece have these numbers already.
-fn number_in_order(alloc: Global, mut notes: Vec<Note>) -> Result<Vec<(u64, LineFault)>, AllocError>
+fn number_in_order(alloc: Global, mut notes: Vec<PieceRefusals>) -> Result<Vec<(u64, LineFault)>, AllocError>
     requires few { lines_noted (notes_in notes) < 2 ^ 63 }
     requires numbered { All IsWellNumbered (notes_in notes) }
     ensures { IfOk result (λ lines. lines.items ≡ numbered_from 0 (notes_in notes)) }
@@ -63,7 +63,7 @@ fn number_in_order(alloc: Global, mut notes: Vec<Note>) -> Result<Vec<(u64, Line
 fn put_all_behind(
     numbered: &mut Vec<(u64, LineFault)>,
     mut before: u64,
-    notes: Vec<Note>,
+    notes: Vec<PieceRefusals>,
 ) -> Result<(), AllocError>
     requires few { before + lines_noted (notes_in notes) < 2 ^ 63 }
     requires numbered { All IsWellNumbered (notes_in notes) }

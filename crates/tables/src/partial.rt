@@ -1,6 +1,6 @@
 //! Partial results: what is known of some pieces of an input.
 ghost use Rattle.std.specs.Prelude.{◌≡◌, ◌<◌, ◌≤◌, ◌^◌, ◌∷◌, [], All, IfOk, length};
-ghost use Rattle.tables.specs.declared.note.Note.{Note};
+ghost use Rattle.tables.specs.declared.note.PieceRefusals.{PieceRefusals};
 ghost use Rattle.std.proofs.Props.{props};
 ghost use Rattle.tables.specs.Notes.{IsWellNumbered, lines_noted, notes_in};
 ghost use Rattle.tables_groups.specs.Inside.Table.{AreGroupsWithin};
@@ -9,7 +9,7 @@ use crate::folding::{Folding, empty_table, read_onto};
 use crate::grouped::Groups;
 use crate::joining::{CallingThread, Joiner};
 use crate::laws::members_law;
-use crate::note::Note;
+use crate::note::PieceRefusals;
 use crate::numbering::{number, number_behind, put_behind};
 use crate::rows::rows_of;
 use crate::shape::Shape;
@@ -32,7 +32,7 @@ pub struct Partial {
     table: Table,
     lines: u64,
     refused: u64,
-    notes: Vec<Note>,
+    notes: Vec<PieceRefusals>,
     ghost few: { lines < 2 ^ 63 },
     ghost fewer: { refused ≤ lines },
     ghost within: { AreGroupsWithin lines shape.functions.items table } by { Prim.hlevel props },
@@ -155,7 +155,7 @@ impl Partial {
         let count = refused.len() as u64;
         let notes = one_note(
             alloc,
-            Note {
+            PieceRefusals {
                 index,
                 lines,
                 refused,
@@ -199,7 +199,7 @@ impl Partial {
         } = self;
         let folding = read_onto(alloc, plan, table, piece)?;
         let more = folding.refused.len() as u64;
-        notes.push(Note {
+        notes.push(PieceRefusals {
             index,
             lines: folding.lines,
             refused: folding.refused,
@@ -372,7 +372,7 @@ impl Partial {
         number_behind(&mut numbered, before, rest_notes)?;
         let notes = one_note(
             alloc,
-            Note {
+            PieceRefusals {
                 index: 0,
                 lines,
                 refused: numbered,
@@ -421,7 +421,7 @@ impl Partial {
         let lines = before + folding.lines;
         let notes = one_note(
             alloc,
-            Note {
+            PieceRefusals {
                 index: 0,
                 lines,
                 refused: numbered,
@@ -578,7 +578,7 @@ impl Partial {
 }
 
 /// The notes of one piece.
-fn one_note(alloc: Global, note: Note) -> Result<Vec<Note>, AllocError>
+fn one_note(alloc: Global, note: PieceRefusals) -> Result<Vec<PieceRefusals>, AllocError>
     ensures { IfOk result (λ notes. notes.items ≡ note ∷ []) }
 {
     let mut notes = Vec::with_capacity(alloc, 1)?;
@@ -591,16 +591,16 @@ fn note_if_any(
     alloc: Global,
     lines: u64,
     refused: Vec<(u64, LineFault)>,
-) -> Result<Vec<Note>, AllocError>
+) -> Result<Vec<PieceRefusals>, AllocError>
     ensures none { lines ≡ 0 → IfOk result (λ notes. notes.items ≡ []) }
-    ensures some { 0 < lines → IfOk result (λ notes. (note : Note) × (note.index ≡ 0) × (note.lines ≡ lines) × (note.refused.items ≡ refused.items) × (notes.items ≡ note ∷ [])) }
+    ensures some { 0 < lines → IfOk result (λ notes. (note : PieceRefusals) × (note.index ≡ 0) × (note.lines ≡ lines) × (note.refused.items ≡ refused.items) × (notes.items ≡ note ∷ [])) }
 {
     if lines == 0 {
         return Ok(Vec::new(alloc));
     }
     one_note(
         alloc,
-        Note {
+        PieceRefusals {
             index: 0,
             lines,
             refused,

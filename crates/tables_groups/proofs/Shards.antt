@@ -11,7 +11,7 @@ use Rattle.values.specs.declared.value.Value.{Value}
 use Rattle.semantics.specs.Groups.{Key, key_order, same_key}
 use Rattle.tables_groups.specs.Inside.Group.{GroupState}
 use Rattle.tables_groups.specs.Inside.Table.{CanJoin, Contents, IsFitting, IsJoined, join_options, entries_by_key}
-use Rattle.tables_groups.specs.Inside.Shards.{AreApart, AreJoined, CanJoinEach, all_entries, contents_in, contents_of_shards, digest, entries_in, place}
+use Rattle.tables_groups.specs.Inside.Shards.{AreApart, AreJoined, CanJoinEach, all_entries, contents_in, contents_of_shards, digest, entries_in, shard_index}
 use Rattle.tables_groups.specs.declared.shard.Shard.{Shard}
 use Rattle.tables_groups.proofs.Order.{key_total, same_key-Decides, key_eq-ties}
 use Rattle.tables_groups.proofs.Entries.{Entries, key_eq, find-first, none_after, options-none}
@@ -39,34 +39,34 @@ find-append k (e ∷ es) fs =
 -- each shard has keys of its own place among m alone, counted from n on
 abbrev pub AreApartFrom : ℕ → ℕ → List Shard → Type 0
 AreApartFrom m n [] = Unit {0}
-AreApartFrom m n (s ∷ ss) = ((k : Key) → IfSome (get (contents_in s) k) (λ _. place m k ≡ n)) × AreApartFrom m (suc n) ss
+AreApartFrom m n (s ∷ ss) = ((k : Key) → IfSome (get (contents_in s) k) (λ _. shard_index m k ≡ n)) × AreApartFrom m (suc n) ss
 
-pub apart-from : (m n : ℕ) (ss : List Shard) → ((i : ℕ) (d : Shard) (k : Key) → i < length ss → IfSome (get (contents_in (get_or ss i d)) k) (λ _. place m k ≡ n + i)) → AreApartFrom m n ss
+pub apart-from : (m n : ℕ) (ss : List Shard) → ((i : ℕ) (d : Shard) (k : Key) → i < length ss → IfSome (get (contents_in (get_or ss i d)) k) (λ _. shard_index m k ≡ n + i)) → AreApartFrom m n ss
 apart-from m n [] h = tt
 apart-from m n (s ∷ ss) h = (
-  (λ k. subst (λ j. IfSome (get (contents_in s) k) (λ _. place m k ≡ j)) (omega arith) (h 0 s k (omega arith))),
-  apart-from m (suc n) ss (λ i d k l. subst (λ j. IfSome (get (contents_in (get_or ss i d)) k) (λ _. place m k ≡ j)) (omega arith) (h (suc i) d k (omega (arith, l)))),
+  (λ k. subst (λ j. IfSome (get (contents_in s) k) (λ _. shard_index m k ≡ j)) (omega arith) (h 0 s k (omega arith))),
+  apart-from m (suc n) ss (λ i d k l. subst (λ j. IfSome (get (contents_in (get_or ss i d)) k) (λ _. shard_index m k ≡ j)) (omega arith) (h (suc i) d k (omega (arith, l)))),
 )
 
 -- they are apart from the first one on
 pub apart-start : (ss : List Shard) → AreApart ss → AreApartFrom (length ss) 0 ss
-apart-start ss a = apart-from (length ss) 0 ss (λ i d k l. let e : i ≡ 0 + i = omega arith in subst (λ j. IfSome (get (contents_in (get_or ss i d)) k) (λ _. place (length ss) k ≡ j)) e (a i d k l))
+apart-start ss a = apart-from (length ss) 0 ss (λ i d k l. let e : i ≡ 0 + i = omega arith in subst (λ j. IfSome (get (contents_in (get_or ss i d)) k) (λ _. shard_index (length ss) k ≡ j)) e (a i d k l))
 
 elsewhere : (o : Option GroupState) (p n : ℕ) → IfSome o (λ _. p ≡ n) → p ≢ n → o ≡ None
 elsewhere None p n h e = refl
 elsewhere (Some g) p n h e = absurd (e h)
 
 -- no shard has a key of an earlier place
-find-before : (m n : ℕ) (ss : List Shard) (k : Key) → AreApartFrom m n ss → place m k < n → find key_order k (entries_by_key (all_entries ss)) ≡ None
+find-before : (m n : ℕ) (ss : List Shard) (k : Key) → AreApartFrom m n ss → shard_index m k < n → find key_order k (entries_by_key (all_entries ss)) ≡ None
 find-before m n [] k a l = refl
 find-before m n (s ∷ ss) k a l =
     find-append k (entries_in s) (all_entries ss)
     ∙ (λ i. or_else (sym (get-from_entries key_total (entries_by_key (entries_in s)) k) i) (find-before m (suc n) ss k a.1 (omega (arith, l)) i))
     ∙ or_else-none (get (contents_in s) k)
-    ∙ elsewhere (get (contents_in s) k) (place m k) n (a.0 k) (λ e. omega (arith, e, l))
+    ∙ elsewhere (get (contents_in s) k) (shard_index m k) n (a.0 k) (λ e. omega (arith, e, l))
 
 -- what is found by a key is what the shard of its place has
-find-place : (m n i : ℕ) (ss : List Shard) (d : Shard) (k : Key) → AreApartFrom m n ss → place m k ≡ n + i → i < length ss
+find-place : (m n i : ℕ) (ss : List Shard) (d : Shard) (k : Key) → AreApartFrom m n ss → shard_index m k ≡ n + i → i < length ss
     → find key_order k (entries_by_key (all_entries ss)) ≡ get (contents_in (get_or ss i d)) k
 find-place m n i [] d k a p l = absurd (omega (arith, l))
 find-place m n zero (s ∷ ss) d k a p l =
@@ -76,33 +76,33 @@ find-place m n zero (s ∷ ss) d k a p l =
 find-place m n (suc i) (s ∷ ss) d k a p l =
     find-append k (entries_in s) (all_entries ss)
     ∙ ap (λ o. or_else o (find key_order k (entries_by_key (all_entries ss))))
-    (sym (get-from_entries key_total (entries_by_key (entries_in s)) k) ∙ elsewhere (get (contents_in s) k) (place m k) n (a.0 k) (λ e. omega (arith, e, p)))
+    (sym (get-from_entries key_total (entries_by_key (entries_in s)) k) ∙ elsewhere (get (contents_in s) k) (shard_index m k) n (a.0 k) (λ e. omega (arith, e, p)))
     ∙ find-place m (suc n) i ss d k a.1 (omega (arith, p)) (omega (arith, l))
 
 -- ---- all shards
 
 -- the number of a place is below the number of shards
-pub place-below : (n : ℕ) (k : Key) → 0 < n → place n k < n
+pub place-below : (n : ℕ) (k : Key) → 0 < n → shard_index n k < n
 place-below n k some =
     let d : digest k < 4294967296 = omega arith in
     let e : digest k * n < 4294967296 * n = mul-lt-mul_of_pos_right d some in
     div_below (digest k * n) 4294967296 n (omega arith) (omega (arith, e))
 
 -- so each key has one in the shards
-pub within-all : (ss : Vec Shard Global) → 0 < vec_len ss → (k : Key) → place (length ss.items) k < length ss.items
+pub within-all : (ss : Vec Shard Global) → 0 < vec_len ss → (k : Key) → shard_index (length ss.items) k < length ss.items
 within-all ss n k = let l = ss.ok in place-below (length ss.items) k (omega (arith, n, l))
 
 -- each shard has keys of its own place among m alone
 abbrev pub AreApartAmong : ℕ → List Shard → Type 0
-AreApartAmong m ss = (i : ℕ) (d : Shard) (k : Key) → i < length ss → IfSome (get (contents_in (get_or ss i d)) k) (λ _. place m k ≡ i)
+AreApartAmong m ss = (i : ℕ) (d : Shard) (k : Key) → i < length ss → IfSome (get (contents_in (get_or ss i d)) k) (λ _. shard_index m k ≡ i)
 
-pub get-place : (ss : List Shard) (d : Shard) (k : Key) → AreApart ss → place (length ss) k < length ss → get (contents_of_shards ss) k ≡ get (contents_in (get_or ss (place (length ss) k) d)) k
+pub get-place : (ss : List Shard) (d : Shard) (k : Key) → AreApart ss → shard_index (length ss) k < length ss → get (contents_of_shards ss) k ≡ get (contents_in (get_or ss (shard_index (length ss) k) d)) k
 get-place ss d k a l =
     get-from_entries key_total (entries_by_key (all_entries ss)) k
-    ∙ find-place (length ss) 0 (place (length ss) k) ss d k (apart-start ss a) (omega arith) l
+    ∙ find-place (length ss) 0 (shard_index (length ss) k) ss d k (apart-start ss a) (omega arith) l
 
-get-place-among : (m : ℕ) (ss : List Shard) (d : Shard) (k : Key) → length ss ≡ m → AreApart ss → place m k < m → get (contents_of_shards ss) k ≡ get (contents_in (get_or ss (place m k) d)) k
-get-place-among m ss d k e a = subst (λ n. place n k < n → get (contents_of_shards ss) k ≡ get (contents_in (get_or ss (place n k) d)) k) e (get-place ss d k a)
+get-place-among : (m : ℕ) (ss : List Shard) (d : Shard) (k : Key) → length ss ≡ m → AreApart ss → shard_index m k < m → get (contents_of_shards ss) k ≡ get (contents_in (get_or ss (shard_index m k) d)) k
+get-place-among m ss d k e a = subst (λ n. shard_index n k < n → get (contents_of_shards ss) k ≡ get (contents_in (get_or ss (shard_index n k) d)) k) e (get-place ss d k a)
 
 none-both : (es fs : Entries) → es ++ fs ≡ [] → (es ≡ []) × (fs ≡ [])
 none-both [] fs e = (refl, e)
@@ -117,66 +117,66 @@ none-at (s ∷ ss) e (suc i) d k l P = none-at ss (none-both (entries_in s) (all
 
 -- shards without an entry are apart
 pub apart-none : (ss : List Shard) → all_entries ss ≡ [] → AreApart ss
-apart-none ss e = λ i d k l. none-at ss e i d k l (place (length ss) k ≡ i)
+apart-none ss e = λ i d k l. none-at ss e i d k l (shard_index (length ss) k ≡ i)
 
 some-any : (o : Option GroupState) (P : Type 0) → P → IfSome o (λ _. P)
 some-any None P h = tt
 some-any (Some g) P h = h
 
 -- what was changed at one key, in the shard of its place, leaves each shard its own places
-changed-among : (n : ℕ) (ss : List Shard) (s new : Shard) (key : Key) → AreApartAmong n ss → place n key < length ss → s ≡ get_or ss (place n key) s
+changed-among : (n : ℕ) (ss : List Shard) (s new : Shard) (key : Key) → AreApartAmong n ss → shard_index n key < length ss → s ≡ get_or ss (shard_index n key) s
     → ((k : Key) → same_key k key ≡ false → get (contents_in new) k ≡ get (contents_in s) k)
-    → AreApartAmong n (set ss (place n key) new)
+    → AreApartAmong n (set ss (shard_index n key) new)
 changed-among n ss s new key a l is others = λ i d k j.
-    let m = length-set ss (place n key) new in
-    elim (cases_eq i (place n key)) [
+    let m = length-set ss (shard_index n key) new in
+    elim (cases_eq i (shard_index n key)) [
       | inl e ↦
-          let t : get_or (set ss (place n key) new) i d ≡ new = ap (λ j. get_or (set ss (place n key) new) j d) e ∙ get_or-set_same ss (place n key) new d l in
-          subst (λ (x : Shard). IfSome (get (contents_in x) k) (λ _. place n k ≡ i)) (sym t)
-          (elim (same_key k key) as (λ b. same_key k key ≡ b → IfSome (get (contents_in new) k) (λ _. place n k ≡ i)) [
-            | true ↦ λ f. some-any (get (contents_in new) k) (place n k ≡ i) (ap (place n) ((same_key-Decides k key).0 f) ∙ sym e)
-            | false ↦ λ f. subst (λ (o : Option GroupState). IfSome o (λ _. place n k ≡ i)) (sym (others k f))
-                (subst (λ j. IfSome (get (contents_in s) k) (λ _. place n k ≡ j)) (sym e)
-                (subst (λ (x : Shard). IfSome (get (contents_in x) k) (λ _. place n k ≡ place n key)) (sym is) (a (place n key) s k l)))
+          let t : get_or (set ss (shard_index n key) new) i d ≡ new = ap (λ j. get_or (set ss (shard_index n key) new) j d) e ∙ get_or-set_same ss (shard_index n key) new d l in
+          subst (λ (x : Shard). IfSome (get (contents_in x) k) (λ _. shard_index n k ≡ i)) (sym t)
+          (elim (same_key k key) as (λ b. same_key k key ≡ b → IfSome (get (contents_in new) k) (λ _. shard_index n k ≡ i)) [
+            | true ↦ λ f. some-any (get (contents_in new) k) (shard_index n k ≡ i) (ap (shard_index n) ((same_key-Decides k key).0 f) ∙ sym e)
+            | false ↦ λ f. subst (λ (o : Option GroupState). IfSome o (λ _. shard_index n k ≡ i)) (sym (others k f))
+                (subst (λ j. IfSome (get (contents_in s) k) (λ _. shard_index n k ≡ j)) (sym e)
+                (subst (λ (x : Shard). IfSome (get (contents_in x) k) (λ _. shard_index n k ≡ shard_index n key)) (sym is) (a (shard_index n key) s k l)))
           ] refl)
-      | inr e ↦ subst (λ (x : Shard). IfSome (get (contents_in x) k) (λ _. place n k ≡ i)) (sym (get_or-set_other ss (place n key) i new d e)) (a i d k (omega (arith, m, j)))
+      | inr e ↦ subst (λ (x : Shard). IfSome (get (contents_in x) k) (λ _. shard_index n k ≡ i)) (sym (get_or-set_other ss (shard_index n key) i new d e)) (a i d k (omega (arith, m, j)))
     ]
 
-pub apart-changed : (ss : List Shard) (s new : Shard) (key : Key) → AreApart ss → place (length ss) key < length ss → s ≡ get_or ss (place (length ss) key) s
+pub apart-changed : (ss : List Shard) (s new : Shard) (key : Key) → AreApart ss → shard_index (length ss) key < length ss → s ≡ get_or ss (shard_index (length ss) key) s
     → ((k : Key) → same_key k key ≡ false → get (contents_in new) k ≡ get (contents_in s) k)
-    → AreApart (set ss (place (length ss) key) new)
+    → AreApart (set ss (shard_index (length ss) key) new)
 apart-changed ss s new key a l is others =
-    subst (λ n. AreApartAmong n (set ss (place (length ss) key) new)) (sym (length-set ss (place (length ss) key) new)) (changed-among (length ss) ss s new key a l is others)
+    subst (λ n. AreApartAmong n (set ss (shard_index (length ss) key) new)) (sym (length-set ss (shard_index (length ss) key) new)) (changed-among (length ss) ss s new key a l is others)
 
 -- and in all shards that key alone has changed, as it has in its shard
-changed-all : (n : ℕ) (to : Option GroupState → Option GroupState) (ss : List Shard) (s new : Shard) (key : Key) → n ≡ length ss → AreApart ss → ((k : Key) → place n k < length ss) → s ≡ get_or ss (place n key) s
-    → AreApart (set ss (place n key) new)
+changed-all : (n : ℕ) (to : Option GroupState → Option GroupState) (ss : List Shard) (s new : Shard) (key : Key) → n ≡ length ss → AreApart ss → ((k : Key) → shard_index n k < length ss) → s ≡ get_or ss (shard_index n key) s
+    → AreApart (set ss (shard_index n key) new)
     → ((k : Key) → same_key k key ≡ false → get (contents_in new) k ≡ get (contents_in s) k)
     → ((k : Key) → get (contents_in new) k ≡ cond (same_key k key) (to (get (contents_in s) k)) (get (contents_in s) k))
-    → (k : Key) → get (contents_of_shards (set ss (place n key) new)) k ≡ cond (same_key k key) (to (get (contents_of_shards ss) k)) (get (contents_of_shards ss) k)
+    → (k : Key) → get (contents_of_shards (set ss (shard_index n key) new)) k ≡ cond (same_key k key) (to (get (contents_of_shards ss) k)) (get (contents_of_shards ss) k)
 changed-all n to ss s new key many a within is after others at k =
-    let m : length (set ss (place n key) new) ≡ n = length-set ss (place n key) new ∙ sym many in
-    let w : place n k < n = let w = within k in omega (arith, many, w) in
-    let before : get (contents_of_shards ss) k ≡ get (contents_in (get_or ss (place n k) s)) k = get-place-among n ss s k (sym many) a w in
-    get-place-among n (set ss (place n key) new) s k m after w
-    ∙ elim (cases_eq (place n k) (place n key)) as (λ _. get (contents_in (get_or (set ss (place n key) new) (place n k) s)) k ≡ cond (same_key k key) (to (get (contents_in (get_or ss (place n k) s)) k)) (get (contents_in (get_or ss (place n k) s)) k)) [
+    let m : length (set ss (shard_index n key) new) ≡ n = length-set ss (shard_index n key) new ∙ sym many in
+    let w : shard_index n k < n = let w = within k in omega (arith, many, w) in
+    let before : get (contents_of_shards ss) k ≡ get (contents_in (get_or ss (shard_index n k) s)) k = get-place-among n ss s k (sym many) a w in
+    get-place-among n (set ss (shard_index n key) new) s k m after w
+    ∙ elim (cases_eq (shard_index n k) (shard_index n key)) as (λ _. get (contents_in (get_or (set ss (shard_index n key) new) (shard_index n k) s)) k ≡ cond (same_key k key) (to (get (contents_in (get_or ss (shard_index n k) s)) k)) (get (contents_in (get_or ss (shard_index n k) s)) k)) [
       | inl e ↦
-          let t : get_or (set ss (place n key) new) (place n k) s ≡ new = ap (λ j. get_or (set ss (place n key) new) j s) e ∙ get_or-set_same ss (place n key) new s (within key) in
-          let u : get_or ss (place n k) s ≡ s = ap (λ j. get_or ss j s) e ∙ sym is in
+          let t : get_or (set ss (shard_index n key) new) (shard_index n k) s ≡ new = ap (λ j. get_or (set ss (shard_index n key) new) j s) e ∙ get_or-set_same ss (shard_index n key) new s (within key) in
+          let u : get_or ss (shard_index n k) s ≡ s = ap (λ j. get_or ss j s) e ∙ sym is in
           ap (λ (x : Shard). get (contents_in x) k) t ∙ at k ∙ ap (λ (x : Shard). cond (same_key k key) (to (get (contents_in x) k)) (get (contents_in x) k)) (sym u)
       | inr e ↦
-          ap (λ (x : Shard). get (contents_in x) k) (get_or-set_other ss (place n key) (place n k) new s e)
-          ∙ elim (same_key k key) as (λ b. same_key k key ≡ b → get (contents_in (get_or ss (place n k) s)) k ≡ cond b (to (get (contents_in (get_or ss (place n k) s)) k)) (get (contents_in (get_or ss (place n k) s)) k)) [
-            | true ↦ λ f. absurd (e (ap (place n) ((same_key-Decides k key).0 f)))
+          ap (λ (x : Shard). get (contents_in x) k) (get_or-set_other ss (shard_index n key) (shard_index n k) new s e)
+          ∙ elim (same_key k key) as (λ b. same_key k key ≡ b → get (contents_in (get_or ss (shard_index n k) s)) k ≡ cond b (to (get (contents_in (get_or ss (shard_index n k) s)) k)) (get (contents_in (get_or ss (shard_index n k) s)) k)) [
+            | true ↦ λ f. absurd (e (ap (shard_index n) ((same_key-Decides k key).0 f)))
             | false ↦ λ f. refl
           ] refl
     ]
     ∙ ap (λ o. cond (same_key k key) (to o) o) (sym before)
 
-pub all-changed : (to : Option GroupState → Option GroupState) (ss : List Shard) (s new : Shard) (key : Key) → AreApart ss → ((k : Key) → place (length ss) k < length ss) → s ≡ get_or ss (place (length ss) key) s
+pub all-changed : (to : Option GroupState → Option GroupState) (ss : List Shard) (s new : Shard) (key : Key) → AreApart ss → ((k : Key) → shard_index (length ss) k < length ss) → s ≡ get_or ss (shard_index (length ss) key) s
     → ((k : Key) → same_key k key ≡ false → get (contents_in new) k ≡ get (contents_in s) k)
     → ((k : Key) → get (contents_in new) k ≡ cond (same_key k key) (to (get (contents_in s) k)) (get (contents_in s) k))
-    → (k : Key) → get (contents_of_shards (set ss (place (length ss) key) new)) k ≡ cond (same_key k key) (to (get (contents_of_shards ss) k)) (get (contents_of_shards ss) k)
+    → (k : Key) → get (contents_of_shards (set ss (shard_index (length ss) key) new)) k ≡ cond (same_key k key) (to (get (contents_of_shards ss) k)) (get (contents_of_shards ss) k)
 all-changed to ss s new key a within is others = changed-all (length ss) to ss s new key refl a within is (apart-changed ss s new key a (within key) is others) others
 
 -- ---- shards put together one by one
@@ -192,18 +192,18 @@ apart-joined ss ts us a b m n j =
     let all : AreApartAmong (length ss) us =
     λ i d k l.
     let h : i < length ss = omega (arith, n, l) in
-    joined-some _ _ _ (place (length ss) k ≡ i) (j i d h k) (a i d k h) (there i d k (omega (arith, m, h))) in
+    joined-some _ _ _ (shard_index (length ss) k ≡ i) (j i d h k) (a i d k h) (there i d k (omega (arith, m, h))) in
     subst (λ x. AreApartAmong x us) (sym n) all
 
-joined-by : (ss ts us : List Shard) (d : Shard) → AreApart ss → AreApart ts → length ts ≡ length ss → length us ≡ length ss → ((k : Key) → place (length ss) k < length ss) → AreJoined ss ts us
+joined-by : (ss ts us : List Shard) (d : Shard) → AreApart ss → AreApart ts → length ts ≡ length ss → length us ≡ length ss → ((k : Key) → shard_index (length ss) k < length ss) → AreJoined ss ts us
     → (k : Key) → IsJoined (contents_of_shards ss) (contents_of_shards ts) (contents_of_shards us) k
 joined-by ss ts us d a b m n within j k =
     let w = within k in
     get-place-among (length ss) us d k n (apart-joined ss ts us a b m n j) w
-    ∙ j (place (length ss) k) d w k
+    ∙ j (shard_index (length ss) k) d w k
     ∙ (λ i. join_options (sym (get-place ss d k a w) i) (sym (get-place-among (length ss) ts d k m b w) i))
 
-pub all-joined : (ss ts us : List Shard) → AreApart ss → AreApart ts → length ts ≡ length ss → length us ≡ length ss → ((k : Key) → place (length ss) k < length ss) → AreJoined ss ts us
+pub all-joined : (ss ts us : List Shard) → AreApart ss → AreApart ts → length ts ≡ length ss → length us ≡ length ss → ((k : Key) → shard_index (length ss) k < length ss) → AreJoined ss ts us
     → (k : Key) → IsJoined (contents_of_shards ss) (contents_of_shards ts) (contents_of_shards us) k
 all-joined [] ts us a b m n within j k = let w = within k in absurd (omega (arith, w))
 all-joined (s ∷ ss) ts us a b m n within j k = joined-by (s ∷ ss) ts us s a b m n within j k
@@ -227,12 +227,12 @@ after-drop (suc n) [] s rest e = cc
 after-drop (suc n) (x ∷ ss) s rest e = after-drop n ss s rest e
 
 -- where all can be joined, each can
-pub each-can_join : (ss ts : List Shard) → AreApart ss → AreApart ts → length ts ≡ length ss → ((k : Key) → place (length ss) k < length ss) → CanJoin (contents_of_shards ss) (contents_of_shards ts) → CanJoinEach ss ts
+pub each-can_join : (ss ts : List Shard) → AreApart ss → AreApart ts → length ts ≡ length ss → ((k : Key) → shard_index (length ss) k < length ss) → CanJoin (contents_of_shards ss) (contents_of_shards ts) → CanJoinEach ss ts
 each-can_join ss ts a b m within h = λ i d l k.
-    elim (get (contents_in (get_or ts i d)) k) as (λ o. get (contents_in (get_or ts i d)) k ≡ o → IfSome o (λ _. place (length ss) k ≡ i) → IfSome o (λ part. IsFitting part (get (contents_in (get_or ss i d)) k))) [
+    elim (get (contents_in (get_or ts i d)) k) as (λ o. get (contents_in (get_or ts i d)) k ≡ o → IfSome o (λ _. shard_index (length ss) k ≡ i) → IfSome o (λ part. IsFitting part (get (contents_in (get_or ss i d)) k))) [
       | None ↦ λ e p. tt
       | Some g ↦ λ e p.
-          let w : place (length ss) k < length ss = within k in
+          let w : shard_index (length ss) k < length ss = within k in
           let here : get (contents_of_shards ss) k ≡ get (contents_in (get_or ss i d)) k = get-place ss d k a w ∙ ap (λ n. get (contents_in (get_or ss n d)) k) p in
           let there : get (contents_of_shards ts) k ≡ Some g = get-place-among (length ss) ts d k m b w ∙ ap (λ n. get (contents_in (get_or ts n d)) k) p ∙ e in
           subst (λ (o : Option GroupState). IsFitting g o) here (subst (λ (o : Option GroupState). IfSome o (λ part. IsFitting part (get (contents_of_shards ss) k))) there (h k))
@@ -240,12 +240,12 @@ each-can_join ss ts a b m within h = λ i d l k.
 
 -- ---- all entries are of different keys
 
-found-places : (m n : ℕ) (es : Entries) → ((k : Key) → IfSome (find key_order k (entries_by_key es)) (λ _. place m k ≡ n)) → AllByRecursion (λ e. place m (data_of e.0.items) ≡ n) es
+found-places : (m n : ℕ) (es : Entries) → ((k : Key) → IfSome (find key_order k (entries_by_key es)) (λ _. shard_index m k ≡ n)) → AllByRecursion (λ e. shard_index m (data_of e.0.items) ≡ n) es
 found-places m n [] h = tt
 found-places m n (e ∷ es) h = (
-  subst (λ (o : Option GroupState). IfSome o (λ _. place m (data_of e.0.items) ≡ n)) (find-first e es) (h (data_of e.0.items)),
-  found-places m n es (λ k. elim (same_key k (data_of e.0.items)) as (λ b. IfSome (cond b (Some e.1) (find key_order k (entries_by_key es))) (λ _. place m k ≡ n) → IfSome (find key_order k (entries_by_key es)) (λ _. place m k ≡ n)) [
-    | true ↦ λ p. some-any (find key_order k (entries_by_key es)) (place m k ≡ n) p
+  subst (λ (o : Option GroupState). IfSome o (λ _. shard_index m (data_of e.0.items) ≡ n)) (find-first e es) (h (data_of e.0.items)),
+  found-places m n es (λ k. elim (same_key k (data_of e.0.items)) as (λ b. IfSome (cond b (Some e.1) (find key_order k (entries_by_key es))) (λ _. shard_index m k ≡ n) → IfSome (find key_order k (entries_by_key es)) (λ _. shard_index m k ≡ n)) [
+    | true ↦ λ p. some-any (find key_order k (entries_by_key es)) (shard_index m k ≡ n) p
     | false ↦ λ p. p
   ] (h k)),
 )
@@ -284,9 +284,9 @@ unfolding IsDistinct
 distinct-from m n [] a = tt
 distinct-from m n (s ∷ ss) a =
     distinct-append (entries_in s) (all_entries ss) s.distinct (distinct-from m (suc n) ss a.1)
-    (all-weaker (λ e. place m (data_of e.0.items) ≡ n) (λ e. find key_order (data_of e.0.items) (entries_by_key (all_entries ss)) ≡ None)
+    (all-weaker (λ e. shard_index m (data_of e.0.items) ≡ n) (λ e. find key_order (data_of e.0.items) (entries_by_key (all_entries ss)) ≡ None)
     (λ e p. find-before m (suc n) ss (data_of e.0.items) a.1 (omega (arith, p))) (entries_in s)
-    (found-places m n (entries_in s) (λ k. subst (λ (o : Option GroupState). IfSome o (λ _. place m k ≡ n)) (get-from_entries key_total (entries_by_key (entries_in s)) k) (a.0 k))))
+    (found-places m n (entries_in s) (λ k. subst (λ (o : Option GroupState). IfSome o (λ _. shard_index m k ≡ n)) (get-from_entries key_total (entries_by_key (entries_in s)) k) (a.0 k))))
 
 pub distinct-all : (ss : List Shard) → AreApart ss → IsDistinct key_eq (keys_of (all_entries ss))
 distinct-all ss a = distinct-from (length ss) 0 ss (apart-start ss a)

@@ -2,7 +2,7 @@
 ghost use Rattle.std.specs.Prelude.{◌≡◌, ◌<◌, ◌≤◌, ◌^◌};
 ghost use Rattle.std.specs.List.{fold};
 ghost use Rattle.values.specs.Datum.{data_of, datum_of};
-ghost use Rattle.tables_groups.specs.Inside.Shards.{last_bytes, mixed, place, with_value};
+ghost use Rattle.tables_groups.specs.Inside.Shards.{last_bytes, hash_step, shard_index, with_value};
 
 use values::Value;
 
@@ -10,13 +10,13 @@ use values::Value;
 pub(crate) const SHARDS: usize = 4;
 
 /// How many bytes at the end of a text tell its shard.
-const LAST: usize = 4;
+const HASHED_SUFFIX_LEN: usize = 4;
 
 /// The number of the shard that keeps a key among so many of them. Where there is one, the key is not looked at.
 pub(crate) fn place_of(key: &[Value], count: usize) -> usize
     requires some { 0 < count }
     requires few { count ≤ 4 }
-    ensures place { result ≡ place count (data_of key.now) }
+    ensures place { result ≡ shard_index count (data_of key.now) }
     ensures within { result < count }
 {
     if count == 1 {
@@ -26,7 +26,7 @@ pub(crate) fn place_of(key: &[Value], count: usize) -> usize
     for value in key {
         digest = with_value(digest, value);
     }
-    (mixed(digest, 0) * count as u64 / 4_294_967_296) as usize
+    (hash_step(digest, 0) * count as u64 / 4_294_967_296) as usize
 }
 
 /// A number with a value mixed into it.
@@ -36,31 +36,31 @@ fn with_value(digest: u64, value: &Value) -> u64
     ensures below { result < 2 ^ 32 }
 {
     match value {
-        Value::Bool(truth) => mixed(digest, u64::from(*truth)),
-        Value::Int(number) => mixed(digest, (number.unsigned_abs() % 4_294_967_296) as u64),
+        Value::Bool(truth) => hash_step(digest, u64::from(*truth)),
+        Value::Int(number) => hash_step(digest, (number.unsigned_abs() % 4_294_967_296) as u64),
         Value::Text(text) => with_text(digest, text.as_bytes()),
-        Value::Null => mixed(digest, 2),
+        Value::Null => hash_step(digest, 2),
     }
 }
 
 /// A number with the last bytes of a text mixed into it.
 fn with_text(digest: u64, text: &[u8]) -> u64
     requires { digest < 2 ^ 32 }
-    ensures value { result ≡ fold mixed digest (last_bytes text.now) }
+    ensures value { result ≡ fold hash_step digest (last_bytes text.now) }
     ensures below { result < 2 ^ 32 }
 {
     let mut digest = digest;
-    for byte in &text[text.len().saturating_sub(LAST)..] {
-        digest = mixed(digest, u64::from(*byte));
+    for byte in &text[text.len().saturating_sub(HASHED_SUFFIX_LEN)..] {
+        digest = hash_step(digest, u64::from(*byte));
     }
     digest
 }
 
 /// A number with one more number mixed into it.
-fn mixed(digest: u64, number: u64) -> u64
+fn hash_step(digest: u64, number: u64) -> u64
     requires digest { digest < 2 ^ 32 }
     requires number { number < 2 ^ 32 }
-    ensures value { result ≡ mixed digest number }
+    ensures value { result ≡ hash_step digest number }
     ensures below { result < 2 ^ 32 }
 {
     (digest * 2_654_435_761 + number) % 4_294_967_296

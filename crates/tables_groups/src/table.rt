@@ -21,7 +21,7 @@ use values::Value;
 
 /// How many groups a table has at least that several threads put to another one, or finish: fewer are put there sooner than
 /// a thread is started.
-const FEWEST: usize = 4_096;
+const PARALLEL_MIN_GROUPS: usize = 4_096;
 
 /// The groups of one grouping set over the records that were taken so far, each by its key.
 ///
@@ -234,7 +234,7 @@ impl Table {
         ensures joined { OnOk result ((set : List ℕ) (functions : List AggregateFunction) (rows more : List Row)
             → IsTableOf set functions self.old rows → IsTableOf set functions other more → IsTableOf set functions self.new (rows ++ more)) }
     {
-        if hands == 1 || other.len() < FEWEST {
+        if hands == 1 || other.len() < PARALLEL_MIN_GROUPS {
             return self.absorb(other);
         }
         let fresh = Table::without_groups(self.alloc, 1)?;
@@ -356,7 +356,7 @@ impl Table {
             → IsTableOf set functions self rows → SameBag (map group_summary_in groups.items) (group_summaries set functions rows)) }
     {
         let count = self.len();
-        if hands < self.shards.len() || count < FEWEST {
+        if hands < self.shards.len() || count < PARALLEL_MIN_GROUPS {
             return self.finish();
         }
         let Table {

@@ -12,7 +12,7 @@ use semantics::{Kind, SchemaFault};
 use std::alloc::Global;
 
 /// The most columns that a schema has.
-const MOST_COLUMNS: usize = 32;
+const MAX_COLUMNS: usize = 32;
 
 /// Whether a word begins with a byte.
 fn begins_word(byte: u8) -> bool
@@ -86,7 +86,7 @@ pub(crate) fn next_column(
     ensures fault { IfErr result (λ fault. fault ≢ SchemaFault.OutOfMemory → fault_of (names_of (fields_of before.now)) part.now ≡ Some fault) }
 {
     let number = before.len() + 1;
-    if number > MOST_COLUMNS {
+    if number > MAX_COLUMNS {
         return Err(SchemaFault::TooManyColumns);
     }
     let (name, kind) = name_and_kind(part);

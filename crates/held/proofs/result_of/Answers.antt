@@ -22,7 +22,7 @@ fan_out-requires-clause-loads g c κs within =
 pub returns-in-Ok-Whole : goal.returns-in-Ok-Whole
 returns-in-Ok-Whole g c =
     let job = is-job _ _ _ _ _ _ c.new-job.ensures.job c.new.ensures.plan c.new.ensures.input c.new.ensures.pieces c.as_slice.ensures.value in
-    let few = c.if-len-gt-MOST_PIECES.false in
+    let few = c.if-len-gt-MAX_PIECES.false in
     record {
       of_plan = stands-for _ _ _ _ _ c.len-2.result _ c.in-Ok-Whole.field-0 c.in-Ok-Whole.result job c.new-job.ensures.first (grind (arith, c.len-2.ensures, c.in-Ok.pieces.ok))
           (omega (arith, few)) c.job_law.ensures.whole_by c.in-Ok-Whole.field-0-is c.in-Ok-Whole.ensures.decided;

@@ -7,8 +7,8 @@ use crate::tokens::numerals::has_value;
 use json::{Reader, Token};
 
 /// Passes a value that nests at most `depth` deep; `None` says nothing of the tokens.
-#[cycle(pass)]
-pub(crate) fn pass(reader: &mut Reader<'_>, depth: usize) -> Option<()>
+#[cycle(skip_value)]
+pub(crate) fn skip_value(reader: &mut Reader<'_>, depth: usize) -> Option<()>
     ensures passed { IfSome result (λ _. (d : Data) × IsValue depth reader.old d reader.new) }
     ensures shorter { IfSome result (λ _. length reader.new < length reader.old) }
 {
@@ -22,25 +22,25 @@ pub(crate) fn pass(reader: &mut Reader<'_>, depth: usize) -> Option<()>
 }
 
 /// Passes the items of an array, up to its closing bracket.
-#[cycle(pass)]
+#[cycle(skip_value)]
 fn pass_items(reader: &mut Reader<'_>, depth: usize) -> Option<()>
     ensures passed { IfSome result (λ _. (ds : Items) × AreItems depth reader.old ds reader.new) }
     ensures shorter { IfSome result (λ _. length reader.new < length reader.old) }
 {
     'items: while !reader.take_end_array() {
-        pass(reader, depth)?;
+        skip_value(reader, depth)?;
     }
     Some(())
 }
 
 /// Passes the members of an object, up to its closing brace.
-#[cycle(pass)]
+#[cycle(skip_value)]
 fn pass_members(reader: &mut Reader<'_>, depth: usize) -> Option<()>
     ensures passed { IfSome result (λ _. (ms : Members) × AreMembers depth reader.old ms reader.new) }
     ensures shorter { IfSome result (λ _. length reader.new < length reader.old) }
 {
     'members: while let Some(_) = reader.next_key().ok()? {
-        pass(reader, depth)?;
+        skip_value(reader, depth)?;
     }
     Some(())
 }

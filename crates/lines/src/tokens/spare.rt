@@ -6,7 +6,7 @@ use std::mem;
 use values::Value;
 
 /// The most texts that are kept, one for each column that a schema can have.
-const MOST_TEXTS: usize = 32;
+const MAX_TEXTS: usize = 32;
 
 /// Memory for the values of a record. What stands in it means nothing.
 #[derive(Drop)]
@@ -67,7 +67,7 @@ impl Spare {
     /// Keeps the memory of a text, where that of few others is kept.
     #[inline(always)]
     fn keep_text(&mut self, text: String) {
-        if self.texts.len() < MOST_TEXTS {
+        if self.texts.len() < MAX_TEXTS {
             // Where there is no memory for it, it is not kept.
             let _ = self.texts.push(text);
         }

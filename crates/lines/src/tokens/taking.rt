@@ -8,7 +8,7 @@ ghost use Rattle.lines.specs.Meant.{AreMembers, IsValue};
 ghost use Rattle.semantics.specs.Records.{data_taken, datum_taken};
 
 use crate::tokens::numerals::whole_number;
-use crate::tokens::passing::pass;
+use crate::tokens::passing::skip_value;
 use crate::tokens::spare::Spare;
 use json::{Reader, Token};
 use values::{Column, Kind, Value};
@@ -37,7 +37,7 @@ pub(crate) fn take_members(
                 put_at(&mut values, place, value);
                 next = place + 1;
             }
-            None => pass(reader, MEMBER_DEPTH)?,
+            None => skip_value(reader, MEMBER_DEPTH)?,
         }
     }
     Some(values)

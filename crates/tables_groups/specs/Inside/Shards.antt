@@ -14,8 +14,8 @@ use Rattle.tables_groups.specs.declared.shard.Shard.{Shard}
 -- ---- which shard keeps a key
 
 -- a number of 32 bits with one more number mixed into it: multiplied by the one that parts 2^32 in the golden ratio, as multiplicative hashing does
-abbrev pub mixed : ℕ → ℕ → ℕ
-mixed digest n = (digest * 2654435761 + n) % 4294967296
+abbrev pub hash_step : ℕ → ℕ → ℕ
+hash_step digest n = (digest * 2654435761 + n) % 4294967296
 
 -- the last four bytes of a text, or all of a shorter one
 abbrev pub last_bytes : List ℕ → List ℕ
@@ -23,18 +23,18 @@ last_bytes bytes = drop (length bytes - 4) bytes
 
 -- a number with a value mixed into it: of a text its last bytes, of a whole number its last 32 bits
 abbrev pub with_value : ℕ → Datum → ℕ
-with_value digest (boolean b) = mixed digest (cond b 1 0)
-with_value digest (whole n) = mixed digest (unsigned_abs n % 4294967296)
-with_value digest (text bytes) = fold mixed digest (last_bytes bytes)
-with_value digest null = mixed digest 2
+with_value digest (boolean b) = hash_step digest (cond b 1 0)
+with_value digest (whole n) = hash_step digest (unsigned_abs n % 4294967296)
+with_value digest (text bytes) = fold hash_step digest (last_bytes bytes)
+with_value digest null = hash_step digest 2
 
 -- the 32 bits that all values of a key mix to
 abbrev pub digest : Key → ℕ
-digest key = mixed (fold with_value 0 key) 0
+digest key = hash_step (fold with_value 0 key) 0
 
 -- the number of the shard that keeps a key among n of them, below n: as far along them as its digest lies along the numbers of 32 bits
-abbrev pub place : ℕ → Key → ℕ
-place n key = digest key * n / 4294967296
+abbrev pub shard_index : ℕ → Key → ℕ
+shard_index n key = digest key * n / 4294967296
 
 -- ---- what shards have
 
@@ -56,7 +56,7 @@ contents_of_shards shards = contents_of (all_entries shards)
 
 -- each shard has keys of its own place alone, among as many as there are shards
 abbrev pub AreApart : List Shard → Type 0
-AreApart shards = (i : ℕ) (d : Shard) (key : Key) → i < length shards → IfSome (fin.get (contents_in (get_or shards i d)) key) (λ _. place (length shards) key ≡ i)
+AreApart shards = (i : ℕ) (d : Shard) (key : Key) → i < length shards → IfSome (fin.get (contents_in (get_or shards i d)) key) (λ _. shard_index (length shards) key ≡ i)
 
 -- each shard can take the groups of the other list's shard of the same place
 abbrev pub CanJoinEach : List Shard → List Shard → Type 0

@@ -1,6 +1,6 @@
 use Rattle.std.proofs.Common.{◌∙◌, ap, map, subst, sym}
 use Rattle.std.specs.List.{All}
-use Rattle.semantics.specs.Records.{good}
+use Rattle.semantics.specs.Records.{valid_records}
 use Rattle.semantics.specs.Found.{query_found}
 use Rattle.report.specs.Report.{NamesColumn, refusals_of}
 use Rattle.semantics.specs.Rows.{row_shown}
@@ -24,7 +24,7 @@ returns-clause-report g c = λ input whole.
     let is = c.in_ok-groups.ensures.whole input whole.pieces whole.stands whole.cut in
     let fit = c.in_ok-groups.ensures.fit in
     let blind = c.arranged_law.ensures fields q groups.found fit
-    (query_found fields q (good fields input)) is.rows in
+    (query_found fields q (valid_records fields input)) is.rows in
     c.in_ok-report.ensures ∙ ap (λ rows. report_bytes q.items (map (row_shown fields q) rows)) (sym blind)
 
 pub returns-clause-refused : goal.returns-clause-refused

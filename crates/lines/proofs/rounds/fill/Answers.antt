@@ -15,7 +15,7 @@ loop-held-preserved g c =
     let was = c.loop-held in
     let next = c.read_more.new in
     let rest = g.R.Read.remaining in
-    let settled = c.settle-in-loop-held.ensures in
+    let settled = c.scan_lines-in-loop-held.ensures in
     record {
       held = settled.held;
       left = search rules;

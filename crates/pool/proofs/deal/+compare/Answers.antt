@@ -21,11 +21,11 @@ use Rattle.pool.proofs.deal.+compare.Goals as goal
 abbrev view_in : Pass Task View Global → View
 view_in p = view p
 
-pub Reach::lend-another-blank-requires : goal.Reach::lend-another-blank-requires
-Reach::lend-another-blank-requires t c = seals _ _
+pub StealHandle::lend-another-blank-requires : goal.StealHandle::lend-another-blank-requires
+StealHandle::lend-another-blank-requires t c = seals _ _
 
-pub Reach::lend-give_back-back-requires-clause-second : goal.Reach::lend-give_back-back-requires-clause-second
-Reach::lend-give_back-back-requires-clause-second t c =
+pub StealHandle::lend-give_back-back-requires-clause-second : goal.StealHandle::lend-give_back-back-requires-clause-second
+StealHandle::lend-give_back-back-requires-clause-second t c =
     let w = view_in c.self.inside.pass in
     let v0 = worker_view c.args.worker.now in
     let v1 = worker_view c.another-blank.new.self in
@@ -34,8 +34,8 @@ Reach::lend-give_back-back-requires-clause-second t c =
     let lent = c.take_in.ensures.lent ∙ ap (λ (u : View). lent_view v2.closed v1 u) (ap view_in c.replace-pass.ensures.value) in
     second c.args.place v0 v1 v2 w c.requires.place.1 c.requires.owner c.another-blank.ensures.rule.0 c.self.invariant.2 at lent c.take_in.ensures.closed (worker_view c.compare.new.worker) c.compare.ensures.looked
 
-pub Reach::lend-compare-requires : goal.Reach::lend-compare-requires
-Reach::lend-compare-requires t c =
+pub StealHandle::lend-compare-requires : goal.StealHandle::lend-compare-requires
+StealHandle::lend-compare-requires t c =
     let w = view_in c.self.inside.pass in
     let v0 = worker_view c.args.worker.now in
     let v1 = worker_view c.another-blank.new.self in
@@ -60,8 +60,8 @@ Reach::lend-compare-requires t c =
       ),
     )
 
-pub Reach::lend-returns-clause-within : goal.Reach::lend-returns-clause-within
-Reach::lend-returns-clause-within t c =
+pub StealHandle::lend-returns-clause-within : goal.StealHandle::lend-returns-clause-within
+StealHandle::lend-returns-clause-within t c =
     let w = view_in c.self.inside.pass in
     let v0 = worker_view c.args.worker.now in
     let v1 = worker_view c.another-blank.new.self in

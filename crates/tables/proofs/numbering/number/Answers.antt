@@ -2,13 +2,13 @@ use Rattle.std.proofs.Common.{List, map, arith}
 use Rattle.std.proofs.lemmas.List.Sorted.{All-permutation, IsPermutation-map, sum_by-IsPermutation}
 use Rattle.std.proofs.lemmas.Result.{IfOk-weaker}
 use Rattle.std.specs.List.Sorted.{IsPermutation}
-use Rattle.tables.specs.declared.note.Note.{Note}
+use Rattle.tables.specs.declared.note.PieceRefusals.{PieceRefusals}
 use Rattle.tables.specs.Notes.{IsWellNumbered, Noted, note_in, notes_in}
 use Rattle.tables.proofs.Bags.{bag-permutation}
 use Rattle.tables.proofs.Orders.{non_decreasing-map}
 use Rattle.tables.proofs.numbering.number.Goals as goal
 
-shown : (notes sorted : List Note) → IsPermutation notes sorted → IsPermutation (map note_in notes) (map note_in sorted)
+shown : (notes sorted : List PieceRefusals) → IsPermutation notes sorted → IsPermutation (map note_in notes) (map note_in sorted)
 shown notes sorted p = IsPermutation-map note_in notes sorted p
 
 pub number_in_order-requires-clause-few : goal.number_in_order-requires-clause-few

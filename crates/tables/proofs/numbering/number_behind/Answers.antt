@@ -2,14 +2,14 @@ use Rattle.std.proofs.Common.{List, map, refl, ap, ◌∙◌, ◌++◌, arith}
 use Rattle.std.proofs.lemmas.List.Sorted.{All-permutation, IsPermutation-map, sum_by-IsPermutation}
 use Rattle.std.proofs.lemmas.Result.{on_ok_weaker}
 use Rattle.std.specs.List.Sorted.{IsPermutation}
-use Rattle.tables.specs.declared.note.Note.{Note}
+use Rattle.tables.specs.declared.note.PieceRefusals.{PieceRefusals}
 use Rattle.tables.specs.Notes.{IsWellNumbered, Noted, note_in, notes_in, numbered_from}
 use Rattle.tables.proofs.Bags.{bag-permutation}
 use Rattle.tables.proofs.Following.{numbered-behind}
 use Rattle.tables.proofs.Orders.{non_decreasing-map}
 use Rattle.tables.proofs.numbering.number_behind.Goals as goal
 
-shown : (notes sorted : List Note) → IsPermutation notes sorted → IsPermutation (map note_in notes) (map note_in sorted)
+shown : (notes sorted : List PieceRefusals) → IsPermutation notes sorted → IsPermutation (map note_in notes) (map note_in sorted)
 shown notes sorted p = IsPermutation-map note_in notes sorted p
 
 pub put_all_behind-requires-clause-few : goal.put_all_behind-requires-clause-few

@@ -2,20 +2,20 @@ use Rattle.std.proofs.Common.{◌≡◌, ◌+◌, ◌<◌, ◌^◌, ◌++◌, �
 use Rattle.std.proofs.lemmas.List.Elements.{All-tail}
 use Rattle.std.proofs.lemmas.List.Sums.{sum_by-cons}
 use Rattle.semantics.specs.declared.line_fault.LineFault.{LineFault}
-use Rattle.tables.specs.declared.note.Note.{Note}
+use Rattle.tables.specs.declared.note.PieceRefusals.{PieceRefusals}
 use Rattle.tables.specs.Notes.{IsWellNumbered, Noted, lines_noted, note_in, notes_in, numbered_from}
 use Rattle.tables.proofs.numbering.put_all_behind.Goals as goal
 
 -- the lines that are counted and those of the rest, where the rest begins with a note
-counted : (before all : ℕ) (old rest : List Note) (note : Note) → old ≡ note ∷ rest → before + lines_noted (map note_in old) ≡ all → before + note.lines + lines_noted (map note_in rest) ≡ all
+counted : (before all : ℕ) (old rest : List PieceRefusals) (note : PieceRefusals) → old ≡ note ∷ rest → before + lines_noted (map note_in old) ≡ all → before + note.lines + lines_noted (map note_in rest) ≡ all
 counted before all old rest note e h =
-    let s = ap (λ (ns : List Note). lines_noted (map note_in ns)) e ∙ sum_by-cons (λ (n : Noted). n.lines) (note_in note) (map note_in rest) in
+    let s = ap (λ (ns : List PieceRefusals). lines_noted (map note_in ns)) e ∙ sum_by-cons (λ (n : Noted). n.lines) (note_in note) (map note_in rest) in
     omega (arith, s, h)
 
-each : (old rest : List Note) (note : Note) → old ≡ note ∷ rest → All IsWellNumbered (map note_in old) → All IsWellNumbered (note_in note ∷ map note_in rest)
-each old rest note e h = subst (λ (ns : List Note). All IsWellNumbered (map note_in ns)) e h
+each : (old rest : List PieceRefusals) (note : PieceRefusals) → old ≡ note ∷ rest → All IsWellNumbered (map note_in old) → All IsWellNumbered (note_in note ∷ map note_in rest)
+each old rest note e h = subst (λ (ns : List PieceRefusals). All IsWellNumbered (map note_in ns)) e h
 
-fits : (before all left : ℕ) (note : Note) (lines : List (ℕ × LineFault)) → lines ≡ note.refused.items → before + note.lines + left ≡ all → all < 2 ^ 63 → IsWellNumbered (note_in note)
+fits : (before all left : ℕ) (note : PieceRefusals) (lines : List (ℕ × LineFault)) → lines ≡ note.refused.items → before + note.lines + left ≡ all → all < 2 ^ 63 → IsWellNumbered (note_in note)
     → All (λ line. before + line.0 < 2 ^ 64) lines
 fits before all left note lines e h few w = λ k d l.
     let n = w k d (subst (λ (ls : List (ℕ × LineFault)). k < length ls) e l) in
@@ -41,7 +41,7 @@ loop-note-preserved c =
       numbered = ap (λ ls. ls ++ numbered_from (c.loop-note.before + c.in-Some.note.lines) rest)
           (c.in_ok-put_behind.ensures ∙ ap (λ ls. c.loop-note.numbered.items ++ map (λ line. (c.loop-note.before + line.0, line.1)) ls) c.as_slice.ensures.value)
           ∙ append_assoc c.loop-note.numbered.items shown (numbered_from (c.loop-note.before + c.in-Some.note.lines) rest)
-          ∙ ap (λ (ns : List Note). c.loop-note.numbered.items ++ numbered_from c.loop-note.before (map note_in ns)) (sym e)
+          ∙ ap (λ (ns : List PieceRefusals). c.loop-note.numbered.items ++ numbered_from c.loop-note.before (map note_in ns)) (sym e)
           ∙ c.loop-note.invariant.numbered;
       lines = counted c.loop-note.before (c.args.before + lines_noted (notes_in c.args.notes)) old left c.in-Some.note e c.loop-note.invariant.lines;
       each = All-tail IsWellNumbered (note_in c.in-Some.note) rest (each old left c.in-Some.note e c.loop-note.invariant.each);

@@ -1,11 +1,11 @@
 use Rattle.std.proofs.Common.{◌≡◌, ◌<◌, ◌^◌, take}
 use Rattle.std.specs.List.{fold}
-use Rattle.tables_groups.specs.Inside.Shards.{mixed}
+use Rattle.tables_groups.specs.Inside.Shards.{hash_step}
 use Rattle.tables_groups.proofs.place.with_text.Given as goal
 
 -- the bytes so far are mixed in
 abbrev pub invariant-loop-byte : goal.invariant-loop-byte
 invariant-loop-byte l = record {
-  mixed : l.digest ≡ fold mixed l.fn.digest (take l.byte-index l.byte-items);
+  mixed : l.digest ≡ fold hash_step l.fn.digest (take l.byte-index l.byte-items);
   below : l.digest < 2 ^ 32;
 }

@@ -52,10 +52,10 @@ members-preserved c =
     let name = c.in-Some.name.now in
     let behind = c.next_key.new.self in
     let key : read_key loop.reader ≡ Some (Some name, behind) = grind arith in
-    let passed = c.in_ok-pass-in-None.ensures in
+    let passed = c.in_ok-skip_value-in-None.ensures in
     record {
       found = put name passed.passed.0 found;
-      at = member-next (value 126) c.args.reader.now loop.reader found name behind c.pass.new.reader passed.passed.0 loop.invariant.at key passed.passed.1 passed.shorter;
+      at = member-next (value 126) c.args.reader.now loop.reader found name behind c.skip_value.new.reader passed.passed.0 loop.invariant.at key passed.passed.1 passed.shorter;
       taken = taken-other c.args.columns.now loop.values.items found name passed.passed.0 loop.invariant.taken c.in-None.ensures;
       next_within = loop.invariant.next_within;
     }

@@ -2,7 +2,7 @@ use mir.ValLaws.{Fits-prop}
 use Rattle.std.proofs.Common.{◌≡◌, ◌+◌, ◌++◌, ◌∷◌, [], List, sym, ap, subst, ◌∙◌, arith}
 use Rattle.std.proofs.Math.Logic.{∥∥₁_elim, ∥∥₁_map}
 use Rattle.semantics.specs.declared.line_fault.LineRefusal.{LineRefusal}
-use Rattle.semantics.specs.Records.{IsRefusal, taken}
+use Rattle.semantics.specs.Records.{IsRefusal, decode_line}
 use Rattle.tables.specs.declared.folding.Folding.{Folding}
 use Rattle.tables.specs.Folding.{HasRead, good_of}
 use Rattle.semantics.specs.Conditions.{kept}
@@ -46,11 +46,11 @@ returns c = λ before seen h.
       | in-Ok+in_ok-take-in-Ok w ↦
           subst (λ (f : Folding). HasRead fields q before (record { table = f.table; lines = f.lines + 1; refused = f.refused; marks = f.marks }) (seen ++ line ∷ [])) (sym w.self-is)
           (read-ok fields q before c.args.self.now w.take.new.self seen line w.in-Ok.taken
-          (ap (λ fs. taken fs line) (sym c.schema.ensures.schema) ∙ w.in-Ok.ensures.ok) h
+          (ap (λ fs. decode_line fs line) (sym c.schema.ensures.schema) ∙ w.in-Ok.ensures.ok) h
           w.in_ok-take-in-Ok.ensures.table w.in_ok-take-in-Ok.ensures.lines w.in_ok-take-in-Ok.ensures.refused)
       | in-Err-Fault+in_ok-push-in-Err-Fault w ↦
           read-err fields q before c.args.self.now c.match-read.self seen line w.in-Err-Fault.fault
-          (ap (λ fs. taken fs line) (sym c.schema.ensures.schema) ∙ subst (λ (r : LineRefusal). IsRefusal r (taken c.schema.result.now line)) w.in-Err-Fault.field-0-is w.in-Err-Fault.ensures.refused) h
+          (ap (λ fs. decode_line fs line) (sym c.schema.ensures.schema) ∙ subst (λ (r : LineRefusal). IsRefusal r (decode_line c.schema.result.now line)) w.in-Err-Fault.field-0-is w.in-Err-Fault.ensures.refused) h
           (ap (λ (f : Folding). f.table) w.self-is) (ap (λ (f : Folding). f.lines) w.self-is)
           (ap (λ (f : Folding). f.refused.items) w.self-is ∙ w.in_ok-push-in-Err-Fault.ensures.items)
     ]

@@ -11,7 +11,7 @@ use Rattle.query_resolve.specs.declared.function.FilteredFunction.{FilteredFunct
 use Rattle.query_resolve.specs.Functions.{indexed_functions}
 use Rattle.semantics.specs.Sets.{grouping_places}
 use Rattle.semantics.specs.Conditions.{kept}
-use Rattle.tables.specs.declared.note.Note.{Note}
+use Rattle.tables.specs.declared.note.PieceRefusals.{PieceRefusals}
 use Rattle.tables.specs.Folding.{good_of}
 use Rattle.tables.specs.Notes.{Noted, note_in, note_of}
 use Rattle.tables.specs.Partials.{StandsFor}
@@ -55,7 +55,7 @@ invariant_of-result c =
     let read = c.in_ok-folding.ensures in
     let count = read.lines in
     let listed = read.refused in
-    let note : Note = record { index = c.args.index; lines = folding.lines; refused = folding.refused } in
+    let note : PieceRefusals = record { index = c.args.index; lines = folding.lines; refused = folding.refused } in
     let noted = one-noted_more self.notes.items c.push.new.self.items note self.lines c.in_ok-push.ensures.items self.counted self.numbered read.numbered in (
       omega (arith, count, same, c.requires.few),
       (

@@ -4,7 +4,7 @@ use Rattle.std.specs.FinMap as fin
 use Rattle.values.specs.Datum.{data_of}
 use Rattle.semantics.specs.Groups.{Key}
 use Rattle.tables_groups.specs.Inside.Group.{GroupState}
-use Rattle.tables_groups.specs.Inside.Shards.{AreApart, contents_in, contents_of_shards, place}
+use Rattle.tables_groups.specs.Inside.Shards.{AreApart, contents_in, contents_of_shards, shard_index}
 use Rattle.tables_groups.specs.Inside.Table.{Contents, IsFitting, IsPut, join_options}
 use Rattle.tables_groups.specs.declared.shard.Shard.{Shard}
 use Rattle.tables_groups.proofs.Shards.{all-changed, apart-changed, get-place, within-all}
@@ -16,8 +16,8 @@ put_group-requires c =
     let ss = c.self.inside.shards.items in
     let s = c.index_mut.result.now in
     let count : c.len.result ≡ length ss = let l = c.self.inside.shards.ok in omega (arith, l, c.len.ensures) in
-    let p : c.place_of-place.result ≡ place (length ss) key = c.place_of-place.ensures.place ∙ ap (λ xs. place c.len.result (data_of xs)) c.as_slice.ensures.value ∙ ap (λ n. place n key) count in
-    let is : s ≡ get_or ss (place (length ss) key) s = c.index_mut.ensures.value ∙ ap (λ n. get_or ss n s) p in
+    let p : c.place_of-place.result ≡ shard_index (length ss) key = c.place_of-place.ensures.place ∙ ap (λ xs. shard_index c.len.result (data_of xs)) c.as_slice.ensures.value ∙ ap (λ n. shard_index n key) count in
+    let is : s ≡ get_or ss (shard_index (length ss) key) s = c.index_mut.ensures.value ∙ ap (λ n. get_or ss n s) p in
     subst (λ (o : Option GroupState). IsFitting c.args.part o)
     (ap (λ m. fin.get m key) (sym c.self.view_is)
     ∙ get-place ss s key c.self.inside.apart (within-all c.self.inside.shards c.self.inside.some key)
@@ -30,8 +30,8 @@ invariant_of-self-inside c =
     let ss = c.self.inside.shards.items in
     let s = c.index_mut.result.now in
     let count : c.len.result ≡ length ss = let l = c.self.inside.shards.ok in omega (arith, l, c.len.ensures) in
-    let p : c.place_of-place.result ≡ place (length ss) key = c.place_of-place.ensures.place ∙ ap (λ xs. place c.len.result (data_of xs)) c.as_slice.ensures.value ∙ ap (λ n. place n key) count in
-    let is : s ≡ get_or ss (place (length ss) key) s = c.index_mut.ensures.value ∙ ap (λ n. get_or ss n s) p in (
+    let p : c.place_of-place.result ≡ shard_index (length ss) key = c.place_of-place.ensures.place ∙ ap (λ xs. shard_index c.len.result (data_of xs)) c.as_slice.ensures.value ∙ ap (λ n. shard_index n key) count in
+    let is : s ≡ get_or ss (shard_index (length ss) key) s = c.index_mut.ensures.value ∙ ap (λ n. get_or ss n s) p in (
       c.self.inside.some,
       (
         c.self.inside.few,
@@ -51,8 +51,8 @@ returns c =
     let s = c.index_mut.result.now in
     let new = c.put_group.new.self in
     let count : c.len.result ≡ length ss = let l = c.self.inside.shards.ok in omega (arith, l, c.len.ensures) in
-    let p : c.place_of-place.result ≡ place (length ss) key = c.place_of-place.ensures.place ∙ ap (λ xs. place c.len.result (data_of xs)) c.as_slice.ensures.value ∙ ap (λ n. place n key) count in
-    let is : s ≡ get_or ss (place (length ss) key) s = c.index_mut.ensures.value ∙ ap (λ n. get_or ss n s) p in
+    let p : c.place_of-place.result ≡ shard_index (length ss) key = c.place_of-place.ensures.place ∙ ap (λ xs. shard_index c.len.result (data_of xs)) c.as_slice.ensures.value ∙ ap (λ n. shard_index n key) count in
+    let is : s ≡ get_or ss (shard_index (length ss) key) s = c.index_mut.ensures.value ∙ ap (λ n. get_or ss n s) p in
     on_ok_weaker c.put_group.result
     (λ (h : (k : Key) → IsPut (contents_in s) (contents_in new) key part k). λ (k : Key).
     subst (λ (t : Contents). IsPut t (contents_of_shards (set ss c.place_of-place.result new)) key part k) c.self.view_is

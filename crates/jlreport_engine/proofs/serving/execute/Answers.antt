@@ -1,6 +1,6 @@
 use Rattle.std.proofs.Common.{OnOk, Result, Ok, Err, tt}
 use Rattle.semantics.specs.Explanation.{Explains}
-use Rattle.jlreport_engine.proofs.serving.carried_out.Goals as goal
+use Rattle.jlreport_engine.proofs.serving.execute.Goals as goal
 
 -- What is so of an Ok says more.
 on_ok : {T E P Q : Type 0} (r : Result T E) → (P → Q) → OnOk r P → OnOk r Q

@@ -3,10 +3,10 @@ use Rattle.json.specs.Json.{items, members, value}
 use Rattle.serde_json.specs.Data.{Items, Members, no_members}
 use Rattle.serde_json.specs.Read.{of_items, of_members}
 use Rattle.lines.proofs.Meaning.{IsAt}
-use Rattle.lines.proofs.tokens.passing.+pass.Given as goal
+use Rattle.lines.proofs.tokens.passing.+skip_value.Given as goal
 
-abbrev pub decreases-pass : goal.decreases-pass
-decreases-pass l = 2 * l.depth
+abbrev pub decreases-skip_value : goal.decreases-skip_value
+decreases-skip_value l = 2 * l.depth
 
 abbrev pub decreases-pass_items : goal.decreases-pass_items
 decreases-pass_items l = 2 * l.depth + 1

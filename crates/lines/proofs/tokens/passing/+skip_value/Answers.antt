@@ -9,7 +9,7 @@ use Rattle.serde_json.specs.Data.{Data, Num, null, boolean, number, string, arra
 use Rattle.serde_json.specs.Read.{number_of, of_items, of_members}
 use Rattle.lines.specs.Meant.{IsValue}
 use Rattle.lines.proofs.Meaning.{begins, first-array, first-boolean, first-null, first-number, first-object, first-string, item-next, items-closed, member-next, members-closed}
-use Rattle.lines.proofs.tokens.passing.+pass.Goals as goal
+use Rattle.lines.proofs.tokens.passing.+skip_value.Goals as goal
 
 -- a value stands first, and these tokens are behind it
 abbrev Passed : ℕ → List Token → List Token → Type 0
@@ -30,20 +30,20 @@ in_some : {A : Type 0} {P Q : A → Type 0} (o : Option A) → ((a : A) → P a 
 in_some None f h = tt
 in_some (Some a) f h = f a h
 
-pub pass-returns-in-String-clause-passed : goal.pass-returns-in-String-clause-passed
-pass-returns-in-String-clause-passed t c = rw (c.in_ok-next.ensures.value) (passed-plain c.args.depth c.next.new.self c.in_ok-next.field-0 c.in-String.is)
+pub skip_value-returns-in-String-clause-passed : goal.skip_value-returns-in-String-clause-passed
+skip_value-returns-in-String-clause-passed t c = rw (c.in_ok-next.ensures.value) (passed-plain c.args.depth c.next.new.self c.in_ok-next.field-0 c.in-String.is)
 
-pub pass-returns-in-Number-clause-passed : goal.pass-returns-in-Number-clause-passed
-pass-returns-in-Number-clause-passed t c =
+pub skip_value-returns-in-Number-clause-passed : goal.skip_value-returns-in-Number-clause-passed
+skip_value-returns-in-Number-clause-passed t c =
     rw (c.in_ok-next.ensures.value, c.in-Number.is) (passed-number c.args.depth c.in-Number.text.now c.next.new.self (number_of c.in-Number.text.now) refl (c.if-has_value.ensures refl))
 
-pub pass-returns-in-BeginArray-clause-passed : goal.pass-returns-in-BeginArray-clause-passed
-pass-returns-in-BeginArray-clause-passed t c =
+pub skip_value-returns-in-BeginArray-clause-passed : goal.skip_value-returns-in-BeginArray-clause-passed
+skip_value-returns-in-BeginArray-clause-passed t c =
     let new = c.pass_items.new.reader in
     rw (c.in_ok-next.ensures.value, c.in-BeginArray.is) (in_some c.pass_items.result (λ done e. (array e.0, first-array c.args.depth c.next.new.self new e.0 c.if-depth-gt0.true e.1)) c.pass_items.ensures.passed)
 
-pub pass-returns-in-BeginObject-clause-passed : goal.pass-returns-in-BeginObject-clause-passed
-pass-returns-in-BeginObject-clause-passed t c =
+pub skip_value-returns-in-BeginObject-clause-passed : goal.skip_value-returns-in-BeginObject-clause-passed
+skip_value-returns-in-BeginObject-clause-passed t c =
     let new = c.pass_members.new.reader in
     rw (c.in_ok-next.ensures.value, c.in-BeginObject.is) (in_some c.pass_members.result (λ done e. (object e.0, first-object c.args.depth c.next.new.self new e.0 c.if-depth-gt0-2.true e.1)) c.pass_members.ensures.passed)
 
@@ -59,11 +59,11 @@ pass_items-items-preserved t c =
     let loop = c.items in
     let unclosed : after_end_array loop.reader ≡ None = grind arith in
     let stays : c.take_end_array.new.self ≡ loop.reader = grind arith in
-    let passed : Passed c.args.depth loop.reader c.pass.new.reader = rw (← stays) c.in_ok-pass.ensures.passed in
-    let shorter : length c.pass.new.reader < length loop.reader = rw (← stays) c.in_ok-pass.ensures.shorter in
+    let passed : Passed c.args.depth loop.reader c.skip_value.new.reader = rw (← stays) c.in_ok-skip_value.ensures.passed in
+    let shorter : length c.skip_value.new.reader < length loop.reader = rw (← stays) c.in_ok-skip_value.ensures.shorter in
     record {
       back = λ ds. loop.invariant.back (item passed.0 ds);
-      at = item-next (value c.args.depth) c.args.reader.now loop.reader loop.invariant.back c.pass.new.reader passed.0 loop.invariant.at unclosed passed.1 shorter;
+      at = item-next (value c.args.depth) c.args.reader.now loop.reader loop.invariant.back c.skip_value.new.reader passed.0 loop.invariant.at unclosed passed.1 shorter;
       not_longer = omega (arith, loop.invariant.not_longer, shorter);
     }
 
@@ -86,11 +86,11 @@ pass_members-members-preserved t c =
     let name = c.in-Some.field-0.now in
     let behind = c.next_key.new.self in
     let key : read_key loop.reader ≡ Some (Some name, behind) = grind arith in
-    let passed = c.in_ok-pass.ensures.passed in
-    let shorter = c.in_ok-pass.ensures.shorter in
+    let passed = c.in_ok-skip_value.ensures.passed in
+    let shorter = c.in_ok-skip_value.ensures.shorter in
     record {
       found = put name passed.0 loop.invariant.found;
-      at = member-next (value c.args.depth) c.args.reader.now loop.reader loop.invariant.found name behind c.pass.new.reader passed.0 loop.invariant.at key passed.1 shorter;
+      at = member-next (value c.args.depth) c.args.reader.now loop.reader loop.invariant.found name behind c.skip_value.new.reader passed.0 loop.invariant.at key passed.1 shorter;
       not_longer = omega (arith, loop.invariant.not_longer, shorter, read_key-shorter loop.reader (Some name) behind key);
     }
 

@@ -5,7 +5,7 @@ use Rattle.crossbeam_deque.specs.Handles.{worker_view}
 use Rattle.pool.specs.Seen.{Owned}
 use Rattle.pool.specs.Inside.Looks.{told}
 use Rattle.pool.proofs.Looks.{knows_own, looked_same, owner_within}
-use Rattle.pool.proofs.deal.Own.apart.Goals as goal
+use Rattle.pool.proofs.deal.LocalQueue.apart.Goals as goal
 
 pub compare-requires-clause-owner : goal.compare-requires-clause-owner
 compare-requires-clause-owner c =
