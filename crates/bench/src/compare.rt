@@ -1,14 +1,13 @@
 //! Reads each line of a file as a record in both ways, by its tokens and by its JSON tree, and prints how many lines
-//! there are, how many are records, how many the tokens alone answered, and how many the two ways read differently. Its
-//! words are the columns and the file; where one is missing or the columns are refused, it prints nothing.
+//! there are, how many are records, how many the tokens alone answered, and how many the two ways read differently.
 //!
 //! Example: under `d:text,q:int`, of a file of the lines `{"d":"x","r":"n","q":5}` and `[1]`, it prints
 //! `2 lines, 1 records, 1 by their tokens alone, 0 different`.
-#![tactic(auto)]
 
 use lines::{LineRefusal, RecordReader, lines_of, read_by_tree};
 use std::alloc::Global;
-use std::{env, fs, io};
+use std::rt::Files;
+use std::{fs, io};
 use values::{Record, Schema};
 
 /// Numbers of lines.
@@ -57,15 +56,12 @@ fn counts_of(alloc: Global, schema: &Schema, bytes: &[u8]) -> Counts {
     counts
 }
 
-fn main(rt: HostRuntime) -> io::Result<()> {
-    let mut words = env::args(&rt)?.skip(1);
-    let (Some(columns), Some(path)) = (words.next(), words.next()) else {
+/// Compares the two ways on the lines of the file at a path, under columns. Where these are refused, it prints nothing.
+pub fn run<R: Files + Print + AllocGlobal>(rt: &R, columns: &str, path: &str) -> io::Result<()> {
+    let Ok(schema) = Schema::parse(rt.alloc(), columns) else {
         return Ok(());
     };
-    let Ok(schema) = Schema::parse(rt.alloc(), columns.as_str()) else {
-        return Ok(());
-    };
-    let bytes = fs::read(&rt, path.as_str())?;
+    let bytes = fs::read(rt, path)?;
     let Counts {
         lines,
         records,
@@ -74,6 +70,5 @@ fn main(rt: HostRuntime) -> io::Result<()> {
     } = counts_of(rt.alloc(), &schema, bytes.as_slice());
     println!(rt;
         "{lines} lines, {records} records, {by_tokens} by their tokens alone, {different} different"
-    )?;
-    Ok(())
+    )
 }

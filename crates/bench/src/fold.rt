@@ -1,12 +1,9 @@
 //! Times the work of threads apart from reading: holds a file whole, and makes one result of its pieces, of 1,048,576
-//! bytes or more, by 1 to 64 threads. Its words are the columns, the query, the file and the number of threads. It prints
-//! how many lines there are, how many of them are refused, and how many groups there are; and on standard error the
-//! nanoseconds from the first piece until the groups are finished. There is one thread where the fourth word is no
-//! number; where a word is missing, or the columns or the query are refused, it prints nothing.
+//! bytes or more, by 1 to 64 threads. It prints how many lines there are, how many of them are refused, and how many
+//! groups there are; and on standard error the nanoseconds from the first piece until the groups are finished.
 //!
 //! Example: under `d:text,q:int`, by the query `SELECT d, SUM(q) AS s FROM lines GROUP BY d`, over the lines
 //! `{"d":"x","q":5}` and `[1]`, it prints `2 lines, 1 refused, 1 groups`.
-#![tactic(auto)]
 
 ghost use Rattle.std.specs.Prelude.{◌≤◌, ◌<◌, ◌^◌, IfSome, length};
 ghost use Rattle.tables.specs.Planned.{IsPartialUnder};
@@ -17,10 +14,11 @@ use query::{Plan, check, parse};
 use std::alloc::Global;
 use std::io::{Eprint, Print};
 use std::marker::Sync;
+use std::rt::Files;
 use std::sync::Wait;
 use std::thread::Threads;
 use std::time::{Clock, Instant};
-use std::{env, fs, io};
+use std::{fs, io};
 use tables::{Hands, Job, JobBy, Partial, job_law};
 use values::Schema;
 
@@ -95,23 +93,22 @@ fn work<R: Threads + Wait + Clock + Print + Eprint + Sync>(
     eprintln!(rt; "{taken}")
 }
 
-fn main(rt: HostRuntime) -> io::Result<()> {
-    let mut words = env::args(&rt)?.skip(1);
-    let (Some(columns), Some(query), Some(path), Some(hands)) = (
-        words.next(),
-        words.next(),
-        words.next(),
-        words.next(),
-    ) else {
+/// Times this work on the file at a path, by a query over columns. Where one of these two is refused, it prints nothing.
+pub fn run<R: Threads + Wait + Clock + Files + Print + Eprint + AllocGlobal + Sync>(
+    rt: &R,
+    columns: &str,
+    query: &str,
+    path: &str,
+    hands: usize,
+) -> io::Result<()>
+    requires { (1 ≤ hands) × (hands ≤ 64) }
+{
+    let Some(plan) = plan_of(rt.alloc(), columns, query) else {
         return Ok(());
     };
-    let Some(plan) = plan_of(rt.alloc(), columns.as_str(), query.as_str()) else {
-        return Ok(());
-    };
-    let hands = hands.as_str().parse::<usize>().unwrap_or(1).clamp(1, 64);
-    let input = fs::read(&rt, path.as_str())?;
+    let input = fs::read(rt, path)?;
     if input.len() > LONGEST {
         return Ok(());
     }
-    work(&rt, rt.alloc(), &plan, input.as_slice(), hands)
+    work(rt, rt.alloc(), &plan, input.as_slice(), hands)
 }

@@ -1,13 +1,10 @@
 //! Times dealing alone: 1,048,576 pieces are dealt to hands, and these, each on a thread of its own, take them all and
-//! do nothing with them. Its words are `ruled`, `endmarked` or `plain`, and the number of hands: by a deal, or by the
-//! same loop over deques without a rule, with the end marks and the gaps of a deal or with neither. It prints how many
-//! pieces were taken, and on standard error the nanoseconds of dealing and of taking. There are 1 to 64 hands, and 1
-//! where the second word is no number; where a word is missing, it prints nothing.
+//! do nothing with them. It prints how many pieces were taken, and on standard error the nanoseconds of dealing and of
+//! taking.
 //!
-//! Example: the words `ruled 2` make it print `1048576`.
-#![tactic(auto)]
+//! Example: two hands that are dealt pieces in the way that is named `ruled` make it print `1048576`.
 
-ghost use Rattle.std.specs.Prelude.{◌≡◌, ◌<◌};
+ghost use Rattle.std.specs.Prelude.{◌<◌, ◌≤◌};
 
 use crossbeam_deque::{Steal, Stealer, Worker};
 use pool::{Deal, Hand, Next};
@@ -16,9 +13,31 @@ use std::io::{Eprint, Print};
 use std::sync::atomic::{AtomicU64, Ordering};
 use std::thread::Threads;
 use std::time::{Clock, Instant};
-use std::{env, io, thread};
+use std::{io, thread};
 
 const PIECES: u32 = 1_048_576;
+
+/// A way to deal pieces.
+#[derive(Clone, Copy)]
+pub enum Way {
+    /// By a deal.
+    Ruled,
+    /// By the same loop over deques without a rule, with the end marks and the gaps of a deal.
+    EndMarked,
+    /// By the same loop over deques with neither.
+    Plain,
+}
+
+impl Way {
+    /// The way of a name, `ruled`, `endmarked` or `plain`. Any other name is the plain way.
+    pub fn named(name: &str) -> Self {
+        match name {
+            "ruled" => Way::Ruled,
+            "endmarked" => Way::EndMarked,
+            _ => Way::Plain,
+        }
+    }
+}
 
 /// Who takes pieces, one at a time, until there is none for it.
 trait Taker {
@@ -172,24 +191,31 @@ fn race<R: Threads + Clock + Print + Eprint + Sync, T: Taker + Send>(
     eprintln!(rt; "{dealing} {taking}")
 }
 
-fn main(rt: HostRuntime) -> io::Result<()> {
-    let mut words = env::args(&rt)?.skip(1);
-    let (Some(way), Some(hands)) = (words.next(), words.next()) else {
-        return Ok(());
-    };
-    let hands = hands.as_str().parse::<usize>().unwrap_or(1).clamp(1, 64);
-    let start = Instant::now(&rt)?;
-    if way.as_str() == "ruled" {
-        let mut hands = Deal::new(rt.alloc(), PIECES, hands)?.into_hands();
-        return race(&rt, start, hands.as_mut_slice());
+/// Times the dealing of the pieces to so many hands, in a way, and their taking.
+pub fn run<R: Threads + Clock + Print + Eprint + AllocGlobal + Sync>(
+    rt: &R,
+    way: Way,
+    hands: usize,
+) -> io::Result<()>
+    requires { (1 ≤ hands) × (hands ≤ 64) }
+{
+    let alloc = rt.alloc();
+    let start = Instant::now(rt)?;
+    match way {
+        Way::Ruled => {
+            let mut hands = Deal::new(alloc, PIECES, hands)?.into_hands();
+            race(rt, start, hands.as_mut_slice())
+        }
+        Way::EndMarked => {
+            let mut members = members(alloc, hands, hands, 64)?;
+            deal_plainly(&mut members)?;
+            let mut marked = mark_ends(members, alloc)?;
+            race(rt, start, marked.as_mut_slice())
+        }
+        Way::Plain => {
+            let mut members = members(alloc, hands, 0, 0)?;
+            deal_plainly(&mut members)?;
+            race(rt, start, members.as_mut_slice())
+        }
     }
-    let is_marked = way.as_str() == "endmarked";
-    let (marks, gap) = if is_marked { (hands, 64) } else { (0, 0) };
-    let mut members = members(rt.alloc(), hands, marks, gap)?;
-    deal_plainly(&mut members)?;
-    if !is_marked {
-        return race(&rt, start, members.as_mut_slice());
-    }
-    let mut marked = mark_ends(members, rt.alloc())?;
-    race(&rt, start, marked.as_mut_slice())
 }
