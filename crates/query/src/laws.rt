@@ -10,7 +10,7 @@ pub fn derives_one()
     ensures { (text : List ℕ) (p q : TreeForm) → Derives text p → Derives text q → p ≡ q }
 {
     query_lexer::spells_one();
-    query_grammar::derives_one();
+    query_parser::derives_one();
 }
 
 /// A law, with no work to do: each text derives a query or has a fault; never both, and no text has two faults.
