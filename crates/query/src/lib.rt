@@ -11,7 +11,7 @@ mod laws;
 mod parsing;
 mod printing;
 
-pub use laws::{derives_one, derives_or_refused};
+pub use laws::{derives_one, derives_or_refused, reads_again};
 pub use parsing::parse;
 pub use printing::print;
 pub use query_ast::{

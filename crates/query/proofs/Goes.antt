@@ -8,9 +8,9 @@ use Rattle.semantics.specs.declared.token.Word.{Word}
 use Rattle.semantics.specs.declared.token.Sign.TheVariants as s
 use Rattle.query_lexer.specs.Inside.Words.{word_text}
 use Rattle.semantics.specs.Canonical.{joined, comma_list, in_brackets}
-use Rattle.query_round.proofs.Good.{Each}
-use Rattle.query_round.proofs.Onto.{Onto, others_onto, list_onto, brackets_onto}
-use Rattle.query_round.proofs.Spelled.{Spelled, breaks, spelled_space, spelled_word, spelled_open, spelled_close, spelled_comma}
+use Rattle.query.proofs.Good.{Each}
+use Rattle.query.proofs.Onto.{Onto, others_onto, list_onto, brackets_onto}
+use Rattle.query.proofs.Spelled.{Spelled, breaks, spelled_space, spelled_word, spelled_open, spelled_close, spelled_comma}
 
 -- The text spells these tokens, whatever stands behind it.
 pub record Free (text : List ℕ) (f : Onto) : Type 0 where

@@ -6,7 +6,7 @@ use Rattle.semantics.specs.declared.literal.Literal.TheVariants as literals
 use Rattle.semantics.specs.declared.aggregate.Aggregate.TheVariants as aggregates
 use Rattle.semantics.specs.Syntax.{ExpressionForm, FunctionForm, OperandForm, PredicateForm, PredicateForms, ElementForm, ElementForms, name, grouping, function, over_all, over_filtered, or_of, and_of, not_of, truth_test, compare, between, member, null_test, column, no_parts, part, set, rollup, cube, sets, no_groups, group}
 use Rattle.semantics.specs.Canonical.{precedence}
-use Rattle.query_round.proofs.Good.{Each, Inhabited, Filled, Within, GoodName, GoodAggregate, GoodFunction, GoodExpression, InRange, GoodLiteral, GoodOperand, IsMany, Deeper, Fits, Good, PartsFit, GoodItem, GoodUnit, IsFilled, GoodGroup, GoodGroups, GoodElement, IsPlain, GoodGroupBy, GoodKey, GoodTree}
+use Rattle.query.proofs.Good.{Each, Inhabited, Filled, Within, GoodName, GoodAggregate, GoodFunction, GoodExpression, InRange, GoodLiteral, GoodOperand, IsMany, Deeper, Fits, Good, PartsFit, GoodItem, GoodUnit, IsFilled, GoodGroup, GoodGroups, GoodElement, IsPlain, GoodGroupBy, GoodKey, GoodTree}
 
 le_one : (a b : ℕ) → IsProp (a ≤ b)
 le_one a b = le_prop

@@ -19,8 +19,8 @@ use Rattle.semantics.specs.Syntax.{ExpressionForm, FunctionForm, OperandForm, Pr
 use Rattle.semantics.specs.Canonical.{precedence}
 use Rattle.semantics.specs.Leaves.{standard, Derivation, IsRepeated, IsName, IsAggregate, IsLiteral, IsOp, IsTruthValue, IsOptional}
 use Rattle.semantics.specs.Productions.{IsFunction, IsExpression, IsOperand, IsAtom, IsPrimary, IsTest, IsNegation, IsConjunction, IsDisjunction, IsPredicate}
-use Rattle.query_round.proofs.Good.{Each, Filled, GoodName, GoodFunction, GoodExpression, GoodLiteral, GoodOperand, IsMany, Fits, Good, PartsFit}
-use Rattle.query_round.proofs.Onto.{Onto, others_onto, list_onto, name_onto, aggregate_onto, function_onto, expression_onto, literal_onto, operand_onto, op_sign, truth_word, not_onto, bracketed_onto, predicate_onto, part_ontos}
+use Rattle.query.proofs.Good.{Each, Filled, GoodName, GoodFunction, GoodExpression, GoodLiteral, GoodOperand, IsMany, Fits, Good, PartsFit}
+use Rattle.query.proofs.Onto.{Onto, others_onto, list_onto, name_onto, aggregate_onto, function_onto, expression_onto, literal_onto, operand_onto, op_sign, truth_word, not_onto, bracketed_onto, predicate_onto, part_ontos}
 
 -- ---- lists
 

@@ -15,11 +15,11 @@ use Rattle.query_lexer.specs.Steps.{token_at, sign_at, order_at, sign_behind_les
 use Rattle.semantics.specs.declared.literal.Literal.{Literal}
 use Rattle.semantics.specs.Syntax.{ExpressionForm, FunctionForm, OperandForm, PredicateForm, PredicateForms, name, grouping, function, over_all, over_filtered, or_of, and_of, not_of, truth_test, compare, between, member, null_test, column, no_parts, part}
 use Rattle.semantics.specs.Canonical.{op_text, truth_text, not_text, literal_text, function_text, expression_text, operand_text, precedence, bracketed_below, in_brackets, predicate_text, part_texts}
-use Rattle.query_round.proofs.Good.{Filled, GoodLiteral, GoodFunction, GoodExpression, GoodOperand, Deeper, Fits, Good, PartsFit}
-use Rattle.query_round.proofs.Onto.{Onto, op_sign, truth_word, not_onto, literal_onto, function_onto, expression_onto, operand_onto, brackets_onto, bracketed_onto, predicate_onto, part_ontos}
-use Rattle.query_round.proofs.Spelled.{Spelled, spelled_space, spelled_read}
-use Rattle.query_round.proofs.Goes.{Free, Goes, AllGo, free_free, free_goes, goes_free, goes_of, nothing_free, word_onto, word_goes, word_free, spaced_free, space_breaks, space_free, brackets_free, word_separates, list_goes}
-use Rattle.query_round.proofs.GoesExpressions.{name_goes, literal_goes, aggregate_goes, grouping_goes, filtered_goes, filled_go}
+use Rattle.query.proofs.Good.{Filled, GoodLiteral, GoodFunction, GoodExpression, GoodOperand, Deeper, Fits, Good, PartsFit}
+use Rattle.query.proofs.Onto.{Onto, op_sign, truth_word, not_onto, literal_onto, function_onto, expression_onto, operand_onto, brackets_onto, bracketed_onto, predicate_onto, part_ontos}
+use Rattle.query.proofs.Spelled.{Spelled, spelled_space, spelled_read}
+use Rattle.query.proofs.Goes.{Free, Goes, AllGo, free_free, free_goes, goes_free, goes_of, nothing_free, word_onto, word_goes, word_free, spaced_free, space_breaks, space_free, brackets_free, word_separates, list_goes}
+use Rattle.query.proofs.GoesExpressions.{name_goes, literal_goes, aggregate_goes, grouping_goes, filtered_goes, filled_go}
 
 -- ---- operators and keywords
 

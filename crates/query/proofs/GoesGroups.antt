@@ -6,10 +6,10 @@ use Rattle.semantics.specs.declared.token.Word.TheVariants as w
 use Rattle.semantics.specs.Words.{name_text}
 use Rattle.semantics.specs.Syntax.{ElementForm, ElementForms, set, rollup, cube, sets, no_groups, group, element_forms}
 use Rattle.semantics.specs.Canonical.{comma_list, in_brackets, unit_text, group_text, group_texts}
-use Rattle.query_round.proofs.Good.{Each, Inhabited, GoodName, GoodUnit, GoodSet, GoodGroup, GoodGroups, GoodElement}
-use Rattle.query_round.proofs.Onto.{name_onto, unit_onto, units_onto, group_onto, group_ontos}
-use Rattle.query_round.proofs.Goes.{Free, Goes, AllGo, free_free, free_goes, goes_of, nothing_goes, word_free, brackets_free, commas_go, each_goes}
-use Rattle.query_round.proofs.GoesExpressions.{name_goes}
+use Rattle.query.proofs.Good.{Each, Inhabited, GoodName, GoodUnit, GoodSet, GoodGroup, GoodGroups, GoodElement}
+use Rattle.query.proofs.Onto.{name_onto, unit_onto, units_onto, group_onto, group_ontos}
+use Rattle.query.proofs.Goes.{Free, Goes, AllGo, free_free, free_goes, goes_of, nothing_goes, word_free, brackets_free, commas_go, each_goes}
+use Rattle.query.proofs.GoesExpressions.{name_goes}
 
 -- ---- sets and units
 

@@ -8,10 +8,10 @@ use Rattle.semantics.specs.Syntax.{ExpressionForm, PredicateForm, ElementForm, I
 use Rattle.semantics.specs.Leaves.{standard, IsOptional}
 use Rattle.semantics.specs.Productions.{IsExpression, IsPredicate}
 use Rattle.semantics.specs.Grammar.{IsItem, IsGroup, IsGroupBy, IsDirection, IsNullOrdering, IsKey, IsOrderBy, IsQuery, IsClause}
-use Rattle.query_round.proofs.Good.{Each, Within, GoodExpression, Good, GoodItem, GoodElement, GoodKey, GoodTree, GoodGroupBy}
-use Rattle.query_round.proofs.GoodPredicates.{Leaves, repeated_leaves, expression_leaves, predicate_leaves}
-use Rattle.query_round.proofs.GoodGroups.{group_leaves}
-use Rattle.query_round.proofs.Sane.{AllSane}
+use Rattle.query.proofs.Good.{Each, Within, GoodExpression, Good, GoodItem, GoodElement, GoodKey, GoodTree, GoodGroupBy}
+use Rattle.query.proofs.GoodPredicates.{Leaves, repeated_leaves, expression_leaves, predicate_leaves}
+use Rattle.query.proofs.GoodGroups.{group_leaves}
+use Rattle.query.proofs.Sane.{AllSane}
 
 -- The expression of an item or of a key.
 item_expression_leaves : Leaves ExpressionForm (IsExpression standard (IsPredicate standard 64)) (λ e. GoodExpression e 64)

@@ -5,7 +5,7 @@ use Rattle.semantics.specs.declared.token.Token.{Token}
 use Rattle.semantics.specs.declared.token.Token.TheVariants as tokens
 use Rattle.semantics.specs.Words.{is_word}
 use Rattle.semantics.specs.Tokens.{IsToken, SpellsFrom}
-use Rattle.query_round.proofs.Good.{GoodName, InRange}
+use Rattle.query.proofs.Good.{GoodName, InRange}
 
 abbrev pub Sane : Token → Type 0
 Sane (tokens.Word x) = Unit {0}

@@ -13,8 +13,8 @@ use Rattle.semantics.specs.Syntax.{ExpressionForm, FunctionForm, OperandForm, Pr
 use Rattle.semantics.specs.Canonical.{precedence}
 use Rattle.semantics.specs.Leaves.{standard, Derivation, IsRepeated, IsName, IsAggregate, IsLiteral, IsOp, IsTruthValue, IsOptional}
 use Rattle.semantics.specs.Productions.{IsFunction, IsExpression, IsOperand, IsAtom, IsPrimary, IsTest, IsNegation, IsConjunction, IsDisjunction, IsPredicate, conjunction_of, disjunction_of}
-use Rattle.query_round.proofs.Good.{Each, GoodName, GoodAggregate, GoodFunction, GoodExpression, GoodLiteral, GoodOperand, IsMany, Deeper, Fits, Good, PartsFit, deeper_good}
-use Rattle.query_round.proofs.Sane.{AllSane}
+use Rattle.query.proofs.Good.{Each, GoodName, GoodAggregate, GoodFunction, GoodExpression, GoodLiteral, GoodOperand, IsMany, Deeper, Fits, Good, PartsFit, deeper_good}
+use Rattle.query.proofs.Sane.{AllSane}
 
 -- What is derived from sane tokens is good, and leaves sane tokens.
 abbrev pub Leaves : (A : Type 0) → Derivation A → (A → Type 0) → Type 0

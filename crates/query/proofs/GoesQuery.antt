@@ -5,13 +5,13 @@ use Rattle.semantics.specs.declared.token.Token.TheVariants as tokens
 use Rattle.semantics.specs.declared.token.Word.TheVariants as w
 use Rattle.semantics.specs.Syntax.{PredicateForm, ElementForm, ItemForm, KeyForm, TreeForm, element_forms}
 use Rattle.semantics.specs.Canonical.{comma_list, item_text, group_texts, nulls_text, direction_text, key_text, predicate_clause, list_clause, canonical_text, group_by_text}
-use Rattle.query_round.proofs.Good.{Each, Within, Good, GoodItem, GoodKey, GoodTree, GoodGroupBy}
-use Rattle.query_round.proofs.Onto.{commas_onto, item_onto, group_onto, from_onto, where_onto, group_by_onto, having_onto, direction_onto, nulls_onto, key_onto, order_by_onto, query_onto, distinct_onto}
-use Rattle.query_round.proofs.Spelled.{spelled_lines}
-use Rattle.query_round.proofs.Goes.{Free, Goes, Begins, free_free, free_goes, goes_goes, begins_of, nothing_goes, nothing_begins, word_goes, word_free, spaced_free, space_free, space_breaks, commas_go, each_goes}
-use Rattle.query_round.proofs.GoesExpressions.{alias_goes, alias_begins, filled_go}
-use Rattle.query_round.proofs.GoesPredicates.{expression_goes, predicate_goes}
-use Rattle.query_round.proofs.GoesGroups.{groups_go}
+use Rattle.query.proofs.Good.{Each, Within, Good, GoodItem, GoodKey, GoodTree, GoodGroupBy}
+use Rattle.query.proofs.Onto.{commas_onto, item_onto, group_onto, from_onto, where_onto, group_by_onto, having_onto, direction_onto, nulls_onto, key_onto, order_by_onto, query_onto, distinct_onto}
+use Rattle.query.proofs.Spelled.{spelled_lines}
+use Rattle.query.proofs.Goes.{Free, Goes, Begins, free_free, free_goes, goes_goes, begins_of, nothing_goes, nothing_begins, word_goes, word_free, spaced_free, space_free, space_breaks, commas_go, each_goes}
+use Rattle.query.proofs.GoesExpressions.{alias_goes, alias_begins, filled_go}
+use Rattle.query.proofs.GoesPredicates.{expression_goes, predicate_goes}
+use Rattle.query.proofs.GoesGroups.{groups_go}
 
 lines_goes : Goes (codes "lines") (λ ks. tokens.Name (codes "lines") ∷ ks)
 lines_goes = record { goes = λ rest ks q h. spelled_lines q h }

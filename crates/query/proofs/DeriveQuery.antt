@@ -4,10 +4,10 @@ use Rattle.semantics.specs.declared.token.Token.{Token}
 use Rattle.semantics.specs.Syntax.{ExpressionForm, PredicateForm, ElementForm, ItemForm, KeyForm, TreeForm}
 use Rattle.semantics.specs.Leaves.{standard, IsOptional}
 use Rattle.semantics.specs.Grammar.{IsItem, IsGroup, IsGroupBy, IsDirection, IsNullOrdering, IsKey, IsOrderBy, IsQuery, IsClause}
-use Rattle.query_round.proofs.Good.{Each, Within, GoodExpression, Good, GoodItem, GoodElement, GoodGroupBy, GoodKey, GoodTree}
-use Rattle.query_round.proofs.Onto.{expression_onto, alias_onto, item_onto, group_onto, commas_onto, where_onto, distinct_onto, group_by_onto, having_onto, direction_onto, nulls_onto, key_onto, order_by_onto, query_onto}
-use Rattle.query_round.proofs.DerivePredicates.{commas_derive, expression_d, predicate_d}
-use Rattle.query_round.proofs.DeriveGroups.{group_d}
+use Rattle.query.proofs.Good.{Each, Within, GoodExpression, Good, GoodItem, GoodElement, GoodGroupBy, GoodKey, GoodTree}
+use Rattle.query.proofs.Onto.{expression_onto, alias_onto, item_onto, group_onto, commas_onto, where_onto, distinct_onto, group_by_onto, having_onto, direction_onto, nulls_onto, key_onto, order_by_onto, query_onto}
+use Rattle.query.proofs.DerivePredicates.{commas_derive, expression_d, predicate_d}
+use Rattle.query.proofs.DeriveGroups.{group_d}
 use Rattle.semantics.specs.declared.token.Word.TheVariants as w
 
 aliased_d : (e : ExpressionForm) (n : Option (List ℕ)) (r : List Token) → GoodExpression e 64

@@ -6,9 +6,9 @@ use Rattle.semantics.specs.declared.token.Sign.TheVariants as s
 use Rattle.semantics.specs.Syntax.{ElementForm, ElementForms, set, rollup, cube, sets, no_groups, group, element_forms}
 use Rattle.semantics.specs.Leaves.{Derivation, IsRepeated, IsName}
 use Rattle.semantics.specs.Grammar.{IsUnit, IsSet, IsElement, IsGroup}
-use Rattle.query_round.proofs.Good.{Inhabited, GoodName, GoodUnit, GoodSet, GoodGroup, GoodGroups}
-use Rattle.query_round.proofs.Onto.{others_onto, name_onto, unit_onto, group_onto, group_ontos}
-use Rattle.query_round.proofs.DerivePredicates.{commas_derive, name_d}
+use Rattle.query.proofs.Good.{Inhabited, GoodName, GoodUnit, GoodSet, GoodGroup, GoodGroups}
+use Rattle.query.proofs.Onto.{others_onto, name_onto, unit_onto, group_onto, group_ontos}
+use Rattle.query.proofs.DerivePredicates.{commas_derive, name_d}
 
 -- ---- units and sets
 

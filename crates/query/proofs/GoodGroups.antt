@@ -5,8 +5,8 @@ use Rattle.semantics.specs.declared.token.Sign.TheVariants as s
 use Rattle.semantics.specs.Syntax.{ElementForm, element_forms}
 use Rattle.semantics.specs.Leaves.{Derivation, IsName}
 use Rattle.semantics.specs.Grammar.{IsUnit, IsSet, IsElement, IsGroup}
-use Rattle.query_round.proofs.Good.{Each, GoodName, Deeper, GoodUnit, GoodSet, GoodGroup, GoodGroups}
-use Rattle.query_round.proofs.GoodPredicates.{Leaves, repeated_leaves, name_leaves}
+use Rattle.query.proofs.Good.{Each, GoodName, Deeper, GoodUnit, GoodSet, GoodGroup, GoodGroups}
+use Rattle.query.proofs.GoodPredicates.{Leaves, repeated_leaves, name_leaves}
 
 unit_leaves : Leaves (List (List ℕ)) IsUnit GoodUnit
 unit_leaves _ _ _ IsUnit.column h = ((h.0, tt), h.1)

@@ -15,10 +15,10 @@ use Rattle.semantics.specs.declared.aggregate.Aggregate.{Aggregate}
 use Rattle.semantics.specs.declared.aggregate.Aggregate.TheVariants as aggregates
 use Rattle.semantics.specs.Syntax.{grouping}
 use Rattle.semantics.specs.Canonical.{comma_list, aggregate_text, literal_text, expression_text}
-use Rattle.query_round.proofs.Good.{Filled, Within, GoodName, GoodAggregate, GoodLiteral}
-use Rattle.query_round.proofs.Onto.{Onto, commas_onto, name_onto, argument_onto, aggregate_onto, filter_onto, expression_onto, literal_onto, alias_onto}
-use Rattle.query_round.proofs.Spelled.{no_word, no_name_quote, no_text_quote, spelled_token, spelled_integer, spelled_star}
-use Rattle.query_round.proofs.Goes.{Free, Goes, Begins, free_free, free_goes, goes_free, goes_of, begins_of, nothing_goes, nothing_begins, word_onto, word_goes, word_free, spaced_free, space_breaks, open_free, open_breaks, close_free, close_breaks, commas_go, each_goes}
+use Rattle.query.proofs.Good.{Filled, Within, GoodName, GoodAggregate, GoodLiteral}
+use Rattle.query.proofs.Onto.{Onto, commas_onto, name_onto, argument_onto, aggregate_onto, filter_onto, expression_onto, literal_onto, alias_onto}
+use Rattle.query.proofs.Spelled.{no_word, no_name_quote, no_text_quote, spelled_token, spelled_integer, spelled_star}
+use Rattle.query.proofs.Goes.{Free, Goes, Begins, free_free, free_goes, goes_free, goes_of, begins_of, nothing_goes, nothing_begins, word_onto, word_goes, word_free, spaced_free, space_breaks, open_free, open_breaks, close_free, close_breaks, commas_go, each_goes}
 
 -- ---- names and literals
 

@@ -21,7 +21,7 @@ use Rattle.semantics.specs.Tokens.{begins_with, is_digits, IsToken, SpellsFrom}
 use Rattle.query_lexer.specs.Steps.{token_at, sign_at}
 use Rattle.query_lexer.proofs.Digits.{own}
 use Rattle.query_lexer.proofs.Sound.{token_s}
-use Rattle.query_round.proofs.Good.{InRange}
+use Rattle.query.proofs.Good.{InRange}
 
 -- From any byte on, the text spells these tokens.
 pub record Spelled (text : List ℕ) (ks : List Token) : Type 0 where
