@@ -12,7 +12,7 @@ use Rattle.semantics.specs.Leaves.{standard}
 use Rattle.semantics.specs.Grammar.{DerivesWithin}
 use Rattle.semantics.specs.Reading.{Derives, SpellsTooMuch, IsUnexpectedAt, IsRefusalOf}
 use Rattle.semantics.specs.Prefixes.{IsUnexpected, IsOverLimit}
-use Rattle.query_grammar.proofs.Faults.{at_most_or, unexpected_once, unexpected_keeps, derived_keeps, decided as derives_or_goes_wrong}
+use Rattle.query_parser.proofs.Faults.{at_most_or, unexpected_once, unexpected_keeps, derived_keeps, decided as derives_or_goes_wrong}
 use Rattle.query.proofs.Places.{starts_of_all}
 
 -- ---- no two

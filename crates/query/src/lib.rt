@@ -2,16 +2,16 @@
 //!
 //! This crate is the whole public surface of the language. The crates below it have its parts: the
 //! syntax tree (`query_ast`), the tokens (`query_lexer`), the grammar (`semantics` defines it;
-//! `query_leaves`, `query_predicates` and `query_grammar` read it), the canonical text
-//! (`query_printer`), what its parts are resolved to (`query_resolve`), typing (`query_typecheck`), the
-//! truth of predicates (`query_eval`), and queries with their plans (`query_plan`).
+//! `query_parser` reads it), the canonical text (`query_printer`), what its parts are resolved to
+//! (`query_resolve`), typing (`query_typecheck`), the truth of predicates (`query_eval`), and queries
+//! with their plans (`query_plan`).
 #![tactic(auto)]
 
 mod laws;
 mod parsing;
 mod printing;
 
-pub use laws::{derives_one, derives_or_refused};
+pub use laws::{derives_one, derives_or_refused, reads_again};
 pub use parsing::parse;
 pub use printing::print;
 pub use query_ast::{

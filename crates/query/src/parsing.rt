@@ -5,8 +5,8 @@ ghost use Rattle.semantics.specs.declared.query_fault.QueryFault.TheVariants.{Ou
 ghost use Rattle.semantics.specs.Syntax.{TreeForm};
 ghost use Rattle.semantics.specs.Reading.{Derives, IsRefusalOf, Refuses};
 
-use query_grammar::{GrammarFault, read_query};
 use query_lexer::{TokenFault, Tokens, read_tokens};
+use query_parser::{GrammarFault, read_query};
 use query_plan::Query;
 use semantics::QueryFault;
 use std::alloc::Global;

@@ -6,7 +6,6 @@ ghost use Rattle.semantics.specs.Reading.{Derives};
 
 use query_plan::Query;
 use query_printer::print_tree;
-use query_round::reads_again;
 use std::alloc::{AllocError, Global};
 
 /// The canonical text of a query: keywords in capitals, one space where there is any, double quotes
@@ -25,6 +24,5 @@ pub fn print(alloc: Global, query: &Query) -> Result<String, AllocError>
     // Where it is not too long, it derives the query again, so that `parse` gives it back.
     ensures again { IfOk result (λ text. length (string_bytes text) ≤ 65536 → Derives (string_bytes text) query.now) }
 {
-    reads_again();
     print_tree(alloc, query.tree())
 }

@@ -15,5 +15,5 @@ returns-clause-again c =
     (λ text is short.
     let same = is ∙ ap canonical_text c.tree.ensures.form in
     subst (λ bytes. Derives bytes q) (sym same)
-    (derives-again q c.reads_again.ensures c.tree.ensures.derived (subst (λ bytes. length bytes ≤ 65536) same short)))
+    (derives-again q c.tree.ensures.derived (subst (λ bytes. length bytes ≤ 65536) same short)))
     c.print_tree.ensures

@@ -1,3 +1,0 @@
-pub mod GroupSteps
-pub mod KeySteps
-pub mod QuerySteps

@@ -1,3 +1,0 @@
-pub mod ExpressionSteps
-pub mod AtomSteps
-pub mod PredicateSteps
