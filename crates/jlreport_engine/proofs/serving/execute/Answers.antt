@@ -1,4 +1,4 @@
-use Rattle.std.proofs.Common.{OnOk, Result, Ok, Err, tt}
+use Rattle.std.proofs.Common.{OnOk, Result, Ok, Err}
 use Rattle.semantics.specs.Explanation.{Explains}
 use Rattle.jlreport_engine.proofs.serving.execute.Goals as goal
 
