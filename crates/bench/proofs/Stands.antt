@@ -10,7 +10,7 @@ use Rattle.semantics.specs.Syntax.{TreeForm}
 use Rattle.query_plan.specs.Planned.{PlannedQuery}
 use Rattle.tables.specs.declared.job.Job.{Job}
 use Rattle.tables.specs.declared.partial.Partial.{Partial}
-use Rattle.tables.specs.Means.{both, indexed_from, mean, mean_from, meaning}
+use Rattle.tables.specs.Denotations.{both, indexed_from, denotation, denotation_from, meaning}
 use Rattle.tables.specs.Partials.{StandsFor}
 use Rattle.tables.specs.Planned.{IsPartialUnder}
 use Rattle.jlreport_scan.proofs.Pooled.{IsJobOf}
@@ -18,8 +18,8 @@ use Rattle.jlreport_scan.proofs.Pooled.{IsJobOf}
 -- what a pool decides of so many pieces of a job, with indexes from a first one on
 abbrev pub DecidesAll : PlannedQuery → ℕ → List ℕ → List Piece → ℕ → ℕ → Outcome Partial → Type 0
 DecidesAll plan first input pieces n limit outcome =
-    Decides meaning (total (mean plan.fields plan.query []) both (mean_from plan.fields plan.query first input pieces) n)
-    (sum_below (λ i. (mean_from plan.fields plan.query first input pieces i).refused) n) limit outcome
+    Decides meaning (total (denotation plan.fields plan.query []) both (denotation_from plan.fields plan.query first input pieces) n)
+    (sum_below (λ i. (denotation_from plan.fields plan.query first input pieces i).refused) n) limit outcome
 
 -- a job that was made of a plan, an input and pieces, and handed on, is over these
 pub is-job : (plan : PlannedQuery) (input : List ℕ) (pieces ps : List Piece) (made job : Job)
@@ -30,7 +30,7 @@ pub stands-for : (plan : PlannedQuery) (input : List ℕ) (pieces : List Piece) 
     → IsJobOf plan input pieces job → first ≡ 1 → n ≡ length pieces → length pieces ≤ 1048576
     → ((fields : List Field) (q : TreeForm) (first : ℕ) (input : List ℕ) (pieces : List Piece) (partial : Partial)
     → first + length pieces < 2 ^ 32
-    → meaning partial ≡ total (mean fields q []) both (mean_from fields q first input pieces) (length pieces)
+    → meaning partial ≡ total (denotation fields q []) both (denotation_from fields q first input pieces) (length pieces)
     → StandsFor fields q partial (indexed_from first input pieces))
     → outcome ≡ Whole partial → DecidesAll job.plan.now first job.input.now job.pieces.now n limit outcome → IsPartialUnder plan partial
 stands-for plan input pieces job first n limit outcome partial of e count few law is d =

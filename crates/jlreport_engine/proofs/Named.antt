@@ -9,14 +9,14 @@ use Rattle.semantics.specs.declared.line_fault.LineFault.{LineFault}
 use Rattle.semantics.specs.declared.line_fault.LineFault.TheVariants.{TooLong, NoJson, NoObject, BadValue}
 use Rattle.semantics.specs.Records.{refused, decode_line}
 use Rattle.semantics.specs.Lines.{lines}
-use Rattle.lines.proofs.Outcomes.{taken-bad_value}
+use Rattle.lines.proofs.Outcomes.{decoded-bad_value}
 use Rattle.report.specs.Report.{NamesColumn}
 
-taken-named : (fields : List Field) (line : List ℕ) (fault : LineFault) → decode_line fields line ≡ Err fault → NamesColumn fields fault
-taken-named fields line TooLong is = tt
-taken-named fields line NoJson is = tt
-taken-named fields line NoObject is = tt
-taken-named fields line (BadValue place) is = taken-bad_value fields line place is
+decoded-named : (fields : List Field) (line : List ℕ) (fault : LineFault) → decode_line fields line ≡ Err fault → NamesColumn fields fault
+decoded-named fields line TooLong is = tt
+decoded-named fields line NoJson is = tt
+decoded-named fields line NoObject is = tt
+decoded-named fields line (BadValue place) is = decoded-bad_value fields line place is
 
 abbrev numbered_fault : ℕ × Result (List Datum) LineFault → Option (ℕ × LineFault)
 numbered_fault p = option_map (λ fault. (p.0, fault)) (result_err p.1)
@@ -30,7 +30,7 @@ named-from fields n (line ∷ ls) = go (decode_line fields line) refl (named-fro
         → AllByRecursion (λ line. NamesColumn fields line.1) (filter_map numbered_fault (enumerate_from (n + 1) (map (decode_line fields) ls)))
         → AllByRecursion (λ line. NamesColumn fields line.1) (filter_map numbered_fault ((n, t) ∷ enumerate_from (n + 1) (map (decode_line fields) ls)))
     go (Ok row) is rest = rest
-    go (Err fault) is rest = (taken-named fields line fault is, rest)
+    go (Err fault) is rest = (decoded-named fields line fault is, rest)
 
 -- the refused lines of an input name columns of the schema
 pub refused-named : (fields : List Field) (input : List ℕ) → All (λ line. NamesColumn fields line.1) (refused fields input)

@@ -9,8 +9,8 @@ use Rattle.semantics.specs.Groups.{Row}
 use Rattle.semantics.specs.declared.line_fault.LineFault.{LineFault}
 use Rattle.semantics.specs.Records.{refused}
 use Rattle.semantics.specs.Lines.{lines}
-use Rattle.lines.specs.Trim.{clip_lines}
-use Rattle.lines.proofs.Trims.{count-trim, good-trim, refused-trim}
+use Rattle.lines.specs.Clip.{clip_lines}
+use Rattle.lines.proofs.Clips.{count-clip, valid-clip, refused-clip}
 use Rattle.report.specs.Report.{refusals_of, report_of}
 use Rattle.tables.specs.Partials.{StandsForInput}
 use Rattle.semantics.specs.Found.{query_found}
@@ -30,15 +30,15 @@ use Rattle.std.specs.Io.KnownBytes.{Appends, Keeps}
 -- what holds of all that was read holds of what the reader gives, where that is known
 of-known : (P : List ℕ → Type 0) (bytes : List ℕ) (known : Option (List ℕ)) → ((input : List ℕ) → P (clip_lines input) → P input) → IfSome known (λ input. bytes ≡ clip_lines input)
     → P bytes → IfSome known P
-of-known P bytes None trimmed same h = tt
-of-known P bytes (Some input) trimmed same h = trimmed input (subst P same h)
+of-known P bytes None clipped same h = tt
+of-known P bytes (Some input) clipped same h = clipped input (subst P same h)
 
--- the texts of a trimmed input are those of the input
-report-trimmed : (fields : List Field) (q : TreeForm) (input : List ℕ) → report fields q (clip_lines input) ≡ report fields q input
-report-trimmed fields q input = ap (λ (rows : List Row). report_of fields q (query_found fields q rows)) (good-trim fields input)
+-- the texts of a clipped input are those of the input
+report-clipped : (fields : List Field) (q : TreeForm) (input : List ℕ) → report fields q (clip_lines input) ≡ report fields q input
+report-clipped fields q input = ap (λ (rows : List Row). report_of fields q (query_found fields q rows)) (valid-clip fields input)
 
-refusals-trimmed : (fields : List Field) (input : List ℕ) → refusals fields (clip_lines input) ≡ refusals fields input
-refusals-trimmed fields input = ap (λ (found : List (ℕ × LineFault)). refusals_of fields found) (refused-trim fields input)
+refusals-clipped : (fields : List Field) (input : List ℕ) → refusals fields (clip_lines input) ≡ refusals fields input
+refusals-clipped fields input = ap (λ (found : List (ℕ × LineFault)). refusals_of fields found) (refused-clip fields input)
 
 -- so of the report and the list that are written
 pub report-known : (r : Result Done RunFault) (fields : List Field) (q : TreeForm) (known : Option (List ℕ)) (partial : PartialState) (old new : Option (List ℕ)) → IsWhole fields q known partial
@@ -46,26 +46,26 @@ pub report-known : (r : Result Done RunFault) (fields : List Field) (q : TreeFor
     → OnOk r (IfSome known (λ input. Appends old new (report fields q input)))
 report-known (Err e) fields q known partial old new w h = tt
 report-known (Ok done) fields q known partial old new w h =
-    of-known (λ input. Appends old new (report fields q input)) w.bytes known (λ input. subst (λ (text : List ℕ). Appends old new text) (report-trimmed fields q input)) w.trimmed (h w.bytes w.stands)
+    of-known (λ input. Appends old new (report fields q input)) w.bytes known (λ input. subst (λ (text : List ℕ). Appends old new text) (report-clipped fields q input)) w.clipped (h w.bytes w.stands)
 
 pub refusals-known : (r : Result Done RunFault) (fields : List Field) (q : TreeForm) (known : Option (List ℕ)) (partial : PartialState) (old new : Option (List ℕ)) → IsWhole fields q known partial
     → OnOk r ((input : List ℕ) → StandsForInput fields q partial input → Appends old new (refusals fields input))
     → OnOk r (IfSome known (λ input. Appends old new (refusals fields input)))
 refusals-known (Err e) fields q known partial old new w h = tt
 refusals-known (Ok done) fields q known partial old new w h =
-    of-known (λ input. Appends old new (refusals fields input)) w.bytes known (λ input. subst (λ (text : List ℕ). Appends old new text) (refusals-trimmed fields input)) w.trimmed (h w.bytes w.stands)
+    of-known (λ input. Appends old new (refusals fields input)) w.bytes known (λ input. subst (λ (text : List ℕ). Appends old new text) (refusals-clipped fields input)) w.clipped (h w.bytes w.stands)
 
 -- so of the counts
 pub lines-known : (r : Result Done RunFault) (fields : List Field) (q : TreeForm) (known : Option (List ℕ)) (partial : PartialState) → IsWhole fields q known partial
     → IfOk r (λ done. done.lines ≡ partial.lines) → IfOk r (λ done. IfSome known (λ input. done.lines ≡ length (lines input)))
 lines-known (Err e) fields q known partial w h = tt
 lines-known (Ok done) fields q known partial w h =
-    of-known (λ input. done.lines ≡ length (lines input)) w.bytes known (λ input same. same ∙ count-trim input) w.trimmed (h ∙ lines-of-input fields q partial w.bytes w.stands)
+    of-known (λ input. done.lines ≡ length (lines input)) w.bytes known (λ input same. same ∙ count-clip input) w.clipped (h ∙ lines-of-input fields q partial w.bytes w.stands)
 
 -- so many lines are refused of what the reader gives
 refused-whole : (fields : List Field) (q : TreeForm) (known : Option (List ℕ)) (partial : PartialState) → IsWhole fields q known partial → IfSome known (λ input. partial.refused ≡ length (refused fields input))
 refused-whole fields q known partial w =
-    of-known (λ input. partial.refused ≡ length (refused fields input)) w.bytes known (λ input same. same ∙ ap length (refused-trim fields input)) w.trimmed (refused-of-input fields q partial w.bytes w.stands)
+    of-known (λ input. partial.refused ≡ length (refused fields input)) w.bytes known (λ input same. same ∙ ap length (refused-clip fields input)) w.clipped (refused-of-input fields q partial w.bytes w.stands)
 
 refused-count : (known : Option (List ℕ)) (count : List ℕ → ℕ) (m n : ℕ) → m ≡ n → IfSome known (λ input. n ≡ count input) → IfSome known (λ input. m ≡ count input)
 refused-count None count m n e h = tt
@@ -99,13 +99,13 @@ decided-stopped limit fields (Some input) gathering.OutOfMemory h = λ free. abs
 decided-stopped limit fields (Some input) gathering.ThreadNotStarted h = λ free. absurd (free tt)
 decided-stopped limit fields (Some input) (gathering.TooManyRefused most) h = stopped limit (length (refused fields input)) most h.0 h.1
 
-hinders : (fields : List Field) (q : TreeForm) (input : List ℕ) (oo on eo en : Option (List ℕ)) (fault : RunFault) → LeavesOfInput fault fields q input oo on eo en → IsResourceFault fault
-hinders fields q input oo on eo en Reading h = absurd h
-hinders fields q input oo on eo en OutOfMemory h = tt
-hinders fields q input oo on eo en ThreadNotStarted h = absurd h
-hinders fields q input oo on eo en (TooManyRefused most) h = absurd h
-hinders fields q input oo on eo en WritingReport h = tt
-hinders fields q input oo on eo en WritingRefused h = tt
+is_resource_fault : (fields : List Field) (q : TreeForm) (input : List ℕ) (oo on eo en : Option (List ℕ)) (fault : RunFault) → LeavesOfInput fault fields q input oo on eo en → IsResourceFault fault
+is_resource_fault fields q input oo on eo en Reading h = absurd h
+is_resource_fault fields q input oo on eo en OutOfMemory h = tt
+is_resource_fault fields q input oo on eo en ThreadNotStarted h = absurd h
+is_resource_fault fields q input oo on eo en (TooManyRefused most) h = absurd h
+is_resource_fault fields q input oo on eo en WritingReport h = tt
+is_resource_fault fields q input oo on eo en WritingRefused h = tt
 
 decided-count : (r : Result Done RunFault) (limit : Option ℕ) (known : Option (List ℕ)) (count : List ℕ → ℕ) (n : ℕ) → n ≤ limit_number limit → IfErr r IsResourceFault
     → IfSome known (λ input. n ≡ count input) → IfSome known (λ input. IsDecided r limit (count input))
@@ -113,17 +113,17 @@ decided-count r limit None count n few h same = tt
 decided-count (Ok done) limit (Some input) count n few h same = λ _. (λ _. within limit n (count input) few (sym same), λ _. refl)
 decided-count (Err fault) limit (Some input) count n few h same = λ free. absurd (free h)
 
-err-hinders : (r : Result Done RunFault) (fields : List Field) (q : TreeForm) (bytes : List ℕ) (partial : PartialState) (oo on eo en : Option (List ℕ)) → StandsForInput fields q partial bytes
+err-is_resource_fault : (r : Result Done RunFault) (fields : List Field) (q : TreeForm) (bytes : List ℕ) (partial : PartialState) (oo on eo en : Option (List ℕ)) → StandsForInput fields q partial bytes
     → IfErr r (λ fault. (input : List ℕ) → StandsForInput fields q partial input → LeavesOfInput fault fields q input oo on eo en) → IfErr r IsResourceFault
-err-hinders (Ok done) fields q bytes partial oo on eo en s h = tt
-err-hinders (Err fault) fields q bytes partial oo on eo en s h = hinders fields q bytes oo on eo en fault (h bytes s)
+err-is_resource_fault (Ok done) fields q bytes partial oo on eo en s h = tt
+err-is_resource_fault (Err fault) fields q bytes partial oo on eo en s h = is_resource_fault fields q bytes oo on eo en fault (h bytes s)
 
 pub decided-known : (r : Result Done RunFault) (limit : Option ℕ) (fields : List Field) (q : TreeForm) (known : Option (List ℕ)) (partial : PartialState) (oo on eo en : Option (List ℕ)) → IsWhole fields q known partial
     → partial.refused ≤ limit_number limit
     → IfErr r (λ fault. (input : List ℕ) → StandsForInput fields q partial input → LeavesOfInput fault fields q input oo on eo en)
     → IfSome known (λ input. IsDecided r limit (length (refused fields input)))
 decided-known r limit fields q known partial oo on eo en w few h =
-    decided-count r limit known (λ input. length (refused fields input)) partial.refused few (err-hinders r fields q w.bytes partial oo on eo en w.stands h) (refused-whole fields q known partial w)
+    decided-count r limit known (λ input. length (refused fields input)) partial.refused few (err-is_resource_fault r fields q w.bytes partial oo on eo en w.stands h) (refused-whole fields q known partial w)
 
 -- ---- what a fault leaves
 
@@ -134,10 +134,10 @@ leaves-stopped limit fields q known out err gathering.OutOfMemory h a b = (a, b)
 leaves-stopped limit fields q known out err gathering.ThreadNotStarted h a b = (a, b)
 leaves-stopped limit fields q known out err (gathering.TooManyRefused most) h a b = (h.0, h.1, a, b)
 
--- what is within the limit of a trimmed input is so of the input
-within-trimmed : (limit : Option ℕ) (fields : List Field) (input : List ℕ)
+-- what is within the limit of a clipped input is so of the input
+within-clipped : (limit : Option ℕ) (fields : List Field) (input : List ℕ)
     → IsWithin limit (length (refused fields (clip_lines input))) → IsWithin limit (length (refused fields input))
-within-trimmed limit fields input few = subst (λ (found : List (ℕ × LineFault)). IsWithin limit (length found)) (refused-trim fields input) few
+within-clipped limit fields input few = subst (λ (found : List (ℕ × LineFault)). IsWithin limit (length found)) (refused-clip fields input) few
 
 fault-leaves : (limit : Option ℕ) (fields : List Field) (q : TreeForm) (bytes : List ℕ) (known oo on eo en : Option (List ℕ)) (fault : RunFault) → IfSome known (λ input. bytes ≡ clip_lines input)
     → IsWithin limit (length (refused fields bytes))
@@ -148,13 +148,13 @@ fault-leaves limit fields q bytes known oo on eo en ThreadNotStarted same few h 
 fault-leaves limit fields q bytes known oo on eo en (TooManyRefused most) same few h = absurd h
 fault-leaves limit fields q bytes known oo on eo en WritingReport same few h = (
   of-known (λ input. IsWithin limit (length (refused fields input)) × AppendsBeginning oo on (report fields q input)) bytes known
-      (λ input both. (within-trimmed limit fields input both.0, subst (λ (text : List ℕ). AppendsBeginning oo on text) (report-trimmed fields q input) both.1))
+      (λ input both. (within-clipped limit fields input both.0, subst (λ (text : List ℕ). AppendsBeginning oo on text) (report-clipped fields q input) both.1))
       same (few, h.0),
   h.1,
 )
 fault-leaves limit fields q bytes known oo on eo en WritingRefused same few h =
     of-known (λ input. IsWithin limit (length (refused fields input)) × Appends oo on (report fields q input) × AppendsBeginning eo en (refusals fields input)) bytes known
-    (λ input all. (within-trimmed limit fields input all.0, subst (λ (text : List ℕ). Appends oo on text) (report-trimmed fields q input) all.1, subst (λ (text : List ℕ). AppendsBeginning eo en text) (refusals-trimmed fields input) all.2))
+    (λ input all. (within-clipped limit fields input all.0, subst (λ (text : List ℕ). Appends oo on text) (report-clipped fields q input) all.1, subst (λ (text : List ℕ). AppendsBeginning eo en text) (refusals-clipped fields input) all.2))
     same (few, h.0, h.1)
 
 pub leaves-known : (r : Result Done RunFault) (limit : Option ℕ) (fields : List Field) (q : TreeForm) (known : Option (List ℕ)) (partial : PartialState) (oo on eo en : Option (List ℕ)) → IsWhole fields q known partial
@@ -163,7 +163,7 @@ pub leaves-known : (r : Result Done RunFault) (limit : Option ℕ) (fields : Lis
     → IfErr r (λ fault. Leaves fault limit fields q known oo on eo en)
 leaves-known (Ok done) limit fields q known partial oo on eo en w few h = tt
 leaves-known (Err fault) limit fields q known partial oo on eo en w few h =
-    fault-leaves limit fields q w.bytes known oo on eo en fault w.trimmed
+    fault-leaves limit fields q w.bytes known oo on eo en fault w.clipped
     (within limit partial.refused (length (refused fields w.bytes)) few (sym (refused-of-input fields q partial w.bytes w.stands)))
     (h w.bytes w.stands)
 

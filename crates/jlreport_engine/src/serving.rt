@@ -167,7 +167,7 @@ fn plan_of(alloc: Global, settings: Settings<'_>) -> Result<Plan, Ending>
     check(alloc, query, schema).map_err(Ending::Query)
 }
 
-/// Explains the query that is asked for, or answers it over the file that is asked for.
+/// Executes what is asked for: explains the query, or answers it over the file.
 fn execute<
     R: Read + Drop + Send,
     O: Write,
@@ -212,7 +212,7 @@ fn explained<O: Write>(alloc: Global, plan: &Plan, out: &mut O) -> Result<u8, En
     }
 }
 
-/// Says on standard error why the program ends, and answers the status.
+/// Reports on standard error why the program fails, and answers the status.
 fn report_failure<E: Write>(alloc: Global, ending: &Ending, err: &mut E) -> u8
     ensures { 2 ≤ result }
 {
@@ -228,8 +228,8 @@ fn report_failure<E: Write>(alloc: Global, ending: &Ending, err: &mut E) -> u8
     }
 }
 
-/// Says what `clap` answers in place of settings: help and the version on standard output, a fault of
-/// the words on standard error.
+/// Reports what `clap` answers in place of settings: help and the version on standard output, a fault of the words on
+/// standard error.
 fn report_cli_error<O: Write, E: Write>(
     alloc: Global,
     error: &clap::Error,

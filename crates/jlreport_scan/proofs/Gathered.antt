@@ -11,9 +11,9 @@ use Rattle.semantics.specs.Records.{refused}
 use Rattle.semantics.specs.Lines.{line_feed, lines}
 use Rattle.lines.specs.Pieces.{AreWholeLines, EndsInFeed}
 use Rattle.lines.specs.Rounds.{HasMoved, RoundsState}
-use Rattle.lines.specs.Trim.{clip_lines}
+use Rattle.lines.specs.Clip.{clip_lines}
 use Rattle.lines.proofs.Fronts.{refused-whole_lines}
-use Rattle.lines.proofs.Trims.{refused-trim}
+use Rattle.lines.proofs.Clips.{refused-clip}
 use Rattle.semantics.specs.Syntax.{TreeForm}
 use Rattle.tables.specs.Partials.{StandsFor, StandsForInput, whole_piece}
 use Rattle.tables.specs.States.{PartialState}
@@ -42,7 +42,7 @@ refused-both fields front rest whole =
 
 -- ---- what was read so far, where it is known what the reader gives
 
--- where nothing is left, it is all, trimmed
+-- where nothing is left, it is all, clipped
 at-end : (known left : Option (List ℕ)) (bytes : List ℕ) → Consumes (option_map clip_lines known) left bytes → IsAtEnd left → IfSome known (λ input. bytes ≡ clip_lines input)
 at-end None left bytes h end = tt
 at-end (Some input) None bytes h end = absurd h
@@ -55,12 +55,12 @@ refused-so_far fields None left bytes h ends = tt
 refused-so_far fields (Some input) None bytes h ends = absurd h
 refused-so_far fields (Some input) (Some rest) bytes h (inl whole) =
     let all = ap (λ b. length (refused fields b)) h in
-    let trimmed = ap length (refused-trim fields input) in
-    omega (arith, all, trimmed, refused-both fields bytes rest whole)
+    let clipped = ap length (refused-clip fields input) in
+    omega (arith, all, clipped, refused-both fields bytes rest whole)
 refused-so_far fields (Some input) (Some rest) bytes h (inr end) =
     let all = ap (λ b. length (refused fields b)) (h ∙ ap (λ xs. bytes ++ xs) end ∙ append-nil bytes) in
-    let trimmed = ap length (refused-trim fields input) in
-    omega (arith, all, trimmed)
+    let clipped = ap length (refused-clip fields input) in
+    omega (arith, all, clipped)
 
 -- ---- a round
 
@@ -146,7 +146,7 @@ no-round fields q known limit rounds partial left given stands =
 pub no-more : {R : Type 0} (fields : List Field) (q : TreeForm) (known : Option (List ℕ)) (limit : ℕ) (old new : RoundsState R) (found : Result Bool ReadFault) (partial : PartialState)
     → StandsForRounds fields q known limit old partial → HasMoved old found new → found ≡ Ok false → IsWhole fields q known partial
 no-more fields q known limit old new found partial s moved is =
-    record { bytes = s.bytes; stands = s.stands; trimmed = at-end known old.left s.bytes s.left (moved.none is).left }
+    record { bytes = s.bytes; stands = s.stands; clipped = at-end known old.left s.bytes s.left (moved.none is).left }
 
 -- ---- what is asked of a round
 

@@ -14,12 +14,12 @@ use Rattle.semantics.specs.Syntax.{TreeForm}
 use Rattle.query_plan.specs.Planned.{PlannedQuery}
 use Rattle.tables.specs.declared.job.Job.{Job}
 use Rattle.tables.specs.declared.partial.Partial.{Partial}
-use Rattle.tables.specs.Laws.{means_lawful_from}
-use Rattle.tables.specs.Means.{Denotation, both, indexed, indexed_from, mean, mean_at, mean_from, meaning}
+use Rattle.tables.specs.Laws.{denotations_lawful_from}
+use Rattle.tables.specs.Denotations.{Denotation, both, indexed, indexed_from, denotation, denotation_at, denotation_from, meaning}
 use Rattle.tables.specs.Partials.{StandsFor, StandsForInput, one_piece}
 use Rattle.tables.specs.Pieces.{IndexedPiece, IsCutInto, all_lines, refused_within}
 use Rattle.tables.specs.States.{PartialState}
-use Rattle.tables.proofs.Means.{mean-from_stands}
+use Rattle.tables.proofs.Denotations.{denotation-from_stands}
 use Rattle.jlreport_scan.specs.Pieces.{IsUnder, StandsBehind}
 use Rattle.jlreport_scan.proofs.Cuts.{cut-behind}
 use Rattle.jlreport_scan.proofs.Tallies.{length-lines, refused-counted}
@@ -27,8 +27,8 @@ use Rattle.jlreport_scan.proofs.Tallies.{length-lines, refused-counted}
 -- what a pool decides of a part and the pieces of the rest of an input behind it, with indexes from a first one on, under a plan
 abbrev pub DecidesBehind : PartialState → PlannedQuery → ℕ → List ℕ → List Piece → ℕ → ℕ → Outcome Partial → Type 0
 DecidesBehind front plan first rest pieces n limit outcome =
-    Decides meaning (both (meaning front) (total (mean plan.fields plan.query []) both (mean_from plan.fields plan.query first rest pieces) n))
-    (front.refused + sum_below (λ i. (mean_from plan.fields plan.query first rest pieces i).refused) n) limit outcome
+    Decides meaning (both (meaning front) (total (denotation plan.fields plan.query []) both (denotation_from plan.fields plan.query first rest pieces) n))
+    (front.refused + sum_below (λ i. (denotation_from plan.fields plan.query first rest pieces i).refused) n) limit outcome
 
 -- a job is over the pieces of an input under a plan
 pub record IsJobOf (plan : PlannedQuery) (input : List ℕ) (pieces : List Piece) (job : Job) : Type 0 where
@@ -38,26 +38,26 @@ pub record IsJobOf (plan : PlannedQuery) (input : List ℕ) (pieces : List Piece
 
 -- how many lines the pieces have
 abbrev pub loads_of : PlannedQuery → List ℕ → List Piece → ℕ → ℕ
-loads_of plan input pieces n = sum_below (λ i. (mean_from plan.fields plan.query 1 input pieces i).lines) n
+loads_of plan input pieces n = sum_below (λ i. (denotation_from plan.fields plan.query 1 input pieces i).lines) n
 
 -- how many refused lines the pieces have
 abbrev pub weights_of : PlannedQuery → List ℕ → List Piece → ℕ → ℕ
-weights_of plan input pieces n = sum_below (λ i. (mean_from plan.fields plan.query 1 input pieces i).refused) n
+weights_of plan input pieces n = sum_below (λ i. (denotation_from plan.fields plan.query 1 input pieces i).refused) n
 
 -- the laws of a job's pieces
 abbrev Stands : Type 0
 Stands = (fields : List Field) (q : TreeForm) (front : List IndexedPiece) (first : ℕ) (rest : List ℕ) (pieces : List Piece) (partial : Partial)
     → first + length pieces < 2 ^ 32
-    → meaning partial ≡ both (mean fields q front) (total (mean fields q []) both (mean_from fields q first rest pieces) (length pieces))
+    → meaning partial ≡ both (denotation fields q front) (total (denotation fields q []) both (denotation_from fields q first rest pieces) (length pieces))
     → StandsFor fields q partial (front ++ indexed_from first rest pieces)
 
 abbrev Weighs : Type 0
 Weighs = (fields : List Field) (q : TreeForm) (input : List ℕ) (pieces : List Piece)
-    → sum_below (λ i. (mean_at fields q input pieces i).refused) (length pieces) ≡ length (refused_within fields (indexed input pieces))
+    → sum_below (λ i. (denotation_at fields q input pieces i).refused) (length pieces) ≡ length (refused_within fields (indexed input pieces))
 
 abbrev Loads : Type 0
 Loads = (fields : List Field) (q : TreeForm) (input : List ℕ) (pieces : List Piece)
-    → sum_below (λ i. (mean_at fields q input pieces i).lines) (length pieces) ≡ length (all_lines (indexed input pieces))
+    → sum_below (λ i. (denotation_at fields q input pieces i).lines) (length pieces) ≡ length (all_lines (indexed input pieces))
 
 -- the parts weigh so much under the limit
 decided-under : {P M : Type 0} (meaning : P → M) (whole : M) (count limit : ℕ) (outcome : Outcome P) (Under : ℕ → ℕ → Outcome P → Type 0)
@@ -78,7 +78,7 @@ pub refused-whole : (front : PartialState) (p : PlannedQuery) (first : ℕ) (b :
     → outcome ≡ Whole partial → DecidesBehind front p first b ps n limit outcome → (partial.refused ≡ front.refused + weights_of p b ps n) × (partial.refused ≤ limit)
 refused-whole front p first b ps n limit outcome partial is d =
     let whole = subst (DecidesBehind front p first b ps n limit) is d in
-    let laws = means_lawful_from p.fields p.query first b ps in
+    let laws = denotations_lawful_from p.fields p.query first b ps in
     let count : partial.refused ≡ front.refused + weights_of p b ps n = ap (λ (m : Denotation). m.refused) whole.0 ∙ ap (λ k. front.refused + k) (total_weight laws n) in
     let few = whole.1 in
     (count, omega (arith, count, few))
@@ -99,11 +99,11 @@ stands-behind before front plan p first rest b pieces ps n limit outcome partial
     let whole = subst (DecidesBehind front plan 1 rest pieces (length pieces) limit) is d5 in
     record {
       behind = λ input given lines.
-          let is_front = mean-from_stands fields q front (one_piece input) (as_one fields q input given) in
+          let is_front = denotation-from_stands fields q front (one_piece input) (as_one fields q input given) in
           record {
             pieces = one_piece input ++ indexed_from 1 rest pieces;
             stands = stands fields q (one_piece input) 1 rest pieces partial (omega (arith, few))
-                (whole.0 ∙ ap (λ m. both m (total (mean fields q []) both (mean_from fields q 1 rest pieces) (length pieces))) is_front);
+                (whole.0 ∙ ap (λ m. both m (total (denotation fields q []) both (denotation_from fields q 1 rest pieces) (length pieces))) is_front);
             cut = cut-behind input rest pieces lines cut;
           };
     }

@@ -7,12 +7,12 @@ use Rattle.semantics.specs.Columns.{Field}
 use Rattle.lines.specs.declared.pieces.Piece.{Piece}
 use Rattle.lines.specs.Pieces.{AreWholeLines}
 use Rattle.lines.specs.Rounds.{HasMoved, RoundState, RoundsState}
-use Rattle.lines.specs.Trim.{clip_lines}
+use Rattle.lines.specs.Clip.{clip_lines}
 use Rattle.pool.specs.declared.laws.Outcome.{Outcome}
 use Rattle.pool.specs.declared.laws.Outcome.TheVariants.{Whole, Over}
 use Rattle.pool.specs.Holding.{Holding}
 use Rattle.pool.specs.Settled.{AreAll, HaveEachOnce, pieces_of}
-use Rattle.tables.specs.Means.{indexed}
+use Rattle.tables.specs.Denotations.{indexed}
 use Rattle.tables.specs.Pieces.{IsCutInto}
 use Rattle.jlreport_scan.specs.Gathered.{IsWhole}
 use Rattle.semantics.specs.Syntax.{TreeForm}
@@ -36,7 +36,7 @@ pub record StandsBehind (fields : List Field) (q : TreeForm) (before : PartialSt
   pub behind : (front : List ℕ) → StandsForInput fields q before front → AreWholeLines front → StandsForInput fields q partial (front ++ rest)
 
 -- Between two rounds the partial result stands for the bytes of all rounds so far. Where it is known what the reader gives, these and what is left make up
--- that, trimmed. They are counted; they are whole lines, unless the last round was given; and not more of their lines are refused than the limit.
+-- that, clipped. They are counted; they are whole lines, unless the last round was given; and not more of their lines are refused than the limit.
 pub record StandsForRounds {R : Type 0} (fields : List Field) (q : TreeForm) (known : Option (List ℕ)) (limit : ℕ) (rounds : RoundsState R) (partial : PartialState) : Type 0 where
   pub bytes : List ℕ
   pub stands : StandsForInput fields q partial bytes

@@ -2,7 +2,7 @@
 ghost use Rattle.std.specs.Prelude.{◌≡◌, ◌≤◌, ◌<◌, ◌^◌, All, IfOk, length};
 ghost use Rattle.semantics.specs.Lines.{lines};
 ghost use Rattle.tables.specs.Pieces.{IsCutInto, all_lines};
-ghost use Rattle.tables.specs.Means.{indexed};
+ghost use Rattle.tables.specs.Denotations.{indexed};
 
 use lines::{Piece, cut};
 use std::alloc::{AllocError, Global};

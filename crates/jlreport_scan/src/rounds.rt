@@ -205,15 +205,15 @@ fn work_ahead<L: Ledger + Send + Sync, R: Read + Drop + Send, H: Threads + Wait 
     })
 }
 
-/// Reads on to the next round, which ends early where it is waited for, and hands the input back.
-fn read_on<R: Read + Drop, W: Demand>(
+/// Reads on to the next round, which ends early where there is a demand for it, and hands the input back.
+fn read_on<R: Read + Drop, D: Demand>(
     rounds: Rounds<R>,
-    waiter: &W,
+    demand: &D,
 ) -> (Result<bool, ReadFault>, Rounds<R>)
     ensures { HasMoved rounds result.0 result.1 }
 {
     let mut rounds = rounds;
-    let found = rounds.advance_for(waiter);
+    let found = rounds.advance_for(demand);
     (found, rounds)
 }
 
@@ -254,7 +254,7 @@ fn round_beside<L: Ledger + Send + Sync, R: Read + Drop + Send, H: Threads + Wai
         ⊎ Refuses fault options.max_refused (before.refused + length (refused plan.now.fields round.now.bytes))) }
 {
     let done = AtomicBool::new(false);
-    let waiter = &done;
+    let demand = &done;
     if rounds.is_over() {
         let worked = round_among(
             rt,
@@ -266,12 +266,12 @@ fn round_beside<L: Ledger + Send + Sync, R: Read + Drop + Send, H: Threads + Wai
             book,
             shares,
         );
-        let (read, kept) = read_on(rounds, waiter);
+        let (read, kept) = read_on(rounds, demand);
         return Beside { read, kept, worked };
     }
     let ((read, kept), worked) = join(
         rt,
-        move || read_on(rounds, waiter),
+        move || read_on(rounds, demand),
         move || -> Result<Worked<L>, GatherFault>
             requires front { (front : List ℕ) × StandsForInput plan.now.fields plan.now.query before front × AreWholeLines front }
             requires short { before.lines + length round.now.bytes < 2 ^ 63 }
@@ -288,7 +288,7 @@ fn round_beside<L: Ledger + Send + Sync, R: Read + Drop + Send, H: Threads + Wai
                 book,
                 shares,
             );
-            waiter.store(true, Ordering::Relaxed);
+            demand.store(true, Ordering::Relaxed);
             worked
         },
     );

@@ -22,8 +22,8 @@ lines-front front rest e =
 answers-front : (fields : List Field) (front rest : List ℕ) → EndsInFeed front → answers fields (front ++ rest) ≡ answers fields front ++ answers fields rest
 answers-front fields front rest e = ap (map (decode_line fields)) (lines-front front rest e) ∙ map-append (decode_line fields) (lines front) (lines rest)
 
-good-front : (fields : List Field) (front rest : List ℕ) → EndsInFeed front → valid_records fields (front ++ rest) ≡ valid_records fields front ++ valid_records fields rest
-good-front fields front rest e = ap (filter_map result_ok) (answers-front fields front rest e) ∙ filter_map-append result_ok (answers fields front) (answers fields rest)
+valid-front : (fields : List Field) (front rest : List ℕ) → EndsInFeed front → valid_records fields (front ++ rest) ≡ valid_records fields front ++ valid_records fields rest
+valid-front fields front rest e = ap (filter_map result_ok) (answers-front fields front rest e) ∙ filter_map-append result_ok (answers fields front) (answers fields rest)
 
 -- ---- numbers
 
@@ -71,9 +71,9 @@ pub lines-whole_lines : (front rest : List ℕ) → AreWholeLines front → line
 lines-whole_lines front rest (inl none) = ap (λ bytes. lines (bytes ++ rest)) none ∙ ap (λ bytes. lines bytes ++ lines rest) (sym none)
 lines-whole_lines front rest (inr feed) = lines-front front rest feed
 
-pub good-whole_lines : (fields : List Field) (front rest : List ℕ) → AreWholeLines front → valid_records fields (front ++ rest) ≡ valid_records fields front ++ valid_records fields rest
-good-whole_lines fields front rest (inl none) = ap (λ bytes. valid_records fields (bytes ++ rest)) none ∙ ap (λ bytes. valid_records fields bytes ++ valid_records fields rest) (sym none)
-good-whole_lines fields front rest (inr feed) = good-front fields front rest feed
+pub valid-whole_lines : (fields : List Field) (front rest : List ℕ) → AreWholeLines front → valid_records fields (front ++ rest) ≡ valid_records fields front ++ valid_records fields rest
+valid-whole_lines fields front rest (inl none) = ap (λ bytes. valid_records fields (bytes ++ rest)) none ∙ ap (λ bytes. valid_records fields bytes ++ valid_records fields rest) (sym none)
+valid-whole_lines fields front rest (inr feed) = valid-front fields front rest feed
 
 pub refused-whole_lines : (fields : List Field) (front rest : List ℕ) → AreWholeLines front
     → refused fields (front ++ rest) ≡ refused fields front ++ map (shift (length (lines front))) (refused fields rest)

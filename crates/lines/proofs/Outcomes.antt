@@ -67,8 +67,8 @@ unless_long-fits fields true value r e = cc
 unless_long-fits fields false value r e = record_of-fits fields value r e
 
 -- the record of a line fits the schema
-pub taken-fits : (fields : List Field) (line : List ℕ) (r : List Datum) → decode_line fields line ≡ Ok r → Fits fields r
-taken-fits fields line r e = unless_long-fits fields (nat_lt max_line_len (length line)) (reading line) r e
+pub decoded-fits : (fields : List Field) (line : List ℕ) (r : List Datum) → decode_line fields line ≡ Ok r → Fits fields r
+decoded-fits fields line r e = unless_long-fits fields (nat_lt max_line_len (length line)) (reading line) r e
 
 -- ---- a bad value
 
@@ -114,5 +114,5 @@ unless_long-within fields true value place e = cc
 unless_long-within fields false value place e = record_of-within fields value place e
 
 -- a bad value of a line is that of a column
-pub taken-bad_value : (fields : List Field) (line : List ℕ) (place : ℕ) → decode_line fields line ≡ Err (BadValue place) → place < length fields
-taken-bad_value fields line place e = unless_long-within fields (nat_lt max_line_len (length line)) (reading line) place e
+pub decoded-bad_value : (fields : List Field) (line : List ℕ) (place : ℕ) → decode_line fields line ≡ Err (BadValue place) → place < length fields
+decoded-bad_value fields line place e = unless_long-within fields (nat_lt max_line_len (length line)) (reading line) place e

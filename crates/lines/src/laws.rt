@@ -4,25 +4,30 @@ ghost use Rattle.semantics.specs.Columns.{Field};
 ghost use Rattle.semantics.specs.Records.{valid_records, refused};
 ghost use Rattle.semantics.specs.Lines.{lines};
 ghost use Rattle.lines.specs.Pieces.{AreWholeLines};
-ghost use Rattle.lines.specs.Trim.{parts, clip_lines, trimmed_len};
+ghost use Rattle.lines.specs.Clip.{parts, clip_lines, clipped_len};
 
-/// A law, with no work to do: in a trimmed input each part between two line feeds is the first 1,048,577 bytes of what
-/// it was. So it has as many lines, and the same good records and refused lines.
-pub fn trim_law()
-    ensures parts { (input : List ℕ) → parts (clip_lines input) ≡ map (take trimmed_len) (parts input) }
-    ensures lines { (input : List ℕ) → lines (clip_lines input) ≡ map (take trimmed_len) (lines input) }
+/// A law, with no work to do: in a clipped input each part between two line feeds is the first 1,048,577 bytes of what
+/// it was. So it has as many lines, and the same valid records and refused lines.
+pub fn clip_law()
+    ensures parts { (input : List ℕ)
+        → parts (clip_lines input) ≡ map (take clipped_len) (parts input) }
+    ensures lines { (input : List ℕ)
+        → lines (clip_lines input) ≡ map (take clipped_len) (lines input) }
     ensures count { (input : List ℕ) → length (lines (clip_lines input)) ≡ length (lines input) }
-    ensures good { (fields : List Field) (input : List ℕ) → valid_records fields (clip_lines input) ≡ valid_records fields input }
-    ensures refused { (fields : List Field) (input : List ℕ) → refused fields (clip_lines input) ≡ refused fields input }
+    ensures valid { (fields : List Field) (input : List ℕ)
+        → valid_records fields (clip_lines input) ≡ valid_records fields input }
+    ensures refused { (fields : List Field) (input : List ℕ)
+        → refused fields (clip_lines input) ≡ refused fields input }
 {}
 
 /// A law, with no work to do: an input whose front is whole lines has the lines of its front and then those of its
-/// rest, and so it is with the good records and with the refused lines, of which those of the rest are numbered behind
+/// rest, and so it is with the valid records and with the refused lines, of which those of the rest are numbered behind
 /// the lines of the front.
 pub fn front_law()
     ensures lines { (front rest : List ℕ) → AreWholeLines front → lines (front ++ rest) ≡ lines front ++ lines rest }
-    ensures good { (fields : List Field) (front rest : List ℕ) → AreWholeLines front
-        → valid_records fields (front ++ rest) ≡ valid_records fields front ++ valid_records fields rest }
+    ensures valid { (fields : List Field) (front rest : List ℕ) → AreWholeLines front
+        → valid_records fields (front ++ rest)
+        ≡ valid_records fields front ++ valid_records fields rest }
     ensures refused { (fields : List Field) (front rest : List ℕ) → AreWholeLines front
         → refused fields (front ++ rest) ≡ refused fields front
         ++ map (λ line. (length (lines front) + line.0, line.1)) (refused fields rest) }

@@ -4,9 +4,8 @@
 
 mod cutting;
 mod fault;
-mod held;
-mod holding;
 mod laws;
+mod line_buffer;
 mod pieces;
 mod reading;
 mod rounds;
@@ -17,7 +16,7 @@ mod tree;
 
 pub use cutting::cut;
 pub use fault::ReadFault;
-pub use laws::{front_law, trim_law};
+pub use laws::{clip_law, front_law};
 pub use pieces::Piece;
 pub use reading::{RecordReader, read_record};
 pub use rounds::{Demand, Round, Rounds};

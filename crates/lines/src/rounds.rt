@@ -3,11 +3,10 @@ ghost use Rattle.std.specs.Prelude.{◌≡◌, [], ◌+◌, ◌-◌, ◌<◌, �
 ghost use Rattle.std.specs.Io.KnownBytes.{Consumes, IsAtEnd, Keeps};
 ghost use Rattle.lines.specs.Holding.{IsBetween, IsHeld, left_behind, left_of, open_part, whole_lines};
 ghost use Rattle.lines.specs.Rounds.{HasCause, HasMoved, HasRead};
-ghost use Rattle.lines.specs.Trim.{clip_lines, trimmed_len};
+ghost use Rattle.lines.specs.Clip.{clip_lines, clipped_len};
 
 use crate::fault::ReadFault;
-use crate::held::{TRIMMED_LEN, let_go, release, scan_lines, skip_lines};
-use crate::holding::LineBuffer;
+use crate::line_buffer::{CLIPPED_LEN, LineBuffer, let_go, release, scan_lines, skip_lines};
 use crate::source::Source;
 use std::alloc::{AllocError, Global};
 use std::io::Read;
@@ -15,21 +14,20 @@ use std::marker::Model;
 use std::mem;
 use std::sync::atomic::{AtomicBool, Ordering};
 
-/// The room for bytes that are read beyond a round, so that no read has to be small.
+/// The slack of a buffer: the bytes that may be read beyond a round, so that no read has to be small.
 const READ_SLACK: usize = 65_536;
 
-/// By how many bytes a buffer gets longer, until it has its length.
+/// The bytes by which a buffer grows at a time, until it has its length.
 const GROWTH_STEP: usize = 1_048_576;
 
-/// How many bytes the first round has, about, where more may be held, so that work begins soon; and how many a round
-/// has about, at least, that ends early, because it is waited for.
+/// About the length of a block that ends early: the first one, so that work begins soon, and one that is waited for.
 const EARLY_BLOCK_LEN: usize = 8_388_608;
 
-/// Whoever a round is read for.
+/// The demand for lines: whether a worker waits for them.
 ///
-/// Example: a thread that works on the round before, and stores `true` in an `AtomicBool` when it is done.
+/// Example: an `AtomicBool`, in which the thread that works on the round before stores `true` when it is done.
 pub trait Demand {
-    /// Whether they have nothing else to do until the round is there.
+    /// Whether a worker waits for the next round, with nothing else to do.
     fn is_waiting(&self) -> bool;
 }
 
@@ -40,10 +38,10 @@ impl Demand for AtomicBool {
     }
 }
 
-/// Nobody, who never waits.
-struct Nobody;
+/// No demand: no worker ever waits.
+struct NoDemand;
 
-impl Demand for Nobody {
+impl Demand for NoDemand {
     fn is_waiting(&self) -> bool {
         false
     }
@@ -126,11 +124,11 @@ fn fill<R: Read + Drop>(
     ensures cause { IsErr result → HasCause source.new.erred source.new.taken }
     ensures end { IfOk result (λ ended. IsTrue ended → IsAtEnd (R.remaining source.new.reader)) }
     ensures few { IfOk result (λ ended. IsTrue ended
-        → (held.new.filled ≤ held.new.cut + trimmed_len) × (held.new.filled ≤ size)) }
-    ensures whole { IfOk result (λ ended. IsFalse ended → aim ≤ held.new.cut + trimmed_len) }
+        → (held.new.filled ≤ held.new.cut + clipped_len) × (held.new.filled ≤ size)) }
+    ensures whole { IfOk result (λ ended. IsFalse ended → aim ≤ held.new.cut + clipped_len) }
 {
     scan_lines(held, aim);
-    while held.cut + TRIMMED_LEN < aim {
+    while held.cut + CLIPPED_LEN < aim {
         let count = read_more(source, held, size + READ_SLACK)?;
         if count == 0 {
             return Ok(true);
@@ -143,12 +141,12 @@ fn fill<R: Read + Drop>(
 /// Reads as `fill` does, first for about `EARLY_BLOCK_LEN` bytes and then for more, until the whole lines come near to
 /// `aim` bytes, or are waited for, or the input is at its end. It answers whether the input is at its end, and to how
 /// many bytes the whole lines were to come near at last.
-fn fill_for<R: Read + Drop, W: Demand>(
+fn fill_for<R: Read + Drop, D: Demand>(
     source: &mut Source<R>,
     held: &mut LineBuffer,
     aim: usize,
     size: usize,
-    waiter: &W,
+    demand: &D,
 ) -> Result<(bool, usize), ReadFault>
     requires held { IsHeld held.old }
     requires within { held.old.cut ≤ aim }
@@ -162,7 +160,7 @@ fn fill_for<R: Read + Drop, W: Demand>(
     ensures room { size + 65536 ≤ vec_capacity held.new.buffer }
     ensures within { IfOk result (λ r. held.new.cut ≤ r.1) }
     ensures near { IfOk result (λ r. r.1 ≤ aim) }
-    ensures long { IfOk result (λ r. trimmed_len < aim → trimmed_len < r.1) }
+    ensures long { IfOk result (λ r. clipped_len < aim → clipped_len < r.1) }
     ensures taken { OnOk result (held.new.filled + source.old.taken ≤ held.old.filled + source.new.taken) }
     ensures limit { OnOk result (source.new.taken < 2 ^ 63) }
     ensures read { HasRead (R.remaining source.old.reader) (R.remaining source.new.reader)
@@ -170,29 +168,29 @@ fn fill_for<R: Read + Drop, W: Demand>(
     ensures cause { IsErr result → HasCause source.new.erred source.new.taken }
     ensures end { IfOk result (λ r. IsTrue r.0 → IsAtEnd (R.remaining source.new.reader)) }
     ensures few { IfOk result (λ r. IsTrue r.0
-        → (held.new.filled ≤ held.new.cut + trimmed_len) × (held.new.filled ≤ size)) }
-    ensures whole { IfOk result (λ r. IsFalse r.0 → r.1 ≤ held.new.cut + trimmed_len) }
+        → (held.new.filled ≤ held.new.cut + clipped_len) × (held.new.filled ≤ size)) }
+    ensures whole { IfOk result (λ r. IsFalse r.0 → r.1 ≤ held.new.cut + clipped_len) }
 {
     let mut near = aim.min(held.cut.max(EARLY_BLOCK_LEN));
     let mut ended = fill(source, held, near, size)?;
-    while !ended && near < aim && !waiter.is_waiting() {
+    while !ended && near < aim && !demand.is_waiting() {
         near = aim.min(near.saturating_add(GROWTH_STEP));
         ended = fill(source, held, near, size)?;
     }
     Ok((ended, near))
 }
 
-/// Lets go the round before, and holds the next round in front, of about `aim` bytes and at most `size`. It answers
-/// whether it is the last.
-fn read_block<R: Read + Drop, W: Demand>(
+/// Releases the round before, and reads the next block of whole lines, of about `aim` bytes and at most `size`. It
+/// answers whether it is the last.
+fn read_block<R: Read + Drop, D: Demand>(
     source: &mut Source<R>,
     held: &mut LineBuffer,
     aim: usize,
     size: usize,
-    waiter: &W,
+    demand: &D,
 ) -> Result<bool, ReadFault>
     requires held { IsHeld held.old }
-    requires long { trimmed_len < aim }
+    requires long { clipped_len < aim }
     requires aim { aim ≤ size }
     requires len { vec_len held.old.buffer ≤ size + 65536 }
     requires room { size + 65536 ≤ vec_capacity held.old.buffer }
@@ -214,7 +212,7 @@ fn read_block<R: Read + Drop, W: Demand>(
     ensures cause { IsErr result → HasCause source.new.erred source.new.taken }
 {
     release(held);
-    let (ended, near) = fill_for(source, held, aim, size, waiter)?;
+    let (ended, near) = fill_for(source, held, aim, size, demand)?;
     if ended {
         held.cut = held.filled;
     } else if !held.full {
@@ -248,7 +246,7 @@ fn copy_front(to: &mut [u8], from: &[u8])
     to[..from.len()].copy_from_slice(from);
 }
 
-/// Goes on in another buffer of at most `most` bytes with what follows the whole lines, and gives up this one.
+/// Swaps the buffer for another one of at most `most` bytes, into which what follows the whole lines is copied.
 fn swap_buffer(held: &mut LineBuffer, spare: Vec<u8>, most: usize) -> Vec<u8>
     requires cut { held.old.cut ≤ held.old.filled }
     requires filled { held.old.filled ≤ vec_len held.old.buffer }
@@ -402,7 +400,7 @@ impl<R: Read + Drop> Rounds<R> {
     ///
     /// `AllocError` where there is no memory for the buffer.
     pub fn new(alloc: Global, reader: R, size: usize) -> Result<Self, AllocError>
-        requires { trimmed_len < size }
+        requires { clipped_len < size }
         ensures { IfOk result (λ rounds. rounds ≡ record {
           reader = reader;
           left = option_map clip_lines (R.remaining reader);
@@ -444,19 +442,19 @@ impl<R: Read + Drop> Rounds<R> {
     pub fn advance(&mut self) -> Result<bool, ReadFault>
         ensures { HasMoved self.old result self.new }
     {
-        self.advance_for(&Nobody)
+        self.advance_for(&NoDemand)
     }
 
-    /// The same for somebody who may wait for the round: where they do, it ends as soon as it has about 8,388,608 bytes.
+    /// The same under a demand: where a worker waits for the round, it ends as soon as it has about 8,388,608 bytes.
     ///
     /// Example: with rounds of 67,108,864 bytes, over an input of 1,000,000,000 line feeds, the second round has
-    /// 67,108,864 bytes less at most 1,048,577, and where `waiter.is_waiting()` answers `true`, 8,388,608 less at most
+    /// 67,108,864 bytes less at most 1,048,577, and where `demand.is_waiting()` answers `true`, 8,388,608 less at most
     /// 1,048,577.
     ///
     /// # Errors
     ///
     /// As for [`Rounds::advance`].
-    pub fn advance_for<W: Demand>(&mut self, waiter: &W) -> Result<bool, ReadFault>
+    pub fn advance_for<D: Demand>(&mut self, demand: &D) -> Result<bool, ReadFault>
         ensures { HasMoved self.old result self.new }
     {
         if self.failed {
@@ -467,7 +465,7 @@ impl<R: Read + Drop> Rounds<R> {
             return Ok(false);
         }
         let (aim, size) = (self.aim, self.size);
-        match read_block(&mut self.source, &mut self.held, aim, size, waiter) {
+        match read_block(&mut self.source, &mut self.held, aim, size, demand) {
             Ok(ended) => {
                 self.aim = size;
                 if self.held.cut == 0 {

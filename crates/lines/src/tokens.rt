@@ -3,7 +3,7 @@ ghost use Rattle.std.specs.Prelude.{◌≡◌, ◌≤◌, Ok, IfSome, length};
 ghost use Rattle.semantics.specs.Records.{Fits, max_line_len, decode_line};
 
 mod numerals;
-mod passing;
+mod skipping;
 mod spare;
 mod taking;
 

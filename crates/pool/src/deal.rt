@@ -23,10 +23,10 @@ use std::mem;
 /// A deque of one deal, under the rule of `protocol`.
 pub type Deque = Worker<Packed, Global, View, Dealing>;
 
-/// The end of a deque that its own hand takes from.
+/// A hand's local queue: the end of its own deque, from which it takes.
 #[derive(Drop)]
 pub struct LocalQueue {
-    pub gap: CachePad,
+    pub pad: CachePad,
     pub worker: Deque,
     pub closed: bool,
 }
@@ -44,7 +44,7 @@ impl Model for LocalQueue {
     ghost invariant = { λ o. (worker_flavor o.worker ≡ 0) × IsOwner (worker_view o.worker) o.closed };
 }
 
-/// The end of another hand's deque.
+/// A handle to steal by: the end of another hand's deque.
 #[derive(Drop)]
 pub struct StealHandle {
     pub thief: Stealer<Packed, Global, View, Dealing>,
@@ -127,7 +127,7 @@ pub struct Hand {
     number: usize,
     hands: usize,
     pieces: u32,
-    own: LocalQueue,
+    local: LocalQueue,
     others: Vec<StealHandle>,
     spent: bool,
 }
@@ -139,11 +139,11 @@ impl Drop for Hand {
             number: _,
             hands: _,
             pieces: _,
-            own,
+            local,
             others,
             spent: _,
         } = self;
-        drop(own);
+        drop(local);
         drop(others);
     }
 }
@@ -153,9 +153,23 @@ impl Model for Hand {
 
     ghost Value = { Holding };
 
-    ghost view = { λ h. record { number = h.number; hands = h.hands; pieces = h.pieces; own = h.own; others = h.others.items; spent = h.spent } };
+    ghost view = { λ h. record {
+      number = h.number;
+      hands = h.hands;
+      pieces = h.pieces;
+      own = h.local;
+      others = h.others.items;
+      spent = h.spent;
+    } };
 
-    ghost invariant = { λ h. IsHolding record { number = h.number; hands = h.hands; pieces = h.pieces; own = h.own; others = h.others.items; spent = h.spent } };
+    ghost invariant = { λ h. IsHolding record {
+      number = h.number;
+      hands = h.hands;
+      pieces = h.pieces;
+      own = h.local;
+      others = h.others.items;
+      spent = h.spent;
+    } };
 }
 
 /// One try at each, in turn, until one gives a number.
@@ -193,7 +207,7 @@ impl Hand {
         ensures order { InOrder self.new }
         ensures memory { result ≢ Next.Memory }
     {
-        if let Some(x) = own_first(&mut self.own) {
+        if let Some(x) = own_first(&mut self.local) {
             return Next::Piece(x);
         }
         if let Some(x) = steal(&mut self.others) {
@@ -243,7 +257,7 @@ impl Hand {
         ensures same { (self.new ≡ self.old) × (before.new ≡ before.old) × (after.new ≡ after.old) }
         ensures apart { (x : ℕ) → UpTo (self.old.own.closed ≡ true) (times x self.old.own.seen.list + (held x (told (length before.old + length after.old) after.old) + held x (told (length before.old) before.old))) (times x self.old.own.seen.numbers) }
     {
-        self.own.apart(before, after);
+        self.local.apart(before, after);
     }
 }
 
@@ -303,16 +317,22 @@ pub fn settled(hands: &mut [Hand]) -> bool
 }
 
 /// A hand that has taken nothing.
-pub fn first_hand(number: usize, hands: usize, pieces: u32, own: LocalQueue, others: Vec<StealHandle>) -> Hand
-    requires { IsHolding (new_holding number hands pieces own others.items) }
-    ensures is { result ≡ new_holding number hands pieces own others.items }
+pub fn first_hand(
+    number: usize,
+    hands: usize,
+    pieces: u32,
+    local: LocalQueue,
+    others: Vec<StealHandle>,
+) -> Hand
+    requires { IsHolding (new_holding number hands pieces local others.items) }
+    ensures is { result ≡ new_holding number hands pieces local others.items }
     ensures holding { IsHolding result }
 {
     Hand {
         number,
         hands,
         pieces,
-        own,
+        local,
         others,
         spent: false,
     }
@@ -385,8 +405,8 @@ fn compare(worker: &mut Deque, hands: &mut [Hand], more: &mut [Hand], place: usi
     ensures within { (x : ℕ) → UpTo ((worker_view worker.old).closed ≡ true) (held x (worker_view worker.old).known + (held x (told place hands.old) + held x (told (length more.old) more.old))) (times x (worker_view worker.old).numbers) }
 {
     if let Some((hand, rest)) = hands.split_first_mut() {
-        let reach = &mut hand.others[place - 1];
-        reach.lend(worker, rest, more, place);
+        let handle = &mut hand.others[place - 1];
+        handle.lend(worker, rest, more, place);
         return;
     }
     if more.len() > 0 {

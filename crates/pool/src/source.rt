@@ -10,17 +10,17 @@ use crate::view::Packed;
 use std::alloc::{AllocError, Global};
 use std::marker::Model;
 
-/// How many words a gap has: as many as a line of the processor's cache.
+/// How many words of padding there are: as many as a line of the processor's cache has.
 const LINE: usize = 8;
 
-/// Room that nobody uses, taken before a deque is made. It keeps what the owner of one deque reads at each take off
-/// the line of the cache that the owner of the next one writes at each take.
+/// Padding for the cache: room that nobody uses, taken before a deque is made. It keeps what the owner of one deque
+/// reads at each take off the line of the cache that the owner of the next one writes at each take.
 pub type CachePad = Vec<u64>;
 
 /// A deque that is being filled. Contracts see it as its numbers.
 #[derive(Drop)]
 pub struct Filling {
-    gap: CachePad,
+    pad: CachePad,
     worker: Deque,
 }
 
@@ -38,7 +38,7 @@ impl Model for Filling {
 
 #[derive(Drop)]
 pub struct Source {
-    gap: CachePad,
+    pad: CachePad,
     worker: Deque,
     hands: usize,
 }
@@ -61,11 +61,11 @@ impl Filling {
     pub fn new(alloc: Global, room: usize) -> Result<Filling, AllocError>
         ensures { IfOk result (λ f. f ≡ []) }
     {
-        let gap = CachePad::with_capacity(alloc, LINE)?;
+        let pad = CachePad::with_capacity(alloc, LINE)?;
         let Ok(worker) = Deque::fifo_as(alloc, room) else {
             return Err(AllocError);
         };
-        Ok(Filling { gap, worker })
+        Ok(Filling { pad, worker })
     }
 
     /// The number, which is not the greatest one, goes behind all others.
@@ -84,14 +84,14 @@ impl Filling {
         requires { (0 < hands) × (hands < 65) }
         ensures { IfOk result (λ s. (s.numbers ≡ self) × (s.made ≡ 1) × (s.hands ≡ hands)) }
     {
-        let Filling { gap, mut worker } = self;
+        let Filling { pad, mut worker } = self;
         for _mark in 0..hands {
             if worker.push_as::<Mark>(Packed::end()).is_err() {
                 return Err(AllocError);
             }
         }
         drop(worker.another::<Seal>());
-        Ok(Source { gap, worker, hands })
+        Ok(Source { pad, worker, hands })
     }
 }
 
@@ -119,12 +119,12 @@ impl Source {
         ensures { result ≡ owned_first self }
     {
         let Source {
-            gap,
+            pad,
             worker,
             hands: _,
         } = self;
         LocalQueue {
-            gap,
+            pad,
             worker,
             closed: false,
         }

@@ -13,7 +13,7 @@ use query_ast::{Expression, Operand, Predicate, SetFunction};
 use query_lexer::push_name;
 use std::alloc::{AllocError, Global};
 
-/// How tightly a predicate holds together: OR least, then AND, NOT and a truth test, and an atom most.
+/// The precedence of a predicate: that of OR is the lowest, then AND, NOT, a truth test, and an atom the highest.
 fn precedence(predicate: &Predicate) -> u32
     ensures { result ≡ precedence (predicate_form predicate.now) }
 {
@@ -124,7 +124,7 @@ pub(crate) fn push_predicate(out: &mut String, predicate: &Predicate) -> Result<
     }
 }
 
-/// Writes a part at the end, in brackets where it holds together less tightly than its place asks.
+/// Writes a part at the end, in brackets where its precedence is lower than its place asks.
 #[cycle(push_expression)]
 fn push_part(out: &mut String, least: u32, part: &Predicate) -> Result<(), AllocError>
     ensures { OnOk result (string_bytes out.new ≡ string_bytes out.old ++ bracketed_below least (precedence (predicate_form part.now)) (predicate_text (predicate_form part.now))) }

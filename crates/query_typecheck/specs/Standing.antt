@@ -115,7 +115,7 @@ StandsTwice h headers = (before : List (List ℕ)) × (behind : List (List ℕ))
 
 -- ---- the faults
 
--- A fault stands in a query under a schema:
+-- A fault is a violation of a query under a schema:
 -- an unknown column, where GROUP BY or an expression of a clause has the name, and no column of the schema;
 -- a column that is not grouped, where its name stands in SELECT, HAVING or ORDER BY outside of a set function, and not
 -- in GROUP BY;

@@ -1,9 +1,8 @@
 //! How many groups are worked on at a time, where several threads work on them.
 ghost use Rattle.std.specs.Prelude.{◌≡◌, ◌+◌, ◌/◌, ◌%◌, ◌<◌, max, min};
 
-/// How many groups a part has at least, where there is more than one part: the work on fewer is done sooner than a thread
-/// is started.
-const PARALLEL_MIN_GROUPS: usize = 4_096;
+/// The least number of groups of a part, where there are several: work on fewer is done sooner than a thread starts.
+const MIN_PART_GROUPS: usize = 4_096;
 
 /// How many groups each part has, but perhaps the last, where so many groups are worked on by so many hands. There is a
 /// hand.
@@ -14,5 +13,5 @@ pub fn part_len(groups: usize, hands: usize) -> usize
     ensures len { result ≡ max 4096 (groups / hands + min 1 (groups % hands)) }
     ensures some { 0 < result }
 {
-    PARALLEL_MIN_GROUPS.max(groups.div_ceil(hands))
+    MIN_PART_GROUPS.max(groups.div_ceil(hands))
 }

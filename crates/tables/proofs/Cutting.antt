@@ -11,7 +11,7 @@ use Rattle.semantics.specs.Records.{valid_records, refused, decode_line}
 use Rattle.semantics.specs.Lines.{line_feed, lines}
 use Rattle.lines.specs.Pieces.{AllButLast, EndsInFeed}
 use Rattle.lines.proofs.Splits as splits
-use Rattle.tables.specs.Folding.{good_of}
+use Rattle.tables.specs.Folding.{valid_of}
 use Rattle.tables.specs.Notes.{note_of, numbered_from}
 use Rattle.tables.specs.Pieces.{IndexedPiece, IsCutInto, all_lines, joined_bytes, records_of}
 use Rattle.tables.proofs.Reading.{enumerate-append, numbered_fault}
@@ -29,11 +29,11 @@ cut-lines [] f = refl
 cut-lines (p ∷ []) f = append-nil (lines p.bytes) ∙ ap lines (sym (append-nil p.bytes))
 cut-lines (p ∷ q ∷ more) f = ap (λ ls. lines p.bytes ++ ls) (cut-lines (q ∷ more) f.1) ∙ sym (behind-feed p.bytes (joined_bytes (q ∷ more)) f.0)
 
--- the good records of the pieces are those of all their lines
-pub records-good : (fields : List Field) (pieces : List IndexedPiece) → records_of fields pieces ≡ good_of fields (all_lines pieces)
-records-good fields [] = refl
-records-good fields (p ∷ more) =
-    ap (λ rows. valid_records fields p.bytes ++ rows) (records-good fields more)
+-- the valid records of the pieces are those of all their lines
+pub records-valid : (fields : List Field) (pieces : List IndexedPiece) → records_of fields pieces ≡ valid_of fields (all_lines pieces)
+records-valid fields [] = refl
+records-valid fields (p ∷ more) =
+    ap (λ rows. valid_records fields p.bytes ++ rows) (records-valid fields more)
     ∙ sym (ap (filter_map result_ok) (map-append (decode_line fields) (lines p.bytes) (all_lines more)) ∙ filter_map-append result_ok (map (decode_line fields) (lines p.bytes)) (map (decode_line fields) (all_lines more)))
 
 -- the refused ones of these lines, the first of which has the number n
@@ -65,7 +65,7 @@ numbered-lines fields n (p ∷ more) =
 
 -- what the pieces of an input that was cut between its lines come to
 pub cut-records : (fields : List Field) (input : List ℕ) (pieces : List IndexedPiece) → IsCutInto input pieces → records_of fields pieces ≡ valid_records fields input
-cut-records fields input pieces c = records-good fields pieces ∙ ap (good_of fields) (cut-lines pieces c.feeds ∙ ap lines c.joined)
+cut-records fields input pieces c = records-valid fields pieces ∙ ap (valid_of fields) (cut-lines pieces c.feeds ∙ ap lines c.joined)
 
 pub cut-refused : (fields : List Field) (input : List ℕ) (pieces : List IndexedPiece) → IsCutInto input pieces → numbered_from 0 (map (note_of fields) pieces) ≡ refused fields input
 cut-refused fields input pieces c =

@@ -1,7 +1,7 @@
 -- The definitions, computed on examples: an input is the line `a` and, read behind it, the lines `b` and `c`.
 use Rattle.std.proofs.Common.{◌≡◌, ℕ, List, [], ◌∷◌, refl, codes}
 use Rattle.lines.specs.declared.pieces.Piece.{Piece}
-use Rattle.tables.specs.Means.{indexed, indexed_from, piece_from}
+use Rattle.tables.specs.Denotations.{indexed, indexed_from, piece_from}
 use Rattle.tables.specs.Partials.{one_piece}
 use Rattle.tables.specs.Pieces.{IndexedPiece}
 

@@ -12,9 +12,9 @@ use Rattle.semantics.specs.declared.line_fault.LineFault.{LineFault}
 use Rattle.semantics.specs.Records.{valid_records, refused}
 use Rattle.semantics.specs.Lines.{line_feed, lines, without_empty_last}
 use Rattle.lines.specs.Pieces.{AreWholeLines}
-use Rattle.lines.proofs.Fronts.{good-whole_lines, lines-whole_lines, refused-whole_lines}
+use Rattle.lines.proofs.Fronts.{valid-whole_lines, lines-whole_lines, refused-whole_lines}
 use Rattle.tables_groups.specs.Bags.{SameBag, weigh}
-use Rattle.tables.specs.declared.note.PieceRefusals.{PieceRefusals}
+use Rattle.tables.specs.declared.piece_refusals.PieceRefusals.{PieceRefusals}
 use Rattle.tables.specs.Notes.{AreLinesBehind, AreLinesOf, IsWellNumbered, Noted, lines_noted, note_in, note_of, numbered_from}
 use Rattle.tables.specs.Partials.{one_piece, whole_piece}
 use Rattle.tables.specs.Pieces.{IndexedPiece, IsCutInto, all_lines, records_of, refused_within}
@@ -133,7 +133,7 @@ pub followed-records : (fields : List Field) (front back : List ℕ) (pieces mor
     → records_of fields (whole_piece (front ++ back)) ≡ records_of fields pieces ++ records_of fields more
 followed-records fields front back pieces more whole c d =
     append-nil (valid_records fields (front ++ back))
-    ∙ good-whole_lines fields front back whole
+    ∙ valid-whole_lines fields front back whole
     ∙ ap (λ rows. rows ++ valid_records fields back) (sym (cut-records fields front pieces c))
     ∙ ap (λ rows. records_of fields pieces ++ rows) (sym (cut-records fields back more d))
 

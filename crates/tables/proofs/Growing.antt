@@ -10,20 +10,20 @@ use Rattle.semantics.specs.Lines.{lines}
 use Rattle.semantics.specs.Syntax.{TreeForm}
 use Rattle.semantics.specs.Conditions.{kept}
 use Rattle.tables_groups.specs.Bags.{SameBag}
-use Rattle.tables.specs.declared.note.PieceRefusals.{PieceRefusals}
+use Rattle.tables.specs.declared.piece_refusals.PieceRefusals.{PieceRefusals}
 use Rattle.tables.specs.Notes.{IsWellNumbered, Noted, lines_noted, note_in, note_of}
 use Rattle.tables.specs.Pieces.{IndexedPiece, all_lines, records_of, refused_within}
 use Rattle.tables.proofs.Merging.{counted-append, lines-append, notes-append, one-note, records-append, refused-append}
-use Rattle.tables.proofs.Reading.{length-good_of, length-kept}
+use Rattle.tables.proofs.Reading.{length-valid_of, length-kept}
 
 -- ---- before the first line of the piece
 
--- pieces have at most as many good records as lines
+-- pieces have at most as many valid records as lines
 pub few-records : (fields : List Field) (pieces : List IndexedPiece) → length (records_of fields pieces) ≤ length (all_lines pieces)
 few-records fields [] = omega arith
 few-records fields (p ∷ pieces) =
     let more = few-records fields pieces in
-    let here = length-good_of fields (lines p.bytes) in
+    let here = length-valid_of fields (lines p.bytes) in
     let a = length-append (valid_records fields p.bytes) (records_of fields pieces) in
     let b = length-append (lines p.bytes) (all_lines pieces) in
     omega (arith, more, here, a, b)

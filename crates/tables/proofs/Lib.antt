@@ -21,5 +21,5 @@ pub mod Following
 pub mod Types
 pub mod TypeTests
 pub mod Growing
-pub mod Means
+pub mod Denotations
 pub mod Sharing

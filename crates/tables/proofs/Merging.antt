@@ -10,7 +10,7 @@ use Rattle.semantics.specs.Records.{valid_records, refused}
 use Rattle.semantics.specs.Lines.{lines}
 use Rattle.tables_groups.specs.Bags.{SameBag}
 use Rattle.tables.specs.Notes.{IsWellNumbered, Noted, lines_noted, note_in, note_of}
-use Rattle.tables.specs.declared.note.PieceRefusals.{PieceRefusals}
+use Rattle.tables.specs.declared.piece_refusals.PieceRefusals.{PieceRefusals}
 use Rattle.tables.specs.Pieces.{IndexedPiece, all_lines, records_of, refused_within}
 use Rattle.tables.proofs.Bags.{bag-append}
 

@@ -18,7 +18,7 @@ use Rattle.semantics.specs.Conditions.{is_kept, kept}
 use Rattle.semantics.specs.Groups.{Row}
 use Rattle.tables_groups.specs.Inside.Table.{Contents, IsTableOf}
 use Rattle.tables.specs.declared.folding.Folding.{Folding}
-use Rattle.tables.specs.Folding.{HasRead, good_of, refused_of}
+use Rattle.tables.specs.Folding.{HasRead, valid_of, refused_of}
 
 -- ---- an input has at most as many lines as bytes
 
@@ -47,14 +47,14 @@ length-lines (x ∷ bytes) = either-le (x == line_feed) x (slice_split (λ b. b 
 
 -- ---- one more line
 
-good-more : (fields : List Field) (ls : List (List ℕ)) (line : List ℕ) → good_of fields (ls ++ line ∷ []) ≡ good_of fields ls ++ filter_map result_ok (decode_line fields line ∷ [])
-good-more fields ls line = ap (filter_map result_ok) (map-append (decode_line fields) ls (line ∷ [])) ∙ filter_map-append result_ok (map (decode_line fields) ls) (decode_line fields line ∷ [])
+valid-more : (fields : List Field) (ls : List (List ℕ)) (line : List ℕ) → valid_of fields (ls ++ line ∷ []) ≡ valid_of fields ls ++ filter_map result_ok (decode_line fields line ∷ [])
+valid-more fields ls line = ap (filter_map result_ok) (map-append (decode_line fields) ls (line ∷ [])) ∙ filter_map-append result_ok (map (decode_line fields) ls) (decode_line fields line ∷ [])
 
-pub good-ok : (fields : List Field) (ls : List (List ℕ)) (line : List ℕ) (row : List Datum) → decode_line fields line ≡ Ok row → good_of fields (ls ++ line ∷ []) ≡ good_of fields ls ++ row ∷ []
-good-ok fields ls line row e = good-more fields ls line ∙ ap (λ t. good_of fields ls ++ filter_map result_ok (t ∷ [])) e
+pub valid-ok : (fields : List Field) (ls : List (List ℕ)) (line : List ℕ) (row : List Datum) → decode_line fields line ≡ Ok row → valid_of fields (ls ++ line ∷ []) ≡ valid_of fields ls ++ row ∷ []
+valid-ok fields ls line row e = valid-more fields ls line ∙ ap (λ t. valid_of fields ls ++ filter_map result_ok (t ∷ [])) e
 
-pub good-err : (fields : List Field) (ls : List (List ℕ)) (line : List ℕ) (fault : LineFault) → decode_line fields line ≡ Err fault → good_of fields (ls ++ line ∷ []) ≡ good_of fields ls
-good-err fields ls line fault e = good-more fields ls line ∙ ap (λ t. good_of fields ls ++ filter_map result_ok (t ∷ [])) e ∙ append-nil (good_of fields ls)
+pub valid-err : (fields : List Field) (ls : List (List ℕ)) (line : List ℕ) (fault : LineFault) → decode_line fields line ≡ Err fault → valid_of fields (ls ++ line ∷ []) ≡ valid_of fields ls
+valid-err fields ls line fault e = valid-more fields ls line ∙ ap (λ t. valid_of fields ls ++ filter_map result_ok (t ∷ [])) e ∙ append-nil (valid_of fields ls)
 
 pub enumerate-append : {X : Type 0} (n : ℕ) (xs ys : List X) → enumerate_from n (xs ++ ys) ≡ enumerate_from n xs ++ enumerate_from (n + length xs) ys
 enumerate-append n [] ys = ap (λ m. enumerate_from m ys) (let e : n ≡ n + 0 = omega arith in e)
@@ -90,8 +90,8 @@ kept-le : {A B : Type 0} (f : A → Option B) (xs : List A) → length (filter_m
 kept-le f [] = omega arith
 kept-le f (x ∷ xs) = cons-le (f x) (filter_map f xs) (length xs) (kept-le f xs)
 
-pub length-good_of : (fields : List Field) (ls : List (List ℕ)) → length (good_of fields ls) ≤ length ls
-length-good_of fields ls = let h = kept-le result_ok (map (decode_line fields) ls) in let long = length-map ls (decode_line fields) in omega (arith, h, long)
+pub length-valid_of : (fields : List Field) (ls : List (List ℕ)) → length (valid_of fields ls) ≤ length ls
+length-valid_of fields ls = let h = kept-le result_ok (map (decode_line fields) ls) in let long = length-map ls (decode_line fields) in omega (arith, h, long)
 
 -- ---- the records that are kept
 
@@ -156,8 +156,8 @@ pub read-ok : (fields : List Field) (q : TreeForm) (before : List Row) (old new 
     → HasRead fields q before (record { table = new.table; lines = new.lines + 1; refused = new.refused; marks = new.marks }) (seen ++ line ∷ [])
 read-ok fields q before old new seen line row e h added same stay = record {
   table = subst (λ (rows : List (List Datum)). IsTableOf (grouping_places fields q) (aggregate_functions fields q) new.table (kept fields q rows))
-      (append_assoc before (good_of fields seen) (row ∷ []) ∙ ap (λ rows. before ++ rows) (sym (good-ok fields seen line row e)))
-      (added (before ++ good_of fields seen) h.table);
+      (append_assoc before (valid_of fields seen) (row ∷ []) ∙ ap (λ rows. before ++ rows) (sym (valid-ok fields seen line row e)))
+      (added (before ++ valid_of fields seen) h.table);
   lines = (let a = h.lines in let b = length-append seen (line ∷ []) in omega (arith, same, a, b));
   refused = stay ∙ h.refused ∙ sym (refused-ok fields seen line row e);
 }
@@ -166,8 +166,8 @@ pub read-err : (fields : List Field) (q : TreeForm) (before : List Row) (old new
     → new.table ≡ old.table → new.lines ≡ old.lines → new.refused.items ≡ old.refused.items ++ (old.lines + 1, fault) ∷ []
     → HasRead fields q before (record { table = new.table; lines = new.lines + 1; refused = new.refused; marks = new.marks }) (seen ++ line ∷ [])
 read-err fields q before old new seen line fault e h stay same more = record {
-  table = subst (λ (t : Contents). IsTableOf (grouping_places fields q) (aggregate_functions fields q) t (kept fields q (before ++ good_of fields (seen ++ line ∷ [])))) (sym stay)
-      (subst (λ (rows : List (List Datum)). IsTableOf (grouping_places fields q) (aggregate_functions fields q) old.table (kept fields q (before ++ rows))) (sym (good-err fields seen line fault e)) h.table);
+  table = subst (λ (t : Contents). IsTableOf (grouping_places fields q) (aggregate_functions fields q) t (kept fields q (before ++ valid_of fields (seen ++ line ∷ [])))) (sym stay)
+      (subst (λ (rows : List (List Datum)). IsTableOf (grouping_places fields q) (aggregate_functions fields q) old.table (kept fields q (before ++ rows))) (sym (valid-err fields seen line fault e)) h.table);
   lines = (let a = h.lines in let b = length-append seen (line ∷ []) in omega (arith, same, a, b));
   refused = more ∙ ap (λ rs. rs ++ (old.lines + 1, fault) ∷ []) h.refused ∙ ap (λ n. refused_of fields seen ++ (n + 1, fault) ∷ []) h.lines ∙ sym (refused-err fields seen line fault e);
 }
@@ -175,12 +175,12 @@ read-err fields q before old new seen line fault e h stay same more = record {
 -- ---- records behind those of earlier pieces
 
 -- the records that are kept, of earlier ones and of these lines, are no more than the earlier ones and the lines
-pub length-kept_behind : (fields : List Field) (q : TreeForm) (before : List Row) (ls : List (List ℕ)) → length (kept fields q (before ++ good_of fields ls)) ≤ length before + length ls
+pub length-kept_behind : (fields : List Field) (q : TreeForm) (before : List Row) (ls : List (List ℕ)) → length (kept fields q (before ++ valid_of fields ls)) ≤ length before + length ls
 length-kept_behind fields q before ls =
-    let few = length-kept fields q (before ++ good_of fields ls) in
-    let both = length-append before (good_of fields ls) in
-    let good = length-good_of fields ls in
-    omega (arith, few, both, good)
+    let few = length-kept fields q (before ++ valid_of fields ls) in
+    let both = length-append before (valid_of fields ls) in
+    let valid = length-valid_of fields ls in
+    omega (arith, few, both, valid)
 
 -- what is noted of lines that have been read
 pub well-numbered : (fields : List Field) (n : ℕ) (refused : List (ℕ × LineFault)) (ls : List (List ℕ)) → n ≡ length ls → refused ≡ refused_of fields ls → All (λ line. line.0 ≤ n) refused

@@ -7,7 +7,7 @@ use Rattle.semantics.specs.Records.{Fits, valid_records, decode_line}
 use Rattle.semantics.specs.Columns.{Field}
 use Rattle.semantics.specs.declared.line_fault.LineFault.{LineFault}
 use Rattle.semantics.specs.Lines.{lines}
-use Rattle.lines.proofs.Outcomes.{taken-fits}
+use Rattle.lines.proofs.Outcomes.{decoded-fits}
 use Rattle.semantics.specs.Syntax.{TreeForm}
 use Rattle.semantics.specs.Conditions.{is_kept, kept}
 use Rattle.tables.specs.Pieces.{IndexedPiece, records_of}
@@ -20,14 +20,14 @@ ok-is : (a : Outcome) (r : List Datum) → result_ok a ≡ Some r → a ≡ Ok r
 ok-is (Ok x) r e = cc
 ok-is (Err n) r e = cc
 
-good-fits : (fields : List Field) (input : List ℕ) → AllByRecursion (Fits fields) (valid_records fields input)
-good-fits fields input =
+valid-fits : (fields : List Field) (input : List ℕ) → AllByRecursion (Fits fields) (valid_records fields input)
+valid-fits fields input =
     all-filter_map (Fits fields) result_ok (map (decode_line fields) (lines input))
     (all-map (λ (a : Outcome). (r : List Datum) → result_ok a ≡ Some r → Fits fields r) (decode_line fields) (lines input)
-    (all-everywhere _ (lines input) (λ line r e. taken-fits fields line r (ok-is (decode_line fields line) r e))))
+    (all-everywhere _ (lines input) (λ line r e. decoded-fits fields line r (ok-is (decode_line fields line) r e))))
 
 pub kept-fits : (fields : List Field) (q : TreeForm) (pieces : List IndexedPiece)
     → AllByRecursion (Fits fields) (kept fields q (records_of fields pieces))
 kept-fits fields q pieces =
     all-filter (Fits fields) (is_kept fields q) (records_of fields pieces)
-    (all-flat_map (Fits fields) (λ piece. valid_records fields piece.bytes) pieces (λ piece. good-fits fields piece.bytes))
+    (all-flat_map (Fits fields) (λ piece. valid_records fields piece.bytes) pieces (λ piece. valid-fits fields piece.bytes))

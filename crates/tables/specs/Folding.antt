@@ -15,9 +15,9 @@ use Rattle.query_plan.specs.Planned.{PlannedQuery}
 use Rattle.semantics.specs.Found.{aggregate_functions}
 use Rattle.tables.specs.declared.folding.Folding.{Folding}
 
--- the good records of these lines
-abbrev pub good_of : List Field → List (List ℕ) → List Row
-good_of fields ls = filter_map result_ok (map (decode_line fields) ls)
+-- the valid records of these lines
+abbrev pub valid_of : List Field → List (List ℕ) → List Row
+valid_of fields ls = filter_map result_ok (map (decode_line fields) ls)
 
 -- the refused ones of these lines, numbered from 1
 abbrev pub refused_of : List Field → List (List ℕ) → List (ℕ × LineFault)
@@ -25,7 +25,7 @@ refused_of fields ls = filter_map (λ p. option_map (λ fault. (p.0, fault)) (re
 
 -- behind the records of earlier pieces these lines have been read
 pub record HasRead (fields : List Field) (q : TreeForm) (before : List Row) (folding : Folding) (ls : List (List ℕ)) : Type 0 where
-  pub table : IsTableOf (grouping_places fields q) (aggregate_functions fields q) folding.table (kept fields q (before ++ good_of fields ls))
+  pub table : IsTableOf (grouping_places fields q) (aggregate_functions fields q) folding.table (kept fields q (before ++ valid_of fields ls))
   pub lines : folding.lines ≡ length ls
   pub refused : folding.refused.items ≡ refused_of fields ls
 

@@ -2,7 +2,7 @@
 use Rattle.std.specs.Prelude.{ℕ, List, []}
 use Rattle.lines.specs.declared.pieces.Piece.{Piece}
 use Rattle.query_plan.specs.Planned.{PlannedQuery}
-use Rattle.tables.specs.Means.{IsMean, Denotation, mean, mean_at, mean_from}
+use Rattle.tables.specs.Denotations.{IsDenotation, Denotation, denotation, denotation_at, denotation_from}
 use Rattle.tables.specs.declared.job.Job.{Job}
 use Rattle.tables.specs.declared.job.JobBy.{JobBy}
 use Rattle.tables.specs.declared.joining.Joiner as Joiner
@@ -20,20 +20,20 @@ abbrev pub pieces_of_job : Job → List Piece
 pieces_of_job job = job.pieces.now
 
 -- some pieces come to this under the job's plan
-abbrev pub IsMeanUnder : Job → Denotation → Type 0
-IsMeanUnder job m = IsMean (plan_of_job job).fields (plan_of_job job).query m
+abbrev pub IsDenotationUnder : Job → Denotation → Type 0
+IsDenotationUnder job m = IsDenotation (plan_of_job job).fields (plan_of_job job).query m
 
 -- what no pieces come to under the job's plan
-abbrev pub no_mean : Job → Denotation
-no_mean job = mean (plan_of_job job).fields (plan_of_job job).query []
+abbrev pub no_denotation : Job → Denotation
+no_denotation job = denotation (plan_of_job job).fields (plan_of_job job).query []
 
 -- what the job's piece with this index comes to
-abbrev pub mean_of_piece : Job → ℕ → Denotation
-mean_of_piece job index = mean_at (plan_of_job job).fields (plan_of_job job).query (input_of_job job) (pieces_of_job job) index
+abbrev pub denotation_of_piece : Job → ℕ → Denotation
+denotation_of_piece job index = denotation_at (plan_of_job job).fields (plan_of_job job).query (input_of_job job) (pieces_of_job job) index
 
 -- what the job's piece comes to that comes so many behind its first one, where that has the index `first`
-abbrev pub mean_of_piece_from : ℕ → Job → ℕ → Denotation
-mean_of_piece_from first job place = mean_from (plan_of_job job).fields (plan_of_job job).query first (input_of_job job) (pieces_of_job job) place
+abbrev pub denotation_of_piece_from : ℕ → Job → ℕ → Denotation
+denotation_of_piece_from first job place = denotation_from (plan_of_job job).fields (plan_of_job job).query first (input_of_job job) (pieces_of_job job) place
 
 -- ---- a job whose results a joiner merges
 

@@ -23,7 +23,7 @@ use Rattle.tables_groups.proofs.AnyOrder.{options-flip}
 use Rattle.pool.specs.Lawful.{Lawful}
 use Rattle.semantics.specs.Found.{aggregate_functions}
 use Rattle.tables.specs.Functions.{filter_texts}
-use Rattle.tables.specs.Means.{IsMean, both, group_of, mean, mean_at, mean_from, piece_at, piece_from}
+use Rattle.tables.specs.Denotations.{IsDenotation, both, group_of, denotation, denotation_at, denotation_from, piece_at, piece_from}
 use Rattle.tables.specs.Notes.{note_of}
 use Rattle.tables.specs.Pieces.{IndexedPiece, all_lines, records_of, refused_within}
 
@@ -51,8 +51,8 @@ few-faults n (Err fault ∷ rs) = let h = few-faults (n + 1) rs in omega (arith,
 
 -- ---- pieces joined
 
-pub mean-append : (fields : List Field) (q : TreeForm) (xs ys : List IndexedPiece) → mean fields q (xs ++ ys) ≡ both (mean fields q xs) (mean fields q ys)
-mean-append fields q xs ys =
+pub denotation-append : (fields : List Field) (q : TreeForm) (xs ys : List IndexedPiece) → denotation fields q (xs ++ ys) ≡ both (denotation fields q xs) (denotation fields q ys)
+denotation-append fields q xs ys =
     let fs = aggregate_functions fields q in
     let grouping = grouping_places fields q in
     let rows : kept fields q (records_of fields (xs ++ ys)) ≡ kept fields q (records_of fields xs) ++ kept fields q (records_of fields ys) =
@@ -77,8 +77,8 @@ mean-append fields q xs ys =
 plus-flip : (m n : ℕ) → m + n ≡ n + m
 plus-flip m n = omega arith
 
-mean-flip : (fields : List Field) (q : TreeForm) (xs ys : List IndexedPiece) → both (mean fields q xs) (mean fields q ys) ≡ both (mean fields q ys) (mean fields q xs)
-mean-flip fields q xs ys =
+denotation-flip : (fields : List Field) (q : TreeForm) (xs ys : List IndexedPiece) → both (denotation fields q xs) (denotation fields q ys) ≡ both (denotation fields q ys) (denotation fields q xs)
+denotation-flip fields q xs ys =
     let grouping = grouping_places fields q in
     let fs = aggregate_functions fields q in
     let first = kept fields q (records_of fields xs) in
@@ -108,17 +108,17 @@ few-refused fields (p ∷ pieces) =
 
 -- whatever the pieces are, by their numbers
 pub pieces_lawful : (fields : List Field) (q : TreeForm) (piece : ℕ → IndexedPiece)
-    → Lawful (IsMean fields q) (mean fields q []) both (λ i. mean fields q (piece i ∷ [])) (λ m. m.refused) (λ m. m.lines)
+    → Lawful (IsDenotation fields q) (denotation fields q []) both (λ i. denotation fields q (piece i ∷ [])) (λ m. m.refused) (λ m. m.lines)
 pieces_lawful fields q piece = record {
   unit_fits = ([], refl);
   piece_fits = λ i. (piece i ∷ [], refl);
-  combined_fits = λ a b x y. (x.0 ++ y.0, ap (λ m. both m b) x.1 ∙ ap (both (mean fields q x.0)) y.1 ∙ sym (mean-append fields q x.0 y.0));
+  combined_fits = λ a b x y. (x.0 ++ y.0, ap (λ m. both m b) x.1 ∙ ap (both (denotation fields q x.0)) y.1 ∙ sym (denotation-append fields q x.0 y.0));
   associative = λ a b c x y z. rw (x.1, y.1, z.1) (
-      ap (λ m. both m (mean fields q z.0)) (sym (mean-append fields q x.0 y.0)) ∙ sym (mean-append fields q (x.0 ++ y.0) z.0)
-      ∙ ap (mean fields q) (append_assoc x.0 y.0 z.0)
-      ∙ mean-append fields q x.0 (y.0 ++ z.0) ∙ ap (both (mean fields q x.0)) (mean-append fields q y.0 z.0));
-  commutative = λ a b x y. rw (x.1, y.1) (mean-flip fields q x.0 y.0);
-  unit_combined = λ a x. rw (x.1) (sym (mean-append fields q [] x.0));
+      ap (λ m. both m (denotation fields q z.0)) (sym (denotation-append fields q x.0 y.0)) ∙ sym (denotation-append fields q (x.0 ++ y.0) z.0)
+      ∙ ap (denotation fields q) (append_assoc x.0 y.0 z.0)
+      ∙ denotation-append fields q x.0 (y.0 ++ z.0) ∙ ap (both (denotation fields q x.0)) (denotation-append fields q y.0 z.0));
+  commutative = λ a b x y. rw (x.1, y.1) (denotation-flip fields q x.0 y.0);
+  unit_combined = λ a x. rw (x.1) (sym (denotation-append fields q [] x.0));
   unit_weight = refl;
   weight_adds = λ a b x y. refl;
   unit_load = refl;
@@ -126,11 +126,11 @@ pieces_lawful fields q piece = record {
   weight_at_most_load = λ a x. rw (x.1) (few-refused fields x.0);
 }
 
-pub means_lawful : (fields : List Field) (q : TreeForm) (input : List ℕ) (pieces : List Piece)
-    → Lawful (IsMean fields q) (mean fields q []) both (mean_at fields q input pieces) (λ m. m.refused) (λ m. m.lines)
-means_lawful fields q input pieces = pieces_lawful fields q (piece_at input pieces)
+pub denotations_lawful : (fields : List Field) (q : TreeForm) (input : List ℕ) (pieces : List Piece)
+    → Lawful (IsDenotation fields q) (denotation fields q []) both (denotation_at fields q input pieces) (λ m. m.refused) (λ m. m.lines)
+denotations_lawful fields q input pieces = pieces_lawful fields q (piece_at input pieces)
 
 -- the pieces of the rest of an input
-pub means_lawful_from : (fields : List Field) (q : TreeForm) (first : ℕ) (rest : List ℕ) (pieces : List Piece)
-    → Lawful (IsMean fields q) (mean fields q []) both (mean_from fields q first rest pieces) (λ m. m.refused) (λ m. m.lines)
-means_lawful_from fields q first rest pieces = pieces_lawful fields q (piece_from first rest pieces)
+pub denotations_lawful_from : (fields : List Field) (q : TreeForm) (first : ℕ) (rest : List ℕ) (pieces : List Piece)
+    → Lawful (IsDenotation fields q) (denotation fields q []) both (denotation_from fields q first rest pieces) (λ m. m.refused) (λ m. m.lines)
+denotations_lawful_from fields q first rest pieces = pieces_lawful fields q (piece_from first rest pieces)

@@ -7,7 +7,7 @@ use Rattle.semantics.specs.Columns.{Field}
 use Rattle.semantics.specs.declared.line_fault.LineFault.{LineFault}
 use Rattle.semantics.specs.Lines.{lines}
 use Rattle.semantics.specs.Records.{refused}
-use Rattle.tables.specs.declared.note.PieceRefusals.{PieceRefusals}
+use Rattle.tables.specs.declared.piece_refusals.PieceRefusals.{PieceRefusals}
 use Rattle.tables_groups.specs.Bags.{SameBag}
 use Rattle.tables.specs.Pieces.{IndexedPiece}
 

@@ -16,7 +16,7 @@ use Rattle.tables.specs.Pieces.{IndexedPiece, IsCutInto, all_lines, records_of, 
 use Rattle.tables.specs.States.{GroupsState, PartialState}
 
 -- Under a schema and a query a partial result stands for pieces, in whatever order: it has the query's grouping sets, set functions and filters, the table of all
--- grouping columns over the good records of all lines of the pieces that are kept, the numbers of all lines and of all refused lines, and of each piece its note.
+-- grouping columns over the valid records of all lines of the pieces that are kept, the numbers of all lines and of all refused lines, and of each piece its note.
 pub record StandsFor (fields : List Field) (q : TreeForm) (partial : PartialState) (pieces : List IndexedPiece) : Type 0 where
   pub sets : partial.sets ≡ sets_of fields q
   pub functions : partial.functions ≡ indexed_functions fields q
@@ -55,7 +55,7 @@ pub record HaveOneShape (partial other : PartialState) : Type 0 where
 abbrev pub GivesGroups : List Field → TreeForm → GroupsState → List Row → Type 0
 GivesGroups fields q groups rows = SameBag groups.found (query_found fields q rows)
 
--- the rows are those of the groups of the good records of an input, and the refused lines are its refused lines
+-- the rows are those of the groups of the valid records of an input, and the refused lines are its refused lines
 pub record IsResultOf (fields : List Field) (q : TreeForm) (groups : GroupsState) (input : List ℕ) : Type 0 where
   pub rows : GivesGroups fields q groups (valid_records fields input)
   pub refused : groups.refused ≡ refused fields input

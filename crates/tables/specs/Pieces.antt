@@ -23,7 +23,7 @@ joined_bytes pieces = flat_map (λ piece. piece.bytes) pieces
 abbrev pub all_lines : List IndexedPiece → List (List ℕ)
 all_lines pieces = flat_map (λ piece. lines piece.bytes) pieces
 
--- the good records of all lines of the pieces
+-- the valid records of all lines of the pieces
 abbrev pub records_of : List Field → List IndexedPiece → List Row
 records_of fields pieces = flat_map (λ piece. valid_records fields piece.bytes) pieces
 

@@ -14,7 +14,7 @@ use values::{Record, Truth};
 /// The lines of a piece, as far as they have been read.
 #[derive(Drop)]
 pub(crate) struct Folding {
-    /// The table of the good records that are kept, by all grouping columns.
+    /// The table of the valid records that are kept, by all grouping columns.
     pub(crate) table: Table,
     /// The number of lines.
     pub(crate) lines: u64,

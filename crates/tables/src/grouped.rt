@@ -11,8 +11,7 @@ use std::thread;
 use std::thread::Threads;
 use tables_groups::Group;
 
-/// How many groups there are at least whose memory several threads give back: that of fewer is given back sooner than a
-/// thread is started.
+/// The least number of groups whose memory several threads give back: that of fewer is back before a thread starts.
 const PARALLEL_MIN_GROUPS: usize = 4_096;
 
 /// What the grouping sets of a query find in an input: their groups, and the refused lines.

@@ -1,7 +1,7 @@
 //! The pieces of an input as a work for a pool.
 ghost use Rattle.std.specs.Prelude.{◌≡◌, ◌≤◌, ◌<◌, ◌+◌, ◌^◌, min, All, length};
 ghost use Rattle.std.proofs.Props.{props};
-ghost use Rattle.tables.specs.Means.{piece_at};
+ghost use Rattle.tables.specs.Denotations.{piece_at};
 
 use crate::joining::Joiner;
 use crate::partial::Partial;
@@ -68,9 +68,9 @@ impl<'a> Job<'a> {
 }
 
 impl<'a> Work for Job<'a> {
-    ghost use Rattle.tables.specs.Jobs.{IsMeanUnder, mean_of_piece, no_mean, input_of_job, pieces_of_job, plan_of_job};
-    ghost use Rattle.tables.specs.Means.{Denotation, both, meaning};
-    ghost use Rattle.tables.specs.Laws.{means_lawful};
+    ghost use Rattle.tables.specs.Jobs.{IsDenotationUnder, denotation_of_piece, no_denotation, input_of_job, pieces_of_job, plan_of_job};
+    ghost use Rattle.tables.specs.Denotations.{Denotation, both, meaning};
+    ghost use Rattle.tables.specs.Laws.{denotations_lawful};
 
     type Part = Partial;
 
@@ -78,11 +78,11 @@ impl<'a> Work for Job<'a> {
 
     ghost meaning = { λ part. meaning part };
 
-    ghost fits = { λ job m. IsMeanUnder job m };
+    ghost fits = { λ job m. IsDenotationUnder job m };
 
-    ghost unit_meaning = { λ job. no_mean job };
+    ghost unit_meaning = { λ job. no_denotation job };
 
-    ghost piece_meaning = { λ job i. mean_of_piece job i };
+    ghost piece_meaning = { λ job i. denotation_of_piece job i };
 
     ghost combined = { λ job a b. both a b };
 
@@ -90,7 +90,7 @@ impl<'a> Work for Job<'a> {
 
     ghost load_of = { λ job m. m.lines };
 
-    ghost lawful = { λ job. means_lawful (plan_of_job job).fields (plan_of_job job).query
+    ghost lawful = { λ job. denotations_lawful (plan_of_job job).fields (plan_of_job job).query
         (input_of_job job) (pieces_of_job job) };
 
     fn unit(&self) -> Result<Partial, AllocError> {
@@ -153,9 +153,9 @@ impl<'a, J: Joiner> JobBy<'a, J> {
 }
 
 impl<'a, J: Joiner> Work for JobBy<'a, J> {
-    ghost use Rattle.tables.specs.Jobs.{IsMeanUnder, mean_of_piece_from, no_mean, first_of_job, input_of_job, joined_job, pieces_of_job, plan_of_job};
-    ghost use Rattle.tables.specs.Means.{Denotation, both, meaning};
-    ghost use Rattle.tables.specs.Laws.{means_lawful_from};
+    ghost use Rattle.tables.specs.Jobs.{IsDenotationUnder, denotation_of_piece_from, no_denotation, first_of_job, input_of_job, joined_job, pieces_of_job, plan_of_job};
+    ghost use Rattle.tables.specs.Denotations.{Denotation, both, meaning};
+    ghost use Rattle.tables.specs.Laws.{denotations_lawful_from};
 
     type Part = Partial;
 
@@ -163,11 +163,11 @@ impl<'a, J: Joiner> Work for JobBy<'a, J> {
 
     ghost meaning = { λ part. meaning part };
 
-    ghost fits = { λ it m. IsMeanUnder (joined_job it) m };
+    ghost fits = { λ it m. IsDenotationUnder (joined_job it) m };
 
-    ghost unit_meaning = { λ it. no_mean (joined_job it) };
+    ghost unit_meaning = { λ it. no_denotation (joined_job it) };
 
-    ghost piece_meaning = { λ it i. mean_of_piece_from (first_of_job it) (joined_job it) i };
+    ghost piece_meaning = { λ it i. denotation_of_piece_from (first_of_job it) (joined_job it) i };
 
     ghost combined = { λ it a b. both a b };
 
@@ -175,7 +175,8 @@ impl<'a, J: Joiner> Work for JobBy<'a, J> {
 
     ghost load_of = { λ it m. m.lines };
 
-    ghost lawful = { λ it. means_lawful_from (plan_of_job (joined_job it)).fields (plan_of_job (joined_job it)).query
+    ghost lawful = { λ it. denotations_lawful_from
+        (plan_of_job (joined_job it)).fields (plan_of_job (joined_job it)).query
         (first_of_job it) (input_of_job (joined_job it)) (pieces_of_job (joined_job it)) };
 
     fn unit(&self) -> Result<Partial, AllocError> {

@@ -10,7 +10,7 @@ ghost use Rattle.tables.specs.declared.grouped.Groups.{Groups};
 ghost use Rattle.tables.specs.declared.partial.Partial.{Partial};
 ghost use Rattle.tables.specs.Members.{HasEachRecordOnce};
 ghost use Rattle.tables.specs.Partials.{GivesGroups, StandsFor};
-ghost use Rattle.tables.specs.Means.{both, indexed, indexed_from, mean, mean_at, mean_from, meaning};
+ghost use Rattle.tables.specs.Denotations.{both, indexed, indexed_from, denotation, denotation_at, denotation_from, meaning};
 ghost use Rattle.tables.specs.Pieces.{IndexedPiece, all_lines, refused_within};
 ghost use Rattle.semantics.specs.Found.{query_found};
 
@@ -38,30 +38,38 @@ pub fn members_law()
     tables_groups::members_law();
 }
 
-/// A law, with no work to do: a result stands for pieces exactly where it means what they come to.
+/// A law, with no work to do: a result stands for pieces exactly where its meaning is their denotation.
 pub fn meaning_law()
     ensures { (fields : List Field) (q : TreeForm) (partial : Partial) (pieces : List IndexedPiece)
-        → StandsFor fields q partial pieces ↔ (meaning partial ≡ mean fields q pieces) }
+        → StandsFor fields q partial pieces ↔ (meaning partial ≡ denotation fields q pieces) }
 {}
 
 /// A law, with no work to do: what means the total of a job's pieces stands for all of them, and the weights and
 /// the loads of these are the numbers of their refused lines and of their lines.
 pub fn job_law()
     ensures whole { (fields : List Field) (q : TreeForm) (input : List ℕ) (pieces : List Piece) (partial : Partial)
-        → meaning partial ≡ total (mean fields q []) both (mean_at fields q input pieces) (length pieces)
+        → meaning partial
+        ≡ total (denotation fields q []) both (denotation_at fields q input pieces) (length pieces)
         → StandsFor fields q partial (indexed input pieces) }
     // So does what means the total of pieces with indexes from a first one on: of all pieces of a job by a joiner.
     ensures whole_by { (fields : List Field) (q : TreeForm) (first : ℕ) (input : List ℕ) (pieces : List Piece) (partial : Partial)
         → first + length pieces < 2 ^ 32
-        → meaning partial ≡ total (mean fields q []) both (mean_from fields q first input pieces) (length pieces)
+        → meaning partial
+        ≡ total (denotation fields q []) both
+        (denotation_from fields q first input pieces) (length pieces)
         → StandsFor fields q partial (indexed_from first input pieces) }
     // So does what a front comes to, and behind it the pieces of the rest, with indexes from a first one on.
     ensures behind { (fields : List Field) (q : TreeForm) (front : List IndexedPiece) (first : ℕ) (rest : List ℕ) (pieces : List Piece) (partial : Partial)
         → first + length pieces < 2 ^ 32
-        → meaning partial ≡ both (mean fields q front) (total (mean fields q []) both (mean_from fields q first rest pieces) (length pieces))
+        → meaning partial
+        ≡ both (denotation fields q front)
+        (total (denotation fields q []) both
+        (denotation_from fields q first rest pieces) (length pieces))
         → StandsFor fields q partial (front ++ indexed_from first rest pieces) }
     ensures refused { (fields : List Field) (q : TreeForm) (input : List ℕ) (pieces : List Piece)
-        → sum_below (λ i. (mean_at fields q input pieces i).refused) (length pieces) ≡ length (refused_within fields (indexed input pieces)) }
+        → sum_below (λ i. (denotation_at fields q input pieces i).refused) (length pieces)
+        ≡ length (refused_within fields (indexed input pieces)) }
     ensures lines { (fields : List Field) (q : TreeForm) (input : List ℕ) (pieces : List Piece)
-        → sum_below (λ i. (mean_at fields q input pieces i).lines) (length pieces) ≡ length (all_lines (indexed input pieces)) }
+        → sum_below (λ i. (denotation_at fields q input pieces i).lines) (length pieces)
+        ≡ length (all_lines (indexed input pieces)) }
 {}

@@ -3,13 +3,16 @@ ghost use Rattle.std.specs.Prelude.{◌≡◌, ◌+◌, ◌<◌, ◌++◌, ◌^�
 ghost use Rattle.std.specs.List.Sorted.{IsPermutation, IsNonDecreasingBy};
 ghost use Rattle.tables.specs.Notes.{AreLinesBehind, AreLinesOf, IsWellNumbered, lines_noted, notes_in, numbered_from};
 
-use crate::note::PieceRefusals;
+use crate::piece_refusals::PieceRefusals;
 use lines::LineFault;
 use std::alloc::{AllocError, Global};
 
 /// The refused lines of the pieces by ascending index, each numbered by its place within its piece
 /// and the line counts of the pieces before.
-pub(crate) fn number(alloc: Global, notes: Vec<PieceRefusals>) -> Result<Vec<(u64, LineFault)>, AllocError>
+pub(crate) fn number(
+    alloc: Global,
+    notes: Vec<PieceRefusals>,
+) -> Result<Vec<(u64, LineFault)>, AllocError>
     requires few { lines_noted (notes_in notes) < 2 ^ 63 }
     requires numbered { All IsWellNumbered (notes_in notes) }
     ensures { IfOk result (λ lines. AreLinesOf (notes_in notes) lines.items) }
@@ -44,7 +47,10 @@ fn sorted(mut notes: Vec<PieceRefusals>) -> Vec<PieceRefusals>
 
 /// The refused lines of the pieces in the order of the notes, each numbered by its place within its
 /// piece and the line counts of the pieces before. Those of the first piece have these numbers already.
-fn number_in_order(alloc: Global, mut notes: Vec<PieceRefusals>) -> Result<Vec<(u64, LineFault)>, AllocError>
+fn number_in_order(
+    alloc: Global,
+    mut notes: Vec<PieceRefusals>,
+) -> Result<Vec<(u64, LineFault)>, AllocError>
     requires few { lines_noted (notes_in notes) < 2 ^ 63 }
     requires numbered { All IsWellNumbered (notes_in notes) }
     ensures { IfOk result (λ lines. lines.items ≡ numbered_from 0 (notes_in notes)) }

@@ -1,6 +1,6 @@
 //! Partial results: what is known of some pieces of an input.
 ghost use Rattle.std.specs.Prelude.{◌≡◌, ◌<◌, ◌≤◌, ◌^◌, ◌∷◌, [], All, IfOk, length};
-ghost use Rattle.tables.specs.declared.note.PieceRefusals.{PieceRefusals};
+ghost use Rattle.tables.specs.declared.piece_refusals.PieceRefusals.{PieceRefusals};
 ghost use Rattle.std.proofs.Props.{props};
 ghost use Rattle.tables.specs.Notes.{IsWellNumbered, lines_noted, notes_in};
 ghost use Rattle.tables_groups.specs.Inside.Table.{AreGroupsWithin};
@@ -9,8 +9,8 @@ use crate::folding::{Folding, empty_table, read_onto};
 use crate::grouped::Groups;
 use crate::joining::{CallingThread, Joiner};
 use crate::laws::members_law;
-use crate::note::PieceRefusals;
 use crate::numbering::{number, number_behind, put_behind};
+use crate::piece_refusals::PieceRefusals;
 use crate::rows::rows_of;
 use crate::shape::Shape;
 use lines::LineFault;
@@ -19,7 +19,7 @@ use std::alloc::{AllocError, Global};
 use std::marker::Model;
 use tables_groups::{Group, Table, roll_law};
 
-/// The result of a query over some pieces of an input: the groups of their good records that are kept, the counts
+/// The result of a query over some pieces of an input: the groups of their valid records that are kept, the counts
 /// of their lines, and their refused lines.
 ///
 /// Partial results of all pieces, merged in any order, give the result of the whole input.

@@ -9,7 +9,7 @@ use values::Value;
 /// The number of shards of a table that several hands put to another one. Any other table has one.
 pub(crate) const SHARDS: usize = 4;
 
-/// How many bytes at the end of a text tell its shard.
+/// The length of the suffix of a text that is hashed.
 const HASHED_SUFFIX_LEN: usize = 4;
 
 /// The number of the shard that keeps a key among so many of them. Where there is one, the key is not looked at.
@@ -29,7 +29,7 @@ pub(crate) fn place_of(key: &[Value], count: usize) -> usize
     (hash_step(digest, 0) * count as u64 / 4_294_967_296) as usize
 }
 
-/// A number with a value mixed into it.
+/// The hash with a value hashed into it.
 fn with_value(digest: u64, value: &Value) -> u64
     requires { digest < 2 ^ 32 }
     ensures value { result ≡ with_value digest (datum_of value.now) }
@@ -43,7 +43,7 @@ fn with_value(digest: u64, value: &Value) -> u64
     }
 }
 
-/// A number with the last bytes of a text mixed into it.
+/// The hash with the suffix of a text hashed into it.
 fn with_text(digest: u64, text: &[u8]) -> u64
     requires { digest < 2 ^ 32 }
     ensures value { result ≡ fold hash_step digest (last_bytes text.now) }
@@ -56,7 +56,7 @@ fn with_text(digest: u64, text: &[u8]) -> u64
     digest
 }
 
-/// A number with one more number mixed into it.
+/// One step of the hash: one more number is hashed into it.
 fn hash_step(digest: u64, number: u64) -> u64
     requires digest { digest < 2 ^ 32 }
     requires number { number < 2 ^ 32 }

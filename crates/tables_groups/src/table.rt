@@ -19,8 +19,7 @@ use std::mem;
 use std::thread::Threads;
 use values::Value;
 
-/// How many groups a table has at least that several threads put to another one, or finish: fewer are put there sooner than
-/// a thread is started.
+/// The least number of groups that several threads merge or finish: fewer are done sooner than a thread is started.
 const PARALLEL_MIN_GROUPS: usize = 4_096;
 
 /// The groups of one grouping set over the records that were taken so far, each by its key.

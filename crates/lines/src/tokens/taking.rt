@@ -8,7 +8,7 @@ ghost use Rattle.lines.specs.Meant.{AreMembers, IsValue};
 ghost use Rattle.semantics.specs.Records.{data_taken, datum_taken};
 
 use crate::tokens::numerals::whole_number;
-use crate::tokens::passing::skip_value;
+use crate::tokens::skipping::skip_value;
 use crate::tokens::spare::Spare;
 use json::{Reader, Token};
 use values::{Column, Kind, Value};

@@ -1,4 +1,4 @@
--- The shards of a table. Each keeps the groups of some keys, and which these are is told by a number that is mixed of a key's values.
+-- The shards of a table. Each keeps the groups of some keys, and which these are is told by a hash of a key's values.
 use Rattle.std.specs.Prelude.{◌≡◌, ◌+◌, ◌-◌, ◌*◌, ◌/◌, ◌%◌, ◌<◌, ℕ, cond, List, IfSome, length, drop, get_or, unsigned_abs}
 use Rattle.std.specs.List.{fold, flat_map}
 use Rattle.std.specs.FinMap as fin
@@ -13,7 +13,7 @@ use Rattle.tables_groups.specs.declared.shard.Shard.{Shard}
 
 -- ---- which shard keeps a key
 
--- a number of 32 bits with one more number mixed into it: multiplied by the one that parts 2^32 in the golden ratio, as multiplicative hashing does
+-- one step of the hash: a number of 32 bits with one more number hashed into it. It is multiplied by the one that parts 2^32 in the golden ratio, as multiplicative hashing does
 abbrev pub hash_step : ℕ → ℕ → ℕ
 hash_step digest n = (digest * 2654435761 + n) % 4294967296
 
@@ -21,18 +21,18 @@ hash_step digest n = (digest * 2654435761 + n) % 4294967296
 abbrev pub last_bytes : List ℕ → List ℕ
 last_bytes bytes = drop (length bytes - 4) bytes
 
--- a number with a value mixed into it: of a text its last bytes, of a whole number its last 32 bits
+-- the hash with a value hashed into it: of a text its last bytes, of a whole number its last 32 bits
 abbrev pub with_value : ℕ → Datum → ℕ
 with_value digest (boolean b) = hash_step digest (cond b 1 0)
 with_value digest (whole n) = hash_step digest (unsigned_abs n % 4294967296)
 with_value digest (text bytes) = fold hash_step digest (last_bytes bytes)
 with_value digest null = hash_step digest 2
 
--- the 32 bits that all values of a key mix to
+-- the hash of all values of a key, of 32 bits
 abbrev pub digest : Key → ℕ
 digest key = hash_step (fold with_value 0 key) 0
 
--- the number of the shard that keeps a key among n of them, below n: as far along them as its digest lies along the numbers of 32 bits
+-- the index of the shard that keeps a key among n of them, below n: as far along them as its digest lies along the numbers of 32 bits
 abbrev pub shard_index : ℕ → Key → ℕ
 shard_index n key = digest key * n / 4294967296
 

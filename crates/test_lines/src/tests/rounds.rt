@@ -1,7 +1,7 @@
 //! An input in rounds of whole lines: lines that are too long or end where a round ends, readers that are slow, and
 //! readers that fail.
 
-use lines::{ReadFault, Round, Rounds, front_law, trim_law};
+use lines::{ReadFault, Round, Rounds, clip_law, front_law};
 use std::alloc::{AllocError, Global};
 use std::io;
 use std::io::{ErrorKind, Read};
@@ -188,10 +188,10 @@ fn rounds_that_are_waited_for(rt: HostRuntime) -> Result<(), Fail> {
         (true, 7_340_031, 8_388_608),
         (false, 15_728_639, 16_777_216),
     ] {
-        let waiter = AtomicBool::new(waits);
+        let demand = AtomicBool::new(waits);
         let mut rounds = Rounds::new(rt.alloc(), input.as_slice(), 16_777_216)?;
-        assert_eq!(rt; rounds.advance_for(&waiter), Ok(true));
-        assert_eq!(rt; rounds.advance_for(&waiter), Ok(true));
+        assert_eq!(rt; rounds.advance_for(&demand), Ok(true));
+        assert_eq!(rt; rounds.advance_for(&demand), Ok(true));
         let len = rounds.round().len();
         assert!(rt; least <= len && len <= most, "{len} bytes");
     }
@@ -264,7 +264,7 @@ fn rounds_of_readers_that_fail(rt: HostRuntime) -> Result<(), Fail> {
 
 #[test]
 fn laws_of_rounds(_rt: HostRuntime) {
-    trim_law();
+    clip_law();
     front_law();
 }
 

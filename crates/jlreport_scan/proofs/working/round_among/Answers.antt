@@ -6,9 +6,9 @@ use Rattle.pool.specs.Fanned.{Settles}
 use Rattle.pool.specs.Totals.{sum_below}
 use Rattle.pool.proofs.Shares.{grown_within}
 use Rattle.query_plan.specs.Planned.{PlannedQuery}
-use Rattle.tables.specs.Means.{IsMean, mean_from, meaning}
+use Rattle.tables.specs.Denotations.{IsDenotation, denotation_from, meaning}
 use Rattle.tables.specs.Partials.{one_piece}
-use Rattle.tables.proofs.Means.{mean-from_stands}
+use Rattle.tables.proofs.Denotations.{denotation-from_stands}
 use Rattle.tables.proofs.Sharing.{hands_sync, job_by_sync}
 use Rattle.jlreport_scan.proofs.Pooled.{IsJobOf, few-loads, grown-by, refused-whole, room-beside, stands-behind, under-of, under-same, weights-counted}
 use Rattle.jlreport_scan.proofs.Tallies.{few-refused}
@@ -26,8 +26,8 @@ fan_deal_onto-requires-clause-part g c κs within =
     record { plan_is = c.new.ensures.plan; input_is = c.new.ensures.input; pieces_are = c.new.ensures.pieces ∙ c.as_slice.ensures.value } in
     let x = c.requires.front in
     let stands = c.in_ok-front.ensures.stands plan.fields plan.query x.0 x.1 in
-    subst (λ (p : PlannedQuery). IsMean p.fields p.query (meaning front)) (sym of.plan_is)
-    (one_piece x.0, mean-from_stands plan.fields plan.query front (one_piece x.0) stands)
+    subst (λ (p : PlannedQuery). IsDenotation p.fields p.query (meaning front)) (sym of.plan_is)
+    (one_piece x.0, denotation-from_stands plan.fields plan.query front (one_piece x.0) stands)
 
 pub fan_deal_onto-requires-clause-loads : goal.fan_deal_onto-requires-clause-loads
 fan_deal_onto-requires-clause-loads g c κs within =
@@ -138,7 +138,7 @@ returns-clause-reported g c =
     c.in_ok-whole.ensures.whole pooled.decided in
     let count = r.0 in
     let same = c.in_ok-front.ensures.refused in
-    let weights : ℕ → ℕ = λ i. (mean_from job.plan.now.fields job.plan.now.query first job.input.now job.pieces.now i).refused in
+    let weights : ℕ → ℕ = λ i. (denotation_from job.plan.now.fields job.plan.now.query first job.input.now job.pieces.now i).refused in
     let dealt = ap (sum_below weights) pooled.deal.1 in
     grown-by (λ share. share.sum) c.in_ok-outcome.shares.items _ _ (omega (arith, count, same, dealt))
     (grown_within weights (λ share. share.sum) c.args.shares.items c.in_ok-outcome.hands.items c.in_ok-outcome.shares.items pooled.deal.0 pooled.reported c.args.before.refused c.requires.reported)

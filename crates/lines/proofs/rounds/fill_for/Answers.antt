@@ -1,14 +1,14 @@
 use Rattle.std.proofs.Common.{◌≡◌, ◌<◌, ◌≤◌, ◌+◌, ℕ, min, arith}
 use Rattle.std.proofs.KnownBytes.{Keeps-trans}
 use Rattle.lines.specs.Holding.{left_of}
-use Rattle.lines.specs.Trim.{trimmed_len}
+use Rattle.lines.specs.Clip.{clipped_len}
 use Rattle.lines.proofs.Account.{HasRead-trans}
 use Rattle.lines.proofs.rounds.fill_for.Goals as goal
 
 not_beyond : (next aim far : ℕ) → next ≡ min aim far → next ≤ aim
 not_beyond next aim far e = omega arith
 
-stays-long : (near far next aim : ℕ) → far ≡ min (near + 1048576) 18446744073709551615 → next ≡ min aim far → trimmed_len < near → trimmed_len < aim → trimmed_len < next
+stays-long : (near far next aim : ℕ) → far ≡ min (near + 1048576) 18446744073709551615 → next ≡ min aim far → clipped_len < near → clipped_len < aim → clipped_len < next
 stays-long near far next aim e d h l = omega arith
 
 -- two fills count what both add to what is held

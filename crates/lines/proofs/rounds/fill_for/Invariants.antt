@@ -2,7 +2,7 @@ use Rattle.std.proofs.Common.{◌<◌, ◌≤◌, ◌+◌, ◌-◌, ◌^◌, IsT
 use Rattle.std.specs.Io.KnownBytes.{IsAtEnd, Keeps}
 use Rattle.lines.specs.Holding.{IsHeld, left_of}
 use Rattle.lines.specs.Rounds.{HasRead}
-use Rattle.lines.specs.Trim.{trimmed_len}
+use Rattle.lines.specs.Clip.{clipped_len}
 use Rattle.lines.proofs.rounds.fill_for.Given as goal
 
 -- what `fill` ensures for the bytes that the whole lines were to come near to last
@@ -14,13 +14,13 @@ invariant-loop-ended g l = record {
   room : l.size + 65536 ≤ vec_capacity l.held.buffer;
   within : l.held.cut ≤ l.near;
   near : l.near ≤ l.aim;
-  long : trimmed_len < l.aim → trimmed_len < l.near;
+  long : clipped_len < l.aim → clipped_len < l.near;
   taken : l.held.filled + l.fn.source.taken ≤ l.fn.held.filled + l.source.taken;
   limit : l.source.taken < 2 ^ 63;
   read : HasRead (g.R.Read.remaining l.fn.source.reader) (g.R.Read.remaining l.source.reader) l.fn.source.taken l.source.taken;
   end : IsTrue l.ended → IsAtEnd (g.R.Read.remaining l.source.reader);
-  few : IsTrue l.ended → (l.held.filled ≤ l.held.cut + trimmed_len) × (l.held.filled ≤ l.size);
-  whole : IsFalse l.ended → l.near ≤ l.held.cut + trimmed_len;
+  few : IsTrue l.ended → (l.held.filled ≤ l.held.cut + clipped_len) × (l.held.filled ≤ l.size);
+  whole : IsFalse l.ended → l.near ≤ l.held.cut + clipped_len;
 }
 
 -- each turn comes nearer to the aim

@@ -11,7 +11,7 @@ use Rattle.semantics.specs.Records.{all_taken, data_taken, record_of}
 use Rattle.lines.specs.Meant.{AreMembers}
 use Rattle.lines.proofs.Meaning.{first-object, read-one}
 use Rattle.lines.proofs.Fitting.{fits-taken}
-use Rattle.lines.proofs.Readings.{taken-utf8}
+use Rattle.lines.proofs.Readings.{decoded-utf8}
 use Rattle.lines.proofs.Taking.{all_taken-somes}
 use Rattle.lines.proofs.tokens.record_by_tokens.Goals as goal
 
@@ -26,7 +26,7 @@ returns-in-None-clause-ok c =
     let last : AreMembers 126 r found.0 [] = rw (← c.in-None.ensures.value.0) found.1 in
     let is : read c.args.line.now ≡ Some (object found.0) = read-one c.args.line.now (object found.0) (rw all (first-object 127 r [] found.0 (omega arith) last)) in
     let utf8 : IsUtf8 c.args.line.now = search rules in
-    taken-utf8 c.args.schema.now c.args.line.now c.requires utf8
+    decoded-utf8 c.args.schema.now c.args.line.now c.requires utf8
     ∙ ap (record_of c.args.schema.now) is
     ∙ ap (λ fields. all_taken (data_taken fields found.0)) (sym c.columns.ensures.columns)
     ∙ ap all_taken (sym found.2)

@@ -72,8 +72,8 @@ StealHandle::lend-returns-clause-within t c =
     subst (λ (s : Seen). (x : ℕ) → UpTo (v0.closed ≡ true) (held x v0.known + (times x s.list + rest x)) (times x v0.numbers)) c.self.view_is
     (λ x. within_four c.args.place v0 v1 v2 w c.requires.place.1 c.requires.owner c.another-blank.ensures.rule.0 c.self.invariant.2 at lent c.take_in.ensures.closed x (rest x) (c.compare.ensures.within x))
 
-pub compare-index_mut-reach-requires : goal.compare-index_mut-reach-requires
-compare-index_mut-reach-requires t c =
+pub compare-index_mut-handle-requires : goal.compare-index_mut-handle-requires
+compare-index_mut-handle-requires t c =
     let cases = c.in-Some.ensures.cases.0 in
     let all = subst (λ l. AllReach (worker_deque c.args.worker.now) (worker_view c.args.worker.now).numbers c.args.place l) cases c.requires.hands in
     let s = all.0.1.0 in
@@ -88,7 +88,7 @@ compare-lend-requires t c =
     let s = all.0.1.0 in
     let there : get_elem? c.hand.inside.others.items (c.args.place - 1) ≡ some s = subst (λ (h : Holding). get_elem? h.others (c.args.place - 1) ≡ some s) (sym c.hand.view_is) all.0.1.1 in
     let below : c.args.place - 1 < length c.hand.inside.others.items = at_less c.hand.inside.others.items (c.args.place - 1) s there in
-    let is : c.index_mut-reach.result.now ≡ s = some-injective c.index_mut-reach.result.now s (sym (at_index c.hand.inside.others.items (c.args.place - 1) c.index_mut-reach.result.now below c.index_mut-reach.ensures.value) ∙ there) in
+    let is : c.index_mut-handle.result.now ≡ s = some-injective c.index_mut-handle.result.now s (sym (at_index c.hand.inside.others.items (c.args.place - 1) c.index_mut-handle.result.now below c.index_mut-handle.ensures.value) ∙ there) in
     let count = ap (λ (l : List Holding). length l) cases in
     let p = c.requires.place in (
       (let d = c.decreases in omega (arith, d, count)),
@@ -117,7 +117,7 @@ compare-returns-in-Some-clause-within t c = λ x.
     let s = all.0.1.0 in
     let there : get_elem? c.hand.inside.others.items (c.args.place - 1) ≡ some s = subst (λ (h : Holding). get_elem? h.others (c.args.place - 1) ≡ some s) (sym c.hand.view_is) all.0.1.1 in
     let below : c.args.place - 1 < length c.hand.inside.others.items = at_less c.hand.inside.others.items (c.args.place - 1) s there in
-    let is : c.index_mut-reach.result.now ≡ s = some-injective c.index_mut-reach.result.now s (sym (at_index c.hand.inside.others.items (c.args.place - 1) c.index_mut-reach.result.now below c.index_mut-reach.ensures.value) ∙ there) in
+    let is : c.index_mut-handle.result.now ≡ s = some-injective c.index_mut-handle.result.now s (sym (at_index c.hand.inside.others.items (c.args.place - 1) c.index_mut-handle.result.now below c.index_mut-handle.ensures.value) ∙ there) in
     let a = c.lend.ensures.within x in
     let b = ap (λ l. held x (told c.args.place l)) cases in
     let e = ap (λ (u : Seen). times x u.list) is in

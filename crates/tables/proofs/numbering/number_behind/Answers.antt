@@ -2,7 +2,7 @@ use Rattle.std.proofs.Common.{List, map, refl, ap, ◌∙◌, ◌++◌, arith}
 use Rattle.std.proofs.lemmas.List.Sorted.{All-permutation, IsPermutation-map, sum_by-IsPermutation}
 use Rattle.std.proofs.lemmas.Result.{on_ok_weaker}
 use Rattle.std.specs.List.Sorted.{IsPermutation}
-use Rattle.tables.specs.declared.note.PieceRefusals.{PieceRefusals}
+use Rattle.tables.specs.declared.piece_refusals.PieceRefusals.{PieceRefusals}
 use Rattle.tables.specs.Notes.{IsWellNumbered, Noted, note_in, notes_in, numbered_from}
 use Rattle.tables.proofs.Bags.{bag-permutation}
 use Rattle.tables.proofs.Following.{numbered-behind}

@@ -2,7 +2,7 @@ use Rattle.std.proofs.Common.{◌≡◌, ◌<◌, ◌∷◌, [], List, All, leng
 use Rattle.std.proofs.lemmas.Bool.Decides.{nat_tests}
 use Rattle.std.proofs.lemmas.List.Elements.{All-tail}
 use Rattle.std.proofs.lemmas.List.Sums.{sum_by-cons}
-use Rattle.tables.specs.declared.note.PieceRefusals.{PieceRefusals}
+use Rattle.tables.specs.declared.piece_refusals.PieceRefusals.{PieceRefusals}
 use Rattle.tables.specs.Notes.{IsWellNumbered, Noted, lines_noted, note_in, numbered_from}
 use Rattle.tables.proofs.Following.{first-numbered}
 use Rattle.tables.proofs.numbering.number_in_order.Goals as goal

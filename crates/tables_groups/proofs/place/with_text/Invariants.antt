@@ -3,9 +3,9 @@ use Rattle.std.specs.List.{fold}
 use Rattle.tables_groups.specs.Inside.Shards.{hash_step}
 use Rattle.tables_groups.proofs.place.with_text.Given as goal
 
--- the bytes so far are mixed in
+-- the bytes so far are hashed
 abbrev pub invariant-loop-byte : goal.invariant-loop-byte
 invariant-loop-byte l = record {
-  mixed : l.digest ≡ fold hash_step l.fn.digest (take l.byte-index l.byte-items);
+  hashed : l.digest ≡ fold hash_step l.fn.digest (take l.byte-index l.byte-items);
   below : l.digest < 2 ^ 32;
 }

@@ -1,8 +1,8 @@
 use Rattle.std.proofs.Common.{ℕ, ◌+◌, min, List, [], ◌∷◌, ◌∙◌, ap}
 use Rattle.std.proofs.lemmas.Result.{IfOk-weaker}
-use Rattle.tables.specs.Means.{mean}
+use Rattle.tables.specs.Denotations.{denotation}
 use Rattle.tables.specs.Pieces.{IndexedPiece}
-use Rattle.tables.proofs.Means.{mean-from_stands}
+use Rattle.tables.proofs.Denotations.{denotation-from_stands}
 use Rattle.tables.proofs.job.JobByWork.piece.Goals as goal
 
 pub returns : goal.returns
@@ -12,7 +12,7 @@ returns g c =
     let piece : ℕ → List ℕ → IndexedPiece = λ index bytes. record { index = index; bytes = bytes } in
     IfOk-weaker c.fold_piece.result _ _
     (λ partial stands.
-    mean-from_stands fields q partial (piece c.index.result c.bytes.result.now ∷ []) stands
-    ∙ ap (λ index. mean fields q (piece index c.bytes.result.now ∷ [])) c.index.ensures
-    ∙ ap (λ bytes. mean fields q (piece (min (c.args.self.now.first + c.args.i) 4294967295) bytes ∷ [])) c.bytes.ensures.bytes)
+    denotation-from_stands fields q partial (piece c.index.result c.bytes.result.now ∷ []) stands
+    ∙ ap (λ index. denotation fields q (piece index c.bytes.result.now ∷ [])) c.index.ensures
+    ∙ ap (λ bytes. denotation fields q (piece (min (c.args.self.now.first + c.args.i) 4294967295) bytes ∷ [])) c.bytes.ensures.bytes)
     c.fold_piece.ensures.stands

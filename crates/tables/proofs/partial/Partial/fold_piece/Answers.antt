@@ -3,7 +3,7 @@ use Rattle.semantics.specs.Lines.{lines}
 use Rattle.query_resolve.specs.Functions.{indexed_functions}
 use Rattle.semantics.specs.Sets.{grouping_places}
 use Rattle.semantics.specs.Conditions.{kept}
-use Rattle.tables.specs.Folding.{good_of}
+use Rattle.tables.specs.Folding.{valid_of}
 use Rattle.tables_groups.specs.Bags.{SameBag}
 use Rattle.semantics.specs.Groups.{Row}
 use Rattle.tables_groups.specs.Inside.Table.{AreGroupsWithin, IsTableOf}
@@ -14,7 +14,7 @@ use Rattle.semantics.specs.Found.{aggregate_functions}
 use Rattle.tables.proofs.Bound.{as-many}
 use Rattle.tables.proofs.Growing.{lines-more, notes-more, records-more, refused-more}
 use Rattle.tables.proofs.Merging.{one-note}
-use Rattle.tables.proofs.Reading.{length-good_of, length-kept, length-lines, length-refused_of}
+use Rattle.tables.proofs.Reading.{length-valid_of, length-kept, length-lines, length-refused_of}
 use Rattle.tables.proofs.partial.Partial.fold_piece.Goals as goal
 
 pub read_onto-requires : goal.read_onto-requires
@@ -32,8 +32,8 @@ invariant_of-result c =
     let ls = lines c.args.piece.now in
     let read = c.in_ok-table.ensures.read [] c.in_ok-empty.ensures in
     let folding = c.in_ok-table.field-0 in
-    let good = length-good_of fields ls in
-    let few = length-kept fields q (good_of fields ls) in
+    let valid = length-valid_of fields ls in
+    let few = length-kept fields q (valid_of fields ls) in
     let count = read.lines in
     let short = length-lines c.args.piece.now in
     let notes = one-note c.in_ok-notes.notes.items _ c.in_ok-notes.ensures c.in_ok-table.ensures.numbered in (
@@ -42,7 +42,7 @@ invariant_of-result c =
         (let n = c.len-count.ensures in let r = c.in_ok-table.ensures.refused in let m = length-refused_of fields ls in let ok = folding.refused.ok in grind (arith, n, r, m, count, ok)),
         (
           subst (λ (fs : List FilteredFunction). AreGroupsWithin folding.lines fs folding.table) (sym c.in_ok-shape.ensures.functions)
-              (table-within (grouping_places fields q) (indexed_functions fields q) (aggregate_functions fields q) folding.table (kept fields q (good_of fields ls)) folding.lines (as-many fields q) read.table (omega (arith, good, few, count))),
+              (table-within (grouping_places fields q) (indexed_functions fields q) (aggregate_functions fields q) folding.table (kept fields q (valid_of fields ls)) folding.lines (as-many fields q) read.table (omega (arith, valid, few, count))),
           (
             notes.0,
             (notes.1, tt),

@@ -1,7 +1,7 @@
-//! What is noted of a piece.
+//! The refused lines of a piece.
 use lines::LineFault;
 
-/// What is kept of the lines of a piece, beside their groups.
+/// The refused lines of a piece, and how many lines it has: what is kept of it beside its groups.
 #[derive(Drop)]
 pub(crate) struct PieceRefusals {
     /// The piece's index.

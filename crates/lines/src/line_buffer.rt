@@ -1,19 +1,28 @@
-//! The bytes of an input that are held: whole lines in front, and the bytes behind them.
+//! The buffer of an input that is read: whole lines in front, and the bytes behind them.
 ghost use Rattle.std.specs.Prelude.{◌≡◌, ◌+◌, ◌-◌, ◌<◌, ◌≤◌, true, false, IsTrue, IsFalse, ℕ, List, vec_capacity, vec_len};
 ghost use Rattle.lines.specs.Holding.{IsHeld, left_with, open_part};
 ghost use Rattle.lines.specs.Pieces.{NoFeedBetween};
-ghost use Rattle.lines.specs.Trim.{trimmed_len};
+ghost use Rattle.lines.specs.Clip.{clipped_len};
 
-use crate::holding::LineBuffer;
 use memchr::{memchr, memrchr};
 
-/// How many bytes of a line are kept: it is too long already.
-pub(crate) const TRIMMED_LEN: usize = 1_048_577;
+/// The length to which a line is clipped: with so many bytes it is too long already.
+pub(crate) const CLIPPED_LEN: usize = 1_048_577;
 
-/// Passes over the lines that end among the next `window` bytes. It answers whether there is one.
+/// The first `cut` bytes of the buffer are whole lines, and up to `filled` follow the bytes behind them.
+#[derive(Drop)]
+pub(crate) struct LineBuffer {
+    pub(crate) buffer: Vec<u8>,
+    pub(crate) cut: usize,
+    pub(crate) filled: usize,
+    /// The first bytes behind the whole lines are known to be the beginning of a line that is too long.
+    pub(crate) full: bool,
+}
+
+/// Skips the lines that end among the next `window` bytes, and answers whether there is one.
 pub(crate) fn skip_lines(held: &mut LineBuffer, window: usize) -> bool
     requires held { IsHeld held.old }
-    requires short { window ≤ trimmed_len }
+    requires short { window ≤ clipped_len }
     requires within { held.old.cut + window ≤ held.old.filled }
     requires not_full { held.old.full ≡ false }
     ensures held { IsHeld held.new }
@@ -35,20 +44,20 @@ pub(crate) fn skip_lines(held: &mut LineBuffer, window: usize) -> bool
     }
 }
 
-/// Throws away what is too much of an open line, and passes over the line where it ends.
+/// Discards what an open line has beyond its clipped length, and skips the line where it ends.
 pub(crate) fn discard_excess(held: &mut LineBuffer)
     requires held { IsHeld held.old }
     requires full { held.old.full ≡ true }
-    requires long { held.old.cut + trimmed_len < held.old.filled }
+    requires long { held.old.cut + clipped_len < held.old.filled }
     ensures held { IsHeld held.new }
     ensures left { (rest : List ℕ) → left_with held.new rest ≡ left_with held.old rest }
     ensures len { vec_len held.new.buffer ≡ vec_len held.old.buffer }
     ensures room { vec_capacity held.new.buffer ≡ vec_capacity held.old.buffer }
     ensures filled { held.new.filled ≤ held.old.filled }
-    ensures within { held.new.cut ≤ held.old.cut + trimmed_len + 1 }
+    ensures within { held.new.cut ≤ held.old.cut + clipped_len + 1 }
     ensures less { held.new.filled - held.new.cut < held.old.filled - held.old.cut }
 {
-    let end = held.cut + TRIMMED_LEN;
+    let end = held.cut + CLIPPED_LEN;
     match memchr(b'\n', &held.buffer[end..held.filled]) {
         Some(place) => {
             held.buffer.copy_within(end + place..held.filled, end);
@@ -60,8 +69,7 @@ pub(crate) fn discard_excess(held: &mut LineBuffer)
     }
 }
 
-/// Passes over lines, and throws away what is too much of a line, until few bytes are open or the whole lines
-/// come near to `size` bytes.
+/// Scans for the ends of lines, and clips the lines, until few bytes are open or the whole lines come near to `size`.
 pub(crate) fn scan_lines(held: &mut LineBuffer, size: usize)
     requires held { IsHeld held.old }
     requires within { held.old.cut ≤ size }
@@ -71,12 +79,13 @@ pub(crate) fn scan_lines(held: &mut LineBuffer, size: usize)
     ensures room { vec_capacity held.new.buffer ≡ vec_capacity held.old.buffer }
     ensures filled { held.new.filled ≤ held.old.filled }
     ensures within { held.new.cut ≤ size }
-    ensures short { held.new.cut + trimmed_len < size → held.new.filled ≤ held.new.cut + trimmed_len }
+    ensures short { held.new.cut + clipped_len < size
+        → held.new.filled ≤ held.new.cut + clipped_len }
 {
-    while held.cut + TRIMMED_LEN < size && held.filled - held.cut > TRIMMED_LEN {
+    while held.cut + CLIPPED_LEN < size && held.filled - held.cut > CLIPPED_LEN {
         if held.full {
             discard_excess(held);
-        } else if !skip_lines(held, TRIMMED_LEN) {
+        } else if !skip_lines(held, CLIPPED_LEN) {
             held.full = true;
         }
     }

@@ -1,4 +1,4 @@
-//! Passing over a JSON value that no column takes.
+//! Skipping a JSON value that no column takes.
 ghost use Rattle.std.specs.Prelude.{◌<◌, length, IfSome};
 ghost use Rattle.serde_json.specs.Data.{Data, Items, Members};
 ghost use Rattle.lines.specs.Meant.{AreItems, AreMembers, IsValue};
@@ -6,7 +6,7 @@ ghost use Rattle.lines.specs.Meant.{AreItems, AreMembers, IsValue};
 use crate::tokens::numerals::has_value;
 use json::{Reader, Token};
 
-/// Passes a value that nests at most `depth` deep; `None` says nothing of the tokens.
+/// Skips a JSON value that nests at most `depth` deep; `None` says nothing of the tokens.
 #[cycle(skip_value)]
 pub(crate) fn skip_value(reader: &mut Reader<'_>, depth: usize) -> Option<()>
     ensures passed { IfSome result (λ _. (d : Data) × IsValue depth reader.old d reader.new) }
@@ -15,15 +15,15 @@ pub(crate) fn skip_value(reader: &mut Reader<'_>, depth: usize) -> Option<()>
     match reader.next()? {
         Token::String(_) | Token::Bool(_) | Token::Null => Some(()),
         Token::Number(text) if has_value(text) => Some(()),
-        Token::BeginArray if depth > 0 => pass_items(reader, depth - 1),
-        Token::BeginObject if depth > 0 => pass_members(reader, depth - 1),
+        Token::BeginArray if depth > 0 => skip_items(reader, depth - 1),
+        Token::BeginObject if depth > 0 => skip_members(reader, depth - 1),
         _ => None,
     }
 }
 
-/// Passes the items of an array, up to its closing bracket.
+/// Skips the items of an array, up to its closing bracket.
 #[cycle(skip_value)]
-fn pass_items(reader: &mut Reader<'_>, depth: usize) -> Option<()>
+fn skip_items(reader: &mut Reader<'_>, depth: usize) -> Option<()>
     ensures passed { IfSome result (λ _. (ds : Items) × AreItems depth reader.old ds reader.new) }
     ensures shorter { IfSome result (λ _. length reader.new < length reader.old) }
 {
@@ -33,9 +33,9 @@ fn pass_items(reader: &mut Reader<'_>, depth: usize) -> Option<()>
     Some(())
 }
 
-/// Passes the members of an object, up to its closing brace.
+/// Skips the members of an object, up to its closing brace.
 #[cycle(skip_value)]
-fn pass_members(reader: &mut Reader<'_>, depth: usize) -> Option<()>
+fn skip_members(reader: &mut Reader<'_>, depth: usize) -> Option<()>
     ensures passed { IfSome result (λ _. (ms : Members) × AreMembers depth reader.old ms reader.new) }
     ensures shorter { IfSome result (λ _. length reader.new < length reader.old) }
 {

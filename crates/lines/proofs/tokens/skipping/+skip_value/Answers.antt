@@ -9,7 +9,7 @@ use Rattle.serde_json.specs.Data.{Data, Num, null, boolean, number, string, arra
 use Rattle.serde_json.specs.Read.{number_of, of_items, of_members}
 use Rattle.lines.specs.Meant.{IsValue}
 use Rattle.lines.proofs.Meaning.{begins, first-array, first-boolean, first-null, first-number, first-object, first-string, item-next, items-closed, member-next, members-closed}
-use Rattle.lines.proofs.tokens.passing.+skip_value.Goals as goal
+use Rattle.lines.proofs.tokens.skipping.+skip_value.Goals as goal
 
 -- a value stands first, and these tokens are behind it
 abbrev Passed : ℕ → List Token → List Token → Type 0
@@ -39,23 +39,23 @@ skip_value-returns-in-Number-clause-passed t c =
 
 pub skip_value-returns-in-BeginArray-clause-passed : goal.skip_value-returns-in-BeginArray-clause-passed
 skip_value-returns-in-BeginArray-clause-passed t c =
-    let new = c.pass_items.new.reader in
-    rw (c.in_ok-next.ensures.value, c.in-BeginArray.is) (in_some c.pass_items.result (λ done e. (array e.0, first-array c.args.depth c.next.new.self new e.0 c.if-depth-gt0.true e.1)) c.pass_items.ensures.passed)
+    let new = c.skip_items.new.reader in
+    rw (c.in_ok-next.ensures.value, c.in-BeginArray.is) (in_some c.skip_items.result (λ done e. (array e.0, first-array c.args.depth c.next.new.self new e.0 c.if-depth-gt0.true e.1)) c.skip_items.ensures.passed)
 
 pub skip_value-returns-in-BeginObject-clause-passed : goal.skip_value-returns-in-BeginObject-clause-passed
 skip_value-returns-in-BeginObject-clause-passed t c =
-    let new = c.pass_members.new.reader in
-    rw (c.in_ok-next.ensures.value, c.in-BeginObject.is) (in_some c.pass_members.result (λ done e. (object e.0, first-object c.args.depth c.next.new.self new e.0 c.if-depth-gt0-2.true e.1)) c.pass_members.ensures.passed)
+    let new = c.skip_members.new.reader in
+    rw (c.in_ok-next.ensures.value, c.in-BeginObject.is) (in_some c.skip_members.result (λ done e. (object e.0, first-object c.args.depth c.next.new.self new e.0 c.if-depth-gt0-2.true e.1)) c.skip_members.ensures.passed)
 
-pub pass_items-items-init : goal.pass_items-items-init
-pass_items-items-init t c = record {
+pub skip_items-items-init : goal.skip_items-items-init
+skip_items-items-init t c = record {
   back = λ ds. ds;
   at = begins (items (value c.args.depth)) c.args.reader.now of_items;
   not_longer = omega arith;
 }
 
-pub pass_items-items-preserved : goal.pass_items-items-preserved
-pass_items-items-preserved t c =
+pub skip_items-items-preserved : goal.skip_items-items-preserved
+skip_items-items-preserved t c =
     let loop = c.items in
     let unclosed : after_end_array loop.reader ≡ None = grind arith in
     let stays : c.take_end_array.new.self ≡ loop.reader = grind arith in
@@ -67,21 +67,21 @@ pass_items-items-preserved t c =
       not_longer = omega (arith, loop.invariant.not_longer, shorter);
     }
 
-pub pass_items-returns-clause-passed : goal.pass_items-returns-clause-passed
-pass_items-returns-clause-passed t c =
+pub skip_items-returns-clause-passed : goal.skip_items-returns-clause-passed
+skip_items-returns-clause-passed t c =
     let loop = c.items in
     let closed : after_end_array loop.reader ≡ Some c.take_end_array.new.self = grind arith in
     (loop.invariant.back no_items, items-closed (value c.args.depth) c.args.reader.now loop.reader loop.invariant.back c.take_end_array.new.self loop.invariant.at closed)
 
-pub pass_members-members-init : goal.pass_members-members-init
-pass_members-members-init t c = record {
+pub skip_members-members-init : goal.skip_members-members-init
+skip_members-members-init t c = record {
   found = no_members;
   at = begins (members (value c.args.depth)) c.args.reader.now (λ ms. of_members ms no_members);
   not_longer = omega arith;
 }
 
-pub pass_members-members-preserved : goal.pass_members-members-preserved
-pass_members-members-preserved t c =
+pub skip_members-members-preserved : goal.skip_members-members-preserved
+skip_members-members-preserved t c =
     let loop = c.members in
     let name = c.in-Some.field-0.now in
     let behind = c.next_key.new.self in
@@ -94,8 +94,8 @@ pass_members-members-preserved t c =
       not_longer = omega (arith, loop.invariant.not_longer, shorter, read_key-shorter loop.reader (Some name) behind key);
     }
 
-pub pass_members-returns-clause-passed : goal.pass_members-returns-clause-passed
-pass_members-returns-clause-passed t c =
+pub skip_members-returns-clause-passed : goal.skip_members-returns-clause-passed
+skip_members-returns-clause-passed t c =
     let loop = c.members in
     let closed : read_key loop.reader ≡ Some (None, c.next_key.new.self) = grind arith in
     (loop.invariant.found, members-closed (value c.args.depth) c.args.reader.now loop.reader loop.invariant.found c.next_key.new.self loop.invariant.at closed)

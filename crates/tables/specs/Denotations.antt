@@ -38,9 +38,9 @@ pub record Denotation : Type 0 where
 abbrev pub group_of : List ℕ → List AggregateFunction → List Row → Key → Option GroupState
 group_of set functions rows key = if list_any (same_key key) (keys set rows) then Some (group_state functions (members set key rows)) else None
 
--- what pieces come to under a schema and a query
-abbrev pub mean : List Field → TreeForm → List IndexedPiece → Denotation
-mean fields q pieces = record {
+-- the denotation of pieces under a schema and a query
+abbrev pub denotation : List Field → TreeForm → List IndexedPiece → Denotation
+denotation fields q pieces = record {
   sets = sets_of fields q;
   functions = indexed_functions fields q;
   filters = filter_texts fields q;
@@ -50,13 +50,13 @@ mean fields q pieces = record {
   notes = λ weight. weigh weight (map (note_of fields) pieces);
 }
 
--- some pieces come to this
-abbrev pub IsMean : List Field → TreeForm → Denotation → Type 0
-IsMean fields q m = (pieces : List IndexedPiece) × (m ≡ mean fields q pieces)
+-- it is the denotation of some pieces
+abbrev pub IsDenotation : List Field → TreeForm → Denotation → Type 0
+IsDenotation fields q m = (pieces : List IndexedPiece) × (m ≡ denotation fields q pieces)
 
 -- ---- of two
 
--- what two come to together
+-- the denotation of two together
 abbrev pub both : Denotation → Denotation → Denotation
 both a b = record {
   sets = a.sets;
@@ -86,9 +86,9 @@ no_bytes = record { start = 0; stop = 0 }
 abbrev pub piece_at : List ℕ → List Piece → ℕ → IndexedPiece
 piece_at input pieces index = with_index input (index, slice_index_or pieces index no_bytes)
 
--- what the piece with this index comes to
-abbrev pub mean_at : List Field → TreeForm → List ℕ → List Piece → ℕ → Denotation
-mean_at fields q input pieces index = mean fields q (piece_at input pieces index ∷ [])
+-- the denotation of the piece with this index
+abbrev pub denotation_at : List Field → TreeForm → List ℕ → List Piece → ℕ → Denotation
+denotation_at fields q input pieces index = denotation fields q (piece_at input pieces index ∷ [])
 
 -- ---- pieces of the rest of an input, whose indexes begin behind those of its front
 
@@ -101,9 +101,9 @@ indexed_from first rest pieces = map (with_index rest) (enumerate_from first pie
 abbrev pub piece_from : ℕ → List ℕ → List Piece → ℕ → IndexedPiece
 piece_from first rest pieces place = with_index rest (min (first + place) 4294967295, slice_index_or pieces place no_bytes)
 
--- what that piece comes to
-abbrev pub mean_from : List Field → TreeForm → ℕ → List ℕ → List Piece → ℕ → Denotation
-mean_from fields q first rest pieces place = mean fields q (piece_from first rest pieces place ∷ [])
+-- the denotation of that piece
+abbrev pub denotation_from : List Field → TreeForm → ℕ → List ℕ → List Piece → ℕ → Denotation
+denotation_from fields q first rest pieces place = denotation fields q (piece_from first rest pieces place ∷ [])
 
 -- ---- of a partial result
 
