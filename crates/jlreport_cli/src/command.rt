@@ -111,7 +111,9 @@ Read on:
 
 /// The command without its arguments, with the texts that help shows around them.
 fn described_command<'a>(alloc: Global) -> Command<'a>
-    ensures { app_of result ≡ record (new_app (codes "jlreport")) { top = record (new_app (codes "jlreport")).top { has_version = true } } }
+    ensures { app_of result ≡ record (new_app (codes "jlreport")) {
+      top = record (new_app (codes "jlreport")).top { has_version = true };
+    } }
 {
     Command::new(alloc, "jlreport")
         .version(VERSION)
@@ -194,7 +196,8 @@ pub fn settings<'a>(alloc: Global, words: &'a [&'a str]) -> Result<Settings<'a>,
         IsNumberOf (codes "max-refused") (texts words.now) s.options.max_refused) }
     ensures workers { IfOk result (λ s.
         IsNumberOf (codes "workers") (texts words.now) (Some s.options.workers)) }
-    ensures explain { IfOk result (λ s. (s.explain ≡ true) ↔ IsSet (codes "explain") (texts words.now)) }
+    ensures explain { IfOk result (λ s. (s.explain ≡ true)
+        ↔ IsSet (codes "explain") (texts words.now)) }
     ensures taken { IfOk result (λ _. fault_of command (texts words.now) ≡ []) }
     ensures refused { IfErr result (IsRefusalOf (texts words.now)) }
 {

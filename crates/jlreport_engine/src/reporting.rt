@@ -20,15 +20,17 @@ pub(crate) trait Writers {
     fn report(&self, alloc: Global, groups: &Groups, plan: &Plan) -> Result<Vec<u8>, AllocError>
         requires ready { Self.ready self.now }
         requires fit { AreFittingUnder plan.now groups.now.found }
-        ensures { IfOk result (λ text. text.items ≡ report_of plan.now.fields plan.now.query groups.now.found) };
+        ensures { IfOk result (λ text.
+            text.items ≡ report_of plan.now.fields plan.now.query groups.now.found) };
 
     /// The groups and the refused lines of a result over some pieces, whoever finishes them.
     fn groups(&self, plan: &Plan, whole: Partial) -> Result<Groups, AllocError>
         requires ready { Self.ready self.now }
         requires of_plan { IsPartialUnder plan.now whole }
         ensures fit { IfOk result (λ groups. AreFittingUnder plan.now groups.found) }
-        ensures whole { IfOk result (λ groups. (input : List ℕ) (pieces : List IndexedPiece) → StandsForUnder plan.now whole pieces
-            → IsCutInto input pieces → IsResultUnder plan.now groups input) };
+        ensures whole { IfOk result (λ groups. (input : List ℕ) (pieces : List IndexedPiece)
+            → StandsForUnder plan.now whole pieces → IsCutInto input pieces
+            → IsResultUnder plan.now groups input) };
 
     /// Gives back the memory of groups that have been written.
     fn give_back(&self, alloc: Global, groups: Groups)

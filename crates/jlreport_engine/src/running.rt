@@ -94,7 +94,8 @@ pub fn run<R: Read + Drop + Send, O: Write, E: Write, H: Threads + Wait + Sync>(
         plan.now.fields plan.now.query (R.remaining reader)
         (O.contents out.old) (O.contents out.new) (E.contents err.old) (E.contents err.new)) }
     // One worker starts no thread.
-    ensures started { options.workers ≡ 1 → IfErr result (λ fault. fault ≢ RunFault.ThreadNotStarted) }
+    ensures started { options.workers ≡ 1
+        → IfErr result (λ fault. fault ≢ RunFault.ThreadNotStarted) }
 {
     let whole = gather(rt, alloc, plan, options, reader)?;
     let hands = Hands {
@@ -155,16 +156,21 @@ fn write_whole<T: Writers, O: Write, E: Write>(
     err: &mut E,
 ) -> Result<Done, RunFault>
     requires ready { T.ready writers.now }
-    requires of_input { (input : List ℕ) × StandsForInput plan.now.fields plan.now.query whole input }
-    ensures report { OnOk result ((input : List ℕ) → StandsForInput plan.now.fields plan.now.query whole input
-        → Appends (O.contents out.old) (O.contents out.new) (report plan.now.fields plan.now.query input)) }
-    ensures refusals { OnOk result ((input : List ℕ) → StandsForInput plan.now.fields plan.now.query whole input
+    requires of_input { (input : List ℕ)
+        × StandsForInput plan.now.fields plan.now.query whole input }
+    ensures report { OnOk result ((input : List ℕ)
+        → StandsForInput plan.now.fields plan.now.query whole input
+        → Appends (O.contents out.old) (O.contents out.new)
+        (report plan.now.fields plan.now.query input)) }
+    ensures refusals { OnOk result ((input : List ℕ)
+        → StandsForInput plan.now.fields plan.now.query whole input
         → Appends (E.contents err.old) (E.contents err.new) (refusals plan.now.fields input)) }
     ensures lines { IfOk result (λ done. done.lines ≡ whole.lines) }
     ensures refused { IfOk result (λ done. done.refused ≡ whole.refused) }
-    ensures fault { IfErr result (λ fault. (input : List ℕ) → StandsForInput plan.now.fields plan.now.query whole input
-        → LeavesOfInput fault plan.now.fields plan.now.query input
-        (O.contents out.old) (O.contents out.new) (E.contents err.old) (E.contents err.new)) }
+    ensures fault { IfErr result (λ fault. (input : List ℕ)
+        → StandsForInput plan.now.fields plan.now.query whole input
+        → LeavesOfInput fault plan.now.fields plan.now.query input (O.contents out.old)
+        (O.contents out.new) (E.contents err.old) (E.contents err.new)) }
 {
     let done = Done {
         lines: whole.lines(),
@@ -195,7 +201,8 @@ fn texts_of<T: Writers>(
     partial: Partial,
 ) -> Result<Texts, AllocError>
     requires ready { T.ready writers.now }
-    requires of_input { (input : List ℕ) × StandsForInput plan.now.fields plan.now.query partial input }
+    requires of_input { (input : List ℕ)
+        × StandsForInput plan.now.fields plan.now.query partial input }
     ensures report { IfOk result (λ texts. (input : List ℕ)
         → StandsForInput plan.now.fields plan.now.query partial input
         → texts.report.items ≡ report plan.now.fields plan.now.query input) }

@@ -140,10 +140,12 @@ pub fn serve<
 ) -> u8
     requires { F.IsAlwaysCallable opener.old }
     // 0 and 1 are answered only where the columns and the query are good.
-    ensures answerable { IfOk asked.entry (λ settings. result < 2 → IsAnswerable settings.columns.now settings.query.now) }
+    ensures answerable { IfOk asked.entry (λ settings. result < 2
+        → IsAnswerable settings.columns.now settings.query.now) }
     // Where an explanation is asked for and 0 is answered, it is written.
     ensures explains { IfOk asked.entry (λ settings. settings.explain ≡ true → result ≡ 0
-        → Explains settings.columns.now settings.query.now (O.contents out.old) (O.contents out.new)) }
+        → Explains settings.columns.now settings.query.now (O.contents out.old)
+        (O.contents out.new)) }
 {
     match asked {
         Ok(settings) => match execute(rt, alloc, settings, opener, out, err) {
@@ -183,9 +185,11 @@ fn execute<
     err: &mut E,
 ) -> Result<u8, Ending>
     requires { F.IsAlwaysCallable opener.old }
-    ensures answerable { IfOk result (λ _. IsAnswerable settings.entry.columns.now settings.entry.query.now) }
-    ensures explains { settings.entry.explain ≡ true → OnOk result
-        (Explains settings.entry.columns.now settings.entry.query.now (O.contents out.old) (O.contents out.new)) }
+    ensures answerable { IfOk result (λ _.
+        IsAnswerable settings.entry.columns.now settings.entry.query.now) }
+    ensures explains { settings.entry.explain ≡ true
+        → OnOk result (Explains settings.entry.columns.now settings.entry.query.now
+        (O.contents out.old) (O.contents out.new)) }
 {
     let plan = plan_of(alloc, settings)?;
     if settings.explain {

@@ -15,10 +15,13 @@ const MAX_PIECES: usize = 1_048_576;
 pub(crate) fn pieces_of(alloc: Global, input: &[u8], piece: usize) -> Result<Vec<Piece>, AllocError>
     requires { length input.now < 2 ^ 63 }
     ensures few { IfOk result (λ pieces. length pieces.items ≤ 1048576) }
-    ensures not_empty { IfOk result (λ pieces. All (λ piece. piece.start < piece.stop) pieces.items) }
-    ensures within { IfOk result (λ pieces. All (λ piece. piece.stop ≤ length input.now) pieces.items) }
+    ensures not_empty { IfOk result (λ pieces.
+        All (λ piece. piece.start < piece.stop) pieces.items) }
+    ensures within { IfOk result (λ pieces.
+        All (λ piece. piece.stop ≤ length input.now) pieces.items) }
     ensures cut { IfOk result (λ pieces. IsCutInto input.now (indexed input.now pieces.items)) }
-    ensures lines { IfOk result (λ pieces. all_lines (indexed input.now pieces.items) ≡ lines input.now) }
+    ensures lines { IfOk result (λ pieces.
+        all_lines (indexed input.now pieces.items) ≡ lines input.now) }
 {
     cut(alloc, input, piece.max(input.len() / MAX_PIECES + 1))
 }

@@ -45,7 +45,8 @@ pub fn gather_alone<R: Read + Drop>(
 ) -> Result<Partial, GatherFault>
     ensures whole { IfOk result (IsWhole plan.now.fields plan.now.query (R.remaining reader)) }
     ensures limit { IfOk result (λ partial. partial.refused ≤ limit_number options.max_refused) }
-    ensures fault { IfErr result (λ fault. Stops fault options.max_refused plan.now.fields (R.remaining reader)) }
+    ensures fault { IfErr result (λ fault.
+        Stops fault options.max_refused plan.now.fields (R.remaining reader)) }
     ensures started { IfErr result (λ fault. fault ≢ GatherFault.ThreadNotStarted) }
 {
     let mut rounds = Rounds::new(alloc, reader, options.round().min(LONGEST_ALONE))?;
@@ -79,8 +80,10 @@ pub fn gather<R: Read + Drop + Send, H: Threads + Wait + Sync>(
 ) -> Result<Partial, GatherFault>
     ensures whole { IfOk result (IsWhole plan.now.fields plan.now.query (R.remaining reader)) }
     ensures limit { IfOk result (λ partial. partial.refused ≤ limit_number options.max_refused) }
-    ensures fault { IfErr result (λ fault. Stops fault options.max_refused plan.now.fields (R.remaining reader)) }
-    ensures started { options.workers ≡ 1 → IfErr result (λ fault. fault ≢ GatherFault.ThreadNotStarted) }
+    ensures fault { IfErr result (λ fault.
+        Stops fault options.max_refused plan.now.fields (R.remaining reader)) }
+    ensures started { options.workers ≡ 1
+        → IfErr result (λ fault. fault ≢ GatherFault.ThreadNotStarted) }
 {
     if options.workers() == 1 {
         return gather_alone(alloc, plan, options, reader);
@@ -103,7 +106,8 @@ fn reading_ahead<L: Ledger + Send + Sync, R: Read + Drop + Send, H: Threads + Wa
     requires parts { (blank.parts ≡ L.parts) × (L.parts ≡ options.workers) }
     ensures whole { IfOk result (IsWhole plan.now.fields plan.now.query (R.remaining reader)) }
     ensures limit { IfOk result (λ partial. partial.refused ≤ limit_number options.max_refused) }
-    ensures fault { IfErr result (λ fault. Stops fault options.max_refused plan.now.fields (R.remaining reader)) }
+    ensures fault { IfErr result (λ fault.
+        Stops fault options.max_refused plan.now.fields (R.remaining reader)) }
 {
     let (book, shares) = Book::<L>::new(alloc, blank, options.workers())?;
     let mut ahead = first_ahead(rt, alloc, plan, options, reader, shares)?;
@@ -140,9 +144,11 @@ fn first_ahead<L: Ledger, R: Read + Drop, H: Threads + Sync>(
 ) -> Result<Ahead<L, R>, GatherFault>
     requires hands { vec_len shares ≡ options.workers }
     requires none { All (λ share. share.sum ≤ 0) shares.items }
-    ensures ahead { IfOk result (λ ahead. IsAhead plan.now.fields plan.now.query (R.remaining reader) (limit_number options.max_refused) options.round options.workers (λ share. share.sum)
-        ahead.whole ahead.rounds ahead.found ahead.spare ahead.shares) }
-    ensures fault { IfErr result (λ fault. Stops fault options.max_refused plan.now.fields (R.remaining reader)) }
+    ensures ahead { IfOk result (λ ahead. IsAhead plan.now.fields plan.now.query
+        (R.remaining reader) (limit_number options.max_refused) options.round options.workers
+        (λ share. share.sum) ahead.whole ahead.rounds ahead.found ahead.spare ahead.shares) }
+    ensures fault { IfErr result (λ fault.
+        Stops fault options.max_refused plan.now.fields (R.remaining reader)) }
 {
     let mut rounds = Rounds::new(alloc, reader, options.round())?;
     let spare = Round::new(alloc, options.round())?;
@@ -172,16 +178,24 @@ fn work_ahead<L: Ledger + Send + Sync, R: Read + Drop + Send, H: Threads + Wait 
     ahead: Ahead<L, R>,
 ) -> Result<Ahead<L, R>, GatherFault>
     requires found { ahead.found ≡ true }
-    requires ahead { (known : Option (List ℕ)) × IsAhead plan.now.fields plan.now.query known (limit_number options.max_refused) options.round options.workers (λ share. share.sum)
-        ahead.whole ahead.rounds ahead.found ahead.spare ahead.shares }
-    ensures ahead { (known : Option (List ℕ)) → IsAhead plan.now.fields plan.now.query known (limit_number options.max_refused) options.round options.workers (λ share. share.sum)
+    requires ahead { (known : Option (List ℕ))
+        × IsAhead plan.now.fields plan.now.query known (limit_number options.max_refused)
+        options.round options.workers (λ share. share.sum) ahead.whole ahead.rounds ahead.found
+        ahead.spare ahead.shares }
+    ensures ahead { (known : Option (List ℕ))
+        → IsAhead plan.now.fields plan.now.query known (limit_number options.max_refused)
+        options.round options.workers (λ share. share.sum)
         ahead.whole ahead.rounds ahead.found ahead.spare ahead.shares
-        → IfOk result (λ next. IsAhead plan.now.fields plan.now.query known (limit_number options.max_refused) options.round options.workers (λ share. share.sum)
+        → IfOk result (λ next. IsAhead plan.now.fields plan.now.query known
+        (limit_number options.max_refused) options.round options.workers (λ share. share.sum)
         next.whole next.rounds next.found next.spare next.shares) }
-    ensures fault { (known : Option (List ℕ)) → IsAhead plan.now.fields plan.now.query known (limit_number options.max_refused) options.round options.workers (λ share. share.sum)
+    ensures fault { (known : Option (List ℕ))
+        → IsAhead plan.now.fields plan.now.query known (limit_number options.max_refused)
+        options.round options.workers (λ share. share.sum)
         ahead.whole ahead.rounds ahead.found ahead.spare ahead.shares
         → IfErr result (λ fault. Stops fault options.max_refused plan.now.fields known) }
-    ensures fewer { IfOk result (λ next. most_turns next.rounds next.found < most_turns ahead.rounds ahead.found) }
+    ensures fewer { IfOk result (λ next.
+        most_turns next.rounds next.found < most_turns ahead.rounds ahead.found) }
 {
     let Ahead {
         whole,
@@ -240,18 +254,23 @@ fn round_beside<L: Ledger + Send + Sync, R: Read + Drop + Send, H: Threads + Wai
     book: &Book<L>,
     shares: Vec<Share<L>>,
 ) -> Beside<L, R>
-    requires front { (front : List ℕ) × StandsForInput plan.now.fields plan.now.query before front × AreWholeLines front }
+    requires front { (front : List ℕ) × StandsForInput plan.now.fields plan.now.query before front
+        × AreWholeLines front }
     requires short { before.lines + length round.now.bytes < 2 ^ 63 }
     requires hands { (1 ≤ vec_len shares) × (vec_len shares ≤ 64) }
     requires reported { All (λ share. share.sum ≤ before.refused) shares.items }
     ensures read { HasMoved rounds result.read result.kept }
-    ensures whole { IfOk result.worked (λ r. StandsBehind plan.now.fields plan.now.query before round.now.bytes r.whole) }
+    ensures whole { IfOk result.worked (λ r.
+        StandsBehind plan.now.fields plan.now.query before round.now.bytes r.whole) }
     ensures limit { IfOk result.worked (λ r. r.whole.refused ≤ limit_number options.max_refused) }
-    ensures taken { IfOk result.worked (λ r. IsTaken (vec_len shares) round.now.bytes r.pieces.items r.hands.items) }
+    ensures taken { IfOk result.worked (λ r.
+        IsTaken (vec_len shares) round.now.bytes r.pieces.items r.hands.items) }
     ensures hands { IfOk result.worked (λ r. vec_len r.shares ≡ vec_len shares) }
-    ensures reported { IfOk result.worked (λ r. All (λ share. share.sum ≤ r.whole.refused) r.shares.items) }
+    ensures reported { IfOk result.worked (λ r.
+        All (λ share. share.sum ≤ r.whole.refused) r.shares.items) }
     ensures fault { IfErr result.worked (λ fault. IsWant fault
-        ⊎ Refuses fault options.max_refused (before.refused + length (refused plan.now.fields round.now.bytes))) }
+        ⊎ Refuses fault options.max_refused
+        (before.refused + length (refused plan.now.fields round.now.bytes))) }
 {
     let done = AtomicBool::new(false);
     let demand = &done;
@@ -273,7 +292,8 @@ fn round_beside<L: Ledger + Send + Sync, R: Read + Drop + Send, H: Threads + Wai
         rt,
         move || read_on(rounds, demand),
         move || -> Result<Worked<L>, GatherFault>
-            requires front { (front : List ℕ) × StandsForInput plan.now.fields plan.now.query before front × AreWholeLines front }
+            requires front { (front : List ℕ)
+                × StandsForInput plan.now.fields plan.now.query before front × AreWholeLines front }
             requires short { before.lines + length round.now.bytes < 2 ^ 63 }
             requires hands { (1 ≤ vec_len shares) × (vec_len shares ≤ 64) }
             requires reported { All (λ share. share.sum ≤ before.refused) shares.items }

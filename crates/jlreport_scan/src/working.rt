@@ -58,17 +58,22 @@ pub(crate) fn round_among<L: Ledger + Send + Sync, H: Threads + Wait + Sync>(
     book: &Book<L>,
     shares: Vec<Share<L>>,
 ) -> Result<Worked<L>, GatherFault>
-    requires front { (front : List ℕ) × StandsForInput plan.now.fields plan.now.query before front × AreWholeLines front }
+    requires front { (front : List ℕ) × StandsForInput plan.now.fields plan.now.query before front
+        × AreWholeLines front }
     requires short { before.lines + length round.now < 2 ^ 63 }
     requires hands { (1 ≤ vec_len shares) × (vec_len shares ≤ 64) }
     requires reported { All (λ share. share.sum ≤ before.refused) shares.items }
-    ensures whole { IfOk result (λ r. StandsBehind plan.now.fields plan.now.query before round.now r.whole) }
+    ensures whole { IfOk result (λ r.
+        StandsBehind plan.now.fields plan.now.query before round.now r.whole) }
     ensures limit { IfOk result (λ r. r.whole.refused ≤ limit_number options.max_refused) }
-    ensures taken { IfOk result (λ r. IsTaken (vec_len shares) round.now r.pieces.items r.hands.items) }
+    ensures taken { IfOk result (λ r.
+        IsTaken (vec_len shares) round.now r.pieces.items r.hands.items) }
     ensures hands { IfOk result (λ r. vec_len r.shares ≡ vec_len shares) }
-    ensures reported { IfOk result (λ r. All (λ share. share.sum ≤ r.whole.refused) r.shares.items) }
+    ensures reported { IfOk result (λ r.
+        All (λ share. share.sum ≤ r.whole.refused) r.shares.items) }
     ensures fault { IfErr result (λ fault. IsWant fault
-        ⊎ Refuses fault options.max_refused (before.refused + length (refused plan.now.fields round.now))) }
+        ⊎ Refuses fault options.max_refused
+        (before.refused + length (refused plan.now.fields round.now))) }
 {
     let pieces = pieces_of(alloc, round, options.piece())?;
     let front = before.in_one_piece()?;
@@ -109,9 +114,11 @@ fn limit_of(options: Options) -> u64
 
 /// The result that a pool answers; Over is the fault that too many lines are refused.
 fn decided(options: Options, outcome: Outcome<Partial>) -> Result<Partial, GatherFault>
-    requires { (count : ℕ) × (count < 2 ^ 63) × IsUnder count (limit_number options.max_refused) outcome }
+    requires { (count : ℕ) × (count < 2 ^ 63)
+        × IsUnder count (limit_number options.max_refused) outcome }
     ensures whole { IfOk result (λ partial. outcome ≡ Outcome.Whole partial) }
-    ensures fault { (count : ℕ) → IsUnder count (limit_number options.max_refused) outcome → IfErr result (λ fault. Refuses fault options.max_refused count) }
+    ensures fault { (count : ℕ) → IsUnder count (limit_number options.max_refused) outcome
+        → IfErr result (λ fault. Refuses fault options.max_refused count) }
 {
     match (outcome, options.max_refused()) {
         (Outcome::Whole(partial), _) => Ok(partial),

@@ -24,7 +24,8 @@ pub fn clip_law()
 /// rest, and so it is with the valid records and with the refused lines, of which those of the rest are numbered behind
 /// the lines of the front.
 pub fn front_law()
-    ensures lines { (front rest : List ℕ) → AreWholeLines front → lines (front ++ rest) ≡ lines front ++ lines rest }
+    ensures lines { (front rest : List ℕ) → AreWholeLines front
+        → lines (front ++ rest) ≡ lines front ++ lines rest }
     ensures valid { (fields : List Field) (front rest : List ℕ) → AreWholeLines front
         → valid_records fields (front ++ rest)
         ≡ valid_records fields front ++ valid_records fields rest }

@@ -33,7 +33,8 @@ pub(crate) fn skip_lines(held: &mut LineBuffer, window: usize) -> bool
     ensures found { IsTrue result → held.old.cut < held.new.cut }
     ensures within { held.new.cut ≤ held.old.cut + window }
     ensures missed { IsFalse result → (held.new.cut ≡ held.old.cut) }
-    ensures none { IsFalse result → NoFeedBetween held.old.buffer.items held.old.cut (held.old.cut + window) }
+    ensures none { IsFalse result
+        → NoFeedBetween held.old.buffer.items held.old.cut (held.old.cut + window) }
 {
     match memrchr(b'\n', &held.buffer[held.cut..held.cut + window]) {
         Some(place) => {

@@ -80,7 +80,8 @@ fn read_more<R: Read + Drop>(
     requires capacity { most ≤ vec_capacity held.old.buffer }
     requires limit { source.old.taken < 2 ^ 63 }
     ensures held { OnOk result (IsHeld held.new) }
-    ensures left { OnOk result (Keeps (left_of held.old (R.remaining source.old.reader)) (left_of held.new (R.remaining source.new.reader))) }
+    ensures left { OnOk result (Keeps (left_of held.old (R.remaining source.old.reader))
+        (left_of held.new (R.remaining source.new.reader))) }
     ensures len { vec_len held.new.buffer ≤ most }
     ensures capacity { most ≤ vec_capacity held.new.buffer }
     ensures cut { held.new.cut ≡ held.old.cut }
@@ -113,11 +114,13 @@ fn fill<R: Read + Drop>(
     requires room { size + 65536 ≤ vec_capacity held.old.buffer }
     requires limit { source.old.taken < 2 ^ 63 }
     ensures held { OnOk result (IsHeld held.new) }
-    ensures left { OnOk result (Keeps (left_of held.old (R.remaining source.old.reader)) (left_of held.new (R.remaining source.new.reader))) }
+    ensures left { OnOk result (Keeps (left_of held.old (R.remaining source.old.reader))
+        (left_of held.new (R.remaining source.new.reader))) }
     ensures len { vec_len held.new.buffer ≤ size + 65536 }
     ensures room { size + 65536 ≤ vec_capacity held.new.buffer }
     ensures within { OnOk result (held.new.cut ≤ aim) }
-    ensures taken { OnOk result (held.new.filled + source.old.taken ≤ held.old.filled + source.new.taken) }
+    ensures taken { OnOk result (held.new.filled + source.old.taken
+        ≤ held.old.filled + source.new.taken) }
     ensures limit { OnOk result (source.new.taken < 2 ^ 63) }
     ensures read { HasRead (R.remaining source.old.reader) (R.remaining source.new.reader)
         source.old.taken source.new.taken }
@@ -155,13 +158,15 @@ fn fill_for<R: Read + Drop, D: Demand>(
     requires room { size + 65536 ≤ vec_capacity held.old.buffer }
     requires limit { source.old.taken < 2 ^ 63 }
     ensures held { OnOk result (IsHeld held.new) }
-    ensures left { OnOk result (Keeps (left_of held.old (R.remaining source.old.reader)) (left_of held.new (R.remaining source.new.reader))) }
+    ensures left { OnOk result (Keeps (left_of held.old (R.remaining source.old.reader))
+        (left_of held.new (R.remaining source.new.reader))) }
     ensures len { vec_len held.new.buffer ≤ size + 65536 }
     ensures room { size + 65536 ≤ vec_capacity held.new.buffer }
     ensures within { IfOk result (λ r. held.new.cut ≤ r.1) }
     ensures near { IfOk result (λ r. r.1 ≤ aim) }
     ensures long { IfOk result (λ r. clipped_len < aim → clipped_len < r.1) }
-    ensures taken { OnOk result (held.new.filled + source.old.taken ≤ held.old.filled + source.new.taken) }
+    ensures taken { OnOk result (held.new.filled + source.old.taken
+        ≤ held.old.filled + source.new.taken) }
     ensures limit { OnOk result (source.new.taken < 2 ^ 63) }
     ensures read { HasRead (R.remaining source.old.reader) (R.remaining source.new.reader)
         source.old.taken source.new.taken }
@@ -204,8 +209,10 @@ fn read_block<R: Read + Drop, D: Demand>(
     ensures none { OnOk result (held.new.cut ≡ 0 → IsHeld held.new) }
     ensures within { OnOk result ((held.new.cut ≤ held.new.filled) × (held.new.cut ≤ size)) }
     ensures filled { OnOk result (held.new.filled ≤ vec_len held.new.buffer) }
-    ensures all { IfOk result (λ ended. IsTrue ended → (held.new.cut ≡ held.new.filled) × IsAtEnd (R.remaining source.new.reader)) }
-    ensures taken { OnOk result (held.new.filled + source.old.taken ≤ held.old.filled - held.old.cut + source.new.taken) }
+    ensures all { IfOk result (λ ended. IsTrue ended
+        → (held.new.cut ≡ held.new.filled) × IsAtEnd (R.remaining source.new.reader)) }
+    ensures taken { OnOk result (held.new.filled + source.old.taken
+        ≤ held.old.filled - held.old.cut + source.new.taken) }
     ensures limit { OnOk result (source.new.taken < 2 ^ 63) }
     ensures read { HasRead (R.remaining source.old.reader) (R.remaining source.new.reader)
         source.old.taken source.new.taken }
@@ -289,9 +296,12 @@ impl Model for Round {
 
     ghost Value = { RoundState };
 
-    ghost view = { λ inside. record { bytes = take inside.len inside.buffer.items; size = inside.size } };
+    ghost view = { λ inside.
+        record { bytes = take inside.len inside.buffer.items; size = inside.size } };
 
-    ghost invariant = { λ inside. (inside.len ≤ vec_len inside.buffer) × (vec_len inside.buffer ≤ inside.size + 65536) × (inside.size + 65536 ≤ vec_capacity inside.buffer) };
+    ghost invariant = { λ inside. (inside.len ≤ vec_len inside.buffer)
+        × (vec_len inside.buffer ≤ inside.size + 65536)
+        × (inside.size + 65536 ≤ vec_capacity inside.buffer) };
 }
 
 impl Round {
@@ -387,7 +397,8 @@ impl<R: Read + Drop> Model for Rounds<R> {
     } };
 
     ghost invariant = { λ inside.
-        IsBetween inside.held (R.remaining inside.source.reader) inside.aim inside.size inside.source.taken inside.given inside.over inside.failed inside.source.erred };
+        IsBetween inside.held (R.remaining inside.source.reader) inside.aim inside.size
+        inside.source.taken inside.given inside.over inside.failed inside.source.erred };
 }
 
 impl<R: Read + Drop> Rounds<R> {

@@ -43,12 +43,13 @@ impl<R: Read + Drop> Source<R> {
         ensures length { length buffer.new ≡ length buffer.old }
         ensures front { take at buffer.new ≡ take at buffer.old }
         ensures fits { IfOk result (λ n. at + n ≤ length buffer.new) }
-        ensures bytes { IfOk result (λ n. Consumes (R.remaining self.old.reader) (R.remaining self.new.reader)
-            (take n (drop at buffer.new))) }
+        ensures bytes { IfOk result (λ n. Consumes (R.remaining self.old.reader)
+            (R.remaining self.new.reader) (take n (drop at buffer.new))) }
         ensures end { IfOk result (λ n. n ≡ 0 → IsAtEnd (R.remaining self.new.reader)) }
         ensures taken { IfOk result (λ n. self.new.taken ≡ self.old.taken + n) }
         ensures below { OnOk result (self.new.taken < 2 ^ 63) }
-        ensures read { HasRead (R.remaining self.old.reader) (R.remaining self.new.reader) self.old.taken self.new.taken }
+        ensures read { HasRead (R.remaining self.old.reader) (R.remaining self.new.reader)
+            self.old.taken self.new.taken }
         ensures cause { IsErr result → HasCause self.new.erred self.new.taken }
     {
         match self.reader.read(&mut buffer[at..]) {

@@ -22,11 +22,13 @@ use values::{Column, Kind, Record, Schema, Value};
 /// is too long is refused as `TooLong`, whatever memory there is.
 pub fn read_by_tree(alloc: Global, schema: &Schema, line: &[u8]) -> Result<Record, LineRefusal>
     ensures ok { IfOk result (λ «record». decode_line schema.now line.now ≡ Ok «record») }
-    ensures refused { IfErr result (λ refusal. IsRefusal refusal (decode_line schema.now line.now)) }
+    ensures refused { IfErr result (λ refusal.
+        IsRefusal refusal (decode_line schema.now line.now)) }
     ensures fits { IfOk result (λ «record». Fits schema.now «record») }
 
     // A line that is too long is not looked into, so its refusal never is for want of memory.
-    ensures too_long { max_line_len < length line.now → result ≡ Err (LineRefusal.Fault LineFault.TooLong) }
+    ensures too_long { max_line_len < length line.now
+        → result ≡ Err (LineRefusal.Fault LineFault.TooLong) }
 {
     if line.len() > MAX_LINE_LEN {
         return Err(LineRefusal::Fault(LineFault::TooLong));
@@ -51,9 +53,10 @@ fn take_values(
 ) -> Result<Vec<Value>, LineRefusal>
     requires { IsSchema (fields_of columns.now) }
     ensures ok { IfOk result (λ v.
-        all_taken (data_taken (fields_of columns.now) (members_view members.old.entries)) ≡ Ok (data_of v.items)) }
-    ensures refused { IfErr result (λ refusal.
-        IsRefusal refusal (all_taken (data_taken (fields_of columns.now) (members_view members.old.entries)))) }
+        all_taken (data_taken (fields_of columns.now) (members_view members.old.entries))
+        ≡ Ok (data_of v.items)) }
+    ensures refused { IfErr result (λ refusal. IsRefusal refusal
+        (all_taken (data_taken (fields_of columns.now) (members_view members.old.entries)))) }
     ensures fits { IfOk result (λ v. Fits (fields_of columns.now) (data_of v.items)) }
 {
     let mut values = Vec::with_capacity(alloc, columns.len()).map_err(|_| LineRefusal::Memory)?;
@@ -68,10 +71,11 @@ fn take_values(
 
 /// Takes a column's value out of an object's members; `None` where the column does not take its member.
 fn take_value(column: &Column, members: &mut Map<String, Json>) -> Option<Value>
-    ensures taken { option_map datum_of result
-        ≡ datum_taken column.now.kind (member_of (members_view members.old.entries) (string_bytes column.now.name)) }
+    ensures taken { option_map datum_of result ≡ datum_taken column.now.kind
+        (member_of (members_view members.old.entries) (string_bytes column.now.name)) }
     ensures others { (name : List ℕ) → name ≢ string_bytes column.now.name
-        → get_member name (members_view members.new.entries) ≡ get_member name (members_view members.old.entries) }
+        → get_member name (members_view members.new.entries)
+        ≡ get_member name (members_view members.old.entries) }
 {
     let json = take_member(members, column.name.as_str());
     value_taken(column.kind, json)
@@ -81,7 +85,8 @@ fn take_value(column: &Column, members: &mut Map<String, Json>) -> Option<Value>
 fn take_member(members: &mut Map<String, Json>, name: &str) -> Json
     ensures taken { view result ≡ member_of (members_view members.old.entries) name.now }
     ensures others { (other : List ℕ) → other ≢ name.now
-        → get_member other (members_view members.new.entries) ≡ get_member other (members_view members.old.entries) }
+        → get_member other (members_view members.new.entries)
+        ≡ get_member other (members_view members.old.entries) }
 {
     match members.get_mut(name) {
         Some(member) => member.take(),

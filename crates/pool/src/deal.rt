@@ -41,7 +41,8 @@ impl Model for LocalQueue {
 
     ghost view = { λ o. owned_of (worker_deque o.worker) (worker_view o.worker) o.closed };
 
-    ghost invariant = { λ o. (worker_flavor o.worker ≡ 0) × IsOwner (worker_view o.worker) o.closed };
+    ghost invariant = { λ o. (worker_flavor o.worker ≡ 0)
+        × IsOwner (worker_view o.worker) o.closed };
 }
 
 /// A handle to steal by: the end of another hand's deque.
@@ -62,14 +63,16 @@ impl Model for StealHandle {
 
     ghost view = { λ r. seen_of (stealer_deque r.thief) (pass_view r.pass) };
 
-    ghost invariant = { λ r. IsPassOf (stealer_deque r.thief) r.pass × (stealer_flavor r.thief ≡ 0) × IsThief (pass_view r.pass) r.closed };
+    ghost invariant = { λ r. IsPassOf (stealer_deque r.thief) r.pass × (stealer_flavor r.thief ≡ 0)
+        × IsThief (pass_view r.pass) r.closed };
 }
 
 impl LocalQueue {
     /// The first number of the deque. None, where only end marks are left: from then on there is none for good.
     fn take(&mut self) -> Option<u32>
         requires { self.old.closed ≡ false }
-        ensures { MatchOption result (self.new ≡ now_closed self.old) (λ x. (s : Seen) × Took self.old.seen x s × (self.new ≡ with_seen self.old s)) }
+        ensures { MatchOption result (self.new ≡ now_closed self.old) (λ x.
+            (s : Seen) × Took self.old.seen x s × (self.new ≡ with_seen self.old s)) }
     {
         let Some(packed) = self.worker.pop_as::<Taken>() else {
             unreachable!();
@@ -188,7 +191,8 @@ fn steal(others: &mut Vec<StealHandle>) -> Option<u32>
 /// The first of its own deque, unless it was found to have none before.
 fn own_first(own: &mut LocalQueue) -> Option<u32>
     ensures none { IfNone result (own.new ≡ now_closed own.old) }
-    ensures some { IfSome result (λ x. (s : Seen) × Took own.old.seen x s × (own.new ≡ with_seen own.old s) × (own.old.closed ≡ false)) }
+    ensures some { IfSome result (λ x. (s : Seen) × Took own.old.seen x s
+        × (own.new ≡ with_seen own.old s) × (own.old.closed ≡ false)) }
 {
     if own.closed {
         return None;
@@ -223,10 +227,16 @@ impl LocalQueue {
     fn apart(&mut self, before: &mut [Hand], after: &mut [Hand])
         requires few { length before.old + length after.old < 64 }
         requires count { self.old.made ≡ length before.old + length after.old + 1 }
-        requires after { AllReach self.old.seen.deque self.old.seen.numbers (length before.old + length after.old) after.old }
-        requires before { AllReach self.old.seen.deque self.old.seen.numbers (length before.old) before.old }
+        requires after { AllReach self.old.seen.deque self.old.seen.numbers
+            (length before.old + length after.old) after.old }
+        requires before { AllReach self.old.seen.deque self.old.seen.numbers
+            (length before.old) before.old }
         ensures same { (self.new ≡ self.old) × (before.new ≡ before.old) × (after.new ≡ after.old) }
-        ensures apart { (x : ℕ) → UpTo (self.old.closed ≡ true) (times x self.old.seen.list + (held x (told (length before.old + length after.old) after.old) + held x (told (length before.old) before.old))) (times x self.old.seen.numbers) }
+        ensures apart { (x : ℕ)
+            → UpTo (self.old.closed ≡ true) (times x self.old.seen.list
+            + (held x (told (length before.old + length after.old) after.old)
+            + held x (told (length before.old) before.old)))
+            (times x self.old.seen.numbers) }
     {
         let place = before.len() + after.len();
         compare(&mut self.worker, after, before, place);
@@ -252,10 +262,16 @@ impl Hand {
     fn apart(&mut self, before: &mut [Hand], after: &mut [Hand])
         requires few { length before.old + length after.old < 64 }
         requires count { self.old.own.made ≡ length before.old + length after.old + 1 }
-        requires after { AllReach self.old.own.seen.deque self.old.own.seen.numbers (length before.old + length after.old) after.old }
-        requires before { AllReach self.old.own.seen.deque self.old.own.seen.numbers (length before.old) before.old }
+        requires after { AllReach self.old.own.seen.deque self.old.own.seen.numbers
+            (length before.old + length after.old) after.old }
+        requires before { AllReach self.old.own.seen.deque self.old.own.seen.numbers
+            (length before.old) before.old }
         ensures same { (self.new ≡ self.old) × (before.new ≡ before.old) × (after.new ≡ after.old) }
-        ensures apart { (x : ℕ) → UpTo (self.old.own.closed ≡ true) (times x self.old.own.seen.list + (held x (told (length before.old + length after.old) after.old) + held x (told (length before.old) before.old))) (times x self.old.own.seen.numbers) }
+        ensures apart { (x : ℕ)
+            → UpTo (self.old.own.closed ≡ true) (times x self.old.own.seen.list
+            + (held x (told (length before.old + length after.old) after.old)
+            + held x (told (length before.old) before.old)))
+            (times x self.old.own.seen.numbers) }
     {
         self.local.apart(before, after);
     }
@@ -267,7 +283,9 @@ fn apart_of(hands: &mut [Hand], d: usize)
     requires deal { AreAll hands.old }
     requires low { d < length hands.old }
     ensures same { hands.new ≡ hands.old }
-    ensures apart { (x : ℕ) → x % length hands.old ≡ d → UpTo (IsClosed d hands.old) (times x (joined hands.old)) (once_below x (pieces_of hands.old)) }
+    ensures apart { (x : ℕ) → x % length hands.old ≡ d
+        → UpTo (IsClosed d hands.old) (times x (joined hands.old))
+        (once_below x (pieces_of hands.old)) }
 {
     let (before, rest) = hands.split_at_mut(d);
     let Some((mine, after)) = rest.split_first_mut() else {
@@ -281,7 +299,9 @@ fn apart_of(hands: &mut [Hand], d: usize)
 pub fn apart(hands: &mut [Hand])
     requires deal { AreAll hands.old }
     ensures same { hands.new ≡ hands.old }
-    ensures apart { (x : ℕ) → UpTo (IsClosed (x % length hands.old) hands.old) (times x (joined hands.old)) (once_below x (pieces_of hands.old)) }
+    ensures apart { (x : ℕ)
+        → UpTo (IsClosed (x % length hands.old) hands.old) (times x (joined hands.old))
+        (once_below x (pieces_of hands.old)) }
 {
     for d in 0..hands.len() {
         apart_of(hands, d);
@@ -341,10 +361,14 @@ pub fn first_hand(
 /// The owner takes in a seat of its deque, behind its own.
 fn take_in(worker: &mut Deque, pass: Pass<Packed, View, Global>, closed: bool)
     requires pass { IsPassOf (worker_deque worker.old) pass × IsThief (pass_view pass) closed }
-    requires owner { ((worker_view worker.old).filling ≡ false) × Seated (worker_view worker.old).known }
-    ensures deque { (worker_deque worker.new ≡ worker_deque worker.old) × (worker_flavor worker.new ≡ worker_flavor worker.old) }
-    ensures lent { worker_view worker.new ≡ lent_view (worker_view worker.new).closed (worker_view worker.old) (pass_view pass) }
-    ensures closed { (closed ≡ true → (worker_view worker.new).closed ≡ true) × ((worker_view worker.old).closed ≡ true → (worker_view worker.new).closed ≡ true) }
+    requires owner { ((worker_view worker.old).filling ≡ false)
+        × Seated (worker_view worker.old).known }
+    ensures deque { (worker_deque worker.new ≡ worker_deque worker.old)
+        × (worker_flavor worker.new ≡ worker_flavor worker.old) }
+    ensures lent { worker_view worker.new
+        ≡ lent_view (worker_view worker.new).closed (worker_view worker.old) (pass_view pass) }
+    ensures closed { (closed ≡ true → (worker_view worker.new).closed ≡ true)
+        × ((worker_view worker.old).closed ≡ true → (worker_view worker.new).closed ≡ true) }
 {
     if closed {
         worker.absorb::<LendShut>(pass);
@@ -355,11 +379,16 @@ fn take_in(worker: &mut Deque, pass: Pass<Packed, View, Global>, closed: bool)
 
 /// The second hand that the owner knows has its seat again.
 fn give_back(worker: &mut Deque, closed: bool) -> Pass<Packed, View, Global>
-    requires second { (p : ℕ × List ℕ) × (q : ℕ × List ℕ) × (more : List (ℕ × List ℕ)) × ((worker_view worker.old).known ≡ p ∷ q ∷ more) × (p.0 ≡ q.0 → ⊥) × Apart q.0 more }
-    requires owner { ((worker_view worker.old).filling ≡ false) × (closed ≡ false → 0 < (worker_view worker.old).ends) }
-    ensures deque { (worker_deque worker.new ≡ worker_deque worker.old) × (worker_flavor worker.new ≡ worker_flavor worker.old) }
+    requires second { (p : ℕ × List ℕ) × (q : ℕ × List ℕ) × (more : List (ℕ × List ℕ))
+        × ((worker_view worker.old).known ≡ p ∷ q ∷ more) × (p.0 ≡ q.0 → ⊥) × Apart q.0 more }
+    requires owner { ((worker_view worker.old).filling ≡ false)
+        × (closed ≡ false → 0 < (worker_view worker.old).ends) }
+    ensures deque { (worker_deque worker.new ≡ worker_deque worker.old)
+        × (worker_flavor worker.new ≡ worker_flavor worker.old) }
     ensures pass { IsPassOf (worker_deque worker.old) result }
-    ensures given { (n : ℕ) × (worker_view worker.new ≡ giving_view n (worker_view worker.old)) × (pass_view result ≡ given_view n (worker_view worker.old)) × (closed ≡ false → n ≡ 1) × (closed ≡ true → n ≡ 0) }
+    ensures given { (n : ℕ) × (worker_view worker.new ≡ giving_view n (worker_view worker.old))
+        × (pass_view result ≡ given_view n (worker_view worker.old)) × (closed ≡ false → n ≡ 1)
+        × (closed ≡ true → n ≡ 0) }
 {
     if closed {
         return worker.another::<GiveShut>();
@@ -371,16 +400,24 @@ impl StealHandle {
     /// The owner of the deque takes in this hand's seat.
     #[cycle(compare)]
     fn lend(&mut self, worker: &mut Deque, others: &mut [Hand], more: &mut [Hand], place: usize)
-        requires place { (self.old.place ≡ place) × (0 < place) × (place ≡ length others.old + length more.old + 1) × (place < 64) }
+        requires place { (self.old.place ≡ place) × (0 < place)
+            × (place ≡ length others.old + length more.old + 1) × (place < 64) }
         requires deque { self.old.deque ≡ worker_deque worker.old }
         requires numbers { self.old.numbers ≡ (worker_view worker.old).numbers }
         requires owner { KnowsAbove place (worker_view worker.old) }
-        requires others { AllReach (worker_deque worker.old) (worker_view worker.old).numbers (place - 1) others.old }
-        requires more { AllReach (worker_deque worker.old) (worker_view worker.old).numbers (length more.old) more.old }
+        requires others { AllReach (worker_deque worker.old) (worker_view worker.old).numbers
+            (place - 1) others.old }
+        requires more { AllReach (worker_deque worker.old) (worker_view worker.old).numbers
+            (length more.old) more.old }
         ensures same { (self.new ≡ self.old) × (others.new ≡ others.old) × (more.new ≡ more.old) }
-        ensures deque { (worker_deque worker.new ≡ worker_deque worker.old) × (worker_flavor worker.new ≡ worker_flavor worker.old) }
+        ensures deque { (worker_deque worker.new ≡ worker_deque worker.old)
+            × (worker_flavor worker.new ≡ worker_flavor worker.old) }
         ensures looked { Looked (worker_view worker.old) (worker_view worker.new) }
-        ensures within { (x : ℕ) → UpTo ((worker_view worker.old).closed ≡ true) (held x (worker_view worker.old).known + (times x self.old.list + (held x (told (place - 1) others.old) + held x (told (length more.old) more.old)))) (times x (worker_view worker.old).numbers) }
+        ensures within { (x : ℕ)
+            → UpTo ((worker_view worker.old).closed ≡ true)
+            (held x (worker_view worker.old).known + (times x self.old.list
+            + (held x (told (place - 1) others.old) + held x (told (length more.old) more.old))))
+            (times x (worker_view worker.old).numbers) }
     {
         let closed = self.closed;
         let blank = worker.another::<Seal>();
@@ -397,12 +434,18 @@ impl StealHandle {
 fn compare(worker: &mut Deque, hands: &mut [Hand], more: &mut [Hand], place: usize)
     requires place { (place ≡ length hands.old + length more.old) × (place < 64) }
     requires owner { KnowsAbove place (worker_view worker.old) }
-    requires hands { AllReach (worker_deque worker.old) (worker_view worker.old).numbers place hands.old }
-    requires more { AllReach (worker_deque worker.old) (worker_view worker.old).numbers (length more.old) more.old }
+    requires hands { AllReach (worker_deque worker.old) (worker_view worker.old).numbers
+        place hands.old }
+    requires more { AllReach (worker_deque worker.old) (worker_view worker.old).numbers
+        (length more.old) more.old }
     ensures same { (hands.new ≡ hands.old) × (more.new ≡ more.old) }
-    ensures deque { (worker_deque worker.new ≡ worker_deque worker.old) × (worker_flavor worker.new ≡ worker_flavor worker.old) }
+    ensures deque { (worker_deque worker.new ≡ worker_deque worker.old)
+        × (worker_flavor worker.new ≡ worker_flavor worker.old) }
     ensures looked { Looked (worker_view worker.old) (worker_view worker.new) }
-    ensures within { (x : ℕ) → UpTo ((worker_view worker.old).closed ≡ true) (held x (worker_view worker.old).known + (held x (told place hands.old) + held x (told (length more.old) more.old))) (times x (worker_view worker.old).numbers) }
+    ensures within { (x : ℕ)
+        → UpTo ((worker_view worker.old).closed ≡ true) (held x (worker_view worker.old).known
+        + (held x (told place hands.old) + held x (told (length more.old) more.old)))
+        (times x (worker_view worker.old).numbers) }
 {
     if let Some((hand, rest)) = hands.split_first_mut() {
         let handle = &mut hand.others[place - 1];

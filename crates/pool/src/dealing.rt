@@ -88,7 +88,8 @@ fn fill_all(deques: &mut Vec<Filling>, pieces: u32) -> Result<(), AllocError>
 fn seal_all(alloc: Global, deques: Vec<Filling>, hands: usize) -> Result<Vec<Source>, AllocError>
     requires { (0 < hands) × (hands < 65) }
     ensures count { IfOk result (λ v. vec_len v ≡ vec_len deques) }
-    ensures offers { IfOk result (λ v. (n : ℕ) → AreFilled hands n deques.items → AreOffers hands n 1 v.items) }
+    ensures offers { IfOk result (λ v. (n : ℕ) → AreFilled hands n deques.items
+        → AreOffers hands n 1 v.items) }
 {
     let mut sources = Vec::new(alloc);
     for deque in deques {
@@ -113,9 +114,12 @@ fn empty_rounds(alloc: Global, hands: usize) -> Result<Vec<Round>, AllocError>
 /// Each deque gives its seat at the place r, to the hand that stands so many places before it.
 fn seat_all(sources: &mut Vec<Source>, rounds: &mut Vec<Round>, r: usize) -> Result<(), AllocError>
     requires place { (0 < r) × (r < vec_len sources.old) × (vec_len sources.old < 65) }
-    requires at { (pieces : ℕ) × IsAt (vec_len sources.old) pieces r sources.old.items rounds.old.items }
+    requires at { (pieces : ℕ)
+        × IsAt (vec_len sources.old) pieces r sources.old.items rounds.old.items }
     ensures count { OnOk result (vec_len sources.new ≡ vec_len sources.old) }
-    ensures at { OnOk result ((pieces : ℕ) → IsAt (vec_len sources.old) pieces r sources.old.items rounds.old.items → IsAt (vec_len sources.old) pieces (r + 1) sources.new.items rounds.new.items) }
+    ensures at { OnOk result ((pieces : ℕ)
+        → IsAt (vec_len sources.old) pieces r sources.old.items rounds.old.items
+        → IsAt (vec_len sources.old) pieces (r + 1) sources.new.items rounds.new.items) }
 {
     let hands = sources.len();
     for e in 0..hands {
@@ -130,9 +134,13 @@ fn seat_all(sources: &mut Vec<Source>, rounds: &mut Vec<Round>, r: usize) -> Res
 /// Each hand gets its seat at each deque.
 fn seat_everyone(sources: &mut Vec<Source>, rounds: &mut Vec<Round>) -> Result<(), AllocError>
     requires count { (0 < vec_len sources.old) × (vec_len sources.old < 65) }
-    requires at { (pieces : ℕ) × IsAt (vec_len sources.old) pieces 1 sources.old.items rounds.old.items }
+    requires at { (pieces : ℕ)
+        × IsAt (vec_len sources.old) pieces 1 sources.old.items rounds.old.items }
     ensures count { OnOk result (vec_len sources.new ≡ vec_len sources.old) }
-    ensures at { OnOk result ((pieces : ℕ) → IsAt (vec_len sources.old) pieces 1 sources.old.items rounds.old.items → IsAt (vec_len sources.old) pieces (vec_len sources.old) sources.new.items rounds.new.items) }
+    ensures at { OnOk result ((pieces : ℕ)
+        → IsAt (vec_len sources.old) pieces 1 sources.old.items rounds.old.items
+        → IsAt (vec_len sources.old) pieces (vec_len sources.old) sources.new.items
+        rounds.new.items) }
 {
     for r in 1..sources.len() {
         seat_all(sources, rounds, r)?;

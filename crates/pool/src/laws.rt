@@ -99,8 +99,10 @@ pub trait Work {
     /// `AllocError` where memory was refused. Both parts are then given up.
     fn combine(&self, a: Self::Part, b: Self::Part) -> Result<Self::Part, AllocError>
         requires parts { Self.fits self.now (Self.meaning a) × Self.fits self.now (Self.meaning b) }
-        requires room { Self.load_of self.now (Self.meaning a) + Self.load_of self.now (Self.meaning b) < 2 ^ 63 }
-        ensures { IfOk result (λ p. Self.meaning p ≡ Self.combined self.now (Self.meaning a) (Self.meaning b)) };
+        requires room { Self.load_of self.now (Self.meaning a)
+            + Self.load_of self.now (Self.meaning b) < 2 ^ 63 }
+        ensures { IfOk result (λ p.
+            Self.meaning p ≡ Self.combined self.now (Self.meaning a) (Self.meaning b)) };
 
     /// A part with one piece more. It may be written anew where a piece can go onto a part without a part of its own.
     /// It asks that the part is one of this work, and that its load and the piece's add up to less than 2^63.
@@ -112,8 +114,10 @@ pub trait Work {
     /// `AllocError` where memory was refused. The part is then given up.
     fn add(&self, part: Self::Part, i: u32) -> Result<Self::Part, AllocError>
         requires part { Self.fits self.now (Self.meaning part) }
-        requires more { Self.load_of self.now (Self.meaning part) + Self.load_of self.now (Self.piece_meaning self.now i) < 2 ^ 63 }
-        ensures { IfOk result (λ p. Self.meaning p ≡ Self.combined self.now (Self.meaning part) (Self.piece_meaning self.now i)) }
+        requires more { Self.load_of self.now (Self.meaning part)
+            + Self.load_of self.now (Self.piece_meaning self.now i) < 2 ^ 63 }
+        ensures { IfOk result (λ p. Self.meaning p
+            ≡ Self.combined self.now (Self.meaning part) (Self.piece_meaning self.now i)) }
     {
         let piece = self.piece(i)?;
         self.combine(part, piece)
@@ -123,16 +127,20 @@ pub trait Work {
     ///
     /// Example: where a part stands for lines of a file, the number of those that are refused.
     fn weight(&self, p: &Self::Part) -> u64
-        requires { Self.fits self.now (Self.meaning p.now) × (Self.load_of self.now (Self.meaning p.now) < 2 ^ 63) }
+        requires { Self.fits self.now (Self.meaning p.now)
+            × (Self.load_of self.now (Self.meaning p.now) < 2 ^ 63) }
         ensures { result ≡ Self.weight_of self.now (Self.meaning p.now) };
 
     /// The part's load. No weight is above it. It asks that the part is one of this work, of a load below 2^63.
     ///
     /// Example: where a part stands for lines of a file, the number of all of them.
     fn load(&self, p: &Self::Part) -> u64
-        requires { Self.fits self.now (Self.meaning p.now) × (Self.load_of self.now (Self.meaning p.now) < 2 ^ 63) }
+        requires { Self.fits self.now (Self.meaning p.now)
+            × (Self.load_of self.now (Self.meaning p.now) < 2 ^ 63) }
         ensures { result ≡ Self.load_of self.now (Self.meaning p.now) };
 
     /// The meanings of a work keep the laws.
-    ghost lawful: { (w : Self) → Lawful (Self.fits w) (Self.unit_meaning w) (Self.combined w) (Self.piece_meaning w) (Self.weight_of w) (Self.load_of w) };
+    ghost lawful: { (w : Self)
+        → Lawful (Self.fits w) (Self.unit_meaning w) (Self.combined w) (Self.piece_meaning w)
+        (Self.weight_of w) (Self.load_of w) };
 }

@@ -15,8 +15,12 @@ use crate::laws::{Outcome, PoolFault, Work};
 ///
 /// `OutOfMemory`, and no other.
 pub fn alone<W: Work>(work: &W, pieces: u32, limit: u64) -> Result<Outcome<W::Part>, PoolFault>
-    requires loads { sum_below (λ i. W.load_of work.now (W.piece_meaning work.now i)) pieces < 2 ^ 63 }
-    ensures { MatchResult result (Decides W.meaning (total (W.unit_meaning work.now) (W.combined work.now) (W.piece_meaning work.now) pieces) (sum_below (λ i. W.weight_of work.now (W.piece_meaning work.now i)) pieces) limit) (λ e. e ≡ PoolFault.OutOfMemory) }
+    requires loads { sum_below (λ i. W.load_of work.now (W.piece_meaning work.now i)) pieces
+        < 2 ^ 63 }
+    ensures { MatchResult result (Decides W.meaning
+        (total (W.unit_meaning work.now) (W.combined work.now) (W.piece_meaning work.now) pieces)
+        (sum_below (λ i. W.weight_of work.now (W.piece_meaning work.now i)) pieces) limit)
+        (λ e. e ≡ PoolFault.OutOfMemory) }
 {
     let mut part = work.unit()?;
     for i in 0..pieces {

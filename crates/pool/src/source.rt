@@ -33,7 +33,9 @@ impl Model for Filling {
 
     ghost view = { λ s. (worker_view s.worker).numbers };
 
-    ghost invariant = { λ s. (worker_flavor s.worker ≡ 0) × (worker_view s.worker ≡ view_of true true 0 1 (worker_view s.worker).numbers ((0, []) ∷ []) false) };
+    ghost invariant = { λ s. (worker_flavor s.worker ≡ 0)
+        × (worker_view s.worker
+        ≡ view_of true true 0 1 (worker_view s.worker).numbers ((0, []) ∷ []) false) };
 }
 
 #[derive(Drop)]
@@ -53,7 +55,10 @@ impl Model for Source {
 
     ghost view = { λ s. offer_of (worker_deque s.worker) (worker_view s.worker) s.hands };
 
-    ghost invariant = { λ s. (worker_flavor s.worker ≡ 0) × (worker_view s.worker ≡ view_of false true (s.hands + 1 - (worker_view s.worker).made) (worker_view s.worker).made (worker_view s.worker).numbers ((0, []) ∷ []) false) × ((worker_view s.worker).made ≤ s.hands) };
+    ghost invariant = { λ s. (worker_flavor s.worker ≡ 0)
+        × (worker_view s.worker ≡ view_of false true (s.hands + 1 - (worker_view s.worker).made)
+        (worker_view s.worker).made (worker_view s.worker).numbers ((0, []) ∷ []) false)
+        × ((worker_view s.worker).made ≤ s.hands) };
 }
 
 impl Filling {

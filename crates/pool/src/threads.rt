@@ -35,12 +35,18 @@ pub struct Gathered<P, L: Ledger> {
 
 /// What the last worker has, which is taken from it.
 fn last_done<P, L: Ledger>(gathered: &mut Gathered<P, L>) -> Option<Done<P, L>>
-    requires count { (length gathered.old.hands.items ≡ length gathered.old.shares.items) × (length gathered.old.hands.items ≡ length gathered.old.parts.items) }
-    ensures none { IfNone result ((gathered.old.hands.items ≡ []) × (gathered.old.shares.items ≡ []) × (gathered.old.parts.items ≡ [])) }
-    ensures none_left { IfNone result ((gathered.new.hands.items ≡ []) × (gathered.new.shares.items ≡ []) × (gathered.new.parts.items ≡ [])) }
-    ensures hands { IfSome result (λ d. gathered.old.hands.items ≡ gathered.new.hands.items ++ d.hand ∷ []) }
-    ensures shares { IfSome result (λ d. gathered.old.shares.items ≡ gathered.new.shares.items ++ d.share ∷ []) }
-    ensures parts { IfSome result (λ d. gathered.old.parts.items ≡ gathered.new.parts.items ++ d.part ∷ []) }
+    requires count { (length gathered.old.hands.items ≡ length gathered.old.shares.items)
+        × (length gathered.old.hands.items ≡ length gathered.old.parts.items) }
+    ensures none { IfNone result ((gathered.old.hands.items ≡ []) × (gathered.old.shares.items ≡ [])
+        × (gathered.old.parts.items ≡ [])) }
+    ensures none_left { IfNone result ((gathered.new.hands.items ≡ [])
+        × (gathered.new.shares.items ≡ []) × (gathered.new.parts.items ≡ [])) }
+    ensures hands { IfSome result (λ d.
+        gathered.old.hands.items ≡ gathered.new.hands.items ++ d.hand ∷ []) }
+    ensures shares { IfSome result (λ d.
+        gathered.old.shares.items ≡ gathered.new.shares.items ++ d.share ∷ []) }
+    ensures parts { IfSome result (λ d.
+        gathered.old.parts.items ≡ gathered.new.parts.items ++ d.part ∷ []) }
 {
     let Some(hand) = gathered.hands.pop() else {
         return None;
@@ -74,8 +80,12 @@ fn with_done<P: Drop, L: Ledger>(
     others: Result<Gathered<P, L>, PoolFault>,
     done: Result<Done<P, L>, AllocError>,
 ) -> Result<Gathered<P, L>, PoolFault>
-    ensures more { IfOk result (λ g. IsOkAnd others (λ o. IsOkAnd done (λ d. (g.hands.items ≡ o.hands.items ++ d.hand ∷ []) × (g.shares.items ≡ o.shares.items ++ d.share ∷ []) × (g.parts.items ≡ o.parts.items ++ d.part ∷ [])))) }
-    ensures fault { IfErr result (λ e. MatchResult others (λ _. e ≡ PoolFault.OutOfMemory) (λ f. e ≡ f)) }
+    ensures more { IfOk result (λ g.
+        IsOkAnd others (λ o. IsOkAnd done (λ d. (g.hands.items ≡ o.hands.items ++ d.hand ∷ [])
+        × (g.shares.items ≡ o.shares.items ++ d.share ∷ [])
+        × (g.parts.items ≡ o.parts.items ++ d.part ∷ [])))) }
+    ensures fault { IfErr result (λ e.
+        MatchResult others (λ _. e ≡ PoolFault.OutOfMemory) (λ f. e ≡ f)) }
 {
     let mut all = others?;
     put_done(&mut all, done?)?;
@@ -89,8 +99,17 @@ fn spread<'s, E, W: Work + Sync, L: Ledger + Send + Sync, R: Threads + Wait + Sy
     crew: &'s Crew<'s, W, L, R>,
     ready: Gathered<W::Part, L>,
 ) -> Result<Gathered<W::Part, L>, PoolFault>
-    requires under_way { (begin : ℕ → W.Meaning) × ((i : ℕ) → W.fits crew.now.work.now (begin i)) × AreUnderWay begin (W.combined crew.now.work.now) (W.piece_meaning crew.now.work.now) (W.weight_of crew.now.work.now) (W.load_of crew.now.work.now) (λ s. s.sum) W.meaning ready.hands.items ready.shares.items ready.parts.items }
-    ensures did { (begin : ℕ → W.Meaning) → ((i : ℕ) → W.fits crew.now.work.now (begin i)) → AreUnderWay begin (W.combined crew.now.work.now) (W.piece_meaning crew.now.work.now) (W.weight_of crew.now.work.now) (W.load_of crew.now.work.now) (λ s. s.sum) W.meaning ready.hands.items ready.shares.items ready.parts.items → IfOk result (λ g. DidAll begin (W.combined crew.now.work.now) (W.piece_meaning crew.now.work.now) (W.weight_of crew.now.work.now) (λ s. s.sum) W.meaning ready.hands.items ready.shares.items g.hands.items g.shares.items g.parts.items) }
+    requires under_way { (begin : ℕ → W.Meaning) × ((i : ℕ) → W.fits crew.now.work.now (begin i))
+        × AreUnderWay begin (W.combined crew.now.work.now) (W.piece_meaning crew.now.work.now)
+        (W.weight_of crew.now.work.now) (W.load_of crew.now.work.now) (λ s. s.sum) W.meaning
+        ready.hands.items ready.shares.items ready.parts.items }
+    ensures did { (begin : ℕ → W.Meaning) → ((i : ℕ) → W.fits crew.now.work.now (begin i))
+        → AreUnderWay begin (W.combined crew.now.work.now) (W.piece_meaning crew.now.work.now)
+        (W.weight_of crew.now.work.now) (W.load_of crew.now.work.now) (λ s. s.sum)
+        W.meaning ready.hands.items ready.shares.items ready.parts.items
+        → IfOk result (λ g. DidAll begin (W.combined crew.now.work.now)
+        (W.piece_meaning crew.now.work.now) (W.weight_of crew.now.work.now) (λ s. s.sum) W.meaning
+        ready.hands.items ready.shares.items g.hands.items g.shares.items g.parts.items) }
     ensures alone { NeedNoThread ready.hands.items → IfErr result (λ e. e ≡ PoolFault.OutOfMemory) }
 {
     let mut ready = ready;
@@ -113,17 +132,41 @@ fn gather<W: Work + Sync, L: Ledger + Send + Sync, R: Threads + Wait + Sync>(
     crew: &Crew<'_, W, L, R>,
     ready: Gathered<W::Part, L>,
 ) -> Result<Gathered<W::Part, L>, PoolFault>
-    requires under_way { (begin : ℕ → W.Meaning) × ((i : ℕ) → W.fits crew.now.work.now (begin i)) × AreUnderWay begin (W.combined crew.now.work.now) (W.piece_meaning crew.now.work.now) (W.weight_of crew.now.work.now) (W.load_of crew.now.work.now) (λ s. s.sum) W.meaning ready.hands.items ready.shares.items ready.parts.items }
-    ensures did { (begin : ℕ → W.Meaning) → ((i : ℕ) → W.fits crew.now.work.now (begin i)) → AreUnderWay begin (W.combined crew.now.work.now) (W.piece_meaning crew.now.work.now) (W.weight_of crew.now.work.now) (W.load_of crew.now.work.now) (λ s. s.sum) W.meaning ready.hands.items ready.shares.items ready.parts.items → IfOk result (λ g. DidAll begin (W.combined crew.now.work.now) (W.piece_meaning crew.now.work.now) (W.weight_of crew.now.work.now) (λ s. s.sum) W.meaning ready.hands.items ready.shares.items g.hands.items g.shares.items g.parts.items) }
+    requires under_way { (begin : ℕ → W.Meaning) × ((i : ℕ) → W.fits crew.now.work.now (begin i))
+        × AreUnderWay begin (W.combined crew.now.work.now) (W.piece_meaning crew.now.work.now)
+        (W.weight_of crew.now.work.now) (W.load_of crew.now.work.now) (λ s. s.sum) W.meaning
+        ready.hands.items ready.shares.items ready.parts.items }
+    ensures did { (begin : ℕ → W.Meaning) → ((i : ℕ) → W.fits crew.now.work.now (begin i))
+        → AreUnderWay begin (W.combined crew.now.work.now) (W.piece_meaning crew.now.work.now)
+        (W.weight_of crew.now.work.now) (W.load_of crew.now.work.now) (λ s. s.sum)
+        W.meaning ready.hands.items ready.shares.items ready.parts.items
+        → IfOk result (λ g. DidAll begin (W.combined crew.now.work.now)
+        (W.piece_meaning crew.now.work.now) (W.weight_of crew.now.work.now) (λ s. s.sum) W.meaning
+        ready.hands.items ready.shares.items g.hands.items g.shares.items g.parts.items) }
     ensures alone { NeedNoThread ready.hands.items → IfErr result (λ e. e ≡ PoolFault.OutOfMemory) }
 {
     thread::scope(
         thread::scope_env(),
         crew.rt,
         move |scope| -> Result<Gathered<W::Part, L>, PoolFault>
-            requires under_way { (begin : ℕ → W.Meaning) × ((i : ℕ) → W.fits crew.now.work.now (begin i)) × AreUnderWay begin (W.combined crew.now.work.now) (W.piece_meaning crew.now.work.now) (W.weight_of crew.now.work.now) (W.load_of crew.now.work.now) (λ s. s.sum) W.meaning ready.hands.items ready.shares.items ready.parts.items }
-            ensures did { (begin : ℕ → W.Meaning) → ((i : ℕ) → W.fits crew.entry.now.work.now (begin i)) → AreUnderWay begin (W.combined crew.entry.now.work.now) (W.piece_meaning crew.entry.now.work.now) (W.weight_of crew.entry.now.work.now) (W.load_of crew.entry.now.work.now) (λ s. s.sum) W.meaning ready.hands.items ready.shares.items ready.parts.items → IfOk result (λ g. DidAll begin (W.combined crew.entry.now.work.now) (W.piece_meaning crew.entry.now.work.now) (W.weight_of crew.entry.now.work.now) (λ s. s.sum) W.meaning ready.hands.items ready.shares.items g.hands.items g.shares.items g.parts.items) }
-            ensures alone { NeedNoThread ready.hands.items → IfErr result (λ e. e ≡ PoolFault.OutOfMemory) }
+            requires under_way { (begin : ℕ → W.Meaning)
+                × ((i : ℕ) → W.fits crew.now.work.now (begin i))
+                × AreUnderWay begin (W.combined crew.now.work.now)
+                (W.piece_meaning crew.now.work.now) (W.weight_of crew.now.work.now)
+                (W.load_of crew.now.work.now) (λ s. s.sum) W.meaning ready.hands.items
+                ready.shares.items ready.parts.items }
+            ensures did { (begin : ℕ → W.Meaning)
+                → ((i : ℕ) → W.fits crew.entry.now.work.now (begin i))
+                → AreUnderWay begin (W.combined crew.entry.now.work.now)
+                (W.piece_meaning crew.entry.now.work.now) (W.weight_of crew.entry.now.work.now)
+                (W.load_of crew.entry.now.work.now) (λ s. s.sum) W.meaning
+                ready.hands.items ready.shares.items ready.parts.items
+                → IfOk result (λ g. DidAll begin (W.combined crew.entry.now.work.now)
+                (W.piece_meaning crew.entry.now.work.now) (W.weight_of crew.entry.now.work.now)
+                (λ s. s.sum) W.meaning ready.hands.items ready.shares.items g.hands.items
+                g.shares.items g.parts.items) }
+            ensures alone { NeedNoThread ready.hands.items
+                → IfErr result (λ e. e ≡ PoolFault.OutOfMemory) }
         { spread(scope, crew, ready) },
     )
 }
@@ -131,8 +174,11 @@ fn gather<W: Work + Sync, L: Ledger + Send + Sync, R: Threads + Wait + Sync>(
 /// The weight of all parts, combined.
 fn weigh<W: Work>(work: &W, parts: &Vec<W::Part>) -> u64
     requires parts { All (λ p. W.fits work.now (W.meaning p)) parts.now.items }
-    requires room { W.load_of work.now (together (W.unit_meaning work.now) (W.combined work.now) (map W.meaning parts.now.items)) < 2 ^ 63 }
-    ensures { result ≡ W.weight_of work.now (together (W.unit_meaning work.now) (W.combined work.now) (map W.meaning parts.now.items)) }
+    requires room { W.load_of work.now
+        (together (W.unit_meaning work.now) (W.combined work.now) (map W.meaning parts.now.items))
+        < 2 ^ 63 }
+    ensures { result ≡ W.weight_of work.now
+        (together (W.unit_meaning work.now) (W.combined work.now) (map W.meaning parts.now.items)) }
 {
     let mut sum = 0;
     for part in parts {
@@ -147,8 +193,17 @@ fn finish_all<W: Work, L: Ledger, R: Wait>(
     gathered: Gathered<W::Part, L>,
 ) -> Result<Gathered<W::Part, L>, PoolFault>
     requires never { crew.now.stop ≡ 2 ^ 128 - 1 }
-    requires under_way { (begin : ℕ → W.Meaning) × ((i : ℕ) → W.fits crew.now.work.now (begin i)) × AreUnderWay begin (W.combined crew.now.work.now) (W.piece_meaning crew.now.work.now) (W.weight_of crew.now.work.now) (W.load_of crew.now.work.now) (λ s. s.sum) W.meaning gathered.hands.items gathered.shares.items gathered.parts.items }
-    ensures did { (begin : ℕ → W.Meaning) → ((i : ℕ) → W.fits crew.now.work.now (begin i)) → AreUnderWay begin (W.combined crew.now.work.now) (W.piece_meaning crew.now.work.now) (W.weight_of crew.now.work.now) (W.load_of crew.now.work.now) (λ s. s.sum) W.meaning gathered.hands.items gathered.shares.items gathered.parts.items → IfOk result (λ g. DidAll begin (W.combined crew.now.work.now) (W.piece_meaning crew.now.work.now) (W.weight_of crew.now.work.now) (λ s. s.sum) W.meaning gathered.hands.items gathered.shares.items g.hands.items g.shares.items g.parts.items) }
+    requires under_way { (begin : ℕ → W.Meaning) × ((i : ℕ) → W.fits crew.now.work.now (begin i))
+        × AreUnderWay begin (W.combined crew.now.work.now) (W.piece_meaning crew.now.work.now)
+        (W.weight_of crew.now.work.now) (W.load_of crew.now.work.now) (λ s. s.sum) W.meaning
+        gathered.hands.items gathered.shares.items gathered.parts.items }
+    ensures did { (begin : ℕ → W.Meaning) → ((i : ℕ) → W.fits crew.now.work.now (begin i))
+        → AreUnderWay begin (W.combined crew.now.work.now) (W.piece_meaning crew.now.work.now)
+        (W.weight_of crew.now.work.now) (W.load_of crew.now.work.now) (λ s. s.sum)
+        W.meaning gathered.hands.items gathered.shares.items gathered.parts.items
+        → IfOk result (λ g. DidAll begin (W.combined crew.now.work.now)
+        (W.piece_meaning crew.now.work.now) (W.weight_of crew.now.work.now) (λ s. s.sum) W.meaning
+        gathered.hands.items gathered.shares.items g.hands.items g.shares.items g.parts.items) }
     ensures spent { IfOk result (λ g. AllSpent g.hands.items) }
     ensures fault { IfErr result (λ e. e ≡ PoolFault.OutOfMemory) }
 {
@@ -165,8 +220,11 @@ fn finish_all<W: Work, L: Ledger, R: Wait>(
 /// All parts as one.
 fn combine_all<W: Work>(work: &W, parts: Vec<W::Part>) -> Result<W::Part, AllocError>
     requires parts { All (λ p. W.fits work.now (W.meaning p)) parts.items }
-    requires room { W.load_of work.now (together (W.unit_meaning work.now) (W.combined work.now) (map W.meaning parts.items)) < 2 ^ 63 }
-    ensures { IfOk result (λ p. W.meaning p ≡ together (W.unit_meaning work.now) (W.combined work.now) (map W.meaning parts.items)) }
+    requires room { W.load_of work.now
+        (together (W.unit_meaning work.now) (W.combined work.now) (map W.meaning parts.items))
+        < 2 ^ 63 }
+    ensures { IfOk result (λ p. W.meaning p
+        ≡ together (W.unit_meaning work.now) (W.combined work.now) (map W.meaning parts.items)) }
 {
     let mut all = work.unit()?;
     for part in parts {
@@ -186,7 +244,9 @@ fn parts_from<W: Work>(
     requires hands { 1 ≤ hands }
     ensures count { IfOk result (λ parts. vec_len parts ≡ hands) }
     ensures parts { IfOk result (λ parts. All (λ p. W.fits work.now (W.meaning p)) parts.items) }
-    ensures together { IfOk result (λ parts. together (W.unit_meaning work.now) (W.combined work.now) (map W.meaning parts.items) ≡ W.meaning first) }
+    ensures together { IfOk result (λ parts.
+        together (W.unit_meaning work.now) (W.combined work.now) (map W.meaning parts.items)
+        ≡ W.meaning first) }
 {
     let mut parts = Vec::new(alloc);
     put_last(&mut parts, first)?;
@@ -213,7 +273,9 @@ fn new_hands(alloc: Global, pieces: u32, hands: usize) -> Result<Vec<Hand>, Allo
 fn keep_apart(hands: &mut Vec<Hand>)
     requires { AreAll hands.old.items }
     ensures same { hands.new.items ≡ hands.old.items }
-    ensures apart { (x : ℕ) → UpTo (AllSpent hands.old.items) (times x (joined hands.old.items)) (once_below x (pieces_of hands.old.items)) }
+    ensures apart { (x : ℕ)
+        → UpTo (AllSpent hands.old.items) (times x (joined hands.old.items))
+        (once_below x (pieces_of hands.old.items)) }
 {
     apart(hands.as_mut_slice());
 }
@@ -225,9 +287,17 @@ fn work_through<W: Work + Sync, L: Ledger + Send + Sync, R: Threads + Wait + Syn
     limit: u64,
     ready: Gathered<W::Part, L>,
 ) -> Result<Gathered<W::Part, L>, PoolFault>
-    requires ready { AreReady (W.fits crew.work.now) (W.unit_meaning crew.work.now) (W.combined crew.work.now) (W.piece_meaning crew.work.now) (W.load_of crew.work.now) (λ s. s.sum) W.meaning ready.hands.items ready.shares.items ready.parts.items }
-    ensures did { IfOk result (λ g. DidAll (begun (W.unit_meaning crew.entry.work.now) (map W.meaning ready.parts.items)) (W.combined crew.entry.work.now) (W.piece_meaning crew.entry.work.now) (W.weight_of crew.entry.work.now) (λ s. s.sum) W.meaning ready.hands.items ready.shares.items g.hands.items g.shares.items g.parts.items) }
-    ensures spent { IfOk result (λ g. AllSpent g.hands.items ⊎ (limit < W.weight_of crew.entry.work.now (together (W.unit_meaning crew.entry.work.now) (W.combined crew.entry.work.now) (map W.meaning g.parts.items)))) }
+    requires ready { AreReady (W.fits crew.work.now) (W.unit_meaning crew.work.now)
+        (W.combined crew.work.now) (W.piece_meaning crew.work.now) (W.load_of crew.work.now)
+        (λ s. s.sum) W.meaning ready.hands.items ready.shares.items ready.parts.items }
+    ensures did { IfOk result (λ g.
+        DidAll (begun (W.unit_meaning crew.entry.work.now) (map W.meaning ready.parts.items))
+        (W.combined crew.entry.work.now) (W.piece_meaning crew.entry.work.now)
+        (W.weight_of crew.entry.work.now) (λ s. s.sum) W.meaning ready.hands.items
+        ready.shares.items g.hands.items g.shares.items g.parts.items) }
+    ensures spent { IfOk result (λ g. AllSpent g.hands.items
+        ⊎ (limit < W.weight_of crew.entry.work.now (together (W.unit_meaning crew.entry.work.now)
+        (W.combined crew.entry.work.now) (map W.meaning g.parts.items)))) }
     ensures alone { NeedNoThread ready.hands.items → IfErr result (λ e. e ≡ PoolFault.OutOfMemory) }
 {
     let mut crew = crew;
@@ -247,8 +317,12 @@ fn conclude<W: Work, L: Ledger>(
     finished: Gathered<W::Part, L>,
 ) -> Result<(Outcome<W::Part>, Vec<Hand>, Vec<Share<L>>), AllocError>
     requires parts { All (λ p. W.fits work.now (W.meaning p)) finished.parts.items }
-    requires room { W.load_of work.now (together (W.unit_meaning work.now) (W.combined work.now) (map W.meaning finished.parts.items)) < 2 ^ 63 }
-    ensures decided { IfOk result (λ r. Decides W.meaning (together (W.unit_meaning work.now) (W.combined work.now) (map W.meaning finished.parts.items)) (W.weight_of work.now (together (W.unit_meaning work.now) (W.combined work.now) (map W.meaning finished.parts.items))) limit r.0) }
+    requires room { W.load_of work.now (together (W.unit_meaning work.now) (W.combined work.now)
+        (map W.meaning finished.parts.items)) < 2 ^ 63 }
+    ensures decided { IfOk result (λ r. Decides W.meaning (together (W.unit_meaning work.now)
+        (W.combined work.now) (map W.meaning finished.parts.items))
+        (W.weight_of work.now (together (W.unit_meaning work.now) (W.combined work.now)
+        (map W.meaning finished.parts.items))) limit r.0) }
     ensures same { IfOk result (λ r. (r.1 ≡ finished.hands) × (r.2 ≡ finished.shares)) }
 {
     let Gathered {
@@ -270,14 +344,32 @@ fn fan_ready<W: Work + Sync, L: Ledger + Send + Sync, R: Threads + Wait + Sync>(
     limit: u64,
     ready: Gathered<W::Part, L>,
 ) -> Result<(Outcome<W::Part>, Vec<Hand>, Vec<Share<L>>), PoolFault>
-    requires ready { AreReady (W.fits crew.work.now) (W.unit_meaning crew.work.now) (W.combined crew.work.now) (W.piece_meaning crew.work.now) (W.load_of crew.work.now) (λ s. s.sum) W.meaning ready.hands.items ready.shares.items ready.parts.items }
-    ensures decided { IfOk result (λ r. Decides W.meaning (W.combined crew.entry.work.now (together (W.unit_meaning crew.entry.work.now) (W.combined crew.entry.work.now) (map W.meaning ready.parts.items)) (total (W.unit_meaning crew.entry.work.now) (W.combined crew.entry.work.now) (W.piece_meaning crew.entry.work.now) (pieces_of ready.hands.items))) (W.weight_of crew.entry.work.now (together (W.unit_meaning crew.entry.work.now) (W.combined crew.entry.work.now) (map W.meaning ready.parts.items)) + sum_below (λ i. W.weight_of crew.entry.work.now (W.piece_meaning crew.entry.work.now i)) (pieces_of ready.hands.items)) limit r.0) }
-    ensures deal { IfOk result (λ r. AreAll r.1.items × (pieces_of r.1.items ≡ pieces_of ready.hands.items)) }
-    ensures back { IfOk result (λ r. CameBack (λ i. W.weight_of crew.entry.work.now (W.piece_meaning crew.entry.work.now i)) (λ s. s.sum) ready.hands.items ready.shares.items r.1.items r.2.items) }
+    requires ready { AreReady (W.fits crew.work.now) (W.unit_meaning crew.work.now)
+        (W.combined crew.work.now) (W.piece_meaning crew.work.now) (W.load_of crew.work.now)
+        (λ s. s.sum) W.meaning ready.hands.items ready.shares.items ready.parts.items }
+    ensures decided { IfOk result (λ r. Decides W.meaning
+        (W.combined crew.entry.work.now (together (W.unit_meaning crew.entry.work.now)
+        (W.combined crew.entry.work.now) (map W.meaning ready.parts.items))
+        (total (W.unit_meaning crew.entry.work.now) (W.combined crew.entry.work.now)
+        (W.piece_meaning crew.entry.work.now) (pieces_of ready.hands.items)))
+        (W.weight_of crew.entry.work.now (together (W.unit_meaning crew.entry.work.now)
+        (W.combined crew.entry.work.now) (map W.meaning ready.parts.items))
+        + sum_below (λ i. W.weight_of crew.entry.work.now (W.piece_meaning crew.entry.work.now i))
+        (pieces_of ready.hands.items)) limit r.0) }
+    ensures deal { IfOk result (λ r. AreAll r.1.items
+        × (pieces_of r.1.items ≡ pieces_of ready.hands.items)) }
+    ensures back { IfOk result (λ r.
+        CameBack (λ i. W.weight_of crew.entry.work.now (W.piece_meaning crew.entry.work.now i))
+        (λ s. s.sum) ready.hands.items ready.shares.items r.1.items r.2.items) }
     ensures once { IfOk result (λ r. HaveNoneTwice r.1.items) }
     ensures settled { IfOk result (λ r. Settles r.0 r.1.items) }
-    ensures over { IfOk result (λ r. IsAbove (W.weight_of crew.entry.work.now (together (W.unit_meaning crew.entry.work.now) (W.combined crew.entry.work.now) (map W.meaning ready.parts.items)) + sum_list (λ i. W.weight_of crew.entry.work.now (W.piece_meaning crew.entry.work.now i)) (joined r.1.items)) limit r.0) }
-    ensures alone { (vec_len ready.hands ≡ 1) ⊎ (pieces_of ready.hands.items ≡ 0) → IfErr result (λ e. e ≡ PoolFault.OutOfMemory) }
+    ensures over { IfOk result (λ r. IsAbove (W.weight_of crew.entry.work.now
+        (together (W.unit_meaning crew.entry.work.now)
+        (W.combined crew.entry.work.now) (map W.meaning ready.parts.items))
+        + sum_list (λ i. W.weight_of crew.entry.work.now (W.piece_meaning crew.entry.work.now i))
+        (joined r.1.items)) limit r.0) }
+    ensures alone { (vec_len ready.hands ≡ 1) ⊎ (pieces_of ready.hands.items ≡ 0)
+        → IfErr result (λ e. e ≡ PoolFault.OutOfMemory) }
 {
     let work = crew.work;
     let mut finished = work_through(crew, limit, ready)?;
@@ -302,15 +394,30 @@ fn fan_onto<W: Work + Sync, L: Ledger + Send + Sync, R: Threads + Wait + Sync>(
     requires part { W.fits work.now (W.meaning part) }
     requires deal { IsNewDeal (pieces_of hands.items) (vec_len hands) hands.items }
     requires count { vec_len shares ≡ vec_len hands }
-    requires loads { W.load_of work.now (W.meaning part) + sum_below (λ i. W.load_of work.now (W.piece_meaning work.now i)) (pieces_of hands.items) < 2 ^ 63 }
-    requires room { (i : ℕ) (s : _) → get_elem? shares.items i ≡ some s → sum_below (λ i. W.load_of work.now (W.piece_meaning work.now i)) (pieces_of hands.items) + s.sum < 2 ^ 63 }
-    ensures decided { IfOk result (λ r. Decides W.meaning (W.combined work.now (W.meaning part) (total (W.unit_meaning work.now) (W.combined work.now) (W.piece_meaning work.now) (pieces_of hands.items))) (W.weight_of work.now (W.meaning part) + sum_below (λ i. W.weight_of work.now (W.piece_meaning work.now i)) (pieces_of hands.items)) limit r.0) }
-    ensures deal { IfOk result (λ r. AreAll r.1.items × (pieces_of r.1.items ≡ pieces_of hands.items)) }
-    ensures back { IfOk result (λ r. CameBack (λ i. W.weight_of work.now (W.piece_meaning work.now i)) (λ s. s.sum) hands.items shares.items r.1.items r.2.items) }
+    requires loads { W.load_of work.now (W.meaning part)
+        + sum_below (λ i. W.load_of work.now (W.piece_meaning work.now i)) (pieces_of hands.items)
+        < 2 ^ 63 }
+    requires room { (i : ℕ) (s : _) → get_elem? shares.items i ≡ some s
+        → sum_below (λ i. W.load_of work.now (W.piece_meaning work.now i)) (pieces_of hands.items)
+        + s.sum < 2 ^ 63 }
+    ensures decided { IfOk result (λ r. Decides W.meaning
+        (W.combined work.now (W.meaning part) (total (W.unit_meaning work.now)
+        (W.combined work.now) (W.piece_meaning work.now) (pieces_of hands.items)))
+        (W.weight_of work.now (W.meaning part) + sum_below
+        (λ i. W.weight_of work.now (W.piece_meaning work.now i)) (pieces_of hands.items))
+        limit r.0) }
+    ensures deal { IfOk result (λ r. AreAll r.1.items
+        × (pieces_of r.1.items ≡ pieces_of hands.items)) }
+    ensures back { IfOk result (λ r.
+        CameBack (λ i. W.weight_of work.now (W.piece_meaning work.now i)) (λ s. s.sum) hands.items
+        shares.items r.1.items r.2.items) }
     ensures once { IfOk result (λ r. HaveNoneTwice r.1.items) }
     ensures settled { IfOk result (λ r. Settles r.0 r.1.items) }
-    ensures over { IfOk result (λ r. IsAbove (W.weight_of work.now (W.meaning part) + sum_list (λ i. W.weight_of work.now (W.piece_meaning work.now i)) (joined r.1.items)) limit r.0) }
-    ensures alone { (vec_len hands ≡ 1) ⊎ (pieces_of hands.items ≡ 0) → IfErr result (λ e. e ≡ PoolFault.OutOfMemory) }
+    ensures over { IfOk result (λ r. IsAbove (W.weight_of work.now (W.meaning part)
+        + sum_list (λ i. W.weight_of work.now (W.piece_meaning work.now i)) (joined r.1.items))
+        limit r.0) }
+    ensures alone { (vec_len hands ≡ 1) ⊎ (pieces_of hands.items ≡ 0)
+        → IfErr result (λ e. e ≡ PoolFault.OutOfMemory) }
 {
     let parts = parts_from(alloc, work, part, hands.len())?;
     let crew = Crew {
@@ -357,15 +464,26 @@ pub fn fan_on<W: Work + Sync, L: Ledger + Send + Sync, R: Threads + Wait + Sync>
 ) -> Result<(Outcome<W::Part>, Vec<Hand>, Vec<Share<L>>), PoolFault>
     requires deal { IsNewDeal (pieces_of hands.items) (vec_len hands) hands.items }
     requires count { vec_len shares ≡ vec_len hands }
-    requires loads { sum_below (λ i. W.load_of work.now (W.piece_meaning work.now i)) (pieces_of hands.items) < 2 ^ 63 }
-    requires room { (i : ℕ) (s : _) → get_elem? shares.items i ≡ some s → sum_below (λ i. W.load_of work.now (W.piece_meaning work.now i)) (pieces_of hands.items) + s.sum < 2 ^ 63 }
-    ensures decided { IfOk result (λ r. Decides W.meaning (total (W.unit_meaning work.now) (W.combined work.now) (W.piece_meaning work.now) (pieces_of hands.items)) (sum_below (λ i. W.weight_of work.now (W.piece_meaning work.now i)) (pieces_of hands.items)) limit r.0) }
-    ensures deal { IfOk result (λ r. AreAll r.1.items × (pieces_of r.1.items ≡ pieces_of hands.items)) }
-    ensures back { IfOk result (λ r. CameBack (λ i. W.weight_of work.now (W.piece_meaning work.now i)) (λ s. s.sum) hands.items shares.items r.1.items r.2.items) }
+    requires loads { sum_below (λ i. W.load_of work.now (W.piece_meaning work.now i))
+        (pieces_of hands.items) < 2 ^ 63 }
+    requires room { (i : ℕ) (s : _) → get_elem? shares.items i ≡ some s
+        → sum_below (λ i. W.load_of work.now (W.piece_meaning work.now i)) (pieces_of hands.items)
+        + s.sum < 2 ^ 63 }
+    ensures decided { IfOk result (λ r. Decides W.meaning (total (W.unit_meaning work.now)
+        (W.combined work.now) (W.piece_meaning work.now) (pieces_of hands.items))
+        (sum_below (λ i. W.weight_of work.now (W.piece_meaning work.now i)) (pieces_of hands.items))
+        limit r.0) }
+    ensures deal { IfOk result (λ r. AreAll r.1.items
+        × (pieces_of r.1.items ≡ pieces_of hands.items)) }
+    ensures back { IfOk result (λ r.
+        CameBack (λ i. W.weight_of work.now (W.piece_meaning work.now i)) (λ s. s.sum) hands.items
+        shares.items r.1.items r.2.items) }
     ensures once { IfOk result (λ r. HaveNoneTwice r.1.items) }
     ensures settled { IfOk result (λ r. Settles r.0 r.1.items) }
-    ensures over { IfOk result (λ r. Outweighs (λ i. W.weight_of work.now (W.piece_meaning work.now i)) limit r.0 r.1.items) }
-    ensures alone { (vec_len hands ≡ 1) ⊎ (pieces_of hands.items ≡ 0) → IfErr result (λ e. e ≡ PoolFault.OutOfMemory) }
+    ensures over { IfOk result (λ r.
+        Outweighs (λ i. W.weight_of work.now (W.piece_meaning work.now i)) limit r.0 r.1.items) }
+    ensures alone { (vec_len hands ≡ 1) ⊎ (pieces_of hands.items ≡ 0)
+        → IfErr result (λ e. e ≡ PoolFault.OutOfMemory) }
 {
     let unit = work.unit()?;
     fan_onto(rt, alloc, work, unit, hands, limit, book, stop, shares)
@@ -407,15 +525,26 @@ pub fn fan_deal_onto<W: Work + Sync, L: Ledger + Send + Sync, R: Threads + Wait 
     requires part { W.fits work.now (W.meaning part) }
     requires pieces { pieces ≤ 1048576 }
     requires hands { (1 ≤ vec_len shares) × (vec_len shares ≤ 64) }
-    requires loads { W.load_of work.now (W.meaning part) + sum_below (λ i. W.load_of work.now (W.piece_meaning work.now i)) pieces < 2 ^ 63 }
-    requires room { All (λ s. sum_below (λ i. W.load_of work.now (W.piece_meaning work.now i)) pieces + s.sum < 2 ^ 63) shares.items }
-    ensures decided { IfOk result (λ r. Decides W.meaning (W.combined work.now (W.meaning part) (total (W.unit_meaning work.now) (W.combined work.now) (W.piece_meaning work.now) pieces)) (W.weight_of work.now (W.meaning part) + sum_below (λ i. W.weight_of work.now (W.piece_meaning work.now i)) pieces) limit r.0) }
+    requires loads { W.load_of work.now (W.meaning part)
+        + sum_below (λ i. W.load_of work.now (W.piece_meaning work.now i)) pieces < 2 ^ 63 }
+    requires room { All (λ s.
+        sum_below (λ i. W.load_of work.now (W.piece_meaning work.now i)) pieces + s.sum < 2 ^ 63)
+        shares.items }
+    ensures decided { IfOk result (λ r. Decides W.meaning (W.combined work.now (W.meaning part)
+        (total (W.unit_meaning work.now) (W.combined work.now) (W.piece_meaning work.now) pieces))
+        (W.weight_of work.now (W.meaning part)
+        + sum_below (λ i. W.weight_of work.now (W.piece_meaning work.now i)) pieces) limit r.0) }
     ensures deal { IfOk result (λ r. AreAll r.1.items × (pieces_of r.1.items ≡ pieces)) }
-    ensures reported { IfOk result (λ r. Reported (λ i. W.weight_of work.now (W.piece_meaning work.now i)) (λ s. s.sum) shares.items r.1.items r.2.items) }
+    ensures reported { IfOk result (λ r.
+        Reported (λ i. W.weight_of work.now (W.piece_meaning work.now i)) (λ s. s.sum) shares.items
+        r.1.items r.2.items) }
     ensures once { IfOk result (λ r. HaveNoneTwice r.1.items) }
     ensures settled { IfOk result (λ r. Settles r.0 r.1.items) }
-    ensures over { IfOk result (λ r. IsAbove (W.weight_of work.now (W.meaning part) + sum_list (λ i. W.weight_of work.now (W.piece_meaning work.now i)) (joined r.1.items)) limit r.0) }
-    ensures alone { (vec_len shares ≡ 1) ⊎ (pieces ≡ 0) → IfErr result (λ e. e ≡ PoolFault.OutOfMemory) }
+    ensures over { IfOk result (λ r. IsAbove (W.weight_of work.now (W.meaning part)
+        + sum_list (λ i. W.weight_of work.now (W.piece_meaning work.now i)) (joined r.1.items))
+        limit r.0) }
+    ensures alone { (vec_len shares ≡ 1) ⊎ (pieces ≡ 0)
+        → IfErr result (λ e. e ≡ PoolFault.OutOfMemory) }
 {
     let hands = new_hands(alloc, pieces, shares.len())?;
     fan_onto(rt, alloc, work, part, hands, limit, book, stop, shares)
@@ -433,10 +562,13 @@ fn with_book<L: Ledger + Send + Sync, W: Work + Sync, R: Threads + Wait + Sync>(
 ) -> Result<Outcome<W::Part>, PoolFault>
     requires pieces { pieces ≤ 1048576 }
     requires hands { (1 ≤ hands) × (hands ≤ 64) }
-    requires loads { sum_below (λ i. W.load_of work.now (W.piece_meaning work.now i)) pieces < 2 ^ 63 }
+    requires loads { sum_below (λ i. W.load_of work.now (W.piece_meaning work.now i)) pieces
+        < 2 ^ 63 }
     requires name { blank.name ≡ L.name }
     requires parts { (blank.parts ≡ L.parts) × (L.parts ≡ hands) }
-    ensures decided { IfOk result (Decides W.meaning (total (W.unit_meaning work.now) (W.combined work.now) (W.piece_meaning work.now) pieces) (sum_below (λ i. W.weight_of work.now (W.piece_meaning work.now i)) pieces) limit) }
+    ensures decided { IfOk result (Decides W.meaning
+        (total (W.unit_meaning work.now) (W.combined work.now) (W.piece_meaning work.now) pieces)
+        (sum_below (λ i. W.weight_of work.now (W.piece_meaning work.now i)) pieces) limit) }
     ensures alone { (hands ≡ 1) ⊎ (pieces ≡ 0) → IfErr result (λ e. e ≡ PoolFault.OutOfMemory) }
 {
     let unit = work.unit()?;
@@ -478,8 +610,11 @@ pub fn fan_out<W: Work + Sync, R: Threads + Wait + Sync>(
 ) -> Result<Outcome<W::Part>, PoolFault>
     requires pieces { pieces ≤ 1048576 }
     requires hands { (1 ≤ hands) × (hands ≤ 64) }
-    requires loads { sum_below (λ i. W.load_of work.now (W.piece_meaning work.now i)) pieces < 2 ^ 63 }
-    ensures decided { IfOk result (Decides W.meaning (total (W.unit_meaning work.now) (W.combined work.now) (W.piece_meaning work.now) pieces) (sum_below (λ i. W.weight_of work.now (W.piece_meaning work.now i)) pieces) limit) }
+    requires loads { sum_below (λ i. W.load_of work.now (W.piece_meaning work.now i)) pieces
+        < 2 ^ 63 }
+    ensures decided { IfOk result (Decides W.meaning
+        (total (W.unit_meaning work.now) (W.combined work.now) (W.piece_meaning work.now) pieces)
+        (sum_below (λ i. W.weight_of work.now (W.piece_meaning work.now i)) pieces) limit) }
     ensures alone { (hands ≡ 1) ⊎ (pieces ≡ 0) → IfErr result (λ e. e ≡ PoolFault.OutOfMemory) }
 {
     with_book::<Brand, W, R>(

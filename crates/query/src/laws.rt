@@ -17,13 +17,17 @@ pub fn derives_one()
 
 /// A law, with no work to do: each text derives a query or has a fault; never both, and no text has two faults.
 pub fn derives_or_refused()
-    ensures decided { (text : List ℕ) → ((q : TreeForm) × Derives text q) ⊎ ((fault : QueryFault) × IsRefusalOf text fault) }
-    ensures not_both { (text : List ℕ) (q : TreeForm) (fault : QueryFault) → Derives text q → IsRefusalOf text fault → ⊥ }
-    ensures one { (text : List ℕ) (fault other : QueryFault) → IsRefusalOf text fault → IsRefusalOf text other → fault ≡ other }
+    ensures decided { (text : List ℕ)
+        → ((q : TreeForm) × Derives text q) ⊎ ((fault : QueryFault) × IsRefusalOf text fault) }
+    ensures not_both { (text : List ℕ) (q : TreeForm) (fault : QueryFault) → Derives text q
+        → IsRefusalOf text fault → ⊥ }
+    ensures one { (text : List ℕ) (fault other : QueryFault) → IsRefusalOf text fault
+        → IsRefusalOf text other → fault ≡ other }
 {}
 
 /// A law, with no work to do: the canonical text of a query that has any text is a text of that query, whatever the length
 /// of either.
 pub fn reads_again()
-    ensures { (q : TreeForm) → ∥ ((text : List ℕ) × IsTextOf text q) ∥₁ → IsTextOf (canonical_text q) q }
+    ensures { (q : TreeForm) → ∥ ((text : List ℕ) × IsTextOf text q) ∥₁
+        → IsTextOf (canonical_text q) q }
 {}

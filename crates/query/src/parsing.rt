@@ -32,7 +32,8 @@ pub fn parse(alloc: Global, text: &str) -> Result<Query, QueryFault>
     // What is read is derived.
     ensures derived { IfOk result (λ query. Derives text.now query) }
     // What is derived is read, and no other, unless memory runs out.
-    ensures read { (q : TreeForm) → Derives text.now q → MatchResult result (λ query. query ≡ q) (λ fault. fault ≡ OutOfMemory) }
+    ensures read { (q : TreeForm) → Derives text.now q
+        → MatchResult result (λ query. query ≡ q) (λ fault. fault ≡ OutOfMemory) }
     // A text that is too long has no other fault.
     ensures too_long { 65536 < length text.now → result ≡ Err OverLimit }
     // A fault is one of the text, or memory ran out.
@@ -62,7 +63,8 @@ pub fn parse(alloc: Global, text: &str) -> Result<Query, QueryFault>
 /// The byte where the first of the last so many tokens begins, or the end where there is none.
 #[tactic(auto, using(crate::proofs::Places::place_before, crate::proofs::Places::place_last))]
 fn start_of_last(tokens: &Tokens, count: usize, end: usize) -> usize
-    ensures { slice_get (tokens.now.starts.items ++ end ∷ []) (vec_len tokens.now.starts - count) ≡ Some result }
+    ensures { slice_get (tokens.now.starts.items ++ end ∷ []) (vec_len tokens.now.starts - count)
+        ≡ Some result }
 {
     let place = tokens.starts.len().saturating_sub(count);
     match tokens.starts.get(place) {

@@ -22,7 +22,8 @@ use std::alloc::{AllocError, Global};
 pub fn print(alloc: Global, query: &Query) -> Result<String, AllocError>
     ensures text { IfOk result (λ text. string_bytes text ≡ canonical_text query.now) }
     // Where it is not too long, it derives the query again, so that `parse` gives it back.
-    ensures again { IfOk result (λ text. length (string_bytes text) ≤ 65536 → Derives (string_bytes text) query.now) }
+    ensures again { IfOk result (λ text. length (string_bytes text) ≤ 65536
+        → Derives (string_bytes text) query.now) }
 {
     print_tree(alloc, query.tree())
 }

@@ -54,7 +54,8 @@ pub fn literal_values(alloc: Global, literals: &[Literal]) -> Result<Vec<Value>,
 /// Where the value of a column comes from. What is no column has no value; typing lets none stand.
 fn column_source(columns: &[Column], name: &Text) -> Source
     ensures value { GivesColumn (fields_of columns.now) name.now result }
-    ensures there { IsColumn (fields_of columns.now) name.now → ForEachRecord (fields_of columns.now) (λ values. is_there values result ≡ true) }
+    ensures there { IsColumn (fields_of columns.now) name.now
+        → ForEachRecord (fields_of columns.now) (λ values. is_there values result ≡ true) }
 {
     match place_of(columns, name.as_str()) {
         Some(place) => Source::Value(place),
@@ -70,7 +71,8 @@ fn operand_source(
     operand: &Operand,
 ) -> Result<Source, AllocError>
     ensures value { IfOk result (GivesOperand (fields_of columns.now) (operand_form operand.now)) }
-    ensures there { IfOk result (IsThereWhereTyped (fields_of columns.now) (operand_form operand.now)) }
+    ensures there { IfOk result
+        (IsThereWhereTyped (fields_of columns.now) (operand_form operand.now)) }
 {
     match operand {
         Operand::Expression(Expression::Name(name)) => Ok(column_source(columns, name)),
@@ -87,8 +89,12 @@ fn two_sources(
     first: &Operand,
     second: &Operand,
 ) -> Result<(Source, Source), AllocError>
-    ensures value { IfOk result (λ both. GivesOperand (fields_of columns.now) (operand_form first.now) both.0 × GivesOperand (fields_of columns.now) (operand_form second.now) both.1) }
-    ensures there { IfOk result (λ both. IsThereWhereTyped (fields_of columns.now) (operand_form first.now) both.0 × IsThereWhereTyped (fields_of columns.now) (operand_form second.now) both.1) }
+    ensures value { IfOk result (λ both.
+        GivesOperand (fields_of columns.now) (operand_form first.now) both.0
+        × GivesOperand (fields_of columns.now) (operand_form second.now) both.1) }
+    ensures there { IfOk result (λ both.
+        IsThereWhereTyped (fields_of columns.now) (operand_form first.now) both.0
+        × IsThereWhereTyped (fields_of columns.now) (operand_form second.now) both.1) }
 {
     let first = operand_source(alloc, columns, first)?;
     let second = operand_source(alloc, columns, second)?;
@@ -103,8 +109,10 @@ fn bind_comparison(
     op: Op,
     right: &Operand,
 ) -> Result<Condition, AllocError>
-    ensures value { IfOk result (GivesPredicate (fields_of columns.now) (compare (operand_form left.now) op (operand_form right.now))) }
-    ensures safe { IfOk result (IsSafeWhereTyped (fields_of columns.now) (compare (operand_form left.now) op (operand_form right.now))) }
+    ensures value { IfOk result (GivesPredicate (fields_of columns.now)
+        (compare (operand_form left.now) op (operand_form right.now))) }
+    ensures safe { IfOk result (IsSafeWhereTyped (fields_of columns.now)
+        (compare (operand_form left.now) op (operand_form right.now))) }
 {
     let (left, right) = two_sources(alloc, columns, left, right)?;
     Ok(Condition::Compare { left, op, right })
@@ -119,8 +127,10 @@ fn bind_between(
     low: &Operand,
     high: &Operand,
 ) -> Result<Condition, AllocError>
-    ensures value { IfOk result (GivesPredicate (fields_of columns.now) (between (operand_form operand.now) not (operand_form low.now) (operand_form high.now))) }
-    ensures safe { IfOk result (IsSafeWhereTyped (fields_of columns.now) (between (operand_form operand.now) not (operand_form low.now) (operand_form high.now))) }
+    ensures value { IfOk result (GivesPredicate (fields_of columns.now)
+        (between (operand_form operand.now) not (operand_form low.now) (operand_form high.now))) }
+    ensures safe { IfOk result (IsSafeWhereTyped (fields_of columns.now)
+        (between (operand_form operand.now) not (operand_form low.now) (operand_form high.now))) }
 {
     let operand = operand_source(alloc, columns, operand)?;
     let (low, high) = two_sources(alloc, columns, low, high)?;
@@ -140,8 +150,10 @@ fn bind_membership(
     not: bool,
     literals: &[Literal],
 ) -> Result<Condition, AllocError>
-    ensures value { IfOk result (GivesPredicate (fields_of columns.now) (member (operand_form operand.now) not literals.now)) }
-    ensures safe { IfOk result (IsSafeWhereTyped (fields_of columns.now) (member (operand_form operand.now) not literals.now)) }
+    ensures value { IfOk result (GivesPredicate (fields_of columns.now)
+        (member (operand_form operand.now) not literals.now)) }
+    ensures safe { IfOk result (IsSafeWhereTyped (fields_of columns.now)
+        (member (operand_form operand.now) not literals.now)) }
 {
     let operand = operand_source(alloc, columns, operand)?;
     let values = literal_values(alloc, literals)?;
@@ -159,8 +171,10 @@ fn bind_null_test(
     operand: &Operand,
     not: bool,
 ) -> Result<Condition, AllocError>
-    ensures value { IfOk result (GivesPredicate (fields_of columns.now) (null_test (operand_form operand.now) not)) }
-    ensures safe { IfOk result (IsSafeWhereTyped (fields_of columns.now) (null_test (operand_form operand.now) not)) }
+    ensures value { IfOk result
+        (GivesPredicate (fields_of columns.now) (null_test (operand_form operand.now) not)) }
+    ensures safe { IfOk result
+        (IsSafeWhereTyped (fields_of columns.now) (null_test (operand_form operand.now) not)) }
 {
     let operand = operand_source(alloc, columns, operand)?;
     Ok(Condition::IsNull { operand, not })
@@ -185,8 +199,10 @@ pub(crate) fn bind(
     columns: &[Column],
     predicate: &Predicate,
 ) -> Result<Condition, AllocError>
-    ensures value { IfOk result (GivesPredicate (fields_of columns.now) (predicate_form predicate.now)) }
-    ensures safe { IfOk result (IsSafeWhereTyped (fields_of columns.now) (predicate_form predicate.now)) }
+    ensures value { IfOk result
+        (GivesPredicate (fields_of columns.now) (predicate_form predicate.now)) }
+    ensures safe { IfOk result
+        (IsSafeWhereTyped (fields_of columns.now) (predicate_form predicate.now)) }
 {
     match predicate {
         Predicate::Or(parts) => Ok(Condition::Or(bind_parts(alloc, columns, parts)?)),
@@ -229,8 +245,10 @@ fn bind_parts(
     columns: &[Column],
     parts: &[Predicate],
 ) -> Result<Vec<Condition>, AllocError>
-    ensures value { IfOk result (λ conditions. GivesParts (fields_of columns.now) (predicate_forms (map predicate_form parts.now)) conditions.items) }
-    ensures safe { IfOk result (λ conditions. AreSafeWhereTyped (fields_of columns.now) (predicate_forms (map predicate_form parts.now)) conditions.items) }
+    ensures value { IfOk result (λ conditions. GivesParts (fields_of columns.now)
+        (predicate_forms (map predicate_form parts.now)) conditions.items) }
+    ensures safe { IfOk result (λ conditions. AreSafeWhereTyped (fields_of columns.now)
+        (predicate_forms (map predicate_form parts.now)) conditions.items) }
 {
     let mut conditions = Vec::with_capacity(alloc, parts.len())?;
     for part in parts {

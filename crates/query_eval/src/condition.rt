@@ -215,7 +215,8 @@ impl Condition {
 #[cycle(truth)]
 fn any_truth(parts: &[Condition], values: &[Value]) -> Truth
     requires { list_all (λ is_safe. is_safe (data_of values.now)) (map is_safe parts.now) ≡ true }
-    ensures { result ≡ any_of (map (λ truth. truth (data_of values.now)) (map condition_truth parts.now)) }
+    ensures { result
+        ≡ any_of (map (λ truth. truth (data_of values.now)) (map condition_truth parts.now)) }
 {
     let mut found = Truth::False;
     for part in parts {
@@ -231,7 +232,8 @@ fn any_truth(parts: &[Condition], values: &[Value]) -> Truth
 #[cycle(truth)]
 fn all_truth(parts: &[Condition], values: &[Value]) -> Truth
     requires { list_all (λ is_safe. is_safe (data_of values.now)) (map is_safe parts.now) ≡ true }
-    ensures { result ≡ all_of (map (λ truth. truth (data_of values.now)) (map condition_truth parts.now)) }
+    ensures { result
+        ≡ all_of (map (λ truth. truth (data_of values.now)) (map condition_truth parts.now)) }
 {
     let mut found = Truth::True;
     for part in parts {

@@ -29,7 +29,8 @@ pub fn bind_filters(
     columns: &[Column],
     filters: &[&Predicate],
 ) -> Result<Vec<Condition>, AllocError>
-    ensures { IfOk result (λ conditions. AreConditionsOf (fields_of columns.now) (filter_forms filters.now) conditions.items) }
+    ensures { IfOk result (λ conditions.
+        AreConditionsOf (fields_of columns.now) (filter_forms filters.now) conditions.items) }
 {
     let mut conditions = Vec::with_capacity(alloc, filters.len())?;
     for filter in filters {
@@ -52,8 +53,10 @@ pub fn mark_conditions(
     values: &[Value],
     marks: &mut Vec<bool>,
 ) -> Result<(), AllocError>
-    requires { list_all (λ is_safe. is_safe (data_of values.now)) (map is_safe conditions.now) ≡ true }
-    ensures { OnOk result (marks.new.items ≡ map (λ c. same_truth (condition_truth c (data_of values.now)) True) conditions.now) }
+    requires { list_all (λ is_safe. is_safe (data_of values.now)) (map is_safe conditions.now)
+        ≡ true }
+    ensures { OnOk result (marks.new.items
+        ≡ map (λ c. same_truth (condition_truth c (data_of values.now)) True) conditions.now) }
 {
     marks.clear();
     for condition in conditions {
@@ -68,8 +71,10 @@ pub fn mark_conditions(
 /// Example: of the conditions of `q > 2` and `NOT q > 2` the one at the place 1 is False where q is 5.
 pub fn condition_truth_at(conditions: &[Condition], place: usize, values: &[Value]) -> Truth
     requires place { place < length conditions.now }
-    requires safe { list_all (λ is_safe. is_safe (data_of values.now)) (map is_safe conditions.now) ≡ true }
-    ensures { Some result ≡ slice_get (map (λ c. condition_truth c (data_of values.now)) conditions.now) place }
+    requires safe { list_all (λ is_safe. is_safe (data_of values.now)) (map is_safe conditions.now)
+        ≡ true }
+    ensures { Some result
+        ≡ slice_get (map (λ c. condition_truth c (data_of values.now)) conditions.now) place }
 {
     conditions[place].truth(values)
 }

@@ -27,7 +27,8 @@ pub fn bind_where(
     columns: &[Column],
     where_condition: &Option<Predicate>,
 ) -> Result<Option<Condition>, AllocError>
-    ensures { IfOk result (IsConditionOf (fields_of columns.now) (option_map predicate_form where_condition.now)) }
+    ensures { IfOk result
+        (IsConditionOf (fields_of columns.now) (option_map predicate_form where_condition.now)) }
 {
     match where_condition {
         Some(predicate) => Ok(Some(bind(alloc, columns, predicate)?)),

@@ -12,7 +12,8 @@ use std::alloc::{AllocError, Global};
 /// What is quoted, from behind its first quote on, and what stands behind its last quote.
 fn quoted(alloc: Global, text: &str, quote: char) -> Result<Option<(String, &str)>, AllocError>
     requires { quote < 128 }
-    ensures exact { IfOk result (λ o. Tells (λ x. (string_bytes x.0, x.1.now)) o (quoted_at quote text.now)) }
+    ensures exact { IfOk result (λ o.
+        Tells (λ x. (string_bytes x.0, x.1.now)) o (quoted_at quote text.now)) }
     ensures shorter { IfOk result (λ o. IfSome o (λ x. length x.1.now < length text.now)) }
 {
     let mut found = String::new(alloc);

@@ -91,7 +91,9 @@ pub fn read_tokens(alloc: Global, text: &str) -> Result<Tokens, TokenFault>
     // What is read is spelled.
     ensures spelled { IfOk result (λ found. Spells text.now found.all.items found.starts.items) }
     // What is spelled is read, and no other, unless memory runs out.
-    ensures read { (ks : List Token) (starts : List ℕ) → Spells text.now ks starts → MatchResult result (λ found. (found.all.items ≡ ks) × (found.starts.items ≡ starts)) (λ fault. fault ≡ OutOfMemory) }
+    ensures read { (ks : List Token) (starts : List ℕ) → Spells text.now ks starts
+        → MatchResult result (λ found. (found.all.items ≡ ks) × (found.starts.items ≡ starts))
+        (λ fault. fault ≡ OutOfMemory) }
     // A fault stands where no token begins.
     ensures stops { (at : ℕ) → result ≡ Err (NoToken at) → StopsAt text.now at }
 {

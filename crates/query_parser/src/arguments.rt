@@ -59,7 +59,8 @@ pub(crate) fn grouping_names(
     alloc: Global,
     tokens: &[Token],
 ) -> Result<(Vec<Text>, &[Token]), GrammarFault>
-    ensures exact { Gives (λ x. (x.0.items, x.1.now)) result (arguments_at standard.arguments tokens.now) }
+    ensures exact { Gives (λ x. (x.0.items, x.1.now)) result
+        (arguments_at standard.arguments tokens.now) }
     ensures shorter { IfOk result (λ x. length x.1.now < length tokens.now) }
 {
     let rest = expect_sign(tokens, Sign::Open)?;

@@ -23,7 +23,8 @@ pub(crate) fn member(
     not: bool,
     tokens: &[Token],
 ) -> Result<(Predicate, &[Token]), GrammarFault>
-    ensures exact { Gives (λ x. (predicate_form x.0, x.1.now)) result (member_after standard.literals (operand_form first) not tokens.now) }
+    ensures exact { Gives (λ x. (predicate_form x.0, x.1.now)) result
+        (member_after standard.literals (operand_form first) not tokens.now) }
     ensures shorter { IfOk result (λ x. length x.1.now < length tokens.now) }
 {
     let (first, (literals, rest)) = keep(first, in_list(alloc, tokens))?;
@@ -55,7 +56,8 @@ pub(crate) fn tested(
     predicate: Predicate,
     tokens: &[Token],
 ) -> Result<(Predicate, &[Token]), GrammarFault>
-    ensures exact { Gives (λ x. (predicate_form x.0, x.1.now)) result (test_after (predicate_form predicate) tokens.now) }
+    ensures exact { Gives (λ x. (predicate_form x.0, x.1.now)) result
+        (test_after (predicate_form predicate) tokens.now) }
     ensures shorter { IfOk result (λ x. length x.1.now ≤ length tokens.now) }
 {
     let Some(rest) = after_word(tokens, Word::Is) else {
@@ -75,7 +77,8 @@ pub(crate) fn null_or_truth_test(
     first: Operand,
     tokens: &[Token],
 ) -> Result<(Predicate, &[Token]), GrammarFault>
-    ensures exact { Gives (λ x. (predicate_form x.0, x.1.now)) result (is_after (operand_form first) tokens.now) }
+    ensures exact { Gives (λ x. (predicate_form x.0, x.1.now)) result
+        (is_after (operand_form first) tokens.now) }
     ensures shorter { IfOk result (λ x. length x.1.now ≤ length tokens.now) }
 {
     let (not, rest) = mark(tokens);

@@ -78,7 +78,9 @@ fn more_groups(
     tokens: &[Token],
     levels: u32,
 ) -> Result<(Vec<GroupingElement>, &[Token]), GrammarFault>
-    ensures exact { Gives (λ x. (map element_form x.0.items, x.1.now)) result (with_front (element_form first ∷ []) (more (is_sign Comma) any_front (group_at levels) (length tokens.now) tokens.now)) }
+    ensures exact { Gives (λ x. (map element_form x.0.items, x.1.now))
+        result (with_front (element_form first ∷ [])
+        (more (is_sign Comma) any_front (group_at levels) (length tokens.now) tokens.now)) }
     ensures shorter { IfOk result (λ x. length x.1.now ≤ length tokens.now) }
 {
     let mut all = Vec::new(alloc);
@@ -110,7 +112,8 @@ fn elements(
     alloc: Global,
     tokens: &[Token],
 ) -> Result<((bool, Vec<GroupingElement>), &[Token]), GrammarFault>
-    ensures exact { Gives (λ x. ((x.0.0, map element_form x.0.1.items), x.1.now)) result (elements_at standard tokens.now) }
+    ensures exact { Gives (λ x. ((x.0.0, map element_form x.0.1.items), x.1.now)) result
+        (elements_at standard tokens.now) }
     ensures shorter { IfOk result (λ x. length x.1.now < length tokens.now) }
 {
     let (distinct, rest) = set_quantifier(tokens);
@@ -126,7 +129,8 @@ pub(crate) fn groups(
     alloc: Global,
     tokens: &[Token],
 ) -> Result<((bool, Vec<GroupingElement>), &[Token]), GrammarFault>
-    ensures exact { Gives (λ x. ((x.0.0, map element_form x.0.1.items), x.1.now)) result (groups_at standard tokens.now) }
+    ensures exact { Gives (λ x. ((x.0.0, map element_form x.0.1.items), x.1.now)) result
+        (groups_at standard tokens.now) }
     ensures shorter { IfOk result (λ x. length x.1.now ≤ length tokens.now) }
 {
     let Some(rest) = after_word(tokens, Word::Group) else {

@@ -75,7 +75,8 @@ impl Listed for SelectItems {
 /// The items of SELECT.
 #[tactic(auto, unfolding(crate::specs::QuerySteps::items_at))]
 pub(crate) fn items(alloc: Global, tokens: &[Token]) -> Result<(Vec<Item>, &[Token]), GrammarFault>
-    ensures exact { Gives (λ x. (map item_form x.0.items, x.1.now)) result (items_at standard tokens.now) }
+    ensures exact { Gives (λ x. (map item_form x.0.items, x.1.now)) result
+        (items_at standard tokens.now) }
     ensures shorter { IfOk result (λ x. length x.1.now < length tokens.now) }
 {
     let (first, rest) = item(alloc, tokens)?;

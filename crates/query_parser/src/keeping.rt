@@ -16,7 +16,8 @@ pub(crate) fn keep<T: Drop, X>(
     read: T,
     found: Result<X, GrammarFault>,
 ) -> Result<(T, X), GrammarFault>
-    ensures { MatchResult result (λ both. (both.0 ≡ read) × (found ≡ Ok both.1)) (λ fault. found ≡ Err fault) }
+    ensures { MatchResult result (λ both. (both.0 ≡ read) × (found ≡ Ok both.1)) (λ fault.
+        found ≡ Err fault) }
 {
     match found {
         Ok(found) => Ok((read, found)),

@@ -96,7 +96,8 @@ impl Listed for SortKeys {
 /// The keys of ORDER BY, none where it is not written.
 #[tactic(auto, unfolding(crate::specs::KeySteps::keys_at))]
 pub(crate) fn keys(alloc: Global, tokens: &[Token]) -> Result<(Vec<Key>, &[Token]), GrammarFault>
-    ensures exact { Gives (λ x. (map key_form x.0.items, x.1.now)) result (keys_at standard tokens.now) }
+    ensures exact { Gives (λ x. (map key_form x.0.items, x.1.now)) result
+        (keys_at standard tokens.now) }
     ensures shorter { IfOk result (λ x. length x.1.now ≤ length tokens.now) }
 {
     let Some(rest) = after_word(tokens, Word::Order) else {

@@ -8,5 +8,6 @@ ghost use Rattle.semantics.specs.Grammar.{DerivesWithin};
 
 /// A law, with no work to do: no tokens derive two queries.
 pub fn derives_one()
-    ensures { (ts : List Token) (p q : TreeForm) → DerivesWithin standard ts p → DerivesWithin standard ts q → p ≡ q }
+    ensures { (ts : List Token) (p q : TreeForm) → DerivesWithin standard ts p
+        → DerivesWithin standard ts q → p ≡ q }
 {}

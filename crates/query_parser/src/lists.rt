@@ -69,7 +69,8 @@ pub(crate) fn more_parts<L: Listed>(
     tokens: &[Token],
     most_others: usize,
 ) -> Result<(Vec<L::Part>, &[Token]), GrammarFault>
-    ensures exact { Gives (λ x. (map L.form x.0.items, x.1.now)) result (with_front (L.form first ∷ []) (more (is_sign Comma) L.front L.reader most_others tokens.now)) }
+    ensures exact { Gives (λ x. (map L.form x.0.items, x.1.now)) result (with_front
+        (L.form first ∷ []) (more (is_sign Comma) L.front L.reader most_others tokens.now)) }
     ensures shorter { IfOk result (λ x. length x.1.now ≤ length tokens.now) }
 {
     let mut all = Vec::new(alloc);

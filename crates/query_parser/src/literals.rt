@@ -26,8 +26,10 @@ const MAX_LITERALS: usize = 64;
 /// `AllocError` where there is no memory for a text; other literals take none.
 #[tactic(auto, unfolding(crate::specs::LeafSteps::literal_at))]
 pub(crate) fn literal(tokens: &[Token]) -> Result<Option<(Literal, &[Token])>, AllocError>
-    ensures exact { IfOk result (λ found. Tells (λ x. (x.0, x.1.now)) found (literal_at tokens.now)) }
-    ensures shorter { IfOk result (λ found. IfSome found (λ x. length x.1.now < length tokens.now)) }
+    ensures exact { IfOk result (λ found.
+        Tells (λ x. (x.0, x.1.now)) found (literal_at tokens.now)) }
+    ensures shorter { IfOk result (λ found.
+        IfSome found (λ x. length x.1.now < length tokens.now)) }
 {
     match tokens {
         [Token::Integer(value), rest @ ..] => Ok(Some((Literal::Integer(*value), rest))),
@@ -93,7 +95,8 @@ pub(crate) fn in_list(
     alloc: Global,
     tokens: &[Token],
 ) -> Result<(Vec<Literal>, &[Token]), GrammarFault>
-    ensures exact { Gives (λ x. (x.0.items, x.1.now)) result (literals_at standard.literals tokens.now) }
+    ensures exact { Gives (λ x. (x.0.items, x.1.now)) result
+        (literals_at standard.literals tokens.now) }
     ensures shorter { IfOk result (λ x. length x.1.now < length tokens.now) }
 {
     let rest = expect_sign(tokens, Sign::Open)?;

@@ -30,7 +30,8 @@ pub(crate) const MAX_LEVELS: u32 = 64;
 
 /// The AND of a first part and the others, or the first part alone.
 fn and_of(first: Predicate, mut others: Vec<Predicate>) -> Result<Predicate, GrammarFault>
-    ensures joined { IfOk result (λ p. predicate_form p ≡ conjunction_of (predicate_form first) (map predicate_form others.items)) }
+    ensures joined { IfOk result (λ p. predicate_form p
+        ≡ conjunction_of (predicate_form first) (map predicate_form others.items)) }
     ensures fails { MatchResult result (λ _. Unit {0}) (λ fault. fault ≡ OutOfMemory) }
 {
     if others.is_empty() {
@@ -42,7 +43,8 @@ fn and_of(first: Predicate, mut others: Vec<Predicate>) -> Result<Predicate, Gra
 
 /// The OR of a first part and the others, or the first part alone.
 fn or_of(first: Predicate, mut others: Vec<Predicate>) -> Result<Predicate, GrammarFault>
-    ensures joined { IfOk result (λ p. predicate_form p ≡ disjunction_of (predicate_form first) (map predicate_form others.items)) }
+    ensures joined { IfOk result (λ p. predicate_form p
+        ≡ disjunction_of (predicate_form first) (map predicate_form others.items)) }
     ensures fails { MatchResult result (λ _. Unit {0}) (λ fault. fault ≡ OutOfMemory) }
 {
     if others.is_empty() {
@@ -62,7 +64,8 @@ fn filter(
     tokens: &[Token],
     levels: u32,
 ) -> Result<(Predicate, &[Token]), GrammarFault>
-    ensures exact { Gives (λ x. (predicate_form x.0, x.1.now)) result (filter_at (inside_of standard levels) tokens.now) }
+    ensures exact { Gives (λ x. (predicate_form x.0, x.1.now)) result
+        (filter_at (inside_of standard levels) tokens.now) }
     ensures shorter { IfOk result (λ x. length x.1.now < length tokens.now) }
 {
     let rest = expect_sign(tokens, Sign::Open)?;
@@ -82,7 +85,8 @@ fn set_function(
     tokens: &[Token],
     levels: u32,
 ) -> Result<(SetFunction, &[Token]), GrammarFault>
-    ensures exact { Gives (λ x. (function_form x.0, x.1.now)) result (function_at (inside_of standard levels) tokens.now) }
+    ensures exact { Gives (λ x. (function_form x.0, x.1.now)) result
+        (function_at (inside_of standard levels) tokens.now) }
     ensures shorter { IfOk result (λ x. length x.1.now < length tokens.now) }
 {
     let (aggregate, rest) = aggregate(tokens)?;
@@ -116,7 +120,8 @@ pub(crate) fn expression(
     tokens: &[Token],
     levels: u32,
 ) -> Result<(Expression, &[Token]), GrammarFault>
-    ensures exact { Gives (λ x. (expression_form x.0, x.1.now)) result (expression_at (inside_of standard levels) tokens.now) }
+    ensures exact { Gives (λ x. (expression_form x.0, x.1.now)) result
+        (expression_at (inside_of standard levels) tokens.now) }
     ensures shorter { IfOk result (λ x. length x.1.now < length tokens.now) }
 {
     if let Some((name, rest)) = name(tokens) {
@@ -139,7 +144,8 @@ fn operand(
     tokens: &[Token],
     levels: u32,
 ) -> Result<(Operand, &[Token]), GrammarFault>
-    ensures exact { Gives (λ x. (operand_form x.0, x.1.now)) result (operand_at (inside_of standard levels) tokens.now) }
+    ensures exact { Gives (λ x. (operand_form x.0, x.1.now)) result
+        (operand_at (inside_of standard levels) tokens.now) }
     ensures shorter { IfOk result (λ x. length x.1.now < length tokens.now) }
 {
     if let Some((value, rest)) = literal(tokens)? {
@@ -159,7 +165,8 @@ fn between(
     tokens: &[Token],
     levels: u32,
 ) -> Result<(Predicate, &[Token]), GrammarFault>
-    ensures exact { Gives (λ x. (predicate_form x.0, x.1.now)) result (between_after (inside_of standard levels) (operand_form first) not tokens.now) }
+    ensures exact { Gives (λ x. (predicate_form x.0, x.1.now)) result
+        (between_after (inside_of standard levels) (operand_form first) not tokens.now) }
     ensures shorter { IfOk result (λ x. length x.1.now < length tokens.now) }
 {
     let (first, (low, rest)) = keep(first, operand(alloc, tokens, levels))?;
@@ -183,7 +190,8 @@ fn negated(
     tokens: &[Token],
     levels: u32,
 ) -> Result<(Predicate, &[Token]), GrammarFault>
-    ensures exact { Gives (λ x. (predicate_form x.0, x.1.now)) result (negated_after (inside_of standard levels) (operand_form first) tokens.now) }
+    ensures exact { Gives (λ x. (predicate_form x.0, x.1.now)) result
+        (negated_after (inside_of standard levels) (operand_form first) tokens.now) }
     ensures shorter { IfOk result (λ x. length x.1.now < length tokens.now) }
 {
     if let Some(rest) = after_word(tokens, Word::In) {
@@ -202,7 +210,8 @@ fn atom(
     tokens: &[Token],
     levels: u32,
 ) -> Result<(Predicate, &[Token]), GrammarFault>
-    ensures exact { Gives (λ x. (predicate_form x.0, x.1.now)) result (atom_after (inside_of standard levels) (operand_form first) tokens.now) }
+    ensures exact { Gives (λ x. (predicate_form x.0, x.1.now)) result
+        (atom_after (inside_of standard levels) (operand_form first) tokens.now) }
     ensures shorter { IfOk result (λ x. length x.1.now ≤ length tokens.now) }
 {
     if let Some((op, rest)) = operator(tokens) {
@@ -229,7 +238,8 @@ fn tested_atom(
     tokens: &[Token],
     levels: u32,
 ) -> Result<(Predicate, &[Token]), GrammarFault>
-    ensures exact { Gives (λ x. (predicate_form x.0, x.1.now)) result (tested_atom_at (inside_of standard levels) tokens.now) }
+    ensures exact { Gives (λ x. (predicate_form x.0, x.1.now)) result
+        (tested_atom_at (inside_of standard levels) tokens.now) }
     ensures shorter { IfOk result (λ x. length x.1.now < length tokens.now) }
 {
     let (first, rest) = operand(alloc, tokens, levels)?;
@@ -246,7 +256,8 @@ fn tested_atom(
 #[cycle(predicate)]
 #[tactic(auto, unfolding(crate::specs::PredicateSteps::test_at))]
 fn test(alloc: Global, tokens: &[Token], levels: u32) -> Result<(Predicate, &[Token]), GrammarFault>
-    ensures exact { Gives (λ x. (predicate_form x.0, x.1.now)) result (test_at (inside_of standard levels) tokens.now) }
+    ensures exact { Gives (λ x. (predicate_form x.0, x.1.now)) result
+        (test_at (inside_of standard levels) tokens.now) }
     ensures shorter { IfOk result (λ x. length x.1.now < length tokens.now) }
 {
     let Some(rest) = after_sign(tokens, Sign::Open) else {
@@ -265,7 +276,8 @@ fn negation(
     tokens: &[Token],
     levels: u32,
 ) -> Result<(Predicate, &[Token]), GrammarFault>
-    ensures exact { Gives (λ x. (predicate_form x.0, x.1.now)) result (negation_at (inside_of standard levels) tokens.now) }
+    ensures exact { Gives (λ x. (predicate_form x.0, x.1.now)) result
+        (negation_at (inside_of standard levels) tokens.now) }
     ensures shorter { IfOk result (λ x. length x.1.now < length tokens.now) }
 {
     let Some(rest) = after_word(tokens, Word::Not) else {
@@ -282,7 +294,8 @@ fn more_negations(
     tokens: &[Token],
     levels: u32,
 ) -> Result<(Vec<Predicate>, &[Token]), GrammarFault>
-    ensures exact { Gives (λ x. (map predicate_form x.0.items, x.1.now)) result (more (is_word And) any_front (negation_at (inside_of standard levels)) (length tokens.now) tokens.now) }
+    ensures exact { Gives (λ x. (map predicate_form x.0.items, x.1.now)) result (more (is_word And)
+        any_front (negation_at (inside_of standard levels)) (length tokens.now) tokens.now) }
     ensures shorter { IfOk result (λ x. length x.1.now ≤ length tokens.now) }
 {
     let mut parts = Vec::new(alloc);
@@ -303,7 +316,8 @@ fn conjunction(
     tokens: &[Token],
     levels: u32,
 ) -> Result<(Predicate, &[Token]), GrammarFault>
-    ensures exact { Gives (λ x. (predicate_form x.0, x.1.now)) result (conjunction_at (inside_of standard levels) tokens.now) }
+    ensures exact { Gives (λ x. (predicate_form x.0, x.1.now)) result
+        (conjunction_at (inside_of standard levels) tokens.now) }
     ensures shorter { IfOk result (λ x. length x.1.now < length tokens.now) }
 {
     let (first, rest) = negation(alloc, tokens, levels)?;
@@ -318,7 +332,8 @@ fn more_conjunctions(
     tokens: &[Token],
     levels: u32,
 ) -> Result<(Vec<Predicate>, &[Token]), GrammarFault>
-    ensures exact { Gives (λ x. (map predicate_form x.0.items, x.1.now)) result (more (is_word Or) any_front (conjunction_at (inside_of standard levels)) (length tokens.now) tokens.now) }
+    ensures exact { Gives (λ x. (map predicate_form x.0.items, x.1.now)) result (more (is_word Or)
+        any_front (conjunction_at (inside_of standard levels)) (length tokens.now) tokens.now) }
     ensures shorter { IfOk result (λ x. length x.1.now ≤ length tokens.now) }
 {
     let mut parts = Vec::new(alloc);
@@ -349,7 +364,8 @@ pub(crate) fn predicate(
     tokens: &[Token],
     levels: u32,
 ) -> Result<(Predicate, &[Token]), GrammarFault>
-    ensures exact { Gives (λ x. (predicate_form x.0, x.1.now)) result (predicate_at standard levels tokens.now) }
+    ensures exact { Gives (λ x. (predicate_form x.0, x.1.now)) result
+        (predicate_at standard levels tokens.now) }
     ensures shorter { IfOk result (λ x. length x.1.now < length tokens.now) }
 {
     if levels == 0 {

@@ -43,7 +43,8 @@ fn clause(
     tokens: &[Token],
     word: Word,
 ) -> Result<(Option<Predicate>, &[Token]), GrammarFault>
-    ensures exact { Gives (λ x. (option_map predicate_form x.0, x.1.now)) result (clause_at standard word tokens.now) }
+    ensures exact { Gives (λ x. (option_map predicate_form x.0, x.1.now)) result
+        (clause_at standard word tokens.now) }
     ensures shorter { IfOk result (λ x. length x.1.now ≤ length tokens.now) }
 {
     let Some(rest) = after_word(tokens, word) else {
@@ -56,7 +57,8 @@ fn clause(
 /// The items of SELECT, and what stands behind FROM.
 #[tactic(auto, unfolding(crate::specs::QuerySteps::select_at))]
 fn select(alloc: Global, tokens: &[Token]) -> Result<(Vec<Item>, &[Token]), GrammarFault>
-    ensures exact { Gives (λ x. (map item_form x.0.items, x.1.now)) result (select_at standard tokens.now) }
+    ensures exact { Gives (λ x. (map item_form x.0.items, x.1.now)) result
+        (select_at standard tokens.now) }
 {
     let rest = expect_word(tokens, Word::Select)?;
     let (items, rest) = items(alloc, rest)?;
@@ -69,7 +71,9 @@ fn records(
     alloc: Global,
     tokens: &[Token],
 ) -> Result<((Option<Predicate>, bool, Vec<GroupingElement>), &[Token]), GrammarFault>
-    ensures exact { Gives (λ x. ((option_map predicate_form x.0.0, x.0.1, map element_form x.0.2.items), x.1.now)) result (records_at standard tokens.now) }
+    ensures exact { Gives (λ x.
+        ((option_map predicate_form x.0.0, x.0.1, map element_form x.0.2.items), x.1.now))
+        result (records_at standard tokens.now) }
 {
     let (where_condition, rest) = clause(alloc, tokens, Word::Where)?;
     let (where_condition, (group_by, rest)) = keep(where_condition, groups(alloc, rest))?;
@@ -83,7 +87,9 @@ fn rows(
     alloc: Global,
     tokens: &[Token],
 ) -> Result<((Option<Predicate>, Vec<Key>), &[Token]), GrammarFault>
-    ensures exact { Gives (λ x. ((option_map predicate_form x.0.0, map key_form x.0.1.items), x.1.now)) result (rows_at standard tokens.now) }
+    ensures exact { Gives (λ x.
+        ((option_map predicate_form x.0.0, map key_form x.0.1.items), x.1.now))
+        result (rows_at standard tokens.now) }
 {
     let (having_condition, rest) = clause(alloc, tokens, Word::Having)?;
     let (having_condition, (keys, rest)) = keep(having_condition, keys(alloc, rest))?;
@@ -93,7 +99,8 @@ fn rows(
 /// A query in front, and what stands behind it.
 #[tactic(auto, unfolding(crate::specs::QuerySteps::query_at))]
 fn query(alloc: Global, tokens: &[Token]) -> Result<(Box<Tree>, &[Token]), GrammarFault>
-    ensures exact { Gives (λ x. (tree_form x.0.value, x.1.now)) result (query_at standard tokens.now) }
+    ensures exact { Gives (λ x. (tree_form x.0.value, x.1.now)) result
+        (query_at standard tokens.now) }
 {
     let (items, rest) = select(alloc, tokens)?;
     let (items, (records, rest)) = keep(items, records(alloc, rest))?;
@@ -137,11 +144,14 @@ fn whole(alloc: Global, tokens: &[Token]) -> Result<Box<Tree>, GrammarFault>
 /// `OutOfMemory`, which says nothing of the tokens.
 pub fn read_query(alloc: Global, tokens: &[Token]) -> Result<Box<Tree>, GrammarFault>
     // What is read is derived.
-    ensures derived { IfOk result (λ tree. DerivesWithin standard tokens.now (tree_form tree.value)) }
+    ensures derived { IfOk result (λ tree.
+        DerivesWithin standard tokens.now (tree_form tree.value)) }
     // What is derived is read, and no other, unless memory runs out.
-    ensures read { (q : TreeForm) → DerivesWithin standard tokens.now q → MatchResult result (λ tree. tree_form tree.value ≡ q) (λ fault. fault ≡ OutOfMemory) }
+    ensures read { (q : TreeForm) → DerivesWithin standard tokens.now q
+        → MatchResult result (λ tree. tree_form tree.value ≡ q) (λ fault. fault ≡ OutOfMemory) }
     // A token that is not expected, or the end, continues no query.
-    ensures unexpected { (left : ℕ) → result ≡ Err (Unexpected left) → IsUnexpected tokens.now (length tokens.now - left) }
+    ensures unexpected { (left : ℕ) → result ≡ Err (Unexpected left)
+        → IsUnexpected tokens.now (length tokens.now - left) }
     // Where it is too much, some tokens in front begin a query that does not keep the limits.
     ensures over_limit { (left : ℕ) → result ≡ Err (OverLimit left) → IsOverLimit tokens.now }
 {

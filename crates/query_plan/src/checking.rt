@@ -41,7 +41,8 @@ pub fn check(alloc: Global, query: Query, schema: Schema) -> Result<Plan, QueryF
     // A plan is answered only where nothing is wrong with the query.
     ensures typed { OnOk result (query_faults schema query ≡ []) }
     // A fault is the first of what is wrong with it.
-    ensures fault { IfErr result (λ fault. fault ≢ OutOfMemory → slice_get (query_faults schema query) 0 ≡ Some fault) }
+    ensures fault { IfErr result (λ fault. fault ≢ OutOfMemory
+        → slice_get (query_faults schema query) 0 ≡ Some fault) }
 {
     match resolve(alloc, query.tree(), &schema) {
         Ok((resolved, condition, filters)) => {
@@ -60,9 +61,12 @@ fn resolve(
 ) -> Result<(Resolved, Option<Condition>, Vec<Condition>), QueryFault>
     ensures typed { OnOk result (IsTyped schema.now (tree_form tree.now)) }
     ensures resolved { IfOk result (λ r. r.0 ≡ resolution_of schema.now (tree_form tree.now)) }
-    ensures condition { IfOk result (λ r. IsConditionOf schema.now (tree_form tree.now).where_condition r.1) }
-    ensures filters { IfOk result (λ r. AreConditionsOf schema.now (filters_of schema.now (tree_form tree.now)) r.2.items) }
-    ensures fault { IfErr result (λ fault. fault ≢ OutOfMemory → query_fault schema.now (tree_form tree.now) ≡ Some fault) }
+    ensures condition { IfOk result (λ r.
+        IsConditionOf schema.now (tree_form tree.now).where_condition r.1) }
+    ensures filters { IfOk result (λ r.
+        AreConditionsOf schema.now (filters_of schema.now (tree_form tree.now)) r.2.items) }
+    ensures fault { IfErr result (λ fault. fault ≢ OutOfMemory
+        → query_fault schema.now (tree_form tree.now) ≡ Some fault) }
 {
     let resolved = check_tree(alloc, tree, schema)?;
     let columns = schema.columns();
@@ -77,7 +81,8 @@ fn filter_conditions(
     columns: &[Column],
     tree: &Tree,
 ) -> Result<Vec<Condition>, AllocError>
-    ensures { IfOk result (λ conditions. AreConditionsOf (fields_of columns.now) (filters_of (fields_of columns.now) (tree_form tree.now)) conditions.items) }
+    ensures { IfOk result (λ conditions. AreConditionsOf (fields_of columns.now)
+        (filters_of (fields_of columns.now) (tree_form tree.now)) conditions.items) }
 {
     let filters = filters(alloc, columns, tree)?;
     bind_filters(alloc, columns, &filters)

@@ -33,7 +33,8 @@ pub fn holds(plan: &Plan, record: &Record) -> Truth
 pub fn filter_holds(plan: &Plan, f: usize, record: &Record) -> Truth
     requires place { f < length (functions_of plan.now.fields plan.now.query) }
     requires fits { Fits plan.now.fields «record».now }
-    ensures { result ≡ where_truth plan.now.fields (filter_at plan.now.fields plan.now.query f) «record».now }
+    ensures { result
+        ≡ where_truth plan.now.fields (filter_at plan.now.fields plan.now.query f) «record».now }
 {
     plan.filter_truth(f, record.values())
 }

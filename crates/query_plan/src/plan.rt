@@ -171,15 +171,21 @@ impl Plan {
     /// `AllocError` where there is no memory for the marks; without FILTER there are none.
     pub fn mark_filters(&self, record: &Record, marks: &mut Vec<bool>) -> Result<(), AllocError>
         requires { Fits self.now.fields «record».now }
-        ensures marks { OnOk result (marks.new.items ≡ map (λ p. passes self.now.fields p «record».now) (filters_of self.now.fields self.now.query)) }
+        ensures marks { OnOk result (marks.new.items
+            ≡ map (λ p. passes self.now.fields p «record».now)
+            (filters_of self.now.fields self.now.query)) }
     {
         mark_conditions(self.conditions(), record.values(), marks)
     }
 
     /// The conditions of the different filters, in the order in which they first stand.
     fn conditions(&self) -> &[Condition]
-        ensures worth { (values : List Datum) → map (λ c. condition_truth c values) result.now ≡ map (truth (record_value self.now.fields values)) (filters_of self.now.fields self.now.query) }
-        ensures safe { (values : List Datum) → Fits self.now.fields values → list_all (λ is_safe. is_safe values) (map is_safe result.now) ≡ true }
+        ensures worth { (values : List Datum)
+            → map (λ c. condition_truth c values) result.now
+            ≡ map (truth (record_value self.now.fields values))
+            (filters_of self.now.fields self.now.query) }
+        ensures safe { (values : List Datum) → Fits self.now.fields values
+            → list_all (λ is_safe. is_safe values) (map is_safe result.now) ≡ true }
     {
         filters_law();
         self.filters.as_slice()
@@ -190,7 +196,8 @@ impl Plan {
     pub(crate) fn filter_truth(&self, place: usize, values: &[Value]) -> Truth
         requires place { place < length (functions_of self.now.fields self.now.query) }
         requires fits { Fits self.now.fields (data_of values.now) }
-        ensures { result ≡ where_truth self.now.fields (filter_at self.now.fields self.now.query place) (data_of values.now) }
+        ensures { result ≡ where_truth self.now.fields
+            (filter_at self.now.fields self.now.query place) (data_of values.now) }
     {
         filters_law();
         match self.set_functions()[place].filter {
@@ -202,7 +209,8 @@ impl Plan {
     /// The truth value of WHERE for the values of a record that fits the schema.
     pub(crate) fn where_truth(&self, values: &[Value]) -> Truth
         requires { Fits self.now.fields (data_of values.now) }
-        ensures { result ≡ where_truth self.now.fields self.now.query.where_condition (data_of values.now) }
+        ensures { result
+            ≡ where_truth self.now.fields self.now.query.where_condition (data_of values.now) }
     {
         bound_truth(&self.condition, values)
     }

@@ -23,7 +23,8 @@ use std::alloc::{AllocError, Global};
 /// `AllocError` where there is no memory for the text.
 pub fn header(alloc: Global, plan: &Plan, item: usize) -> Result<String, AllocError>
     requires { item < length plan.now.query.items }
-    ensures text { IfOk result (λ text. Some (string_bytes text) ≡ option_map header_text (slice_get plan.now.query.items item)) }
+    ensures text { IfOk result (λ text.
+        Some (string_bytes text) ≡ option_map header_text (slice_get plan.now.query.items item)) }
 {
     let items = plan.query().tree().items.as_slice();
     query_printer::header(alloc, &items[item])
@@ -39,14 +40,17 @@ pub fn header(alloc: Global, plan: &Plan, item: usize) -> Result<String, AllocEr
 /// `AllocError` where there is no memory for the text.
 pub fn set_text(alloc: Global, plan: &Plan, set: usize) -> Result<String, AllocError>
     requires { set < length (sets_of plan.now.fields plan.now.query) }
-    ensures text { IfOk result (λ text. Some (string_bytes text) ≡ option_map (set_text plan.now.fields) (slice_get (sets_of plan.now.fields plan.now.query) set)) }
+    ensures text { IfOk result (λ text. Some (string_bytes text)
+        ≡ option_map (set_text plan.now.fields)
+        (slice_get (sets_of plan.now.fields plan.now.query) set)) }
 {
     query_printer::set_text(alloc, plan.schema(), &plan.sets()[set])
 }
 
 /// The canonical texts of predicates.
 fn predicate_texts(alloc: Global, predicates: &[&Predicate]) -> Result<Vec<String>, AllocError>
-    ensures { IfOk result (λ texts. map string_bytes texts.items ≡ map predicate_text (filter_forms predicates.now)) }
+    ensures { IfOk result (λ texts.
+        map string_bytes texts.items ≡ map predicate_text (filter_forms predicates.now)) }
 {
     let mut texts = Vec::with_capacity(alloc, predicates.len())?;
     for predicate in predicates {
@@ -65,7 +69,8 @@ fn predicate_texts(alloc: Global, predicates: &[&Predicate]) -> Result<Vec<Strin
 ///
 /// `AllocError` where there is no memory for the texts.
 pub fn filter_texts(alloc: Global, plan: &Plan) -> Result<Vec<String>, AllocError>
-    ensures texts { IfOk result (λ texts. map string_bytes texts.items ≡ map predicate_text (filters_of plan.now.fields plan.now.query)) }
+    ensures texts { IfOk result (λ texts. map string_bytes texts.items
+        ≡ map predicate_text (filters_of plan.now.fields plan.now.query)) }
 {
     let filters = filters(alloc, plan.schema().columns(), plan.query().tree())?;
     predicate_texts(alloc, &filters)

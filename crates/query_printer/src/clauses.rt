@@ -35,7 +35,8 @@ pub fn print_tree(alloc: Global, tree: &Tree) -> Result<String, AllocError>
 
 /// Writes a query at the end.
 fn push_tree(out: &mut String, tree: &Tree) -> Result<(), AllocError>
-    ensures { OnOk result (string_bytes out.new ≡ string_bytes out.old ++ canonical_text (tree_form tree.now)) }
+    ensures { OnOk result (string_bytes out.new
+        ≡ string_bytes out.old ++ canonical_text (tree_form tree.now)) }
 {
     push_select(out, &tree.items)?;
     push_predicate_clause(out, " WHERE ", &tree.where_condition)?;
@@ -46,7 +47,8 @@ fn push_tree(out: &mut String, tree: &Tree) -> Result<(), AllocError>
 
 /// Writes the items of a query at the end, and where it reads from.
 fn push_select(out: &mut String, items: &[Item]) -> Result<(), AllocError>
-    ensures { OnOk result (string_bytes out.new ≡ string_bytes out.old ++ (codes "SELECT " ++ comma_list (map item_text (map item_form items.now)) ++ codes " FROM lines")) }
+    ensures { OnOk result (string_bytes out.new ≡ string_bytes out.old ++ (codes "SELECT "
+        ++ comma_list (map item_text (map item_form items.now)) ++ codes " FROM lines")) }
 {
     out.push_str("SELECT ")?;
     write_list(out, items)?;
@@ -105,7 +107,8 @@ fn column_name(columns: &[Column], place: usize) -> &str
 
 /// Writes the names of columns at the end, with commas.
 fn push_columns(out: &mut String, columns: &[Column], places: &[usize]) -> Result<(), AllocError>
-    ensures { OnOk result (string_bytes out.new ≡ string_bytes out.old ++ names_text (map (name_at (fields_of columns.now)) places.now)) }
+    ensures { OnOk result (string_bytes out.new
+        ≡ string_bytes out.old ++ names_text (map (name_at (fields_of columns.now)) places.now)) }
 {
     let [first, others @ ..] = places else {
         return Ok(());
@@ -183,7 +186,8 @@ fn push_predicate_clause(
     keywords: &str,
     predicate: &Option<Predicate>,
 ) -> Result<(), AllocError>
-    ensures { OnOk result (string_bytes out.new ≡ string_bytes out.old ++ predicate_clause keywords.now (option_map predicate_form predicate.now)) }
+    ensures { OnOk result (string_bytes out.new ≡ string_bytes out.old
+        ++ predicate_clause keywords.now (option_map predicate_form predicate.now)) }
 {
     match predicate {
         None => Ok(()),
@@ -211,7 +215,9 @@ fn push_group_by(
     distinct: bool,
     groups: &[GroupingElement],
 ) -> Result<(), AllocError>
-    ensures { OnOk result (string_bytes out.new ≡ string_bytes out.old ++ list_clause (group_by_text distinct) (group_texts (element_forms (map element_form groups.now)))) }
+    ensures { OnOk result (string_bytes out.new
+        ≡ string_bytes out.old ++ list_clause (group_by_text distinct)
+        (group_texts (element_forms (map element_form groups.now)))) }
 {
     if groups.is_empty() {
         return Ok(());
@@ -222,7 +228,8 @@ fn push_group_by(
 
 /// Writes ORDER BY at the end, where it has a key.
 fn push_order_by(out: &mut String, keys: &[Key]) -> Result<(), AllocError>
-    ensures { OnOk result (string_bytes out.new ≡ string_bytes out.old ++ list_clause (codes " ORDER BY ") (map key_text (map key_form keys.now))) }
+    ensures { OnOk result (string_bytes out.new ≡ string_bytes out.old
+        ++ list_clause (codes " ORDER BY ") (map key_text (map key_form keys.now))) }
 {
     if keys.is_empty() {
         return Ok(());

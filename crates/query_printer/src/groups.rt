@@ -33,7 +33,8 @@ impl Written for Vec<Text> {
 
 /// Writes the units of a ROLLUP or a CUBE at the end, between this opening and a bracket.
 fn push_units(out: &mut String, opening: &str, units: &[Vec<Text>]) -> Result<(), AllocError>
-    ensures { OnOk result (string_bytes out.new ≡ string_bytes out.old ++ (opening.now ++ comma_list (map unit_text (map (λ unit. unit.items) units.now)) ++ codes ")")) }
+    ensures { OnOk result (string_bytes out.new ≡ string_bytes out.old ++ (opening.now
+        ++ comma_list (map unit_text (map (λ unit. unit.items) units.now)) ++ codes ")")) }
 {
     out.push_str(opening)?;
     write_list(out, units)?;
@@ -43,7 +44,8 @@ fn push_units(out: &mut String, opening: &str, units: &[Vec<Text>]) -> Result<()
 /// Writes an element of GROUP BY at the end.
 #[cycle(push_group)]
 pub(crate) fn push_group(out: &mut String, group: &GroupingElement) -> Result<(), AllocError>
-    ensures { OnOk result (string_bytes out.new ≡ string_bytes out.old ++ group_text (element_form group.now)) }
+    ensures { OnOk result (string_bytes out.new
+        ≡ string_bytes out.old ++ group_text (element_form group.now)) }
 {
     match group {
         GroupingElement::Set(names) => names.write(out),
@@ -59,7 +61,8 @@ pub(crate) fn push_group(out: &mut String, group: &GroupingElement) -> Result<()
 /// Writes elements of GROUPING SETS at the end, in brackets.
 #[cycle(push_group)]
 fn push_bracketed(out: &mut String, groups: &[GroupingElement]) -> Result<(), AllocError>
-    ensures { OnOk result (string_bytes out.new ≡ string_bytes out.old ++ in_brackets (comma_list (group_texts (element_forms (map element_form groups.now))))) }
+    ensures { OnOk result (string_bytes out.new ≡ string_bytes out.old
+        ++ in_brackets (comma_list (group_texts (element_forms (map element_form groups.now))))) }
 {
     out.push_str("(")?;
     push_groups(out, groups)?;
@@ -69,7 +72,8 @@ fn push_bracketed(out: &mut String, groups: &[GroupingElement]) -> Result<(), Al
 /// Writes elements of GROUP BY at the end, with commas.
 #[cycle(push_group)]
 pub(crate) fn push_groups(out: &mut String, groups: &[GroupingElement]) -> Result<(), AllocError>
-    ensures { OnOk result (string_bytes out.new ≡ string_bytes out.old ++ comma_list (group_texts (element_forms (map element_form groups.now)))) }
+    ensures { OnOk result (string_bytes out.new ≡ string_bytes out.old
+        ++ comma_list (group_texts (element_forms (map element_form groups.now)))) }
 {
     let [first, others @ ..] = groups else {
         return Ok(());

@@ -28,7 +28,8 @@ impl Written for Text {
 
 /// Writes a function of one column at the end.
 fn push_call(out: &mut String, opening: &str, column: &Text) -> Result<(), AllocError>
-    ensures { OnOk result (string_bytes out.new ≡ string_bytes out.old ++ (opening.now ++ name_text column.now ++ codes ")")) }
+    ensures { OnOk result (string_bytes out.new
+        ≡ string_bytes out.old ++ (opening.now ++ name_text column.now ++ codes ")")) }
 {
     out.push_str(opening)?;
     push_name(out, column.as_str())?;
@@ -37,7 +38,8 @@ fn push_call(out: &mut String, opening: &str, column: &Text) -> Result<(), Alloc
 
 /// Writes a set function at the end.
 pub(crate) fn push_aggregate(out: &mut String, aggregate: &Aggregate) -> Result<(), AllocError>
-    ensures { OnOk result (string_bytes out.new ≡ string_bytes out.old ++ aggregate_text aggregate.now) }
+    ensures { OnOk result (string_bytes out.new
+        ≡ string_bytes out.old ++ aggregate_text aggregate.now) }
 {
     match aggregate {
         Aggregate::CountRows => out.push_str("COUNT(*)"),
@@ -52,7 +54,8 @@ pub(crate) fn push_aggregate(out: &mut String, aggregate: &Aggregate) -> Result<
 
 /// Writes GROUPING of these names at the end.
 pub(crate) fn push_grouping(out: &mut String, names: &[Text]) -> Result<(), AllocError>
-    ensures { OnOk result (string_bytes out.new ≡ string_bytes out.old ++ (codes "GROUPING(" ++ names_text names.now ++ codes ")")) }
+    ensures { OnOk result (string_bytes out.new
+        ≡ string_bytes out.old ++ (codes "GROUPING(" ++ names_text names.now ++ codes ")")) }
 {
     out.push_str("GROUPING(")?;
     write_list(out, names)?;
@@ -99,7 +102,8 @@ fn op_text(op: Op) -> &'static str
 
 /// Writes the sign of an operator at the end, between spaces.
 pub(crate) fn push_op(out: &mut String, op: Op) -> Result<(), AllocError>
-    ensures { OnOk result (string_bytes out.new ≡ string_bytes out.old ++ (codes " " ++ op_text op ++ codes " ")) }
+    ensures { OnOk result (string_bytes out.new
+        ≡ string_bytes out.old ++ (codes " " ++ op_text op ++ codes " ")) }
 {
     out.push_str(" ")?;
     out.push_str(op_text(op))?;
@@ -131,7 +135,8 @@ pub(crate) fn push_marked(
     not: bool,
     behind: &str,
 ) -> Result<(), AllocError>
-    ensures { OnOk result (string_bytes out.new ≡ string_bytes out.old ++ (before.now ++ not_text not ++ behind.now)) }
+    ensures { OnOk result (string_bytes out.new
+        ≡ string_bytes out.old ++ (before.now ++ not_text not ++ behind.now)) }
 {
     out.push_str(before)?;
     out.push_str(not_text(not))?;
@@ -144,7 +149,8 @@ pub(crate) fn push_membership(
     not: bool,
     literals: &[Literal],
 ) -> Result<(), AllocError>
-    ensures { OnOk result (string_bytes out.new ≡ string_bytes out.old ++ (codes " " ++ not_text not ++ codes "IN " ++ in_brackets (comma_list (map literal_text literals.now)))) }
+    ensures { OnOk result (string_bytes out.new ≡ string_bytes out.old ++ (codes " " ++ not_text not
+        ++ codes "IN " ++ in_brackets (comma_list (map literal_text literals.now)))) }
 {
     push_marked(out, " ", not, "IN (")?;
     write_list(out, literals)?;

@@ -15,12 +15,14 @@ pub(crate) trait Written {
 
     /// Writes it at the end.
     fn write(&self, out: &mut String) -> Result<(), AllocError>
-        ensures { OnOk result (string_bytes out.new ≡ string_bytes out.old ++ text (form self.now)) };
+        ensures { OnOk result (string_bytes out.new
+            ≡ string_bytes out.old ++ text (form self.now)) };
 }
 
 /// Writes a list at the end, with commas.
 pub(crate) fn write_list<T: Written>(out: &mut String, list: &[T]) -> Result<(), AllocError>
-    ensures { OnOk result (string_bytes out.new ≡ string_bytes out.old ++ comma_list (map T.text (map T.form list.now))) }
+    ensures { OnOk result (string_bytes out.new
+        ≡ string_bytes out.old ++ comma_list (map T.text (map T.form list.now))) }
 {
     let [first, others @ ..] = list else {
         return Ok(());

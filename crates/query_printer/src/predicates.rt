@@ -33,7 +33,8 @@ fn precedence(predicate: &Predicate) -> u32
 /// Writes an expression at the end.
 #[cycle(push_expression)]
 pub(crate) fn push_expression(out: &mut String, expression: &Expression) -> Result<(), AllocError>
-    ensures { OnOk result (string_bytes out.new ≡ string_bytes out.old ++ expression_text (expression_form expression.now)) }
+    ensures { OnOk result (string_bytes out.new
+        ≡ string_bytes out.old ++ expression_text (expression_form expression.now)) }
 {
     match expression {
         Expression::Name(name) => push_name(out, name.as_str()),
@@ -45,7 +46,8 @@ pub(crate) fn push_expression(out: &mut String, expression: &Expression) -> Resu
 /// Writes a set function at the end, with its FILTER where it has one.
 #[cycle(push_expression)]
 fn push_function(out: &mut String, function: &SetFunction) -> Result<(), AllocError>
-    ensures { OnOk result (string_bytes out.new ≡ string_bytes out.old ++ function_text (function_form function.now)) }
+    ensures { OnOk result (string_bytes out.new
+        ≡ string_bytes out.old ++ function_text (function_form function.now)) }
 {
     push_aggregate(out, &function.aggregate)?;
     match &function.filter {
@@ -57,7 +59,8 @@ fn push_function(out: &mut String, function: &SetFunction) -> Result<(), AllocEr
 /// Writes the FILTER of a set function at the end.
 #[cycle(push_expression)]
 fn push_filter(out: &mut String, predicate: &Predicate) -> Result<(), AllocError>
-    ensures { OnOk result (string_bytes out.new ≡ string_bytes out.old ++ (codes " FILTER (WHERE " ++ predicate_text (predicate_form predicate.now) ++ codes ")")) }
+    ensures { OnOk result (string_bytes out.new ≡ string_bytes out.old ++ (codes " FILTER (WHERE "
+        ++ predicate_text (predicate_form predicate.now) ++ codes ")")) }
 {
     out.push_str(" FILTER (WHERE ")?;
     push_predicate(out, predicate)?;
@@ -67,7 +70,8 @@ fn push_filter(out: &mut String, predicate: &Predicate) -> Result<(), AllocError
 /// Writes an operand at the end.
 #[cycle(push_expression)]
 fn push_operand(out: &mut String, operand: &Operand) -> Result<(), AllocError>
-    ensures { OnOk result (string_bytes out.new ≡ string_bytes out.old ++ operand_text (operand_form operand.now)) }
+    ensures { OnOk result (string_bytes out.new
+        ≡ string_bytes out.old ++ operand_text (operand_form operand.now)) }
 {
     match operand {
         Operand::Expression(expression) => push_expression(out, expression),
@@ -78,7 +82,8 @@ fn push_operand(out: &mut String, operand: &Operand) -> Result<(), AllocError>
 /// Writes a predicate at the end.
 #[cycle(push_expression)]
 pub(crate) fn push_predicate(out: &mut String, predicate: &Predicate) -> Result<(), AllocError>
-    ensures { OnOk result (string_bytes out.new ≡ string_bytes out.old ++ predicate_text (predicate_form predicate.now)) }
+    ensures { OnOk result (string_bytes out.new
+        ≡ string_bytes out.old ++ predicate_text (predicate_form predicate.now)) }
 {
     match predicate {
         Predicate::Or(parts) => push_parts(out, " OR ", 1, parts),
@@ -127,7 +132,8 @@ pub(crate) fn push_predicate(out: &mut String, predicate: &Predicate) -> Result<
 /// Writes a part at the end, in brackets where its precedence is lower than its place asks.
 #[cycle(push_expression)]
 fn push_part(out: &mut String, least: u32, part: &Predicate) -> Result<(), AllocError>
-    ensures { OnOk result (string_bytes out.new ≡ string_bytes out.old ++ bracketed_below least (precedence (predicate_form part.now)) (predicate_text (predicate_form part.now))) }
+    ensures { OnOk result (string_bytes out.new ≡ string_bytes out.old ++ bracketed_below least
+        (precedence (predicate_form part.now)) (predicate_text (predicate_form part.now))) }
 {
     if precedence(part) < least {
         out.push_str("(")?;
@@ -145,7 +151,8 @@ fn push_parts(
     least: u32,
     parts: &[Predicate],
 ) -> Result<(), AllocError>
-    ensures { OnOk result (string_bytes out.new ≡ string_bytes out.old ++ joined keyword.now (part_texts least (predicate_forms (map predicate_form parts.now)))) }
+    ensures { OnOk result (string_bytes out.new ≡ string_bytes out.old
+        ++ joined keyword.now (part_texts least (predicate_forms (map predicate_form parts.now)))) }
 {
     let [first, others @ ..] = parts else {
         return Ok(());
@@ -166,7 +173,8 @@ fn push_parts(
 ///
 /// `AllocError` where there is no memory for the text.
 pub fn predicate_text(alloc: Global, predicate: &Predicate) -> Result<String, AllocError>
-    ensures { IfOk result (λ text. string_bytes text ≡ predicate_text (predicate_form predicate.now)) }
+    ensures { IfOk result (λ text.
+        string_bytes text ≡ predicate_text (predicate_form predicate.now)) }
 {
     let mut out = String::new(alloc);
     push_predicate(&mut out, predicate)?;

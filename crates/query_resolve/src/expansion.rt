@@ -22,7 +22,8 @@ fn places(
     grouping: &[usize],
     names: &[Text],
 ) -> Result<Vec<usize>, AllocError>
-    ensures { IfOk result (λ v. v.items ≡ ordered_set grouping.now (places_of (fields_of columns.now) names.now)) }
+    ensures { IfOk result (λ v.
+        v.items ≡ ordered_set grouping.now (places_of (fields_of columns.now) names.now)) }
 {
     let mut all = Vec::new(alloc);
     push_places(&mut all, columns, names)?;
@@ -36,7 +37,8 @@ fn unit_places(
     grouping: &[usize],
     units: &[Vec<Text>],
 ) -> Result<Vec<Vec<usize>>, AllocError>
-    ensures { IfOk result (λ v. contents v.items ≡ map (ordered_set grouping.now) (map (places_of (fields_of columns.now)) (units_form units.now))) }
+    ensures { IfOk result (λ v. contents v.items ≡ map (ordered_set grouping.now)
+        (map (places_of (fields_of columns.now)) (units_form units.now))) }
 {
     let mut all = Vec::new(alloc);
     for unit in units {
@@ -52,7 +54,8 @@ fn group_sets(
     grouping: &[usize],
     group: &GroupingElement,
 ) -> Result<Vec<Vec<usize>>, AllocError>
-    ensures { IfOk result (λ v. contents v.items ≡ map (ordered_set grouping.now) (map (places_of (fields_of columns.now)) (group_sets (element_form group.now)))) }
+    ensures { IfOk result (λ v. contents v.items ≡ map (ordered_set grouping.now)
+        (map (places_of (fields_of columns.now)) (group_sets (element_form group.now)))) }
 {
     match group {
         GroupingElement::Set(names) => { one_set(alloc, places(alloc, columns, grouping, names)?) }
@@ -83,7 +86,9 @@ fn expand(
     grouping: &[usize],
     groups: &[GroupingElement],
 ) -> Result<Vec<Vec<usize>>, AllocError>
-    ensures { IfOk result (λ v. contents v.items ≡ map (λ names. ordered_set grouping.now (places_of (fields_of columns.now) names)) (expanded (map element_form groups.now))) }
+    ensures { IfOk result (λ v. contents v.items
+        ≡ map (λ names. ordered_set grouping.now (places_of (fields_of columns.now) names))
+        (expanded (map element_form groups.now))) }
 {
     let mut product = Product::new(alloc)?;
     for group in groups {
@@ -109,7 +114,11 @@ pub fn grouping_sets(
     distinct_sets: bool,
     groups: &[GroupingElement],
 ) -> Result<Vec<Vec<usize>>, AllocError>
-    ensures { let all = map (λ names. ordered_set grouping.now (places_of (fields_of columns.now) names)) (expanded (map element_form groups.now)) in IfOk result (λ v. contents v.items ≡ (if distinct_sets then distinct same_columns all else all)) }
+    ensures { let all = map (λ names.
+        ordered_set grouping.now (places_of (fields_of columns.now) names))
+        (expanded (map element_form groups.now))
+        in IfOk result (λ v.
+        contents v.items ≡ (if distinct_sets then distinct same_columns all else all)) }
 {
     let all = expand(alloc, columns, grouping, groups)?;
     kept(alloc, distinct_sets, all)

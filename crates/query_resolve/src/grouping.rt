@@ -17,7 +17,8 @@ pub(crate) fn push_places(
     columns: &[Column],
     names: &[Text],
 ) -> Result<(), AllocError>
-    ensures { OnOk result (places.new.items ≡ places.old.items ++ places_of (fields_of columns.now) names.now) }
+    ensures { OnOk result (places.new.items
+        ≡ places.old.items ++ places_of (fields_of columns.now) names.now) }
 {
     for name in names {
         if let Some(place) = place_of(columns, name.as_str()) {
@@ -33,7 +34,8 @@ fn push_unit_places(
     columns: &[Column],
     units: &[Vec<Text>],
 ) -> Result<(), AllocError>
-    ensures { OnOk result (places.new.items ≡ places.old.items ++ places_of (fields_of columns.now) (flat_map (λ unit. unit) (units_form units.now))) }
+    ensures { OnOk result (places.new.items ≡ places.old.items
+        ++ places_of (fields_of columns.now) (flat_map (λ unit. unit) (units_form units.now))) }
 {
     for unit in units {
         push_places(places, columns, unit)?;
@@ -47,7 +49,8 @@ fn push_group_places(
     columns: &[Column],
     group: &GroupingElement,
 ) -> Result<(), AllocError>
-    ensures { OnOk result (places.new.items ≡ places.old.items ++ places_of (fields_of columns.now) (group_names (element_form group.now))) }
+    ensures { OnOk result (places.new.items ≡ places.old.items
+        ++ places_of (fields_of columns.now) (group_names (element_form group.now))) }
 {
     match group {
         GroupingElement::Set(names) => push_places(places, columns, names),
@@ -88,7 +91,8 @@ pub fn grouping_places(
     columns: &[Column],
     groups: &[GroupingElement],
 ) -> Result<Vec<usize>, AllocError>
-    ensures { IfOk result (λ v. v.items ≡ distinct (λ a b. a == b) (places_of (fields_of columns.now) (flat_map group_names (map element_form groups.now)))) }
+    ensures { IfOk result (λ v. v.items ≡ distinct (λ a b. a == b)
+        (places_of (fields_of columns.now) (flat_map group_names (map element_form groups.now)))) }
 {
     let mut places = Vec::new(alloc);
     for group in groups {

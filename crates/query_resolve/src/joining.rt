@@ -36,7 +36,8 @@ pub(crate) fn crossed(
     firsts: &[Vec<usize>],
     seconds: &[Vec<usize>],
 ) -> Result<Vec<Vec<usize>>, AllocError>
-    ensures { IfOk result (λ v. contents v.items ≡ crossed (contents firsts.now) (contents seconds.now)) }
+    ensures { IfOk result (λ v.
+        contents v.items ≡ crossed (contents firsts.now) (contents seconds.now)) }
 {
     let mut sets = Vec::new(alloc);
     for first in firsts {
@@ -113,7 +114,8 @@ pub(crate) fn ordered_sets(
     grouping: &[usize],
     sets: &[Vec<usize>],
 ) -> Result<Vec<Vec<usize>>, AllocError>
-    ensures { IfOk result (λ v. contents v.items ≡ map (ordered_set grouping.now) (contents sets.now)) }
+    ensures { IfOk result (λ v.
+        contents v.items ≡ map (ordered_set grouping.now) (contents sets.now)) }
 {
     let mut all = Vec::new(alloc);
     for set in sets {

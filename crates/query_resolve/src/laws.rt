@@ -24,19 +24,23 @@ pub fn cube_law()
 /// So no two of its sets have the same columns, and each set of the expanded list has its columns in one of them,
 /// ISO/IEC 9075-2 `<group by clause>`.
 pub fn distinct_law()
-    ensures { (fields : List Field) (t : TreeForm) → t.distinct_sets ≡ true → AreDistinct HaveSameColumns (expanded_sets fields t) (sets_of fields t) }
+    ensures { (fields : List Field) (t : TreeForm) → t.distinct_sets ≡ true
+        → AreDistinct HaveSameColumns (expanded_sets fields t) (sets_of fields t) }
 {}
 
 /// A law: where being the same is reflexive and transitive, `distinct` keeps of a list each element that is not the same
 /// as an earlier one, in order. So no two that it keeps are the same, and each element is the same as one that it keeps.
 pub fn kept_law<A>()
-    ensures { (same : A → A → Bool) → ((a : A) → same a a ≡ true) → ((a b c : A) → same a b ≡ true → same b c ≡ true → same a c ≡ true) → (xs : List A) → AreDistinct (λ a b. same a b ≡ true) xs (distinct same xs) }
+    ensures { (same : A → A → Bool) → ((a : A) → same a a ≡ true)
+        → ((a b c : A) → same a b ≡ true → same b c ≡ true → same a c ≡ true)
+        → (xs : List A) → AreDistinct (λ a b. same a b ≡ true) xs (distinct same xs) }
 {}
 
 /// A law: in a cross product the leftmost list varies slowest: with n sets in the second list, at place i * n + j stand
 /// the columns of the first list's set at place i and of the second's at place j, ISO/IEC 9075-2 `<group by clause>`.
 pub fn crossed_law()
-    ensures { (firsts seconds : List (List (List ℕ))) → IsCrossed firsts seconds (crossed firsts seconds) }
+    ensures { (firsts seconds : List (List (List ℕ)))
+        → IsCrossed firsts seconds (crossed firsts seconds) }
 {}
 
 /// A law: two predicates are the same exactly where their trees are equal.

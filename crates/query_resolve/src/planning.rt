@@ -32,7 +32,8 @@ pub struct Planned<'a> {
 
 /// A set function with the place of its column, where the schema has that column.
 fn planned_function<'a>(columns: &[Column], function: &'a SetFunction) -> Option<Planned<'a>>
-    ensures { option_map planned_form result ≡ planned_function (fields_of columns.now) (function_form function.now) }
+    ensures { option_map planned_form result
+        ≡ planned_function (fields_of columns.now) (function_form function.now) }
 {
     let filter = match &function.filter {
         Some(filter) => {
@@ -53,7 +54,9 @@ fn push_expression_function<'a>(
     columns: &[Column],
     expression: &'a Expression,
 ) -> Result<(), AllocError>
-    ensures { OnOk result (planned_forms functions.new.items ≡ planned_forms functions.old.items ++ filter_map (planned_function (fields_of columns.now)) (expression_functions (expression_form expression.now))) }
+    ensures { OnOk result (planned_forms functions.new.items
+        ≡ planned_forms functions.old.items ++ filter_map (planned_function (fields_of columns.now))
+        (expression_functions (expression_form expression.now))) }
 {
     if let Expression::Function(function) = expression
         && let Some(planned) = planned_function(columns, function)
@@ -69,7 +72,9 @@ fn push_operand_function<'a>(
     columns: &[Column],
     operand: &'a Operand,
 ) -> Result<(), AllocError>
-    ensures { OnOk result (planned_forms functions.new.items ≡ planned_forms functions.old.items ++ filter_map (planned_function (fields_of columns.now)) (operand_functions (operand_form operand.now))) }
+    ensures { OnOk result (planned_forms functions.new.items
+        ≡ planned_forms functions.old.items ++ filter_map (planned_function (fields_of columns.now))
+        (operand_functions (operand_form operand.now))) }
 {
     match operand {
         Operand::Expression(expression) => push_expression_function(functions, columns, expression),
@@ -85,7 +90,9 @@ fn push_pair_functions<'a>(
     left: &'a Operand,
     right: &'a Operand,
 ) -> Result<(), AllocError>
-    ensures { OnOk result (planned_forms functions.new.items ≡ planned_forms functions.old.items ++ filter_map (planned_function (fields_of columns.now)) (operand_functions (operand_form left.now) ++ operand_functions (operand_form right.now))) }
+    ensures { OnOk result (planned_forms functions.new.items
+        ≡ planned_forms functions.old.items ++ filter_map (planned_function (fields_of columns.now))
+        (operand_functions (operand_form left.now) ++ operand_functions (operand_form right.now))) }
 {
     push_operand_function(functions, columns, left)?;
     push_operand_function(functions, columns, right)
@@ -100,7 +107,10 @@ fn push_three_functions<'a>(
     low: &'a Operand,
     high: &'a Operand,
 ) -> Result<(), AllocError>
-    ensures { OnOk result (planned_forms functions.new.items ≡ planned_forms functions.old.items ++ filter_map (planned_function (fields_of columns.now)) (operand_functions (operand_form operand.now) ++ operand_functions (operand_form low.now) ++ operand_functions (operand_form high.now))) }
+    ensures { OnOk result (planned_forms functions.new.items
+        ≡ planned_forms functions.old.items ++ filter_map (planned_function (fields_of columns.now))
+        (operand_functions (operand_form operand.now) ++ operand_functions (operand_form low.now)
+        ++ operand_functions (operand_form high.now))) }
 {
     push_pair_functions(functions, columns, operand, low)?;
     push_operand_function(functions, columns, high)
@@ -114,7 +124,9 @@ fn push_predicate_functions<'a>(
     columns: &[Column],
     predicate: &'a Predicate,
 ) -> Result<(), AllocError>
-    ensures { OnOk result (planned_forms functions.new.items ≡ planned_forms functions.old.items ++ filter_map (planned_function (fields_of columns.now)) (predicate_functions (predicate_form predicate.now))) }
+    ensures { OnOk result (planned_forms functions.new.items
+        ≡ planned_forms functions.old.items ++ filter_map (planned_function (fields_of columns.now))
+        (predicate_functions (predicate_form predicate.now))) }
 {
     match predicate {
         Predicate::Or(parts) | Predicate::And(parts) => {
@@ -144,7 +156,9 @@ fn push_parts_functions<'a>(
     columns: &[Column],
     parts: &'a [Predicate],
 ) -> Result<(), AllocError>
-    ensures { OnOk result (planned_forms functions.new.items ≡ planned_forms functions.old.items ++ filter_map (planned_function (fields_of columns.now)) (parts_functions (predicate_forms (map predicate_form parts.now)))) }
+    ensures { OnOk result (planned_forms functions.new.items
+        ≡ planned_forms functions.old.items ++ filter_map (planned_function (fields_of columns.now))
+        (parts_functions (predicate_forms (map predicate_form parts.now)))) }
 {
     for part in parts {
         push_predicate_functions(functions, columns, part)?;
@@ -158,7 +172,9 @@ fn push_item_functions<'a>(
     columns: &[Column],
     items: &'a [Item],
 ) -> Result<(), AllocError>
-    ensures { OnOk result (planned_forms functions.new.items ≡ planned_forms functions.old.items ++ filter_map (planned_function (fields_of columns.now)) (flat_map (λ i. expression_functions i.expression) (map item_form items.now))) }
+    ensures { OnOk result (planned_forms functions.new.items
+        ≡ planned_forms functions.old.items ++ filter_map (planned_function (fields_of columns.now))
+        (flat_map (λ i. expression_functions i.expression) (map item_form items.now))) }
 {
     for item in items {
         push_expression_function(functions, columns, &item.expression)?;
@@ -172,7 +188,9 @@ fn push_key_functions<'a>(
     columns: &[Column],
     keys: &'a [Key],
 ) -> Result<(), AllocError>
-    ensures { OnOk result (planned_forms functions.new.items ≡ planned_forms functions.old.items ++ filter_map (planned_function (fields_of columns.now)) (flat_map (λ k. expression_functions k.expression) (map key_form keys.now))) }
+    ensures { OnOk result (planned_forms functions.new.items
+        ≡ planned_forms functions.old.items ++ filter_map (planned_function (fields_of columns.now))
+        (flat_map (λ k. expression_functions k.expression) (map key_form keys.now))) }
 {
     for key in keys {
         push_expression_function(functions, columns, &key.expression)?;
@@ -187,7 +205,9 @@ fn all_functions<'a>(
     columns: &[Column],
     tree: &'a Tree,
 ) -> Result<Vec<Planned<'a>>, AllocError>
-    ensures { IfOk result (λ v. planned_forms v.items ≡ filter_map (planned_function (fields_of columns.now)) (clause_functions (tree_form tree.now))) }
+    ensures { IfOk result (λ v. planned_forms v.items
+        ≡ filter_map (planned_function (fields_of columns.now))
+        (clause_functions (tree_form tree.now))) }
 {
     let mut functions = Vec::new(alloc);
     push_item_functions(&mut functions, columns, &tree.items)?;
@@ -214,7 +234,8 @@ fn is_same_planned(function: &Planned, other: &Planned) -> bool
 
 /// Whether a set function is among others.
 fn has_function(functions: &[Planned], function: &Planned) -> bool
-    ensures { result ≡ list_any (λ f. same_planned f (planned_form function.now)) (planned_forms functions.now) }
+    ensures { result
+        ≡ list_any (λ f. same_planned f (planned_form function.now)) (planned_forms functions.now) }
 {
     for other in functions {
         if is_same_planned(other, function) {
@@ -229,7 +250,8 @@ fn distinct_functions<'a>(
     alloc: Global,
     functions: &[Planned<'a>],
 ) -> Result<Vec<Planned<'a>>, AllocError>
-    ensures { IfOk result (λ v. planned_forms v.items ≡ distinct same_planned (planned_forms functions.now)) }
+    ensures { IfOk result (λ v.
+        planned_forms v.items ≡ distinct same_planned (planned_forms functions.now)) }
 {
     let mut found: Vec<Planned<'a>> = Vec::new(alloc);
     for function in functions {
@@ -256,7 +278,8 @@ pub fn planned_functions<'a>(
     columns: &[Column],
     tree: &'a Tree,
 ) -> Result<Vec<Planned<'a>>, AllocError>
-    ensures { IfOk result (λ v. planned_forms v.items ≡ functions_of (fields_of columns.now) (tree_form tree.now)) }
+    ensures { IfOk result (λ v.
+        planned_forms v.items ≡ functions_of (fields_of columns.now) (tree_form tree.now)) }
 {
     distinct_functions(alloc, &all_functions(alloc, columns, tree)?)
 }
@@ -266,7 +289,8 @@ fn all_filters<'a>(
     alloc: Global,
     functions: &[Planned<'a>],
 ) -> Result<Vec<&'a Predicate>, AllocError>
-    ensures { IfOk result (λ v. filter_forms v.items ≡ filter_map (λ f. f.filter) (planned_forms functions.now)) }
+    ensures { IfOk result (λ v.
+        filter_forms v.items ≡ filter_map (λ f. f.filter) (planned_forms functions.now)) }
 {
     let mut filters = Vec::new(alloc);
     for function in functions {
@@ -279,7 +303,8 @@ fn all_filters<'a>(
 
 /// Whether a filter is among others.
 fn has_filter(filters: &[&Predicate], filter: &Predicate) -> bool
-    ensures { result ≡ list_any (λ p. same_predicate p (predicate_form filter.now)) (filter_forms filters.now) }
+    ensures { result
+        ≡ list_any (λ p. same_predicate p (predicate_form filter.now)) (filter_forms filters.now) }
 {
     for other in filters {
         if is_same_predicate(other, filter) {
@@ -294,7 +319,8 @@ fn distinct_filters<'a>(
     alloc: Global,
     filters: &[&'a Predicate],
 ) -> Result<Vec<&'a Predicate>, AllocError>
-    ensures { IfOk result (λ v. filter_forms v.items ≡ distinct same_predicate (filter_forms filters.now)) }
+    ensures { IfOk result (λ v.
+        filter_forms v.items ≡ distinct same_predicate (filter_forms filters.now)) }
 {
     let mut found: Vec<&'a Predicate> = Vec::new(alloc);
     for filter in filters {
@@ -310,7 +336,8 @@ fn different_filters<'a>(
     alloc: Global,
     functions: &[Planned<'a>],
 ) -> Result<Vec<&'a Predicate>, AllocError>
-    ensures { IfOk result (λ v. filter_forms v.items ≡ different_filters (planned_forms functions.now)) }
+    ensures { IfOk result (λ v.
+        filter_forms v.items ≡ different_filters (planned_forms functions.now)) }
 {
     distinct_filters(alloc, &all_filters(alloc, functions)?)
 }
@@ -330,14 +357,16 @@ pub fn filters<'a>(
     columns: &[Column],
     tree: &'a Tree,
 ) -> Result<Vec<&'a Predicate>, AllocError>
-    ensures filters { IfOk result (λ v. filter_forms v.items ≡ filters_of (fields_of columns.now) (tree_form tree.now)) }
+    ensures filters { IfOk result (λ v.
+        filter_forms v.items ≡ filters_of (fields_of columns.now) (tree_form tree.now)) }
 {
     different_filters(alloc, &planned_functions(alloc, columns, tree)?)
 }
 
 /// The place of a filter among others, from 0.
 fn filter_place(filters: &[&Predicate], filter: &Predicate) -> Option<usize>
-    ensures { result ≡ position (same_predicate (predicate_form filter.now)) (filter_forms filters.now) }
+    ensures { result
+        ≡ position (same_predicate (predicate_form filter.now)) (filter_forms filters.now) }
 {
     filters
         .iter()
@@ -364,7 +393,8 @@ fn all_indexed(
     functions: &[Planned],
     filters: &[&Predicate],
 ) -> Result<Vec<FilteredFunction>, AllocError>
-    ensures { IfOk result (λ v. v.items ≡ map (indexed (filter_forms filters.now)) (planned_forms functions.now)) }
+    ensures { IfOk result (λ v.
+        v.items ≡ map (indexed (filter_forms filters.now)) (planned_forms functions.now)) }
 {
     let mut all = Vec::new(alloc);
     for function in functions {
@@ -388,7 +418,8 @@ pub fn indexed_functions(
     columns: &[Column],
     tree: &Tree,
 ) -> Result<Vec<FilteredFunction>, AllocError>
-    ensures { IfOk result (λ v. v.items ≡ indexed_functions (fields_of columns.now) (tree_form tree.now)) }
+    ensures { IfOk result (λ v.
+        v.items ≡ indexed_functions (fields_of columns.now) (tree_form tree.now)) }
 {
     let functions = planned_functions(alloc, columns, tree)?;
     let filters = different_filters(alloc, &functions)?;
@@ -397,7 +428,8 @@ pub fn indexed_functions(
 
 /// The place of a set function among others, from 0.
 fn function_place(functions: &[Planned], function: &Planned) -> Option<usize>
-    ensures { result ≡ position (same_planned (planned_form function.now)) (planned_forms functions.now) }
+    ensures { result
+        ≡ position (same_planned (planned_form function.now)) (planned_forms functions.now) }
 {
     functions
         .iter()
@@ -414,7 +446,9 @@ pub fn planned_place(
     functions: &[Planned],
     function: &SetFunction,
 ) -> Option<usize>
-    ensures { result ≡ option_and_then (λ f. position (same_planned f) (planned_forms functions.now)) (planned_function (fields_of columns.now) (function_form function.now)) }
+    ensures { result
+        ≡ option_and_then (λ f. position (same_planned f) (planned_forms functions.now))
+        (planned_function (fields_of columns.now) (function_form function.now)) }
 {
     match planned_function(columns, function) {
         Some(function) => function_place(functions, &function),

@@ -44,7 +44,8 @@ impl Product {
     /// Crosses the product with more sets, the product varying slowest. In the order of any columns, the sets are then
     /// those of the cross product.
     pub(crate) fn cross(&mut self, alloc: Global, sets: &[Vec<usize>]) -> Result<(), AllocError>
-        ensures { OnOk result ((grouping : List ℕ) → map (ordered_set grouping) self.new ≡ map (ordered_set grouping) (crossed self.old (contents sets.now))) }
+        ensures { OnOk result ((grouping : List ℕ) → map (ordered_set grouping) self.new
+            ≡ map (ordered_set grouping) (crossed self.old (contents sets.now))) }
     {
         if let [set] = sets {
             self.common.extend_from_slice(set)?;

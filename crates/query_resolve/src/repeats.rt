@@ -41,7 +41,8 @@ pub(crate) fn kept(
     distinct_sets: bool,
     sets: Vec<Vec<usize>>,
 ) -> Result<Vec<Vec<usize>>, AllocError>
-    ensures { IfOk result (λ v. contents v.items ≡ (if distinct_sets then distinct bytes_eq (contents sets.items) else contents sets.items)) }
+    ensures { IfOk result (λ v. contents v.items ≡ (if distinct_sets
+        then distinct bytes_eq (contents sets.items) else contents sets.items)) }
 {
     if distinct_sets {
         return without_repeats(alloc, &sets);

@@ -118,7 +118,8 @@ fn is_same_aggregate(aggregate: &Aggregate, other: &Aggregate) -> bool
 /// Example: `q = 1` and `(q = 1)` are the same, `q = 1` and `1 = q` are not.
 #[cycle(is_same_predicate)]
 pub(crate) fn is_same_predicate(predicate: &Predicate, other: &Predicate) -> bool
-    ensures same { result ≡ same_predicate (predicate_form predicate.now) (predicate_form other.now) }
+    ensures same { result
+        ≡ same_predicate (predicate_form predicate.now) (predicate_form other.now) }
 {
     match (predicate, other) {
         (Predicate::Or(parts), Predicate::Or(others))
@@ -179,7 +180,8 @@ pub(crate) fn is_same_predicate(predicate: &Predicate, other: &Predicate) -> boo
 /// Whether a predicate is this truth test.
 #[cycle(is_same_predicate)]
 fn is_same_test(part: &Predicate, not: bool, truth: Truth, predicate: &Predicate) -> bool
-    ensures { result ≡ same_predicate (truth_test (predicate_form part.now) not truth) (predicate_form predicate.now) }
+    ensures { result ≡ same_predicate (truth_test (predicate_form part.now) not truth)
+        (predicate_form predicate.now) }
 {
     let Predicate::Is {
         part: other,
@@ -200,7 +202,8 @@ fn is_same_membership(
     literals: &[Literal],
     predicate: &Predicate,
 ) -> bool
-    ensures { result ≡ same_predicate (member (operand_form operand.now) not literals.now) (predicate_form predicate.now) }
+    ensures { result ≡ same_predicate (member (operand_form operand.now) not literals.now)
+        (predicate_form predicate.now) }
 {
     let Predicate::In {
         operand: other,
@@ -218,7 +221,8 @@ fn is_same_membership(
 /// Whether a predicate is this IS NULL.
 #[cycle(is_same_predicate)]
 fn is_same_null_test(operand: &Operand, not: bool, predicate: &Predicate) -> bool
-    ensures { result ≡ same_predicate (null_test (operand_form operand.now) not) (predicate_form predicate.now) }
+    ensures { result
+        ≡ same_predicate (null_test (operand_form operand.now) not) (predicate_form predicate.now) }
 {
     let Predicate::IsNull {
         operand: other,
@@ -233,7 +237,8 @@ fn is_same_null_test(operand: &Operand, not: bool, predicate: &Predicate) -> boo
 /// Whether the parts of two ORs or ANDs are the same.
 #[cycle(is_same_predicate)]
 fn are_same_parts(parts: &[Predicate], others: &[Predicate]) -> bool
-    ensures { result ≡ same_parts (predicate_forms (map predicate_form parts.now)) (predicate_forms (map predicate_form others.now)) }
+    ensures { result ≡ same_parts (predicate_forms (map predicate_form parts.now))
+        (predicate_forms (map predicate_form others.now)) }
 {
     let mut left = others;
     for part in parts {
@@ -265,7 +270,8 @@ fn is_same_operand(operand: &Operand, other: &Operand) -> bool
 /// Whether two expressions are the same.
 #[cycle(is_same_predicate)]
 fn is_same_expression(expression: &Expression, other: &Expression) -> bool
-    ensures { result ≡ same_expression (expression_form expression.now) (expression_form other.now) }
+    ensures { result
+        ≡ same_expression (expression_form expression.now) (expression_form other.now) }
 {
     match (expression, other) {
         (Expression::Name(name), Expression::Name(other)) => name.as_str() == other.as_str(),

@@ -15,20 +15,25 @@ ghost use Rattle.query_typecheck.specs.Typing.{IsTyped};
 /// as WHERE is.
 pub fn filters_law()
     ensures back { (fields : List Field) (t : TreeForm) → LeadBack fields t }
-    ensures typed { (fields : List Field) (t : TreeForm) → IsTyped fields t → AreTypedFilters fields t }
+    ensures typed { (fields : List Field) (t : TreeForm) → IsTyped fields t
+        → AreTypedFilters fields t }
 {}
 
 /// A law: the first fault of a list is that of one element, where none before it has any; and two types pass the test
 /// of types exactly where they are equal.
 pub fn first_fault_law<A>()
-    ensures first { (test : A → Option QueryFault) (xs : List A) (f : QueryFault) → first_fault test xs ≡ Some f ↔ IsFirst test xs f }
+    ensures first { (test : A → Option QueryFault) (xs : List A) (f : QueryFault)
+        → first_fault test xs ≡ Some f ↔ IsFirst test xs f }
     ensures kinds { (k l : Kind) → Decides (same_kind k l) (k ≡ l) }
 {}
 
 /// A law: a query has no fault exactly where it is typed; the first of its faults is that of the first test that it
 /// fails, and stands in it.
 pub fn typed_law()
-    ensures typed { (fields : List Field) (t : TreeForm) → query_faults fields t ≡ [] ↔ IsTyped fields t }
-    ensures first { (fields : List Field) (t : TreeForm) → slice_get (query_faults fields t) 0 ≡ query_fault fields t }
-    ensures stands { (fields : List Field) (t : TreeForm) (f : QueryFault) → slice_get (query_faults fields t) 0 ≡ Some f → IsViolation fields t f }
+    ensures typed { (fields : List Field) (t : TreeForm)
+        → query_faults fields t ≡ [] ↔ IsTyped fields t }
+    ensures first { (fields : List Field) (t : TreeForm)
+        → slice_get (query_faults fields t) 0 ≡ query_fault fields t }
+    ensures stands { (fields : List Field) (t : TreeForm) (f : QueryFault)
+        → slice_get (query_faults fields t) 0 ≡ Some f → IsViolation fields t f }
 {}

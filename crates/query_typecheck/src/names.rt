@@ -24,7 +24,8 @@ fn check_columns(columns: &[Column], names: &[Text]) -> Result<(), QueryFault>
 
 /// Whether columns have the names in some units.
 fn check_units(columns: &[Column], units: &[Vec<Text>]) -> Result<(), QueryFault>
-    ensures fault { Answers result (first_fault (column_fault (fields_of columns.now)) (flat_map (λ unit. unit) (units_form units.now))) }
+    ensures fault { Answers result (first_fault (column_fault (fields_of columns.now))
+        (flat_map (λ unit. unit) (units_form units.now))) }
 {
     for unit in units {
         check_columns(columns, unit)?;
@@ -34,7 +35,8 @@ fn check_units(columns: &[Column], units: &[Vec<Text>]) -> Result<(), QueryFault
 
 /// Whether columns have the names in an element of GROUP BY.
 fn check_group(columns: &[Column], group: &GroupingElement) -> Result<(), QueryFault>
-    ensures fault { Answers result (first_fault (column_fault (fields_of columns.now)) (group_names (element_form group.now))) }
+    ensures fault { Answers result (first_fault (column_fault (fields_of columns.now))
+        (group_names (element_form group.now))) }
 {
     match group {
         GroupingElement::Set(names) => check_columns(columns, names),
@@ -51,7 +53,8 @@ fn check_group(columns: &[Column], group: &GroupingElement) -> Result<(), QueryF
 
 /// Whether columns have the names in GROUP BY.
 pub(crate) fn check_groups(columns: &[Column], groups: &[GroupingElement]) -> Result<(), QueryFault>
-    ensures fault { Answers result (first_fault (column_fault (fields_of columns.now)) (flat_map group_names (map element_form groups.now))) }
+    ensures fault { Answers result (first_fault (column_fault (fields_of columns.now))
+        (flat_map group_names (map element_form groups.now))) }
 {
     for group in groups {
         check_group(columns, group)?;

@@ -65,7 +65,11 @@ impl Model for Resolved {
 
     ghost Value = { Resolution };
 
-    ghost view = { λ r. record { grouping = r.grouping.items; sets = contents r.sets.items; functions = r.functions.items } };
+    ghost view = { λ r. record {
+      grouping = r.grouping.items;
+      sets = contents r.sets.items;
+      functions = r.functions.items;
+    } };
 }
 
 impl Resolved {
@@ -98,7 +102,8 @@ impl Resolved {
 
 /// Whether a clause of a predicate is typed, where it is written.
 fn check_clause(scope: &Scope, predicate: &Option<Predicate>) -> Result<(), QueryFault>
-    ensures fault { Answers result (clause_fault (fields_of scope.now.columns.now) scope.now.grouping.now scope.now.clause (option_map predicate_form predicate.now)) }
+    ensures fault { Answers result (clause_fault (fields_of scope.now.columns.now)
+        scope.now.grouping.now scope.now.clause (option_map predicate_form predicate.now)) }
 {
     match predicate {
         None => Ok(()),
@@ -108,7 +113,9 @@ fn check_clause(scope: &Scope, predicate: &Option<Predicate>) -> Result<(), Quer
 
 /// Whether the items are typed.
 fn check_items(scope: &Scope, items: &[Item]) -> Result<(), QueryFault>
-    ensures fault { Answers result (first_fault (λ i. expression_fault (fields_of scope.now.columns.now) scope.now.grouping.now scope.now.clause i.expression) (map item_form items.now)) }
+    ensures fault { Answers result (first_fault (λ i. expression_fault
+        (fields_of scope.now.columns.now) scope.now.grouping.now scope.now.clause i.expression)
+        (map item_form items.now)) }
 {
     for item in items {
         check_expression(scope, &item.expression)?;
@@ -120,7 +127,8 @@ fn check_items(scope: &Scope, items: &[Item]) -> Result<(), QueryFault>
 ///
 /// Example: with the items `d, SUM(q) AS s` the key `s` stands for `SUM(q)`, and the key `d` for itself.
 pub fn key_expression<'a>(items: &'a [Item], expression: &'a Expression) -> &'a Expression
-    ensures { expression_form result.now ≡ key_expression (map item_form items.now) (expression_form expression.now) }
+    ensures { expression_form result.now
+        ≡ key_expression (map item_form items.now) (expression_form expression.now) }
 {
     let Expression::Name(name) = expression else {
         return expression;
@@ -137,7 +145,10 @@ pub fn key_expression<'a>(items: &'a [Item], expression: &'a Expression) -> &'a 
 
 /// Whether the keys are typed.
 fn check_keys(scope: &Scope, items: &[Item], keys: &[Key]) -> Result<(), QueryFault>
-    ensures fault { Answers result (first_fault (λ k. expression_fault (fields_of scope.now.columns.now) scope.now.grouping.now scope.now.clause (key_expression (map item_form items.now) k.expression)) (map key_form keys.now)) }
+    ensures fault { Answers result
+        (first_fault (λ k. expression_fault (fields_of scope.now.columns.now) scope.now.grouping.now
+        scope.now.clause (key_expression (map item_form items.now) k.expression))
+        (map key_form keys.now)) }
 {
     for key in keys {
         check_expression(scope, key_expression(items, &key.expression))?;
@@ -180,7 +191,8 @@ fn check_limit(most: u64, count: u64) -> Result<(), QueryFault>
 /// Whether GROUP BY stands for few enough sets.
 #[tactic(auto, using(crate::proofs::Limits::answers_capped))]
 fn check_set_count(groups: &[GroupingElement]) -> Result<(), QueryFault>
-    ensures fault { Answers result (limit_fault 256 (length (expanded (map element_form groups.now)))) }
+    ensures fault { Answers result
+        (limit_fault 256 (length (expanded (map element_form groups.now)))) }
 {
     check_limit(MAX_GROUPING_SETS, set_count(groups))
 }
@@ -189,7 +201,9 @@ fn check_set_count(groups: &[GroupingElement]) -> Result<(), QueryFault>
 #[tactic(auto, unfolding(crate::specs::Inside::Clauses::records_fault))]
 fn check_records(scope: &Scope, tree: &Tree) -> Result<(), QueryFault>
     requires { scope.now.clause ≡ Clause.Where }
-    ensures fault { Answers result (records_fault (fields_of scope.now.columns.now) scope.now.grouping.now (option_map predicate_form tree.now.where_condition) (map element_form tree.now.groups.items)) }
+    ensures fault { Answers result (records_fault (fields_of scope.now.columns.now)
+        scope.now.grouping.now (option_map predicate_form tree.now.where_condition)
+        (map element_form tree.now.groups.items)) }
 {
     check_clause(scope, &tree.where_condition)?;
     check_groups(scope.columns, &tree.groups)?;
@@ -200,7 +214,8 @@ fn check_records(scope: &Scope, tree: &Tree) -> Result<(), QueryFault>
 #[tactic(auto, unfolding(crate::specs::Inside::Clauses::select_fault))]
 fn check_select(alloc: Global, scope: &Scope, items: &[Item]) -> Result<(), QueryFault>
     requires { scope.now.clause ≡ Clause.Select }
-    ensures fault { Answers result (select_fault (fields_of scope.now.columns.now) scope.now.grouping.now (map item_form items.now)) }
+    ensures fault { Answers result (select_fault (fields_of scope.now.columns.now)
+        scope.now.grouping.now (map item_form items.now)) }
 {
     check_items(scope, items)?;
     check_headers(alloc, items)
@@ -214,7 +229,9 @@ fn check_rows(
     grouping: &[usize],
     tree: &Tree,
 ) -> Result<(), QueryFault>
-    ensures fault { Answers result (rows_fault (fields_of columns.now) grouping.now (map item_form tree.now.items.items) (option_map predicate_form tree.now.having_condition) (map key_form tree.now.keys.items)) }
+    ensures fault { Answers result
+        (rows_fault (fields_of columns.now) grouping.now (map item_form tree.now.items.items)
+        (option_map predicate_form tree.now.having_condition) (map key_form tree.now.keys.items)) }
 {
     let mut scope = Scope {
         columns,
@@ -236,8 +253,10 @@ fn check_clauses(
     grouping: &[usize],
     tree: &Tree,
 ) -> Result<Vec<FilteredFunction>, QueryFault>
-    ensures functions { IfOk result (λ v. v.items ≡ indexed_functions (fields_of columns.now) (tree_form tree.now)) }
-    ensures fault { Answers result (clauses_fault (fields_of columns.now) grouping.now (tree_form tree.now)) }
+    ensures functions { IfOk result (λ v.
+        v.items ≡ indexed_functions (fields_of columns.now) (tree_form tree.now)) }
+    ensures fault { Answers result
+        (clauses_fault (fields_of columns.now) grouping.now (tree_form tree.now)) }
 {
     let scope = Scope {
         columns,
@@ -254,7 +273,8 @@ fn check_clauses(
 /// Checks and resolves a query.
 fn resolve(alloc: Global, tree: &Tree, schema: &Schema) -> Result<Resolved, QueryFault>
     ensures resolved { IfOk result (λ r. r ≡ resolution_of schema.now (tree_form tree.now)) }
-    ensures fault { Answers result (clauses_fault schema.now (grouping_places schema.now (tree_form tree.now)) (tree_form tree.now)) }
+    ensures fault { Answers result (clauses_fault schema.now
+        (grouping_places schema.now (tree_form tree.now)) (tree_form tree.now)) }
 {
     let columns = schema.columns();
     let grouping = grouping_places(alloc, columns, &tree.groups)?;
@@ -281,10 +301,12 @@ fn resolve(alloc: Global, tree: &Tree, schema: &Schema) -> Result<Resolved, Quer
 pub fn check_tree(alloc: Global, tree: &Tree, schema: &Schema) -> Result<Resolved, QueryFault>
     ensures typed { OnOk result (IsTyped schema.now (tree_form tree.now)) }
     ensures resolved { IfOk result (λ r. r ≡ resolution_of schema.now (tree_form tree.now)) }
-    ensures untyped { IfErr result (λ f. f ≢ OutOfMemory → IsTyped schema.now (tree_form tree.now) → ⊥) }
+    ensures untyped { IfErr result (λ f. f ≢ OutOfMemory
+        → IsTyped schema.now (tree_form tree.now) → ⊥) }
     ensures fault { Answers result (query_fault schema.now (tree_form tree.now)) }
     // A fault stands in the query.
-    ensures stands { IfErr result (λ f. f ≢ OutOfMemory → IsViolation schema.now (tree_form tree.now) f) }
+    ensures stands { IfErr result (λ f. f ≢ OutOfMemory
+        → IsViolation schema.now (tree_form tree.now) f) }
 {
     resolve(alloc, tree, schema)
 }

@@ -49,7 +49,8 @@ pub(crate) fn check_column(columns: &[Column], name: &Text) -> Result<(), QueryF
 
 /// Whether a grouping column has this name.
 fn check_grouped(scope: &Scope, name: &Text) -> Result<(), QueryFault>
-    ensures fault { Answers result (grouped_fault (fields_of scope.now.columns.now) scope.now.grouping.now name.now) }
+    ensures fault { Answers result
+        (grouped_fault (fields_of scope.now.columns.now) scope.now.grouping.now name.now) }
 {
     let Some(place) = place_of(scope.columns, name.as_str()) else {
         return Err(unknown_column(name));
@@ -62,7 +63,8 @@ fn check_grouped(scope: &Scope, name: &Text) -> Result<(), QueryFault>
 
 /// Whether a name may stand in the clause.
 fn check_name(scope: &Scope, name: &Text) -> Result<(), QueryFault>
-    ensures fault { Answers result (name_fault (fields_of scope.now.columns.now) scope.now.grouping.now scope.now.clause name.now) }
+    ensures fault { Answers result (name_fault (fields_of scope.now.columns.now)
+        scope.now.grouping.now scope.now.clause name.now) }
 {
     match scope.clause {
         Clause::Where => check_column(scope.columns, name),
@@ -72,7 +74,8 @@ fn check_name(scope: &Scope, name: &Text) -> Result<(), QueryFault>
 
 /// Whether grouping columns have these names.
 fn check_all_grouped(scope: &Scope, names: &[Text]) -> Result<(), QueryFault>
-    ensures fault { Answers result (first_fault (grouped_fault (fields_of scope.now.columns.now) scope.now.grouping.now) names.now) }
+    ensures fault { Answers result (first_fault
+        (grouped_fault (fields_of scope.now.columns.now) scope.now.grouping.now) names.now) }
 {
     for name in names {
         check_grouped(scope, name)?;
@@ -82,7 +85,8 @@ fn check_all_grouped(scope: &Scope, names: &[Text]) -> Result<(), QueryFault>
 
 /// Whether the arguments of GROUPING may stand in the clause.
 fn check_grouping(scope: &Scope, names: &[Text]) -> Result<(), QueryFault>
-    ensures fault { Answers result (grouping_fault (fields_of scope.now.columns.now) scope.now.grouping.now scope.now.clause names.now) }
+    ensures fault { Answers result (grouping_fault (fields_of scope.now.columns.now)
+        scope.now.grouping.now scope.now.clause names.now) }
 {
     match scope.clause {
         Clause::Where => Err(QueryFault::FunctionNotAllowed),
@@ -103,7 +107,8 @@ fn takes(aggregate: &Aggregate, kind: Kind) -> bool
 
 /// Whether a set function takes the column of this name.
 fn check_argument(columns: &[Column], aggregate: &Aggregate, name: &Text) -> Result<(), QueryFault>
-    ensures fault { Answers result (argument_fault (fields_of columns.now) (takes aggregate.now) name.now) }
+    ensures fault { Answers result
+        (argument_fault (fields_of columns.now) (takes aggregate.now) name.now) }
 {
     check_column(columns, name)?;
     match column_kind(columns, name.as_str()) {
@@ -206,7 +211,8 @@ fn check_range(
     low: &Operand,
     high: &Operand,
 ) -> Result<(), QueryFault>
-    ensures fault { Answers result (between_agreement (fields_of columns.now) (operand_form operand.now) (operand_form low.now) (operand_form high.now)) }
+    ensures fault { Answers result (between_agreement (fields_of columns.now)
+        (operand_form operand.now) (operand_form low.now) (operand_form high.now)) }
 {
     let kind = operand_kind(columns, operand);
     check_agreement(kind, operand_kind(columns, low))?;
@@ -215,7 +221,8 @@ fn check_range(
 
 /// Whether literals are of this type.
 fn check_literals(kind: Option<Kind>, literals: &[Literal]) -> Result<(), QueryFault>
-    ensures fault { Answers result (first_fault (λ a. agreement_fault kind (Some (literal_kind a))) literals.now) }
+    ensures fault { Answers result
+        (first_fault (λ a. agreement_fault kind (Some (literal_kind a))) literals.now) }
 {
     for literal in literals {
         check_agreement(kind, Some(literal_kind(literal)))?;
@@ -225,7 +232,8 @@ fn check_literals(kind: Option<Kind>, literals: &[Literal]) -> Result<(), QueryF
 
 /// Whether a bare name is a column of truth values that may stand in the clause.
 fn check_truth(scope: &Scope, name: &Text) -> Result<(), QueryFault>
-    ensures fault { Answers result (truth_fault (fields_of scope.now.columns.now) scope.now.grouping.now scope.now.clause name.now) }
+    ensures fault { Answers result (truth_fault (fields_of scope.now.columns.now)
+        scope.now.grouping.now scope.now.clause name.now) }
 {
     check_name(scope, name)?;
     match column_kind(scope.columns, name.as_str()) {
@@ -237,7 +245,8 @@ fn check_truth(scope: &Scope, name: &Text) -> Result<(), QueryFault>
 /// Whether an expression is typed in the clause.
 #[cycle(check_predicate)]
 pub(crate) fn check_expression(scope: &Scope, expression: &Expression) -> Result<(), QueryFault>
-    ensures fault { Answers result (expression_fault (fields_of scope.now.columns.now) scope.now.grouping.now scope.now.clause (expression_form expression.now)) }
+    ensures fault { Answers result (expression_fault (fields_of scope.now.columns.now)
+        scope.now.grouping.now scope.now.clause (expression_form expression.now)) }
 {
     match expression {
         Expression::Name(name) => check_name(scope, name),
@@ -249,7 +258,8 @@ pub(crate) fn check_expression(scope: &Scope, expression: &Expression) -> Result
 /// Whether a set function may stand in the clause, takes its column, and has a FILTER that is typed as WHERE is.
 #[cycle(check_predicate)]
 fn check_function(scope: &Scope, function: &SetFunction) -> Result<(), QueryFault>
-    ensures fault { Answers result (function_fault (fields_of scope.now.columns.now) scope.now.clause (function_form function.now)) }
+    ensures fault { Answers result (function_fault (fields_of scope.now.columns.now)
+        scope.now.clause (function_form function.now)) }
 {
     if !may_stand(scope.clause, &function.aggregate) {
         return Err(QueryFault::FunctionNotAllowed);
@@ -264,7 +274,8 @@ fn check_function(scope: &Scope, function: &SetFunction) -> Result<(), QueryFaul
 /// Whether the predicate of a FILTER is typed as WHERE is.
 #[cycle(check_predicate)]
 fn check_filter(columns: &[Column], filter: &Predicate) -> Result<(), QueryFault>
-    ensures fault { Answers result (predicate_fault (fields_of columns.now) [] Clause.Where (predicate_form filter.now)) }
+    ensures fault { Answers result
+        (predicate_fault (fields_of columns.now) [] Clause.Where (predicate_form filter.now)) }
 {
     let scope = Scope {
         columns,
@@ -277,7 +288,8 @@ fn check_filter(columns: &[Column], filter: &Predicate) -> Result<(), QueryFault
 /// Whether an operand is typed in the clause.
 #[cycle(check_predicate)]
 fn check_operand(scope: &Scope, operand: &Operand) -> Result<(), QueryFault>
-    ensures fault { Answers result (operand_fault (fields_of scope.now.columns.now) scope.now.grouping.now scope.now.clause (operand_form operand.now)) }
+    ensures fault { Answers result (operand_fault (fields_of scope.now.columns.now)
+        scope.now.grouping.now scope.now.clause (operand_form operand.now)) }
 {
     match operand {
         Operand::Expression(expression) => check_expression(scope, expression),
@@ -288,7 +300,8 @@ fn check_operand(scope: &Scope, operand: &Operand) -> Result<(), QueryFault>
 /// Whether a predicate is typed in the clause: of an atom its operands from the left, then their types.
 #[cycle(check_predicate)]
 pub(crate) fn check_predicate(scope: &Scope, predicate: &Predicate) -> Result<(), QueryFault>
-    ensures fault { Answers result (predicate_fault (fields_of scope.now.columns.now) scope.now.grouping.now scope.now.clause (predicate_form predicate.now)) }
+    ensures fault { Answers result (predicate_fault (fields_of scope.now.columns.now)
+        scope.now.grouping.now scope.now.clause (predicate_form predicate.now)) }
 {
     match predicate {
         Predicate::Or(parts) | Predicate::And(parts) => check_parts(scope, parts),
@@ -329,7 +342,8 @@ pub(crate) fn check_predicate(scope: &Scope, predicate: &Predicate) -> Result<()
 /// Whether the parts of an OR or an AND are typed in the clause.
 #[cycle(check_predicate)]
 fn check_parts(scope: &Scope, parts: &[Predicate]) -> Result<(), QueryFault>
-    ensures fault { Answers result (parts_fault (fields_of scope.now.columns.now) scope.now.grouping.now scope.now.clause (predicate_forms (map predicate_form parts.now))) }
+    ensures fault { Answers result (parts_fault (fields_of scope.now.columns.now)
+        scope.now.grouping.now scope.now.clause (predicate_forms (map predicate_form parts.now))) }
 {
     for part in parts {
         check_predicate(scope, part)?;

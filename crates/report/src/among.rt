@@ -38,7 +38,8 @@ pub fn report_among<H: Threads + Sync>(
 ) -> Result<Vec<u8>, AllocError>
     requires fit { AreFittingUnder plan.now groups.now.found }
     requires hands { 0 < hands }
-    ensures { IfOk result (λ text. text.items ≡ report_of plan.now.fields plan.now.query groups.now.found) }
+    ensures { IfOk result (λ text.
+        text.items ≡ report_of plan.now.fields plan.now.query groups.now.found) }
 {
     if hands == 1 {
         return report_on(alloc, groups, plan);
@@ -62,7 +63,8 @@ fn texts_among<H: Threads + Sync>(
 ) -> Result<Vec<Result<Vec<u8>, AllocError>>, AllocError>
     requires size { 0 < size }
     requires within { All (λ r. (row_of r.now).0 < length sources.now) groups.now }
-    ensures { IfOk result (λ texts. AreTextsOf size (map (λ r. cells_at sources.now (row_of r.now)) groups.now) texts.items) }
+    ensures { IfOk result (λ texts.
+        AreTextsOf size (map (λ r. cells_at sources.now (row_of r.now)) groups.now) texts.items) }
 {
     let texts = thread::map_chunks(
         rt,
@@ -71,7 +73,8 @@ fn texts_among<H: Threads + Sync>(
         size,
         &|_, part: &[&(usize, Group)]| -> Result<Vec<u8>, AllocError>
             requires { All (λ r. (row_of r.now).0 < length sources.now) part.now }
-            ensures { IfOk result (λ text. text.items ≡ rows_bytes (map (λ r. cells_at sources.entry.now (row_of r.now)) part.entry.now)) }
+            ensures { IfOk result (λ text. text.items ≡ rows_bytes
+                (map (λ r. cells_at sources.entry.now (row_of r.now)) part.entry.now)) }
         { rows_text(alloc, sources, part) },
     )?;
     Ok(texts)
@@ -84,7 +87,8 @@ fn rows_text(
     groups: &[&(usize, Group)],
 ) -> Result<Vec<u8>, AllocError>
     requires { All (λ r. (row_of r.now).0 < length sources.now) groups.now }
-    ensures { IfOk result (λ text. text.items ≡ rows_bytes (map (λ r. cells_at sources.now (row_of r.now)) groups.now)) }
+    ensures { IfOk result (λ text.
+        text.items ≡ rows_bytes (map (λ r. cells_at sources.now (row_of r.now)) groups.now)) }
 {
     let mut writer = WriterBuilder::new().from_writer(Vec::new(alloc));
     put_groups(&mut writer, alloc, sources, groups)?;

@@ -27,8 +27,10 @@ use tables::Groups;
 /// `AllocError` where there is no memory for the rows.
 pub fn arrange(alloc: Global, groups: &Groups, plan: &Plan) -> Result<Vec<ReportRow>, AllocError>
     requires { AreFittingUnder plan.now groups.now.found }
-    ensures cells { IfOk result (λ rows. map cells_of rows.items ≡ rows_shown plan.now.fields plan.now.query groups.now.found) }
-    ensures wide { IfOk result (λ rows. All (λ row. length row.cells.items ≡ length plan.now.query.items) rows.items) }
+    ensures cells { IfOk result (λ rows.
+        map cells_of rows.items ≡ rows_shown plan.now.fields plan.now.query groups.now.found) }
+    ensures wide { IfOk result (λ rows.
+        All (λ row. length row.cells.items ≡ length plan.now.query.items) rows.items) }
 {
     let view = PlanView::new(alloc, plan)?;
     arranged_rows(alloc, groups.rows(), &view)

@@ -37,7 +37,9 @@ pub(crate) fn write_group(
     sources: &[Source],
     group: &Group,
 ) -> Result<(), AllocError>
-    ensures { OnOk result (fields_of fields.new ≡ map cell_field (map (shown_at (data_of group.now.key.items) (map summary_of group.now.cells.items)) sources.now)) }
+    ensures { OnOk result (fields_of fields.new ≡ map cell_field
+        (map (shown_at (data_of group.now.key.items) (map summary_of group.now.cells.items))
+        sources.now)) }
 {
     fields.clear();
     for source in sources {
@@ -54,7 +56,9 @@ fn push_from(
     group: &Group,
 ) -> Result<(), AllocError>
     requires { partial_of fields.old ≡ [] }
-    ensures field { OnOk result (fields_of fields.new ≡ fields_of fields.old ++ cell_field (shown_at (data_of group.now.key.items) (map summary_of group.now.cells.items) source.now) ∷ []) }
+    ensures field { OnOk result (fields_of fields.new
+        ≡ fields_of fields.old ++ cell_field (shown_at (data_of group.now.key.items)
+        (map summary_of group.now.cells.items) source.now) ∷ []) }
     ensures whole { OnOk result (partial_of fields.new ≡ []) }
 {
     match source {
@@ -73,7 +77,8 @@ fn push_from(
 /// Puts a cell behind the fields.
 fn push_cell(fields: &mut ByteRecord, alloc: Global, cell: &Cell) -> Result<(), AllocError>
     requires { partial_of fields.old ≡ [] }
-    ensures field { OnOk result (fields_of fields.new ≡ fields_of fields.old ++ cell_field (summary_of cell.now) ∷ []) }
+    ensures field { OnOk result (fields_of fields.new
+        ≡ fields_of fields.old ++ cell_field (summary_of cell.now) ∷ []) }
     ensures whole { OnOk result (partial_of fields.new ≡ []) }
 {
     match cell {
@@ -88,7 +93,8 @@ fn push_cell(fields: &mut ByteRecord, alloc: Global, cell: &Cell) -> Result<(), 
 /// Puts a value behind the fields.
 fn push_value(fields: &mut ByteRecord, alloc: Global, value: &Value) -> Result<(), AllocError>
     requires { partial_of fields.old ≡ [] }
-    ensures field { OnOk result (fields_of fields.new ≡ fields_of fields.old ++ value_field (datum_of value.now) ∷ []) }
+    ensures field { OnOk result (fields_of fields.new
+        ≡ fields_of fields.old ++ value_field (datum_of value.now) ∷ []) }
     ensures whole { OnOk result (partial_of fields.new ≡ []) }
 {
     match value {
@@ -106,7 +112,8 @@ fn push_value(fields: &mut ByteRecord, alloc: Global, value: &Value) -> Result<(
 /// Puts a text behind the fields: with one more backslash where it begins with one.
 fn push_text(fields: &mut ByteRecord, alloc: Global, text: &[u8]) -> Result<(), AllocError>
     requires { partial_of fields.old ≡ [] }
-    ensures field { OnOk result (fields_of fields.new ≡ fields_of fields.old ++ marked text.now ∷ []) }
+    ensures field { OnOk result (fields_of fields.new
+        ≡ fields_of fields.old ++ marked text.now ∷ []) }
     ensures whole { OnOk result (partial_of fields.new ≡ []) }
 {
     if let [b'\\', ..] = text {
@@ -119,7 +126,8 @@ fn push_text(fields: &mut ByteRecord, alloc: Global, text: &[u8]) -> Result<(), 
 
 /// An average as a field.
 fn average_field(alloc: Global, sum: i128, count: u64) -> Result<Vec<u8>, AllocError>
-    ensures { IfOk result (λ field. field.items ≡ signed_decimal sum ++ codes "/" ++ decimal count) }
+    ensures { IfOk result (λ field.
+        field.items ≡ signed_decimal sum ++ codes "/" ++ decimal count) }
 {
     let mut buffer = Buffer::new();
     let mut field = Vec::from_slice(alloc, buffer.format(sum).as_bytes())?;

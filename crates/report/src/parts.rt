@@ -17,7 +17,8 @@ pub(crate) fn joined<T: Drop>(
     parts: Vec<Result<Vec<T>, AllocError>>,
 ) -> Result<Vec<T>, AllocError>
     ensures made { OnOk result (AreMade parts.items) }
-    ensures items { IfOk result (λ whole. whole.items ≡ list.items ++ flat_map items_of parts.items) }
+    ensures items { IfOk result (λ whole.
+        whole.items ≡ list.items ++ flat_map items_of parts.items) }
 {
     let mut whole = list;
     whole.reserve(items_in(parts.as_slice()))?;

@@ -40,7 +40,8 @@ fn push_line(
     fault: LineFault,
 ) -> Result<(), AllocError>
     requires { NamesColumn schema.now fault }
-    ensures { OnOk result (text.new.items ≡ text.old.items ++ refused_line schema.now (number, fault)) }
+    ensures { OnOk result (text.new.items
+        ≡ text.old.items ++ refused_line schema.now (number, fault)) }
 {
     push_number(text, number)?;
     push_fault(text, schema, fault)?;
@@ -49,7 +50,8 @@ fn push_line(
 
 /// Adds the number of a refused line.
 fn push_number(text: &mut Vec<u8>, number: u64) -> Result<(), AllocError>
-    ensures { OnOk result (text.new.items ≡ text.old.items ++ codes "line " ++ decimal number ++ codes ": ") }
+    ensures { OnOk result (text.new.items
+        ≡ text.old.items ++ codes "line " ++ decimal number ++ codes ": ") }
 {
     let mut buffer = Buffer::new();
     text.extend_from_slice(b"line ")?;
@@ -72,7 +74,8 @@ fn push_fault(text: &mut Vec<u8>, schema: &Schema, fault: LineFault) -> Result<(
 
 /// Adds that the value in the column of this name is bad.
 fn push_bad_value(text: &mut Vec<u8>, name: &str) -> Result<(), AllocError>
-    ensures { OnOk result (text.new.items ≡ text.old.items ++ codes "bad value in column " ++ name.now) }
+    ensures { OnOk result (text.new.items
+        ≡ text.old.items ++ codes "bad value in column " ++ name.now) }
 {
     text.extend_from_slice(b"bad value in column ")?;
     text.extend_from_slice(name.as_bytes())

@@ -43,7 +43,8 @@ const FEW: usize = 64;
 /// `AllocError` where there is no memory for the text.
 pub fn report_text(alloc: Global, rows: &[ReportRow], plan: &Plan) -> Result<Vec<u8>, AllocError>
     requires { All (λ row. length row.cells.items ≡ length plan.now.query.items) rows.now }
-    ensures { IfOk result (λ text. text.items ≡ report_bytes plan.now.query.items (map cells_of rows.now)) }
+    ensures { IfOk result (λ text.
+        text.items ≡ report_bytes plan.now.query.items (map cells_of rows.now)) }
 {
     let mut writer = begun(alloc, plan)?;
     let mut fields = ByteRecord::new(alloc);
@@ -65,7 +66,8 @@ pub fn report_text(alloc: Global, rows: &[ReportRow], plan: &Plan) -> Result<Vec
 /// `AllocError` where there is no memory for the text.
 pub fn report_on(alloc: Global, groups: &Groups, plan: &Plan) -> Result<Vec<u8>, AllocError>
     requires { AreFittingUnder plan.now groups.now.found }
-    ensures { IfOk result (λ text. text.items ≡ report_of plan.now.fields plan.now.query groups.now.found) }
+    ensures { IfOk result (λ text.
+        text.items ≡ report_of plan.now.fields plan.now.query groups.now.found) }
 {
     let view = PlanView::new(alloc, plan)?;
     let shown = shown_groups(alloc, groups.rows(), &view)?;
@@ -85,7 +87,9 @@ pub(crate) fn put_groups(
     requires between { IsBetweenRows writer.old }
     requires within { All (λ r. (row_of r.now).0 < length sources.now) groups.now }
     ensures between { OnOk result (IsBetweenRows writer.new) }
-    ensures appends { OnOk result (Appends (text_written ⟦<Vec<u8> as Write>⟧.contents writer.old) (text_written ⟦<Vec<u8> as Write>⟧.contents writer.new) (rows_bytes (map (λ r. cells_at sources.now (row_of r.now)) groups.now))) }
+    ensures appends { OnOk result (Appends (text_written ⟦<Vec<u8> as Write>⟧.contents writer.old)
+        (text_written ⟦<Vec<u8> as Write>⟧.contents writer.new)
+        (rows_bytes (map (λ r. cells_at sources.now (row_of r.now)) groups.now))) }
 {
     let mut start = 0;
     while start < groups.len() {
@@ -107,7 +111,9 @@ fn put_few(
     requires between { IsBetweenRows writer.old }
     requires within { All (λ r. (row_of r.now).0 < length sources.now) groups.now }
     ensures between { OnOk result (IsBetweenRows writer.new) }
-    ensures appends { OnOk result (Appends (text_written ⟦<Vec<u8> as Write>⟧.contents writer.old) (text_written ⟦<Vec<u8> as Write>⟧.contents writer.new) (rows_bytes (map (λ r. cells_at sources.now (row_of r.now)) groups.now))) }
+    ensures appends { OnOk result (Appends (text_written ⟦<Vec<u8> as Write>⟧.contents writer.old)
+        (text_written ⟦<Vec<u8> as Write>⟧.contents writer.new)
+        (rows_bytes (map (λ r. cells_at sources.now (row_of r.now)) groups.now))) }
 {
     let mut fields = ByteRecord::with_capacity(alloc, longest_text(groups), 0)?;
     for found in groups {
@@ -158,7 +164,8 @@ fn cell_len(cell: &Cell) -> usize {
 
 /// What a writer has written.
 pub(crate) fn ended(writer: Writer<Vec<u8>>) -> Result<Vec<u8>, AllocError>
-    ensures { IfOk result (λ text. text_written ⟦<Vec<u8> as Write>⟧.contents writer ≡ Some text.items) }
+    ensures { IfOk result (λ text.
+        text_written ⟦<Vec<u8> as Write>⟧.contents writer ≡ Some text.items) }
 {
     match writer.into_inner() {
         Ok(text) => Ok(text),
@@ -169,7 +176,8 @@ pub(crate) fn ended(writer: Writer<Vec<u8>>) -> Result<Vec<u8>, AllocError>
 /// A writer of a report that has the row of the headers.
 pub(crate) fn begun(alloc: Global, plan: &Plan) -> Result<Writer<Vec<u8>>, AllocError>
     ensures between { IfOk result IsBetweenRows }
-    ensures text { IfOk result (λ writer. text_written ⟦<Vec<u8> as Write>⟧.contents writer ≡ Some (report_bytes plan.now.query.items [])) }
+    ensures text { IfOk result (λ writer. text_written ⟦<Vec<u8> as Write>⟧.contents writer
+        ≡ Some (report_bytes plan.now.query.items [])) }
 {
     let mut writer = WriterBuilder::new().from_writer(Vec::new(alloc));
     put_headers(&mut writer, alloc, plan)?;
@@ -193,7 +201,9 @@ fn headers(alloc: Global, plan: &Plan) -> Result<ByteRecord, AllocError>
 fn put_headers(writer: &mut Writer<Vec<u8>>, alloc: Global, plan: &Plan) -> Result<(), AllocError>
     requires { IsBetweenRows writer.old }
     ensures between { OnOk result (IsBetweenRows writer.new) }
-    ensures appends { OnOk result (Appends (text_written ⟦<Vec<u8> as Write>⟧.contents writer.old) (text_written ⟦<Vec<u8> as Write>⟧.contents writer.new) (row_text default_writer (map header_text plan.now.query.items))) }
+    ensures appends { OnOk result (Appends (text_written ⟦<Vec<u8> as Write>⟧.contents writer.old)
+        (text_written ⟦<Vec<u8> as Write>⟧.contents writer.new)
+        (row_text default_writer (map header_text plan.now.query.items))) }
 {
     let fields = headers(alloc, plan)?;
     put_fields(writer, &fields)
@@ -208,7 +218,9 @@ fn put_row(
 ) -> Result<(), AllocError>
     requires { IsBetweenRows writer.old }
     ensures between { OnOk result (IsBetweenRows writer.new) }
-    ensures appends { OnOk result (Appends (text_written ⟦<Vec<u8> as Write>⟧.contents writer.old) (text_written ⟦<Vec<u8> as Write>⟧.contents writer.new) (row_text default_writer (map cell_field (cells_of row.now)))) }
+    ensures appends { OnOk result (Appends (text_written ⟦<Vec<u8> as Write>⟧.contents writer.old)
+        (text_written ⟦<Vec<u8> as Write>⟧.contents writer.new)
+        (row_text default_writer (map cell_field (cells_of row.now)))) }
 {
     write_cells(fields, alloc, row.cells.as_slice())?;
     put_fields(writer, fields)
@@ -225,7 +237,11 @@ fn put_group(
 ) -> Result<(), AllocError>
     requires { IsBetweenRows writer.old }
     ensures between { OnOk result (IsBetweenRows writer.new) }
-    ensures appends { OnOk result (Appends (text_written ⟦<Vec<u8> as Write>⟧.contents writer.old) (text_written ⟦<Vec<u8> as Write>⟧.contents writer.new) (row_text default_writer (map cell_field (map (shown_at (data_of group.now.key.items) (map summary_of group.now.cells.items)) sources.now)))) }
+    ensures appends { OnOk result (Appends (text_written ⟦<Vec<u8> as Write>⟧.contents writer.old)
+        (text_written ⟦<Vec<u8> as Write>⟧.contents writer.new)
+        (row_text default_writer (map cell_field
+        (map (shown_at (data_of group.now.key.items) (map summary_of group.now.cells.items))
+        sources.now)))) }
 {
     write_group(fields, alloc, sources, group)?;
     put_fields(writer, fields)
@@ -235,7 +251,9 @@ fn put_group(
 fn put_fields(writer: &mut Writer<Vec<u8>>, fields: &ByteRecord) -> Result<(), AllocError>
     requires { IsBetweenRows writer.old }
     ensures between { OnOk result (IsBetweenRows writer.new) }
-    ensures appends { OnOk result (Appends (text_written ⟦<Vec<u8> as Write>⟧.contents writer.old) (text_written ⟦<Vec<u8> as Write>⟧.contents writer.new) (row_text default_writer (fields_of fields.now))) }
+    ensures appends { OnOk result (Appends (text_written ⟦<Vec<u8> as Write>⟧.contents writer.old)
+        (text_written ⟦<Vec<u8> as Write>⟧.contents writer.new)
+        (row_text default_writer (fields_of fields.now))) }
 {
     match writer.write_byte_record(fields) {
         Ok(()) => Ok(()),

@@ -38,8 +38,10 @@ pub fn arranged_rows(
     plan: &PlanView<'_>,
 ) -> Result<Vec<ReportRow>, AllocError>
     requires { AreFitting plan.now.fields plan.now.query (map row_of groups.now) }
-    ensures cells { IfOk result (λ rows. map cells_of rows.items ≡ rows_shown plan.now.fields plan.now.query (map row_of groups.now)) }
-    ensures wide { IfOk result (λ rows. All (λ row. length row.cells.items ≡ length plan.now.query.items) rows.items) }
+    ensures cells { IfOk result (λ rows. map cells_of rows.items
+        ≡ rows_shown plan.now.fields plan.now.query (map row_of groups.now)) }
+    ensures wide { IfOk result (λ rows.
+        All (λ row. length row.cells.items ≡ length plan.now.query.items) rows.items) }
 {
     let shown = shown_groups(alloc, groups, plan)?;
     let mut rows = Vec::with_capacity(alloc, shown.len())?;
@@ -64,7 +66,8 @@ pub fn shown_groups<'a>(
     plan: &PlanView<'_>,
 ) -> Result<Vec<&'a (usize, Group)>, AllocError>
     requires { AreFitting plan.now.fields plan.now.query (map row_of groups.now) }
-    ensures shown { IfOk result (λ v. map (λ r. row_of r.now) v.items ≡ arranged plan.now.fields plan.now.query (map row_of groups.now)) }
+    ensures shown { IfOk result (λ v. map (λ r. row_of r.now) v.items
+        ≡ arranged plan.now.fields plan.now.query (map row_of groups.now)) }
     ensures sets { IfOk result (λ v. All (λ r. HasSetUnder plan.now (row_of r.now)) v.items) }
 {
     let unordered = rows_having_true(alloc, plan, groups)?;
@@ -88,7 +91,8 @@ pub fn shown_among<'a, H: Threads + Sync>(
 ) -> Result<Vec<&'a (usize, Group)>, AllocError>
     requires fit { AreFitting plan.now.fields plan.now.query (map row_of groups.now) }
     requires hands { 0 < hands }
-    ensures shown { IfOk result (λ v. map (λ r. row_of r.now) v.items ≡ arranged plan.now.fields plan.now.query (map row_of groups.now)) }
+    ensures shown { IfOk result (λ v. map (λ r. row_of r.now) v.items
+        ≡ arranged plan.now.fields plan.now.query (map row_of groups.now)) }
     ensures sets { IfOk result (λ v. All (λ r. HasSetUnder plan.now (row_of r.now)) v.items) }
 {
     let unordered = rows_having_true(alloc, plan, groups)?;
@@ -103,7 +107,8 @@ fn row_for(
     found: &(usize, Group),
 ) -> Result<ReportRow, AllocError>
     requires { HasSetUnder plan.now (row_of found.now) }
-    ensures { IfOk result (λ row. cells_of row ≡ row_shown plan.now.fields plan.now.query (row_of found.now)) }
+    ensures { IfOk result (λ row.
+        cells_of row ≡ row_shown plan.now.fields plan.now.query (row_of found.now)) }
 {
     let (index, group) = found;
     let set = &plan.sets()[*index];

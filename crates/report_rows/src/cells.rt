@@ -28,14 +28,16 @@ pub(crate) fn expression_cell(
     group: &Group,
     expression: &Expression,
 ) -> Result<Cell, AllocError>
-    ensures { IfOk result (λ cell. summary_of cell ≡ shown_under plan.now set.now group.now (expression_form expression.now)) }
+    ensures { IfOk result (λ cell.
+        summary_of cell ≡ shown_under plan.now set.now group.now (expression_form expression.now)) }
 {
     cell_from(source_of(plan, set, expression), group)
 }
 
 /// What a group has where the rows of its grouping set have what they show.
 fn cell_from(source: Source, group: &Group) -> Result<Cell, AllocError>
-    ensures { IfOk result (λ cell. summary_of cell ≡ shown_at (data_of group.now.key.items) (map summary_of group.now.cells.items) source) }
+    ensures { IfOk result (λ cell. summary_of cell
+        ≡ shown_at (data_of group.now.key.items) (map summary_of group.now.cells.items) source) }
 {
     match source {
         Source::KeyAt(place) => Ok(Cell::Plain(value_at(group.key.as_slice(), place)?)),
@@ -52,7 +54,8 @@ pub(crate) fn expression_value(
     group: &Group,
     expression: &Expression,
 ) -> Result<Value, AllocError>
-    ensures { IfOk result (λ value. datum_of value ≡ cell_value (shown_under plan.now set.now group.now (expression_form expression.now))) }
+    ensures { IfOk result (λ value. datum_of value
+        ≡ cell_value (shown_under plan.now set.now group.now (expression_form expression.now))) }
 {
     match expression_cell(plan, set, group, expression)? {
         Cell::Plain(value) => Ok(value),
@@ -79,7 +82,8 @@ pub(crate) fn name_value(
     key: &[Value],
     name: &Text,
 ) -> Result<Value, AllocError>
-    ensures { IfOk result (λ value. datum_of value ≡ name_shown (fields_of columns.now) set.now (data_of key.now) name.now) }
+    ensures { IfOk result (λ value.
+        datum_of value ≡ name_shown (fields_of columns.now) set.now (data_of key.now) name.now) }
 {
     match key_place(columns, set, name) {
         Some(at) => value_at(key, at),
@@ -125,7 +129,8 @@ pub(crate) fn grouping_value(columns: &[Column], set: &[usize], names: &[Text]) 
 
 /// A copy of the cell at a place, and NULL where there is none.
 fn cell_at(cells: &[Cell], place: usize) -> Result<Cell, AllocError>
-    ensures { IfOk result (λ cell. summary_of cell ≡ unwrap_or (slice_get (map summary_of cells.now) place) (plain null)) }
+    ensures { IfOk result (λ cell.
+        summary_of cell ≡ unwrap_or (slice_get (map summary_of cells.now) place) (plain null)) }
 {
     match cells.get(place) {
         Some(cell) => copy_of(cell),

@@ -26,7 +26,8 @@ pub(crate) fn rows_having_true<'a>(
     rows: &'a [(usize, Group)],
 ) -> Result<Vec<&'a (usize, Group)>, AllocError>
     requires { AreFitting plan.now.fields plan.now.query (map row_of rows.now) }
-    ensures { IfOk result (λ found. map (λ r. row_of r.now) found.items ≡ rows_having_true plan.now.fields plan.now.query (map row_of rows.now)) }
+    ensures { IfOk result (λ found. map (λ r. row_of r.now) found.items
+        ≡ rows_having_true plan.now.fields plan.now.query (map row_of rows.now)) }
 {
     let Some(having) = &plan.query().tree().having_condition else {
         return rows.iter().collect(alloc);
@@ -50,7 +51,8 @@ fn row_truth(
 ) -> Result<Truth, AllocError>
     requires fits { FitsUnder plan.now (row_of found.now) }
     requires typed { IsTypedUnder plan.now (predicate_form predicate.now) }
-    ensures { IfOk result (λ worth. worth ≡ truth (value_under plan.now (row_of found.now)) (predicate_form predicate.now)) }
+    ensures { IfOk result (λ worth.
+        worth ≡ truth (value_under plan.now (row_of found.now)) (predicate_form predicate.now)) }
 {
     match predicate {
         Predicate::Or(parts) => any_truth(alloc, plan, found, parts),
@@ -98,7 +100,8 @@ fn any_truth(
 ) -> Result<Truth, AllocError>
     requires fits { FitsUnder plan.now (row_of found.now) }
     requires typed { AreTypedUnder plan.now (predicate_forms (map predicate_form parts.now)) }
-    ensures { IfOk result (λ worth. worth ≡ any_of (truths (value_under plan.now (row_of found.now)) (predicate_forms (map predicate_form parts.now)))) }
+    ensures { IfOk result (λ worth. worth ≡ any_of (truths (value_under plan.now (row_of found.now))
+        (predicate_forms (map predicate_form parts.now)))) }
 {
     let mut worth = Truth::False;
     for part in parts {
@@ -120,7 +123,8 @@ fn all_truth(
 ) -> Result<Truth, AllocError>
     requires fits { FitsUnder plan.now (row_of found.now) }
     requires typed { AreTypedUnder plan.now (predicate_forms (map predicate_form parts.now)) }
-    ensures { IfOk result (λ worth. worth ≡ all_of (truths (value_under plan.now (row_of found.now)) (predicate_forms (map predicate_form parts.now)))) }
+    ensures { IfOk result (λ worth. worth ≡ all_of (truths (value_under plan.now (row_of found.now))
+        (predicate_forms (map predicate_form parts.now)))) }
 {
     let mut worth = Truth::True;
     for part in parts {
@@ -144,8 +148,10 @@ fn comparison_truth(
     right: &Operand,
 ) -> Result<Truth, AllocError>
     requires fits { FitsUnder plan.now (row_of found.now) }
-    requires typed { IsTypedUnder plan.now (compare (operand_form left.now) op (operand_form right.now)) }
-    ensures { IfOk result (λ worth. worth ≡ truth (value_under plan.now (row_of found.now)) (compare (operand_form left.now) op (operand_form right.now))) }
+    requires typed { IsTypedUnder plan.now
+        (compare (operand_form left.now) op (operand_form right.now)) }
+    ensures { IfOk result (λ worth. worth ≡ truth (value_under plan.now (row_of found.now))
+        (compare (operand_form left.now) op (operand_form right.now))) }
 {
     let left = operand_value(alloc, plan, found, left)?;
     let right = operand_value(alloc, plan, found, right)?;
@@ -162,8 +168,10 @@ fn range_truth(
     high: &Operand,
 ) -> Result<Truth, AllocError>
     requires fits { FitsUnder plan.now (row_of found.now) }
-    requires typed { IsTypedUnder plan.now (between (operand_form operand.now) false (operand_form low.now) (operand_form high.now)) }
-    ensures { IfOk result (λ worth. worth ≡ truth (value_under plan.now (row_of found.now)) (between (operand_form operand.now) false (operand_form low.now) (operand_form high.now))) }
+    requires typed { IsTypedUnder plan.now
+        (between (operand_form operand.now) false (operand_form low.now) (operand_form high.now)) }
+    ensures { IfOk result (λ worth. worth ≡ truth (value_under plan.now (row_of found.now))
+        (between (operand_form operand.now) false (operand_form low.now) (operand_form high.now))) }
 {
     let value = operand_value(alloc, plan, found, operand)?;
     let low = operand_value(alloc, plan, found, low)?;
@@ -181,7 +189,8 @@ fn list_truth(
 ) -> Result<Truth, AllocError>
     requires fits { FitsUnder plan.now (row_of found.now) }
     requires typed { IsTypedUnder plan.now (member (operand_form operand.now) false literals.now) }
-    ensures { IfOk result (λ worth. worth ≡ truth (value_under plan.now (row_of found.now)) (member (operand_form operand.now) false literals.now)) }
+    ensures { IfOk result (λ worth. worth ≡ truth (value_under plan.now (row_of found.now))
+        (member (operand_form operand.now) false literals.now)) }
 {
     let value = operand_value(alloc, plan, found, operand)?;
     let values = literal_values(alloc, literals)?;
@@ -198,7 +207,8 @@ fn operand_value(
     operand: &Operand,
 ) -> Result<Value, AllocError>
     requires { FitsUnder plan.now (row_of found.now) }
-    ensures { IfOk result (λ value. datum_of value ≡ operand_value (value_under plan.now (row_of found.now)) (operand_form operand.now)) }
+    ensures { IfOk result (λ value. datum_of value
+        ≡ operand_value (value_under plan.now (row_of found.now)) (operand_form operand.now)) }
 {
     match operand {
         Operand::Expression(expression) => shown_value(plan, found, expression),
@@ -213,7 +223,8 @@ fn shown_value(
     expression: &Expression,
 ) -> Result<Value, AllocError>
     requires { HasSetUnder plan.now (row_of found.now) }
-    ensures { IfOk result (λ value. datum_of value ≡ value_under plan.now (row_of found.now) (expression_form expression.now)) }
+    ensures { IfOk result (λ value.
+        datum_of value ≡ value_under plan.now (row_of found.now) (expression_form expression.now)) }
 {
     let (index, group) = found;
     let set = &plan.sets()[*index];
@@ -227,7 +238,8 @@ fn column_value(
     column: &Text,
 ) -> Result<Value, AllocError>
     requires { HasSetUnder plan.now (row_of found.now) }
-    ensures { IfOk result (λ value. datum_of value ≡ value_under plan.now (row_of found.now) (name column.now)) }
+    ensures { IfOk result (λ value.
+        datum_of value ≡ value_under plan.now (row_of found.now) (name column.now)) }
 {
     let (index, group) = found;
     let set = &plan.sets()[*index];

@@ -27,7 +27,8 @@ pub(crate) fn key_values(
     found: &(usize, Group),
 ) -> Result<Vec<Value>, AllocError>
     requires { HasSetUnder plan.now (row_of found.now) }
-    ensures { IfOk result (λ values. data_of values.items ≡ key_values plan.now.fields plan.now.query (row_of found.now)) }
+    ensures { IfOk result (λ values.
+        data_of values.items ≡ key_values plan.now.fields plan.now.query (row_of found.now)) }
 {
     let (index, group) = found;
     let set = &plan.sets()[*index];
@@ -46,7 +47,8 @@ fn key_value(
     group: &Group,
     key: &Key,
 ) -> Result<Value, AllocError>
-    ensures { IfOk result (λ value. datum_of value ≡ cell_value (shown_under plan.now set.now group.now (key_expression plan.now.query.items (key_form key.now).expression))) }
+    ensures { IfOk result (λ value. datum_of value ≡ cell_value (shown_under plan.now set.now
+        group.now (key_expression plan.now.query.items (key_form key.now).expression))) }
 {
     let items = plan.query().tree().items.as_slice();
     let expression = key_expression(items, &key.expression);

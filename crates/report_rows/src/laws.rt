@@ -9,10 +9,12 @@ ghost use Rattle.report_rows.specs.Laws.{IsBlind, IsTheOrder};
 /// A law: of groups that fit a query, the rows in their order are the one list that has each of them as often and
 /// ascends.
 pub fn order_law()
-    ensures { (fields : List Field) (t : TreeForm) (found : List Found) → AreFitting fields t found → IsTheOrder fields t found }
+    ensures { (fields : List Field) (t : TreeForm) (found : List Found) → AreFitting fields t found
+        → IsTheOrder fields t found }
 {}
 
 /// A law: of groups that fit a query, the rows in their order are the same in whatever order the groups are found.
 pub fn arranged_law()
-    ensures { (fields : List Field) (t : TreeForm) (found : List Found) → AreFitting fields t found → IsBlind fields t found }
+    ensures { (fields : List Field) (t : TreeForm) (found : List Found) → AreFitting fields t found
+        → IsBlind fields t found }
 {}

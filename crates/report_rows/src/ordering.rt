@@ -49,7 +49,9 @@ pub(crate) fn in_order<'a>(
     rows: Vec<&'a (usize, Group)>,
 ) -> Result<Vec<&'a (usize, Group)>, AllocError>
     requires { AreFitting plan.now.fields plan.now.query (map (λ r. row_of r.now) rows.items) }
-    ensures { IfOk result (λ v. map (λ r. row_of r.now) v.items ≡ in_order (before plan.now.fields plan.now.query) (map (λ r. row_of r.now) rows.entry.items)) }
+    ensures { IfOk result (λ v. map (λ r. row_of r.now) v.items
+        ≡ in_order (before plan.now.fields plan.now.query)
+        (map (λ r. row_of r.now) rows.entry.items)) }
 {
     let ranked = rank(alloc, plan, rows.as_slice())?;
     let ordered = sorted(plan, ranked);
@@ -67,7 +69,9 @@ pub(crate) fn in_order_among<'a, H: Threads + Sync>(
 ) -> Result<Vec<&'a (usize, Group)>, AllocError>
     requires fit { AreFitting plan.now.fields plan.now.query (map (λ r. row_of r.now) rows.items) }
     requires size { 0 < size }
-    ensures { IfOk result (λ v. map (λ r. row_of r.now) v.items ≡ in_order (before plan.now.fields plan.now.query) (map (λ r. row_of r.now) rows.entry.items)) }
+    ensures { IfOk result (λ v. map (λ r. row_of r.now) v.items
+        ≡ in_order (before plan.now.fields plan.now.query)
+        (map (λ r. row_of r.now) rows.entry.items)) }
 {
     if rows.len() <= size {
         return in_order(alloc, plan, rows);
@@ -88,7 +92,8 @@ fn parts_in_order<'a, H: Threads + Sync>(
 ) -> Result<Vec<Result<Vec<RankedRow<'a>>, AllocError>>, AllocError>
     requires size { 0 < size }
     requires sets { All (λ r. HasSetUnder plan.now (row_of r.now)) rows.now }
-    ensures { IfOk result (λ parts. AreRankedParts (ranked plan.now.fields plan.now.query) size (map (λ r. row_of r.now) rows.now) parts.items) }
+    ensures { IfOk result (λ parts. AreRankedParts (ranked plan.now.fields plan.now.query) size
+        (map (λ r. row_of r.now) rows.now) parts.items) }
 {
     let parts = thread::map_chunks(
         rt,
@@ -97,7 +102,9 @@ fn parts_in_order<'a, H: Threads + Sync>(
         size,
         &|_, part: &[&(usize, Group)]| -> Result<Vec<RankedRow<'_>>, AllocError>
             requires { All (λ r. HasSetUnder plan.now (row_of r.now)) part.now }
-            ensures { IfOk result (λ v. AreRanked (ranked plan.entry.now.fields plan.entry.now.query) (map (λ r. row_of r.now) part.entry.now) v.items) }
+            ensures { IfOk result (λ v.
+                AreRanked (ranked plan.entry.now.fields plan.entry.now.query)
+                (map (λ r. row_of r.now) part.entry.now) v.items) }
         { part_in_order(alloc, plan, part) },
     )?;
     Ok(parts)
@@ -110,7 +117,8 @@ fn part_in_order<'a>(
     rows: &[&'a (usize, Group)],
 ) -> Result<Vec<RankedRow<'a>>, AllocError>
     requires { All (λ r. HasSetUnder plan.now (row_of r.now)) rows.now }
-    ensures { IfOk result (λ v. AreRanked (ranked plan.now.fields plan.now.query) (map (λ r. row_of r.now) rows.now) v.items) }
+    ensures { IfOk result (λ v. AreRanked (ranked plan.now.fields plan.now.query)
+        (map (λ r. row_of r.now) rows.now) v.items) }
 {
     let ranked = rank(alloc, plan, rows)?;
     Ok(sorted(plan, ranked))
@@ -123,7 +131,8 @@ fn rank<'a>(
     rows: &[&'a (usize, Group)],
 ) -> Result<Vec<RankedRow<'a>>, AllocError>
     requires { All (λ r. HasSetUnder plan.now (row_of r.now)) rows.now }
-    ensures { IfOk result (λ v. map ranked_in v.items ≡ map (ranked plan.now.fields plan.now.query) (map (λ r. row_of r.now) rows.now)) }
+    ensures { IfOk result (λ v. map ranked_in v.items
+        ≡ map (ranked plan.now.fields plan.now.query) (map (λ r. row_of r.now) rows.now)) }
 {
     let mut ranked = Vec::with_capacity(alloc, rows.len())?;
     for found in rows {
@@ -143,7 +152,8 @@ fn rank<'a>(
 /// The groups in the order of what stands beside them, in which no two are equal.
 fn sorted<'a>(plan: &PlanView<'_>, ranked: Vec<RankedRow<'a>>) -> Vec<RankedRow<'a>>
     ensures permutation { IsPermutation ranked.entry.items result.items }
-    ensures sorted { IsSortedBy (λ a b. is_lt (by_rank plan.now.query.keys (ranked_in a) (ranked_in b))) result.items }
+    ensures sorted { IsSortedBy
+        (λ a b. is_lt (by_rank plan.now.query.keys (ranked_in a) (ranked_in b))) result.items }
 {
     let keys = plan.query().tree().keys.as_slice();
     let mut ranked = ranked;
@@ -156,7 +166,8 @@ fn groups_in<'a>(
     alloc: Global,
     ranked: Vec<RankedRow<'a>>,
 ) -> Result<Vec<&'a (usize, Group)>, AllocError>
-    ensures { IfOk result (λ v. map (λ r. row_of r.now) v.items ≡ map (λ r. (ranked_in r).1) ranked.entry.items) }
+    ensures { IfOk result (λ v.
+        map (λ r. row_of r.now) v.items ≡ map (λ r. (ranked_in r).1) ranked.entry.items) }
 {
     let mut groups = Vec::with_capacity(alloc, ranked.len())?;
     for row in ranked {
@@ -173,7 +184,8 @@ fn rows_of_parts<'r, 'a>(
     count: usize,
 ) -> Result<Vec<&'r RankedRow<'a>>, AllocError>
     ensures made { OnOk result (AreMade parts.entry.now) }
-    ensures rows { IfOk result (λ rows. map (λ r. r.now) rows.items ≡ flat_map items_of parts.entry.now) }
+    ensures rows { IfOk result (λ rows.
+        map (λ r. r.now) rows.items ≡ flat_map items_of parts.entry.now) }
 {
     let mut rows = Vec::with_capacity(alloc, count)?;
     for part in parts {
@@ -190,7 +202,8 @@ fn put_rows<'r, 'a>(
     rows: &mut Vec<&'r RankedRow<'a>>,
     part: &'r [RankedRow<'a>],
 ) -> Result<(), AllocError>
-    ensures { OnOk result (map (λ r. r.now) rows.new.items ≡ map (λ r. r.now) rows.old.items ++ part.entry.now) }
+    ensures { OnOk result (map (λ r. r.now) rows.new.items
+        ≡ map (λ r. r.now) rows.old.items ++ part.entry.now) }
 {
     for row in part {
         rows.push(row)?;
@@ -205,7 +218,8 @@ fn merged<'r, 'a>(
     rows: Vec<&'r RankedRow<'a>>,
 ) -> Result<Vec<&'r RankedRow<'a>>, AllocError>
     ensures permutation { IfOk result (λ v. IsPermutation rows.entry.items v.items) }
-    ensures sorted { IfOk result (λ v. IsSortedBy (λ a b. is_lt (by_rank plan.now.query.keys (ranked_in a.now) (ranked_in b.now))) v.items) }
+    ensures sorted { IfOk result (λ v. IsSortedBy
+        (λ a b. is_lt (by_rank plan.now.query.keys (ranked_in a.now) (ranked_in b.now))) v.items) }
 {
     let keys = plan.query().tree().keys.as_slice();
     let mut rows = rows;
@@ -218,7 +232,8 @@ fn groups_at<'a>(
     alloc: Global,
     rows: Vec<&RankedRow<'a>>,
 ) -> Result<Vec<&'a (usize, Group)>, AllocError>
-    ensures { IfOk result (λ v. map (λ r. row_of r.now) v.items ≡ map (λ r. (ranked_in r.now).1) rows.entry.items) }
+    ensures { IfOk result (λ v.
+        map (λ r. row_of r.now) v.items ≡ map (λ r. (ranked_in r.now).1) rows.entry.items) }
 {
     let mut groups = Vec::with_capacity(alloc, rows.len())?;
     for row in rows {

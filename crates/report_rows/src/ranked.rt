@@ -31,8 +31,10 @@ pub(crate) struct RankedRow<'a> {
     pub(crate) found: &'a (usize, Group),
     ghost set_is: { set ≡ found.now.0 },
     ghost front_is: { front ≡ front_of (data_of found.now.1.key.items) } by { Prim.hlevel props },
-    ghost behind_is: { behind ≡ behind_of (data_of found.now.1.key.items) } by { Prim.hlevel props },
-    ghost text_is: { ∥ option_map (λ t. t.now) text ≡ first_text (data_of found.now.1.key.items) ∥₁ },
+    ghost behind_is: { behind
+        ≡ behind_of (data_of found.now.1.key.items) } by { Prim.hlevel props },
+    ghost text_is: { ∥ option_map (λ t. t.now) text
+        ≡ first_text (data_of found.now.1.key.items) ∥₁ },
     ghost bytes: { IsOfBytes (data_of found.now.1.key.items) } by { Prim.hlevel props },
 }
 
@@ -83,7 +85,8 @@ pub(crate) fn first_text(key: &[Value]) -> Option<&str>
 
 /// How two texts stand to each other, where both are there, and else as equal.
 fn compare_texts(a: Option<&str>, b: Option<&str>) -> Ordering
-    ensures { result ≡ text_order (option_map (λ t. t.now) a.entry) (option_map (λ t. t.now) b.entry) }
+    ensures { result
+        ≡ text_order (option_map (λ t. t.now) a.entry) (option_map (λ t. t.now) b.entry) }
 {
     match (a, b) {
         (Some(a), Some(b)) => a.cmp(b),
@@ -93,7 +96,8 @@ fn compare_texts(a: Option<&str>, b: Option<&str>) -> Ordering
 
 /// How two groups of one grouping set stand to each other where no number tells them apart.
 fn compare_ties(a: &RankedRow, b: &RankedRow) -> Ordering
-    ensures { result ≡ ordering_then (text_order (first_text (data_of a.now.found.now.1.key.items)) (first_text (data_of b.now.found.now.1.key.items)))
+    ensures { result ≡ ordering_then (text_order (first_text (data_of a.now.found.now.1.key.items))
+        (first_text (data_of b.now.found.now.1.key.items)))
         (key_order (data_of a.now.found.now.1.key.items) (data_of b.now.found.now.1.key.items)) }
 {
     match compare_texts(a.text, b.text) {
@@ -105,7 +109,8 @@ fn compare_ties(a: &RankedRow, b: &RankedRow) -> Ordering
 /// How two groups of one grouping set and of one front stand to each other.
 fn compare_behind(a: &RankedRow, b: &RankedRow) -> Ordering
     ensures { result ≡ ordering_then (nat_cmp a.now.behind b.now.behind)
-        (ordering_then (text_order (first_text (data_of a.now.found.now.1.key.items)) (first_text (data_of b.now.found.now.1.key.items)))
+        (ordering_then (text_order (first_text (data_of a.now.found.now.1.key.items))
+        (first_text (data_of b.now.found.now.1.key.items)))
         (key_order (data_of a.now.found.now.1.key.items) (data_of b.now.found.now.1.key.items))) }
 {
     match a.behind.cmp(&b.behind) {
@@ -119,7 +124,8 @@ fn compare_behind(a: &RankedRow, b: &RankedRow) -> Ordering
 pub(crate) fn compare_keys(a: &RankedRow, b: &RankedRow) -> Ordering
     ensures { result ≡ ordering_then (nat_cmp a.now.front b.now.front)
         (ordering_then (nat_cmp a.now.behind b.now.behind)
-        (ordering_then (text_order (first_text (data_of a.now.found.now.1.key.items)) (first_text (data_of b.now.found.now.1.key.items)))
+        (ordering_then (text_order (first_text (data_of a.now.found.now.1.key.items))
+        (first_text (data_of b.now.found.now.1.key.items)))
         (key_order (data_of a.now.found.now.1.key.items) (data_of b.now.found.now.1.key.items)))) }
 {
     match a.front.cmp(&b.front) {

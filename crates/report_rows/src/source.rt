@@ -33,7 +33,9 @@ pub enum Source {
 /// The place in the keys of a grouping set of the value for the column of a name; `None` where the set has no such
 /// column.
 pub(crate) fn key_place(columns: &[Column], set: &[usize], name: &Text) -> Option<usize>
-    ensures { (key : Key) → option_map_or (λ at. slice_index_or key at null) result null ≡ name_shown (fields_of columns.now) set.now key name.now }
+    ensures { (key : Key)
+        → option_map_or (λ at. slice_index_or key at null) result null
+        ≡ name_shown (fields_of columns.now) set.now key name.now }
 {
     match place_of(columns, name.as_str()) {
         Some(place) => set.iter().position(|column| *column == place),
@@ -43,7 +45,9 @@ pub(crate) fn key_place(columns: &[Column], set: &[usize], name: &Text) -> Optio
 
 /// Where the rows of a grouping set have what they show for the column of a name.
 fn name_source(columns: &[Column], set: &[usize], name: &Text) -> Source
-    ensures { (key : Key) (cells : List Summary) → shown_at key cells result ≡ plain (name_shown (fields_of columns.now) set.now key name.now) }
+    ensures { (key : Key) (cells : List Summary)
+        → shown_at key cells result
+        ≡ plain (name_shown (fields_of columns.now) set.now key name.now) }
 {
     match key_place(columns, set, name) {
         Some(at) => Source::KeyAt(at),
@@ -86,7 +90,8 @@ fn sources_of(alloc: Global, plan: &PlanView<'_>, set: &[usize]) -> Result<Vec<S
 ///
 /// `AllocError` where there is no memory for the lists.
 pub fn sources_by_set(alloc: Global, plan: &PlanView<'_>) -> Result<Vec<Vec<Source>>, AllocError>
-    ensures { IfOk result (λ all. AreSourcesOfEach plan.now (sets_of plan.now.fields plan.now.query) all.items) }
+    ensures { IfOk result (λ all.
+        AreSourcesOfEach plan.now (sets_of plan.now.fields plan.now.query) all.items) }
 {
     let mut all = Vec::with_capacity(alloc, plan.sets().len())?;
     for set in plan.sets() {

@@ -16,7 +16,8 @@ use values::Schema;
 pub struct PlanView<'a> {
     plan: &'a Plan,
     functions: Vec<Planned<'a>>,
-    ghost functions_are: { ∥ planned_forms functions.items ≡ functions_of plan.now.fields plan.now.query ∥₁ },
+    ghost functions_are: { ∥ planned_forms functions.items
+        ≡ functions_of plan.now.fields plan.now.query ∥₁ },
 }
 
 impl<'a> Model for PlanView<'a> {

@@ -52,7 +52,8 @@ impl Folding {
         line: &[u8],
     ) -> Result<(), AllocError>
         requires { ReadsOneMoreUnder plan.now self.old }
-        ensures { OnOk result ((before : List Row) (seen : List (List ℕ)) → HasReadUnder plan.now before self.old seen
+        ensures { OnOk result ((before : List Row) (seen : List (List ℕ))
+            → HasReadUnder plan.now before self.old seen
             → HasReadUnder plan.now before self.new (seen ++ line.now ∷ [])) }
     {
         match reader.read(plan.schema(), line) {
@@ -108,10 +109,13 @@ pub(crate) fn read_onto(
     piece: &[u8],
 ) -> Result<Folding, AllocError>
     requires { HasRoomUnder plan.now table (length (lines piece.now)) }
-    ensures read { IfOk result (λ folding. (before : List Row) → IsTableUnder plan.now table before → HasReadUnder plan.now before folding (lines piece.now)) }
+    ensures read { IfOk result (λ folding. (before : List Row) → IsTableUnder plan.now table before
+        → HasReadUnder plan.now before folding (lines piece.now)) }
     ensures lines { IfOk result (λ folding. folding.lines ≡ length (lines piece.now)) }
-    ensures refused { IfOk result (λ folding. length folding.refused.items ≡ length (refused_of plan.now.fields (lines piece.now))) }
-    ensures numbered { IfOk result (λ folding. All (λ line. line.0 ≤ folding.lines) folding.refused.items) }
+    ensures refused { IfOk result (λ folding.
+        length folding.refused.items ≡ length (refused_of plan.now.fields (lines piece.now))) }
+    ensures numbered { IfOk result (λ folding.
+        All (λ line. line.0 ≤ folding.lines) folding.refused.items) }
 {
     let mut folding = Folding::onto(alloc, table);
     let mut reader = RecordReader::new(alloc);

@@ -25,7 +25,8 @@ pub struct Job<'a> {
     pieces: &'a [Piece],
     ghost short: { length input.now < 2 ^ 63 },
     ghost ordered: { All (λ piece. piece.start ≤ piece.stop) pieces.now } by { Prim.hlevel props },
-    ghost within: { All (λ piece. piece.stop ≤ length input.now) pieces.now } by { Prim.hlevel props },
+    ghost within: { All (λ piece. piece.stop ≤ length input.now)
+        pieces.now } by { Prim.hlevel props },
 }
 
 impl<'a> Job<'a> {

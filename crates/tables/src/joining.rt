@@ -40,7 +40,8 @@ pub trait Joiner {
         set: &[usize],
         functions: &[FilteredFunction],
     ) -> Result<Table, AllocError>
-        ensures empty { IfOk result (λ table. (filters : List (Row → Bool)) → IsTableOf set.now (map (bound filters) functions.now) table []) };
+        ensures empty { IfOk result (λ table. (filters : List (Row → Bool))
+            → IsTableOf set.now (map (bound filters) functions.now) table []) };
 
     /// The table of the records of two, which are under one grouping set and for the same set functions.
     ///
@@ -56,10 +57,13 @@ pub trait Joiner {
     fn join(&self, first: Table, second: Table) -> Result<Table, AllocError>
         requires ready { Self.ready self.now }
         requires join { CanJoin first second }
-        ensures joined { IfOk result (λ table. (set : List ℕ) (functions : List AggregateFunction) (rows more : List Row)
-            → IsTableOf set functions first rows → IsTableOf set functions second more → IsTableOf set functions table (rows ++ more)) }
+        ensures joined { IfOk result (λ table.
+            (set : List ℕ) (functions : List AggregateFunction) (rows more : List Row)
+            → IsTableOf set functions first rows → IsTableOf set functions second more
+            → IsTableOf set functions table (rows ++ more)) }
         ensures within { IfOk result (λ table. (functions : List FilteredFunction) (m n : ℕ)
-            → AreGroupsWithin m functions first → AreGroupsWithin n functions second → AreGroupsWithin (m + n) functions table) };
+            → AreGroupsWithin m functions first → AreGroupsWithin n functions second
+            → AreGroupsWithin (m + n) functions table) };
 
     /// Makes the tables of some rolls, each out of one of these tables, and leaves no table in a roll where there was no
     /// memory for it.
@@ -83,8 +87,10 @@ pub trait Joiner {
     /// `AllocError` where there is no memory for the groups; the table is given up then.
     fn finish(&self, table: Table) -> Result<Vec<Group>, AllocError>
         requires ready { Self.ready self.now }
-        ensures groups { IfOk result (λ groups. (set : List ℕ) (functions : List AggregateFunction) (rows : List Row)
-            → IsTableOf set functions table rows → SameBag (map group_summary_in groups.items) (group_summaries set functions rows)) };
+        ensures groups { IfOk result (λ groups.
+            (set : List ℕ) (functions : List AggregateFunction) (rows : List Row)
+            → IsTableOf set functions table rows
+            → SameBag (map group_summary_in groups.items) (group_summaries set functions rows)) };
 }
 
 /// The calling thread alone.
@@ -167,8 +173,10 @@ impl<'a, H: Threads + Sync> Joiner for Hands<'a, H> {
             rolls,
             self.count,
             &|_place: usize, roll: &mut Roll|
-                requires { ∥ AreOfFew functions.now tables.now ∥₁ × HasFiner roll.now.set.items tables.now }
-                ensures { HasRolled functions.entry.now tables.entry.now roll.entry.now roll.exit.now }
+                requires { ∥ AreOfFew functions.now tables.now ∥₁
+                    × HasFiner roll.now.set.items tables.now }
+                ensures { HasRolled functions.entry.now tables.entry.now roll.entry.now
+                    roll.exit.now }
             { roll.roll(tables, functions) },
         );
     }

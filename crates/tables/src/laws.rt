@@ -16,8 +16,10 @@ ghost use Rattle.semantics.specs.Found.{query_found};
 
 /// A law, with no work to do: a result stands for the same pieces in any other order.
 pub fn order_law()
-    ensures { (fields : List Field) (q : TreeForm) (partial : Partial) (pieces others : List IndexedPiece)
-        → SameBag pieces others → StandsFor fields q partial pieces → StandsFor fields q partial others }
+    ensures { (fields : List Field) (q : TreeForm)
+        (partial : Partial) (pieces others : List IndexedPiece)
+        → SameBag pieces others → StandsFor fields q partial pieces
+        → StandsFor fields q partial others }
 {}
 
 /// A law: in the same records in any other order a query finds the same: each row of its groups as often. So the rows that
@@ -47,24 +49,24 @@ pub fn meaning_law()
 /// A law, with no work to do: what means the total of a job's pieces stands for all of them, and the weights and
 /// the loads of these are the numbers of their refused lines and of their lines.
 pub fn job_law()
-    ensures whole { (fields : List Field) (q : TreeForm) (input : List ℕ) (pieces : List Piece) (partial : Partial)
+    ensures whole { (fields : List Field) (q : TreeForm)
+        (input : List ℕ) (pieces : List Piece) (partial : Partial)
         → meaning partial
         ≡ total (denotation fields q []) both (denotation_at fields q input pieces) (length pieces)
         → StandsFor fields q partial (indexed input pieces) }
     // So does what means the total of pieces with indexes from a first one on: of all pieces of a job by a joiner.
-    ensures whole_by { (fields : List Field) (q : TreeForm) (first : ℕ) (input : List ℕ) (pieces : List Piece) (partial : Partial)
+    ensures whole_by { (fields : List Field) (q : TreeForm) (first : ℕ)
+        (input : List ℕ) (pieces : List Piece) (partial : Partial)
         → first + length pieces < 2 ^ 32
-        → meaning partial
-        ≡ total (denotation fields q []) both
+        → meaning partial ≡ total (denotation fields q []) both
         (denotation_from fields q first input pieces) (length pieces)
         → StandsFor fields q partial (indexed_from first input pieces) }
     // So does what a front comes to, and behind it the pieces of the rest, with indexes from a first one on.
-    ensures behind { (fields : List Field) (q : TreeForm) (front : List IndexedPiece) (first : ℕ) (rest : List ℕ) (pieces : List Piece) (partial : Partial)
+    ensures behind { (fields : List Field) (q : TreeForm) (front : List IndexedPiece)
+        (first : ℕ) (rest : List ℕ) (pieces : List Piece) (partial : Partial)
         → first + length pieces < 2 ^ 32
-        → meaning partial
-        ≡ both (denotation fields q front)
-        (total (denotation fields q []) both
-        (denotation_from fields q first rest pieces) (length pieces))
+        → meaning partial ≡ both (denotation fields q front) (total (denotation fields q [])
+        both (denotation_from fields q first rest pieces) (length pieces))
         → StandsFor fields q partial (front ++ indexed_from first rest pieces) }
     ensures refused { (fields : List Field) (q : TreeForm) (input : List ℕ) (pieces : List Piece)
         → sum_below (λ i. (denotation_at fields q input pieces i).refused) (length pieces)

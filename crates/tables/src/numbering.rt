@@ -30,7 +30,8 @@ pub(crate) fn number_behind(
 ) -> Result<(), AllocError>
     requires few { before + lines_noted (notes_in notes) < 2 ^ 63 }
     requires numbered { All IsWellNumbered (notes_in notes) }
-    ensures { OnOk result (AreLinesBehind before (notes_in notes) numbered.old.items numbered.new.items) }
+    ensures { OnOk result
+        (AreLinesBehind before (notes_in notes) numbered.old.items numbered.new.items) }
 {
     let notes = sorted(notes);
     put_all_behind(numbered, before, notes)
@@ -73,7 +74,8 @@ fn put_all_behind(
 ) -> Result<(), AllocError>
     requires few { before + lines_noted (notes_in notes) < 2 ^ 63 }
     requires numbered { All IsWellNumbered (notes_in notes) }
-    ensures { OnOk result (numbered.new.items ≡ numbered.old.items ++ numbered_from before (notes_in notes)) }
+    ensures { OnOk result (numbered.new.items
+        ≡ numbered.old.items ++ numbered_from before (notes_in notes)) }
 {
     for note in notes {
         put_behind(numbered, before, note.refused.as_slice())?;
@@ -89,7 +91,8 @@ pub(crate) fn put_behind(
     refused: &[(u64, LineFault)],
 ) -> Result<(), AllocError>
     requires { All (λ line. before + line.0 < 2 ^ 64) refused.now }
-    ensures { OnOk result (numbered.new.items ≡ numbered.old.items ++ map (λ line. (before + line.0, line.1)) refused.now) }
+    ensures { OnOk result (numbered.new.items
+        ≡ numbered.old.items ++ map (λ line. (before + line.0, line.1)) refused.now) }
 {
     for (number, fault) in refused {
         numbered.push((before + *number, *fault))?;

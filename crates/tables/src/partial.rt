@@ -69,9 +69,18 @@ impl Model for Partial {
 
     ghost Value = { PartialState };
 
-    ghost coded = { Prim.hlevel (codes, coded_contents, filtered_function.the_row.coded, line_fault.the_row.coded) };
+    ghost coded = { Prim.hlevel
+        (codes, coded_contents, filtered_function.the_row.coded, line_fault.the_row.coded) };
 
-    ghost view = { λ p. record { sets = contents p.shape.sets.items; functions = p.shape.functions.items; filters = map string_bytes p.shape.filters.items; table = p.table; lines = p.lines; refused = p.refused; notes = notes_in p.notes } };
+    ghost view = { λ p. record {
+      sets = contents p.shape.sets.items;
+      functions = p.shape.functions.items;
+      filters = map string_bytes p.shape.filters.items;
+      table = p.table;
+      lines = p.lines;
+      refused = p.refused;
+      notes = notes_in p.notes;
+    } };
 }
 
 impl Partial {
@@ -185,8 +194,10 @@ impl Partial {
     pub fn fold_onto(self, plan: &Plan, index: u32, piece: &[u8]) -> Result<Partial, AllocError>
         requires of_plan { IsPartialUnder plan.now self }
         requires few { self.lines + length (lines piece.now) < 2 ^ 63 }
-        ensures stands { IfOk result (λ partial. (pieces : List IndexedPiece) → StandsForUnder plan.now self pieces
-            → StandsForUnder plan.now partial (pieces ++ record { index = index; bytes = piece.now } ∷ [])) }
+        ensures stands { IfOk result (λ partial. (pieces : List IndexedPiece)
+            → StandsForUnder plan.now self pieces
+            → StandsForUnder plan.now partial
+            (pieces ++ record { index = index; bytes = piece.now } ∷ [])) }
         ensures of_plan { IfOk result (IsPartialUnder plan.now) }
     {
         let Partial {
@@ -217,7 +228,8 @@ impl Partial {
     /// The number of all lines of the pieces, refused ones among them, below 2^63.
     pub fn lines(&self) -> u64
         ensures lines { result ≡ self.now.lines }
-        ensures of_pieces { (fields : List Field) (q : TreeForm) (pieces : List IndexedPiece) → StandsFor fields q self.now pieces → result ≡ length (all_lines pieces) }
+        ensures of_pieces { (fields : List Field) (q : TreeForm) (pieces : List IndexedPiece)
+            → StandsFor fields q self.now pieces → result ≡ length (all_lines pieces) }
         ensures few { result < 2 ^ 63 }
     {
         self.lines
@@ -226,7 +238,8 @@ impl Partial {
     /// The number of all refused lines of the pieces, at most that of all lines.
     pub fn refused(&self) -> u64
         ensures refused { result ≡ self.now.refused }
-        ensures of_pieces { (fields : List Field) (q : TreeForm) (pieces : List IndexedPiece) → StandsFor fields q self.now pieces → result ≡ length (refused_within fields pieces) }
+        ensures of_pieces { (fields : List Field) (q : TreeForm) (pieces : List IndexedPiece)
+            → StandsFor fields q self.now pieces → result ≡ length (refused_within fields pieces) }
         ensures fewer { result ≤ self.now.lines }
     {
         self.refused
@@ -239,8 +252,10 @@ impl Partial {
     /// one of that and one of `SELECT COUNT(*) FROM lines GROUP BY kind`.
     pub fn same_shape(&self, other: &Partial) -> bool
         ensures same { IsTrue result ↔ HaveOneShape self.now other.now }
-        ensures of_one_query { (fields : List Field) (q : TreeForm) (pieces more : List IndexedPiece)
-            → StandsFor fields q self.now pieces → StandsFor fields q other.now more → IsTrue result }
+        ensures of_one_query { (fields : List Field) (q : TreeForm)
+            (pieces more : List IndexedPiece)
+            → StandsFor fields q self.now pieces → StandsFor fields q other.now more
+            → IsTrue result }
     {
         self.shape.is_same(&other.shape)
     }
@@ -257,10 +272,13 @@ impl Partial {
     pub fn merge(self, other: Partial) -> Result<Partial, AllocError>
         requires one_shape { HaveOneShape self other }
         requires few { self.lines + other.lines < 2 ^ 63 }
-        ensures stands { IfOk result (λ merged. (fields : List Field) (q : TreeForm) (pieces more : List IndexedPiece)
-            → StandsFor fields q self pieces → StandsFor fields q other more → StandsFor fields q merged (pieces ++ more)) }
+        ensures stands { IfOk result (λ merged.
+            (fields : List Field) (q : TreeForm) (pieces more : List IndexedPiece)
+            → StandsFor fields q self pieces → StandsFor fields q other more
+            → StandsFor fields q merged (pieces ++ more)) }
         ensures of_plan { IfOk result (λ merged. (fields : List Field) (q : TreeForm)
-            → IsPartialOf fields q self → IsPartialOf fields q other → IsPartialOf fields q merged) }
+            → IsPartialOf fields q self → IsPartialOf fields q other
+            → IsPartialOf fields q merged) }
     {
         self.merge_by(&CallingThread, other)
     }
@@ -277,10 +295,13 @@ impl Partial {
         requires ready { J.ready joiner.now }
         requires one_shape { HaveOneShape self other }
         requires few { self.lines + other.lines < 2 ^ 63 }
-        ensures stands { IfOk result (λ merged. (fields : List Field) (q : TreeForm) (pieces more : List IndexedPiece)
-            → StandsFor fields q self pieces → StandsFor fields q other more → StandsFor fields q merged (pieces ++ more)) }
+        ensures stands { IfOk result (λ merged.
+            (fields : List Field) (q : TreeForm) (pieces more : List IndexedPiece)
+            → StandsFor fields q self pieces → StandsFor fields q other more
+            → StandsFor fields q merged (pieces ++ more)) }
         ensures of_plan { IfOk result (λ merged. (fields : List Field) (q : TreeForm)
-            → IsPartialOf fields q self → IsPartialOf fields q other → IsPartialOf fields q merged) }
+            → IsPartialOf fields q self → IsPartialOf fields q other
+            → IsPartialOf fields q merged) }
     {
         let Partial {
             alloc,
@@ -326,9 +347,10 @@ impl Partial {
     pub fn follow(self, rest: Partial) -> Result<Partial, AllocError>
         requires one_shape { HaveOneShape self rest }
         requires few { self.lines + rest.lines < 2 ^ 63 }
-        ensures stands { IfOk result (λ followed. (fields : List Field) (q : TreeForm) (front back : List ℕ)
-            → StandsForInput fields q self front → StandsForInput fields q rest back → AreWholeLines front
-            → StandsFor fields q followed (whole_piece (front ++ back))) }
+        ensures stands { IfOk result (λ followed.
+            (fields : List Field) (q : TreeForm) (front back : List ℕ)
+            → StandsForInput fields q self front → StandsForInput fields q rest back
+            → AreWholeLines front → StandsFor fields q followed (whole_piece (front ++ back))) }
     {
         self.follow_by(&CallingThread, rest)
     }
@@ -345,9 +367,10 @@ impl Partial {
         requires ready { J.ready joiner.now }
         requires one_shape { HaveOneShape self rest }
         requires few { self.lines + rest.lines < 2 ^ 63 }
-        ensures stands { IfOk result (λ followed. (fields : List Field) (q : TreeForm) (front back : List ℕ)
-            → StandsForInput fields q self front → StandsForInput fields q rest back → AreWholeLines front
-            → StandsFor fields q followed (whole_piece (front ++ back))) }
+        ensures stands { IfOk result (λ followed.
+            (fields : List Field) (q : TreeForm) (front back : List ℕ)
+            → StandsForInput fields q self front → StandsForInput fields q rest back
+            → AreWholeLines front → StandsFor fields q followed (whole_piece (front ++ back))) }
     {
         let Partial {
             alloc,
@@ -447,7 +470,8 @@ impl Partial {
     ///
     /// `AllocError` where there is no memory for it; what was there is given up then.
     pub fn in_one_piece(self) -> Result<Partial, AllocError>
-        ensures stands { IfOk result (λ partial. (fields : List Field) (q : TreeForm) (input : List ℕ)
+        ensures stands { IfOk result (λ partial.
+            (fields : List Field) (q : TreeForm) (input : List ℕ)
             → StandsForInput fields q self input → StandsFor fields q partial (one_piece input)) }
         ensures shape { IfOk result (HaveOneShape self) }
         ensures lines { IfOk result (λ partial. partial.lines ≡ self.lines) }
@@ -491,21 +515,26 @@ impl Partial {
     /// `AllocError` where there is no memory for them; the result is given up then.
     pub fn finish(self, plan: &Plan) -> Result<Groups, AllocError>
         requires of_plan { IsPartialUnder plan.now self }
-        ensures rows { IfOk result (λ groups. (pieces : List IndexedPiece) → StandsForUnder plan.now self pieces
+        ensures rows { IfOk result (λ groups. (pieces : List IndexedPiece)
+            → StandsForUnder plan.now self pieces
             → GivesGroupsUnder plan.now groups (records_of plan.now.fields pieces)) }
         ensures fit { IfOk result (λ groups. AreFittingUnder plan.now groups.found) }
         // Each record that WHERE keeps is a member of one row of each grouping set.
-        ensures members { IfOk result (λ groups. (pieces : List IndexedPiece) → StandsForUnder plan.now self pieces
+        ensures members { IfOk result (λ groups. (pieces : List IndexedPiece)
+            → StandsForUnder plan.now self pieces
             → HasEachRecordOnceUnder plan.now groups.found (records_of plan.now.fields pieces)) }
         // The refused lines, where no two pieces have one index.
-        ensures numbered { IfOk result (λ groups. (pieces : List IndexedPiece) → StandsForUnder plan.now self pieces
-            → HaveOwnIndexes pieces → AreNumbered plan.now.fields pieces groups.refused) }
+        ensures numbered { IfOk result (λ groups. (pieces : List IndexedPiece)
+            → StandsForUnder plan.now self pieces → HaveOwnIndexes pieces
+            → AreNumbered plan.now.fields pieces groups.refused) }
         // Where the pieces stand in their order, these are their refused lines one after the other.
-        ensures refused { IfOk result (λ groups. (pieces : List IndexedPiece) → StandsForUnder plan.now self pieces
-            → AreInOrder pieces → groups.refused ≡ refused_numbered plan.now.fields pieces) }
+        ensures refused { IfOk result (λ groups. (pieces : List IndexedPiece)
+            → StandsForUnder plan.now self pieces → AreInOrder pieces
+            → groups.refused ≡ refused_numbered plan.now.fields pieces) }
         // Where the pieces are those of an input that was cut between its lines, it is the result of the input.
-        ensures whole { IfOk result (λ groups. (input : List ℕ) (pieces : List IndexedPiece) → StandsForUnder plan.now self pieces
-            → IsCutInto input pieces → IsResultUnder plan.now groups input) }
+        ensures whole { IfOk result (λ groups. (input : List ℕ) (pieces : List IndexedPiece)
+            → StandsForUnder plan.now self pieces → IsCutInto input pieces
+            → IsResultUnder plan.now groups input) }
     {
         self.finish_by(&CallingThread, plan)
     }
@@ -523,17 +552,22 @@ impl Partial {
     pub fn finish_by<J: Joiner>(self, joiner: &J, plan: &Plan) -> Result<Groups, AllocError>
         requires ready { J.ready joiner.now }
         requires of_plan { IsPartialUnder plan.now self }
-        ensures rows { IfOk result (λ groups. (pieces : List IndexedPiece) → StandsForUnder plan.now self pieces
+        ensures rows { IfOk result (λ groups. (pieces : List IndexedPiece)
+            → StandsForUnder plan.now self pieces
             → GivesGroupsUnder plan.now groups (records_of plan.now.fields pieces)) }
         ensures fit { IfOk result (λ groups. AreFittingUnder plan.now groups.found) }
-        ensures members { IfOk result (λ groups. (pieces : List IndexedPiece) → StandsForUnder plan.now self pieces
+        ensures members { IfOk result (λ groups. (pieces : List IndexedPiece)
+            → StandsForUnder plan.now self pieces
             → HasEachRecordOnceUnder plan.now groups.found (records_of plan.now.fields pieces)) }
-        ensures numbered { IfOk result (λ groups. (pieces : List IndexedPiece) → StandsForUnder plan.now self pieces
-            → HaveOwnIndexes pieces → AreNumbered plan.now.fields pieces groups.refused) }
-        ensures refused { IfOk result (λ groups. (pieces : List IndexedPiece) → StandsForUnder plan.now self pieces
-            → AreInOrder pieces → groups.refused ≡ refused_numbered plan.now.fields pieces) }
-        ensures whole { IfOk result (λ groups. (input : List ℕ) (pieces : List IndexedPiece) → StandsForUnder plan.now self pieces
-            → IsCutInto input pieces → IsResultUnder plan.now groups input) }
+        ensures numbered { IfOk result (λ groups. (pieces : List IndexedPiece)
+            → StandsForUnder plan.now self pieces → HaveOwnIndexes pieces
+            → AreNumbered plan.now.fields pieces groups.refused) }
+        ensures refused { IfOk result (λ groups. (pieces : List IndexedPiece)
+            → StandsForUnder plan.now self pieces → AreInOrder pieces
+            → groups.refused ≡ refused_numbered plan.now.fields pieces) }
+        ensures whole { IfOk result (λ groups. (input : List ℕ) (pieces : List IndexedPiece)
+            → StandsForUnder plan.now self pieces → IsCutInto input pieces
+            → IsResultUnder plan.now groups input) }
     {
         let Partial {
             alloc,
@@ -566,10 +600,12 @@ impl Partial {
     pub fn roll(&self, plan: &Plan, set: &[usize]) -> Result<Vec<Group>, AllocError>
         requires of_plan { IsPartialUnder plan.now self.now }
         requires among { AreGroupingColumns plan.now set.now }
-        ensures groups { IfOk result (λ groups. (pieces : List IndexedPiece) → StandsForUnder plan.now self.now pieces
+        ensures groups { IfOk result (λ groups. (pieces : List IndexedPiece)
+            → StandsForUnder plan.now self.now pieces
             → GivesGroupsOfSet plan.now set.now groups.items (records_of plan.now.fields pieces)) }
         // The members of a key are those of all keys of the grouping columns that have its values, joined.
-        ensures members { OnOk result ((rows : List Row) (key : Key) → HasMembersOfFiner plan.now set.now key rows) }
+        ensures members { OnOk result ((rows : List Row) (key : Key)
+            → HasMembersOfFiner plan.now set.now key rows) }
     {
         let table = self.table.roll(plan.grouping(), set, plan.set_functions())?;
         roll_law();
@@ -593,7 +629,9 @@ fn note_if_any(
     refused: Vec<(u64, LineFault)>,
 ) -> Result<Vec<PieceRefusals>, AllocError>
     ensures none { lines ≡ 0 → IfOk result (λ notes. notes.items ≡ []) }
-    ensures some { 0 < lines → IfOk result (λ notes. (note : PieceRefusals) × (note.index ≡ 0) × (note.lines ≡ lines) × (note.refused.items ≡ refused.items) × (notes.items ≡ note ∷ [])) }
+    ensures some { 0 < lines
+        → IfOk result (λ notes. (note : PieceRefusals) × (note.index ≡ 0) × (note.lines ≡ lines)
+        × (note.refused.items ≡ refused.items) × (notes.items ≡ note ∷ [])) }
 {
     if lines == 0 {
         return Ok(Vec::new(alloc));

@@ -69,7 +69,8 @@ pub(crate) fn groups_of_sets<J: Joiner>(
     requires ready { J.ready joiner.now }
     requires among { All (λ set. AreAmong set grouping.now) (contents sets.now) }
     requires few { ∥ IsOfFew grouping.now functions.now finest ∥₁ }
-    ensures { IfOk result (λ groups. (filters : List (Row → Bool)) (rows : List Row) → IsTableOf grouping.now (map (bound filters) functions.now) finest rows
+    ensures { IfOk result (λ groups. (filters : List (Row → Bool)) (rows : List Row)
+        → IsTableOf grouping.now (map (bound filters) functions.now) finest rows
         → AreGroupsOf (contents sets.now) (map (bound filters) functions.now) groups.items rows) }
 {
     let order = longest_first(alloc, sets)?;
@@ -90,7 +91,8 @@ fn tables_of_sets<J: Joiner>(
     requires ready { J.ready joiner.now }
     requires among { All (λ set. AreAmong set.items grouping.now) sets.now }
     requires few { ∥ IsOfFew grouping.now functions.now finest ∥₁ }
-    ensures tables { IfOk result (λ tables. (filters : List (Row → Bool)) (rows : List Row) → IsTableOf grouping.now (map (bound filters) functions.now) finest rows
+    ensures tables { IfOk result (λ tables. (filters : List (Row → Bool)) (rows : List Row)
+        → IsTableOf grouping.now (map (bound filters) functions.now) finest rows
         → AreTablesOf (map (bound filters) functions.now) tables.items rows) }
     ensures sets { IfOk result (λ tables. All (λ set. IsMade set.items tables.items) sets.now) }
 {
@@ -142,9 +144,11 @@ fn roll_sets<J: Joiner>(
     requires few { ∥ AreOfFew functions.now tables.old.items ∥₁ }
     requires finer { All (λ set. HasFiner set.items tables.old.items) sets.now }
     ensures tables { OnOk result ((filters : List (Row → Bool)) (rows : List Row)
-        → AreTablesOf (map (bound filters) functions.now) tables.old.items rows → AreTablesOf (map (bound filters) functions.now) tables.new.items rows) }
+        → AreTablesOf (map (bound filters) functions.now) tables.old.items rows
+        → AreTablesOf (map (bound filters) functions.now) tables.new.items rows) }
     ensures made { OnOk result (All (λ set. IsMade set.items tables.new.items) sets.now) }
-    ensures others { OnOk result ((other : List ℕ) → IsMade other tables.old.items → IsMade other tables.new.items) }
+    ensures others { OnOk result ((other : List ℕ) → IsMade other tables.old.items
+        → IsMade other tables.new.items) }
 {
     let mut rolls = rolls_of(alloc, tables.as_slice(), sets)?;
     joiner.roll_each(tables.as_slice(), rolls.as_mut_slice(), functions);
@@ -160,8 +164,10 @@ fn rolls_of(
     tables: &[SetTable],
     sets: &[Vec<usize>],
 ) -> Result<Vec<Roll>, AllocError>
-    ensures finer { IfOk result (λ rolls. All (λ set. HasFiner set.items tables.now) sets.now → All (λ roll. HasFiner roll.set.items tables.now) rolls.items) }
-    ensures there { IfOk result (λ rolls. All (λ set. IsMadeOrRolled set.items tables.now rolls.items) sets.now) }
+    ensures finer { IfOk result (λ rolls. All (λ set. HasFiner set.items tables.now) sets.now
+        → All (λ roll. HasFiner roll.set.items tables.now) rolls.items) }
+    ensures there { IfOk result (λ rolls.
+        All (λ set. IsMadeOrRolled set.items tables.now rolls.items) sets.now) }
 {
     let mut rolls = Vec::with_capacity(alloc, sets.len())?;
     for set in sets {
@@ -177,10 +183,12 @@ fn put_roll(
     rolls: &mut Vec<Roll>,
     set: &[usize],
 ) -> Result<(), AllocError>
-    ensures finer { OnOk result (HasFiner set.now tables.now → All (λ roll. HasFiner roll.set.items tables.now) rolls.old.items
+    ensures finer { OnOk result (HasFiner set.now tables.now
+        → All (λ roll. HasFiner roll.set.items tables.now) rolls.old.items
         → All (λ roll. HasFiner roll.set.items tables.now) rolls.new.items) }
     ensures there { OnOk result (IsMadeOrRolled set.now tables.now rolls.new.items) }
-    ensures others { OnOk result ((other : List ℕ) → IsMadeOrRolled other tables.now rolls.old.items → IsMadeOrRolled other tables.now rolls.new.items) }
+    ensures others { OnOk result ((other : List ℕ) → IsMadeOrRolled other tables.now rolls.old.items
+        → IsMadeOrRolled other tables.now rolls.new.items) }
 {
     if place_of_table(tables, set) < tables.len() {
         return Ok(());
@@ -202,7 +210,8 @@ fn is_rolled(rolls: &[Roll], set: &[usize]) -> bool
 
 /// Puts the table of a roll to others, where it was made.
 fn put_rolled(tables: &mut Vec<SetTable>, roll: Roll) -> Result<(), AllocError>
-    ensures { OnOk result ((made : SetTable) × (made.set.items ≡ roll.set.items) × (roll.table ≡ Some made.table) × (tables.new.items ≡ tables.old.items ++ made ∷ [])) }
+    ensures { OnOk result ((made : SetTable) × (made.set.items ≡ roll.set.items)
+        × (roll.table ≡ Some made.table) × (tables.new.items ≡ tables.old.items ++ made ∷ [])) }
 {
     let Roll { set, table } = roll;
     match table {
@@ -223,7 +232,8 @@ fn rolled_out(
     requires few { ∥ AreOfFew functions.now tables.now ∥₁ }
     requires finer { HasFiner set.now tables.now }
     ensures rolled { IfOk result (λ table. (filters : List (Row → Bool)) (rows : List Row)
-        → AreTablesOf (map (bound filters) functions.now) tables.now rows → IsTableOf set.now (map (bound filters) functions.now) table rows) }
+        → AreTablesOf (map (bound filters) functions.now) tables.now rows
+        → IsTableOf set.now (map (bound filters) functions.now) table rows) }
 {
     let finer = &tables[place_of_finer(tables, set)];
     finer.table.roll(finer.set.as_slice(), set, functions)
@@ -232,8 +242,10 @@ fn rolled_out(
 /// Where the table of a set stands, and the number of the tables where there is none.
 fn place_of_table(tables: &[SetTable], set: &[usize]) -> usize
     ensures within { result ≤ length tables.now }
-    ensures there { result < length tables.now → (other : SetTable) → (slice_index_or tables.now result other).set.items ≡ set.now }
-    ensures none { result ≡ length tables.now → All (λ (table : SetTable). table.set.items ≢ set.now) tables.now }
+    ensures there { result < length tables.now
+        → (other : SetTable) → (slice_index_or tables.now result other).set.items ≡ set.now }
+    ensures none { result ≡ length tables.now
+        → All (λ (table : SetTable). table.set.items ≢ set.now) tables.now }
 {
     for place in 0..tables.len() {
         if is_same(tables[place].set.as_slice(), set) {
@@ -247,7 +259,8 @@ fn place_of_table(tables: &[SetTable], set: &[usize]) -> usize
 fn place_of_finer(tables: &[SetTable], set: &[usize]) -> usize
     requires finer { HasFiner set.now tables.now }
     ensures within { result < length tables.now }
-    ensures finer { (other : SetTable) → AreAmong set.now (slice_index_or tables.now result other).set.items }
+    ensures finer { (other : SetTable)
+        → AreAmong set.now (slice_index_or tables.now result other).set.items }
 {
     let mut finer = tables.len();
     for place in 0..tables.len() {
@@ -294,7 +307,8 @@ fn finish_sets<J: Joiner>(
     requires ready { J.ready joiner.now }
     requires few { ∥ AreOfFew functions.now tables.items ∥₁ }
     requires made { All (λ set. IsMade set.items tables.items) sets.now }
-    ensures { IfOk result (λ groups. (filters : List (Row → Bool)) (rows : List Row) → AreTablesOf (map (bound filters) functions.now) tables.items rows
+    ensures { IfOk result (λ groups. (filters : List (Row → Bool)) (rows : List Row)
+        → AreTablesOf (map (bound filters) functions.now) tables.items rows
         → AreGroupsOf (contents sets.now) (map (bound filters) functions.now) groups.items rows) }
 {
     let mut tables = tables;
@@ -326,10 +340,13 @@ fn take_table(
     requires few { ∥ AreOfFew functions.now tables.old.items ∥₁ }
     requires made { IsMade set.now tables.old.items }
     ensures table { IfOk result (λ table. (filters : List (Row → Bool)) (rows : List Row)
-        → AreTablesOf (map (bound filters) functions.now) tables.old.items rows → IsTableOf set.now (map (bound filters) functions.now) table rows) }
+        → AreTablesOf (map (bound filters) functions.now) tables.old.items rows
+        → IsTableOf set.now (map (bound filters) functions.now) table rows) }
     ensures tables { OnOk result ((filters : List (Row → Bool)) (rows : List Row)
-        → AreTablesOf (map (bound filters) functions.now) tables.old.items rows → AreTablesOf (map (bound filters) functions.now) tables.new.items rows) }
-    ensures others { OnOk result ((other : List ℕ) → (is_last ≡ true → other ≢ set.now) → IsMade other tables.old.items → IsMade other tables.new.items) }
+        → AreTablesOf (map (bound filters) functions.now) tables.old.items rows
+        → AreTablesOf (map (bound filters) functions.now) tables.new.items rows) }
+    ensures others { OnOk result ((other : List ℕ) → (is_last ≡ true → other ≢ set.now)
+        → IsMade other tables.old.items → IsMade other tables.new.items) }
 {
     let place = place_of_table(tables.as_slice(), set);
     if is_last {

@@ -63,7 +63,8 @@ fn put_groups(
     index: usize,
     groups: Vec<Group>,
 ) -> Result<(), AllocError>
-    ensures { OnOk result (map row_of rows.new.items ≡ map row_of rows.old.items ++ map (λ group. (index, group_summary_in group)) groups.items) }
+    ensures { OnOk result (map row_of rows.new.items ≡ map row_of rows.old.items
+        ++ map (λ group. (index, group_summary_in group)) groups.items) }
 {
     for group in groups {
         rows.push((index, group))?;

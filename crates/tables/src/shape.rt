@@ -33,9 +33,12 @@ impl Shape {
 
     /// The shape of a plan.
     pub(crate) fn of(alloc: Global, plan: &Plan) -> Result<Shape, AllocError>
-        ensures sets { IfOk result (λ shape. contents shape.sets.items ≡ sets_of plan.now.fields plan.now.query) }
-        ensures functions { IfOk result (λ shape. shape.functions.items ≡ indexed_functions plan.now.fields plan.now.query) }
-        ensures filters { IfOk result (λ shape. map string_bytes shape.filters.items ≡ filter_texts plan.now.fields plan.now.query) }
+        ensures sets { IfOk result (λ shape.
+            contents shape.sets.items ≡ sets_of plan.now.fields plan.now.query) }
+        ensures functions { IfOk result (λ shape.
+            shape.functions.items ≡ indexed_functions plan.now.fields plan.now.query) }
+        ensures filters { IfOk result (λ shape.
+            map string_bytes shape.filters.items ≡ filter_texts plan.now.fields plan.now.query) }
     {
         let sets = copied_sets(alloc, plan.sets())?;
         let functions = copied_functions(alloc, plan.set_functions())?;
@@ -49,7 +52,9 @@ impl Shape {
 
     /// Whether two shapes are the same.
     pub(crate) fn is_same(&self, other: &Shape) -> bool
-        ensures { IsTrue result ↔ (contents self.now.sets.items ≡ contents other.now.sets.items) × (self.now.functions.items ≡ other.now.functions.items)
+        ensures { IsTrue result
+            ↔ (contents self.now.sets.items ≡ contents other.now.sets.items)
+            × (self.now.functions.items ≡ other.now.functions.items)
             × (map string_bytes self.now.filters.items ≡ map string_bytes other.now.filters.items) }
     {
         same_sets(self.sets.as_slice(), other.sets.as_slice())

@@ -41,7 +41,8 @@ impl Accumulator {
 
     /// What is kept of no record.
     pub(crate) fn new(alloc: Global, function: FilteredFunction) -> Result<Accumulator, AllocError>
-        ensures { IfOk result (λ accumulator. state_in accumulator ≡ no_state function.filter function.function) }
+        ensures { IfOk result (λ accumulator.
+            state_in accumulator ≡ no_state function.filter function.function) }
     {
         match function.filter {
             None => Accumulator::of_all(alloc, function.function),
@@ -89,8 +90,11 @@ impl Accumulator {
         marks: &[bool],
         row: &[Value],
     ) -> Result<(), AllocError>
-        requires { HasRoom (with_member (is_marked marks.now function.filter) function.function (state_in self.old) (data_of row.now)) }
-        ensures added { OnOk result (state_in self.new ≡ with_member (is_marked marks.now function.filter) function.function (state_in self.old) (data_of row.now)) }
+        requires { HasRoom (with_member (is_marked marks.now function.filter) function.function
+            (state_in self.old) (data_of row.now)) }
+        ensures added { OnOk result (state_in self.new
+            ≡ with_member (is_marked marks.now function.filter) function.function
+            (state_in self.old) (data_of row.now)) }
         ensures unbounded { OnErr result (IsUnbounded (state_in self.new)) }
     {
         if !is_marked(marks, function.filter) {
@@ -102,7 +106,8 @@ impl Accumulator {
     /// Takes one more record.
     fn add_record(&mut self, function: ColumnFunction, row: &[Value]) -> Result<(), AllocError>
         requires { HasRoom (with_record function (state_in self.old) (data_of row.now)) }
-        ensures added { OnOk result (state_in self.new ≡ with_record function (state_in self.old) (data_of row.now)) }
+        ensures added { OnOk result (state_in self.new
+            ≡ with_record function (state_in self.old) (data_of row.now)) }
         ensures unbounded { OnErr result (IsUnbounded (state_in self.new)) }
     {
         match argument_place(function) {
@@ -133,7 +138,8 @@ impl Accumulator {
     /// Takes the value of a record in the column at a place.
     fn add_value_at(&mut self, row: &[Value], place: usize) -> Result<(), AllocError>
         requires { HasRoom (with_value (state_in self.old) (value_at place (data_of row.now))) }
-        ensures added { OnOk result (state_in self.new ≡ with_value (state_in self.old) (value_at place (data_of row.now))) }
+        ensures added { OnOk result (state_in self.new
+            ≡ with_value (state_in self.old) (value_at place (data_of row.now))) }
         ensures unbounded { OnErr result (IsUnbounded (state_in self.new)) }
     {
         match value_at(row, place) {
@@ -145,7 +151,8 @@ impl Accumulator {
     /// Takes one more value.
     fn add_value(&mut self, value: &Value) -> Result<(), AllocError>
         requires { HasRoom (with_value (state_in self.old) (datum_of value.now)) }
-        ensures added { OnOk result (state_in self.new ≡ with_value (state_in self.old) (datum_of value.now)) }
+        ensures added { OnOk result (state_in self.new
+            ≡ with_value (state_in self.old) (datum_of value.now)) }
         ensures unbounded { OnErr result (IsUnbounded (state_in self.new)) }
     {
         match self {
@@ -175,7 +182,8 @@ impl Accumulator {
     /// Takes what is kept of other records for the same function. After an error what is kept is of no use.
     pub(crate) fn absorb(&mut self, other: Accumulator) -> Result<(), AllocError>
         requires { HasRoom (joined (state_in self.old) (state_in other)) }
-        ensures joined { OnOk result (state_in self.new ≡ joined (state_in self.old) (state_in other)) }
+        ensures joined { OnOk result (state_in self.new
+            ≡ joined (state_in self.old) (state_in other)) }
         ensures unbounded { OnErr result (IsUnbounded (state_in self.new)) }
     {
         match (self, other) {
@@ -210,7 +218,8 @@ impl Accumulator {
     /// Takes copies of what is kept of other records for the same function. After an error what is kept is of no use.
     pub(crate) fn absorb_copies(&mut self, other: &Accumulator) -> Result<(), AllocError>
         requires { HasRoom (joined (state_in self.old) (state_in other.now)) }
-        ensures joined { OnOk result (state_in self.new ≡ joined (state_in self.old) (state_in other.now)) }
+        ensures joined { OnOk result (state_in self.new
+            ≡ joined (state_in self.old) (state_in other.now)) }
         ensures unbounded { OnErr result (IsUnbounded (state_in self.new)) }
     {
         match (self, other) {
@@ -288,7 +297,8 @@ fn argument_place(function: ColumnFunction) -> Option<usize>
 
 /// The value of a record in the column at a place, where there is such a column.
 fn value_at(row: &[Value], place: usize) -> Option<&Value>
-    ensures { MatchOption result (value_at place (data_of row.now) ≡ null) (λ value. datum_of value.now ≡ value_at place (data_of row.now)) }
+    ensures { MatchOption result (value_at place (data_of row.now) ≡ null) (λ value.
+        datum_of value.now ≡ value_at place (data_of row.now)) }
 {
     row.get(place)
 }

@@ -64,7 +64,8 @@ impl Accumulators {
         requires narrow { IsNarrowRow (data_of row.now) }
         requires room { self.old.lines + 1 < 2 ^ 63 }
         requires one_each { length self.old.parts ≡ length functions.now }
-        ensures { OnOk result (self.new ≡ with_row functions.now marks.now self.old (data_of row.now)) }
+        ensures { OnOk result (self.new
+            ≡ with_row functions.now marks.now self.old (data_of row.now)) }
     {
         self.lines += 1;
         for (place, function) in functions.iter().enumerate() {
@@ -103,7 +104,8 @@ impl Accumulators {
     /// The number of members, and the values of the functions over them.
     pub(crate) fn finish(self, alloc: Global) -> Result<(u64, Vec<Cell>), AllocError>
         ensures lines { IfOk result (λ r. r.0 ≡ self.lines) }
-        ensures cells { IfOk result (λ r. map summary_of r.1.items ≡ map (summary self.lines) self.parts) }
+        ensures cells { IfOk result (λ r.
+            map summary_of r.1.items ≡ map (summary self.lines) self.parts) }
     {
         let Accumulators { lines, parts } = self;
         let cells = cells_of(alloc, lines, parts)?;
@@ -113,7 +115,8 @@ impl Accumulators {
 
 /// The values of set functions over a group of so many records.
 fn cells_of(alloc: Global, lines: u64, parts: Vec<Accumulator>) -> Result<Vec<Cell>, AllocError>
-    ensures { IfOk result (λ cells. map summary_of cells.items ≡ map (λ part. summary lines (state_in part)) parts.items) }
+    ensures { IfOk result (λ cells.
+        map summary_of cells.items ≡ map (λ part. summary lines (state_in part)) parts.items) }
 {
     let mut cells = Vec::with_capacity(alloc, parts.len())?;
     for part in parts {

@@ -48,7 +48,8 @@ impl DistinctValues {
 
     /// Takes one more value, of which a copy is kept where it is a new one.
     pub(crate) fn add(&mut self, value: &Value) -> Result<(), AllocError>
-        ensures { OnOk result (self.new ≡ set.union self.old (set_of (present (datum_of value.now ∷ [])))) }
+        ensures { OnOk result (self.new
+            ≡ set.union self.old (set_of (present (datum_of value.now ∷ [])))) }
     {
         if !is_present(value) {
             return Ok(());
@@ -87,7 +88,8 @@ impl DistinctValues {
 
 /// Puts a copy of a value into a set that does not have it.
 fn insert_copy(values: &mut HashSet<Value>, value: &Value) -> Result<(), AllocError>
-    ensures { OnOk result (values_in values.new.keys ≡ set.insert (values_in values.old.keys) (datum_of value.now)) }
+    ensures { OnOk result (values_in values.new.keys
+        ≡ set.insert (values_in values.old.keys) (datum_of value.now)) }
 {
     if values.contains(value) {
         return Ok(());

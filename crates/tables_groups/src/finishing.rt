@@ -22,7 +22,8 @@ pub(crate) fn groups_among<H: Threads + Sync>(
     room: usize,
     shards: Vec<Shard>,
 ) -> Result<Vec<Group>, AllocError>
-    ensures { IfOk result (λ groups. map group_summary_in groups.items ≡ map state_summary (entries_by_key (all_entries shards.items))) }
+    ensures { IfOk result (λ groups. map group_summary_in groups.items
+        ≡ map state_summary (entries_by_key (all_entries shards.items))) }
 {
     let parts = parts_among(rt, alloc, shards)?;
     joined(alloc, room, parts)
@@ -63,7 +64,8 @@ fn joined(
     parts: Vec<Result<Vec<Group>, AllocError>>,
 ) -> Result<Vec<Group>, AllocError>
     ensures { IfOk result (λ groups. (shards : List Shard) → AreFinished shards parts.items
-        → map group_summary_in groups.items ≡ map state_summary (entries_by_key (all_entries shards))) }
+        → map group_summary_in groups.items
+        ≡ map state_summary (entries_by_key (all_entries shards))) }
 {
     let mut groups = Vec::with_capacity(alloc, room)?;
     for part in parts {

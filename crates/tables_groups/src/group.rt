@@ -33,7 +33,9 @@ pub(crate) fn put_groups(
     groups: &mut Vec<Group>,
     walk: Walk,
 ) -> Result<(), AllocError>
-    ensures { OnOk result (map group_summary_in groups.new.items ≡ map group_summary_in groups.old.items ++ map state_summary (entries_by_key walk.entries)) }
+    ensures { OnOk result (map group_summary_in groups.new.items
+        ≡ map group_summary_in groups.old.items
+        ++ map state_summary (entries_by_key walk.entries)) }
 {
     let Walk { entries } = walk;
     for (key, group) in entries {
@@ -49,7 +51,8 @@ pub(crate) fn put_group(
     key: Vec<Value>,
     group: Accumulators,
 ) -> Result<(), AllocError>
-    ensures { OnOk result (map group_summary_in groups.new.items ≡ map group_summary_in groups.old.items ++ state_summary (data_of key.items, group) ∷ []) }
+    ensures { OnOk result (map group_summary_in groups.new.items
+        ≡ map group_summary_in groups.old.items ++ state_summary (data_of key.items, group) ∷ []) }
 {
     let (lines, cells) = group.finish(alloc)?;
     groups.push(Group { key, lines, cells })?;

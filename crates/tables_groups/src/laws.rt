@@ -12,8 +12,10 @@ ghost use Rattle.tables_groups.specs.Inside.Table.{Contents, IsTableOf, joined_s
 
 /// A table of records is that of the same records in any other order.
 pub fn order_law()
-    ensures { (set : List ℕ) (functions : List AggregateFunction) (table : Contents) (rows others : List Row)
-        → SameBag rows others → IsTableOf set functions table rows → IsTableOf set functions table others }
+    ensures { (set : List ℕ) (functions : List AggregateFunction)
+        (table : Contents) (rows others : List Row)
+        → SameBag rows others → IsTableOf set functions table rows
+        → IsTableOf set functions table others }
 {}
 
 /// The same records in any other order have the same keys under each grouping set, each key has the same members, and of
@@ -31,7 +33,8 @@ pub fn records_law()
 /// Under each grouping set a record is a member of exactly one group, and the numbers of members add up to that of the
 /// records.
 pub fn members_law()
-    ensures members { (set : List ℕ) (rows : List Row) → SameBag (flat_map (λ key. members set key rows) (keys set rows)) rows }
+    ensures members { (set : List ℕ) (rows : List Row)
+        → SameBag (flat_map (λ key. members set key rows) (keys set rows)) rows }
     ensures lines { (set : List ℕ) (functions : List AggregateFunction) (rows : List Row)
         → weigh (λ group. group.lines) (group_summaries set functions rows) ≡ length rows }
 {}
@@ -41,7 +44,9 @@ pub fn members_law()
 pub fn roll_law()
     ensures members { (finer set : List ℕ) (key : Key) (rows : List Row)
         → AreAmong set finer → SameBag (finer_members finer set key rows) (members set key rows) }
-    ensures groups { (finer set : List ℕ) (functions : List AggregateFunction) (table rolled : Contents) (key : Key) (group : GroupState) (rows : List Row)
-        → AreAmong set finer → IsTableOf finer functions table rows → IsTableOf set functions rolled rows
-        → fin.get rolled key ≡ Some group → group ≡ joined_states functions table (finer_keys finer set key rows) }
+    ensures groups { (finer set : List ℕ) (functions : List AggregateFunction)
+        (table rolled : Contents) (key : Key) (group : GroupState) (rows : List Row)
+        → AreAmong set finer → IsTableOf finer functions table rows
+        → IsTableOf set functions rolled rows → fin.get rolled key ≡ Some group
+        → group ≡ joined_states functions table (finer_keys finer set key rows) }
 {}

@@ -71,7 +71,8 @@ fn pairs_of(alloc: Global, shards: Vec<Shard>, others: Vec<Shard>) -> Result<Vec
 fn join_pairs<H: Threads + Sync>(rt: &H, alloc: Global, hands: usize, pairs: &mut [Pair])
     requires hands { 0 < hands }
     requires each { All CanJoinPair pairs.old }
-    ensures { (i : ℕ) (d : Pair) → i < length pairs.old → HasJoined (slice_index_or pairs.old i d) (slice_index_or pairs.new i d) }
+    ensures { (i : ℕ) (d : Pair) → i < length pairs.old
+        → HasJoined (slice_index_or pairs.old i d) (slice_index_or pairs.new i d) }
 {
     thread::for_each_mut(
         rt,

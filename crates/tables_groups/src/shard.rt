@@ -62,9 +62,12 @@ impl Shard {
         part: Part<'_>,
     ) -> Result<(), AllocError>
         requires key { data_of key.now.items ≡ project set.now (data_of row.now) }
-        requires taken { IsTaken functions.now (fin.get (contents_in self.old) (project set.now (data_of row.now))) part }
-        ensures put { OnOk result ((k : Key) → IsWithPart functions.now (contents_in self.old) (contents_in self.new) (project set.now (data_of row.now)) part.entry k) }
-        ensures others { (k : Key) → same_key k (project set.now (data_of row.now)) ≡ false → fin.get (contents_in self.new) k ≡ fin.get (contents_in self.old) k }
+        requires taken { IsTaken functions.now
+            (fin.get (contents_in self.old) (project set.now (data_of row.now))) part }
+        ensures put { OnOk result ((k : Key) → IsWithPart functions.now (contents_in self.old)
+            (contents_in self.new) (project set.now (data_of row.now)) part.entry k) }
+        ensures others { (k : Key) → same_key k (project set.now (data_of row.now)) ≡ false
+            → fin.get (contents_in self.new) k ≡ fin.get (contents_in self.old) k }
     {
         if let Some(group) = self.groups.get_mut(key) {
             return part.put_to(group, functions);
@@ -87,8 +90,10 @@ impl Shard {
         part: Accumulators,
     ) -> Result<(), AllocError>
         requires { IsFitting part (fin.get (contents_in self.old) (data_of key.items)) }
-        ensures put { OnOk result ((k : Key) → IsPut (contents_in self.old) (contents_in self.new) (data_of key.items) part k) }
-        ensures others { (k : Key) → same_key k (data_of key.items) ≡ false → fin.get (contents_in self.new) k ≡ fin.get (contents_in self.old) k }
+        ensures put { OnOk result ((k : Key)
+            → IsPut (contents_in self.old) (contents_in self.new) (data_of key.items) part k) }
+        ensures others { (k : Key) → same_key k (data_of key.items) ≡ false
+            → fin.get (contents_in self.new) k ≡ fin.get (contents_in self.old) k }
     {
         if let Some(group) = self.groups.get_mut(&key) {
             return group.absorb(part);
@@ -103,7 +108,8 @@ impl Shard {
     /// Puts the groups of another shard to these.
     pub(crate) fn absorb(&mut self, other: Shard) -> Result<(), AllocError>
         requires { CanJoin (contents_in self.old) (contents_in other) }
-        ensures { OnOk result ((k : Key) → IsJoined (contents_in self.old) (contents_in other) (contents_in self.new) k) }
+        ensures { OnOk result ((k : Key)
+            → IsJoined (contents_in self.old) (contents_in other) (contents_in self.new) k) }
     {
         let Shard { groups } = other;
         for (key, part) in groups {

@@ -97,7 +97,8 @@ impl Table {
         set: &[usize],
         functions: &[FilteredFunction],
     ) -> Result<Table, AllocError>
-        ensures empty { IfOk result (λ table. (filters : List (Row → Bool)) → IsTableOf set.now (map (bound filters) functions.now) table []) }
+        ensures empty { IfOk result (λ table. (filters : List (Row → Bool))
+            → IsTableOf set.now (map (bound filters) functions.now) table []) }
     {
         Table::for_hands(alloc, 1, set, functions)
     }
@@ -116,7 +117,8 @@ impl Table {
         set: &[usize],
         functions: &[FilteredFunction],
     ) -> Result<Table, AllocError>
-        ensures empty { IfOk result (λ table. (filters : List (Row → Bool)) → IsTableOf set.now (map (bound filters) functions.now) table []) }
+        ensures empty { IfOk result (λ table. (filters : List (Row → Bool))
+            → IsTableOf set.now (map (bound filters) functions.now) table []) }
     {
         let count = hands.clamp(1, SHARDS);
         if set.is_empty() {
@@ -150,7 +152,8 @@ impl Table {
     ) -> Result<Table, AllocError>
         requires some { 0 < count }
         requires few { count ≤ 4 }
-        ensures { IfOk result (λ table. (k : Key) → IsPut fin.empty table [] (no_group functions.now) k) }
+        ensures { IfOk result (λ table. (k : Key)
+            → IsPut fin.empty table [] (no_group functions.now) k) }
     {
         let mut table = Table::without_groups(alloc, count)?;
         let group = Accumulators::new(alloc, functions)?;
@@ -179,9 +182,11 @@ impl Table {
     ) -> Result<(), AllocError>
         requires narrow { IsNarrowRow (data_of row.now) }
         requires room { ∥ TakesOne set.now functions.now self.old ∥₁ }
-        ensures added { OnOk result ((filters : List (Row → Bool)) (rows : List Row) → marks.now ≡ map (λ keeps. keeps (data_of row.now)) filters
+        ensures added { OnOk result ((filters : List (Row → Bool)) (rows : List Row)
+            → marks.now ≡ map (λ keeps. keeps (data_of row.now)) filters
             → IsTableOf set.now (map (bound filters) functions.now) self.old rows
-            → IsTableOf set.now (map (bound filters) functions.now) self.new (rows ++ data_of row.now ∷ [])) }
+            → IsTableOf set.now (map (bound filters) functions.now) self.new
+            (rows ++ data_of row.now ∷ [])) }
     {
         self.put(set, functions, row, Part::Record(row, marks))
     }
@@ -200,8 +205,10 @@ impl Table {
     pub fn absorb(&mut self, other: Table) -> Result<(), AllocError>
         requires { CanJoin self.old other }
         ensures groups { OnOk result ((k : Key) → IsJoined self.old other self.new k) }
-        ensures joined { OnOk result ((set : List ℕ) (functions : List AggregateFunction) (rows more : List Row)
-            → IsTableOf set functions self.old rows → IsTableOf set functions other more → IsTableOf set functions self.new (rows ++ more)) }
+        ensures joined { OnOk result
+            ((set : List ℕ) (functions : List AggregateFunction) (rows more : List Row)
+            → IsTableOf set functions self.old rows → IsTableOf set functions other more
+            → IsTableOf set functions self.new (rows ++ more)) }
     {
         let fresh = Table::without_groups(self.alloc, 1)?;
         let table = mem::replace(self, fresh);
@@ -230,8 +237,10 @@ impl Table {
         requires join { CanJoin self.old other }
         requires hands { 0 < hands }
         ensures groups { OnOk result ((k : Key) → IsJoined self.old other self.new k) }
-        ensures joined { OnOk result ((set : List ℕ) (functions : List AggregateFunction) (rows more : List Row)
-            → IsTableOf set functions self.old rows → IsTableOf set functions other more → IsTableOf set functions self.new (rows ++ more)) }
+        ensures joined { OnOk result
+            ((set : List ℕ) (functions : List AggregateFunction) (rows more : List Row)
+            → IsTableOf set functions self.old rows → IsTableOf set functions other more
+            → IsTableOf set functions self.new (rows ++ more)) }
     {
         if hands == 1 || other.len() < PARALLEL_MIN_GROUPS {
             return self.absorb(other);
@@ -263,7 +272,8 @@ impl Table {
         requires among { AreAmong set.now finer.now }
         requires few { ∥ IsOfFew finer.now functions.now self.now ∥₁ }
         ensures rolled { IfOk result (λ table. (filters : List (Row → Bool)) (rows : List Row)
-            → IsTableOf finer.now (map (bound filters) functions.now) self.now rows → IsTableOf set.now (map (bound filters) functions.now) table rows) }
+            → IsTableOf finer.now (map (bound filters) functions.now) self.now rows
+            → IsTableOf set.now (map (bound filters) functions.now) table rows) }
     {
         if set.is_empty() {
             return self.rolled_to_one(functions);
@@ -286,8 +296,10 @@ impl Table {
     /// The table under the empty set. Its one group takes what is kept of each group, and no key is searched.
     fn rolled_to_one(&self, functions: &[FilteredFunction]) -> Result<Table, AllocError>
         requires few { ∥ ((finer : List ℕ) × IsOfFew finer functions.now self.now) ∥₁ }
-        ensures rolled { IfOk result (λ table. (finer : List ℕ) (filters : List (Row → Bool)) (rows : List Row)
-            → IsTableOf finer (map (bound filters) functions.now) self.now rows → IsTableOf [] (map (bound filters) functions.now) table rows) }
+        ensures rolled { IfOk result (λ table.
+            (finer : List ℕ) (filters : List (Row → Bool)) (rows : List Row)
+            → IsTableOf finer (map (bound filters) functions.now) self.now rows
+            → IsTableOf [] (map (bound filters) functions.now) table rows) }
     {
         let mut group = Accumulators::new(self.alloc, functions)?;
         for shard in &self.shards {
@@ -319,8 +331,10 @@ impl Table {
     ///
     /// `AllocError` where there is no memory for the groups; the table is given up then.
     pub fn finish(self) -> Result<Vec<Group>, AllocError>
-        ensures groups { IfOk result (λ groups. (set : List ℕ) (functions : List AggregateFunction) (rows : List Row)
-            → IsTableOf set functions self rows → SameBag (map group_summary_in groups.items) (group_summaries set functions rows)) }
+        ensures groups { IfOk result (λ groups.
+            (set : List ℕ) (functions : List AggregateFunction) (rows : List Row)
+            → IsTableOf set functions self rows
+            → SameBag (map group_summary_in groups.items) (group_summaries set functions rows)) }
     {
         let count = self.len();
         let Table {
@@ -351,8 +365,10 @@ impl Table {
         rt: &H,
         hands: usize,
     ) -> Result<Vec<Group>, AllocError>
-        ensures groups { IfOk result (λ groups. (set : List ℕ) (functions : List AggregateFunction) (rows : List Row)
-            → IsTableOf set functions self rows → SameBag (map group_summary_in groups.items) (group_summaries set functions rows)) }
+        ensures groups { IfOk result (λ groups.
+            (set : List ℕ) (functions : List AggregateFunction) (rows : List Row)
+            → IsTableOf set functions self rows
+            → SameBag (map group_summary_in groups.items) (group_summaries set functions rows)) }
     {
         let count = self.len();
         if hands < self.shards.len() || count < PARALLEL_MIN_GROUPS {
@@ -375,8 +391,10 @@ impl Table {
         row: &[Value],
         part: Part<'_>,
     ) -> Result<(), AllocError>
-        requires { IsTaken functions.now (fin.get self.old (project set.now (data_of row.now))) part }
-        ensures { OnOk result ((k : Key) → IsWithPart functions.now self.old self.new (project set.now (data_of row.now)) part.entry k) }
+        requires { IsTaken functions.now
+            (fin.get self.old (project set.now (data_of row.now))) part }
+        ensures { OnOk result ((k : Key) → IsWithPart functions.now self.old self.new
+            (project set.now (data_of row.now)) part.entry k) }
     {
         write_key(&mut self.scratch, set, row)?;
         let place = place_of(self.scratch.as_slice(), self.shards.len());

@@ -22,7 +22,8 @@ impl Total {
         requires sum { FitsSigned w128 (self.old.sum +ℤ total (numbers (datum_of value.now ∷ []))) }
         requires count { self.old.count + length (numbers (datum_of value.now ∷ [])) < 2 ^ 64 }
         ensures sum { self.new.sum ≡ self.old.sum +ℤ total (numbers (datum_of value.now ∷ [])) }
-        ensures count { self.new.count ≡ self.old.count + length (numbers (datum_of value.now ∷ [])) }
+        ensures count { self.new.count
+            ≡ self.old.count + length (numbers (datum_of value.now ∷ [])) }
     {
         if let Value::Int(number) = value {
             self.sum += *number;

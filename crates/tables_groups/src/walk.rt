@@ -57,8 +57,10 @@ pub(crate) fn put_turn(
     groups: &mut Vec<Group>,
     walks: &mut Vec<Walk>,
 ) -> Result<(), AllocError>
-    ensures { OnOk result (SameBag (map group_summary_in groups.new.items ++ map state_summary (entries_by_key (entries_left walks.new.items)))
-        (map group_summary_in groups.old.items ++ map state_summary (entries_by_key (entries_left walks.old.items)))) }
+    ensures { OnOk result (SameBag (map group_summary_in groups.new.items
+        ++ map state_summary (entries_by_key (entries_left walks.new.items)))
+        (map group_summary_in groups.old.items
+        ++ map state_summary (entries_by_key (entries_left walks.old.items)))) }
 {
     for place in 0..walks.len() {
         put_next(alloc, groups, &mut walks[place])?;
@@ -68,8 +70,10 @@ pub(crate) fn put_turn(
 
 /// Puts the next group of a walk, where it has one, behind others.
 fn put_next(alloc: Global, groups: &mut Vec<Group>, walk: &mut Walk) -> Result<(), AllocError>
-    ensures { OnOk result (map group_summary_in groups.new.items ++ map state_summary (entries_by_key walk.new.entries)
-        ≡ map group_summary_in groups.old.items ++ map state_summary (entries_by_key walk.old.entries)) }
+    ensures { OnOk result (map group_summary_in groups.new.items
+        ++ map state_summary (entries_by_key walk.new.entries)
+        ≡ map group_summary_in groups.old.items
+        ++ map state_summary (entries_by_key walk.old.entries)) }
 {
     if let Some((key, group)) = walk.entries.next() {
         put_group(alloc, groups, key, group)?;
@@ -83,7 +87,8 @@ pub(crate) fn put_rest(
     groups: Vec<Group>,
     walks: Vec<Walk>,
 ) -> Result<Vec<Group>, AllocError>
-    ensures { IfOk result (λ all. map group_summary_in all.items ≡ map group_summary_in groups.items ++ map state_summary (entries_by_key (entries_left walks.items))) }
+    ensures { IfOk result (λ all. map group_summary_in all.items ≡ map group_summary_in groups.items
+        ++ map state_summary (entries_by_key (entries_left walks.items))) }
 {
     let mut all = groups;
     for walk in walks {

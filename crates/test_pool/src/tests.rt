@@ -249,7 +249,8 @@ fn on_deal<L: Ledger + Send + Sync, W: Work + Sync, R: Threads + Wait + Sync>(
 ) -> Result<(Outcome<W::Part>, bool, u128), PoolFault>
     requires pieces { pieces ≤ 1048576 }
     requires hands { (1 ≤ hands) × (hands ≤ 64) }
-    requires loads { sum_below (λ i. W.load_of work.now (W.piece_meaning work.now i)) pieces < 2 ^ 63 }
+    requires loads { sum_below (λ i. W.load_of work.now (W.piece_meaning work.now i)) pieces
+        < 2 ^ 63 }
     requires name { blank.name ≡ L.name }
     requires parts { (blank.parts ≡ L.parts) × (L.parts ≡ hands) }
 {

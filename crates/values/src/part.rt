@@ -83,7 +83,8 @@ pub(crate) fn next_column(
 ) -> Result<Column, SchemaFault>
     ensures sound { IfOk result (λ _. fault_of (names_of (fields_of before.now)) part.now ≡ None) }
     ensures column { IfOk result (λ column. column_of part.now ≡ Some (field_of column)) }
-    ensures fault { IfErr result (λ fault. fault ≢ SchemaFault.OutOfMemory → fault_of (names_of (fields_of before.now)) part.now ≡ Some fault) }
+    ensures fault { IfErr result (λ fault. fault ≢ SchemaFault.OutOfMemory
+        → fault_of (names_of (fields_of before.now)) part.now ≡ Some fault) }
 {
     let number = before.len() + 1;
     if number > MAX_COLUMNS {

@@ -63,7 +63,8 @@ impl Schema {
     /// `RepeatedName`. `OutOfMemory` where memory was refused, which says nothing of the text.
     pub fn parse(alloc: Global, text: &str) -> Result<Schema, SchemaFault>
         ensures columns { IfOk result (λ schema. schema_of text.now ≡ Ok schema) }
-        ensures fault { IfErr result (λ fault. fault ≢ SchemaFault.OutOfMemory → schema_of text.now ≡ Err fault) }
+        ensures fault { IfErr result (λ fault. fault ≢ SchemaFault.OutOfMemory
+            → schema_of text.now ≡ Err fault) }
     {
         if text.is_empty() {
             return Err(SchemaFault::Empty);

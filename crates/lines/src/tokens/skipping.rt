@@ -36,7 +36,8 @@ fn skip_items(reader: &mut Reader<'_>, depth: usize) -> Option<()>
 /// Skips the members of an object, up to its closing brace.
 #[cycle(skip_value)]
 fn skip_members(reader: &mut Reader<'_>, depth: usize) -> Option<()>
-    ensures passed { IfSome result (λ _. (ms : Members) × AreMembers depth reader.old ms reader.new) }
+    ensures passed { IfSome result (λ _.
+        (ms : Members) × AreMembers depth reader.old ms reader.new) }
     ensures shorter { IfSome result (λ _. length reader.new < length reader.old) }
 {
     'members: while let Some(_) = reader.next_key().ok()? {

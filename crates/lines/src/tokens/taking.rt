@@ -54,7 +54,8 @@ fn put_at(values: &mut Vec<Value>, place: usize, value: Value)
 /// What the columns take where no member is: NULL for each.
 fn missing_values(columns: &[Column], spare: &mut Spare) -> Option<Vec<Value>>
     requires { IsSchema (fields_of columns.now) }
-    ensures { IfSome result (λ v. map (λ d. Some d) (data_of v.items) ≡ data_taken (fields_of columns.now) no_members) }
+    ensures { IfSome result (λ v.
+        map (λ d. Some d) (data_of v.items) ≡ data_taken (fields_of columns.now) no_members) }
 {
     let mut values = spare.list();
     values.reserve(columns.len()).ok()?;
@@ -67,8 +68,9 @@ fn missing_values(columns: &[Column], spare: &mut Spare) -> Option<Vec<Value>>
 /// The place of the column of a name, which is looked for from `first` on, and then before `first`.
 fn place_found_from(columns: &[Column], name: &str, first: usize) -> Option<usize>
     requires { first ≤ length columns.now }
-    ensures { MatchOption result (All (λ f. f.name ≢ name.now) (fields_of columns.now))
-        (λ place. (place < length columns.now) × ((d : Field) → (get_or (fields_of columns.now) place d).name ≡ name.now)) }
+    ensures { MatchOption result (All (λ f. f.name ≢ name.now) (fields_of columns.now)) (λ place.
+        (place < length columns.now)
+        × ((d : Field) → (get_or (fields_of columns.now) place d).name ≡ name.now)) }
 {
     match place_between(columns, name, first, columns.len()) {
         Some(place) => Some(place),
@@ -80,8 +82,10 @@ fn place_found_from(columns: &[Column], name: &str, first: usize) -> Option<usiz
 #[inline(always)]
 fn place_between(columns: &[Column], name: &str, low: usize, high: usize) -> Option<usize>
     requires { high ≤ length columns.now }
-    ensures { MatchOption result ((k : ℕ) → low ≤ k → k < high → (d : Field) → (get_or (fields_of columns.now) k d).name ≢ name.now)
-        (λ place. (place < length columns.now) × ((d : Field) → (get_or (fields_of columns.now) place d).name ≡ name.now)) }
+    ensures { MatchOption result ((k : ℕ) → low ≤ k → k < high
+        → (d : Field) → (get_or (fields_of columns.now) k d).name ≢ name.now)
+        (λ place. (place < length columns.now)
+        × ((d : Field) → (get_or (fields_of columns.now) place d).name ≡ name.now)) }
 {
     for place in low..high {
         if columns[place].name.as_str() == name {

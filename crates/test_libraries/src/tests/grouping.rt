@@ -59,7 +59,9 @@ fn table_of(
     records: &[&[Field]],
 ) -> Result<Table, AllocError>
     requires { length records.now < 2 ^ 62 }
-    ensures { IfOk result (λ table. (rows : List Row) × (IsTableOf set.now (map (bound ((λ row. is_present (value_at 1 row)) ∷ [])) functions.now) table rows × (length rows < 2 ^ 62))) }
+    ensures { IfOk result (λ table. (rows : List Row) × (IsTableOf set.now
+        (map (bound ((λ row. is_present (value_at 1 row)) ∷ [])) functions.now) table rows
+        × (length rows < 2 ^ 62))) }
 {
     let mut table = Table::new(alloc, set, functions)?;
     for fields in records {

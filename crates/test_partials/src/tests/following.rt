@@ -98,7 +98,8 @@ pub fn has_few_lines(bytes: &[u8]) -> bool
 
 /// The result over an input: over no pieces where it is empty, and else over one.
 pub fn over(alloc: Global, plan: &Plan, input: &[u8]) -> Result<Partial, AllocError>
-    ensures { IfOk result (λ partial. StandsForInput plan.now.fields plan.now.query partial input.now) }
+    ensures { IfOk result (λ partial.
+        StandsForInput plan.now.fields plan.now.query partial input.now) }
 {
     if input.is_empty() {
         return Partial::empty(alloc, plan);
