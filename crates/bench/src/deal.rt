@@ -4,8 +4,9 @@
 //!
 //! Example: two hands that are dealt pieces in the way that is named `ruled` make it print `1048576`.
 
-ghost use Rattle.std.specs.Prelude.{◌<◌, ◌≤◌};
+ghost use Rattle.std.specs.Prelude.{◌<◌};
 
+use crate::hands_of;
 use crossbeam_deque::{Steal, Stealer, Worker};
 use pool::{Deal, Hand, Next};
 use std::alloc::{AllocError, Global};
@@ -191,15 +192,14 @@ fn race<R: Threads + Clock + Print + Eprint + Sync, T: Taker + Send>(
     eprintln!(rt; "{dealing} {taking}")
 }
 
-/// Times the dealing of the pieces to so many hands, in a way, and their taking.
+/// Times the dealing of the pieces to as many hands as the word means, in a way, and their taking.
 pub fn run<R: Threads + Clock + Print + Eprint + AllocGlobal + Sync>(
     rt: &R,
     way: Way,
-    hands: usize,
-) -> io::Result<()>
-    requires { (1 ≤ hands) × (hands ≤ 64) }
-{
+    hands: &str,
+) -> io::Result<()> {
     let alloc = rt.alloc();
+    let hands = hands_of(hands);
     let start = Instant::now(rt)?;
     match way {
         Way::Ruled => {

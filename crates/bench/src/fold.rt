@@ -8,6 +8,7 @@
 ghost use Rattle.std.specs.Prelude.{◌≤◌, ◌<◌, ◌^◌, IfSome, length};
 ghost use Rattle.tables.specs.Planned.{IsPartialUnder};
 
+use crate::hands_of;
 use lines::cut;
 use pool::{Outcome, fan_out};
 use query::{Plan, check, parse};
@@ -93,16 +94,15 @@ fn work<R: Threads + Wait + Clock + Print + Eprint + Sync>(
     eprintln!(rt; "{taken}")
 }
 
-/// Times this work on the file at a path, by a query over columns. Where one of these two is refused, it prints nothing.
+/// Times this work on the file at a path, by a query over columns and as many hands as the word means. Where the query
+/// or the columns are refused, it prints nothing.
 pub fn run<R: Threads + Wait + Clock + Files + Print + Eprint + AllocGlobal + Sync>(
     rt: &R,
     columns: &str,
     query: &str,
     path: &str,
-    hands: usize,
-) -> io::Result<()>
-    requires { (1 ≤ hands) × (hands ≤ 64) }
-{
+    hands: &str,
+) -> io::Result<()> {
     let Some(plan) = plan_of(rt.alloc(), columns, query) else {
         return Ok(());
     };
@@ -110,5 +110,5 @@ pub fn run<R: Threads + Wait + Clock + Files + Print + Eprint + AllocGlobal + Sy
     if input.len() > LONGEST {
         return Ok(());
     }
-    work(rt, rt.alloc(), &plan, input.as_slice(), hands)
+    work(rt, rt.alloc(), &plan, input.as_slice(), hands_of(hands))
 }

@@ -33,10 +33,8 @@ fn main(rt: HostRuntime) -> io::Result<()> {
     let words: Vec<String> = env::args(&rt)?.skip(1).collect(rt.alloc())?;
     let words: Vec<&str> = words.iter().map(|word| word.as_str()).collect(rt.alloc())?;
     match words.as_slice() {
-        ["fold", columns, query, path, hands, ..] => {
-            fold::run(&rt, columns, query, path, hands_of(hands))
-        }
-        ["deal", way, hands, ..] => deal::run(&rt, Way::named(way), hands_of(hands)),
+        ["fold", columns, query, path, hands, ..] => fold::run(&rt, columns, query, path, hands),
+        ["deal", way, hands, ..] => deal::run(&rt, Way::named(way), hands),
         ["compare", columns, path, ..] => compare::run(&rt, columns, path),
         ["floor", paths @ ..] => floor::run(&rt, paths),
         _ => Ok(()),
