@@ -1,4 +1,4 @@
--- The record that a line is (RFC 8259), or its first fault; the good records and the refused lines
+-- The record that a line is (RFC 8259), or its first fault; the valid records and the refused lines
 -- of an input.
 use Rattle.std.specs.Int.{w64}
 use Rattle.std.specs.List.{enumerate_from, AllZip}

@@ -14,7 +14,7 @@ use Rattle.semantics.specs.declared.run_fault.RunFault.TheVariants.{Reading, Out
 abbrev pub AppendsBeginning : Option (List ℕ) → Option (List ℕ) → List ℕ → Type 0
 AppendsBeginning old new text = (front : List ℕ) × (rest : List ℕ) × (text ≡ front ++ rest) × Appends old new front
 
--- The report of a query on an input: what the query finds in the good records of all lines.
+-- The report of a query on an input: what the query finds in the valid records of all lines.
 abbrev pub report : List Field → TreeForm → List ℕ → List ℕ
 report fields q input = report_bytes q.items (rows_shown fields q (query_found fields q (valid_records fields input)))
 
