@@ -20,7 +20,7 @@ use std::sync::Wait;
 use std::thread::Threads;
 use std::time::{Clock, Instant};
 use std::{fs, io};
-use tables::{Hands, Job, JobBy, Partial, job_law};
+use tables::{Job, JobBy, Parallel, Partial, job_law};
 use values::Schema;
 
 /// The least bytes of a piece, but perhaps of the last one.
@@ -59,8 +59,12 @@ fn result_of<R: Threads + Wait + Sync>(
         return None;
     }
     job_law();
-    let joiner = Hands { rt, count: hands };
-    let job = JobBy::new(Job::new(alloc, plan, input, pieces.as_slice()), &joiner, 1);
+    let executor = Parallel { rt, workers: hands };
+    let job = JobBy::new(
+        Job::new(alloc, plan, input, pieces.as_slice()),
+        &executor,
+        1,
+    );
     match fan_out(rt, alloc, &job, pieces.len() as u32, hands, u64::MAX) {
         Ok(Outcome::Whole(result)) => Some(result),
         Ok(Outcome::Over) | Err(_) => None,
@@ -83,7 +87,7 @@ fn work<R: Threads + Wait + Clock + Print + Eprint + Sync>(
         return Ok(());
     };
     let (lines, refused) = (result.lines(), result.refused());
-    let Ok(groups) = result.finish_by(&Hands { rt, count: hands }, plan) else {
+    let Ok(groups) = result.finish_by(&Parallel { rt, workers: hands }, plan) else {
         return Ok(());
     };
     let taken = start.elapsed(rt)?.as_nanos();

@@ -1,4 +1,4 @@
-//! Who finishes the groups of a report and writes its rows.
+//! Who finishes the groups of a report and writes its rows: the calling thread alone, or several.
 ghost use Rattle.std.specs.Prelude.{◌≡◌, ◌<◌, ℕ, IfOk, List};
 ghost use Rattle.tables.specs.Pieces.{IndexedPiece, IsCutInto};
 ghost use Rattle.tables.specs.Planned.{AreFittingUnder, IsPartialUnder, IsResultUnder, StandsForUnder};
@@ -9,11 +9,11 @@ use report::{report_among, report_on};
 use std::alloc::{AllocError, Global};
 use std::marker::Sync;
 use std::thread::Threads;
-use tables::{CallingThread, Groups, Hands, Partial};
+use tables::{Groups, Parallel, Partial, Serial};
 
-/// Those who finish the groups of a report and write its rows.
-pub(crate) trait Writers {
-    /// They can write.
+/// Who finishes the groups of a report and writes its rows.
+pub(crate) trait ReportExecutor {
+    /// It can do so.
     ghost ready: { Self → Type 0 };
 
     /// The bytes of the report on groups that fit the plan, whoever writes them.
@@ -37,7 +37,7 @@ pub(crate) trait Writers {
         requires ready { Self.ready self.now };
 }
 
-impl Writers for CallingThread {
+impl ReportExecutor for Serial {
     ghost use Rattle.std.specs.Prelude.{⊤};
 
     ghost ready = { λ _. ⊤ };
@@ -55,14 +55,14 @@ impl Writers for CallingThread {
     }
 }
 
-impl<'a, H: Threads + Sync> Writers for Hands<'a, H> {
+impl<'a, H: Threads + Sync> ReportExecutor for Parallel<'a, H> {
     ghost use Rattle.std.specs.Prelude.{◌<◌};
     ghost use denote.Param.Send.{IsSync};
 
-    ghost ready = { λ hands. IsSync H.row × (0 < hands.count) };
+    ghost ready = { λ parallel. IsSync H.row × (0 < parallel.workers) };
 
     fn report(&self, alloc: Global, groups: &Groups, plan: &Plan) -> Result<Vec<u8>, AllocError> {
-        report_among(self.rt, alloc, groups, plan, self.count)
+        report_among(self.rt, alloc, groups, plan, self.workers)
     }
 
     fn groups(&self, plan: &Plan, whole: Partial) -> Result<Groups, AllocError> {
@@ -70,6 +70,6 @@ impl<'a, H: Threads + Sync> Writers for Hands<'a, H> {
     }
 
     fn give_back(&self, alloc: Global, groups: Groups) {
-        groups.give_back_among(self.rt, alloc, self.count);
+        groups.give_back_among(self.rt, alloc, self.workers);
     }
 }

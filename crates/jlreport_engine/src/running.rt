@@ -9,7 +9,7 @@ ghost use Rattle.tables.specs.Partials.{StandsForInput};
 ghost use Rattle.semantics.specs.Run.{IsDecided, IsWithin, Leaves, refusals, report};
 ghost use Rattle.jlreport_engine.specs.Run.{LeavesOfInput};
 
-use crate::reporting::Writers;
+use crate::reporting::ReportExecutor;
 use crate::writing::put_both;
 use jlreport_cli::Options;
 use jlreport_scan::{gather, gather_alone};
@@ -21,7 +21,7 @@ use std::io::{Read, Write};
 use std::marker::{Send, Sync};
 use std::sync::Wait;
 use std::thread::Threads;
-use tables::{CallingThread, Groups, Hands, Partial};
+use tables::{Groups, Parallel, Partial, Serial};
 
 /// The counts of an input.
 ///
@@ -98,11 +98,11 @@ pub fn run<R: Read + Drop + Send, O: Write, E: Write, H: Threads + Wait + Sync>(
         → IfErr result (λ fault. fault ≢ RunFault.ThreadNotStarted) }
 {
     let whole = gather(rt, alloc, plan, options, reader)?;
-    let hands = Hands {
+    let parallel = Parallel {
         rt,
-        count: options.workers(),
+        workers: options.workers(),
     };
-    write_whole(&hands, alloc, plan, whole, out, err)
+    write_whole(&parallel, alloc, plan, whole, out, err)
 }
 
 /// Does what `run` does on the calling thread, without a thread of its own. The number of workers is
@@ -143,19 +143,19 @@ pub fn run_alone<R: Read + Drop, O: Write, E: Write>(
     ensures started { IfErr result (λ fault. fault ≢ RunFault.ThreadNotStarted) }
 {
     let whole = gather_alone(alloc, plan, options, reader)?;
-    write_whole(&CallingThread, alloc, plan, whole, out, err)
+    write_whole(&Serial, alloc, plan, whole, out, err)
 }
 
 /// Writes the report and the list of refused lines by the result over an input.
-fn write_whole<T: Writers, O: Write, E: Write>(
-    writers: &T,
+fn write_whole<X: ReportExecutor, O: Write, E: Write>(
+    executor: &X,
     alloc: Global,
     plan: &Plan,
     whole: Partial,
     out: &mut O,
     err: &mut E,
 ) -> Result<Done, RunFault>
-    requires ready { T.ready writers.now }
+    requires ready { X.ready executor.now }
     requires of_input { (input : List ℕ)
         × StandsForInput plan.now.fields plan.now.query whole input }
     ensures report { OnOk result ((input : List ℕ)
@@ -176,7 +176,7 @@ fn write_whole<T: Writers, O: Write, E: Write>(
         lines: whole.lines(),
         refused: whole.refused(),
     };
-    let texts = texts_of(writers, alloc, plan, whole)?;
+    let texts = texts_of(executor, alloc, plan, whole)?;
     if let Err(fault) = put_both(out, texts.report.as_slice(), err, texts.refused.as_slice()) {
         return Err(fault);
     }
@@ -189,18 +189,18 @@ fn write_whole<T: Writers, O: Write, E: Write>(
     // one that lies with it.
     drop(report);
     drop(refused);
-    writers.give_back(alloc, groups);
+    executor.give_back(alloc, groups);
     Ok(done)
 }
 
 /// What is written of an input, by the result over it.
-fn texts_of<T: Writers>(
-    writers: &T,
+fn texts_of<X: ReportExecutor>(
+    executor: &X,
     alloc: Global,
     plan: &Plan,
     partial: Partial,
 ) -> Result<Texts, AllocError>
-    requires ready { T.ready writers.now }
+    requires ready { X.ready executor.now }
     requires of_input { (input : List ℕ)
         × StandsForInput plan.now.fields plan.now.query partial input }
     ensures report { IfOk result (λ texts. (input : List ℕ)
@@ -210,8 +210,8 @@ fn texts_of<T: Writers>(
         → StandsForInput plan.now.fields plan.now.query partial input
         → texts.refused.items ≡ refusals plan.now.fields input) }
 {
-    let groups = writers.groups(plan, partial)?;
-    let report = writers.report(alloc, &groups, plan)?;
+    let groups = executor.groups(plan, partial)?;
+    let report = executor.report(alloc, &groups, plan)?;
     let refused = refused_text(alloc, &groups, plan.schema())?;
     // The groups came in the order of a walk over a table, which the report does not show.
     arranged_law();

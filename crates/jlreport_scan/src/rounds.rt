@@ -21,7 +21,7 @@ use std::sync::Wait;
 use std::sync::atomic::{AtomicBool, Ordering};
 use std::sync::ledger::{Blank, Ledger};
 use std::thread::{Threads, join};
-use tables::{Hands, Partial};
+use tables::{Parallel, Partial};
 
 /// The most bytes of a round that is worked on by the calling thread alone: so few that they stay near the processor
 /// from the read to the last look at them, and no memory has to be touched for the first time beyond them.
@@ -152,11 +152,11 @@ fn first_ahead<L: Ledger, R: Read + Drop, H: Threads + Sync>(
 {
     let mut rounds = Rounds::new(alloc, reader, options.round())?;
     let spare = Round::new(alloc, options.round())?;
-    let hands = Hands {
+    let parallel = Parallel {
         rt,
-        count: options.workers(),
+        workers: options.workers(),
     };
-    let whole = Partial::empty_by(alloc, plan, &hands)?;
+    let whole = Partial::empty_by(alloc, plan, &parallel)?;
     let found = rounds.advance()?;
     Ok(Ahead {
         whole,

@@ -19,7 +19,7 @@ use std::marker::{Send, Sync};
 use std::sync::Wait;
 use std::sync::ledger::Ledger;
 use std::thread::Threads;
-use tables::{Hands, Job, JobBy, Partial, job_law};
+use tables::{Job, JobBy, Parallel, Partial, job_law};
 
 /// Nothing, where so many refused lines are not more than may be; else the fault that says so.
 pub(crate) fn within_limit(options: Options, count: u64) -> Result<(), GatherFault>
@@ -78,12 +78,16 @@ pub(crate) fn round_among<L: Ledger + Send + Sync, H: Threads + Wait + Sync>(
     let pieces = pieces_of(alloc, round, options.piece())?;
     let front = before.in_one_piece()?;
     job_law();
-    let joiner = Hands {
+    let executor = Parallel {
         rt,
-        count: shares.len(),
+        workers: shares.len(),
     };
     // The front is the piece of index 0.
-    let job = JobBy::new(Job::new(alloc, plan, round, pieces.as_slice()), &joiner, 1);
+    let job = JobBy::new(
+        Job::new(alloc, plan, round, pieces.as_slice()),
+        &executor,
+        1,
+    );
     let limit = limit_of(options);
     let (outcome, hands, shares) = fan_deal_onto(
         rt,

@@ -5,7 +5,7 @@ use Rattle.query_plan.specs.Planned.{PlannedQuery}
 use Rattle.tables.specs.Denotations.{IsDenotation, Denotation, denotation, denotation_at, denotation_from}
 use Rattle.tables.specs.declared.job.Job.{Job}
 use Rattle.tables.specs.declared.job.JobBy.{JobBy}
-use Rattle.tables.specs.declared.joining.Joiner as Joiner
+use Rattle.tables.specs.declared.executor.Executor as Executor
 
 -- the plan whose query is answered
 abbrev pub plan_of_job : Job → PlannedQuery
@@ -35,12 +35,12 @@ denotation_of_piece job index = denotation_at (plan_of_job job).fields (plan_of_
 abbrev pub denotation_of_piece_from : ℕ → Job → ℕ → Denotation
 denotation_of_piece_from first job place = denotation_from (plan_of_job job).fields (plan_of_job job).query first (input_of_job job) (pieces_of_job job) place
 
--- ---- a job whose results a joiner merges
+-- ---- a job whose results a executor merges
 
 -- the job
-abbrev pub joined_job : {J : Type 0} {joiner : Joiner.Ghosts J} → JobBy J joiner → Job
+abbrev pub joined_job : {J : Type 0} {executor : Executor.Ghosts J} → JobBy J executor → Job
 joined_job it = it.job
 
 -- the index of its first piece
-abbrev pub first_of_job : {J : Type 0} {joiner : Joiner.Ghosts J} → JobBy J joiner → ℕ
+abbrev pub first_of_job : {J : Type 0} {executor : Executor.Ghosts J} → JobBy J executor → ℕ
 first_of_job it = it.first

@@ -4,7 +4,7 @@ ghost use Rattle.semantics.specs.Lines.{lines};
 ghost use Rattle.semantics.specs.Groups.{Row};
 ghost use Rattle.tables.specs.Folding.{HasReadUnder, HasRoomUnder, IsTableUnder, refused_of};
 
-use crate::joining::Joiner;
+use crate::executor::Executor;
 use lines::{LineFault, LineRefusal, RecordReader, lines_of};
 use query_plan::{Plan, holds};
 use std::alloc::{AllocError, Global};
@@ -90,15 +90,15 @@ impl Folding {
     }
 }
 
-/// The table of no records of a plan, which the joiner will put to others.
-pub(crate) fn empty_table<J: Joiner>(
+/// The table of no records of a plan, which the executor will put to others.
+pub(crate) fn empty_table<J: Executor>(
     alloc: Global,
     plan: &Plan,
-    joiner: &J,
+    executor: &J,
 ) -> Result<Table, AllocError>
     ensures { IfOk result (λ table. IsTableUnder plan.now table []) }
 {
-    joiner.empty_table(alloc, plan.grouping(), plan.set_functions())
+    executor.empty_table(alloc, plan.grouping(), plan.set_functions())
 }
 
 /// Reads the lines of a piece behind the records that a table has.

@@ -3,7 +3,7 @@ ghost use Rattle.std.specs.Prelude.{◌≡◌, ◌≤◌, ◌<◌, ◌+◌, ◌^
 ghost use Rattle.std.proofs.Props.{props};
 ghost use Rattle.tables.specs.Denotations.{piece_at};
 
-use crate::joining::Joiner;
+use crate::executor::Executor;
 use crate::partial::Partial;
 use lines::Piece;
 use pool::Work;
@@ -119,30 +119,34 @@ impl<'a> Work for Job<'a> {
     }
 }
 
-/// A job whose results are merged by a joiner. Its pieces have indexes from a first one on, so that they can stand behind
+/// A job whose results are merged by a executor. Its pieces have indexes from a first one on, so that they can stand behind
 /// pieces that a result has already; no index is above the greatest number of 32 bits.
 ///
-/// Example: a pool makes of `JobBy::new(job, &Hands { rt: &rt, count: 4 }, 0)` what it makes of `job`.
+/// Example: a pool makes of `JobBy::new(job, &Parallel { rt: &rt, workers: 4 }, 0)` what it makes of `job`.
 #[derive(Drop)]
-pub struct JobBy<'a, J: Joiner> {
+pub struct JobBy<'a, J: Executor> {
     job: Job<'a>,
-    joiner: &'a J,
+    executor: &'a J,
     first: u32,
-    ghost ready: { J.ready joiner.now } by { J.ready_once joiner.now },
+    ghost ready: { J.ready executor.now } by { J.ready_once executor.now },
 }
 
-impl<'a, J: Joiner> JobBy<'a, J> {
+impl<'a, J: Executor> JobBy<'a, J> {
     ghost use Rattle.tables.specs.Jobs.{first_of_job, joined_job};
 
-    /// The job with this joiner, which can join, whose first piece has the index `first`. It takes no memory.
+    /// The job with this executor, which can join, whose first piece has the index `first`. It takes no memory.
     ///
-    /// Example: `JobBy::new(job, &CallingThread, 0)` is a work like `job`.
-    pub fn new(job: Job<'a>, joiner: &'a J, first: u32) -> JobBy<'a, J>
-        requires ready { J.ready joiner.now }
+    /// Example: `JobBy::new(job, &Serial, 0)` is a work like `job`.
+    pub fn new(job: Job<'a>, executor: &'a J, first: u32) -> JobBy<'a, J>
+        requires ready { J.ready executor.now }
         ensures job { joined_job result ≡ job.entry }
         ensures first { first_of_job result ≡ first }
     {
-        JobBy { job, joiner, first }
+        JobBy {
+            job,
+            executor,
+            first,
+        }
     }
 
     /// The index of the piece that comes so many behind the first one.
@@ -153,7 +157,7 @@ impl<'a, J: Joiner> JobBy<'a, J> {
     }
 }
 
-impl<'a, J: Joiner> Work for JobBy<'a, J> {
+impl<'a, J: Executor> Work for JobBy<'a, J> {
     ghost use Rattle.tables.specs.Jobs.{IsDenotationUnder, denotation_of_piece_from, no_denotation, first_of_job, input_of_job, joined_job, pieces_of_job, plan_of_job};
     ghost use Rattle.tables.specs.Denotations.{Denotation, both, meaning};
     ghost use Rattle.tables.specs.Laws.{denotations_lawful_from};
@@ -181,7 +185,7 @@ impl<'a, J: Joiner> Work for JobBy<'a, J> {
         (first_of_job it) (input_of_job (joined_job it)) (pieces_of_job (joined_job it)) };
 
     fn unit(&self) -> Result<Partial, AllocError> {
-        Partial::empty_by(self.job.alloc, self.job.plan, self.joiner)
+        Partial::empty_by(self.job.alloc, self.job.plan, self.executor)
     }
 
     fn piece(&self, i: u32) -> Result<Partial, AllocError> {
@@ -194,7 +198,7 @@ impl<'a, J: Joiner> Work for JobBy<'a, J> {
     }
 
     fn combine(&self, a: Partial, b: Partial) -> Result<Partial, AllocError> {
-        a.merge_by(self.joiner, b)
+        a.merge_by(self.executor, b)
     }
 
     fn add(&self, part: Partial, i: u32) -> Result<Partial, AllocError> {

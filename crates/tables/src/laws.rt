@@ -54,7 +54,7 @@ pub fn job_law()
         → meaning partial
         ≡ total (denotation fields q []) both (denotation_at fields q input pieces) (length pieces)
         → StandsFor fields q partial (indexed input pieces) }
-    // So does what means the total of pieces with indexes from a first one on: of all pieces of a job by a joiner.
+    // So does what means the total of pieces with indexes from a first one on: of all pieces of a job by a executor.
     ensures whole_by { (fields : List Field) (q : TreeForm) (first : ℕ)
         (input : List ℕ) (pieces : List Piece) (partial : Partial)
         → first + length pieces < 2 ^ 32

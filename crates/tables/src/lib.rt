@@ -3,10 +3,10 @@
 //! A result is made of each piece apart, in any order and on any thread; results are merged in any order, and finished.
 #![tactic(auto)]
 
+mod executor;
 mod folding;
 mod grouped;
 mod job;
-mod joining;
 mod laws;
 mod numbering;
 mod partial;
@@ -15,9 +15,9 @@ mod rolling;
 mod rows;
 mod shape;
 
+pub use executor::{Executor, Parallel, Serial};
 pub use grouped::Groups;
 pub use job::{Job, JobBy};
-pub use joining::{CallingThread, Hands, Joiner};
 pub use laws::{job_law, meaning_law, members_law, order_law, records_law};
 pub use partial::Partial;
 pub use rolling::{Roll, SetTable};

@@ -5,9 +5,9 @@ ghost use Rattle.std.proofs.Props.{props};
 ghost use Rattle.tables.specs.Notes.{IsWellNumbered, lines_noted, notes_in};
 ghost use Rattle.tables_groups.specs.Inside.Table.{AreGroupsWithin};
 
+use crate::executor::{Executor, Serial};
 use crate::folding::{Folding, empty_table, read_onto};
 use crate::grouped::Groups;
-use crate::joining::{CallingThread, Joiner};
 use crate::laws::members_law;
 use crate::numbering::{number, number_behind, put_behind};
 use crate::piece_refusals::PieceRefusals;
@@ -104,26 +104,26 @@ impl Partial {
     pub fn empty(alloc: Global, plan: &Plan) -> Result<Partial, AllocError>
         ensures stands { IfOk result (λ partial. StandsForUnder plan.now partial []) }
     {
-        Partial::empty_by(alloc, plan, &CallingThread)
+        Partial::empty_by(alloc, plan, &Serial)
     }
 
-    /// What `empty` gives, to which the joiner puts other results soonest.
+    /// What `empty` gives, to which the executor puts other results soonest.
     ///
-    /// Example: `Partial::empty_by(alloc, &plan, &Hands { rt: &rt, count: 4 })?` stands for no pieces, as
+    /// Example: `Partial::empty_by(alloc, &plan, &Parallel { rt: &rt, workers: 4 })?` stands for no pieces, as
     /// `Partial::empty(alloc, &plan)?` does.
     ///
     /// # Errors
     ///
     /// `AllocError` where there is no memory for it.
-    pub fn empty_by<J: Joiner>(
+    pub fn empty_by<J: Executor>(
         alloc: Global,
         plan: &Plan,
-        joiner: &J,
+        executor: &J,
     ) -> Result<Partial, AllocError>
         ensures stands { IfOk result (λ partial. StandsForUnder plan.now partial []) }
     {
         let shape = Shape::of(alloc, plan)?;
-        let table = empty_table(alloc, plan, joiner)?;
+        let table = empty_table(alloc, plan, executor)?;
         Ok(Partial {
             alloc,
             shape,
@@ -154,7 +154,7 @@ impl Partial {
             StandsForUnder plan.now partial (record { index = index; bytes = piece.now } ∷ [])) }
     {
         let shape = Shape::of(alloc, plan)?;
-        let empty = empty_table(alloc, plan, &CallingThread)?;
+        let empty = empty_table(alloc, plan, &Serial)?;
         let Folding {
             table,
             lines,
@@ -280,19 +280,19 @@ impl Partial {
             → IsPartialOf fields q self → IsPartialOf fields q other
             → IsPartialOf fields q merged) }
     {
-        self.merge_by(&CallingThread, other)
+        self.merge_by(&Serial, other)
     }
 
-    /// What `merge` does, where the joiner puts the tables together. It can do so.
+    /// What `merge` does, where the executor puts the tables together. It can do so.
     ///
-    /// Example: `first.merge_by(&Hands { rt: &rt, count: 4 }, second)?` stands for the pieces of both, as
+    /// Example: `first.merge_by(&Parallel { rt: &rt, workers: 4 }, second)?` stands for the pieces of both, as
     /// `first.merge(second)?` does.
     ///
     /// # Errors
     ///
     /// `AllocError` where there is no memory for it; both are given up then.
-    pub fn merge_by<J: Joiner>(self, joiner: &J, other: Partial) -> Result<Partial, AllocError>
-        requires ready { J.ready joiner.now }
+    pub fn merge_by<J: Executor>(self, executor: &J, other: Partial) -> Result<Partial, AllocError>
+        requires ready { J.ready executor.now }
         requires one_shape { HaveOneShape self other }
         requires few { self.lines + other.lines < 2 ^ 63 }
         ensures stands { IfOk result (λ merged.
@@ -321,7 +321,7 @@ impl Partial {
         } = other;
         drop(other_shape);
         notes.append(&mut other_notes)?;
-        let joined = joiner.join(table, other_table)?;
+        let joined = executor.join(table, other_table)?;
         Ok(Partial {
             alloc,
             shape,
@@ -352,19 +352,19 @@ impl Partial {
             → StandsForInput fields q self front → StandsForInput fields q rest back
             → AreWholeLines front → StandsFor fields q followed (whole_piece (front ++ back))) }
     {
-        self.follow_by(&CallingThread, rest)
+        self.follow_by(&Serial, rest)
     }
 
-    /// What `follow` does, where the joiner puts the tables together. It can do so.
+    /// What `follow` does, where the executor puts the tables together. It can do so.
     ///
-    /// Example: `front.follow_by(&Hands { rt: &rt, count: 4 }, rest)?` stands for the whole input, as
+    /// Example: `front.follow_by(&Parallel { rt: &rt, workers: 4 }, rest)?` stands for the whole input, as
     /// `front.follow(rest)?` does.
     ///
     /// # Errors
     ///
     /// `AllocError` where there is no memory for it; both are given up then.
-    pub fn follow_by<J: Joiner>(self, joiner: &J, rest: Partial) -> Result<Partial, AllocError>
-        requires ready { J.ready joiner.now }
+    pub fn follow_by<J: Executor>(self, executor: &J, rest: Partial) -> Result<Partial, AllocError>
+        requires ready { J.ready executor.now }
         requires one_shape { HaveOneShape self rest }
         requires few { self.lines + rest.lines < 2 ^ 63 }
         ensures stands { IfOk result (λ followed.
@@ -390,7 +390,7 @@ impl Partial {
         } = rest;
         drop(rest_shape);
         let lines = before + rest_lines;
-        let joined = joiner.join(table, rest_table)?;
+        let joined = executor.join(table, rest_table)?;
         let mut numbered = number(alloc, notes)?;
         number_behind(&mut numbered, before, rest_notes)?;
         let notes = one_note(
@@ -536,21 +536,21 @@ impl Partial {
             → StandsForUnder plan.now self pieces → IsCutInto input pieces
             → IsResultUnder plan.now groups input) }
     {
-        self.finish_by(&CallingThread, plan)
+        self.finish_by(&Serial, plan)
     }
 
-    /// What `finish` gives, where the joiner finishes the groups. It can do so.
+    /// What `finish` gives, where the executor finishes the groups. It can do so.
     ///
     /// This is a result of the plan, over some pieces.
     ///
-    /// Example: `partial.finish_by(&Hands { rt: &rt, count: 4 }, &plan)?` gives the groups and the refused lines that
+    /// Example: `partial.finish_by(&Parallel { rt: &rt, workers: 4 }, &plan)?` gives the groups and the refused lines that
     /// `partial.finish(&plan)?` gives.
     ///
     /// # Errors
     ///
     /// `AllocError` where there is no memory for them; the result is given up then.
-    pub fn finish_by<J: Joiner>(self, joiner: &J, plan: &Plan) -> Result<Groups, AllocError>
-        requires ready { J.ready joiner.now }
+    pub fn finish_by<J: Executor>(self, executor: &J, plan: &Plan) -> Result<Groups, AllocError>
+        requires ready { J.ready executor.now }
         requires of_plan { IsPartialUnder plan.now self }
         ensures rows { IfOk result (λ groups. (pieces : List IndexedPiece)
             → StandsForUnder plan.now self pieces
@@ -578,7 +578,7 @@ impl Partial {
             notes,
         } = self;
         drop(shape);
-        let rows = rows_of(alloc, joiner, plan, table)?;
+        let rows = rows_of(alloc, executor, plan, table)?;
         let refused = number(alloc, notes)?;
         members_law();
         Ok(Groups::new(rows, refused))

@@ -12,7 +12,7 @@ ghost use Rattle.tables_groups.specs.Inside.Table.{IsOfFew, IsTableOf};
 ghost use Rattle.tables.specs.SetTables.{AreOfFew, AreTablesOf, HasFiner, HasRolled, IsMade, IsMadeOrRolled, set_of_roll};
 ghost use Rattle.tables.specs.Sets.{AreGroupsOf};
 
-use crate::joining::Joiner;
+use crate::executor::Executor;
 use crate::shape::copied_sets;
 use query_plan::FilteredFunction;
 use std::alloc::{AllocError, Global};
@@ -32,7 +32,7 @@ pub struct SetTable {
 
 /// A grouping set whose table is to be rolled out of others, and the table where that was done.
 ///
-/// Example: `Joiner::roll_each` gets some, and leaves in each the table, or none where there was no memory for it.
+/// Example: `Executor::roll_each` gets some, and leaves in each the table, or none where there was no memory for it.
 #[derive(Drop)]
 pub struct Roll {
     set: Vec<usize>,
@@ -45,7 +45,7 @@ impl Roll {
     /// These are tables of one list of fewer than 2^63 records for these set functions, and one of them has the columns of
     /// the set.
     ///
-    /// Example: a joiner that works alone calls it for one roll after the other.
+    /// Example: a executor that works alone calls it for one roll after the other.
     pub fn roll(&mut self, tables: &[SetTable], functions: &[FilteredFunction])
         requires few { ∥ AreOfFew functions.now tables.now ∥₁ }
         requires finer { HasFiner (set_of_roll self.old) tables.now }
@@ -57,16 +57,16 @@ impl Roll {
 
 /// The groups of each grouping set of a list, in the order of the list; those of one set in no order that is said.
 ///
-/// They are made of the table of all grouping columns, among which the columns of each set are, and finished by the joiner.
-pub(crate) fn groups_of_sets<J: Joiner>(
+/// They are made of the table of all grouping columns, among which the columns of each set are, and finished by the executor.
+pub(crate) fn groups_of_sets<J: Executor>(
     alloc: Global,
-    joiner: &J,
+    executor: &J,
     grouping: &[usize],
     sets: &[Vec<usize>],
     functions: &[FilteredFunction],
     finest: Table,
 ) -> Result<Vec<Vec<Group>>, AllocError>
-    requires ready { J.ready joiner.now }
+    requires ready { J.ready executor.now }
     requires among { All (λ set. AreAmong set grouping.now) (contents sets.now) }
     requires few { ∥ IsOfFew grouping.now functions.now finest ∥₁ }
     ensures { IfOk result (λ groups. (filters : List (Row → Bool)) (rows : List Row)
@@ -74,21 +74,28 @@ pub(crate) fn groups_of_sets<J: Joiner>(
         → AreGroupsOf (contents sets.now) (map (bound filters) functions.now) groups.items rows) }
 {
     let order = longest_first(alloc, sets)?;
-    let tables = tables_of_sets(alloc, joiner, grouping, order.as_slice(), functions, finest)?;
-    finish_sets(alloc, joiner, sets, functions, tables)
+    let tables = tables_of_sets(
+        alloc,
+        executor,
+        grouping,
+        order.as_slice(),
+        functions,
+        finest,
+    )?;
+    finish_sets(alloc, executor, sets, functions, tables)
 }
 
 /// A table for each different set of a list, and the one of all grouping columns. The sets of as many columns are rolled by
-/// the joiner at once, those of more columns first.
-fn tables_of_sets<J: Joiner>(
+/// the executor at once, those of more columns first.
+fn tables_of_sets<J: Executor>(
     alloc: Global,
-    joiner: &J,
+    executor: &J,
     grouping: &[usize],
     sets: &[Vec<usize>],
     functions: &[FilteredFunction],
     finest: Table,
 ) -> Result<Vec<SetTable>, AllocError>
-    requires ready { J.ready joiner.now }
+    requires ready { J.ready executor.now }
     requires among { All (λ set. AreAmong set.items grouping.now) sets.now }
     requires few { ∥ IsOfFew grouping.now functions.now finest ∥₁ }
     ensures tables { IfOk result (λ tables. (filters : List (Row → Bool)) (rows : List Row)
@@ -99,10 +106,10 @@ fn tables_of_sets<J: Joiner>(
     let mut tables = first_table(alloc, grouping, finest)?;
     for place in 1..sets.len() {
         if sets[place].len() < sets[place - 1].len() {
-            roll_sets(alloc, joiner, &mut tables, &sets[..place], functions)?;
+            roll_sets(alloc, executor, &mut tables, &sets[..place], functions)?;
         }
     }
-    roll_sets(alloc, joiner, &mut tables, sets, functions)?;
+    roll_sets(alloc, executor, &mut tables, sets, functions)?;
     Ok(tables)
 }
 
@@ -131,16 +138,16 @@ fn longest_first(alloc: Global, sets: &[Vec<usize>]) -> Result<Vec<Vec<usize>>, 
     Ok(order)
 }
 
-/// Makes the tables of those sets of a list that have none. The joiner rolls them out of those that are there. After an
+/// Makes the tables of those sets of a list that have none. The executor rolls them out of those that are there. After an
 /// error the tables are of no use.
-fn roll_sets<J: Joiner>(
+fn roll_sets<J: Executor>(
     alloc: Global,
-    joiner: &J,
+    executor: &J,
     tables: &mut Vec<SetTable>,
     sets: &[Vec<usize>],
     functions: &[FilteredFunction],
 ) -> Result<(), AllocError>
-    requires ready { J.ready joiner.now }
+    requires ready { J.ready executor.now }
     requires few { ∥ AreOfFew functions.now tables.old.items ∥₁ }
     requires finer { All (λ set. HasFiner set.items tables.old.items) sets.now }
     ensures tables { OnOk result ((filters : List (Row → Bool)) (rows : List Row)
@@ -151,7 +158,7 @@ fn roll_sets<J: Joiner>(
         → IsMade other tables.new.items) }
 {
     let mut rolls = rolls_of(alloc, tables.as_slice(), sets)?;
-    joiner.roll_each(tables.as_slice(), rolls.as_mut_slice(), functions);
+    executor.roll_each(tables.as_slice(), rolls.as_mut_slice(), functions);
     for roll in rolls {
         put_rolled(tables, roll)?;
     }
@@ -296,15 +303,15 @@ fn is_same(set: &[usize], other: &[usize]) -> bool
     set == other
 }
 
-/// The groups of each set, whose tables are there and which the joiner finishes.
-fn finish_sets<J: Joiner>(
+/// The groups of each set, whose tables are there and which the executor finishes.
+fn finish_sets<J: Executor>(
     alloc: Global,
-    joiner: &J,
+    executor: &J,
     sets: &[Vec<usize>],
     functions: &[FilteredFunction],
     tables: Vec<SetTable>,
 ) -> Result<Vec<Vec<Group>>, AllocError>
-    requires ready { J.ready joiner.now }
+    requires ready { J.ready executor.now }
     requires few { ∥ AreOfFew functions.now tables.items ∥₁ }
     requires made { All (λ set. IsMade set.items tables.items) sets.now }
     ensures { IfOk result (λ groups. (filters : List (Row → Bool)) (rows : List Row)
@@ -317,7 +324,7 @@ fn finish_sets<J: Joiner>(
         let set = sets[index].as_slice();
         let is_last = !stands_in(&sets[index + 1..], set);
         let table = take_table(&mut tables, set, functions, is_last)?;
-        groups.push(joiner.finish(table)?)?;
+        groups.push(executor.finish(table)?)?;
     }
     Ok(groups)
 }

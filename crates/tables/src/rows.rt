@@ -7,28 +7,28 @@ ghost use Rattle.tables_groups.specs.Found.{row_of, rows_from};
 ghost use Rattle.tables.specs.Folding.{IsOfFewUnder, IsTableUnder};
 ghost use Rattle.semantics.specs.Found.{query_found};
 
-use crate::joining::Joiner;
+use crate::executor::Executor;
 use crate::rolling::groups_of_sets;
 use query_plan::Plan;
 use std::alloc::{AllocError, Global};
 use tables_groups::{Group, Table};
 
 /// The groups of each grouping set of a plan, each beside the index of its set, by the table of all grouping columns. The
-/// joiner finishes them.
-pub(crate) fn rows_of<J: Joiner>(
+/// executor finishes them.
+pub(crate) fn rows_of<J: Executor>(
     alloc: Global,
-    joiner: &J,
+    executor: &J,
     plan: &Plan,
     finest: Table,
 ) -> Result<Vec<(usize, Group)>, AllocError>
-    requires ready { J.ready joiner.now }
+    requires ready { J.ready executor.now }
     requires few { IsOfFewUnder plan.now finest }
     ensures { IfOk result (λ rows. (records : List Row) → IsTableUnder plan.now finest records
         → SameBag (map row_of rows.items) (query_found plan.now.fields plan.now.query records)) }
 {
     let groups = groups_of_sets(
         alloc,
-        joiner,
+        executor,
         plan.grouping(),
         plan.sets(),
         plan.set_functions(),

@@ -14,7 +14,7 @@ use std::alloc::{AllocError, Global};
 use std::marker::Sync;
 use std::process::Abort;
 use std::thread::Threads;
-use tables::{Hands, Partial};
+use tables::{Parallel, Partial};
 
 /// An input in two parts, how many lines it has, and its refused lines.
 #[derive(Clone, Copy)]
@@ -150,7 +150,7 @@ pub fn followed_by_hands<H: Abort + Threads + Sync>(
         Ok(whole) => {
             assert!(rt; whole.same_shape(&behind));
             assert!(rt; whole.lines() + behind.lines() < 1 << 63);
-            whole.follow_by(&Hands { rt, count }, behind)
+            whole.follow_by(&Parallel { rt, workers: count }, behind)
         }
         Err(refused) => {
             drop(behind);

@@ -1,13 +1,13 @@
 use Rattle.std.proofs.Common.{◌≡◌, ◌∙◌, length, arith}
 use denote.Param.Send.{sendable}
-use Rattle.tables.proofs.Sharing.{hands_sync, job_by_sync}
+use Rattle.tables.proofs.Sharing.{parallel_sync, job_by_sync}
 use Rattle.jlreport_scan.proofs.Cuts.{same-lines}
 use Rattle.jlreport_scan.proofs.Pooled.{few-loads}
 use Rattle.bench.proofs.Stands.{is-job, stands-for}
 use Rattle.bench.proofs.fold.result_of.Goals as goal
 
 pub fan_out-requires-sync-W : goal.fan_out-requires-sync-W
-fan_out-requires-sync-W g c κs within = search (job_by_sync, hands_sync, sendable) depth 20
+fan_out-requires-sync-W g c κs within = search (job_by_sync, parallel_sync, sendable) depth 20
 
 pub fan_out-requires-clause-loads : goal.fan_out-requires-clause-loads
 fan_out-requires-clause-loads g c κs within =

@@ -9,13 +9,13 @@ use Rattle.query_plan.specs.Planned.{PlannedQuery}
 use Rattle.tables.specs.Denotations.{IsDenotation, denotation_from, meaning}
 use Rattle.tables.specs.Partials.{one_piece}
 use Rattle.tables.proofs.Denotations.{denotation-from_stands}
-use Rattle.tables.proofs.Sharing.{hands_sync, job_by_sync}
+use Rattle.tables.proofs.Sharing.{parallel_sync, job_by_sync}
 use Rattle.jlreport_scan.proofs.Pooled.{IsJobOf, few-loads, grown-by, refused-whole, room-beside, stands-behind, under-of, under-same, weights-counted}
 use Rattle.jlreport_scan.proofs.Tallies.{few-refused}
 use Rattle.jlreport_scan.proofs.working.round_among.Goals as goal
 
 pub fan_deal_onto-requires-sync-W : goal.fan_deal_onto-requires-sync-W
-fan_deal_onto-requires-sync-W g c κs within = search (job_by_sync, hands_sync, sendable) depth 20
+fan_deal_onto-requires-sync-W g c κs within = search (job_by_sync, parallel_sync, sendable) depth 20
 
 pub fan_deal_onto-requires-clause-part : goal.fan_deal_onto-requires-clause-part
 fan_deal_onto-requires-clause-part g c κs within =

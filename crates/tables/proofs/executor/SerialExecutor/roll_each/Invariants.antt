@@ -1,7 +1,7 @@
 use Rattle.std.proofs.Common.{ℕ, ◌<◌, ◌≤◌, ◌≡◌, length, slice_index_or}
 use Rattle.tables.specs.declared.rolling.Roll.{Roll}
 use Rattle.tables.specs.SetTables.{HasRolled}
-use Rattle.tables.proofs.joining.CallingThreadJoiner.roll_each.Given as goal
+use Rattle.tables.proofs.executor.SerialExecutor.roll_each.Given as goal
 
 -- each roll so far is rolled, and the others are as they were
 abbrev pub invariant-loop-place : goal.invariant-loop-place

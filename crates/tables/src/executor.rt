@@ -1,4 +1,4 @@
-//! Two tables of records, put together.
+//! Who begins, merges, rolls up and finishes tables of groups.
 ghost use Rattle.std.specs.Prelude.{◌≡◌, ◌<◌, ◌⊎◌, ◌+◌, ◌++◌, [], All, Bool, ℕ, IfOk, List, map};
 ghost use Rattle.tables_groups.specs.Bags.{SameBag};
 ghost use Rattle.semantics.specs.Aggregates.{AggregateFunction};
@@ -17,19 +17,19 @@ use std::thread;
 use std::thread::Threads;
 use tables_groups::{Group, Table};
 
-/// Who puts two tables of groups together, begins them, rolls them and finishes them.
+/// Who begins tables of groups, merges them, rolls them up and finishes them.
 ///
-/// Example: `CallingThread` does it alone, and `Hands` by several threads.
-pub trait Joiner {
+/// Example: `Serial` is the calling thread alone, and `Parallel` several threads.
+pub trait Executor {
     /// They can do it.
     ghost ready: { Self → Type 0 };
 
     /// This has one proof at most.
-    ghost ready_once: { (joiner : Self) → IsProp (Self.ready joiner) };
+    ghost ready_once: { (executor : Self) → IsProp (Self.ready executor) };
 
-    /// The table of no records under a grouping set, for these set functions, to which this joiner puts others soonest.
+    /// The table of no records under a grouping set, for these set functions, to which this executor puts others soonest.
     ///
-    /// Example: `joiner.empty_table(alloc, set, functions)?` means what `Table::new(alloc, set, functions)?` means.
+    /// Example: `executor.empty_table(alloc, set, functions)?` means what `Table::new(alloc, set, functions)?` means.
     ///
     /// # Errors
     ///
@@ -80,7 +80,7 @@ pub trait Joiner {
 
     /// The groups of a table, as `Table::finish` gives them, in no order that is said.
     ///
-    /// Example: `joiner.finish(table)?` gives the groups that `table.finish()?` gives.
+    /// Example: `executor.finish(table)?` gives the groups that `table.finish()?` gives.
     ///
     /// # Errors
     ///
@@ -95,10 +95,10 @@ pub trait Joiner {
 
 /// The calling thread alone.
 ///
-/// Example: `first.merge_by(&CallingThread, second)?` is `first.merge(second)?`.
-pub struct CallingThread;
+/// Example: `first.merge_by(&Serial, second)?` is `first.merge(second)?`.
+pub struct Serial;
 
-impl Joiner for CallingThread {
+impl Executor for Serial {
     ghost use Rattle.std.specs.Prelude.{⊤};
 
     ghost ready = { λ _. ⊤ };
@@ -131,24 +131,24 @@ impl Joiner for CallingThread {
     }
 }
 
-/// As many threads as there are hands, the calling one among them. There is a hand.
+/// As many threads as there are workers, the calling one among them. There is a worker.
 ///
-/// Example: `first.merge_by(&Hands { rt: &rt, count: 4 }, second)?` stands for the pieces of both, as
+/// Example: `first.merge_by(&Parallel { rt: &rt, workers: 4 }, second)?` stands for the pieces of both, as
 /// `first.merge(second)?` does.
 #[derive(Drop)]
-pub struct Hands<'a, H> {
+pub struct Parallel<'a, H> {
     /// What starts the threads.
     pub rt: &'a H,
-    /// How many hands there are.
-    pub count: usize,
+    /// How many workers there are.
+    pub workers: usize,
 }
 
-impl<'a, H: Threads + Sync> Joiner for Hands<'a, H> {
+impl<'a, H: Threads + Sync> Executor for Parallel<'a, H> {
     ghost use Rattle.std.specs.Prelude.{◌<◌};
     ghost use Rattle.tables.specs.Ready.{IsSyncAtEach, keyless-once};
     ghost use Rattle.std.specs.Coded.{le_prop};
 
-    ghost ready = { λ hands. IsSyncAtEach H.row × (0 < hands.count) };
+    ghost ready = { λ parallel. IsSyncAtEach H.row × (0 < parallel.workers) };
 
     ghost ready_once = { λ _. Prim.hlevel (keyless-once, le_prop) };
 
@@ -158,12 +158,12 @@ impl<'a, H: Threads + Sync> Joiner for Hands<'a, H> {
         set: &[usize],
         functions: &[FilteredFunction],
     ) -> Result<Table, AllocError> {
-        Table::for_hands(alloc, self.count, set, functions)
+        Table::for_hands(alloc, self.workers, set, functions)
     }
 
     fn join(&self, first: Table, second: Table) -> Result<Table, AllocError> {
         let (mut joined, other) = larger_first(first, second);
-        joined.absorb_among(self.rt, self.count, other)?;
+        joined.absorb_among(self.rt, self.workers, other)?;
         Ok(joined)
     }
 
@@ -171,7 +171,7 @@ impl<'a, H: Threads + Sync> Joiner for Hands<'a, H> {
         thread::for_each_mut(
             self.rt,
             rolls,
-            self.count,
+            self.workers,
             &|_place: usize, roll: &mut Roll|
                 requires { ∥ AreOfFew functions.now tables.now ∥₁
                     × HasFiner roll.now.set.items tables.now }
@@ -182,7 +182,7 @@ impl<'a, H: Threads + Sync> Joiner for Hands<'a, H> {
     }
 
     fn finish(&self, table: Table) -> Result<Vec<Group>, AllocError> {
-        table.finish_among(self.rt, self.count)
+        table.finish_among(self.rt, self.workers)
     }
 }
 

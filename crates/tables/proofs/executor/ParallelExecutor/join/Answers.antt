@@ -1,6 +1,6 @@
 use Rattle.tables_groups.proofs.Meaning.{tables-within}
 use Rattle.tables.proofs.EitherWay.{joins-either_way, within-either_way}
-use Rattle.tables.proofs.joining.HandsJoiner.join.Goals as goal
+use Rattle.tables.proofs.executor.ParallelExecutor.join.Goals as goal
 
 pub returns-clause-joined : goal.returns-clause-joined
 returns-clause-joined g c =

@@ -1,6 +1,6 @@
 use Rattle.tables_groups.proofs.Meaning.{tables-within}
 use Rattle.tables.proofs.EitherWay.{joins-either_way, within-either_way}
-use Rattle.tables.proofs.joining.CallingThreadJoiner.join.Goals as goal
+use Rattle.tables.proofs.executor.SerialExecutor.join.Goals as goal
 
 pub returns-clause-joined : goal.returns-clause-joined
 returns-clause-joined c =

@@ -1,7 +1,7 @@
 use Rattle.std.proofs.Common.{sym, subst, arith}
 use Rattle.tables.specs.declared.rolling.Roll.{Roll}
 use Rattle.tables.specs.SetTables.{HasFiner}
-use Rattle.tables.proofs.joining.CallingThreadJoiner.roll_each.Goals as goal
+use Rattle.tables.proofs.executor.SerialExecutor.roll_each.Goals as goal
 
 pub roll-requires-clause-finer : goal.roll-requires-clause-finer
 roll-requires-clause-finer c =

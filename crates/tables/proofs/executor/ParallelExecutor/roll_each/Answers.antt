@@ -1,7 +1,7 @@
 use Rattle.std.proofs.Common.{sym, subst}
 use Rattle.tables.specs.declared.rolling.Roll.{Roll}
 use Rattle.tables.specs.SetTables.{HasFiner}
-use Rattle.tables.proofs.joining.HandsJoiner.roll_each.Goals as goal
+use Rattle.tables.proofs.executor.ParallelExecutor.roll_each.Goals as goal
 
 pub for_each_mut-requires-clause-accepts : goal.for_each_mut-requires-clause-accepts
 for_each_mut-requires-clause-accepts g c κs within = λ i roll l is.
