@@ -1,5 +1,5 @@
 -- A table of groups, apart from where it lies in memory, and what it is for a table to be that of a list of records.
-use Rattle.std.specs.Prelude.{⊤, ◌≡◌, ◌+◌, ◌<◌, ◌≤◌, ◌^◌, ℕ, Bool, cond, List, map, length, [], ◌∷◌, Option, Some, None, IfSome, unwrap_or, if◌then◌else◌}
+use Rattle.std.specs.Prelude.{⊤, ◌≡◌, ◌+◌, ◌<◌, ◌≤◌, ◌^◌, ℕ, Bool, cond, List, map, length, [], ◌∷◌, ◌++◌, Option, Some, None, IfSome, unwrap_or, if◌then◌else◌}
 use Rattle.std.specs.declared.alloc.Global.{Global}
 use Rattle.std.specs.declared.vec.Vec.{Vec}
 use Rattle.std.specs.Coded.{Coded}
@@ -12,8 +12,11 @@ use Rattle.tables_groups.specs.Inside.Coding.{coded_key}
 use Rattle.semantics.specs.Groups.{Row, Key, key_order, same_key, keys, members}
 use Rattle.tables_groups.specs.Rows.{IsNarrowRow}
 use Rattle.semantics.specs.Aggregates.{AggregateFunction}
-use Rattle.tables_groups.specs.Functions.{bound}
+use Rattle.tables_groups.specs.Functions.{bound, bound_functions}
 use Rattle.tables_groups.specs.Inside.Group.{GroupState, coded_group, group_state, no_group, with_row, join}
+use Rattle.tables_groups.specs.Bags.{SameBag}
+use Rattle.tables_groups.specs.GroupSummaries.{group_summaries, group_summary_in}
+use Rattle.tables_groups.specs.declared.group.Group.{Group}
 use Rattle.tables_groups.specs.declared.part.Part.{Part}
 use Rattle.tables_groups.specs.declared.part.Part.TheVariants as taken
 
@@ -35,18 +38,43 @@ contents_of entries = fin.from_entries (entries_by_key entries)
 abbrev pub IsTableOf : List ℕ → List AggregateFunction → Contents → List Row → Type 0
 IsTableOf set functions table rows = (key : Key) → fin.get table key ≡ (if list_any (same_key key) (keys set rows) then Some (group_state functions (members set key rows)) else None)
 
+-- a table is that of a list of records under a grouping set, for set functions whose FILTERs are given by their indexes, where the filters keep this
+abbrev pub IsTableUnder : List ℕ → List FilteredFunction → List (Row → Bool) → Contents → List Row → Type 0
+IsTableUnder set functions filters table rows = IsTableOf set (bound_functions filters functions) table rows
+
+-- a table is that of no records under a grouping set, whatever the filters keep
+abbrev pub IsOfNone : List ℕ → List FilteredFunction → Contents → Type 0
+IsOfNone set functions table = (filters : List (Row → Bool)) → IsTableUnder set functions filters table []
+
+-- a table is that of the records of two others: whatever records they are of, under one set and for the same functions
+abbrev pub IsUnionOf : Contents → Contents → Contents → Type 0
+IsUnionOf first second table =
+    (set : List ℕ) (functions : List AggregateFunction) (rows more : List Row)
+    → IsTableOf set functions first rows → IsTableOf set functions second more → IsTableOf set functions table (rows ++ more)
+
+-- a table under a set is that of the records of another table, under a finer set: whatever records that is of, and whatever the filters keep
+abbrev pub IsRollOf : List ℕ → List FilteredFunction → Contents → List ℕ → Contents → Type 0
+IsRollOf finer functions table set rolled =
+    (filters : List (Row → Bool)) (rows : List Row) → IsTableUnder finer functions filters table rows → IsTableUnder set functions filters rolled rows
+
+-- groups are all those of a table, in some order: of whatever records it is, their summaries are those of the groups of these
+abbrev pub AreGroupsOfTable : Contents → List Group → Type 0
+AreGroupsOfTable table groups =
+    (set : List ℕ) (functions : List AggregateFunction) (rows : List Row)
+    → IsTableOf set functions table rows → SameBag (map group_summary_in groups) (group_summaries set functions rows)
+
 -- the table of some list of records, fewer than 2^63 with one more, whatever the filters keep
 pub record TakesOne (set : List ℕ) (functions : List FilteredFunction) (table : Contents) : Type 0 where
   pub filters : List (Row → Bool)
   pub rows : List Row
-  pub is_table : IsTableOf set (map (bound filters) functions) table rows
+  pub is_table : IsTableUnder set functions filters table rows
   pub few : length rows + 1 < 2 ^ 63
 
 -- the table of some list of fewer than 2^63 records, whatever the filters keep
 pub record IsOfFew (set : List ℕ) (functions : List FilteredFunction) (table : Contents) : Type 0 where
   pub filters : List (Row → Bool)
   pub rows : List Row
-  pub is_table : IsTableOf set (map (bound filters) functions) table rows
+  pub is_table : IsTableUnder set functions filters table rows
   pub few : length rows < 2 ^ 63
 
 -- what a table keeps of some keys, put together
