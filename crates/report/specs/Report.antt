@@ -6,7 +6,7 @@ use Rattle.semantics.specs.declared.line_fault.LineFault.TheVariants.{TooLong, N
 use Rattle.semantics.specs.Syntax.{TreeForm}
 use Rattle.semantics.specs.Found.{Found}
 use Rattle.semantics.specs.Order.{rows_shown}
-use Rattle.semantics.specs.Texts.{report_bytes, refused_bytes}
+use Rattle.semantics.specs.Texts.{report_bytes, refused_line}
 
 -- the bytes of the report
 abbrev pub report_of : List Field → TreeForm → List Found → List ℕ
@@ -14,7 +14,7 @@ report_of fields t found = report_bytes t.items (rows_shown fields t found)
 
 -- the bytes of the list of refused lines
 abbrev pub refusals_of : List Field → List (ℕ × LineFault) → List ℕ
-refusals_of fields refused = refused_bytes fields refused
+refusals_of fields refused = flat_map (refused_line fields) refused
 
 -- the column that a fault names is in the schema
 abbrev pub NamesColumn : List Field → LineFault → Type 0

@@ -11,7 +11,7 @@ use Rattle.semantics.specs.Columns.{Field}
 use Rattle.semantics.specs.Syntax.{KeyForm, TreeForm}
 use Rattle.tables_groups.proofs.Order.{value_total, key_total}
 use Rattle.semantics.specs.Found.{Found}
-use Rattle.semantics.specs.Order.{before, directed_order, grouping_values, key_value, null_order, under_key, under_keys}
+use Rattle.semantics.specs.Order.{before, grouping_values, key_value, null_order, under_key, under_keys}
 use Rattle.report_rows.specs.Inside.Ranked.{Ranked, by_key, by_rank, under_values}
 
 -- ---- values under a key
@@ -19,6 +19,10 @@ use Rattle.report_rows.specs.Inside.Ranked.{Ranked, by_key, by_rank, under_value
 -- the other way round
 turned : (a b : Datum) → value_order b a ≡ ordering_reverse (value_order a b)
 turned a b = let o = value_total in o.antisymm b a
+
+-- values that are not NULL: they ascend, and under DESC it is the other way round
+abbrev directed_order : Bool → Datum → Datum → Ordering
+directed_order descending a b = if descending then ordering_reverse (value_order a b) else value_order a b
 
 directed-total : (descending : Bool) → IsTotalOrder (directed_order descending)
 directed-total true = subst (λ (order : Datum → Datum → Ordering). IsTotalOrder order) (λ i a b. turned a b i) (back_total value_total)

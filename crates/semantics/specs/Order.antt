@@ -29,17 +29,14 @@ key_value fields t row k = row_value fields t row (key_expression t.items k.expr
 abbrev pub null_order : Bool → Ordering
 null_order nulls_first = if nulls_first then Less else Greater
 
--- How two values that are not NULL stand to each other: they ascend, and under DESC it is the other
--- way round.
-abbrev pub directed_order : Bool → Datum → Datum → Ordering
-directed_order descending a b = if descending then ordering_reverse (value_order a b) else value_order a b
-
--- How two values stand to each other under a key.
+-- How two values stand to each other under a key. Those that are not NULL ascend, and under DESC it
+-- is the other way round.
 abbrev pub under_key : KeyForm → Datum → Datum → Ordering
 under_key k a b =
     if is_null a then (if is_null b then Equal else null_order k.nulls_first)
     else if is_null b then ordering_reverse (null_order k.nulls_first)
-    else directed_order k.descending a b
+    else if k.descending then ordering_reverse (value_order a b)
+    else value_order a b
 
 -- How two rows stand to each other under keys: as under the first that tells them apart.
 abbrev pub under_keys : List Field → TreeForm → List KeyForm → Found → Found → Ordering

@@ -36,15 +36,11 @@ abbrev pub is_int64 : ℤ → Bool
 is_int64 (pos n) = nat_lt n (2 ^ 63)
 is_int64 (negsuc n) = nat_lt n (2 ^ 63)
 
--- What a column of whole numbers takes of a whole number: one of 64 bits.
-abbrev pub int64_taken : ℤ → Option Datum
-int64_taken z = if is_int64 z then Some (whole z) else None
-
 -- What a column of this type takes of a JSON value: of null NULL, and else a whole number of 64
 -- bits, a string or a truth value, by its type.
 abbrev pub datum_taken : Kind → Data → Option Datum
 datum_taken k json.null = Some null
-datum_taken kind.Int (json.number n) = option_and_then int64_taken (as_integer n)
+datum_taken kind.Int (json.number n) = option_and_then (λ z. if is_int64 z then Some (whole z) else None) (as_integer n)
 datum_taken kind.Text (json.string s) = Some (text s)
 datum_taken kind.Bool (json.boolean b) = Some (boolean b)
 datum_taken k d = None

@@ -1,12 +1,15 @@
 -- What a run writes, and what it leaves where it fails.
 use Rattle.std.specs.Io.KnownBytes.{Appends, Keeps}
-use Rattle.std.specs.Prelude.{◌≡◌, ◌++◌, ℕ, List, Option, ◌<◌, ◌≤◌, ◌↔◌, ⊤, Some, None, Result, IfErr, IfSome, IsOk, length}
+use Rattle.std.specs.List.{flat_map}
+use Rattle.std.specs.Prelude.{◌≡◌, ◌++◌, ℕ, List, Option, ◌<◌, ◌≤◌, ◌↔◌, ⊤, Some, Result, IfErr, IfOk, IfSome, IsOk, OnOk, length}
 use Rattle.semantics.specs.Columns.{Field}
 use Rattle.semantics.specs.Found.{query_found}
+use Rattle.semantics.specs.Lines.{lines}
 use Rattle.semantics.specs.Order.{rows_shown}
 use Rattle.semantics.specs.Records.{valid_records, refused}
 use Rattle.semantics.specs.Syntax.{TreeForm}
-use Rattle.semantics.specs.Texts.{refused_bytes, report_bytes}
+use Rattle.semantics.specs.Texts.{refused_line, report_bytes}
+use Rattle.semantics.specs.declared.run_done.Done.{Done}
 use Rattle.semantics.specs.declared.run_fault.RunFault.{RunFault}
 use Rattle.semantics.specs.declared.run_fault.RunFault.TheVariants.{Reading, OutOfMemory, ThreadNotStarted, TooManyRefused, WritingReport, WritingRefused}
 
@@ -20,22 +23,16 @@ report fields q input = report_bytes q.items (rows_shown fields q (query_found f
 
 -- The list of the refused lines of an input.
 abbrev pub refusals : List Field → List ℕ → List ℕ
-refusals fields input = refused_bytes fields (refused fields input)
+refusals fields input = flat_map (refused_line fields) (refused fields input)
 
 -- Not more than the limit, where there is one.
 abbrev pub IsWithin : Option ℕ → ℕ → Type 0
-IsWithin None count = ⊤
-IsWithin (Some limit) count = count ≤ limit
+IsWithin limit count = IfSome limit (λ most. count ≤ most)
 
 -- A fault by which something was refused to the run: a read, memory, a thread or a write.
 abbrev pub IsResourceFault : RunFault → Type 0
 IsResourceFault (TooManyRefused most) = ⊥
 IsResourceFault fault = ⊤
-
--- Where nothing was refused to the run, it is done exactly where not more lines are refused than
--- the limit, and else it answers that too many are.
-abbrev pub IsDecided : {X : Type 0} → Result X RunFault → Option ℕ → ℕ → Type 0
-IsDecided result limit count = IfErr result (λ fault. IsResourceFault fault → ⊥) → (IsOk result ↔ IsWithin limit count)
 
 -- What a fault says, and what it leaves of the two outputs. Nothing was written where a read
 -- failed, memory or a thread was refused, or more lines are refused than the limit. Where a write
@@ -57,3 +54,16 @@ Leaves WritingRefused limit fields q input out_old out_new err_old err_new =
     IfSome input (λ bytes. IsWithin limit (length (refused fields bytes))
     × Appends out_old out_new (report fields q bytes)
     × AppendsBeginning err_old err_new (refusals fields bytes))
+
+-- What a run answers and writes. It is done: the report and the list of the refused lines were
+-- written, the counts of lines and of refused lines are answered, and these are within the limit.
+-- Or it answers a fault, which leaves of the outputs what it says. Where nothing was refused to the
+-- run, it is done exactly where not more lines are refused than the limit.
+pub record IsRun (result : Result Done RunFault) (limit : Option ℕ) (fields : List Field) (q : TreeForm) (input out_old out_new err_old err_new : Option (List ℕ)) : Type 0 where
+  pub writes_report : OnOk result (IfSome input (λ bytes. Appends out_old out_new (report fields q bytes)))
+  pub writes_refusals : OnOk result (IfSome input (λ bytes. Appends err_old err_new (refusals fields bytes)))
+  pub counts_lines : IfOk result (λ done. IfSome input (λ bytes. done.lines ≡ length (lines bytes)))
+  pub counts_refused : IfOk result (λ done. IfSome input (λ bytes. done.refused ≡ length (refused fields bytes)))
+  pub is_within : IfOk result (λ done. IsWithin limit done.refused)
+  pub is_decided : IfErr result (λ fault. IsResourceFault fault → ⊥) → IfSome input (λ bytes. IsOk result ↔ IsWithin limit (length (refused fields bytes)))
+  pub leaves : IfErr result (λ fault. Leaves fault limit fields q input out_old out_new err_old err_new)

@@ -48,7 +48,3 @@ fault_text fields (BadValue place) = codes "bad value in column " ++ name_at fie
 -- A refused line: its number, and what is wrong with it.
 abbrev pub refused_line : List Field → ℕ × LineFault → List ℕ
 refused_line fields refused = codes "line " ++ decimal refused.0 ++ codes ": " ++ fault_text fields refused.1 ++ codes "\n"
-
--- The bytes of the list of refused lines.
-abbrev pub refused_bytes : List Field → List (ℕ × LineFault) → List ℕ
-refused_bytes fields refused = flat_map (refused_line fields) refused

@@ -8,7 +8,8 @@ use Rattle.serde_json.specs.Find.{as_integer}
 use Rattle.serde_json.specs.Read.{number_of}
 use Rattle.semantics.specs.declared.kind.Kind.TheVariants as kind
 use Rattle.semantics.specs.Values.{whole, text}
-use Rattle.semantics.specs.Records.{datum_taken, int64_taken, is_int64}
+use Rattle.semantics.specs.Records.{datum_taken, is_int64}
+use Rattle.lines.proofs.Fitting.{int64_taken}
 use Rattle.lines.proofs.Meaning.{first-boolean, first-null, first-number, first-string}
 use Rattle.lines.proofs.Placing.{null_taken}
 use Rattle.lines.proofs.tokens.taking.take_value.Goals as goal
