@@ -7,7 +7,7 @@ use Rattle.semantics.specs.Values.{Datum}
 use Rattle.semantics.specs.Columns.{Field}
 use Rattle.semantics.specs.declared.line_fault.LineFault.{LineFault}
 use Rattle.semantics.specs.declared.line_fault.LineFault.TheVariants.{TooLong, NoJson, NoObject, BadValue}
-use Rattle.semantics.specs.Records.{refused, decode_line}
+use Rattle.semantics.specs.Records.{refused_lines, decode_line}
 use Rattle.semantics.specs.Lines.{lines}
 use Rattle.lines.proofs.Outcomes.{decoded-bad_value}
 use Rattle.report.specs.Report.{NamesColumn}
@@ -33,5 +33,5 @@ named-from fields n (line ∷ ls) = go (decode_line fields line) refl (named-fro
     go (Err fault) is rest = (decoded-named fields line fault is, rest)
 
 -- the refused lines of an input name columns of the schema
-pub refused-named : (fields : List Field) (input : List ℕ) → All (λ line. NamesColumn fields line.1) (refused fields input)
-refused-named fields input = All-from_recursion (λ line. NamesColumn fields line.1) (refused fields input) (named-from fields 1 (lines input))
+pub refused-named : (fields : List Field) (input : List ℕ) → All (λ line. NamesColumn fields line.1) (refused_lines fields input)
+refused-named fields input = All-from_recursion (λ line. NamesColumn fields line.1) (refused_lines fields input) (named-from fields 1 (lines input))

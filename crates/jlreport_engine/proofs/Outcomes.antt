@@ -7,7 +7,7 @@ use Rattle.semantics.specs.declared.run_fault.RunFault.{RunFault}
 use Rattle.semantics.specs.declared.run_fault.RunFault.TheVariants.{Reading, OutOfMemory, ThreadNotStarted, TooManyRefused, WritingReport, WritingRefused}
 use Rattle.semantics.specs.Groups.{Row}
 use Rattle.semantics.specs.declared.line_fault.LineFault.{LineFault}
-use Rattle.semantics.specs.Records.{refused}
+use Rattle.semantics.specs.Records.{refused_lines}
 use Rattle.semantics.specs.Lines.{lines}
 use Rattle.lines.specs.Clip.{clip_lines}
 use Rattle.lines.proofs.Clips.{count-clip, valid-clip, refused-clip}
@@ -63,18 +63,18 @@ lines-known (Ok done) fields q known partial w h =
     of-known (λ input. done.lines ≡ length (lines input)) w.bytes known (λ input same. same ∙ count-clip input) w.clipped (h ∙ lines-of-input fields q partial w.bytes w.stands)
 
 -- so many lines are refused of what the reader gives
-refused-whole : (fields : List Field) (q : TreeForm) (known : Option (List ℕ)) (partial : PartialState) → IsWhole fields q known partial → IfSome known (λ input. partial.refused ≡ length (refused fields input))
+refused-whole : (fields : List Field) (q : TreeForm) (known : Option (List ℕ)) (partial : PartialState) → IsWhole fields q known partial → IfSome known (λ input. partial.refused ≡ length (refused_lines fields input))
 refused-whole fields q known partial w =
-    of-known (λ input. partial.refused ≡ length (refused fields input)) w.bytes known (λ input same. same ∙ ap length (refused-clip fields input)) w.clipped (refused-of-input fields q partial w.bytes w.stands)
+    of-known (λ input. partial.refused ≡ length (refused_lines fields input)) w.bytes known (λ input same. same ∙ ap length (refused-clip fields input)) w.clipped (refused-of-input fields q partial w.bytes w.stands)
 
 refused-count : (known : Option (List ℕ)) (count : List ℕ → ℕ) (m n : ℕ) → m ≡ n → IfSome known (λ input. n ≡ count input) → IfSome known (λ input. m ≡ count input)
 refused-count None count m n e h = tt
 refused-count (Some input) count m n e h = e ∙ h
 
 pub refused-known : (r : Result Done RunFault) (fields : List Field) (q : TreeForm) (known : Option (List ℕ)) (partial : PartialState) → IsWhole fields q known partial
-    → IfOk r (λ done. done.refused ≡ partial.refused) → IfOk r (λ done. IfSome known (λ input. done.refused ≡ length (refused fields input)))
+    → IfOk r (λ done. done.refused ≡ partial.refused) → IfOk r (λ done. IfSome known (λ input. done.refused ≡ length (refused_lines fields input)))
 refused-known (Err e) fields q known partial w h = tt
-refused-known (Ok done) fields q known partial w h = refused-count known (λ input. length (refused fields input)) done.refused partial.refused h (refused-whole fields q known partial w)
+refused-known (Ok done) fields q known partial w h = refused-count known (λ input. length (refused_lines fields input)) done.refused partial.refused h (refused-whole fields q known partial w)
 
 -- ---- the limit
 
@@ -92,12 +92,12 @@ stopped : (limit : Option ℕ) (count : ℕ) (most : ℕ) → limit ≡ Some mos
 stopped limit count most e l = λ _. (λ no. let wrong = no in absurd cc, λ few. let at_most = subst (λ (x : Option ℕ). IsWithin x count) e few in absurd (omega (arith, l, at_most)))
 
 pub decided-stopped : (limit : Option ℕ) (fields : List Field) (known : Option (List ℕ)) (fault : GatherFault) → Stops fault limit fields known
-    → IfSome known (λ input. IsDecided {X = Done} (Err (fault_of_gathering fault)) limit (length (refused fields input)))
+    → IfSome known (λ input. IsDecided {X = Done} (Err (fault_of_gathering fault)) limit (length (refused_lines fields input)))
 decided-stopped limit fields None fault h = tt
 decided-stopped limit fields (Some input) gathering.Reading h = λ free. absurd (free tt)
 decided-stopped limit fields (Some input) gathering.OutOfMemory h = λ free. absurd (free tt)
 decided-stopped limit fields (Some input) gathering.ThreadNotStarted h = λ free. absurd (free tt)
-decided-stopped limit fields (Some input) (gathering.TooManyRefused most) h = stopped limit (length (refused fields input)) most h.0 h.1
+decided-stopped limit fields (Some input) (gathering.TooManyRefused most) h = stopped limit (length (refused_lines fields input)) most h.0 h.1
 
 is_resource_fault : (fields : List Field) (q : TreeForm) (input : List ℕ) (oo on eo en : Option (List ℕ)) (fault : RunFault) → LeavesOfInput fault fields q input oo on eo en → IsResourceFault fault
 is_resource_fault fields q input oo on eo en Reading h = absurd h
@@ -121,9 +121,9 @@ err-is_resource_fault (Err fault) fields q bytes partial oo on eo en s h = is_re
 pub decided-known : (r : Result Done RunFault) (limit : Option ℕ) (fields : List Field) (q : TreeForm) (known : Option (List ℕ)) (partial : PartialState) (oo on eo en : Option (List ℕ)) → IsWhole fields q known partial
     → partial.refused ≤ limit_number limit
     → IfErr r (λ fault. (input : List ℕ) → StandsForInput fields q partial input → LeavesOfInput fault fields q input oo on eo en)
-    → IfSome known (λ input. IsDecided r limit (length (refused fields input)))
+    → IfSome known (λ input. IsDecided r limit (length (refused_lines fields input)))
 decided-known r limit fields q known partial oo on eo en w few h =
-    decided-count r limit known (λ input. length (refused fields input)) partial.refused few (err-is_resource_fault r fields q w.bytes partial oo on eo en w.stands h) (refused-whole fields q known partial w)
+    decided-count r limit known (λ input. length (refused_lines fields input)) partial.refused few (err-is_resource_fault r fields q w.bytes partial oo on eo en w.stands h) (refused-whole fields q known partial w)
 
 -- ---- what a fault leaves
 
@@ -136,24 +136,24 @@ leaves-stopped limit fields q known out err (gathering.TooManyRefused most) h a 
 
 -- what is within the limit of a clipped input is so of the input
 within-clipped : (limit : Option ℕ) (fields : List Field) (input : List ℕ)
-    → IsWithin limit (length (refused fields (clip_lines input))) → IsWithin limit (length (refused fields input))
+    → IsWithin limit (length (refused_lines fields (clip_lines input))) → IsWithin limit (length (refused_lines fields input))
 within-clipped limit fields input few = subst (λ (found : List (ℕ × LineFault)). IsWithin limit (length found)) (refused-clip fields input) few
 
 fault-leaves : (limit : Option ℕ) (fields : List Field) (q : TreeForm) (bytes : List ℕ) (known oo on eo en : Option (List ℕ)) (fault : RunFault) → IfSome known (λ input. bytes ≡ clip_lines input)
-    → IsWithin limit (length (refused fields bytes))
+    → IsWithin limit (length (refused_lines fields bytes))
     → LeavesOfInput fault fields q bytes oo on eo en → Leaves fault limit fields q known oo on eo en
 fault-leaves limit fields q bytes known oo on eo en Reading same few h = absurd h
 fault-leaves limit fields q bytes known oo on eo en OutOfMemory same few h = h
 fault-leaves limit fields q bytes known oo on eo en ThreadNotStarted same few h = absurd h
 fault-leaves limit fields q bytes known oo on eo en (TooManyRefused most) same few h = absurd h
 fault-leaves limit fields q bytes known oo on eo en WritingReport same few h = (
-  of-known (λ input. IsWithin limit (length (refused fields input)) × AppendsBeginning oo on (report fields q input)) bytes known
+  of-known (λ input. IsWithin limit (length (refused_lines fields input)) × AppendsBeginning oo on (report fields q input)) bytes known
       (λ input both. (within-clipped limit fields input both.0, subst (λ (text : List ℕ). AppendsBeginning oo on text) (report-clipped fields q input) both.1))
       same (few, h.0),
   h.1,
 )
 fault-leaves limit fields q bytes known oo on eo en WritingRefused same few h =
-    of-known (λ input. IsWithin limit (length (refused fields input)) × Appends oo on (report fields q input) × AppendsBeginning eo en (refusals fields input)) bytes known
+    of-known (λ input. IsWithin limit (length (refused_lines fields input)) × Appends oo on (report fields q input) × AppendsBeginning eo en (refusals fields input)) bytes known
     (λ input all. (within-clipped limit fields input all.0, subst (λ (text : List ℕ). Appends oo on text) (report-clipped fields q input) all.1, subst (λ (text : List ℕ). AppendsBeginning eo en text) (refusals-clipped fields input) all.2))
     same (few, h.0, h.1)
 
@@ -164,7 +164,7 @@ pub leaves-known : (r : Result Done RunFault) (limit : Option ℕ) (fields : Lis
 leaves-known (Ok done) limit fields q known partial oo on eo en w few h = tt
 leaves-known (Err fault) limit fields q known partial oo on eo en w few h =
     fault-leaves limit fields q w.bytes known oo on eo en fault w.clipped
-    (within limit partial.refused (length (refused fields w.bytes)) few (sym (refused-of-input fields q partial w.bytes w.stands)))
+    (within limit partial.refused (length (refused_lines fields w.bytes)) few (sym (refused-of-input fields q partial w.bytes w.stands)))
     (h w.bytes w.stands)
 
 -- where no thread is wanted for the result, none is wanted for the run

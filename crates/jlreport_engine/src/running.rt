@@ -2,7 +2,7 @@
 ghost use Rattle.std.specs.Prelude.{◌≡◌, ◌≢◌, ℕ, List, IfErr, IfOk, IfSome, OnOk, length};
 ghost use Rattle.std.specs.Io.KnownBytes.{Appends};
 ghost use Rattle.semantics.specs.Columns.{Field};
-ghost use Rattle.semantics.specs.Records.{refused};
+ghost use Rattle.semantics.specs.Records.{refused_lines};
 ghost use Rattle.semantics.specs.Lines.{lines};
 ghost use Rattle.semantics.specs.Syntax.{TreeForm};
 ghost use Rattle.tables.specs.Partials.{StandsForInput};
@@ -85,11 +85,11 @@ pub fn run<R: Read + Drop + Send, O: Write, E: Write, H: Threads + Wait + Sync>(
     ensures lines { IfOk result (λ done. IfSome (R.remaining reader) (λ input.
         done.lines ≡ length (lines input))) }
     ensures refused { IfOk result (λ done. IfSome (R.remaining reader) (λ input.
-        done.refused ≡ length (refused plan.now.fields input))) }
+        done.refused ≡ length (refused_lines plan.now.fields input))) }
     ensures limit { IfOk result (λ done. IsWithin options.max_refused done.refused) }
     // Where nothing is refused to it, the limit alone decides.
     ensures decided { IfSome (R.remaining reader) (λ input.
-        IsDecided result options.max_refused (length (refused plan.now.fields input))) }
+        IsDecided result options.max_refused (length (refused_lines plan.now.fields input))) }
     ensures fault { IfErr result (λ fault. Leaves fault options.max_refused
         plan.now.fields plan.now.query (R.remaining reader)
         (O.contents out.old) (O.contents out.new) (E.contents err.old) (E.contents err.new)) }
@@ -132,11 +132,11 @@ pub fn run_alone<R: Read + Drop, O: Write, E: Write>(
     ensures lines { IfOk result (λ done. IfSome (R.remaining reader) (λ input.
         done.lines ≡ length (lines input))) }
     ensures refused { IfOk result (λ done. IfSome (R.remaining reader) (λ input.
-        done.refused ≡ length (refused plan.now.fields input))) }
+        done.refused ≡ length (refused_lines plan.now.fields input))) }
     ensures limit { IfOk result (λ done. IsWithin options.max_refused done.refused) }
     // Where nothing is refused to it, the limit alone decides.
     ensures decided { IfSome (R.remaining reader) (λ input.
-        IsDecided result options.max_refused (length (refused plan.now.fields input))) }
+        IsDecided result options.max_refused (length (refused_lines plan.now.fields input))) }
     ensures fault { IfErr result (λ fault. Leaves fault options.max_refused
         plan.now.fields plan.now.query (R.remaining reader)
         (O.contents out.old) (O.contents out.new) (E.contents err.old) (E.contents err.new)) }

@@ -7,7 +7,7 @@ use Rattle.std.proofs.lemmas.List.{length-map}
 use Rattle.semantics.specs.Columns.{Field}
 use Rattle.lines.specs.declared.fault.ReadFault.{ReadFault}
 use Rattle.semantics.specs.declared.line_fault.LineFault.{LineFault}
-use Rattle.semantics.specs.Records.{refused}
+use Rattle.semantics.specs.Records.{refused_lines}
 use Rattle.semantics.specs.Lines.{line_feed, lines}
 use Rattle.lines.specs.Pieces.{AreWholeLines, EndsInFeed}
 use Rattle.lines.specs.Rounds.{HasMoved, RoundsState}
@@ -33,12 +33,12 @@ feed-behind bytes more e = record { front = bytes ++ e.front; is = ap (λ xs. by
 
 -- of whole lines at the front of an input and the rest, as many are refused as of each
 pub refused-both : (fields : List Field) (front rest : List ℕ) → AreWholeLines front
-    → length (refused fields (front ++ rest)) ≡ length (refused fields front) + length (refused fields rest)
+    → length (refused_lines fields (front ++ rest)) ≡ length (refused_lines fields front) + length (refused_lines fields rest)
 refused-both fields front rest whole =
     let shift : ℕ × LineFault → ℕ × LineFault = λ line. (length (lines front) + line.0, line.1) in
     ap length (refused-whole_lines fields front rest whole)
-    ∙ length-append (refused fields front) (map shift (refused fields rest))
-    ∙ ap (λ n. length (refused fields front) + n) (length-map (refused fields rest) shift)
+    ∙ length-append (refused_lines fields front) (map shift (refused_lines fields rest))
+    ∙ ap (λ n. length (refused_lines fields front) + n) (length-map (refused_lines fields rest) shift)
 
 -- ---- what was read so far, where it is known what the reader gives
 
@@ -50,15 +50,15 @@ at-end (Some input) (Some rest) bytes h end = sym (h ∙ ap (λ xs. bytes ++ xs)
 
 -- not more of its lines are refused than of the whole input
 refused-so_far : (fields : List Field) (known left : Option (List ℕ)) (bytes : List ℕ) → Consumes (option_map clip_lines known) left bytes → AreWholeLines bytes ⊎ IsAtEnd left
-    → IfSome known (λ input. length (refused fields bytes) ≤ length (refused fields input))
+    → IfSome known (λ input. length (refused_lines fields bytes) ≤ length (refused_lines fields input))
 refused-so_far fields None left bytes h ends = tt
 refused-so_far fields (Some input) None bytes h ends = absurd h
 refused-so_far fields (Some input) (Some rest) bytes h (inl whole) =
-    let all = ap (λ b. length (refused fields b)) h in
+    let all = ap (λ b. length (refused_lines fields b)) h in
     let clipped = ap length (refused-clip fields input) in
     omega (arith, all, clipped, refused-both fields bytes rest whole)
 refused-so_far fields (Some input) (Some rest) bytes h (inr end) =
-    let all = ap (λ b. length (refused fields b)) (h ∙ ap (λ xs. bytes ++ xs) end ∙ append-nil bytes) in
+    let all = ap (λ b. length (refused_lines fields b)) (h ∙ ap (λ xs. bytes ++ xs) end ∙ append-nil bytes) in
     let clipped = ap length (refused-clip fields input) in
     omega (arith, all, clipped)
 
@@ -95,7 +95,7 @@ module _ {R : Type 0} (fields : List Field) (q : TreeForm) (known : Option (List
   all-rounds behind = behind.behind s.bytes s.stands (whole-before s.bytes old new found moved is s.ends)
 
   -- as many lines are refused as before and in the round
-  pub refused-behind : StandsBehind fields q partial new.round sum → sum.refused ≡ partial.refused + length (refused fields new.round)
+  pub refused-behind : StandsBehind fields q partial new.round sum → sum.refused ≡ partial.refused + length (refused_lines fields new.round)
   refused-behind behind =
       omega (
         arith,
@@ -180,7 +180,7 @@ above (Some input) count most so_far l few = omega (arith, l, few)
 
 stops-there : {R : Type 0} (fields : List Field) (q : TreeForm) (known : Option (List ℕ)) (limit : ℕ) (most : Option ℕ) (old new : RoundsState R) (found : Result Bool ReadFault) (partial : PartialState) (fault : GatherFault)
     → StandsForRounds fields q known limit old partial → HasMoved old found new → found ≡ Ok true
-    → IsWant fault ⊎ Refuses fault most (partial.refused + length (refused fields new.round)) → Stops fault most fields known
+    → IsWant fault ⊎ Refuses fault most (partial.refused + length (refused_lines fields new.round)) → Stops fault most fields known
 stops-there fields q known limit most old new found partial fault s moved is (inl (inl e)) = subst (λ (f : GatherFault). Stops f most fields known) (sym e) tt
 stops-there fields q known limit most old new found partial fault s moved is (inl (inr e)) = subst (λ (f : GatherFault). Stops f most fields known) (sym e) tt
 stops-there fields q known limit most old new found partial Reading s moved is (inr h) = absurd h
@@ -189,15 +189,15 @@ stops-there fields q known limit most old new found partial ThreadNotStarted s m
 stops-there fields q known limit most old new found partial (TooManyRefused n) s moved is (inr h) =
     let given = moved.round is in
     let whole = whole-before s.bytes old new found moved is s.ends in
-    let so_far = length (refused fields (s.bytes ++ new.round)) in
+    let so_far = length (refused_lines fields (s.bytes ++ new.round)) in
     let left = Consumes-trans (option_map clip_lines known) old.left new.left s.bytes new.round s.left given.left in
     let more : n < so_far = omega (arith, h.1, refused-of-input fields q partial s.bytes s.stands, refused-both fields s.bytes new.round whole) in
-    (h.0, above known (λ input. length (refused fields input)) n so_far more (refused-so_far fields known new.left (s.bytes ++ new.round) left (end-after s.bytes new given.last given.feed)))
+    (h.0, above known (λ input. length (refused_lines fields input)) n so_far more (refused-so_far fields known new.left (s.bytes ++ new.round) left (end-after s.bytes new given.last given.feed)))
 
 pub round-stops : {R : Type 0} (fields : List Field) (q : TreeForm) (known : Option (List ℕ)) (limit : ℕ) (most : Option ℕ) (old new : RoundsState R) (found : Result Bool ReadFault) (partial : PartialState)
     (before : ℕ) (round : List ℕ) (fault : GatherFault) → StandsForRounds fields q known limit old partial → HasMoved old found new → found ≡ Ok true → before ≡ partial.refused → round ≡ new.round
-    → IsWant fault ⊎ Refuses fault most (before + length (refused fields round)) → Stops fault most fields known
+    → IsWant fault ⊎ Refuses fault most (before + length (refused_lines fields round)) → Stops fault most fields known
 round-stops fields q known limit most old new found partial before round fault s moved is e f h =
-    let there = subst (λ (bytes : List ℕ). IsWant fault ⊎ Refuses fault most (before + length (refused fields bytes))) f h in
+    let there = subst (λ (bytes : List ℕ). IsWant fault ⊎ Refuses fault most (before + length (refused_lines fields bytes))) f h in
     stops-there fields q known limit most old new found partial fault s moved is
-    (subst (λ (n : ℕ). IsWant fault ⊎ Refuses fault most (n + length (refused fields new.round))) e there)
+    (subst (λ (n : ℕ). IsWant fault ⊎ Refuses fault most (n + length (refused_lines fields new.round))) e there)

@@ -4,7 +4,7 @@ use Rattle.std.specs.List.{All}
 use Rattle.semantics.specs.Columns.{Field}
 use Rattle.lines.specs.declared.pieces.Piece.{Piece}
 use Rattle.semantics.specs.Lines.{lines}
-use Rattle.semantics.specs.Records.{refused}
+use Rattle.semantics.specs.Records.{refused_lines}
 use Rattle.pool.specs.declared.laws.Outcome.{Outcome}
 use Rattle.pool.specs.declared.laws.Outcome.TheVariants.{Whole, Over}
 use Rattle.pool.specs.Outcomes.{Decides}
@@ -119,7 +119,7 @@ few-loads plan p input b pieces ps n more e f g h loads same short =
 
 pub weights-counted : (plan p : PlannedQuery) (input b : List ℕ) (pieces ps : List Piece) (n : ℕ)
     → p ≡ plan → b ≡ input → ps ≡ pieces → n ≡ length pieces → Weighs → all_lines (indexed input pieces) ≡ lines input
-    → weights_of p b ps n ≡ length (refused plan.fields input)
+    → weights_of p b ps n ≡ length (refused_lines plan.fields input)
 weights-counted plan p input b pieces ps n e f g h weighs same =
     ap (λ (x : PlannedQuery). weights_of x b ps n) e ∙ ap (λ (x : List ℕ). weights_of plan x ps n) f ∙ ap (λ (x : List Piece). weights_of plan input x n) g
     ∙ ap (λ (x : ℕ). weights_of plan input pieces x) h ∙ weighs plan.fields plan.query input pieces

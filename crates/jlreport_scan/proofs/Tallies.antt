@@ -9,7 +9,7 @@ use Rattle.semantics.specs.Values.{Datum}
 use Rattle.semantics.specs.Columns.{Field}
 use Rattle.semantics.specs.declared.line_fault.LineFault.{LineFault}
 use Rattle.semantics.specs.Lines.{line_feed, lines, without_empty_last}
-use Rattle.semantics.specs.Records.{decode_line, answers, refused}
+use Rattle.semantics.specs.Records.{decode_line, answers, refused_lines}
 use Rattle.semantics.specs.Syntax.{TreeForm}
 use Rattle.tables.specs.Partials.{StandsForInput}
 use Rattle.tables.specs.Pieces.{IndexedPiece, all_lines, refused_within}
@@ -54,7 +54,7 @@ numbered n [] = refl
 numbered n (Ok r ∷ rs) = numbered (n + 1) rs
 numbered n (Err fault ∷ rs) = ap suc (numbered (n + 1) rs)
 
-length-refused : (fields : List Field) (input : List ℕ) → length (refused fields input) ≡ length (faults_of fields (lines input))
+length-refused : (fields : List Field) (input : List ℕ) → length (refused_lines fields input) ≡ length (faults_of fields (lines input))
 length-refused fields input = numbered 1 (answers fields input)
 
 faults-append : (fields : List Field) (xs ys : List (List ℕ)) → faults_of fields (xs ++ ys) ≡ faults_of fields xs ++ faults_of fields ys
@@ -67,7 +67,7 @@ length-within fields (piece ∷ pieces) =
     omega (
       arith,
       both,
-      length-append (refused fields piece.bytes) (refused_within fields pieces),
+      length-append (refused_lines fields piece.bytes) (refused_within fields pieces),
       length-append (faults_of fields (lines piece.bytes)) (faults_of fields (all_lines pieces)),
       length-refused fields piece.bytes,
       length-within fields pieces,
@@ -75,7 +75,7 @@ length-within fields (piece ∷ pieces) =
 
 -- the pieces that have the lines of an input have as many refused lines
 pub refused-counted : (fields : List Field) (pieces : List IndexedPiece) (input : List ℕ) → all_lines pieces ≡ lines input
-    → length (refused_within fields pieces) ≡ length (refused fields input)
+    → length (refused_within fields pieces) ≡ length (refused_lines fields input)
 refused-counted fields pieces input same =
     length-within fields pieces ∙ ap (λ ls. length (faults_of fields ls)) same ∙ sym (length-refused fields input)
 
@@ -85,7 +85,7 @@ few-faults (Ok r ∷ rs) = omega (arith, few-faults rs)
 few-faults (Err fault ∷ rs) = omega (arith, few-faults rs)
 
 -- an input has at most as many refused lines as bytes
-pub few-refused : (fields : List Field) (input : List ℕ) → length (refused fields input) ≤ length input
+pub few-refused : (fields : List Field) (input : List ℕ) → length (refused_lines fields input) ≤ length input
 few-refused fields input =
     omega (arith, length-refused fields input, few-faults (map (decode_line fields) (lines input)), length-map (lines input) (decode_line fields), length-lines input)
 
@@ -94,5 +94,5 @@ few-refused fields input =
 pub lines-of-input : (fields : List Field) (q : TreeForm) (partial : PartialState) (input : List ℕ) → StandsForInput fields q partial input → partial.lines ≡ length (lines input)
 lines-of-input fields q partial input s = s.stands.lines ∙ ap length (cut-lines s.pieces s.cut.feeds ∙ ap lines s.cut.joined)
 
-pub refused-of-input : (fields : List Field) (q : TreeForm) (partial : PartialState) (input : List ℕ) → StandsForInput fields q partial input → partial.refused ≡ length (refused fields input)
+pub refused-of-input : (fields : List Field) (q : TreeForm) (partial : PartialState) (input : List ℕ) → StandsForInput fields q partial input → partial.refused ≡ length (refused_lines fields input)
 refused-of-input fields q partial input s = s.stands.refused ∙ refused-counted fields s.pieces input (cut-lines s.pieces s.cut.feeds ∙ ap lines s.cut.joined)

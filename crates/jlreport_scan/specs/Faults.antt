@@ -1,7 +1,7 @@
 -- How the gathering of a result ends without one.
 use Rattle.std.specs.Prelude.{◌≡◌, ◌⊎◌, ◌<◌, ⊤, ℕ, List, Option, Some, IfSome, length}
 use Rattle.semantics.specs.Columns.{Field}
-use Rattle.semantics.specs.Records.{refused}
+use Rattle.semantics.specs.Records.{refused_lines}
 use Rattle.pool.specs.declared.laws.PoolFault.{PoolFault}
 use Rattle.pool.specs.declared.laws.PoolFault.TheVariants as pool
 use Rattle.jlreport_scan.specs.declared.fault.GatherFault.{GatherFault}
@@ -13,7 +13,7 @@ abbrev pub Stops : GatherFault → Option ℕ → List Field → Option (List �
 Stops Reading limit fields input = ⊤
 Stops OutOfMemory limit fields input = ⊤
 Stops ThreadNotStarted limit fields input = ⊤
-Stops (TooManyRefused most) limit fields input = (limit ≡ Some most) × IfSome input (λ bytes. most < length (refused fields bytes))
+Stops (TooManyRefused most) limit fields input = (limit ≡ Some most) × IfSome input (λ bytes. most < length (refused_lines fields bytes))
 
 -- ---- in the code
 

@@ -1,7 +1,7 @@
 //! The result of a query over an input that is read in rounds.
 ghost use Rattle.std.specs.Prelude.{◌≡◌, ◌≢◌, ◌+◌, ◌<◌, ◌≤◌, ◌^◌, ◌⊎◌, true, ℕ, All, IfErr, IfOk, List, Option, length, vec_len};
 ghost use Rattle.lines.specs.Rounds.{HasMoved};
-ghost use Rattle.semantics.specs.Records.{refused};
+ghost use Rattle.semantics.specs.Records.{refused_lines};
 ghost use Rattle.lines.specs.Pieces.{AreWholeLines};
 ghost use Rattle.tables.specs.Partials.{StandsForInput};
 ghost use Rattle.jlreport_scan.specs.Gathered.{IsWhole, limit_number};
@@ -270,7 +270,7 @@ fn round_beside<L: Ledger + Send + Sync, R: Read + Drop + Send, H: Threads + Wai
         All (λ share. share.sum ≤ r.whole.refused) r.shares.items) }
     ensures fault { IfErr result.worked (λ fault. IsWant fault
         ⊎ Refuses fault options.max_refused
-        (before.refused + length (refused plan.now.fields round.now.bytes))) }
+        (before.refused + length (refused_lines plan.now.fields round.now.bytes))) }
 {
     let done = AtomicBool::new(false);
     let demand = &done;

@@ -1,6 +1,6 @@
 //! The result of a query over one round of an input behind the rounds before it, by its pieces.
 ghost use Rattle.std.specs.Prelude.{◌≡◌, ◌+◌, ◌<◌, ◌≤◌, ◌^◌, ◌⊎◌, ℕ, All, IfErr, IfOk, List, OnOk, length, vec_len};
-ghost use Rattle.semantics.specs.Records.{refused};
+ghost use Rattle.semantics.specs.Records.{refused_lines};
 ghost use Rattle.lines.specs.Pieces.{AreWholeLines};
 ghost use Rattle.pool.specs.declared.laws.Outcome.TheVariants as Outcome;
 ghost use Rattle.tables.specs.Partials.{StandsForInput};
@@ -73,7 +73,7 @@ pub(crate) fn round_among<L: Ledger + Send + Sync, H: Threads + Wait + Sync>(
         All (λ share. share.sum ≤ r.whole.refused) r.shares.items) }
     ensures fault { IfErr result (λ fault. IsWant fault
         ⊎ Refuses fault options.max_refused
-        (before.refused + length (refused plan.now.fields round.now))) }
+        (before.refused + length (refused_lines plan.now.fields round.now))) }
 {
     let pieces = pieces_of(alloc, round, options.piece())?;
     let front = before.in_one_piece()?;

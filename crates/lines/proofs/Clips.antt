@@ -6,7 +6,7 @@ use Rattle.std.proofs.lemmas.Bool.Decides.{nat_tests}
 use Rattle.std.specs.List.{onto_first, enumerate_from}
 use Rattle.semantics.specs.Columns.{Field}
 use Rattle.semantics.specs.Lines.{line_feed, lines, without_empty_last}
-use Rattle.semantics.specs.Records.{answers, valid_records, refused, max_line_len, reading, record_of, decode_line}
+use Rattle.semantics.specs.Records.{answers, valid_records, refused_lines, max_line_len, reading, record_of, decode_line}
 use Rattle.semantics.specs.declared.line_fault.LineFault.TheVariants.{TooLong}
 use Rattle.std.specs.Result.{result_err, result_ok}
 use Rattle.lines.specs.Clip.{parts, clip_from, clipped_len, clip_lines}
@@ -124,5 +124,5 @@ answers-clip fields s = ap (map (decode_line fields)) (lines-clip s) ∙ all_dec
 pub valid-clip : (fields : List Field) (s : List ℕ) → valid_records fields (clip_lines s) ≡ valid_records fields s
 valid-clip fields s = ap (filter_map result_ok) (answers-clip fields s)
 
-pub refused-clip : (fields : List Field) (s : List ℕ) → refused fields (clip_lines s) ≡ refused fields s
+pub refused-clip : (fields : List Field) (s : List ℕ) → refused_lines fields (clip_lines s) ≡ refused_lines fields s
 refused-clip fields s = ap (λ found. filter_map (λ p. option_map (λ fault. (p.0, fault)) (result_err p.1)) (enumerate_from 1 found)) (answers-clip fields s)

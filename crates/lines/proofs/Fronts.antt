@@ -7,7 +7,7 @@ use Rattle.std.specs.Result.{result_err, result_ok}
 use Rattle.semantics.specs.Values.{Datum}
 use Rattle.semantics.specs.Columns.{Field}
 use Rattle.semantics.specs.declared.line_fault.LineFault.{LineFault}
-use Rattle.semantics.specs.Records.{answers, valid_records, refused, decode_line}
+use Rattle.semantics.specs.Records.{answers, valid_records, refused_lines, decode_line}
 use Rattle.semantics.specs.Lines.{line_feed, lines}
 use Rattle.lines.specs.Pieces.{AreWholeLines, EndsInFeed}
 use Rattle.lines.proofs.Splits.{lines-append}
@@ -54,12 +54,12 @@ refused_from-shift k n (Err fault ∷ xs) =
     ap (λ ls. (k + n, fault) ∷ ls) (ap (λ m. refused_from m xs) (let e : k + n + 1 ≡ k + (n + 1) = omega arith in e) ∙ refused_from-shift k (n + 1) xs)
 
 refused-front : (fields : List Field) (front rest : List ℕ) → EndsInFeed front
-    → refused fields (front ++ rest) ≡ refused fields front ++ map (shift (length (lines front))) (refused fields rest)
+    → refused_lines fields (front ++ rest) ≡ refused_lines fields front ++ map (shift (length (lines front))) (refused_lines fields rest)
 refused-front fields front rest e =
     ap (refused_from 1) (answers-front fields front rest e)
     ∙ refused_from-append 1 (answers fields front) (answers fields rest)
-    ∙ ap (λ m. refused fields front ++ refused_from m (answers fields rest)) (let n : 1 + length (answers fields front) ≡ length (lines front) + 1 = omega (arith, length-map (lines front) (decode_line fields)) in n)
-    ∙ ap (λ ls. refused fields front ++ ls) (refused_from-shift (length (lines front)) 1 (answers fields rest))
+    ∙ ap (λ m. refused_lines fields front ++ refused_from m (answers fields rest)) (let n : 1 + length (answers fields front) ≡ length (lines front) + 1 = omega (arith, length-map (lines front) (decode_line fields)) in n)
+    ∙ ap (λ ls. refused_lines fields front ++ ls) (refused_from-shift (length (lines front)) 1 (answers fields rest))
 
 -- ---- a front of no bytes, or one that ends in a line feed
 
@@ -76,9 +76,9 @@ valid-whole_lines fields front rest (inl none) = ap (λ bytes. valid_records fie
 valid-whole_lines fields front rest (inr feed) = valid-front fields front rest feed
 
 pub refused-whole_lines : (fields : List Field) (front rest : List ℕ) → AreWholeLines front
-    → refused fields (front ++ rest) ≡ refused fields front ++ map (shift (length (lines front))) (refused fields rest)
+    → refused_lines fields (front ++ rest) ≡ refused_lines fields front ++ map (shift (length (lines front))) (refused_lines fields rest)
 refused-whole_lines fields front rest (inl none) =
-    ap (λ bytes. refused fields (bytes ++ rest)) none
-    ∙ shift-none (refused fields rest)
-    ∙ ap (λ bytes. refused fields bytes ++ map (shift (length (lines bytes))) (refused fields rest)) (sym none)
+    ap (λ bytes. refused_lines fields (bytes ++ rest)) none
+    ∙ shift-none (refused_lines fields rest)
+    ∙ ap (λ bytes. refused_lines fields bytes ++ map (shift (length (lines bytes))) (refused_lines fields rest)) (sym none)
 refused-whole_lines fields front rest (inr feed) = refused-front fields front rest feed

@@ -1,7 +1,7 @@
 //! Laws of the definitions, for the layers above.
 ghost use Rattle.std.specs.Prelude.{◌≡◌, ◌+◌, ◌++◌, ℕ, List, length, map, take};
 ghost use Rattle.semantics.specs.Columns.{Field};
-ghost use Rattle.semantics.specs.Records.{valid_records, refused};
+ghost use Rattle.semantics.specs.Records.{valid_records, refused_lines};
 ghost use Rattle.semantics.specs.Lines.{lines};
 ghost use Rattle.lines.specs.Pieces.{AreWholeLines};
 ghost use Rattle.lines.specs.Clip.{parts, clip_lines, clipped_len};
@@ -17,7 +17,7 @@ pub fn clip_law()
     ensures valid { (fields : List Field) (input : List ℕ)
         → valid_records fields (clip_lines input) ≡ valid_records fields input }
     ensures refused { (fields : List Field) (input : List ℕ)
-        → refused fields (clip_lines input) ≡ refused fields input }
+        → refused_lines fields (clip_lines input) ≡ refused_lines fields input }
 {}
 
 /// A law, with no work to do: an input whose front is whole lines has the lines of its front and then those of its
@@ -30,6 +30,6 @@ pub fn front_law()
         → valid_records fields (front ++ rest)
         ≡ valid_records fields front ++ valid_records fields rest }
     ensures refused { (fields : List Field) (front rest : List ℕ) → AreWholeLines front
-        → refused fields (front ++ rest) ≡ refused fields front
-        ++ map (λ line. (length (lines front) + line.0, line.1)) (refused fields rest) }
+        → refused_lines fields (front ++ rest) ≡ refused_lines fields front
+        ++ map (λ line. (length (lines front) + line.0, line.1)) (refused_lines fields rest) }
 {}

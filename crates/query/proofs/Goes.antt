@@ -7,7 +7,7 @@ use Rattle.semantics.specs.declared.token.Token.TheVariants as tokens
 use Rattle.semantics.specs.declared.token.Word.{Word}
 use Rattle.semantics.specs.declared.token.Sign.TheVariants as s
 use Rattle.query_lexer.specs.Inside.Words.{word_text}
-use Rattle.semantics.specs.Canonical.{joined, comma_list, in_brackets}
+use Rattle.semantics.specs.Canonical.{separated_texts, comma_list, in_brackets}
 use Rattle.query.proofs.Good.{Each}
 use Rattle.query.proofs.Onto.{Onto, others_onto, list_onto, brackets_onto}
 use Rattle.query.proofs.Spelled.{Spelled, breaks, spelled_space, spelled_word, spelled_open, spelled_close, spelled_comma}
@@ -137,7 +137,7 @@ others_go between sep b (a ∷ texts) (f ∷ fs) g =
 
 -- A list of such texts.
 pub list_goes : (between : List ℕ) (sep : Token) → Separates between sep → (texts : List (List ℕ)) (fs : List Onto) → AllGo texts fs
-    → Goes (joined between texts) (list_onto sep fs)
+    → Goes (separated_texts between texts) (list_onto sep fs)
 list_goes between sep b [] [] g = nothing_goes
 list_goes between sep b [] (f ∷ fs) g = absurd g
 list_goes between sep b (a ∷ texts) [] g = absurd g

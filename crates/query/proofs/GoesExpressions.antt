@@ -6,7 +6,7 @@ use Rattle.semantics.specs.declared.token.Token.TheVariants as tokens
 use Rattle.semantics.specs.declared.token.Word.{Word}
 use Rattle.semantics.specs.declared.token.Word.TheVariants as w
 use Rattle.semantics.specs.declared.token.Sign.TheVariants as s
-use Rattle.semantics.specs.Words.{is_word, reserved, quoted, is_plain_name, name_text}
+use Rattle.semantics.specs.Words.{is_word, reserved_word, quoted_text, is_plain_name, name_text}
 use Rattle.semantics.specs.Tokens.{IsToken}
 use Rattle.query_lexer.proofs.Inversions.{and_both}
 use Rattle.semantics.specs.declared.literal.Literal.{Literal}
@@ -28,14 +28,14 @@ not_reserved (Some x) e = absurd cc
 
 plain_goes : (n : List ℕ) → is_plain_name n ≡ true → Goes n (name_onto n)
 plain_goes n e =
-    let both = and_both (is_word n) (is_none (reserved n)) e in
-    record { goes = λ rest ks q h. spelled_token (IsToken.name both.0 (not_reserved (reserved n) both.1) (no_word rest q)) h }
+    let both = and_both (is_word n) (is_none (reserved_word n)) e in
+    record { goes = λ rest ks q h. spelled_token (IsToken.name both.0 (not_reserved (reserved_word n) both.1) (no_word rest q)) h }
 
-quoted_goes : (n : List ℕ) → GoodName n → Goes (quoted 34 n) (name_onto n)
+quoted_goes : (n : List ℕ) → GoodName n → Goes (quoted_text 34 n) (name_onto n)
 quoted_goes [] g = absurd (omega arith)
 quoted_goes (b ∷ n) g = record { goes = λ rest ks q h. spelled_token (IsToken.quoted_name {first = b} {others = n} (no_name_quote rest q)) h }
 
-name_at : (plain : Bool) (n : List ℕ) → is_plain_name n ≡ plain → GoodName n → Goes (cond plain n (quoted 34 n)) (name_onto n)
+name_at : (plain : Bool) (n : List ℕ) → is_plain_name n ≡ plain → GoodName n → Goes (cond plain n (quoted_text 34 n)) (name_onto n)
 name_at true n e g = plain_goes n e
 name_at false n e g = quoted_goes n g
 

@@ -15,7 +15,7 @@ use Rattle.semantics.specs.declared.token.Token.TheVariants as tokens
 use Rattle.semantics.specs.declared.token.Word.{Word}
 use Rattle.semantics.specs.declared.token.Word.TheVariants as w
 use Rattle.semantics.specs.declared.token.Sign.TheVariants as s
-use Rattle.semantics.specs.Words.{continues_word, is_word, reserved}
+use Rattle.semantics.specs.Words.{continues_word, is_word, reserved_word}
 use Rattle.query_lexer.specs.Inside.Words.{word_text}
 use Rattle.semantics.specs.Tokens.{begins_with, is_digits, IsToken, SpellsFrom}
 use Rattle.query_lexer.specs.Steps.{token_at, sign_at}
@@ -63,10 +63,10 @@ no_text_quote (b ∷ rest) q = grind (arith, nat_tests)
 
 record IsReserved (x : Word) : Type 0 where
   word : is_word (word_text x) ≡ true
-  found : reserved (word_text x) ≡ Some x
+  found : reserved_word (word_text x) ≡ Some x
 
 word_is : (x : Word) → IsReserved x
-unfolding reserved
+unfolding reserved_word
 word_is w.And = record { word = refl; found = refl }
 word_is w.As = record { word = refl; found = refl }
 word_is w.Asc = record { word = refl; found = refl }
@@ -106,8 +106,8 @@ pub spelled_word : (x : Word) {rest : List ℕ} {ks : List Token} → breaks res
     → Spelled (word_text x ++ rest) (tokens.Word x ∷ ks)
 spelled_word x {rest} q s = let h = word_is x in spelled_token (IsToken.keyword h.word h.found (no_word rest q)) s
 
-lines_is : (is_word (codes "lines") ≡ true) × (reserved (codes "lines") ≡ None)
-unfolding reserved
+lines_is : (is_word (codes "lines") ≡ true) × (reserved_word (codes "lines") ≡ None)
+unfolding reserved_word
 lines_is = (refl, refl)
 
 pub spelled_lines : {rest : List ℕ} {ks : List Token} → breaks rest ≡ true → Spelled rest ks

@@ -6,7 +6,7 @@ use Rattle.semantics.specs.declared.truth.Truth.{Truth}
 use Rattle.semantics.specs.Values.{Datum, boolean, whole, text, null, comparison, is_null}
 use Rattle.values.specs.Datum.{datum_of}
 use Rattle.semantics.specs.Truth.{negation}
-use Rattle.semantics.specs.Conditions.{any_of, all_of, known, marked, same_truth, between_truth, member_truth, value_truth}
+use Rattle.semantics.specs.Conditions.{any_of, all_of, known_truth, with_not, same_truth, between_truth, member_truth, value_truth}
 use Rattle.query_eval.specs.declared.condition.Source.{Source}
 use Rattle.query_eval.specs.declared.condition.Source.TheVariants as source
 use Rattle.query_eval.specs.declared.condition.Condition.{Condition}
@@ -45,11 +45,11 @@ abbrev pub truth_step : Condition-F (List Datum → Truth) → List Datum → Tr
 truth_step (layer.Or ps) values = any_of (map (λ p. p values) ps.items)
 truth_step (layer.And ps) values = all_of (map (λ p. p values) ps.items)
 truth_step (layer.Not p) values = negation (p.value values)
-truth_step (layer.Is p n t) values = marked n (known (same_truth (p.value values) t))
+truth_step (layer.Is p n t) values = with_not n (known_truth (same_truth (p.value values) t))
 truth_step (layer.Compare x o y) values = comparison o (source_value values x) (source_value values y)
-truth_step (layer.Between x n y z) values = marked n (between_truth (source_value values x) (source_value values y) (source_value values z))
-truth_step (layer.In x n ls) values = marked n (member_truth (source_value values x) (map datum_of ls.items))
-truth_step (layer.IsNull x n) values = marked n (known (is_null (source_value values x)))
+truth_step (layer.Between x n y z) values = with_not n (between_truth (source_value values x) (source_value values y) (source_value values z))
+truth_step (layer.In x n ls) values = with_not n (member_truth (source_value values x) (map datum_of ls.items))
+truth_step (layer.IsNull x n) values = with_not n (known_truth (is_null (source_value values x)))
 truth_step (layer.Holds x) values = value_truth (source_value values x)
 
 -- what a condition is worth under values

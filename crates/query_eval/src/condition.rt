@@ -4,7 +4,7 @@ ghost use Rattle.std.specs.Prelude.{◌≡◌, map, true};
 ghost use Rattle.std.specs.List.{list_all};
 ghost use Rattle.values.specs.Datum.{data_of, datum_of};
 ghost use Rattle.semantics.specs.Values.{is_null};
-ghost use Rattle.semantics.specs.Conditions.{all_of, any_of, between_truth, known, marked, member_truth, value_truth};
+ghost use Rattle.semantics.specs.Conditions.{all_of, any_of, between_truth, known_truth, with_not, member_truth, value_truth};
 ghost use Rattle.query_eval.specs.Meaning.{comparable, condition_truth, is_safe, is_there, is_truth_value, source_value};
 
 use values::{Op, Truth, Value, compare};
@@ -103,7 +103,7 @@ impl Source {
 ///
 /// Example: `marked(true, Truth::False)` is True, and `marked(true, Truth::Unknown)` is Unknown.
 pub fn marked(not: bool, truth: Truth) -> Truth
-    ensures { result ≡ marked not truth }
+    ensures { result ≡ with_not not truth }
 {
     if not { truth.not() } else { truth }
 }
@@ -112,7 +112,7 @@ pub fn marked(not: bool, truth: Truth) -> Truth
 ///
 /// Example: `null_truth(&Value::Null)` is True, and `null_truth(&Value::Int(0))` is False.
 pub fn null_truth(value: &Value) -> Truth
-    ensures { result ≡ known (is_null (datum_of value.now)) }
+    ensures { result ≡ known_truth (is_null (datum_of value.now)) }
 {
     Truth::from(matches!(value, Value::Null))
 }

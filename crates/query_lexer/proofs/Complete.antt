@@ -12,7 +12,7 @@ use Rattle.semantics.specs.declared.token.Token.{Token}
 use Rattle.semantics.specs.declared.token.Token.TheVariants as tokens
 use Rattle.semantics.specs.declared.token.Sign.{Sign}
 use Rattle.semantics.specs.declared.token.Sign.TheVariants as s
-use Rattle.semantics.specs.Words.{begins_word, continues_word, is_word, doubled}
+use Rattle.semantics.specs.Words.{begins_word, continues_word, is_word, with_quotes_doubled}
 use Rattle.semantics.specs.Tokens.{begins_with, is_digits, sign_text, IsLongestSign, IsToken}
 use Rattle.query_lexer.specs.Steps.{behind, sign_at, order_at, sign_behind_less, sign_behind_greater, word_of, word_at, name_behind, text_behind, digits_at, number_of, number_behind, number_at, other_at, token_at}
 use Rattle.query_lexer.proofs.Cut.{begins_goes, not_chosen}
@@ -65,11 +65,11 @@ minus_reads : (bs : List ℕ) → token_at (45 ∷ bs) ≡ number_behind true bs
 unfolding token_at sign_at order_at other_at number_at
 minus_reads bs = refl
 
-name_c : (first : ℕ) (others rest : List ℕ) → begins_with (λ b. eqb b 34) rest ≡ false → name_behind (doubled 34 (first ∷ others) ++ 34 ∷ rest) ≡ Some (tokens.Name (first ∷ others), rest)
+name_c : (first : ℕ) (others rest : List ℕ) → begins_with (λ b. eqb b 34) rest ≡ false → name_behind (with_quotes_doubled 34 (first ∷ others) ++ 34 ∷ rest) ≡ Some (tokens.Name (first ∷ others), rest)
 unfolding name_behind
 name_c first others rest h = rw (quoted_doubled 34 (first ∷ others) rest (none_behind 34 rest h)) refl
 
-text_c : (content rest : List ℕ) → begins_with (λ b. eqb b 39) rest ≡ false → text_behind (doubled 39 content ++ 39 ∷ rest) ≡ Some (tokens.Text content, rest)
+text_c : (content rest : List ℕ) → begins_with (λ b. eqb b 39) rest ≡ false → text_behind (with_quotes_doubled 39 content ++ 39 ∷ rest) ≡ Some (tokens.Text content, rest)
 unfolding text_behind
 text_c content rest h = rw (quoted_doubled 39 content rest (none_behind 39 rest h)) refl
 
@@ -187,8 +187,8 @@ sign_reads bs rest sign h e = rw (h, e) refl
 pub token_c : {front rest : List ℕ} {k : Token} → IsToken front k rest → token_at (front ++ rest) ≡ Some (k, rest)
 token_c (IsToken.keyword {front} {rest} {word} h e stop) = word_c front rest (tokens.Word word) h stop (rw e refl)
 token_c (IsToken.name {front} {rest} h e stop) = word_c front rest (tokens.Name front) h stop (rw e refl)
-token_c (IsToken.quoted_name {first} {others} {rest} stop) = ap (λ (zs : List ℕ). token_at (34 ∷ zs)) (append_assoc (doubled 34 (first ∷ others)) (34 ∷ []) rest) ∙ (quote_reads (doubled 34 (first ∷ others) ++ 34 ∷ rest) ∙ name_c first others rest stop)
-token_c (IsToken.text {content} {rest} stop) = ap (λ (zs : List ℕ). token_at (39 ∷ zs)) (append_assoc (doubled 39 content) (39 ∷ []) rest) ∙ (apostrophe_reads (doubled 39 content ++ 39 ∷ rest) ∙ text_c content rest stop)
+token_c (IsToken.quoted_name {first} {others} {rest} stop) = ap (λ (zs : List ℕ). token_at (34 ∷ zs)) (append_assoc (with_quotes_doubled 34 (first ∷ others)) (34 ∷ []) rest) ∙ (quote_reads (with_quotes_doubled 34 (first ∷ others) ++ 34 ∷ rest) ∙ name_c first others rest stop)
+token_c (IsToken.text {content} {rest} stop) = ap (λ (zs : List ℕ). token_at (39 ∷ zs)) (append_assoc (with_quotes_doubled 39 content) (39 ∷ []) rest) ∙ (apostrophe_reads (with_quotes_doubled 39 content ++ 39 ∷ rest) ∙ text_c content rest stop)
 token_c (IsToken.number {digits} {rest} h fits stop) = digits_read digits rest h ∙ plain_number_c digits rest h stop fits
 token_c (IsToken.negative {digits} {rest} h fits stop) = minus_reads (digits ++ rest) ∙ negative_c digits rest h stop fits
 token_c (IsToken.sign {sign} {rest} h) = sign_reads (sign_text sign ++ rest) rest sign (sign_no_word sign rest) (sign_c sign rest h)

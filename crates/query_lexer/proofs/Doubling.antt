@@ -2,7 +2,7 @@
 use Rattle.std.proofs.Common.{Bool, true, false, cond, eqb, eq-eqb, ◌≡◌, ◌≢◌, ℕ, suc, ◌<◌, List, [], ◌∷◌, ◌++◌, length, get_or, Option, Some, None, refl, sym, ap, ◌∙◌, arith, append_assoc}
 use Rattle.std.proofs.lemmas.Bool.{eqb-true}
 use Rattle.std.proofs.lemmas.Bool.Decides.{nat_tests}
-use Rattle.semantics.specs.Words.{doubled}
+use Rattle.semantics.specs.Words.{with_quotes_doubled}
 use Rattle.query_lexer.specs.Steps.{behind, quoted_at, with_bytes}
 
 not_eqb : (a b : ℕ) → a ≢ b → eqb a b ≡ false
@@ -66,23 +66,23 @@ pub quoted_open : (q : ℕ) (bs : List ℕ) → HasNone q bs → quoted_at q bs 
 quoted_open q [] h = quoted_nil q
 quoted_open q (b ∷ bs) h = quoted_other q b bs (first_none q b bs h) ∙ ap (with_bytes (b ∷ [])) (quoted_open q bs (rest_none q b bs h))
 
-double_at : (t : Bool) (q b : ℕ) (name rest : List ℕ) → t ≡ eqb b q → quoted_at q (doubled q name ++ q ∷ rest) ≡ Some (name, rest) → quoted_at q ((cond t (q ∷ q ∷ []) (b ∷ []) ++ doubled q name) ++ q ∷ rest) ≡ Some (b ∷ name, rest)
+double_at : (t : Bool) (q b : ℕ) (name rest : List ℕ) → t ≡ eqb b q → quoted_at q (with_quotes_doubled q name ++ q ∷ rest) ≡ Some (name, rest) → quoted_at q ((cond t (q ∷ q ∷ []) (b ∷ []) ++ with_quotes_doubled q name) ++ q ∷ rest) ≡ Some (b ∷ name, rest)
 double_at true q b name rest e again =
     let same : b ≡ q = eqb-true b q (sym e) in
-    quoted_twice q (q ∷ (doubled q name ++ q ∷ rest)) (doubled q name ++ q ∷ rest) (rw (eq-eqb q q refl) refl) ∙ rw (again, same) refl
-double_at false q b name rest e again = quoted_other q b (doubled q name ++ q ∷ rest) (differs b q (sym e)) ∙ rw again refl
+    quoted_twice q (q ∷ (with_quotes_doubled q name ++ q ∷ rest)) (with_quotes_doubled q name ++ q ∷ rest) (rw (eq-eqb q q refl) refl) ∙ rw (again, same) refl
+double_at false q b name rest e again = quoted_other q b (with_quotes_doubled q name ++ q ∷ rest) (differs b q (sym e)) ∙ rw again refl
 
 -- what is doubled and quoted is read again
-pub quoted_doubled : (q : ℕ) (name rest : List ℕ) → behind q rest ≡ None → quoted_at q (doubled q name ++ q ∷ rest) ≡ Some (name, rest)
+pub quoted_doubled : (q : ℕ) (name rest : List ℕ) → behind q rest ≡ None → quoted_at q (with_quotes_doubled q name ++ q ∷ rest) ≡ Some (name, rest)
 quoted_doubled q [] rest h = quoted_close q rest h
 quoted_doubled q (b ∷ name) rest h = double_at (eqb b q) q b name rest refl (quoted_doubled q name rest h)
 
 -- ---- doubling, as a loop does
 
-pub doubled_piece : (q : ℕ) (piece rest : List ℕ) → HasNone q piece → doubled q (piece ++ q ∷ rest) ≡ piece ++ (q ∷ q ∷ doubled q rest)
+pub doubled_piece : (q : ℕ) (piece rest : List ℕ) → HasNone q piece → with_quotes_doubled q (piece ++ q ∷ rest) ≡ piece ++ (q ∷ q ∷ with_quotes_doubled q rest)
 doubled_piece q [] rest h = rw (eq-eqb q q refl) refl
 doubled_piece q (b ∷ piece) rest h = rw (not_eqb b q (first_none q b piece h), doubled_piece q piece rest (rest_none q b piece h)) refl
 
-pub doubled_none : (q : ℕ) (bs : List ℕ) → HasNone q bs → doubled q bs ≡ bs
+pub doubled_none : (q : ℕ) (bs : List ℕ) → HasNone q bs → with_quotes_doubled q bs ≡ bs
 doubled_none q [] h = refl
 doubled_none q (b ∷ bs) h = rw (not_eqb b q (first_none q b bs h), doubled_none q bs (rest_none q b bs h)) refl

@@ -13,7 +13,7 @@ use Rattle.semantics.specs.declared.token.Token.TheVariants as tokens
 use Rattle.semantics.specs.declared.token.Word.{Word}
 use Rattle.semantics.specs.declared.token.Sign.{Sign}
 use Rattle.semantics.specs.declared.token.Sign.TheVariants as s
-use Rattle.semantics.specs.Words.{begins_word, continues_word, is_word, reserved, doubled, quoted}
+use Rattle.semantics.specs.Words.{begins_word, continues_word, is_word, reserved_word, with_quotes_doubled, quoted_text}
 use Rattle.semantics.specs.Tokens.{begins_with, is_digits, sign_text, IsLongestSign, IsToken}
 use Rattle.query_lexer.specs.Options.{◌>>=◌, choose}
 use Rattle.query_lexer.specs.Steps.{behind, sign_at, order_at, sign_behind_less, sign_behind_greater, word_of, word_at, quoted_at, with_bytes, name_of, name_behind, text_behind, digits_at, number_of, number_behind, number_at, other_at, token_at}
@@ -39,7 +39,7 @@ word_front : (bs : List ℕ) → begins_with begins_word bs ≡ true → is_word
 word_front [] h = absurd cc
 word_front (b ∷ bs) h = word_front_at b bs (continues_word b) h (begins_goes b h)
 
-word_is : (front rest : List ℕ) (o : Option Word) → reserved front ≡ o → is_word front ≡ true → begins_with continues_word rest ≡ false → IsToken front (choose o (tokens.Name front) (λ w. tokens.Word w)) rest
+word_is : (front rest : List ℕ) (o : Option Word) → reserved_word front ≡ o → is_word front ≡ true → begins_with continues_word rest ≡ false → IsToken front (choose o (tokens.Name front) (λ w. tokens.Word w)) rest
 word_is front rest None e h s = IsToken.name h e s
 word_is front rest (Some w) e h s = IsToken.keyword h e s
 
@@ -47,7 +47,7 @@ word_s : (bs : List ℕ) → begins_with begins_word bs ≡ true → Found bs (w
 word_s bs h = record {
   front = take (prefix_len continues_word bs) bs;
   cut = sym (take-append-drop (prefix_len continues_word bs) bs);
-  is = word_is (take (prefix_len continues_word bs) bs) (drop (prefix_len continues_word bs) bs) (reserved (take (prefix_len continues_word bs) bs)) refl (word_front bs h) (front_stops continues_word bs);
+  is = word_is (take (prefix_len continues_word bs) bs) (drop (prefix_len continues_word bs) bs) (reserved_word (take (prefix_len continues_word bs) bs)) refl (word_front bs h) (front_stops continues_word bs);
 }
 
 -- ---- quotes
@@ -70,18 +70,18 @@ behind_cut c (b ∷ bs) rest e =
 
 -- What is quoted: its bytes with each quote doubled, and a quote that no further quote follows.
 abbrev IsQuoted : ℕ → List ℕ → (List ℕ × List ℕ) → Type 0
-IsQuoted q bs x = (bs ≡ doubled q x.0 ++ q ∷ x.1) × (begins_with (λ b. eqb b q) x.1 ≡ false)
+IsQuoted q bs x = (bs ≡ with_quotes_doubled q x.0 ++ q ∷ x.1) × (begins_with (λ b. eqb b q) x.1 ≡ false)
 
 front_some : (front : List ℕ) (o : Option (List ℕ × List ℕ)) (x : List ℕ × List ℕ) → with_bytes front o ≡ Some x → (y : List ℕ × List ℕ) × (o ≡ Some y) × (x ≡ (front ++ y.0, y.1))
 front_some front o x e =
     let h = bind_some o (λ y. Some (front ++ y.0, y.1)) x e in
     (h.0, h.1, sym (some_is (front ++ h.0.0, h.0.1) x h.2))
 
-quoted_more : (q b : ℕ) (t : Bool) (bs : List ℕ) (y : List ℕ × List ℕ) → t ≡ eqb b q → t ≡ false → IsQuoted q bs y → b ∷ bs ≡ (cond t (q ∷ q ∷ []) (b ∷ []) ++ doubled q y.0) ++ q ∷ y.1
+quoted_more : (q b : ℕ) (t : Bool) (bs : List ℕ) (y : List ℕ × List ℕ) → t ≡ eqb b q → t ≡ false → IsQuoted q bs y → b ∷ bs ≡ (cond t (q ∷ q ∷ []) (b ∷ []) ++ with_quotes_doubled q y.0) ++ q ∷ y.1
 quoted_more q b true bs y e f h = absurd cc
 quoted_more q b false bs y e f h = ap (λ (zs : List ℕ). b ∷ zs) h.0
 
-quoted_pair : (q : ℕ) (t : Bool) (bs : List ℕ) (y : List ℕ × List ℕ) → t ≡ true → IsQuoted q bs y → q ∷ q ∷ bs ≡ (cond t (q ∷ q ∷ []) (q ∷ []) ++ doubled q y.0) ++ q ∷ y.1
+quoted_pair : (q : ℕ) (t : Bool) (bs : List ℕ) (y : List ℕ × List ℕ) → t ≡ true → IsQuoted q bs y → q ∷ q ∷ bs ≡ (cond t (q ∷ q ∷ []) (q ∷ []) ++ with_quotes_doubled q y.0) ++ q ∷ y.1
 quoted_pair q true bs y e h = ap (λ (zs : List ℕ). q ∷ q ∷ zs) h.0
 quoted_pair q false bs y e h = absurd cc
 
@@ -118,12 +118,12 @@ quoted_up_to (suc n) q (b ∷ bs) x room e = quoted_step n q b (eqb b q) (behind
 quoted_s : (q : ℕ) (bs : List ℕ) (x : List ℕ × List ℕ) → quoted_at q bs ≡ Some x → IsQuoted q bs x
 quoted_s q bs x e = quoted_up_to (length bs) q bs x (omega arith) e
 
-quoted_cut : (q : ℕ) (bs : List ℕ) (x : List ℕ × List ℕ) → IsQuoted q bs x → q ∷ bs ≡ quoted q x.0 ++ x.1
-quoted_cut q bs x h = ap (λ (zs : List ℕ). q ∷ zs) (h.0 ∙ sym (append_assoc (doubled q x.0) (q ∷ []) x.1))
+quoted_cut : (q : ℕ) (bs : List ℕ) (x : List ℕ × List ℕ) → IsQuoted q bs x → q ∷ bs ≡ quoted_text q x.0 ++ x.1
+quoted_cut q bs x h = ap (λ (zs : List ℕ). q ∷ zs) (h.0 ∙ sym (append_assoc (with_quotes_doubled q x.0) (q ∷ []) x.1))
 
-name_is : (name rest : List ℕ) (k : Token) → begins_with (λ b. eqb b 34) rest ≡ false → name_of name ≡ Some k → IsToken (quoted 34 name) k rest
+name_is : (name rest : List ℕ) (k : Token) → begins_with (λ b. eqb b 34) rest ≡ false → name_of name ≡ Some k → IsToken (quoted_text 34 name) k rest
 name_is [] rest k h e = absurd cc
-name_is (b ∷ bs) rest k h e = subst (λ (j : Token). IsToken (quoted 34 (b ∷ bs)) j rest) (some_is (tokens.Name (b ∷ bs)) k e) (IsToken.quoted_name h)
+name_is (b ∷ bs) rest k h e = subst (λ (j : Token). IsToken (quoted_text 34 (b ∷ bs)) j rest) (some_is (tokens.Name (b ∷ bs)) k e) (IsToken.quoted_name h)
 
 -- An answer with its token and rest.
 abbrev FoundBy : List ℕ → (Token × List ℕ) → Type 0
@@ -135,14 +135,14 @@ name_s bs rest k e =
     let a = bind_some (quoted_at 34 bs) (λ x. name_of x.0 >>= λ j. Some (j, x.1)) (k, rest) e in
     let b = bind_some (name_of a.0.0) (λ j. Some (j, a.0.1)) (k, rest) a.2 in
     let q = quoted_s 34 bs a.0 a.1 in
-    subst (FoundBy (34 ∷ bs)) (some_is (b.0, a.0.1) (k, rest) b.2) record { front = quoted 34 a.0.0; cut = quoted_cut 34 bs a.0 q; is = name_is a.0.0 a.0.1 b.0 q.1 b.1 }
+    subst (FoundBy (34 ∷ bs)) (some_is (b.0, a.0.1) (k, rest) b.2) record { front = quoted_text 34 a.0.0; cut = quoted_cut 34 bs a.0 q; is = name_is a.0.0 a.0.1 b.0 q.1 b.1 }
 
 text_s : (bs rest : List ℕ) (k : Token) → text_behind bs ≡ Some (k, rest) → Found (39 ∷ bs) k rest
 unfolding text_behind
 text_s bs rest k e =
     let a = bind_some (quoted_at 39 bs) (λ x. Some (tokens.Text x.0, x.1)) (k, rest) e in
     let q = quoted_s 39 bs a.0 a.1 in
-    subst (FoundBy (39 ∷ bs)) (some_is (tokens.Text a.0.0, a.0.1) (k, rest) a.2) record { front = quoted 39 a.0.0; cut = quoted_cut 39 bs a.0 q; is = IsToken.text q.1 }
+    subst (FoundBy (39 ∷ bs)) (some_is (tokens.Text a.0.0, a.0.1) (k, rest) a.2) record { front = quoted_text 39 a.0.0; cut = quoted_cut 39 bs a.0 q; is = IsToken.text q.1 }
 
 -- ---- numbers
 

@@ -10,7 +10,7 @@ use Rattle.semantics.specs.declared.token.Token.TheVariants as tokens
 use Rattle.semantics.specs.declared.token.Sign.{Sign}
 use Rattle.semantics.specs.declared.token.Sign.TheVariants as s
 use Rattle.query_lexer.specs.Options.{◌>>=◌, choose}
-use Rattle.semantics.specs.Words.{begins_word, continues_word, reserved}
+use Rattle.semantics.specs.Words.{begins_word, continues_word, reserved_word}
 use Rattle.semantics.specs.Tokens.{begins_with}
 
 -- What stands behind this byte in front.
@@ -51,7 +51,7 @@ sign_at bs =
 
 -- A reserved word, else a name.
 abbrev pub word_of : List ℕ → Token
-word_of word = choose (reserved word) (tokens.Name word) (λ w. tokens.Word w)
+word_of word = choose (reserved_word word) (tokens.Name word) (λ w. tokens.Word w)
 
 -- The longest word in front.
 abbrev pub word_at : List ℕ → Token × List ℕ

@@ -1,7 +1,7 @@
 //! Canonical spellings of names and texts.
 
 ghost use Rattle.std.specs.Prelude.{◌≡◌, ◌<◌, ◌++◌, OnOk, string_bytes};
-ghost use Rattle.semantics.specs.Words.{is_plain_name, quoted, name_text};
+ghost use Rattle.semantics.specs.Words.{is_plain_name, quoted_text, name_text};
 
 use crate::words::{is_word, reserved_word};
 use std::alloc::AllocError;
@@ -26,7 +26,7 @@ pub fn is_plain_name(name: &str) -> bool
 /// `AllocError` where memory was refused. Then nothing is promised of what stands in `out`.
 pub fn push_quoted(out: &mut String, text: &str, quote: char) -> Result<(), AllocError>
     requires { quote < 128 }
-    ensures { OnOk result (string_bytes out.new ≡ string_bytes out.old ++ quoted quote text.now) }
+    ensures { OnOk result (string_bytes out.new ≡ string_bytes out.old ++ quoted_text quote text.now) }
 {
     out.push(quote)?;
     let mut rest = text;

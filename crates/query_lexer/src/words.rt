@@ -1,7 +1,7 @@
 //! The reserved words.
 
 ghost use Rattle.std.specs.Prelude.{◌≡◌};
-ghost use Rattle.semantics.specs.Words.{reserved, begins_word, continues_word, is_word};
+ghost use Rattle.semantics.specs.Words.{reserved_word, begins_word, continues_word, is_word};
 ghost use Rattle.query_lexer.specs.Inside.Words.{word_text};
 ghost use Rattle.std.specs.List.{find, list_all, prefix_len};
 ghost use Rattle.semantics.specs.Tokens.{begins_with};
@@ -66,7 +66,7 @@ fn word_among(words: &[Word], text: &str) -> Option<Word>
 /// Example: `reserved_word("select")` answers `Some(Word::Select)`, and `reserved_word("shop")` answers `None`.
 #[tactic(auto, using(crate::proofs::Reserved::reserved_listed))]
 pub fn reserved_word(text: &str) -> Option<Word>
-    ensures { result ≡ reserved text.now }
+    ensures { result ≡ reserved_word text.now }
 {
     word_among(&RESERVED_WORDS, text)
 }

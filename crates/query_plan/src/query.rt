@@ -2,7 +2,7 @@
 
 ghost use Rattle.std.specs.Prelude.{◌≡◌, ℕ, List, length, min};
 ghost use Rattle.query_ast.specs.Syntax.{tree_form};
-ghost use Rattle.semantics.specs.Sets.{expanded};
+ghost use Rattle.semantics.specs.Sets.{expansion};
 ghost use Rattle.semantics.specs.Reading.{Derives};
 
 use query_ast::Tree;
@@ -64,7 +64,7 @@ impl Query {
     ///
     /// Example: it is 4 for `GROUP BY CUBE (d, r)`, and 1 without GROUP BY.
     pub fn set_count(&self) -> u64
-        ensures count { result ≡ min (length (expanded self.now.groups)) u64.MAX }
+        ensures count { result ≡ min (length (expansion self.now.groups)) u64.MAX }
     {
         set_count(&self.tree.groups)
     }

@@ -1,7 +1,7 @@
 //! Expressions and predicates, which hold one another.
 
 ghost use Rattle.std.specs.Prelude.{◌≡◌, ◌++◌, codes, IfOk, map, OnOk, string_bytes};
-ghost use Rattle.semantics.specs.Canonical.{bracketed_below, expression_text, function_text, joined, operand_text, part_texts, predicate_text, precedence};
+ghost use Rattle.semantics.specs.Canonical.{bracketed_below, expression_text, function_text, separated_texts, operand_text, part_texts, predicate_text, precedence};
 ghost use Rattle.query_ast.specs.Syntax.{expression_form, function_form, operand_form, predicate_form};
 ghost use Rattle.semantics.specs.Syntax.{predicate_forms};
 
@@ -152,7 +152,7 @@ fn push_parts(
     parts: &[Predicate],
 ) -> Result<(), AllocError>
     ensures { OnOk result (string_bytes out.new ≡ string_bytes out.old
-        ++ joined keyword.now (part_texts least (predicate_forms (map predicate_form parts.now)))) }
+        ++ separated_texts keyword.now (part_texts least (predicate_forms (map predicate_form parts.now)))) }
 {
     let [first, others @ ..] = parts else {
         return Ok(());

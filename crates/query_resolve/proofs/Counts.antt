@@ -7,7 +7,7 @@ use Rattle.std.proofs.Math.Nat.{mul_assoc, mul_comm, mul-le-mul_left, pow-suc}
 use Rattle.query_ast.specs.declared.group.GroupingElement.TheVariants as variant
 use Rattle.semantics.specs.Syntax.{ElementForm}
 use Rattle.query_ast.specs.Syntax.{element_form, units_form}
-use Rattle.semantics.specs.Sets.{crossed, cube_sets, group_sets, rollup_sets}
+use Rattle.semantics.specs.Sets.{cross_product, cube_sets, group_sets, rollup_sets}
 use Rattle.query_resolve.proofs.Expansions.{cube_form, rollup_form}
 
 -- ROLLUP of n units stands for n+1 sets.
@@ -21,9 +21,9 @@ length_cube [] = refl
 length_cube (u ∷ us) = omega (arith, pow-suc 2 (length us), length_cube us, length-append (map (λ s. u ++ s) (cube_sets us)) (cube_sets us), length-map (cube_sets us) (λ s. u ++ s))
 
 -- A cross product has as many sets as the product says.
-pub length_crossed : {A : Type 0} (xs ys : List (List A)) → length (crossed xs ys) ≡ length xs * length ys
+pub length_crossed : {A : Type 0} (xs ys : List (List A)) → length (cross_product xs ys) ≡ length xs * length ys
 length_crossed [] ys = omega arith
-length_crossed (x ∷ xs) ys = omega (arith, length_crossed xs ys, length-append (map (λ s. x ++ s) ys) (crossed xs ys), length-map ys (λ s. x ++ s))
+length_crossed (x ∷ xs) ys = omega (arith, length_crossed xs ys, length-append (map (λ s. x ++ s) ys) (cross_product xs ys), length-map ys (λ s. x ++ s))
 
 -- How many sets a ROLLUP of the program stands for.
 pub rollup_count : (v : Vec (Vec (List ℕ))) → length (group_sets (element_form (variant.Rollup v))) ≡ length v.items + 1
@@ -66,7 +66,7 @@ capped_left a b m =
     sym (ap (λ (n : ℕ). min (n * min b m) m) (sym twice) ∙ capped_product (min a m) b m) ∙ capped_product a b m
 
 -- A turn of the loop: the sets of an element are counted, and those of the elements that are left are not.
-pub count_turn : (firsts seconds : List (List (List ℕ))) (old found new most : ℕ) → found ≡ min (length firsts) most → new ≡ min (old * found) most → min (new * length seconds) most ≡ min (old * length (crossed firsts seconds)) most
+pub count_turn : (firsts seconds : List (List (List ℕ))) (old found new most : ℕ) → found ≡ min (length firsts) most → new ≡ min (old * found) most → min (new * length seconds) most ≡ min (old * length (cross_product firsts seconds)) most
 count_turn firsts seconds old found new most counted told =
     ap (λ (n : ℕ). min (n * length seconds) most) told
     ∙ capped_left (old * found) (length seconds) most

@@ -10,7 +10,7 @@ use Rattle.semantics.specs.Columns.{Field}
 use Rattle.semantics.specs.Syntax.{TreeForm}
 use Rattle.semantics.specs.Names.{distinct, places_of}
 use Rattle.query_resolve.specs.Resolution.{contents}
-use Rattle.semantics.specs.Sets.{expanded, expanded_sets, grouping_places, ordered_set, same_columns, sets_of}
+use Rattle.semantics.specs.Sets.{expansion, expanded_sets, grouping_places, ordered_set, same_columns, sets_of}
 use Rattle.query_resolve.proofs.Distinct.{any_distinct, distinct_push, same_place}
 use Rattle.query_resolve.proofs.Products.{has, has_first, has_ordered, same_filter}
 use Rattle.query_resolve.proofs.Rows.{or_true}
@@ -123,14 +123,14 @@ set_of_names fields t names = ordered_set (grouping_places fields t) (places_of 
 
 -- The expanded sets that a query keeps, as their names are written.
 abbrev pub names_kept : List Field → TreeForm → List (List (List ℕ))
-names_kept fields t = if t.distinct_sets then distinct (λ a b. same_columns (set_of_names fields t a) (set_of_names fields t b)) (expanded t.groups) else expanded t.groups
+names_kept fields t = if t.distinct_sets then distinct (λ a b. same_columns (set_of_names fields t a) (set_of_names fields t b)) (expansion t.groups) else expansion t.groups
 
 -- Each grouping set of a query is that of some names.
 pub sets_by_names : (fields : List Field) (t : TreeForm) → sets_of fields t ≡ map (set_of_names fields t) (names_kept fields t)
 sets_by_names fields t =
     elim t.distinct_sets as (λ (d : Bool). (if d then distinct same_columns (expanded_sets fields t) else expanded_sets fields t)
-    ≡ map (set_of_names fields t) (if d then distinct (λ a b. same_columns (set_of_names fields t a) (set_of_names fields t b)) (expanded t.groups) else expanded t.groups)) [
-      | true ↦ distinct_of_map same_columns (set_of_names fields t) (expanded t.groups)
+    ≡ map (set_of_names fields t) (if d then distinct (λ a b. same_columns (set_of_names fields t a) (set_of_names fields t b)) (expansion t.groups) else expansion t.groups)) [
+      | true ↦ distinct_of_map same_columns (set_of_names fields t) (expansion t.groups)
       | false ↦ refl
     ]
 

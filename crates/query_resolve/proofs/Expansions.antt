@@ -10,7 +10,7 @@ use Rattle.query_ast.specs.declared.group.GroupingElement.TheFolds.{fold-roll-Gr
 use Rattle.semantics.specs.Syntax.{ElementForm, rollup, cube}
 use Rattle.query_ast.specs.Syntax.{element_form, element_step, units_form}
 use Rattle.semantics.specs.Names.{place_of, places_of}
-use Rattle.semantics.specs.Sets.{crossed, cube_sets, rollup_sets}
+use Rattle.semantics.specs.Sets.{cross_product, cube_sets, rollup_sets}
 
 -- Names in front of each set, by their places.
 prefixed_places : (fields : List Field) (unit : List (List ℕ)) (ss : List (List (List ℕ))) → map (places_of fields) (map (λ s. unit ++ s) ss) ≡ map (λ s. places_of fields unit ++ s) (map (places_of fields) ss)
@@ -35,11 +35,11 @@ cube_places fields (unit ∷ units) =
     ∙ ap (λ (ts : List (List ℕ)). map (λ s. places_of fields unit ++ s) (cube_sets (map (places_of fields) units)) ++ ts) (cube_places fields units)
 
 -- A cross product by places is the places of the cross product.
-pub crossed_places : (fields : List Field) (firsts seconds : List (List (List ℕ))) → map (places_of fields) (crossed firsts seconds) ≡ crossed (map (places_of fields) firsts) (map (places_of fields) seconds)
+pub crossed_places : (fields : List Field) (firsts seconds : List (List (List ℕ))) → map (places_of fields) (cross_product firsts seconds) ≡ cross_product (map (places_of fields) firsts) (map (places_of fields) seconds)
 crossed_places fields [] seconds = refl
 crossed_places fields (first ∷ firsts) seconds =
-    map-append (places_of fields) (map (λ s. first ++ s) seconds) (crossed firsts seconds)
-    ∙ ap (λ (ts : List (List ℕ)). ts ++ map (places_of fields) (crossed firsts seconds)) (prefixed_places fields first seconds)
+    map-append (places_of fields) (map (λ s. first ++ s) seconds) (cross_product firsts seconds)
+    ∙ ap (λ (ts : List (List ℕ)). ts ++ map (places_of fields) (cross_product firsts seconds)) (prefixed_places fields first seconds)
     ∙ ap (λ (ts : List (List ℕ)). map (λ s. places_of fields first ++ s) (map (places_of fields) seconds) ++ ts) (crossed_places fields firsts seconds)
 
 -- The form of a ROLLUP.

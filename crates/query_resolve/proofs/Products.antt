@@ -7,7 +7,7 @@ use Rattle.std.proofs.lemmas.Grind.{flat_map-append}
 use Rattle.std.proofs.lemmas.List.{append-nil, map-append}
 use Rattle.std.proofs.lemmas.List.Folds.{list_any-append}
 use Rattle.std.proofs.lemmas.Map.Views.{any-filter_same}
-use Rattle.semantics.specs.Sets.{crossed, cube_sets, ordered_set, rollup_sets}
+use Rattle.semantics.specs.Sets.{cross_product, cube_sets, ordered_set, rollup_sets}
 use Rattle.query_resolve.proofs.Rows.{or_true}
 
 -- ---- one set
@@ -85,22 +85,22 @@ row_right grouping a (b ∷ bs) =
     ∙ ap (λ (ss : List (List ℕ)). ordered_set grouping (a ++ b) ∷ ss) (row_right grouping a bs)
 
 -- It is the same whether the first of two lists is ordered before they are crossed.
-crossed_left : (grouping : List ℕ) (xs bs : List (List ℕ)) → map (ordered_set grouping) (crossed (map (ordered_set grouping) xs) bs) ≡ map (ordered_set grouping) (crossed xs bs)
+crossed_left : (grouping : List ℕ) (xs bs : List (List ℕ)) → map (ordered_set grouping) (cross_product (map (ordered_set grouping) xs) bs) ≡ map (ordered_set grouping) (cross_product xs bs)
 crossed_left grouping [] bs = refl
 crossed_left grouping (a ∷ xs) bs =
-    map-append (ordered_set grouping) (map (λ b. ordered_set grouping a ++ b) bs) (crossed (map (ordered_set grouping) xs) bs)
-    ∙ ap (λ (ss : List (List ℕ)). ss ++ map (ordered_set grouping) (crossed (map (ordered_set grouping) xs) bs)) (row_left grouping a bs)
+    map-append (ordered_set grouping) (map (λ b. ordered_set grouping a ++ b) bs) (cross_product (map (ordered_set grouping) xs) bs)
+    ∙ ap (λ (ss : List (List ℕ)). ss ++ map (ordered_set grouping) (cross_product (map (ordered_set grouping) xs) bs)) (row_left grouping a bs)
     ∙ ap (λ (ss : List (List ℕ)). map (ordered_set grouping) (map (λ b. a ++ b) bs) ++ ss) (crossed_left grouping xs bs)
-    ∙ sym (map-append (ordered_set grouping) (map (λ b. a ++ b) bs) (crossed xs bs))
+    ∙ sym (map-append (ordered_set grouping) (map (λ b. a ++ b) bs) (cross_product xs bs))
 
 -- So it is of the second.
-pub crossed_right : (grouping : List ℕ) (xs bs : List (List ℕ)) → map (ordered_set grouping) (crossed xs (map (ordered_set grouping) bs)) ≡ map (ordered_set grouping) (crossed xs bs)
+pub crossed_right : (grouping : List ℕ) (xs bs : List (List ℕ)) → map (ordered_set grouping) (cross_product xs (map (ordered_set grouping) bs)) ≡ map (ordered_set grouping) (cross_product xs bs)
 crossed_right grouping [] bs = refl
 crossed_right grouping (a ∷ xs) bs =
-    map-append (ordered_set grouping) (map (λ b. a ++ b) (map (ordered_set grouping) bs)) (crossed xs (map (ordered_set grouping) bs))
-    ∙ ap (λ (ss : List (List ℕ)). ss ++ map (ordered_set grouping) (crossed xs (map (ordered_set grouping) bs))) (row_right grouping a bs)
+    map-append (ordered_set grouping) (map (λ b. a ++ b) (map (ordered_set grouping) bs)) (cross_product xs (map (ordered_set grouping) bs))
+    ∙ ap (λ (ss : List (List ℕ)). ss ++ map (ordered_set grouping) (cross_product xs (map (ordered_set grouping) bs))) (row_right grouping a bs)
     ∙ ap (λ (ss : List (List ℕ)). map (ordered_set grouping) (map (λ b. a ++ b) bs) ++ ss) (crossed_right grouping xs bs)
-    ∙ sym (map-append (ordered_set grouping) (map (λ b. a ++ b) bs) (crossed xs bs))
+    ∙ sym (map-append (ordered_set grouping) (map (λ b. a ++ b) bs) (cross_product xs bs))
 
 -- An ordered set in front of sets that are the same once they are ordered.
 front_ordered : (grouping a : List ℕ) (bs cs : List (List ℕ)) → map (ordered_set grouping) bs ≡ map (ordered_set grouping) cs → map (ordered_set grouping) (map (λ b. ordered_set grouping a ++ b) bs) ≡ map (ordered_set grouping) (map (λ c. a ++ c) cs)
@@ -137,63 +137,63 @@ twice_prefixed a b (c ∷ cs) =
     ∙ ap (λ (ss : List (List ℕ)). ((a ++ b) ++ c) ∷ ss) (twice_prefixed a b cs)
 
 -- A set in front of a product is in front of each set of its first list.
-prefixed_crossed : (a : List ℕ) (bs cs : List (List ℕ)) → map (λ s. a ++ s) (crossed bs cs) ≡ crossed (map (λ b. a ++ b) bs) cs
+prefixed_crossed : (a : List ℕ) (bs cs : List (List ℕ)) → map (λ s. a ++ s) (cross_product bs cs) ≡ cross_product (map (λ b. a ++ b) bs) cs
 prefixed_crossed a [] cs = refl
 prefixed_crossed a (b ∷ bs) cs =
-    map-append (λ (s : List ℕ). a ++ s) (map (λ c. b ++ c) cs) (crossed bs cs)
-    ∙ ap (λ (ss : List (List ℕ)). ss ++ map (λ s. a ++ s) (crossed bs cs)) (twice_prefixed a b cs)
+    map-append (λ (s : List ℕ). a ++ s) (map (λ c. b ++ c) cs) (cross_product bs cs)
+    ∙ ap (λ (ss : List (List ℕ)). ss ++ map (λ s. a ++ s) (cross_product bs cs)) (twice_prefixed a b cs)
     ∙ ap (λ (ss : List (List ℕ)). map (λ c. (a ++ b) ++ c) cs ++ ss) (prefixed_crossed a bs cs)
 
 -- Of three lists it is the same which two are crossed first.
-crossed_in_a_row : (xs bs cs : List (List ℕ)) → crossed xs (crossed bs cs) ≡ crossed (crossed xs bs) cs
+crossed_in_a_row : (xs bs cs : List (List ℕ)) → cross_product xs (cross_product bs cs) ≡ cross_product (cross_product xs bs) cs
 crossed_in_a_row [] bs cs = refl
 crossed_in_a_row (a ∷ xs) bs cs =
-    ap (λ (ss : List (List ℕ)). ss ++ crossed xs (crossed bs cs)) (prefixed_crossed a bs cs)
-    ∙ ap (λ (ss : List (List ℕ)). crossed (map (λ b. a ++ b) bs) cs ++ ss) (crossed_in_a_row xs bs cs)
-    ∙ sym (flat_map-append (λ (first : List ℕ). map (λ second. first ++ second) cs) (map (λ b. a ++ b) bs) (crossed xs bs))
+    ap (λ (ss : List (List ℕ)). ss ++ cross_product xs (cross_product bs cs)) (prefixed_crossed a bs cs)
+    ∙ ap (λ (ss : List (List ℕ)). cross_product (map (λ b. a ++ b) bs) cs ++ ss) (crossed_in_a_row xs bs cs)
+    ∙ sym (flat_map-append (λ (first : List ℕ). map (λ second. first ++ second) cs) (map (λ b. a ++ b) bs) (cross_product xs bs))
 
 -- Crossed with one set, it is the same on which side that is.
-one_swap : (grouping : List ℕ) (xs : List (List ℕ)) (b : List ℕ) → map (ordered_set grouping) (crossed xs (b ∷ [])) ≡ map (ordered_set grouping) (crossed (b ∷ []) xs)
+one_swap : (grouping : List ℕ) (xs : List (List ℕ)) (b : List ℕ) → map (ordered_set grouping) (cross_product xs (b ∷ [])) ≡ map (ordered_set grouping) (cross_product (b ∷ []) xs)
 one_swap grouping [] b = refl
 one_swap grouping (a ∷ xs) b =
-    ap (λ (s : List ℕ). s ∷ map (ordered_set grouping) (crossed xs (b ∷ []))) (ordered_swap grouping a b)
+    ap (λ (s : List ℕ). s ∷ map (ordered_set grouping) (cross_product xs (b ∷ []))) (ordered_swap grouping a b)
     ∙ ap (λ (ss : List (List ℕ)). ordered_set grouping (b ++ a) ∷ ss) (one_swap grouping xs b)
 
 -- ---- a product that is being made
 
 -- A product of nothing before a list.
-pub crossed_start : (xs : List (List ℕ)) → crossed ([] ∷ []) xs ≡ xs
+pub crossed_start : (xs : List (List ℕ)) → cross_product ([] ∷ []) xs ≡ xs
 crossed_start [] = refl
 crossed_start (a ∷ xs) = ap (λ (ss : List (List ℕ)). a ∷ ss) (crossed_start xs)
 
 -- A product with nothing left.
-pub crossed_end : (xs : List (List ℕ)) → crossed xs ([] ∷ []) ≡ xs
+pub crossed_end : (xs : List (List ℕ)) → cross_product xs ([] ∷ []) ≡ xs
 crossed_end [] = refl
 crossed_end (a ∷ xs) =
-    ap (λ (s : List ℕ). s ∷ crossed xs ([] ∷ [])) (append-nil a)
+    ap (λ (s : List ℕ). s ∷ cross_product xs ([] ∷ [])) (append-nil a)
     ∙ ap (λ (ss : List (List ℕ)). a ∷ ss) (crossed_end xs)
 
 -- One set more for all sets: it joins what they have in common.
-pub common_more : (sets : List (List ℕ)) (common set : List ℕ) → crossed sets ((common ++ set) ∷ []) ≡ crossed (crossed sets (common ∷ [])) (set ∷ [])
+pub common_more : (sets : List (List ℕ)) (common set : List ℕ) → cross_product sets ((common ++ set) ∷ []) ≡ cross_product (cross_product sets (common ∷ [])) (set ∷ [])
 common_more sets common set = crossed_in_a_row sets (common ∷ []) (set ∷ [])
 
 -- A list more: it may be crossed before what the sets have in common is added.
-pub sets_more : (grouping : List ℕ) (sets more : List (List ℕ)) (common : List ℕ) → map (ordered_set grouping) (crossed (crossed sets more) (common ∷ [])) ≡ map (ordered_set grouping) (crossed (crossed sets (common ∷ [])) more)
+pub sets_more : (grouping : List ℕ) (sets more : List (List ℕ)) (common : List ℕ) → map (ordered_set grouping) (cross_product (cross_product sets more) (common ∷ [])) ≡ map (ordered_set grouping) (cross_product (cross_product sets (common ∷ [])) more)
 sets_more grouping sets more common =
     ap (map (ordered_set grouping)) (sym (crossed_in_a_row sets more (common ∷ [])))
-    ∙ sym (crossed_right grouping sets (crossed more (common ∷ [])))
-    ∙ ap (λ (ss : List (List ℕ)). map (ordered_set grouping) (crossed sets ss)) (one_swap grouping more common)
-    ∙ crossed_right grouping sets (crossed (common ∷ []) more)
+    ∙ sym (crossed_right grouping sets (cross_product more (common ∷ [])))
+    ∙ ap (λ (ss : List (List ℕ)). map (ordered_set grouping) (cross_product sets ss)) (one_swap grouping more common)
+    ∙ crossed_right grouping sets (cross_product (common ∷ []) more)
     ∙ ap (map (ordered_set grouping)) (crossed_in_a_row sets (common ∷ []) more)
 
 -- A turn of the loop: an element is crossed in front of those that are left.
-pub crossed_turn : (grouping : List ℕ) (old new found all left : List (List ℕ)) → map (ordered_set grouping) new ≡ map (ordered_set grouping) (crossed old found) → found ≡ map (ordered_set grouping) all → map (ordered_set grouping) (crossed new left) ≡ map (ordered_set grouping) (crossed old (crossed all left))
+pub crossed_turn : (grouping : List ℕ) (old new found all left : List (List ℕ)) → map (ordered_set grouping) new ≡ map (ordered_set grouping) (cross_product old found) → found ≡ map (ordered_set grouping) all → map (ordered_set grouping) (cross_product new left) ≡ map (ordered_set grouping) (cross_product old (cross_product all left))
 crossed_turn grouping old new found all left told ordered =
     sym (crossed_left grouping new left)
-    ∙ ap (λ (ss : List (List ℕ)). map (ordered_set grouping) (crossed ss left)) told
-    ∙ crossed_left grouping (crossed old found) left
+    ∙ ap (λ (ss : List (List ℕ)). map (ordered_set grouping) (cross_product ss left)) told
+    ∙ crossed_left grouping (cross_product old found) left
     ∙ ap (map (ordered_set grouping)) (sym (crossed_in_a_row old found left))
-    ∙ sym (crossed_right grouping old (crossed found left))
-    ∙ ap (λ (ss : List (List ℕ)). map (ordered_set grouping) (crossed old (map (ordered_set grouping) (crossed ss left)))) ordered
-    ∙ ap (λ (ss : List (List ℕ)). map (ordered_set grouping) (crossed old ss)) (crossed_left grouping all left)
-    ∙ crossed_right grouping old (crossed all left)
+    ∙ sym (crossed_right grouping old (cross_product found left))
+    ∙ ap (λ (ss : List (List ℕ)). map (ordered_set grouping) (cross_product old (map (ordered_set grouping) (cross_product ss left)))) ordered
+    ∙ ap (λ (ss : List (List ℕ)). map (ordered_set grouping) (cross_product old ss)) (crossed_left grouping all left)
+    ∙ crossed_right grouping old (cross_product all left)

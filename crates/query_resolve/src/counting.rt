@@ -2,7 +2,7 @@
 
 ghost use Rattle.std.specs.Prelude.{◌≡◌, length, map, min};
 ghost use Rattle.query_ast.specs.Syntax.{element_form};
-ghost use Rattle.semantics.specs.Sets.{expanded, group_sets};
+ghost use Rattle.semantics.specs.Sets.{expansion, group_sets};
 
 use query_ast::GroupingElement;
 
@@ -35,7 +35,7 @@ fn count_group(group: &GroupingElement) -> u64
 ///
 /// Example: `GROUP BY a, ROLLUP (b, c), CUBE (d, e)` stands for 1 times 3 times 4 sets, which are 12.
 pub fn set_count(groups: &[GroupingElement]) -> u64
-    ensures { result ≡ min (length (expanded (map element_form groups.now))) u64.MAX }
+    ensures { result ≡ min (length (expansion (map element_form groups.now))) u64.MAX }
 {
     let mut count: u64 = 1;
     for group in groups {

@@ -4,7 +4,7 @@ ghost use Rattle.std.specs.Prelude.{◌≡◌, map, if◌then◌else◌, IfOk};
 ghost use Rattle.values.specs.Schema.{fields_of};
 ghost use Rattle.query_ast.specs.Syntax.{element_form, units_form};
 ghost use Rattle.semantics.specs.Names.{distinct, places_of};
-ghost use Rattle.semantics.specs.Sets.{expanded, group_sets, ordered_set, same_columns};
+ghost use Rattle.semantics.specs.Sets.{expansion, group_sets, ordered_set, same_columns};
 ghost use Rattle.query_resolve.specs.Resolution.{contents};
 
 use crate::grouping::push_places;
@@ -88,7 +88,7 @@ fn expand(
 ) -> Result<Vec<Vec<usize>>, AllocError>
     ensures { IfOk result (λ v. contents v.items
         ≡ map (λ names. ordered_set grouping.now (places_of (fields_of columns.now) names))
-        (expanded (map element_form groups.now))) }
+        (expansion (map element_form groups.now))) }
 {
     let mut product = Product::new(alloc)?;
     for group in groups {
@@ -116,7 +116,7 @@ pub fn grouping_sets(
 ) -> Result<Vec<Vec<usize>>, AllocError>
     ensures { let all = map (λ names.
         ordered_set grouping.now (places_of (fields_of columns.now) names))
-        (expanded (map element_form groups.now))
+        (expansion (map element_form groups.now))
         in IfOk result (λ v.
         contents v.items ≡ (if distinct_sets then distinct same_columns all else all)) }
 {

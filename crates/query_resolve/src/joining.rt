@@ -1,7 +1,7 @@
 //! Sets of places of columns, joined.
 
 ghost use Rattle.std.specs.Prelude.{◌≡◌, ◌++◌, ◌∷◌, [], filter, map, IfOk};
-ghost use Rattle.semantics.specs.Sets.{crossed, cube_sets, ordered_set, rollup_sets};
+ghost use Rattle.semantics.specs.Sets.{cross_product, cube_sets, ordered_set, rollup_sets};
 ghost use Rattle.query_resolve.specs.Resolution.{contents};
 
 use std::alloc::{AllocError, Global};
@@ -37,7 +37,7 @@ pub(crate) fn crossed(
     seconds: &[Vec<usize>],
 ) -> Result<Vec<Vec<usize>>, AllocError>
     ensures { IfOk result (λ v.
-        contents v.items ≡ crossed (contents firsts.now) (contents seconds.now)) }
+        contents v.items ≡ cross_product (contents firsts.now) (contents seconds.now)) }
 {
     let mut sets = Vec::new(alloc);
     for first in firsts {

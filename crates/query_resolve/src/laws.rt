@@ -4,7 +4,7 @@ ghost use Rattle.std.specs.Prelude.{◌≡◌, ℕ, Bool, List, true, Decides};
 ghost use Rattle.semantics.specs.Columns.{Field};
 ghost use Rattle.semantics.specs.Syntax.{TreeForm, PredicateForm};
 ghost use Rattle.semantics.specs.Names.{distinct, PlannedFunction};
-ghost use Rattle.semantics.specs.Sets.{crossed, cube_sets, expanded_sets, rollup_sets, sets_of};
+ghost use Rattle.semantics.specs.Sets.{cross_product, cube_sets, expanded_sets, rollup_sets, sets_of};
 ghost use Rattle.semantics.specs.Inside.Same.{same_planned, same_predicate};
 ghost use Rattle.query_resolve.specs.Laws.{AreDistinct, HaveSameColumns, IsCrossed, IsCube, IsRollup};
 
@@ -40,7 +40,7 @@ pub fn kept_law<A>()
 /// the columns of the first list's set at place i and of the second's at place j, ISO/IEC 9075-2 `<group by clause>`.
 pub fn crossed_law()
     ensures { (firsts seconds : List (List (List ℕ)))
-        → IsCrossed firsts seconds (crossed firsts seconds) }
+        → IsCrossed firsts seconds (cross_product firsts seconds) }
 {}
 
 /// A law: two predicates are the same exactly where their trees are equal.

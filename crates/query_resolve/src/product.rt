@@ -1,7 +1,7 @@
 //! A cross product of grouping sets that is being made.
 
 ghost use Rattle.std.specs.Prelude.{◌≡◌, ◌∷◌, [], map, IfOk, OnOk};
-ghost use Rattle.semantics.specs.Sets.{crossed, ordered_set};
+ghost use Rattle.semantics.specs.Sets.{cross_product, ordered_set};
 ghost use Rattle.query_resolve.specs.Resolution.{contents};
 
 use crate::joining::{crossed, one_set, ordered_set, ordered_sets};
@@ -18,17 +18,17 @@ pub(crate) struct Product {
 
 impl Model for Product {
     ghost use Rattle.std.specs.Prelude.{ℕ, List, ◌∷◌, []};
-    ghost use Rattle.semantics.specs.Sets.{crossed};
+    ghost use Rattle.semantics.specs.Sets.{cross_product};
     ghost use Rattle.query_resolve.specs.Resolution.{contents};
 
     ghost Value = { List (List ℕ) };
 
-    ghost view = { λ p. crossed (contents p.sets.items) (p.common.items ∷ []) };
+    ghost view = { λ p. cross_product (contents p.sets.items) (p.common.items ∷ []) };
 }
 
 impl Product {
     ghost use Rattle.std.specs.Prelude.{◌≡◌, ◌∷◌, ℕ, List, [], map, IfOk, OnOk};
-    ghost use Rattle.semantics.specs.Sets.{crossed, ordered_set};
+    ghost use Rattle.semantics.specs.Sets.{cross_product, ordered_set};
     ghost use Rattle.query_resolve.specs.Resolution.{contents};
 
     /// The product of nothing: the one empty set.
@@ -45,7 +45,7 @@ impl Product {
     /// those of the cross product.
     pub(crate) fn cross(&mut self, alloc: Global, sets: &[Vec<usize>]) -> Result<(), AllocError>
         ensures { OnOk result ((grouping : List ℕ) → map (ordered_set grouping) self.new
-            ≡ map (ordered_set grouping) (crossed self.old (contents sets.now))) }
+            ≡ map (ordered_set grouping) (cross_product self.old (contents sets.now))) }
     {
         if let [set] = sets {
             self.common.extend_from_slice(set)?;

@@ -20,7 +20,7 @@ use Rattle.semantics.specs.declared.query_fault.QueryFault.TheVariants.{UnknownC
 use Rattle.query_typecheck.specs.declared.scope.Clause.{Clause}
 use Rattle.query_typecheck.specs.declared.scope.Clause.TheVariants as clause
 use Rattle.semantics.specs.Names.{column_kind, place_of}
-use Rattle.semantics.specs.Sets.{expanded, grouping_names, grouping_places}
+use Rattle.semantics.specs.Sets.{expansion, grouping_names, grouping_places}
 use Rattle.semantics.specs.SetFunctions.{functions_of}
 use Rattle.query_typecheck.specs.Typing.{IsTyped, may_stand}
 use Rattle.semantics.specs.Types.{is_average, key_expression, literal_kind, operand_kind}
@@ -307,7 +307,7 @@ first_of_faults fields t =
     eight_first
     (clause_faults (record_faults fields) fields t.where_condition)
     (flat_map (column_faults fields) groups)
-    (unless (nat_le (length (expanded t.groups)) 256) OverLimit)
+    (unless (nat_le (length (expansion t.groups)) 256) OverLimit)
     (flat_map (λ (i : ItemForm). group_faults true fields groups i.expression) t.items)
     (header_faults (map header_text t.items))
     (clause_faults (group_faults false fields groups) fields t.having_condition)
@@ -315,7 +315,7 @@ first_of_faults fields t =
     (unless (nat_le (length (functions_of fields t)) 64) OverLimit)
     (clause_fault fields grouped clause.Where t.where_condition)
     (first_fault (column_fault fields) groups)
-    (limit_fault 256 (length (expanded t.groups)))
+    (limit_fault 256 (length (expansion t.groups)))
     (first_fault (λ (i : ItemForm). expression_fault fields grouped clause.Select i.expression) t.items)
     (headers_fault (map header_text t.items))
     (clause_fault fields grouped clause.Having t.having_condition)
@@ -323,7 +323,7 @@ first_of_faults fields t =
     (limit_fault 64 (length (functions_of fields t)))
     (clause_first fields grouped clause.Where (record_faults fields) (record_first fields grouped) t.where_condition)
     (each_first (column_faults fields) (column_fault fields) (column_first fields) groups)
-    (limit_first 256 (length (expanded t.groups)))
+    (limit_first 256 (length (expansion t.groups)))
     (each_first (λ (i : ItemForm). group_faults true fields groups i.expression) (λ (i : ItemForm). expression_fault fields grouped clause.Select i.expression) (λ i. select_first fields t i.expression) t.items)
     (headers_first (map header_text t.items))
     (clause_first fields grouped clause.Having (group_faults false fields groups) (having_first fields t) t.having_condition)

@@ -8,7 +8,7 @@ use Rattle.semantics.specs.Columns.{Field}
 use Rattle.semantics.specs.Syntax.{ItemForm, KeyForm, TreeForm}
 use Rattle.semantics.specs.Canonical.{header_text}
 use Rattle.semantics.specs.declared.query_fault.QueryFault.{QueryFault}
-use Rattle.semantics.specs.Sets.{expanded, grouping_names, grouping_places}
+use Rattle.semantics.specs.Sets.{expansion, grouping_names, grouping_places}
 use Rattle.semantics.specs.SetFunctions.{functions_of}
 use Rattle.query_typecheck.specs.declared.scope.Clause.TheVariants as clause
 use Rattle.semantics.specs.Types.{key_expression}
@@ -70,7 +70,7 @@ clauses_in_order fields t =
     let grouped = grouping_places fields t in
     in_a_row (clause_fault fields grouped clause.Where t.where_condition)
     (first_fault (column_fault fields) (grouping_names t))
-    (limit_fault 256 (length (expanded t.groups)))
+    (limit_fault 256 (length (expansion t.groups)))
     (first_fault (λ (i : ItemForm). expression_fault fields grouped clause.Select i.expression) t.items)
     (headers_fault (map header_text t.items))
     (clause_fault fields grouped clause.Having t.having_condition)

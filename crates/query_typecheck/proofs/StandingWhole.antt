@@ -22,7 +22,7 @@ use Rattle.semantics.specs.declared.query_fault.QueryFault.TheVariants.{TypesDis
 use Rattle.query_typecheck.specs.declared.scope.Clause.{Clause}
 use Rattle.query_typecheck.specs.declared.scope.Clause.TheVariants as clause
 use Rattle.semantics.specs.Names.{column_kind, place_of}
-use Rattle.semantics.specs.Sets.{expanded, grouping_names, grouping_places}
+use Rattle.semantics.specs.Sets.{expansion, grouping_names, grouping_places}
 use Rattle.semantics.specs.SetFunctions.{functions_of}
 use Rattle.query_typecheck.specs.Typing.{IsColumn, IsTypedAggregate, IsTypedName, IsTypedOperand, may_stand, IsOfKinds, takes}
 use Rattle.semantics.specs.Types.{aggregate_kind, key_expression, literal_kind, operand_kind}
@@ -296,8 +296,8 @@ first_stands fields t f h =
     (λ k. clause_stands fields t clause.Where t.where_condition f (λ a at. inl at) k)
     (λ _ a. either (first_fault (column_fault fields) (grouping_names t)) _ f (IsViolation fields t f)
     (λ k. let found = first_at (column_fault fields) (grouping_names t) f k in column_stands fields t found.0 f (inl found.1) found.2)
-    (λ _ b. either (limit_fault 256 (length (expanded t.groups))) _ f (IsViolation fields t f)
-    (λ k. let n = over 256 (length (expanded t.groups)) f k in subst (IsViolation fields t) n.1 (inl n.0))
+    (λ _ b. either (limit_fault 256 (length (expansion t.groups))) _ f (IsViolation fields t f)
+    (λ k. let n = over 256 (length (expansion t.groups)) f k in subst (IsViolation fields t) n.1 (inl n.0))
     (λ _ c. either (first_fault (λ (i : ItemForm). expression_fault fields grouped clause.Select i.expression) t.items) _ f (IsViolation fields t f)
     (λ k.
     let found = first_at (λ (i : ItemForm). expression_fault fields grouped clause.Select i.expression) t.items f k in

@@ -17,7 +17,7 @@ use Rattle.semantics.specs.declared.query_fault.QueryFault.{QueryFault}
 use Rattle.semantics.specs.declared.query_fault.QueryFault.TheVariants.{OutOfMemory, OverLimit, RepeatedHeader}
 use Rattle.query_typecheck.specs.declared.scope.Clause.TheVariants as clause
 use Rattle.semantics.specs.Names.{place_of}
-use Rattle.semantics.specs.Sets.{expanded, grouping_names, grouping_places}
+use Rattle.semantics.specs.Sets.{expansion, grouping_names, grouping_places}
 use Rattle.semantics.specs.SetFunctions.{functions_of}
 use Rattle.query_typecheck.specs.Typing.{IsColumn, IsTyped, IsTypedExpression}
 use Rattle.semantics.specs.Types.{key_expression}
@@ -105,7 +105,7 @@ typed_from_none fields t h =
     let grouped = grouping_places fields t in
     let a = none_of_both (clause_fault fields grouped clause.Where t.where_condition) _ h in
     let b = none_of_both (first_fault (column_fault fields) (grouping_names t)) _ a.1 in
-    let c = none_of_both (limit_fault 256 (length (expanded t.groups))) _ b.1 in
+    let c = none_of_both (limit_fault 256 (length (expansion t.groups))) _ b.1 in
     let d = none_of_both (first_fault (λ (i : ItemForm). expression_fault fields grouped clause.Select i.expression) t.items) _ c.1 in
     let e = none_of_both (headers_fault (map header_text t.items)) _ d.1 in
     let g = none_of_both (clause_fault fields grouped clause.Having t.having_condition) _ e.1 in
@@ -114,7 +114,7 @@ typed_from_none fields t h =
     record {
       where_condition = clause_from_none fields grouped clause.Where t.where_condition a.0;
       groups = all_from_none (column_fault fields) (IsColumn fields) (λ n k. holds (is_some (place_of fields n)) _ k) (grouping_names t) b.0;
-      few_sets = within 256 (length (expanded t.groups)) c.0;
+      few_sets = within 256 (length (expansion t.groups)) c.0;
       items = all_from_none (λ (i : ItemForm). expression_fault fields grouped clause.Select i.expression) (λ i. IsTypedExpression fields grouped clause.Select i.expression) (λ i k. expression_from_none fields grouped clause.Select i.expression k) t.items d.0;
       headers_differ = different_from_none [] (map header_text t.items) (λ i j d l m. absurd (omega (arith, m))) e.0;
       having_condition = clause_from_none fields grouped clause.Having t.having_condition g.0;
@@ -129,7 +129,7 @@ none_from_typed fields t h =
     let grouped = grouping_places fields t in
     both_none _ _ (none_from_clause fields grouped clause.Where t.where_condition h.where_condition)
     (both_none _ _ (none_from_all (column_fault fields) (IsColumn fields) (λ n k. passes (is_some (place_of fields n)) _ k) (grouping_names t) h.groups)
-    (both_none _ _ (none_within 256 (length (expanded t.groups)) h.few_sets)
+    (both_none _ _ (none_within 256 (length (expansion t.groups)) h.few_sets)
     (both_none _ _ (none_from_all (λ (i : ItemForm). expression_fault fields grouped clause.Select i.expression) (λ i. IsTypedExpression fields grouped clause.Select i.expression) (λ i k. none_from_expression fields grouped clause.Select i.expression k) t.items h.items)
     (both_none _ _ (none_from_different [] (map header_text t.items) h.headers_differ)
     (both_none _ _ (none_from_clause fields grouped clause.Having t.having_condition h.having_condition)

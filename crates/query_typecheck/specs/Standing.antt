@@ -12,7 +12,7 @@ use Rattle.semantics.specs.declared.query_fault.QueryFault.TheVariants as faults
 use Rattle.query_typecheck.specs.declared.scope.Clause.{Clause}
 use Rattle.query_typecheck.specs.declared.scope.Clause.TheVariants as clause
 use Rattle.semantics.specs.Names.{column_kind, aggregate_of}
-use Rattle.semantics.specs.Sets.{expanded, grouping_names}
+use Rattle.semantics.specs.Sets.{expansion, grouping_names}
 use Rattle.semantics.specs.SetFunctions.{functions_of}
 use Rattle.query_typecheck.specs.Typing.{IsColumn, argument_names, may_stand, takes}
 use Rattle.semantics.specs.Types.{key_expression, operand_kind}
@@ -129,7 +129,7 @@ IsViolation fields t (faults.UnknownColumn n) = (Contains (grouping_names t) n �
 IsViolation fields t (faults.NotGrouped n) = (c : Clause) × (e : ExpressionForm) × StandsIn t c e × (c ≢ clause.Where) × Contains (outer_names e) n × IsColumn fields n × (Contains (grouping_names t) n → ⊥)
 IsViolation fields t faults.TypesDisagree = ((c : Clause) × (p : PredicateForm) × IsAtomIn t c p × Disagrees fields p) ⊎ ((c : Clause) × (f : FunctionForm) × StandsIn t c (function f) × IsOfOtherKind fields (aggregate_of f))
 IsViolation fields t faults.FunctionNotAllowed = (c : Clause) × (e : ExpressionForm) × StandsIn t c e × IsMisplaced c e
-IsViolation fields t faults.OverLimit = (256 < length (expanded t.groups)) ⊎ (64 < length (functions_of fields t))
+IsViolation fields t faults.OverLimit = (256 < length (expansion t.groups)) ⊎ (64 < length (functions_of fields t))
 IsViolation fields t (faults.RepeatedHeader h) = StandsTwice h (map header_text t.items)
 IsViolation fields t (faults.NoToken byte) = ⊥
 IsViolation fields t (faults.Unexpected byte) = ⊥

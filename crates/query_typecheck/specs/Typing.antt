@@ -10,7 +10,7 @@ use Rattle.semantics.specs.Canonical.{header_text}
 use Rattle.query_typecheck.specs.declared.scope.Clause.{Clause}
 use Rattle.query_typecheck.specs.declared.scope.Clause.TheVariants as clause
 use Rattle.semantics.specs.Names.{column_kind, place_of}
-use Rattle.semantics.specs.Sets.{expanded, grouping_names, grouping_places}
+use Rattle.semantics.specs.Sets.{expansion, grouping_names, grouping_places}
 use Rattle.semantics.specs.SetFunctions.{functions_of}
 use Rattle.semantics.specs.Types.{is_average, literal_kind, operand_kind, key_expression}
 
@@ -143,7 +143,7 @@ IsTypedClause fields grouped c (Some p) = IsTypedPredicate fields grouped c p
 pub record IsTyped (fields : List Field) (t : TreeForm) : Type 0 where
   pub where_condition : IsTypedClause fields (grouping_places fields t) clause.Where t.where_condition
   pub groups : All (IsColumn fields) (grouping_names t)
-  pub few_sets : length (expanded t.groups) ≤ 256
+  pub few_sets : length (expansion t.groups) ≤ 256
   pub items : All (λ i. IsTypedExpression fields (grouping_places fields t) clause.Select i.expression) t.items
   pub headers_differ : AllPairs (λ h g. h ≢ g) (map header_text t.items)
   pub having_condition : IsTypedClause fields (grouping_places fields t) clause.Having t.having_condition

@@ -8,7 +8,7 @@ ghost use Rattle.values.specs.Schema.{fields_of};
 ghost use Rattle.query_ast.specs.Syntax.{expression_form, element_form, item_form, key_form, predicate_form, tree_form};
 ghost use Rattle.semantics.specs.Canonical.{header_text};
 ghost use Rattle.query_resolve.specs.Functions.{indexed_functions};
-ghost use Rattle.semantics.specs.Sets.{expanded, grouping_places};
+ghost use Rattle.semantics.specs.Sets.{expansion, grouping_places};
 ghost use Rattle.query_typecheck.specs.Typing.{IsTyped};
 ghost use Rattle.semantics.specs.Types.{key_expression};
 ghost use Rattle.query_typecheck.specs.Inside.FirstFaults.{Answers, clause_fault, expression_fault, first_fault, headers_fault, limit_fault, query_fault};
@@ -192,7 +192,7 @@ fn check_limit(most: u64, count: u64) -> Result<(), QueryFault>
 #[tactic(auto, using(crate::proofs::Limits::answers_capped))]
 fn check_set_count(groups: &[GroupingElement]) -> Result<(), QueryFault>
     ensures fault { Answers result
-        (limit_fault 256 (length (expanded (map element_form groups.now)))) }
+        (limit_fault 256 (length (expansion (map element_form groups.now)))) }
 {
     check_limit(MAX_GROUPING_SETS, set_count(groups))
 }

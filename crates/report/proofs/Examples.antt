@@ -17,15 +17,15 @@ use Rattle.semantics.specs.Found.{Found}
 use Rattle.semantics.specs.Conditions.{truth}
 use Rattle.semantics.specs.Rows.{number_of_digits, row_value, rows_having_true}
 use Rattle.report_rows.specs.Inside.Fronts.{behind_of, front_of, with_digits}
-use Rattle.semantics.specs.Order.{arranged, under_key, rows_shown}
+use Rattle.semantics.specs.Order.{rows_in_order, under_key, rows_shown}
 use Rattle.report.specs.Report.{refusals_of, report_of}
-use Rattle.semantics.specs.Texts.{cell_field, marked, report_bytes}
+use Rattle.semantics.specs.Texts.{cell_field, escaped_text, report_bytes}
 
 six-is-110 : number_of_digits (false ∷ true ∷ true ∷ []) ≡ 6
 six-is-110 = refl
 
 -- the text \N is not NULL
-a-backslash-is-marked : marked (codes "\\N") ≡ codes "\\\\N"
+a-backslash-is-marked : escaped_text (codes "\\N") ≡ codes "\\\\N"
 a-backslash-is-marked = refl
 
 -- the seventeenth byte is the first one behind the front
@@ -102,7 +102,7 @@ abbrev ordered_by : List KeyForm → TreeForm
 ordered_by keys = record { items = query.items; where_condition = None; distinct_sets = false; groups = query.groups; having_condition = None; keys = keys }
 
 -- ORDER BY n DESC, r NULLS FIRST: of the rows of one record, those that show NULL for r are first; of these the one of the first set is
-by-a-count : arranged fields (ordered_by (record { expression = name (codes "n"); descending = true; nulls_first = true } ∷ record { expression = name (codes "r"); descending = false; nulls_first = true } ∷ [])) found
+by-a-count : rows_in_order fields (ordered_by (record { expression = name (codes "n"); descending = true; nulls_first = true } ∷ record { expression = name (codes "r"); descending = false; nulls_first = true } ∷ [])) found
     ≡ group 2 [] 3 ∷ group 1 (text (codes "x") ∷ []) 2 ∷ group 0 (text (codes "x") ∷ null ∷ []) 1 ∷ group 1 (text (codes "y") ∷ []) 1 ∷ group 0 (text (codes "x") ∷ text (codes "n") ∷ []) 1 ∷ []
 by-a-count = refl
 

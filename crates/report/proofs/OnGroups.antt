@@ -8,7 +8,7 @@ use Rattle.tables_groups.specs.declared.group.Group.{Group}
 use Rattle.semantics.specs.Found.{Found}
 use Rattle.tables_groups.specs.Found.{row_of}
 use Rattle.report_rows.specs.declared.source.Source.{Source}
-use Rattle.semantics.specs.Order.{arranged, rows_shown}
+use Rattle.semantics.specs.Order.{rows_in_order, rows_shown}
 use Rattle.semantics.specs.Rows.{row_shown}
 use Rattle.report_rows.specs.Planned.{HasSetUnder}
 use Rattle.report_rows.specs.Sources.{AreSourcesOfEach, cells_at}
@@ -27,7 +27,7 @@ each-shown plan sources (group ∷ groups) each within =
 
 -- the sources that were looked up under a plan's view, and the groups that are shown under it, as slices
 module _ (plan view : PlannedQuery) (found : List Found) (shown groups : List (Bor (ℕ × Group))) (made sources : List (Vec Source)) (is : view ≡ plan) (same_groups : groups ≡ shown) (same_sources : sources ≡ made)
-    (arranges : map (λ (r : Bor (ℕ × Group)). row_of r.now) shown ≡ arranged view.fields view.query found)
+    (arranges : map (λ (r : Bor (ℕ × Group)). row_of r.now) shown ≡ rows_in_order view.fields view.query found)
     (within : All (λ (r : Bor (ℕ × Group)). HasSetUnder view (row_of r.now)) shown)
     (each : AreSourcesOfEach view (sets_of view.fields view.query) made) where
   -- what is written of the groups is what the rows of the report show

@@ -5,7 +5,7 @@ ghost use Rattle.values.specs.Datum.{data_of, datum_of};
 ghost use Rattle.tables_groups.specs.Cells.{summary_of};
 ghost use Rattle.csv.specs.Records.{fields_of, partial_of};
 ghost use Rattle.report_rows.specs.Sources.{shown_at};
-ghost use Rattle.semantics.specs.Texts.{cell_field, marked, value_field};
+ghost use Rattle.semantics.specs.Texts.{cell_field, escaped_text, value_field};
 
 use csv::ByteRecord;
 use itoa::Buffer;
@@ -113,7 +113,7 @@ fn push_value(fields: &mut ByteRecord, alloc: Global, value: &Value) -> Result<(
 fn push_text(fields: &mut ByteRecord, alloc: Global, text: &[u8]) -> Result<(), AllocError>
     requires { partial_of fields.old ≡ [] }
     ensures field { OnOk result (fields_of fields.new
-        ≡ fields_of fields.old ++ marked text.now ∷ []) }
+        ≡ fields_of fields.old ++ escaped_text text.now ∷ []) }
     ensures whole { OnOk result (partial_of fields.new ≡ []) }
 {
     if let [b'\\', ..] = text {

@@ -10,7 +10,7 @@ use Rattle.semantics.specs.Found.{Found}
 use Rattle.tables_groups.specs.Found.{row_of}
 use Rattle.semantics.specs.Rows.{rows_having_true}
 use Rattle.report_rows.specs.Planned.{HasSetUnder}
-use Rattle.semantics.specs.Order.{arranged, before, in_order}
+use Rattle.semantics.specs.Order.{rows_in_order, before, in_order}
 use Rattle.report_rows.proofs.Filtering.{fit-having_true}
 use Rattle.report_rows.proofs.Keeping.{within-having_true}
 use Rattle.report_rows.proofs.Maps.{all-of-map}
@@ -22,14 +22,14 @@ true-fit plan found rows unordered same true fit =
     subst fits (sym true) (fit-having_true plan.fields plan.query rows (subst fits (sym same) fit))
 
 -- put in order they are the rows of the report
-pub true-arranged : (plan : PlannedQuery) (found rows unordered : List Found) → rows ≡ found → unordered ≡ rows_having_true plan.fields plan.query rows → in_order (before plan.fields plan.query) unordered ≡ arranged plan.fields plan.query found
+pub true-arranged : (plan : PlannedQuery) (found rows unordered : List Found) → rows ≡ found → unordered ≡ rows_having_true plan.fields plan.query rows → in_order (before plan.fields plan.query) unordered ≡ rows_in_order plan.fields plan.query found
 true-arranged plan found rows unordered same true =
     let fields = plan.fields in
     let t = plan.query in
-    ap (in_order (before fields t)) true ∙ ap (arranged fields t) same
+    ap (in_order (before fields t)) true ∙ ap (rows_in_order fields t) same
 
 -- the index of each row of the report is that of a grouping set
-pub arranged-sets : (plan : PlannedQuery) (found : List Found) (shown : List (Bor (ℕ × Group))) → map (λ r. row_of r.now) shown ≡ arranged plan.fields plan.query found → AreFitting plan.fields plan.query found → All (λ r. HasSetUnder plan (row_of r.now)) shown
+pub arranged-sets : (plan : PlannedQuery) (found : List Found) (shown : List (Bor (ℕ × Group))) → map (λ r. row_of r.now) shown ≡ rows_in_order plan.fields plan.query found → AreFitting plan.fields plan.query found → All (λ r. HasSetUnder plan (row_of r.now)) shown
 arranged-sets plan found shown is fit =
     let fields = plan.fields in
     let t = plan.query in

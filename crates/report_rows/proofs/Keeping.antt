@@ -20,7 +20,7 @@ use Rattle.tables_groups.specs.Fitting.{AreFitting, HasType, IsHeld}
 use Rattle.semantics.specs.Found.{set_of, Found}
 use Rattle.tables_groups.specs.Found.{row_of}
 use Rattle.semantics.specs.Rows.{is_having_true, rows_having_true}
-use Rattle.semantics.specs.Order.{arranged, before}
+use Rattle.semantics.specs.Order.{rows_in_order, before}
 use Rattle.report_rows.proofs.Filtering.{fit-having_true}
 use Rattle.report_rows.proofs.Sorting.{all-in_order}
 
@@ -77,7 +77,7 @@ all-having_true fields t found e = filter-all (is_having_true fields t) found (�
 -- ---- the rows of which HAVING is True, in their order
 
 -- they have indexes of sets
-pub within-having_true : (fields : List Field) (t : TreeForm) (found : List Found) → AreFitting fields t found → AllByRecursion (λ x. x.0 < length (sets_of fields t)) (arranged fields t found)
+pub within-having_true : (fields : List Field) (t : TreeForm) (found : List Found) → AreFitting fields t found → AllByRecursion (λ x. x.0 < length (sets_of fields t)) (rows_in_order fields t found)
 within-having_true fields t found fit =
     let rows = rows_having_true fields t found in
     all-in_order (before fields t) (λ x. x.0 < length (sets_of fields t)) rows (recursion_from_All (λ (x : Found). x.0 < length (sets_of fields t)) rows (fit-having_true fields t found fit).indexes)

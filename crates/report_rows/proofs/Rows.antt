@@ -24,7 +24,7 @@ use Rattle.tables_groups.proofs.Order.{key_antisymmetric}
 use Rattle.semantics.specs.Found.{Found, set_of}
 use Rattle.tables_groups.specs.Found.{row_of}
 use Rattle.semantics.specs.Rows.{rows_having_true}
-use Rattle.semantics.specs.Order.{grouping_values, key_value, under_key, under_keys, before, in_order, arranged}
+use Rattle.semantics.specs.Order.{grouping_values, key_value, under_key, under_keys, before, in_order, rows_in_order}
 use Rattle.report_rows.specs.Order.{NoneBefore, Ascends}
 use Rattle.report_rows.specs.Inside.Ranked.{Ranked, by_key, by_rank, key_values, ranked, under_values}
 use Rattle.tables_groups.specs.Fitting.{AreFitting}
@@ -150,7 +150,7 @@ the-order fields t found fit = record {
 
 pub is-blind : (fields : List Field) (t : TreeForm) (found : List Found) → AreFitting fields t found → IsBlind fields t found
 is-blind fields t found fit others bag =
-    only-order fields t (rows_having_true fields t found) (arranged fields t others) (fit-having_true fields t found fit)
+    only-order fields t (rows_having_true fields t found) (rows_in_order fields t others) (fit-having_true fields t found fit)
     (λ f. bag-having_true fields t found others bag f ∙ sym (weigh-in_order (before fields t) f (rows_having_true fields t others)))
     (ascends-in_order (before-total fields t) (rows_having_true fields t others))
 

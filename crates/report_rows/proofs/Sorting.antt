@@ -10,14 +10,14 @@ use Rattle.std.proofs.lemmas.List.Recursion.{is_sum_by}
 use Rattle.std.proofs.lemmas.List.Sorted.{sum_by-IsPermutation}
 use Rattle.tables_groups.specs.Bags.{SameBag, weigh}
 use Rattle.report_rows.specs.Order.{NoneBefore, Ascends}
-use Rattle.semantics.specs.Order.{inserted, in_order}
+use Rattle.semantics.specs.Order.{insertion, in_order}
 
 -- ---- weights
 
-weigh-inserted : {X : Type 0} (order : X → X → Ordering) (f : X → ℕ) (x : X) (ys : List X) → weigh f (inserted order x ys) ≡ f x + weigh f ys
+weigh-inserted : {X : Type 0} (order : X → X → Ordering) (f : X → ℕ) (x : X) (ys : List X) → weigh f (insertion order x ys) ≡ f x + weigh f ys
 weigh-inserted order f x [] = refl
 weigh-inserted order f x (y ∷ ys) =
-    elim (is_gt (order x y)) as (λ (b : Bool). weigh f (cond b (y ∷ inserted order x ys) (x ∷ y ∷ ys)) ≡ f x + (f y + weigh f ys)) [
+    elim (is_gt (order x y)) as (λ (b : Bool). weigh f (cond b (y ∷ insertion order x ys) (x ∷ y ∷ ys)) ≡ f x + (f y + weigh f ys)) [
       | true ↦ let e = weigh-inserted order f x ys in omega (arith, e)
       | false ↦ refl
     ]
@@ -35,10 +35,10 @@ bag-permutation xs ys moved f =
 -- ---- what holds of each thing
 
 -- what holds of each thing of a list and of one more holds of each with that one inserted
-all-inserted : {X : Type 0} (order : X → X → Ordering) (P : X → Type 0) (x : X) (ys : List X) → P x → AllByRecursion P ys → AllByRecursion P (inserted order x ys)
+all-inserted : {X : Type 0} (order : X → X → Ordering) (P : X → Type 0) (x : X) (ys : List X) → P x → AllByRecursion P ys → AllByRecursion P (insertion order x ys)
 all-inserted order P x [] h all = (h, tt)
 all-inserted order P x (y ∷ ys) h all =
-    elim (is_gt (order x y)) as (λ (b : Bool). AllByRecursion P (cond b (y ∷ inserted order x ys) (x ∷ y ∷ ys))) [
+    elim (is_gt (order x y)) as (λ (b : Bool). AllByRecursion P (cond b (y ∷ insertion order x ys) (x ∷ y ∷ ys))) [
       | true ↦ (all.0, all-inserted order P x ys h all.1)
       | false ↦ (h, all)
     ]
@@ -75,10 +75,10 @@ module _ {X : Type 0} {order : X → X → Ordering} (o : IsTotalOrder order) wh
   none-through x y [] h n = tt
   none-through x y (z ∷ zs) h n = (upto o x y z h n.0, none-through x y zs h n.1)
 
-  ascends-inserted : (x : X) (ys : List X) → Ascends order ys → Ascends order (inserted order x ys)
+  ascends-inserted : (x : X) (ys : List X) → Ascends order ys → Ascends order (insertion order x ys)
   ascends-inserted x [] a = (tt, tt)
   ascends-inserted x (y ∷ ys) a =
-      elim (is_gt (order x y)) as (λ (b : Bool). is_gt (order x y) ≡ b → Ascends order (cond b (y ∷ inserted order x ys) (x ∷ y ∷ ys))) [
+      elim (is_gt (order x y)) as (λ (b : Bool). is_gt (order x y) ≡ b → Ascends order (cond b (y ∷ insertion order x ys) (x ∷ y ∷ ys))) [
         | true ↦ λ e. (all-inserted order (λ z. is_gt (order y z) ≡ false) x ys (turned_greater (order y x) (order x y) (o.antisymm y x) e) a.0, ascends-inserted x ys a.1)
         | false ↦ λ e. ((e, none-through x y ys e a.0), a)
       ] refl
@@ -111,10 +111,10 @@ module _ {X : Type 0} {order : X → X → Ordering} (o : IsTotalOrder order) wh
   untied-back : (x y : X) → is_eq (order x y) ≡ false → is_eq (order y x) ≡ false
   untied-back x y h = (eq_by_cmp_equiv o).symm y x ∙ h
 
-  apart-inserted : (x : X) (ys : List X) → AllByRecursion (λ y. is_eq (order x y) ≡ false) ys → Apart order ys → Apart order (inserted order x ys)
+  apart-inserted : (x : X) (ys : List X) → AllByRecursion (λ y. is_eq (order x y) ≡ false) ys → Apart order ys → Apart order (insertion order x ys)
   apart-inserted x [] all a = (tt, tt)
   apart-inserted x (y ∷ ys) all a =
-      elim (is_gt (order x y)) as (λ (b : Bool). Apart order (cond b (y ∷ inserted order x ys) (x ∷ y ∷ ys))) [
+      elim (is_gt (order x y)) as (λ (b : Bool). Apart order (cond b (y ∷ insertion order x ys) (x ∷ y ∷ ys))) [
         | true ↦ (all-inserted order (λ z. is_eq (order y z) ≡ false) x ys (untied-back x y all.0) a.0, apart-inserted x ys all.1 a.1)
         | false ↦ (all, a)
       ]

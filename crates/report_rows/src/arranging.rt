@@ -3,7 +3,7 @@ ghost use Rattle.std.specs.Prelude.{◌≡◌, ◌<◌, All, IfOk, length, map};
 ghost use Rattle.tables_groups.specs.Found.{row_of};
 ghost use Rattle.tables_groups.specs.Fitting.{AreFitting};
 ghost use Rattle.report_rows.specs.Planned.{HasSetUnder};
-ghost use Rattle.semantics.specs.Order.{arranged, rows_shown};
+ghost use Rattle.semantics.specs.Order.{rows_in_order, rows_shown};
 ghost use Rattle.report_rows.specs.Shown.{cells_of};
 ghost use Rattle.semantics.specs.Rows.{row_shown};
 
@@ -67,7 +67,7 @@ pub fn shown_groups<'a>(
 ) -> Result<Vec<&'a (usize, Group)>, AllocError>
     requires { AreFitting plan.now.fields plan.now.query (map row_of groups.now) }
     ensures shown { IfOk result (λ v. map (λ r. row_of r.now) v.items
-        ≡ arranged plan.now.fields plan.now.query (map row_of groups.now)) }
+        ≡ rows_in_order plan.now.fields plan.now.query (map row_of groups.now)) }
     ensures sets { IfOk result (λ v. All (λ r. HasSetUnder plan.now (row_of r.now)) v.items) }
 {
     let unordered = rows_having_true(alloc, plan, groups)?;
@@ -92,7 +92,7 @@ pub fn shown_among<'a, H: Threads + Sync>(
     requires fit { AreFitting plan.now.fields plan.now.query (map row_of groups.now) }
     requires hands { 0 < hands }
     ensures shown { IfOk result (λ v. map (λ r. row_of r.now) v.items
-        ≡ arranged plan.now.fields plan.now.query (map row_of groups.now)) }
+        ≡ rows_in_order plan.now.fields plan.now.query (map row_of groups.now)) }
     ensures sets { IfOk result (λ v. All (λ r. HasSetUnder plan.now (row_of r.now)) v.items) }
 {
     let unordered = rows_having_true(alloc, plan, groups)?;

@@ -84,9 +84,9 @@ pub record AggregateFunction : Type 0 where
   pub filter : Option (Row → Bool)
 
 -- The records that a FILTER keeps, and all where there is none.
-abbrev pub filtered : Option (Row → Bool) → List Row → List Row
-filtered test rows = option_map_or (λ keeps. filter keeps rows) test rows
+abbrev pub filtered_rows : Option (Row → Bool) → List Row → List Row
+filtered_rows test rows = option_map_or (λ keeps. filter keeps rows) test rows
 
 -- The value of a set function over a list of records: over those that its FILTER keeps.
 abbrev pub agg : AggregateFunction → List Row → Summary
-agg f rows = value_over f.function (filtered f.filter rows)
+agg f rows = value_over f.function (filtered_rows f.filter rows)

@@ -5,7 +5,7 @@ use Rattle.std.specs.Option.{option_map_or}
 use Rattle.std.specs.Prelude.{ℕ, Bool, true, false, Option, List, [], ◌∷◌, ◌++◌, map, codes, nat_lt, unwrap_or, slice_get, if◌then◌else◌}
 use Rattle.semantics.specs.Columns.{Field, names_of}
 use Rattle.semantics.specs.Syntax.{ExpressionForm, FunctionForm, OperandForm, PredicateForm, PredicateForms, ElementForm, ElementForms, ItemForm, KeyForm, TreeForm, name, grouping, function, over_all, over_filtered, expression, literal, or_of, and_of, not_of, truth_test, compare, between, member, null_test, column, no_parts, part, set, rollup, cube, sets, no_groups, group, element_forms}
-use Rattle.semantics.specs.Words.{name_text, quoted}
+use Rattle.semantics.specs.Words.{name_text, quoted_text}
 use Rattle.semantics.specs.declared.aggregate.Aggregate.{Aggregate}
 use Rattle.semantics.specs.declared.comparison.Op.{Op}
 use Rattle.semantics.specs.declared.literal.Literal.{Literal}
@@ -18,13 +18,13 @@ use Rattle.semantics.specs.declared.literal.Literal.TheVariants as constant
 -- ---- lists and brackets
 
 -- Texts in a row, with a separator between each and the next.
-abbrev pub joined : List ℕ → List (List ℕ) → List ℕ
-joined separator [] = []
-joined separator (first ∷ others) = first ++ flat_map (λ text. separator ++ text) others
+abbrev pub separated_texts : List ℕ → List (List ℕ) → List ℕ
+separated_texts separator [] = []
+separated_texts separator (first ∷ others) = first ++ flat_map (λ text. separator ++ text) others
 
 -- Texts with a comma and a space between them.
 abbrev pub comma_list : List (List ℕ) → List ℕ
-comma_list texts = joined (codes ", ") texts
+comma_list texts = separated_texts (codes ", ") texts
 
 -- A text in brackets.
 abbrev pub in_brackets : List ℕ → List ℕ
@@ -49,7 +49,7 @@ aggregate_text (aggregate.Avg x) = codes "AVG(" ++ name_text x ++ codes ")"
 -- A whole number is plain decimal, a text stands between apostrophes, a truth value is a keyword.
 abbrev pub literal_text : Literal → List ℕ
 literal_text (constant.Integer i) = signed_decimal i
-literal_text (constant.Text text) = quoted 39 text
+literal_text (constant.Text text) = quoted_text 39 text
 literal_text (constant.Truth b) = if b then codes "TRUE" else codes "FALSE"
 
 -- The sign of an operator.
@@ -111,8 +111,8 @@ abbrev mutual
   -- The places of parts ask: under OR for an AND or tighter, under AND for a NOT or tighter, under
   -- NOT for a truth test or an atom, in a truth test for an atom.
   pub predicate_text : PredicateForm → List ℕ
-  predicate_text (or_of ps) = joined (codes " OR ") (part_texts 1 ps)
-  predicate_text (and_of ps) = joined (codes " AND ") (part_texts 2 ps)
+  predicate_text (or_of ps) = separated_texts (codes " OR ") (part_texts 1 ps)
+  predicate_text (and_of ps) = separated_texts (codes " AND ") (part_texts 2 ps)
   predicate_text (not_of p) = codes "NOT " ++ bracketed_below 3 (precedence p) (predicate_text p)
   predicate_text (truth_test p n t) = bracketed_below 4 (precedence p) (predicate_text p) ++ codes " IS " ++ not_text n ++ truth_text t
   predicate_text (compare a c b) = operand_text a ++ codes " " ++ op_text c ++ codes " " ++ operand_text b

@@ -16,13 +16,13 @@ use Rattle.semantics.specs.declared.literal.Literal.TheVariants as constant
 -- ---- truth values
 
 -- A test that is never unknown, as p IS TRUE and x IS NULL (<boolean test>, <null predicate>).
-abbrev pub known : Bool → Truth
-known b = if b then True else False
+abbrev pub known_truth : Bool → Truth
+known_truth b = if b then True else False
 
 -- With NOT, where it is written.
-abbrev pub marked : Bool → Truth → Truth
-marked true t = negation t
-marked false t = t
+abbrev pub with_not : Bool → Truth → Truth
+with_not true t = negation t
+with_not false t = t
 
 -- p OR q OR .., from the left; False OR p is p.
 abbrev pub any_of : List Truth → Truth
@@ -77,11 +77,11 @@ abbrev mutual
   truth v (or_of ps) = any_of (truths v ps)
   truth v (and_of ps) = all_of (truths v ps)
   truth v (not_of p) = negation (truth v p)
-  truth v (truth_test p n t) = marked n (known (same_truth (truth v p) t))
+  truth v (truth_test p n t) = with_not n (known_truth (same_truth (truth v p) t))
   truth v (compare x o y) = comparison o (operand_value v x) (operand_value v y)
-  truth v (between x n y z) = marked n (between_truth (operand_value v x) (operand_value v y) (operand_value v z))
-  truth v (member x n ls) = marked n (member_truth (operand_value v x) (map literal_value ls))
-  truth v (null_test x n) = marked n (known (is_null (operand_value v x)))
+  truth v (between x n y z) = with_not n (between_truth (operand_value v x) (operand_value v y) (operand_value v z))
+  truth v (member x n ls) = with_not n (member_truth (operand_value v x) (map literal_value ls))
+  truth v (null_test x n) = with_not n (known_truth (is_null (operand_value v x)))
   truth v (column n) = value_truth (v (name n))
 
   -- Those of the parts of an OR or an AND.
@@ -110,8 +110,8 @@ abbrev pub is_kept : List Field → TreeForm → List Datum → Bool
 is_kept fields q values = same_truth (where_truth fields q.where_condition values) True
 
 -- The records that are kept.
-abbrev pub kept : List Field → TreeForm → List (List Datum) → List (List Datum)
-kept fields q records = filter (is_kept fields q) records
+abbrev pub kept_records : List Field → TreeForm → List (List Datum) → List (List Datum)
+kept_records fields q records = filter (is_kept fields q) records
 
 -- ---- FILTER (ISO/IEC 9075-2, <filter clause>)
 

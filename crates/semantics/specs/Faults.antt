@@ -9,7 +9,7 @@ use Rattle.semantics.specs.Canonical.{header_text}
 use Rattle.semantics.specs.Columns.{Field}
 use Rattle.semantics.specs.Names.{column_kind, place_of, aggregate_of, filter_of}
 use Rattle.semantics.specs.SetFunctions.{functions_of}
-use Rattle.semantics.specs.Sets.{expanded, grouping_names}
+use Rattle.semantics.specs.Sets.{expansion, grouping_names}
 use Rattle.semantics.specs.Syntax.{ExpressionForm, FunctionForm, OperandForm, PredicateForm, TreeForm, name, grouping, function, expression, literal, operands_of_atoms}
 use Rattle.semantics.specs.Types.{is_average, key_expression, operand_kind}
 use Rattle.semantics.specs.declared.aggregate.Aggregate.{Aggregate}
@@ -136,7 +136,7 @@ query_faults fields q =
     let groups = grouping_names q in
     clause_faults (record_faults fields) fields q.where_condition
     ++ flat_map (column_faults fields) groups
-    ++ unless (nat_le (length (expanded q.groups)) 256) OverLimit
+    ++ unless (nat_le (length (expansion q.groups)) 256) OverLimit
     ++ flat_map (λ i. group_faults true fields groups i.expression) q.items
     ++ header_faults (map header_text q.items)
     ++ clause_faults (group_faults false fields groups) fields q.having_condition

@@ -3,7 +3,7 @@
 use Rattle.std.specs.Prelude.{ℕ, List, length, map, [], slice_index_or, option_map}
 use Rattle.semantics.specs.Aggregates.{AggregateFunction, Summary, agg}
 use Rattle.semantics.specs.Columns.{Field}
-use Rattle.semantics.specs.Conditions.{passes, kept}
+use Rattle.semantics.specs.Conditions.{passes, kept_records}
 use Rattle.semantics.specs.Groups.{Row, Key, SetGroup, groups}
 use Rattle.semantics.specs.Names.{PlannedFunction}
 use Rattle.semantics.specs.SetFunctions.{functions_of}
@@ -38,13 +38,13 @@ abbrev pub aggregate_functions : List Field → TreeForm → List AggregateFunct
 aggregate_functions fields q = map (aggregate_function fields) (functions_of fields q)
 
 -- What is shown of a group.
-abbrev pub found : List AggregateFunction → SetGroup → Found
-found functions group = (group.index, group_summary functions group.key group.members)
+abbrev pub found_group : List AggregateFunction → SetGroup → Found
+found_group functions group = (group.index, group_summary functions group.key group.members)
 
 -- What is shown of all groups of a list of records.
 abbrev pub all_found : List (List ℕ) → List AggregateFunction → List Row → List Found
-all_found sets functions rows = map (found functions) (groups sets rows)
+all_found sets functions rows = map (found_group functions) (groups sets rows)
 
 -- What the grouping sets of a query find in the records that its WHERE keeps.
 abbrev pub query_found : List Field → TreeForm → List Row → List Found
-query_found fields q rows = all_found (sets_of fields q) (aggregate_functions fields q) (kept fields q rows)
+query_found fields q rows = all_found (sets_of fields q) (aggregate_functions fields q) (kept_records fields q rows)

@@ -56,20 +56,20 @@ before fields t x y =
 -- ---- a list in order
 
 -- A list with one thing more, which stands in front of the first that is not before it.
-abbrev pub inserted : {X : Type 0} → (X → X → Ordering) → X → List X → List X
-inserted order x [] = x ∷ []
-inserted order x (y ∷ ys) = if is_gt (order x y) then y ∷ inserted order x ys else x ∷ y ∷ ys
+abbrev pub insertion : {X : Type 0} → (X → X → Ordering) → X → List X → List X
+insertion order x [] = x ∷ []
+insertion order x (y ∷ ys) = if is_gt (order x y) then y ∷ insertion order x ys else x ∷ y ∷ ys
 
 -- The things of a list in order.
 abbrev pub in_order : {X : Type 0} → (X → X → Ordering) → List X → List X
 in_order order [] = []
-in_order order (x ∷ xs) = inserted order x (in_order order xs)
+in_order order (x ∷ xs) = insertion order x (in_order order xs)
 
 -- The rows of a report in their order: those for which HAVING is True.
-abbrev pub arranged : List Field → TreeForm → List Found → List Found
-arranged fields t found = in_order (before fields t) (rows_having_true fields t found)
+abbrev pub rows_in_order : List Field → TreeForm → List Found → List Found
+rows_in_order fields t found = in_order (before fields t) (rows_having_true fields t found)
 
 -- What a report shows: for each group for which HAVING is True, in the order of the rows, its
 -- cells.
 abbrev pub rows_shown : List Field → TreeForm → List Found → List (List Summary)
-rows_shown fields t found = map (row_shown fields t) (arranged fields t found)
+rows_shown fields t found = map (row_shown fields t) (rows_in_order fields t found)

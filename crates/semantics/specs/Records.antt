@@ -81,8 +81,8 @@ valid_records fields input = filter_map result_ok (answers fields input)
 
 -- The number of each line that has a fault, beside the fault, in order; the first line of the input
 -- has the number 1.
-abbrev pub refused : List Field → List ℕ → List (ℕ × LineFault)
-refused fields input = filter_map (λ p. option_map (λ fault. (p.0, fault)) (result_err p.1)) (enumerate_from 1 (answers fields input))
+abbrev pub refused_lines : List Field → List ℕ → List (ℕ × LineFault)
+refused_lines fields input = filter_map (λ p. option_map (λ fault. (p.0, fault)) (result_err p.1)) (enumerate_from 1 (answers fields input))
 
 -- A fault is the one that the line has; want of memory says nothing of the line.
 abbrev pub IsRefusal : LineRefusal → Result (List Datum) LineFault → Type 0

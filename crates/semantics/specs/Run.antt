@@ -6,7 +6,7 @@ use Rattle.semantics.specs.Columns.{Field}
 use Rattle.semantics.specs.Found.{query_found}
 use Rattle.semantics.specs.Lines.{lines}
 use Rattle.semantics.specs.Order.{rows_shown}
-use Rattle.semantics.specs.Records.{valid_records, refused}
+use Rattle.semantics.specs.Records.{valid_records, refused_lines}
 use Rattle.semantics.specs.Syntax.{TreeForm}
 use Rattle.semantics.specs.Texts.{refused_line, report_bytes}
 use Rattle.semantics.specs.declared.run_done.Done.{Done}
@@ -23,7 +23,7 @@ report fields q input = report_bytes q.items (rows_shown fields q (query_found f
 
 -- The list of the refused lines of an input.
 abbrev pub refusals : List Field → List ℕ → List ℕ
-refusals fields input = flat_map (refused_line fields) (refused fields input)
+refusals fields input = flat_map (refused_line fields) (refused_lines fields input)
 
 -- Not more than the limit, where there is one.
 abbrev pub IsWithin : Option ℕ → ℕ → Type 0
@@ -44,14 +44,14 @@ Leaves Reading limit fields q input out_old out_new err_old err_new = Keeps out_
 Leaves OutOfMemory limit fields q input out_old out_new err_old err_new = Keeps out_old out_new × Keeps err_old err_new
 Leaves ThreadNotStarted limit fields q input out_old out_new err_old err_new = Keeps out_old out_new × Keeps err_old err_new
 Leaves (TooManyRefused most) limit fields q input out_old out_new err_old err_new =
-    (limit ≡ Some most) × IfSome input (λ bytes. most < length (refused fields bytes))
+    (limit ≡ Some most) × IfSome input (λ bytes. most < length (refused_lines fields bytes))
     × Keeps out_old out_new × Keeps err_old err_new
 Leaves WritingReport limit fields q input out_old out_new err_old err_new =
-    IfSome input (λ bytes. IsWithin limit (length (refused fields bytes))
+    IfSome input (λ bytes. IsWithin limit (length (refused_lines fields bytes))
     × AppendsBeginning out_old out_new (report fields q bytes))
     × Keeps err_old err_new
 Leaves WritingRefused limit fields q input out_old out_new err_old err_new =
-    IfSome input (λ bytes. IsWithin limit (length (refused fields bytes))
+    IfSome input (λ bytes. IsWithin limit (length (refused_lines fields bytes))
     × Appends out_old out_new (report fields q bytes)
     × AppendsBeginning err_old err_new (refusals fields bytes))
 
@@ -63,7 +63,7 @@ pub record IsRun (result : Result Done RunFault) (limit : Option ℕ) (fields : 
   pub writes_report : OnOk result (IfSome input (λ bytes. Appends out_old out_new (report fields q bytes)))
   pub writes_refusals : OnOk result (IfSome input (λ bytes. Appends err_old err_new (refusals fields bytes)))
   pub counts_lines : IfOk result (λ done. IfSome input (λ bytes. done.lines ≡ length (lines bytes)))
-  pub counts_refused : IfOk result (λ done. IfSome input (λ bytes. done.refused ≡ length (refused fields bytes)))
+  pub counts_refused : IfOk result (λ done. IfSome input (λ bytes. done.refused ≡ length (refused_lines fields bytes)))
   pub is_within : IfOk result (λ done. IsWithin limit done.refused)
-  pub is_decided : IfErr result (λ fault. IsResourceFault fault → ⊥) → IfSome input (λ bytes. IsOk result ↔ IsWithin limit (length (refused fields bytes)))
+  pub is_decided : IfErr result (λ fault. IsResourceFault fault → ⊥) → IfSome input (λ bytes. IsOk result ↔ IsWithin limit (length (refused_lines fields bytes)))
   pub leaves : IfErr result (λ fault. Leaves fault limit fields q input out_old out_new err_old err_new)

@@ -17,8 +17,8 @@ cube_sets [] = [] ∷ []
 cube_sets (unit ∷ units) = map (λ s. unit ++ s) (cube_sets units) ++ cube_sets units
 
 -- The union of each set of the first list with each of the second, the first list varying slowest.
-abbrev pub crossed : {A : Type 0} → List (List A) → List (List A) → List (List A)
-crossed firsts seconds = flat_map (λ first. map (λ second. first ++ second) seconds) firsts
+abbrev pub cross_product : {A : Type 0} → List (List A) → List (List A) → List (List A)
+cross_product firsts seconds = flat_map (λ first. map (λ second. first ++ second) seconds) firsts
 
 abbrev mutual
   -- The sets that an element of GROUP BY stands for, each as its names are written.
@@ -35,9 +35,9 @@ abbrev mutual
 
 -- The sets that a GROUP BY list stands for: the cross product of its elements, the leftmost varying
 -- slowest. Without GROUP BY that is the one empty set.
-abbrev pub expanded : List ElementForm → List (List (List ℕ))
-expanded [] = [] ∷ []
-expanded (g ∷ gs) = crossed (group_sets g) (expanded gs)
+abbrev pub expansion : List ElementForm → List (List (List ℕ))
+expansion [] = [] ∷ []
+expansion (g ∷ gs) = cross_product (group_sets g) (expansion gs)
 
 -- The names in GROUP BY, from left to right.
 abbrev pub grouping_names : TreeForm → List (List ℕ)
@@ -54,7 +54,7 @@ ordered_set grouping places = filter (λ c. list_any (λ p. p == c) places) grou
 -- The expanded list of grouping sets of a query, each as the places of its columns, in the order in
 -- which GROUP BY first names them.
 abbrev pub expanded_sets : List Field → TreeForm → List (List ℕ)
-expanded_sets fields t = map (λ names. ordered_set (grouping_places fields t) (places_of fields names)) (expanded t.groups)
+expanded_sets fields t = map (λ names. ordered_set (grouping_places fields t) (places_of fields names)) (expansion t.groups)
 
 -- Whether two sets have the same columns, in whatever order and however often.
 abbrev pub same_columns : List ℕ → List ℕ → Bool

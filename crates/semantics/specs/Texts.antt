@@ -14,16 +14,16 @@ use Rattle.semantics.specs.declared.line_fault.LineFault.TheVariants.{TooLong, N
 -- ---- the report
 
 -- A text that begins with a backslash has one more in front, so that none is the sign of NULL.
-abbrev pub marked : List ℕ → List ℕ
-marked [] = []
-marked (b ∷ bs) = if b == 92 then 92 ∷ b ∷ bs else b ∷ bs
+abbrev pub escaped_text : List ℕ → List ℕ
+escaped_text [] = []
+escaped_text (b ∷ bs) = if b == 92 then 92 ∷ b ∷ bs else b ∷ bs
 
 -- A value as a field.
 abbrev pub value_field : Datum → List ℕ
 value_field (boolean true) = codes "true"
 value_field (boolean false) = codes "false"
 value_field (whole n) = signed_decimal n
-value_field (text s) = marked s
+value_field (text s) = escaped_text s
 value_field null = codes "\\N"
 
 -- A cell as a field; an average is its sum and its count.

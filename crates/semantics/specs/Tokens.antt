@@ -4,7 +4,7 @@ use Rattle.std.specs.Char.{is_ascii_digit}
 use Rattle.std.specs.List.{list_all}
 use Rattle.std.specs.Prelude.{◌≡◌, ◌≢◌, ◌<◌, ◌≤◌, ◌+◌, ◌^◌, ℕ, pos, Bool, true, false, ◌==◌, ◌||◌, ◌&&◌, Some, None, List, [], ◌∷◌, ◌++◌, length, codes}
 use Rattle.std.specs.Str.Parse.{digits_value}
-use Rattle.semantics.specs.Words.{is_word, continues_word, reserved, quoted}
+use Rattle.semantics.specs.Words.{is_word, continues_word, reserved_word, quoted_text}
 use Rattle.semantics.specs.declared.token.Sign.{Sign}
 use Rattle.semantics.specs.declared.token.Token.{Token}
 use Rattle.semantics.specs.declared.token.Word.{Word}
@@ -48,10 +48,10 @@ IsLongestSign sign rest =
 -- before what makes no longer one. A whole number fits 64 bits, and no letter, digit or `_` follows
 -- it.
 pub data IsToken : List ℕ → Token → List ℕ → Type 0 where
-  keyword : {front rest : List ℕ} {word : Word} → is_word front ≡ true → reserved front ≡ Some word → begins_with continues_word rest ≡ false → IsToken front (tokens.Word word) rest
-  name : {front rest : List ℕ} → is_word front ≡ true → reserved front ≡ None → begins_with continues_word rest ≡ false → IsToken front (tokens.Name front) rest
-  quoted_name : {first : ℕ} {others rest : List ℕ} → begins_with (λ b. b == 34) rest ≡ false → IsToken (quoted 34 (first ∷ others)) (tokens.Name (first ∷ others)) rest
-  text : {content rest : List ℕ} → begins_with (λ b. b == 39) rest ≡ false → IsToken (quoted 39 content) (tokens.Text content) rest
+  keyword : {front rest : List ℕ} {word : Word} → is_word front ≡ true → reserved_word front ≡ Some word → begins_with continues_word rest ≡ false → IsToken front (tokens.Word word) rest
+  name : {front rest : List ℕ} → is_word front ≡ true → reserved_word front ≡ None → begins_with continues_word rest ≡ false → IsToken front (tokens.Name front) rest
+  quoted_name : {first : ℕ} {others rest : List ℕ} → begins_with (λ b. b == 34) rest ≡ false → IsToken (quoted_text 34 (first ∷ others)) (tokens.Name (first ∷ others)) rest
+  text : {content rest : List ℕ} → begins_with (λ b. b == 39) rest ≡ false → IsToken (quoted_text 39 content) (tokens.Text content) rest
   number : {digits rest : List ℕ} → is_digits digits ≡ true → digits_value 10 digits < 2 ^ 63 → begins_with continues_word rest ≡ false → IsToken digits (tokens.Integer (pos (digits_value 10 digits))) rest
   negative : {digits rest : List ℕ} → is_digits digits ≡ true → digits_value 10 digits ≤ 2 ^ 63 → begins_with continues_word rest ≡ false → IsToken (45 ∷ digits) (tokens.Integer (neg_ℤ (pos (digits_value 10 digits)))) rest
   sign : {sign : Sign} {rest : List ℕ} → IsLongestSign sign rest → IsToken (sign_text sign) (tokens.Sign sign) rest

@@ -33,21 +33,21 @@ reserved_words =
     (w.True, "TRUE") ∷ (w.Unknown, "UNKNOWN") ∷ (w.Where, "WHERE") ∷ []
 
 -- The reserved word whose letters a text has without regard to ASCII case, if there is one.
-unfoldable pub reserved : List ℕ → Option Word
-reserved text = option_map (λ entry. entry.0) (find (λ entry. str_eq_ignore_ascii_case text (codes entry.1)) reserved_words)
+unfoldable pub reserved_word : List ℕ → Option Word
+reserved_word text = option_map (λ entry. entry.0) (find (λ entry. str_eq_ignore_ascii_case text (codes entry.1)) reserved_words)
 
 -- Each quote in a text is written twice.
-abbrev pub doubled : ℕ → List ℕ → List ℕ
-doubled quote text = flat_map (λ b. if b == quote then quote ∷ quote ∷ [] else b ∷ []) text
+abbrev pub with_quotes_doubled : ℕ → List ℕ → List ℕ
+with_quotes_doubled quote text = flat_map (λ b. if b == quote then quote ∷ quote ∷ [] else b ∷ []) text
 
 -- A text between quotes.
-abbrev pub quoted : ℕ → List ℕ → List ℕ
-quoted quote text = quote ∷ (doubled quote text ++ quote ∷ [])
+abbrev pub quoted_text : ℕ → List ℕ → List ℕ
+quoted_text quote text = quote ∷ (with_quotes_doubled quote text ++ quote ∷ [])
 
 -- Whether a name may be written without quotes: it is a word, and not a reserved one.
 abbrev pub is_plain_name : List ℕ → Bool
-is_plain_name name = is_word name && is_none (reserved name)
+is_plain_name name = is_word name && is_none (reserved_word name)
 
 -- How a name is written in canonical texts: plain where it can be, else in double quotes.
 abbrev pub name_text : List ℕ → List ℕ
-name_text name = if is_plain_name name then name else quoted 34 name
+name_text name = if is_plain_name name then name else quoted_text 34 name

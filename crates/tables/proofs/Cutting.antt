@@ -7,7 +7,7 @@ use Rattle.std.specs.Result.{result_ok}
 use Rattle.semantics.specs.Values.{Datum}
 use Rattle.semantics.specs.Columns.{Field}
 use Rattle.semantics.specs.declared.line_fault.LineFault.{LineFault}
-use Rattle.semantics.specs.Records.{valid_records, refused, decode_line}
+use Rattle.semantics.specs.Records.{valid_records, refused_lines, decode_line}
 use Rattle.semantics.specs.Lines.{line_feed, lines}
 use Rattle.lines.specs.Pieces.{AllButLast, EndsInFeed}
 use Rattle.lines.proofs.Splits as splits
@@ -67,7 +67,7 @@ numbered-lines fields n (p ∷ more) =
 pub cut-records : (fields : List Field) (input : List ℕ) (pieces : List IndexedPiece) → IsCutInto input pieces → records_of fields pieces ≡ valid_records fields input
 cut-records fields input pieces c = records-valid fields pieces ∙ ap (valid_of fields) (cut-lines pieces c.feeds ∙ ap lines c.joined)
 
-pub cut-refused : (fields : List Field) (input : List ℕ) (pieces : List IndexedPiece) → IsCutInto input pieces → numbered_from 0 (map (note_of fields) pieces) ≡ refused fields input
+pub cut-refused : (fields : List Field) (input : List ℕ) (pieces : List IndexedPiece) → IsCutInto input pieces → numbered_from 0 (map (note_of fields) pieces) ≡ refused_lines fields input
 cut-refused fields input pieces c =
     numbered-lines fields 0 pieces
     ∙ ap (λ n. refused_from fields n (all_lines pieces)) (let e : 0 + 1 ≡ 1 = omega arith in e)

@@ -5,7 +5,7 @@ use Rattle.std.specs.List.{enumerate_from, flat_map}
 use Rattle.semantics.specs.Aggregates.{AggregateFunction}
 use Rattle.tables_groups.specs.declared.group.Group.{Group}
 use Rattle.semantics.specs.Groups.{Row, SetGroup, keys, members}
-use Rattle.semantics.specs.Found.{group_summary, Found, all_found, found}
+use Rattle.semantics.specs.Found.{group_summary, Found, all_found, found_group}
 use Rattle.tables_groups.specs.GroupSummaries.{group_summaries, group_summary_in}
 use Rattle.tables_groups.specs.Bags.{SameBag, weigh}
 use Rattle.tables.proofs.Bags.{weigh-append, weigh-map}
@@ -18,14 +18,14 @@ set_groups rows s = map (λ key. record { index = s.0; key = key; members = memb
 
 -- the rows of one grouping set weigh what the summaries of its groups weigh, beside the index of the set
 weigh-set : (f : Found → ℕ) (n : ℕ) (set : List ℕ) (fs : List AggregateFunction) (rows : List Row)
-    → weigh f (map (found fs) (set_groups rows (n, set))) ≡ weigh (λ r. f (n, r)) (group_summaries set fs rows)
+    → weigh f (map (found_group fs) (set_groups rows (n, set))) ≡ weigh (λ r. f (n, r)) (group_summaries set fs rows)
 weigh-set f n set fs rows =
-    weigh-map f (found fs) (set_groups rows (n, set))
-    ∙ weigh-map (λ g. f (found fs g)) (λ key. record { index = n; key = key; members = members set key rows }) (keys set rows)
+    weigh-map f (found_group fs) (set_groups rows (n, set))
+    ∙ weigh-map (λ g. f (found_group fs g)) (λ key. record { index = n; key = key; members = members set key rows }) (keys set rows)
     ∙ sym (weigh-map (λ r. f (n, r)) (λ key. group_summary fs key (members set key rows)) (keys set rows))
 
 one-set : (f : Found → ℕ) (n : ℕ) (set : List ℕ) (fs : List AggregateFunction) (gs : List Group) (rows : List Row) → SameBag (map group_summary_in gs) (group_summaries set fs rows)
-    → weigh f (map (λ g. (n, group_summary_in g)) gs) ≡ weigh f (map (found fs) (set_groups rows (n, set)))
+    → weigh f (map (λ g. (n, group_summary_in g)) gs) ≡ weigh f (map (found_group fs) (set_groups rows (n, set)))
 one-set f n set fs gs rows same =
     weigh-map f (λ g. (n, group_summary_in g)) gs
     ∙ sym (weigh-map (λ r. f (n, r)) group_summary_in gs)
@@ -33,7 +33,7 @@ one-set f n set fs gs rows same =
     ∙ sym (weigh-set f n set fs rows)
 
 found-from : (f : Found → ℕ) (n : ℕ) (sets : List (List ℕ)) (fs : List AggregateFunction) (groups : List (Vec Group Global)) (rows : List Row) → AreGroupsOf sets fs groups rows
-    → weigh f (rows_from n groups) ≡ weigh f (map (found fs) (flat_map (set_groups rows) (enumerate_from n sets)))
+    → weigh f (rows_from n groups) ≡ weigh f (map (found_group fs) (flat_map (set_groups rows) (enumerate_from n sets)))
 found-from f n [] fs [] rows h = refl
 found-from f n [] fs (g ∷ groups) rows h = absurd h
 found-from f n (s ∷ sets) fs [] rows h = absurd h
@@ -42,8 +42,8 @@ found-from f n (s ∷ sets) fs (g ∷ groups) rows h =
     let a = weigh-append f front (rows_from (n + 1) groups) in
     let b = one-set f n s fs g.items rows h.0 in
     let c = found-from f (n + 1) sets fs groups rows h.1 in
-    let d = ap (weigh f) (map-append (found fs) (set_groups rows (n, s)) (flat_map (set_groups rows) (enumerate_from (n + 1) sets)))
-    ∙ weigh-append f (map (found fs) (set_groups rows (n, s))) (map (found fs) (flat_map (set_groups rows) (enumerate_from (n + 1) sets))) in
+    let d = ap (weigh f) (map-append (found_group fs) (set_groups rows (n, s)) (flat_map (set_groups rows) (enumerate_from (n + 1) sets)))
+    ∙ weigh-append f (map (found_group fs) (set_groups rows (n, s))) (map (found_group fs) (flat_map (set_groups rows) (enumerate_from (n + 1) sets))) in
     omega (arith, a, b, c, d)
 
 -- the rows of the groups of each set are those of all groups
@@ -55,17 +55,17 @@ all-found sets fs groups rows h = λ f. found-from f 0 sets fs groups rows h
 
 -- what the rows of a front set and of those behind it weigh
 weigh-sets : (f : Found → ℕ) (fs : List AggregateFunction) (rows : List Row) (n : ℕ) (set : List ℕ) (sets : List (List ℕ))
-    → weigh f (map (found fs) (flat_map (set_groups rows) (enumerate_from n (set ∷ sets))))
-    ≡ weigh (λ r. f (n, r)) (group_summaries set fs rows) + weigh f (map (found fs) (flat_map (set_groups rows) (enumerate_from (n + 1) sets)))
+    → weigh f (map (found_group fs) (flat_map (set_groups rows) (enumerate_from n (set ∷ sets))))
+    ≡ weigh (λ r. f (n, r)) (group_summaries set fs rows) + weigh f (map (found_group fs) (flat_map (set_groups rows) (enumerate_from (n + 1) sets)))
 weigh-sets f fs rows n set sets =
     let rest = flat_map (set_groups rows) (enumerate_from (n + 1) sets) in
-    let a = ap (weigh f) (map-append (found fs) (set_groups rows (n, set)) rest) ∙ weigh-append f (map (found fs) (set_groups rows (n, set))) (map (found fs) rest) in
+    let a = ap (weigh f) (map-append (found_group fs) (set_groups rows (n, set)) rest) ∙ weigh-append f (map (found_group fs) (set_groups rows (n, set))) (map (found_group fs) rest) in
     let b = weigh-set f n set fs rows in
     omega (arith, a, b)
 
 same-from : (f : Found → ℕ) (fs : List AggregateFunction) (rows others : List Row) → ((set : List ℕ) → SameBag (group_summaries set fs rows) (group_summaries set fs others))
     → (n : ℕ) (sets : List (List ℕ))
-    → weigh f (map (found fs) (flat_map (set_groups rows) (enumerate_from n sets))) ≡ weigh f (map (found fs) (flat_map (set_groups others) (enumerate_from n sets)))
+    → weigh f (map (found_group fs) (flat_map (set_groups rows) (enumerate_from n sets))) ≡ weigh f (map (found_group fs) (flat_map (set_groups others) (enumerate_from n sets)))
 same-from f fs rows others same n [] = refl
 same-from f fs rows others same n (set ∷ sets) =
     let a = weigh-sets f fs rows n set sets in

@@ -16,7 +16,7 @@ use Rattle.semantics.specs.Groups.{Row, Key, keys, members, project, same_key}
 use Rattle.tables_groups.specs.Bags.{SameBag, weigh}
 use Rattle.tables_groups.proofs.GroupsLaw.{keys-distinct}
 use Rattle.tables_groups.proofs.Order.{same_key-Decides}
-use Rattle.semantics.specs.Found.{Found, aggregate_function, aggregate_functions, all_found, found}
+use Rattle.semantics.specs.Found.{Found, aggregate_function, aggregate_functions, all_found, found_group}
 use Rattle.tables_groups.specs.Fitting.{AreFitting, HasType}
 use Rattle.tables.proofs.Bags.{all-append, all-distinct, all-same, weigh-map}
 use Rattle.tables.proofs.Finding.{set_groups}
@@ -138,19 +138,19 @@ keys-length [] rows = (refl, tt)
 keys-length (p ∷ ps) rows = all-distinct (λ k. length k ≡ length (p ∷ ps)) same_key (map (project (p ∷ ps)) rows) (projected-length (p ∷ ps) rows)
 
 set-fits : (sets : List (List ℕ)) (fs : List AggregateFunction) (rows : List Row) (n : ℕ) (s : List ℕ) (ks : List Key) → n < length sets → slice_index_or sets n [] ≡ s → AllByRecursion (λ k. length k ≡ length s) ks
-    → AllByRecursion (λ r. fits sets fs r ≡ true) (map (found fs) (map (λ key. record { index = n; key = key; members = members s key rows }) ks))
+    → AllByRecursion (λ r. fits sets fs r ≡ true) (map (found_group fs) (map (λ key. record { index = n; key = key; members = members s key rows }) ks))
 set-fits sets fs rows n s [] l e h = tt
 set-fits sets fs rows n s (k ∷ ks) l e h =
-    (fits-from sets fs (found fs (record { index = n; key = k; members = members s k rows })) l (h.0 ∙ sym (ap length e)) (length-map fs _), set-fits sets fs rows n s ks l e h.1)
+    (fits-from sets fs (found_group fs (record { index = n; key = k; members = members s k rows })) l (h.0 ∙ sym (ap length e)) (length-map fs _), set-fits sets fs rows n s ks l e h.1)
 
 rows-fit : (whole : List (List ℕ)) (fs : List AggregateFunction) (rows : List Row) (n : ℕ) (sets : List (List ℕ)) → n + length sets ≡ length whole
     → ((i : ℕ) → i < length sets → slice_index_or whole (n + i) [] ≡ slice_index_or sets i [])
-    → AllByRecursion (λ r. fits whole fs r ≡ true) (map (found fs) (flat_map (set_groups rows) (enumerate_from n sets)))
+    → AllByRecursion (λ r. fits whole fs r ≡ true) (map (found_group fs) (flat_map (set_groups rows) (enumerate_from n sets)))
 rows-fit whole fs rows n [] l at = tt
 rows-fit whole fs rows n (s ∷ sets) l at =
     let first : slice_index_or whole n [] ≡ s = ap (λ m. slice_index_or whole m []) (let e : n ≡ n + 0 = omega arith in e) ∙ at 0 (omega arith) in
-    subst (λ rs. AllByRecursion (λ r. fits whole fs r ≡ true) rs) (sym (map-append (found fs) (set_groups rows (n, s)) (flat_map (set_groups rows) (enumerate_from (n + 1) sets))))
-    (all-append (λ r. fits whole fs r ≡ true) (map (found fs) (set_groups rows (n, s))) (map (found fs) (flat_map (set_groups rows) (enumerate_from (n + 1) sets)))
+    subst (λ rs. AllByRecursion (λ r. fits whole fs r ≡ true) rs) (sym (map-append (found_group fs) (set_groups rows (n, s)) (flat_map (set_groups rows) (enumerate_from (n + 1) sets))))
+    (all-append (λ r. fits whole fs r ≡ true) (map (found_group fs) (set_groups rows (n, s))) (map (found_group fs) (flat_map (set_groups rows) (enumerate_from (n + 1) sets)))
     (set-fits whole fs rows n s (keys s rows) (omega (arith, l)) first (keys-length s rows))
     (rows-fit whole fs rows (n + 1) sets (omega (arith, l))
     (λ i h. ap (λ m. slice_index_or whole m []) (let e : n + 1 + i ≡ n + suc i = omega arith in e) ∙ at (suc i) (omega (arith, h)))))
@@ -158,18 +158,18 @@ rows-fit whole fs rows n (s ∷ sets) l at =
 -- ---- no two of them are of one group
 
 abbrev places_from : List Row → ℕ → List (List ℕ) → List AggregateFunction → List (ℕ × Key)
-places_from rows n sets fs = map place (map (found fs) (flat_map (set_groups rows) (enumerate_from n sets)))
+places_from rows n sets fs = map place (map (found_group fs) (flat_map (set_groups rows) (enumerate_from n sets)))
 
 set-places : (fs : List AggregateFunction) (rows : List Row) (n : ℕ) (s : List ℕ) (ks : List Key)
-    → map place (map (found fs) (map (λ key. record { index = n; key = key; members = members s key rows }) ks)) ≡ map (λ k. (n, k)) ks
+    → map place (map (found_group fs) (map (λ key. record { index = n; key = key; members = members s key rows }) ks)) ≡ map (λ k. (n, k)) ks
 set-places fs rows n s [] = refl
 set-places fs rows n s (k ∷ ks) = ap (λ ps. (n, k) ∷ ps) (set-places fs rows n s ks)
 
 places-more : (rows : List Row) (n : ℕ) (s : List ℕ) (sets : List (List ℕ)) (fs : List AggregateFunction)
     → places_from rows n (s ∷ sets) fs ≡ map (λ k. (n, k)) (keys s rows) ++ places_from rows (n + 1) sets fs
 places-more rows n s sets fs =
-    ap (map place) (map-append (found fs) (set_groups rows (n, s)) (flat_map (set_groups rows) (enumerate_from (n + 1) sets)))
-    ∙ map-append place (map (found fs) (set_groups rows (n, s))) (map (found fs) (flat_map (set_groups rows) (enumerate_from (n + 1) sets)))
+    ap (map place) (map-append (found_group fs) (set_groups rows (n, s)) (flat_map (set_groups rows) (enumerate_from (n + 1) sets)))
+    ∙ map-append place (map (found_group fs) (set_groups rows (n, s))) (map (found_group fs) (flat_map (set_groups rows) (enumerate_from (n + 1) sets)))
     ∙ ap (λ ps. ps ++ places_from rows (n + 1) sets fs) (set-places fs rows n s (keys s rows))
 
 at-index : (m n : ℕ) (ks : List Key) → m < n → AllByRecursion (λ (p : ℕ × Key). m < p.0) (map (λ k. (n, k)) ks)

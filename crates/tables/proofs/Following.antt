@@ -9,7 +9,7 @@ use Rattle.std.proofs.lemmas.List.Splits.{length-slice_split}
 use Rattle.std.specs.List.{list_all, onto_first, slice_split}
 use Rattle.semantics.specs.Columns.{Field}
 use Rattle.semantics.specs.declared.line_fault.LineFault.{LineFault}
-use Rattle.semantics.specs.Records.{valid_records, refused}
+use Rattle.semantics.specs.Records.{valid_records, refused_lines}
 use Rattle.semantics.specs.Lines.{line_feed, lines, without_empty_last}
 use Rattle.lines.specs.Pieces.{AreWholeLines}
 use Rattle.lines.proofs.Fronts.{valid-whole_lines, lines-whole_lines, refused-whole_lines}
@@ -113,18 +113,18 @@ count-lines input pieces c = ap length (cut-lines pieces c.feeds ∙ ap lines c.
 count-numbered : (fields : List Field) (before : ℕ) (pieces : List IndexedPiece) → length (numbered_from before (map (note_of fields) pieces)) ≡ length (refused_within fields pieces)
 count-numbered fields before [] = refl
 count-numbered fields before (p ∷ more) =
-    let found = refused fields p.bytes in
+    let found = refused_lines fields p.bytes in
     let both = length-append (map (shift before) found) (numbered_from (before + length (lines p.bytes)) (map (note_of fields) more)) in
     let first = length-map found (shift before) in
     let rest = count-numbered fields (before + length (lines p.bytes)) more in
     let all = length-append found (refused_within fields more) in
     omega (arith, both, first, rest, all)
 
-count-refused : (fields : List Field) (input : List ℕ) (pieces : List IndexedPiece) → IsCutInto input pieces → length (refused_within fields pieces) ≡ length (refused fields input)
+count-refused : (fields : List Field) (input : List ℕ) (pieces : List IndexedPiece) → IsCutInto input pieces → length (refused_within fields pieces) ≡ length (refused_lines fields input)
 count-refused fields input pieces c = sym (count-numbered fields 0 pieces) ∙ ap length (cut-refused fields input pieces c)
 
 pub refused-in_order : (fields : List Field) (input : List ℕ) (pieces : List IndexedPiece) (notes : List Noted) (found : List (ℕ × LineFault)) → IsCutInto input pieces
-    → SameBag (map (note_of fields) pieces) notes → AreLinesOf notes found → found ≡ refused fields input
+    → SameBag (map (note_of fields) pieces) notes → AreLinesOf notes found → found ≡ refused_lines fields input
 refused-in_order fields input pieces notes found c same are = lines-in_order fields pieces notes found c.in_order same are ∙ cut-refused fields input pieces c
 
 -- ---- a front that is whole lines, and the rest, are one piece
@@ -152,21 +152,21 @@ followed-lines front back pieces more whole c d =
 pub followed-count : (fields : List Field) (front back : List ℕ) (pieces more : List IndexedPiece) → AreWholeLines front → IsCutInto front pieces → IsCutInto back more
     → length (refused_within fields (whole_piece (front ++ back))) ≡ length (refused_within fields pieces) + length (refused_within fields more)
 followed-count fields front back pieces more whole c d =
-    let joined = ap length (append-nil (refused fields (front ++ back)) ∙ refused-whole_lines fields front back whole) in
-    let both = length-append (refused fields front) (map (shift (length (lines front))) (refused fields back)) in
-    let same = length-map (refused fields back) (shift (length (lines front))) in
+    let joined = ap length (append-nil (refused_lines fields (front ++ back)) ∙ refused-whole_lines fields front back whole) in
+    let both = length-append (refused_lines fields front) (map (shift (length (lines front))) (refused_lines fields back)) in
+    let same = length-map (refused_lines fields back) (shift (length (lines front))) in
     let first = count-refused fields front pieces c in
     let rest = count-refused fields back more d in
     omega (arith, joined, both, same, first, rest)
 
 pub followed-refused : (fields : List Field) (front back : List ℕ) (pieces more : List IndexedPiece) (notes others : List Noted) (before : ℕ) (found all : List (ℕ × LineFault))
     → AreWholeLines front → IsCutInto front pieces → IsCutInto back more → SameBag (map (note_of fields) pieces) notes → SameBag (map (note_of fields) more) others
-    → AreLinesOf notes found → AreLinesBehind before others found all → before ≡ length (all_lines pieces) → all ≡ refused fields (front ++ back)
+    → AreLinesOf notes found → AreLinesBehind before others found all → before ≡ length (all_lines pieces) → all ≡ refused_lines fields (front ++ back)
 followed-refused fields front back pieces more notes others before found all whole c d same also are behind counted =
     behind.behind
     ∙ ap (λ ls. ls ++ map (shift before) behind.lines) (refused-in_order fields front pieces notes found c same are)
-    ∙ ap (λ ls. refused fields front ++ map (shift before) ls) (refused-in_order fields back more others behind.lines d also behind.of_notes)
-    ∙ ap (λ n. refused fields front ++ map (shift n) (refused fields back)) (counted ∙ count-lines front pieces c)
+    ∙ ap (λ ls. refused_lines fields front ++ map (shift before) ls) (refused-in_order fields back more others behind.lines d also behind.of_notes)
+    ∙ ap (λ n. refused_lines fields front ++ map (shift n) (refused_lines fields back)) (counted ∙ count-lines front pieces c)
     ∙ sym (refused-whole_lines fields front back whole)
 
 -- ---- bytes behind a front that is whole lines
@@ -186,19 +186,19 @@ lines-behind front rest pieces whole c =
     followed-lines front rest pieces (whole_piece rest) whole c (one-piece rest) ∙ ap (λ n. length (all_lines pieces) + n) (whole-lines rest)
 
 pub count-behind : (fields : List Field) (front rest : List ℕ) (pieces : List IndexedPiece) → AreWholeLines front → IsCutInto front pieces
-    → length (refused_within fields (whole_piece (front ++ rest))) ≡ length (refused_within fields pieces) + length (refused fields rest)
+    → length (refused_within fields (whole_piece (front ++ rest))) ≡ length (refused_within fields pieces) + length (refused_lines fields rest)
 count-behind fields front rest pieces whole c =
     followed-count fields front rest pieces (whole_piece rest) whole c (one-piece rest)
-    ∙ ap (λ (ls : List (ℕ × LineFault)). length (refused_within fields pieces) + length ls) (append-nil (refused fields rest))
+    ∙ ap (λ (ls : List (ℕ × LineFault)). length (refused_within fields pieces) + length ls) (append-nil (refused_lines fields rest))
 
 pub refused-behind : (fields : List Field) (front rest : List ℕ) (pieces : List IndexedPiece) (notes : List Noted) (before : ℕ) (found more all : List (ℕ × LineFault))
     → AreWholeLines front → IsCutInto front pieces → SameBag (map (note_of fields) pieces) notes → AreLinesOf notes found → before ≡ length (all_lines pieces)
-    → more ≡ refused fields rest → all ≡ found ++ map (shift before) more → all ≡ refused fields (front ++ rest)
+    → more ≡ refused_lines fields rest → all ≡ found ++ map (shift before) more → all ≡ refused_lines fields (front ++ rest)
 refused-behind fields front rest pieces notes before found more all whole c same are counted is behind =
     behind
     ∙ ap (λ ls. ls ++ map (shift before) more) (refused-in_order fields front pieces notes found c same are)
-    ∙ ap (λ ls. refused fields front ++ map (shift before) ls) is
-    ∙ ap (λ n. refused fields front ++ map (shift n) (refused fields rest)) (counted ∙ count-lines front pieces c)
+    ∙ ap (λ ls. refused_lines fields front ++ map (shift before) ls) is
+    ∙ ap (λ n. refused_lines fields front ++ map (shift n) (refused_lines fields rest)) (counted ∙ count-lines front pieces c)
     ∙ sym (refused-whole_lines fields front rest whole)
 
 pub numbers-behind : (before count : ℕ) (found more all : List (ℕ × LineFault)) → All (λ line. line.0 ≤ before) found → All (λ line. line.0 ≤ count) more
@@ -216,9 +216,9 @@ abbrev noted : ℕ → ℕ → List (ℕ × LineFault) → Noted
 noted index count found = record { index = index; lines = count; refused = found }
 
 pub followed-note : (fields : List Field) (input : List ℕ) (notes : List PieceRefusals) (note : PieceRefusals) → notes ≡ note ∷ [] → note.index ≡ 0 → note.lines ≡ length (lines input)
-    → note.refused.items ≡ refused fields input → SameBag (map (note_of fields) (whole_piece input)) (map note_in notes)
+    → note.refused.items ≡ refused_lines fields input → SameBag (map (note_of fields) (whole_piece input)) (map note_in notes)
 followed-note fields input notes note is first count found =
-    let same : note_in note ≡ noted 0 (length (lines input)) (refused fields input) =
+    let same : note_in note ≡ noted 0 (length (lines input)) (refused_lines fields input) =
     ap (λ index. noted index note.lines note.refused.items) first ∙ ap (λ n. noted 0 n note.refused.items) count ∙ ap (noted 0 (length (lines input))) found in
     subst (λ (ns : List Noted). SameBag (map (note_of fields) (whole_piece input)) ns) (sym (ap (map note_in) is ∙ ap (λ n. n ∷ []) same)) (λ f. refl)
 
@@ -235,7 +235,7 @@ one-lines (byte ∷ bytes) pieces c = whole-lines (byte ∷ bytes) ∙ sym (coun
 
 pub one-refused : (fields : List Field) (input : List ℕ) (pieces : List IndexedPiece) → IsCutInto input pieces → length (refused_within fields (one_piece input)) ≡ length (refused_within fields pieces)
 one-refused fields [] pieces c = sym (count-refused fields [] pieces c)
-one-refused fields (byte ∷ bytes) pieces c = ap length (append-nil (refused fields (byte ∷ bytes))) ∙ sym (count-refused fields (byte ∷ bytes) pieces c)
+one-refused fields (byte ∷ bytes) pieces c = ap length (append-nil (refused_lines fields (byte ∷ bytes))) ∙ sym (count-refused fields (byte ∷ bytes) pieces c)
 
 some-parts : (b : ℕ) (ends : Bool) (ps : List (List ℕ)) → 0 < length ps → 0 < length (without_empty_last (cond ends ([] ∷ ps) (onto_first b ps)))
 some-parts b ends [] h = absurd (omega (arith, h))
@@ -253,7 +253,7 @@ AreOneNote count found notes =
     (count ≡ 0 → notes ≡ []) × (0 < count → (note : PieceRefusals) × (note.index ≡ 0) × (note.lines ≡ count) × (note.refused.items ≡ found) × (notes ≡ note ∷ []))
 
 pub one-noted : (fields : List Field) (input : List ℕ) (pieces : List IndexedPiece) (count : ℕ) (found : List (ℕ × LineFault)) (notes : List PieceRefusals) → IsCutInto input pieces
-    → count ≡ length (all_lines pieces) → found ≡ refused fields input → AreOneNote count found notes → SameBag (map (note_of fields) (one_piece input)) (map note_in notes)
+    → count ≡ length (all_lines pieces) → found ≡ refused_lines fields input → AreOneNote count found notes → SameBag (map (note_of fields) (one_piece input)) (map note_in notes)
 one-noted fields [] pieces count found notes c counted same are =
     let none = count-lines [] pieces c in
     subst (λ (ns : List PieceRefusals). SameBag [] (map note_in ns)) (sym (are.0 (omega (arith, counted, none)))) (λ f. refl)

@@ -5,10 +5,10 @@ use Rattle.std.proofs.lemmas.List.Elements.{All-append}
 use Rattle.std.specs.List.{All}
 use Rattle.semantics.specs.Columns.{Field}
 use Rattle.semantics.specs.declared.line_fault.LineFault.{LineFault}
-use Rattle.semantics.specs.Records.{valid_records, refused}
+use Rattle.semantics.specs.Records.{valid_records, refused_lines}
 use Rattle.semantics.specs.Lines.{lines}
 use Rattle.semantics.specs.Syntax.{TreeForm}
-use Rattle.semantics.specs.Conditions.{kept}
+use Rattle.semantics.specs.Conditions.{kept_records}
 use Rattle.tables_groups.specs.Bags.{SameBag}
 use Rattle.tables.specs.declared.piece_refusals.PieceRefusals.{PieceRefusals}
 use Rattle.tables.specs.Notes.{IsWellNumbered, Noted, lines_noted, note_in, note_of}
@@ -30,11 +30,11 @@ few-records fields (p ∷ pieces) =
 
 -- fewer than 2^63 lines have fewer than 2^63 records that are kept
 pub few-kept : (fields : List Field) (q : TreeForm) (pieces : List IndexedPiece) (lines : ℕ) → lines ≡ length (all_lines pieces) → lines < 2 ^ 63
-    → length (kept fields q (records_of fields pieces)) < 2 ^ 63
+    → length (kept_records fields q (records_of fields pieces)) < 2 ^ 63
 few-kept fields q pieces lines e few =
-    let kept = length-kept fields q (records_of fields pieces) in
+    let kept_records = length-kept fields q (records_of fields pieces) in
     let records = few-records fields pieces in
-    omega (arith, kept, records, e, few)
+    omega (arith, kept_records, records, e, few)
 
 -- ---- the piece behind the others
 
@@ -52,21 +52,21 @@ lines-more pieces index bytes =
     lines-append pieces (piece_at index bytes ∷ []) ∙ ap (λ ls. length (all_lines pieces) + length ls) (append-nil (lines bytes))
 
 pub refused-more : (fields : List Field) (pieces : List IndexedPiece) (index : ℕ) (bytes : List ℕ)
-    → length (refused_within fields (pieces ++ piece_at index bytes ∷ [])) ≡ length (refused_within fields pieces) + length (refused fields bytes)
+    → length (refused_within fields (pieces ++ piece_at index bytes ∷ [])) ≡ length (refused_within fields pieces) + length (refused_lines fields bytes)
 refused-more fields pieces index bytes =
-    refused-append fields pieces (piece_at index bytes ∷ []) ∙ ap (λ rs. length (refused_within fields pieces) + length rs) (append-nil (refused fields bytes))
+    refused-append fields pieces (piece_at index bytes ∷ []) ∙ ap (λ rs. length (refused_within fields pieces) + length rs) (append-nil (refused_lines fields bytes))
 
 abbrev noted : ℕ → ℕ → List (ℕ × LineFault) → Noted
 noted index n rs = record { index = index; lines = n; refused = rs }
 
 -- the note of the piece behind those of the others
 pub notes-more : (fields : List Field) (pieces : List IndexedPiece) (ns : List Noted) (index : ℕ) (bytes : List ℕ) (n : ℕ) (rs : List (ℕ × LineFault))
-    → n ≡ length (lines bytes) → rs ≡ refused fields bytes → SameBag (map (note_of fields) pieces) ns
+    → n ≡ length (lines bytes) → rs ≡ refused_lines fields bytes → SameBag (map (note_of fields) pieces) ns
     → SameBag (map (note_of fields) (pieces ++ piece_at index bytes ∷ [])) (ns ++ noted index n rs ∷ [])
 notes-more fields pieces ns index bytes n rs e f p =
     notes-append fields pieces (piece_at index bytes ∷ []) ns (noted index n rs ∷ []) p
     (subst (λ (note : Noted). SameBag (map (note_of fields) (piece_at index bytes ∷ [])) (note ∷ []))
-    (ap (λ m. noted index m (refused fields bytes)) (sym e) ∙ ap (noted index n) (sym f))
+    (ap (λ m. noted index m (refused_lines fields bytes)) (sym e) ∙ ap (noted index n) (sym f))
     (λ f. refl))
 
 -- one note more

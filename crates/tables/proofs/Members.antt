@@ -7,9 +7,9 @@ use Rattle.std.specs.List.{enumerate_from, flat_map}
 use Rattle.semantics.specs.Columns.{Field}
 use Rattle.semantics.specs.Syntax.{TreeForm}
 use Rattle.semantics.specs.Aggregates.{AggregateFunction}
-use Rattle.semantics.specs.Found.{aggregate_functions, group_summary, Found, found, query_found}
+use Rattle.semantics.specs.Found.{aggregate_functions, group_summary, Found, found_group, query_found}
 use Rattle.semantics.specs.Sets.{sets_of}
-use Rattle.semantics.specs.Conditions.{kept}
+use Rattle.semantics.specs.Conditions.{kept_records}
 use Rattle.semantics.specs.Groups.{Row, Key, keys, members}
 use Rattle.tables_groups.specs.GroupSummaries.{group_summaries}
 use Rattle.tables_groups.specs.Bags.{SameBag, weigh}
@@ -38,7 +38,7 @@ of_set index f row = cond (row.0 == index) (f row) 0
 
 -- the rows of a set, by some of its keys
 abbrev rows_of : List AggregateFunction → List Row → ℕ → List ℕ → List Key → List Found
-rows_of fs rows n set ks = map (found fs) (map (λ key. record { index = n; key = key; members = members set key rows }) ks)
+rows_of fs rows n set ks = map (found_group fs) (map (λ key. record { index = n; key = key; members = members set key rows }) ks)
 
 one-set : (index : ℕ) (f : Found → ℕ) (fs : List AggregateFunction) (rows : List Row) (n : ℕ) (set : List ℕ) (ks : List Key)
     → weigh (of_set index f) (rows_of fs rows n set ks) ≡ cond (n == index) (weigh (λ key. f (n, group_summary fs key (members set key rows))) ks) 0
@@ -49,15 +49,15 @@ one-set index f fs rows n set (k ∷ ks) =
 
 -- the weight of the rows of all sets, of which the first has the index n
 abbrev weight_from : ℕ → (Found → ℕ) → List AggregateFunction → List Row → ℕ → List (List ℕ) → ℕ
-weight_from index f fs rows n sets = weigh (of_set index f) (map (found fs) (flat_map (set_groups rows) (enumerate_from n sets)))
+weight_from index f fs rows n sets = weigh (of_set index f) (map (found_group fs) (flat_map (set_groups rows) (enumerate_from n sets)))
 
 first-set : (index : ℕ) (f : Found → ℕ) (fs : List AggregateFunction) (rows : List Row) (n : ℕ) (set : List ℕ) (sets : List (List ℕ))
     → weight_from index f fs rows n (set ∷ sets)
     ≡ cond (n == index) (weigh (λ key. f (n, group_summary fs key (members set key rows))) (keys set rows)) 0 + weight_from index f fs rows (n + 1) sets
 first-set index f fs rows n set sets =
     let front = rows_of fs rows n set (keys set rows) in
-    let rest = map (found fs) (flat_map (set_groups rows) (enumerate_from (n + 1) sets)) in
-    ap (weigh (of_set index f)) (map-append (found fs) (set_groups rows (n, set)) (flat_map (set_groups rows) (enumerate_from (n + 1) sets)))
+    let rest = map (found_group fs) (flat_map (set_groups rows) (enumerate_from (n + 1) sets)) in
+    ap (weigh (of_set index f)) (map-append (found_group fs) (set_groups rows (n, set)) (flat_map (set_groups rows) (enumerate_from (n + 1) sets)))
     ∙ weigh-append (of_set index f) front rest
     ∙ ap (λ m. m + weigh (of_set index f) rest) (one-set index f fs rows n set (keys set rows))
 
@@ -108,7 +108,7 @@ pub record AreParted : Type 0 where
 pub each-record-once : AreParted → (fields : List Field) (q : TreeForm) (rows : List Row) (given : List Found) → SameBag given (query_found fields q rows)
     → HasEachRecordOnce fields q given rows
 each-record-once parted fields q rows given same =
-    let all = kept fields q rows in
+    let all = kept_records fields q rows in
     let fs = aggregate_functions fields q in
     let sets = sets_of fields q in
     let of_rows : (f : Found → ℕ) (index : ℕ) → index < length sets

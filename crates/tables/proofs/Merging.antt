@@ -6,7 +6,7 @@ use Rattle.std.proofs.lemmas.List.Sums.{sum_by-append, sum_by-cons}
 use Rattle.std.proofs.lemmas.List.Elements.{All-cons}
 use Rattle.std.specs.List.{All}
 use Rattle.semantics.specs.Columns.{Field}
-use Rattle.semantics.specs.Records.{valid_records, refused}
+use Rattle.semantics.specs.Records.{valid_records, refused_lines}
 use Rattle.semantics.specs.Lines.{lines}
 use Rattle.tables_groups.specs.Bags.{SameBag}
 use Rattle.tables.specs.Notes.{IsWellNumbered, Noted, lines_noted, note_in, note_of}
@@ -23,7 +23,7 @@ pub lines-append : (pieces more : List IndexedPiece) → length (all_lines (piec
 lines-append pieces more = ap length (flat_map-append (λ piece. lines piece.bytes) pieces more) ∙ length-append (all_lines pieces) (all_lines more)
 
 pub refused-append : (fields : List Field) (pieces more : List IndexedPiece) → length (refused_within fields (pieces ++ more)) ≡ length (refused_within fields pieces) + length (refused_within fields more)
-refused-append fields pieces more = ap length (flat_map-append (λ piece. refused fields piece.bytes) pieces more) ∙ length-append (refused_within fields pieces) (refused_within fields more)
+refused-append fields pieces more = ap length (flat_map-append (λ piece. refused_lines fields piece.bytes) pieces more) ∙ length-append (refused_within fields pieces) (refused_within fields more)
 
 pub notes-append : (fields : List Field) (pieces more : List IndexedPiece) (ns ms : List Noted) → SameBag (map (note_of fields) pieces) ns → SameBag (map (note_of fields) more) ms
     → SameBag (map (note_of fields) (pieces ++ more)) (ns ++ ms)

@@ -9,7 +9,7 @@ use Rattle.std.specs.List.Sorted.{IsStrictlyIncreasing}
 use Rattle.semantics.specs.Values.{Datum}
 use Rattle.semantics.specs.Columns.{Field}
 use Rattle.semantics.specs.declared.line_fault.LineFault.{LineFault}
-use Rattle.semantics.specs.Records.{refused, decode_line}
+use Rattle.semantics.specs.Records.{refused_lines, decode_line}
 use Rattle.semantics.specs.Lines.{lines}
 use Rattle.tables_groups.specs.Bags.{SameBag, weigh}
 use Rattle.tables.specs.Notes.{AreLinesOf, Noted, note_of, numbered_from}
@@ -64,15 +64,15 @@ abbrev shift : ℕ → ℕ × LineFault → ℕ × LineFault
 shift n line = (n + line.0, line.1)
 
 numbered-behind : (fields : List Field) (front rest whole : List IndexedPiece) → whole ≡ front ++ rest → AreBelow front rest → Rises index_of rest
-    → numbered_from (length (all_lines front)) (map (note_of fields) rest) ≡ flat_map (λ piece. map (shift (length (all_lines (pieces_before piece.index whole)))) (refused fields piece.bytes)) rest
+    → numbered_from (length (all_lines front)) (map (note_of fields) rest) ≡ flat_map (λ piece. map (shift (length (all_lines (pieces_before piece.index whole)))) (refused_lines fields piece.bytes)) rest
 numbered-behind fields front [] whole e b up = refl
 numbered-behind fields front (p ∷ more) whole e b up =
     let before : pieces_before p.index whole ≡ front = ap (pieces_before p.index) e ∙ before-is front p more b up.0 in
     let longer : length (all_lines front) + length (lines p.bytes) ≡ length (all_lines (front ++ p ∷ [])) =
     sym (ap length (flat_map-append (λ piece. lines piece.bytes) front (p ∷ []) ∙ ap (λ ls. all_lines front ++ ls) (append-nil (lines p.bytes))) ∙ length-append (all_lines front) (lines p.bytes)) in
-    ap (λ n. map (shift n) (refused fields p.bytes) ++ numbered_from (length (all_lines front) + length (lines p.bytes)) (map (note_of fields) more)) (ap (λ qs. length (all_lines qs)) (sym before))
-    ∙ ap (λ n. map (shift (length (all_lines (pieces_before p.index whole)))) (refused fields p.bytes) ++ numbered_from n (map (note_of fields) more)) longer
-    ∙ ap (λ ls. map (shift (length (all_lines (pieces_before p.index whole)))) (refused fields p.bytes) ++ ls)
+    ap (λ n. map (shift n) (refused_lines fields p.bytes) ++ numbered_from (length (all_lines front) + length (lines p.bytes)) (map (note_of fields) more)) (ap (λ qs. length (all_lines qs)) (sym before))
+    ∙ ap (λ n. map (shift (length (all_lines (pieces_before p.index whole)))) (refused_lines fields p.bytes) ++ numbered_from n (map (note_of fields) more)) longer
+    ∙ ap (λ ls. map (shift (length (all_lines (pieces_before p.index whole)))) (refused_lines fields p.bytes) ++ ls)
     (numbered-behind fields (front ++ p ∷ []) more whole (e ∙ sym (append_assoc front (p ∷ []) more)) (below-tail front p more b up.0) up.1)
 
 -- numbered one piece after the other, each refused line has its number by the pieces with a smaller index
@@ -180,14 +180,14 @@ length-before index (p ∷ ps) =
     ]
 
 abbrev shifted_of : List Field → List IndexedPiece → IndexedPiece → List (ℕ × LineFault)
-shifted_of fields pieces piece = map (shift (length (all_lines (pieces_before piece.index pieces)))) (refused fields piece.bytes)
+shifted_of fields pieces piece = map (shift (length (all_lines (pieces_before piece.index pieces)))) (refused_lines fields piece.bytes)
 
 numbered-same : (fields : List Field) (ps qs : List IndexedPiece) → SameBag ps qs → SameBag (refused_numbered fields ps) (refused_numbered fields qs)
 numbered-same fields ps qs same = λ f.
     let before : (index : ℕ) → length (all_lines (pieces_before index ps)) ≡ length (all_lines (pieces_before index qs)) =
     λ index. length-before index ps ∙ same (lines_below index) ∙ sym (length-before index qs) in
     weigh-flat_map f (shifted_of fields ps) ps
-    ∙ weigh-same (λ p. weigh f (shifted_of fields ps p)) (λ p. weigh f (shifted_of fields qs p)) ps (λ p. ap (λ n. weigh f (map (shift n) (refused fields p.bytes))) (before p.index))
+    ∙ weigh-same (λ p. weigh f (shifted_of fields ps p)) (λ p. weigh f (shifted_of fields qs p)) ps (λ p. ap (λ n. weigh f (map (shift n) (refused_lines fields p.bytes))) (before p.index))
     ∙ same (λ p. weigh f (shifted_of fields qs p))
     ∙ sym (weigh-flat_map f (shifted_of fields qs) qs)
 

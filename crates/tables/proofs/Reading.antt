@@ -14,7 +14,7 @@ use Rattle.semantics.specs.Records.{decode_line}
 use Rattle.semantics.specs.Syntax.{TreeForm}
 use Rattle.semantics.specs.Found.{aggregate_functions}
 use Rattle.semantics.specs.Sets.{grouping_places}
-use Rattle.semantics.specs.Conditions.{is_kept, kept}
+use Rattle.semantics.specs.Conditions.{is_kept, kept_records}
 use Rattle.semantics.specs.Groups.{Row}
 use Rattle.tables_groups.specs.Inside.Table.{Contents, IsTableOf}
 use Rattle.tables.specs.declared.folding.Folding.{Folding}
@@ -103,10 +103,10 @@ filter-le : {A : Type 0} (p : A → Bool) (xs : List A) → length (filter p xs)
 filter-le p [] = omega arith
 filter-le p (x ∷ xs) = one-le (p x) x (filter p xs) (length xs) (filter-le p xs)
 
-pub length-kept : (fields : List Field) (q : TreeForm) (rows : List (List Datum)) → length (kept fields q rows) ≤ length rows
+pub length-kept : (fields : List Field) (q : TreeForm) (rows : List (List Datum)) → length (kept_records fields q rows) ≤ length rows
 length-kept fields q rows = filter-le (is_kept fields q) rows
 
-pub kept-append : (fields : List Field) (q : TreeForm) (rows more : List (List Datum)) → kept fields q (rows ++ more) ≡ kept fields q rows ++ kept fields q more
+pub kept-append : (fields : List Field) (q : TreeForm) (rows more : List (List Datum)) → kept_records fields q (rows ++ more) ≡ kept_records fields q rows ++ kept_records fields q more
 kept-append fields q rows more = filter-append (is_kept fields q) rows more
 
 pub length-refused_of : (fields : List Field) (ls : List (List ℕ)) → length (refused_of fields ls) ≤ length ls
@@ -133,11 +133,11 @@ refused-numbers fields ls = All-from_recursion (λ line. line.0 ≤ length ls) (
 
 -- behind these records no line has been read
 pub nothing-read : (fields : List Field) (q : TreeForm) (before : List Row) (table : Contents) (folding : Folding)
-    → IsTableOf (grouping_places fields q) (aggregate_functions fields q) table (kept fields q before)
+    → IsTableOf (grouping_places fields q) (aggregate_functions fields q) table (kept_records fields q before)
     → folding.table ≡ table → folding.lines ≡ 0 → folding.refused.items ≡ [] → HasRead fields q before folding []
 nothing-read fields q before table folding held same none nothing = record {
-  table = subst (λ (t : Contents). IsTableOf (grouping_places fields q) (aggregate_functions fields q) t (kept fields q (before ++ []))) (sym same)
-      (subst (λ (rows : List Row). IsTableOf (grouping_places fields q) (aggregate_functions fields q) table (kept fields q rows)) (sym (append-nil before)) held);
+  table = subst (λ (t : Contents). IsTableOf (grouping_places fields q) (aggregate_functions fields q) t (kept_records fields q (before ++ []))) (sym same)
+      (subst (λ (rows : List Row). IsTableOf (grouping_places fields q) (aggregate_functions fields q) table (kept_records fields q rows)) (sym (append-nil before)) held);
   lines = none;
   refused = nothing;
 }
@@ -151,11 +151,11 @@ pub record HasReadSome (fields : List Field) (q : TreeForm) (before : List Row) 
 -- ---- a line that has been read
 
 pub read-ok : (fields : List Field) (q : TreeForm) (before : List Row) (old new : Folding) (seen : List (List ℕ)) (line : List ℕ) (row : List Datum) → decode_line fields line ≡ Ok row → HasRead fields q before old seen
-    → ((rows : List (List Datum)) → IsTableOf (grouping_places fields q) (aggregate_functions fields q) old.table (kept fields q rows) → IsTableOf (grouping_places fields q) (aggregate_functions fields q) new.table (kept fields q (rows ++ row ∷ [])))
+    → ((rows : List (List Datum)) → IsTableOf (grouping_places fields q) (aggregate_functions fields q) old.table (kept_records fields q rows) → IsTableOf (grouping_places fields q) (aggregate_functions fields q) new.table (kept_records fields q (rows ++ row ∷ [])))
     → new.lines ≡ old.lines → new.refused.items ≡ old.refused.items
     → HasRead fields q before (record { table = new.table; lines = new.lines + 1; refused = new.refused; marks = new.marks }) (seen ++ line ∷ [])
 read-ok fields q before old new seen line row e h added same stay = record {
-  table = subst (λ (rows : List (List Datum)). IsTableOf (grouping_places fields q) (aggregate_functions fields q) new.table (kept fields q rows))
+  table = subst (λ (rows : List (List Datum)). IsTableOf (grouping_places fields q) (aggregate_functions fields q) new.table (kept_records fields q rows))
       (append_assoc before (valid_of fields seen) (row ∷ []) ∙ ap (λ rows. before ++ rows) (sym (valid-ok fields seen line row e)))
       (added (before ++ valid_of fields seen) h.table);
   lines = (let a = h.lines in let b = length-append seen (line ∷ []) in omega (arith, same, a, b));
@@ -166,8 +166,8 @@ pub read-err : (fields : List Field) (q : TreeForm) (before : List Row) (old new
     → new.table ≡ old.table → new.lines ≡ old.lines → new.refused.items ≡ old.refused.items ++ (old.lines + 1, fault) ∷ []
     → HasRead fields q before (record { table = new.table; lines = new.lines + 1; refused = new.refused; marks = new.marks }) (seen ++ line ∷ [])
 read-err fields q before old new seen line fault e h stay same more = record {
-  table = subst (λ (t : Contents). IsTableOf (grouping_places fields q) (aggregate_functions fields q) t (kept fields q (before ++ valid_of fields (seen ++ line ∷ [])))) (sym stay)
-      (subst (λ (rows : List (List Datum)). IsTableOf (grouping_places fields q) (aggregate_functions fields q) old.table (kept fields q (before ++ rows))) (sym (valid-err fields seen line fault e)) h.table);
+  table = subst (λ (t : Contents). IsTableOf (grouping_places fields q) (aggregate_functions fields q) t (kept_records fields q (before ++ valid_of fields (seen ++ line ∷ [])))) (sym stay)
+      (subst (λ (rows : List (List Datum)). IsTableOf (grouping_places fields q) (aggregate_functions fields q) old.table (kept_records fields q (before ++ rows))) (sym (valid-err fields seen line fault e)) h.table);
   lines = (let a = h.lines in let b = length-append seen (line ∷ []) in omega (arith, same, a, b));
   refused = more ∙ ap (λ rs. rs ++ (old.lines + 1, fault) ∷ []) h.refused ∙ ap (λ n. refused_of fields seen ++ (n + 1, fault) ∷ []) h.lines ∙ sym (refused-err fields seen line fault e);
 }
@@ -175,7 +175,7 @@ read-err fields q before old new seen line fault e h stay same more = record {
 -- ---- records behind those of earlier pieces
 
 -- the records that are kept, of earlier ones and of these lines, are no more than the earlier ones and the lines
-pub length-kept_behind : (fields : List Field) (q : TreeForm) (before : List Row) (ls : List (List ℕ)) → length (kept fields q (before ++ valid_of fields ls)) ≤ length before + length ls
+pub length-kept_behind : (fields : List Field) (q : TreeForm) (before : List Row) (ls : List (List ℕ)) → length (kept_records fields q (before ++ valid_of fields ls)) ≤ length before + length ls
 length-kept_behind fields q before ls =
     let few = length-kept fields q (before ++ valid_of fields ls) in
     let both = length-append before (valid_of fields ls) in

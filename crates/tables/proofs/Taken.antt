@@ -9,7 +9,7 @@ use Rattle.semantics.specs.declared.line_fault.LineFault.{LineFault}
 use Rattle.semantics.specs.Lines.{lines}
 use Rattle.lines.proofs.Outcomes.{decoded-fits}
 use Rattle.semantics.specs.Syntax.{TreeForm}
-use Rattle.semantics.specs.Conditions.{is_kept, kept}
+use Rattle.semantics.specs.Conditions.{is_kept, kept_records}
 use Rattle.tables.specs.Pieces.{IndexedPiece, records_of}
 use Rattle.tables.proofs.Bags.{all-everywhere, all-filter, all-filter_map, all-flat_map, all-map}
 
@@ -27,7 +27,7 @@ valid-fits fields input =
     (all-everywhere _ (lines input) (λ line r e. decoded-fits fields line r (ok-is (decode_line fields line) r e))))
 
 pub kept-fits : (fields : List Field) (q : TreeForm) (pieces : List IndexedPiece)
-    → AllByRecursion (Fits fields) (kept fields q (records_of fields pieces))
+    → AllByRecursion (Fits fields) (kept_records fields q (records_of fields pieces))
 kept-fits fields q pieces =
     all-filter (Fits fields) (is_kept fields q) (records_of fields pieces)
     (all-flat_map (Fits fields) (λ piece. valid_records fields piece.bytes) pieces (λ piece. valid-fits fields piece.bytes))

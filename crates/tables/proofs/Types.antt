@@ -21,10 +21,10 @@ use Rattle.semantics.specs.Inside.Same.{same_planned}
 use Rattle.semantics.specs.Sets.{grouping_names, grouping_places, ordered_set, sets_of}
 use Rattle.query_resolve.proofs.DistinctSets.{names_kept, set_of_names, sets_by_names}
 use Rattle.semantics.specs.Groups.{Row, value_at, Key, keys, members, project, same_key}
-use Rattle.semantics.specs.Aggregates.{column_values, is_present, column_numbers, AggregateFunction, Summary, plain, agg, average_of, filtered, sum_of, value_over}
+use Rattle.semantics.specs.Aggregates.{column_values, is_present, column_numbers, AggregateFunction, Summary, plain, agg, average_of, filtered_rows, sum_of, value_over}
 use Rattle.tables_groups.specs.Bags.{SameBag}
 use Rattle.tables_groups.specs.Fitting.{IsHeld, HasType}
-use Rattle.semantics.specs.Found.{Found, aggregate_function, aggregate_functions, all_found, found}
+use Rattle.semantics.specs.Found.{Found, aggregate_function, aggregate_functions, all_found, found_group}
 use Rattle.tables.proofs.Bags.{all-append, all-decided, all-distinct, all-everywhere, all-filter, all-filter_map, all-map, find-such}
 use Rattle.tables.proofs.Finding.{set_groups}
 use Rattle.tables.proofs.TypeTests.{both-Decides, has_type, held-Decides, is_held, type-Decides, zip-Decides, zip_all}
@@ -157,7 +157,7 @@ cell-typed fields rows (function.Max place) h l =
     find-such (Held fields place) _ (column_values place rows) null (null-held fields place l) (column-held fields place rows h l)
 cell-typed fields rows (function.Avg place) h l = average-typed fields place (column_numbers place rows)
 
-filtered-fit : (fields : List Field) (t : Option (Row → Bool)) (rows : List Row) → AllFit fields rows → AllFit fields (filtered t rows)
+filtered-fit : (fields : List Field) (t : Option (Row → Bool)) (rows : List Row) → AllFit fields rows → AllFit fields (filtered_rows t rows)
 filtered-fit fields None rows h = h
 filtered-fit fields (Some keeps) rows h = all-filter (Fits fields) keeps rows h
 
@@ -168,7 +168,7 @@ HasTypeOf fields f cell = HasType fields f.function cell
 cells-typed : (fields : List Field) (rows : List Row) (fs : List AggregateFunction) → AllFit fields rows → AllByRecursion (TakesOf fields) fs
     → AllZip (HasTypeOf fields) fs (map (λ f. agg f rows) fs)
 cells-typed fields rows [] h l = tt
-cells-typed fields rows (f ∷ fs) h l = (cell-typed fields (filtered f.filter rows) f.function (filtered-fit fields f.filter rows h) l.0, cells-typed fields rows fs h l.1)
+cells-typed fields rows (f ∷ fs) h l = (cell-typed fields (filtered_rows f.filter rows) f.function (filtered-fit fields f.filter rows h) l.0, cells-typed fields rows fs h l.1)
 
 -- ---- keys
 
@@ -213,7 +213,7 @@ typed-Decides fields sets fs row =
 module _ (fields : List Field) (whole : List (List ℕ)) (fs : List AggregateFunction) (rows : List Row) (fit : AllFit fields rows)
     (columns : AllByRecursion (TakesOf fields) fs) where
   set-typed : (n : ℕ) (s : List ℕ) (ks : List Key) → slice_index_or whole n [] ≡ s → AllByRecursion (IsKeyOf fields s) ks
-      → AllByRecursion (IsTyped fields whole fs) (map (found fs) (map (λ key. record { index = n; key = key; members = members s key rows }) ks))
+      → AllByRecursion (IsTyped fields whole fs) (map (found_group fs) (map (λ key. record { index = n; key = key; members = members s key rows }) ks))
   set-typed n s [] e h = tt
   set-typed n s (k ∷ ks) e h = (
     (subst (λ set. IsKeyOf fields set k) (sym e) h.0, cells-typed fields (members s k rows) fs (all-filter (Fits fields) _ rows fit) columns),
@@ -222,13 +222,13 @@ module _ (fields : List Field) (whole : List (List ℕ)) (fs : List AggregateFun
 
   rows-typed : (n : ℕ) (sets : List (List ℕ)) → ((i : ℕ) → i < length sets → slice_index_or whole (n + i) [] ≡ slice_index_or sets i [])
       → AllByRecursion (ArePlaces fields) sets
-      → AllByRecursion (IsTyped fields whole fs) (map (found fs) (flat_map (set_groups rows) (enumerate_from n sets)))
+      → AllByRecursion (IsTyped fields whole fs) (map (found_group fs) (flat_map (set_groups rows) (enumerate_from n sets)))
   rows-typed n [] at places = tt
   rows-typed n (s ∷ sets) at places =
       let first : slice_index_or whole n [] ≡ s = ap (λ m. slice_index_or whole m []) (let e : n ≡ n + 0 = omega arith in e) ∙ at 0 (omega arith) in
       let more = flat_map (set_groups rows) (enumerate_from (n + 1) sets) in
-      subst (λ rs. AllByRecursion (IsTyped fields whole fs) rs) (sym (map-append (found fs) (set_groups rows (n, s)) more))
-      (all-append (IsTyped fields whole fs) (map (found fs) (set_groups rows (n, s))) (map (found fs) more)
+      subst (λ rs. AllByRecursion (IsTyped fields whole fs) rs) (sym (map-append (found_group fs) (set_groups rows (n, s)) more))
+      (all-append (IsTyped fields whole fs) (map (found_group fs) (set_groups rows (n, s))) (map (found_group fs) more)
       (set-typed n s (keys s rows) first (keys-typed fields s rows fit places.0))
       (rows-typed (n + 1) sets
       (λ i h. ap (λ m. slice_index_or whole m []) (let e : n + 1 + i ≡ n + suc i = omega arith in e) ∙ at (suc i) (omega (arith, h))) places.1))

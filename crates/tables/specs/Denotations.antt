@@ -9,7 +9,7 @@ use Rattle.semantics.specs.Syntax.{TreeForm}
 use Rattle.query_resolve.specs.declared.function.FilteredFunction.{FilteredFunction}
 use Rattle.query_resolve.specs.Functions.{indexed_functions}
 use Rattle.semantics.specs.Sets.{grouping_places, sets_of}
-use Rattle.semantics.specs.Conditions.{kept}
+use Rattle.semantics.specs.Conditions.{kept_records}
 use Rattle.tables_groups.specs.Bags.{weigh}
 use Rattle.semantics.specs.Aggregates.{AggregateFunction}
 use Rattle.semantics.specs.Groups.{Key, keys, members, same_key, Row}
@@ -44,7 +44,7 @@ denotation fields q pieces = record {
   sets = sets_of fields q;
   functions = indexed_functions fields q;
   filters = filter_texts fields q;
-  table = group_of (grouping_places fields q) (aggregate_functions fields q) (kept fields q (records_of fields pieces));
+  table = group_of (grouping_places fields q) (aggregate_functions fields q) (kept_records fields q (records_of fields pieces));
   lines = length (all_lines pieces);
   refused = length (refused_within fields pieces);
   notes = λ weight. weigh weight (map (note_of fields) pieces);

@@ -8,7 +8,7 @@ use Rattle.semantics.specs.Records.{decode_line}
 use Rattle.semantics.specs.Syntax.{TreeForm}
 use Rattle.semantics.specs.Sets.{grouping_places}
 use Rattle.query_resolve.specs.Functions.{indexed_functions}
-use Rattle.semantics.specs.Conditions.{kept}
+use Rattle.semantics.specs.Conditions.{kept_records}
 use Rattle.semantics.specs.Groups.{Row}
 use Rattle.tables_groups.specs.Inside.Table.{Contents, IsOfFew, IsTableOf, TakesOne}
 use Rattle.query_plan.specs.Planned.{PlannedQuery}
@@ -25,7 +25,7 @@ refused_of fields ls = filter_map (λ p. option_map (λ fault. (p.0, fault)) (re
 
 -- behind the records of earlier pieces these lines have been read
 pub record HasRead (fields : List Field) (q : TreeForm) (before : List Row) (folding : Folding) (ls : List (List ℕ)) : Type 0 where
-  pub table : IsTableOf (grouping_places fields q) (aggregate_functions fields q) folding.table (kept fields q (before ++ valid_of fields ls))
+  pub table : IsTableOf (grouping_places fields q) (aggregate_functions fields q) folding.table (kept_records fields q (before ++ valid_of fields ls))
   pub lines : folding.lines ≡ length ls
   pub refused : folding.refused.items ≡ refused_of fields ls
 
@@ -39,7 +39,7 @@ pub record ReadsOneMore (fields : List Field) (q : TreeForm) (folding : Folding)
 -- the table is that of some records, and with so many more there are fewer than 2^63
 pub record HasRoom (fields : List Field) (q : TreeForm) (table : Contents) (more : ℕ) : Type 0 where
   pub before : List Row
-  pub is_table : IsTableOf (grouping_places fields q) (aggregate_functions fields q) table (kept fields q before)
+  pub is_table : IsTableOf (grouping_places fields q) (aggregate_functions fields q) table (kept_records fields q before)
   pub few : length before + more < 2 ^ 63
 
 -- ---- under a plan
@@ -48,7 +48,7 @@ pub record HasRoom (fields : List Field) (q : TreeForm) (table : Contents) (more
 abbrev pub IsTableUnder : PlannedQuery → Contents → List Row → Type 0
 IsTableUnder plan table rows =
     IsTableOf (grouping_places plan.fields plan.query) (aggregate_functions plan.fields plan.query) table
-    (kept plan.fields plan.query rows)
+    (kept_records plan.fields plan.query rows)
 
 abbrev pub HasReadUnder : PlannedQuery → List Row → Folding → List (List ℕ) → Type 0
 HasReadUnder plan before folding ls = HasRead plan.fields plan.query before folding ls

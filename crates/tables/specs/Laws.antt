@@ -9,12 +9,12 @@ use Rattle.semantics.specs.Values.{Datum}
 use Rattle.semantics.specs.Columns.{Field}
 use Rattle.semantics.specs.declared.line_fault.LineFault.{LineFault}
 use Rattle.lines.specs.declared.pieces.Piece.{Piece}
-use Rattle.semantics.specs.Records.{answers, valid_records, refused, decode_line}
+use Rattle.semantics.specs.Records.{answers, valid_records, refused_lines, decode_line}
 use Rattle.semantics.specs.Lines.{lines}
 use Rattle.semantics.specs.Syntax.{TreeForm}
 use Rattle.query_resolve.specs.Functions.{indexed_functions}
 use Rattle.semantics.specs.Sets.{grouping_places, sets_of}
-use Rattle.semantics.specs.Conditions.{is_kept, kept}
+use Rattle.semantics.specs.Conditions.{is_kept, kept_records}
 use Rattle.tables_groups.specs.Bags.{weigh}
 use Rattle.semantics.specs.Groups.{members, Row}
 use Rattle.tables_groups.proofs.Bags.{weigh-append}
@@ -32,7 +32,7 @@ use Rattle.tables.specs.Pieces.{IndexedPiece, all_lines, records_of, refused_wit
 records-append : (fields : List Field) (pieces more : List IndexedPiece) → records_of fields (pieces ++ more) ≡ records_of fields pieces ++ records_of fields more
 records-append fields pieces more = flat_map-append (λ piece. valid_records fields piece.bytes) pieces more
 
-kept-append : (fields : List Field) (q : TreeForm) (rows more : List Row) → kept fields q (rows ++ more) ≡ kept fields q rows ++ kept fields q more
+kept-append : (fields : List Field) (q : TreeForm) (rows more : List Row) → kept_records fields q (rows ++ more) ≡ kept_records fields q rows ++ kept_records fields q more
 kept-append fields q rows more = filter-append (is_kept fields q) rows more
 
 lines-append : (pieces more : List IndexedPiece) → length (all_lines (pieces ++ more)) ≡ length (all_lines pieces) + length (all_lines more)
@@ -41,7 +41,7 @@ lines-append pieces more = ap length (flat_map-append (λ piece. lines piece.byt
 refused-append : (fields : List Field) (pieces more : List IndexedPiece)
     → length (refused_within fields (pieces ++ more)) ≡ length (refused_within fields pieces) + length (refused_within fields more)
 refused-append fields pieces more =
-    ap length (flat_map-append (λ piece. refused fields piece.bytes) pieces more) ∙ length-append (refused_within fields pieces) (refused_within fields more)
+    ap length (flat_map-append (λ piece. refused_lines fields piece.bytes) pieces more) ∙ length-append (refused_within fields pieces) (refused_within fields more)
 
 few-faults : (n : ℕ) (rs : List (Result (List Datum) LineFault))
     → length {A = ℕ × LineFault} (filter_map (λ p. option_map (λ fault. (p.0, fault)) (result_err p.1)) (enumerate_from n rs)) ≤ length rs
@@ -55,20 +55,20 @@ pub denotation-append : (fields : List Field) (q : TreeForm) (xs ys : List Index
 denotation-append fields q xs ys =
     let fs = aggregate_functions fields q in
     let grouping = grouping_places fields q in
-    let rows : kept fields q (records_of fields (xs ++ ys)) ≡ kept fields q (records_of fields xs) ++ kept fields q (records_of fields ys) =
-    ap (kept fields q) (records-append fields xs ys) ∙ kept-append fields q (records_of fields xs) (records_of fields ys) in
-    let first = kept fields q (records_of fields xs) in
-    let second = kept fields q (records_of fields ys) in
+    let rows : kept_records fields q (records_of fields (xs ++ ys)) ≡ kept_records fields q (records_of fields xs) ++ kept_records fields q (records_of fields ys) =
+    ap (kept_records fields q) (records-append fields xs ys) ∙ kept-append fields q (records_of fields xs) (records_of fields ys) in
+    let first = kept_records fields q (records_of fields xs) in
+    let second = kept_records fields q (records_of fields ys) in
     let table = ap (group_of grouping fs) rows ∙ (λ i key. group_at-append grouping fs key first second i) in
     let lines = lines-append xs ys in
-    let refused = refused-append fields xs ys in
+    let refused_lines = refused-append fields xs ys in
     λ i. record {
       sets = sets_of fields q;
       functions = indexed_functions fields q;
       filters = filter_texts fields q;
       table = table i;
       lines = lines i;
-      refused = refused i;
+      refused_lines = refused_lines i;
       notes = λ weight. (ap (weigh weight) (map-append (note_of fields) xs ys) ∙ weigh-append weight (map (note_of fields) xs) (map (note_of fields) ys)) i;
     }
 
@@ -81,15 +81,15 @@ denotation-flip : (fields : List Field) (q : TreeForm) (xs ys : List IndexedPiec
 denotation-flip fields q xs ys =
     let grouping = grouping_places fields q in
     let fs = aggregate_functions fields q in
-    let first = kept fields q (records_of fields xs) in
-    let second = kept fields q (records_of fields ys) in
+    let first = kept_records fields q (records_of fields xs) in
+    let second = kept_records fields q (records_of fields ys) in
     λ i. record {
       sets = sets_of fields q;
       functions = indexed_functions fields q;
       filters = filter_texts fields q;
       table = λ key. options-flip fs (has_key grouping key first) (has_key grouping key second) (members grouping key first) (members grouping key second) i;
       lines = plus-flip (length (all_lines xs)) (length (all_lines ys)) i;
-      refused = plus-flip (length (refused_within fields xs)) (length (refused_within fields ys)) i;
+      refused_lines = plus-flip (length (refused_within fields xs)) (length (refused_within fields ys)) i;
       notes = λ weight. plus-flip (weigh weight (map (note_of fields) xs)) (weigh weight (map (note_of fields) ys)) i;
     }
 
@@ -102,7 +102,7 @@ few-refused fields (p ∷ pieces) =
     let more = few-refused fields pieces in
     let here = few-faults 1 (answers fields p.bytes) in
     let many = length-map (lines p.bytes) (decode_line fields) in
-    let a = length-append (refused fields p.bytes) (refused_within fields pieces) in
+    let a = length-append (refused_lines fields p.bytes) (refused_within fields pieces) in
     let b = length-append (lines p.bytes) (all_lines pieces) in
     omega (arith, more, here, many, a, b)
 

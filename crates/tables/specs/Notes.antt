@@ -6,7 +6,7 @@ use Rattle.std.specs.Global.{Vec}
 use Rattle.semantics.specs.Columns.{Field}
 use Rattle.semantics.specs.declared.line_fault.LineFault.{LineFault}
 use Rattle.semantics.specs.Lines.{lines}
-use Rattle.semantics.specs.Records.{refused}
+use Rattle.semantics.specs.Records.{refused_lines}
 use Rattle.tables.specs.declared.piece_refusals.PieceRefusals.{PieceRefusals}
 use Rattle.tables_groups.specs.Bags.{SameBag}
 use Rattle.tables.specs.Pieces.{IndexedPiece}
@@ -19,7 +19,7 @@ pub record Noted : Type 0 where
 
 -- the note of a piece
 abbrev pub note_of : List Field → IndexedPiece → Noted
-note_of fields piece = record { index = piece.index; lines = length (lines piece.bytes); refused = refused fields piece.bytes }
+note_of fields piece = record { index = piece.index; lines = length (lines piece.bytes); refused = refused_lines fields piece.bytes }
 
 -- ---- in the code
 

@@ -1,11 +1,11 @@
 -- What a partial result stands for.
 use Rattle.std.specs.Prelude.{◌≡◌, ℕ, List, [], ◌∷◌, length, map}
 use Rattle.semantics.specs.Columns.{Field}
-use Rattle.semantics.specs.Records.{valid_records, refused}
+use Rattle.semantics.specs.Records.{valid_records, refused_lines}
 use Rattle.semantics.specs.Syntax.{TreeForm}
 use Rattle.semantics.specs.Sets.{grouping_places, sets_of}
 use Rattle.query_resolve.specs.Functions.{indexed_functions}
-use Rattle.semantics.specs.Conditions.{kept}
+use Rattle.semantics.specs.Conditions.{kept_records}
 use Rattle.semantics.specs.Groups.{Row}
 use Rattle.tables_groups.specs.Bags.{SameBag}
 use Rattle.tables_groups.specs.Inside.Table.{IsTableOf}
@@ -21,7 +21,7 @@ pub record StandsFor (fields : List Field) (q : TreeForm) (partial : PartialStat
   pub sets : partial.sets ≡ sets_of fields q
   pub functions : partial.functions ≡ indexed_functions fields q
   pub filters : partial.filters ≡ filter_texts fields q
-  pub table : IsTableOf (grouping_places fields q) (aggregate_functions fields q) partial.table (kept fields q (records_of fields pieces))
+  pub table : IsTableOf (grouping_places fields q) (aggregate_functions fields q) partial.table (kept_records fields q (records_of fields pieces))
   pub lines : partial.lines ≡ length (all_lines pieces)
   pub refused : partial.refused ≡ length (refused_within fields pieces)
   pub notes : SameBag (map (note_of fields) pieces) partial.notes
@@ -58,4 +58,4 @@ GivesGroups fields q groups rows = SameBag groups.found (query_found fields q ro
 -- the rows are those of the groups of the valid records of an input, and the refused lines are its refused lines
 pub record IsResultOf (fields : List Field) (q : TreeForm) (groups : GroupsState) (input : List ℕ) : Type 0 where
   pub rows : GivesGroups fields q groups (valid_records fields input)
-  pub refused : groups.refused ≡ refused fields input
+  pub refused : groups.refused ≡ refused_lines fields input

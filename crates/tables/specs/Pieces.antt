@@ -5,7 +5,7 @@ use Rattle.std.specs.List.Sorted.{IsStrictlyIncreasing}
 use Rattle.semantics.specs.Columns.{Field}
 use Rattle.semantics.specs.declared.line_fault.LineFault.{LineFault}
 use Rattle.semantics.specs.Lines.{lines}
-use Rattle.semantics.specs.Records.{valid_records, refused}
+use Rattle.semantics.specs.Records.{valid_records, refused_lines}
 use Rattle.lines.specs.Pieces.{AllButLast, EndsInFeed}
 use Rattle.tables_groups.specs.Bags.{SameBag}
 use Rattle.semantics.specs.Groups.{Row}
@@ -29,7 +29,7 @@ records_of fields pieces = flat_map (λ piece. valid_records fields piece.bytes)
 
 -- the refused lines of the pieces, each by its number within its piece
 abbrev pub refused_within : List Field → List IndexedPiece → List (ℕ × LineFault)
-refused_within fields pieces = flat_map (λ piece. refused fields piece.bytes) pieces
+refused_within fields pieces = flat_map (λ piece. refused_lines fields piece.bytes) pieces
 
 -- the pieces with a smaller index
 abbrev pub pieces_before : ℕ → List IndexedPiece → List IndexedPiece
@@ -38,7 +38,7 @@ pieces_before index pieces = filter (λ piece. nat_lt piece.index index) pieces
 -- the refused lines of the pieces, each by its number within its piece and the number of all lines of the pieces with a smaller index
 abbrev pub refused_numbered : List Field → List IndexedPiece → List (ℕ × LineFault)
 refused_numbered fields pieces =
-    flat_map (λ piece. map (λ line. (length (all_lines (pieces_before piece.index pieces)) + line.0, line.1)) (refused fields piece.bytes)) pieces
+    flat_map (λ piece. map (λ line. (length (all_lines (pieces_before piece.index pieces)) + line.0, line.1)) (refused_lines fields piece.bytes)) pieces
 
 -- the pieces stand by their indexes, and none of these twice
 abbrev pub AreInOrder : List IndexedPiece → Type 0

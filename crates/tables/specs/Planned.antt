@@ -1,7 +1,7 @@
 -- What partial results and groups are under a plan: under its columns and its query.
 use Rattle.std.specs.Prelude.{List, map, ℕ}
 use Rattle.semantics.specs.Sets.{grouping_places}
-use Rattle.semantics.specs.Conditions.{kept}
+use Rattle.semantics.specs.Conditions.{kept_records}
 use Rattle.tables_groups.specs.declared.group.Group.{Group}
 use Rattle.tables_groups.specs.Bags.{SameBag}
 use Rattle.semantics.specs.Groups.{Key, members, Row}
@@ -45,7 +45,7 @@ AreGroupingColumns plan set = AreAmong set (grouping_places plan.fields plan.que
 abbrev pub GivesGroupsOfSet : PlannedQuery → List ℕ → List Group → List Row → Type 0
 GivesGroupsOfSet plan set groups rows =
     SameBag (map group_summary_in groups)
-    (group_summaries set (aggregate_functions plan.fields plan.query) (kept plan.fields plan.query rows))
+    (group_summaries set (aggregate_functions plan.fields plan.query) (kept_records plan.fields plan.query rows))
 
 -- the members of a key under a set of columns are those of all keys of the grouping columns that have its values, joined
 abbrev pub HasMembersOfFiner : PlannedQuery → List ℕ → Key → List Row → Type 0

@@ -9,7 +9,7 @@ use Rattle.semantics.specs.Values.{whole}
 use Rattle.semantics.specs.declared.function.ColumnFunction.{ColumnFunction}
 use Rattle.semantics.specs.declared.function.ColumnFunction.TheVariants as function
 use Rattle.semantics.specs.Groups.{Row, Key, project, key_order, same_key, keys, members}
-use Rattle.semantics.specs.Aggregates.{column_numbers, column_values, AggregateFunction, plain, agg, value_over, filtered, total, sum_of, average_of}
+use Rattle.semantics.specs.Aggregates.{column_numbers, column_values, AggregateFunction, plain, agg, value_over, filtered_rows, total, sum_of, average_of}
 use Rattle.tables_groups.specs.Inside.Accumulator.{summary, accumulator_state, state_over, state_counted, state_by, summed, averaged}
 use Rattle.tables_groups.specs.Inside.Group.{GroupState, group_state, state_summary}
 use Rattle.tables_groups.specs.Inside.Table.{Contents, IsTableOf}
@@ -50,7 +50,7 @@ summary-counted lines (function.Min place) rows = refl
 summary-counted lines (function.Max place) rows = refl
 summary-counted lines (function.Avg place) rows = average-said lines (column_numbers place rows)
 
-summary-by : (t : Option (Row → Bool)) (f : ColumnFunction) (rows : List Row) → summary (length rows) (state_by t f rows) ≡ value_over f (filtered t rows)
+summary-by : (t : Option (Row → Bool)) (f : ColumnFunction) (rows : List Row) → summary (length rows) (state_by t f rows) ≡ value_over f (filtered_rows t rows)
 summary-by None f rows = summary-over f rows
 summary-by (Some keeps) f rows = summary-counted (length rows) f (filter keeps rows)
 

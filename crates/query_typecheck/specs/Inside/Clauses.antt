@@ -8,7 +8,7 @@ use Rattle.semantics.specs.Canonical.{header_text}
 use Rattle.semantics.specs.declared.query_fault.QueryFault.{QueryFault}
 use Rattle.query_typecheck.specs.declared.scope.Clause.TheVariants as clause
 use Rattle.semantics.specs.Names.{group_names}
-use Rattle.semantics.specs.Sets.{expanded}
+use Rattle.semantics.specs.Sets.{expansion}
 use Rattle.semantics.specs.SetFunctions.{functions_of}
 use Rattle.semantics.specs.Types.{key_expression}
 use Rattle.query_typecheck.specs.Inside.FirstFaults.{clause_fault, column_fault, expression_fault, first_fault, headers_fault, limit_fault}
@@ -18,7 +18,7 @@ unfoldable pub records_fault : List Field → List ℕ → Option PredicateForm 
 records_fault fields grouped where_condition groups =
     option_or (clause_fault fields grouped clause.Where where_condition)
     (option_or (first_fault (column_fault fields) (flat_map group_names groups))
-    (limit_fault 256 (length (expanded groups))))
+    (limit_fault 256 (length (expansion groups))))
 
 -- The items of SELECT, then their headers.
 unfoldable pub select_fault : List Field → List ℕ → List ItemForm → Option QueryFault

@@ -15,7 +15,7 @@ use Rattle.semantics.specs.declared.query_fault.QueryFault.TheVariants.{UnknownC
 use Rattle.query_typecheck.specs.declared.scope.Clause.{Clause}
 use Rattle.query_typecheck.specs.declared.scope.Clause.TheVariants as clause
 use Rattle.semantics.specs.Names.{column_kind, place_of}
-use Rattle.semantics.specs.Sets.{expanded, grouping_names, grouping_places}
+use Rattle.semantics.specs.Sets.{expansion, grouping_names, grouping_places}
 use Rattle.semantics.specs.SetFunctions.{functions_of}
 use Rattle.semantics.specs.Faults.{same_kind}
 use Rattle.query_typecheck.specs.Typing.{argument_names, may_stand, takes}
@@ -172,7 +172,7 @@ unfoldable pub tests_of : List Field → TreeForm → List (Option QueryFault)
 tests_of fields t =
     clause_fault fields (grouping_places fields t) clause.Where t.where_condition
     ∷ first_fault (column_fault fields) (grouping_names t)
-    ∷ limit_fault 256 (length (expanded t.groups))
+    ∷ limit_fault 256 (length (expansion t.groups))
     ∷ first_fault (λ i. expression_fault fields (grouping_places fields t) clause.Select i.expression) t.items
     ∷ headers_fault (map header_text t.items)
     ∷ clause_fault fields (grouping_places fields t) clause.Having t.having_condition

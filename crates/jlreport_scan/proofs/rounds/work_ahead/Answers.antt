@@ -1,6 +1,6 @@
 use Rattle.std.proofs.Common.{◌≡◌, ◌∙◌, ◌+◌, ◌<◌, ◌≤◌, ◌⊎◌, ◌^◌, true, All, IfErr, IfOk, List, ℕ, length, Ok, ap, refl, subst, sym, vec_len}
 use Rattle.std.proofs.lemmas.Result.{err_from_is_err_and}
-use Rattle.semantics.specs.Records.{refused}
+use Rattle.semantics.specs.Records.{refused_lines}
 use Rattle.lines.specs.Rounds.{HasMoved, RoundsState}
 use Rattle.jlreport_scan.specs.Gathered.{limit_number}
 use Rattle.jlreport_scan.specs.Faults.{IsWant, Refuses, Stops}
@@ -29,7 +29,7 @@ returns-in_err-whole-clause-fault g c = λ known is.
     let fields = c.args.plan.now.fields in
     let most = c.args.options.max_refused in
     let bytes = c.hand_out-round.result.bytes in
-    let told = subst (λ w. IfErr w (λ fault. IsWant fault ⊎ Refuses fault most (ahead.whole.refused + length (refused fields bytes)))) c.in_err-whole.was c.round_beside-read.ensures.fault in
+    let told = subst (λ w. IfErr w (λ fault. IsWant fault ⊎ Refuses fault most (ahead.whole.refused + length (refused_lines fields bytes)))) c.in_err-whole.was c.round_beside-read.ensures.fault in
     let stops : Stops c.in_err-whole.field-0.0 most fields known =
     round-stops fields c.args.plan.now.query known (limit_number most) most
     m.0 ahead.rounds (Ok true) ahead.whole ahead.whole.refused bytes c.in_err-whole.field-0.0

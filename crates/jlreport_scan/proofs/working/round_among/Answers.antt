@@ -1,7 +1,7 @@
 use Rattle.std.proofs.Common.{◌≡◌, ◌∙◌, ◌+◌, ℕ, inr, length, sym, ap, subst, arith}
 use Rattle.std.proofs.lemmas.Result.{err_from_is_err_and}
 use denote.Param.Send.{sendable}
-use Rattle.semantics.specs.Records.{refused}
+use Rattle.semantics.specs.Records.{refused_lines}
 use Rattle.pool.specs.Fanned.{Settles}
 use Rattle.pool.specs.Totals.{sum_below}
 use Rattle.pool.proofs.Shares.{grown_within}
@@ -50,12 +50,12 @@ fan_deal_onto-requires-clause-room g c κs within =
     record { plan_is = c.new.ensures.plan; input_is = c.new.ensures.input; pieces_are = c.new.ensures.pieces ∙ c.as_slice.ensures.value } in
     let count : c.len-2.result ≡ length pieces.items = grind (arith, c.len-2.ensures, pieces.ok) in
     let fewer = c.in_ok-front.ensures.fewer in
-    let refused = c.in_ok-front.ensures.refused in
+    let refused_lines = c.in_ok-front.ensures.refused in
     let lines = c.in_ok-front.ensures.lines in
     room-beside (λ share. share.sum) c.args.shares.items c.args.before.refused _
     (few-loads c.args.plan.now job.plan.now c.args.round.now job.input.now pieces.items job.pieces.now c.len-2.result c.args.before.refused
     of.plan_is of.input_is of.pieces_are count
-    c.job_law.ensures.lines c.in_ok-pieces.ensures.lines (let short = c.requires.short in omega (arith, fewer, refused, lines, short)))
+    c.job_law.ensures.lines c.in_ok-pieces.ensures.lines (let short = c.requires.short in omega (arith, fewer, refused_lines, lines, short)))
     c.requires.reported
 
 pub decided-requires : goal.decided-requires
@@ -73,7 +73,7 @@ decided-requires g c =
     let weights = weights-counted plan job.plan.now round job.input.now pieces.items job.pieces.now n
     of.plan_is of.input_is of.pieces_are count c.job_law.ensures.refused c.in_ok-pieces.ensures.lines in
     let same = c.in_ok-front.ensures.refused in
-    let all = c.args.before.refused + length (refused plan.fields round) in
+    let all = c.args.before.refused + length (refused_lines plan.fields round) in
     let fewer = c.in_ok-front.ensures.fewer in
     let refused_is = c.in_ok-front.ensures.refused in
     let lines_are = c.in_ok-front.ensures.lines in
@@ -98,7 +98,7 @@ returns-in_err-whole-clause-fault g c =
     let weights = weights-counted plan job.plan.now round job.input.now pieces.items job.pieces.now n
     of.plan_is of.input_is of.pieces_are count c.job_law.ensures.refused c.in_ok-pieces.ensures.lines in
     let same = c.in_ok-front.ensures.refused in
-    let all = c.args.before.refused + length (refused plan.fields round) in
+    let all = c.args.before.refused + length (refused_lines plan.fields round) in
     let limit = c.limit_of-limit.ensures in
     let under = under-of front job.plan.now first job.input.now job.pieces.now n _ all c.in_ok-outcome.outcome (omega (arith, weights, same)) c.in_ok-outcome.ensures.decided in
     let p = err_from_is_err_and c.from_residual-in_err-whole.result c.from_residual-in_err-whole.ensures.1 in

@@ -1,14 +1,14 @@
 use Rattle.std.proofs.Common.{◌≡◌, rules, string_bytes, ◌++◌, ◌∷◌, [], ℕ, List, refl, sym, ap, ◌∙◌, append_assoc}
 use Rattle.std.proofs.lemmas.Str.Pattern.{split_parts}
-use Rattle.semantics.specs.Words.{doubled}
+use Rattle.semantics.specs.Words.{with_quotes_doubled}
 use Rattle.query_lexer.proofs.Doubling.{HasNone, doubled_piece, doubled_none}
 use Rattle.query_lexer.proofs.names.push_quoted.Goals as goal
 
-step : (q : ℕ) (out piece left rest total : List ℕ) → rest ≡ piece ++ q ∷ left → HasNone q piece → out ++ doubled q rest ≡ total → out ++ piece ++ (q ∷ []) ++ (q ∷ []) ++ doubled q left ≡ total
-step q out piece left rest total e h told = simp append_assoc (ap (λ (ys : List ℕ). out ++ ys) (sym (doubled_piece q piece left h)) ∙ (ap (λ (ys : List ℕ). out ++ doubled q ys) (sym e) ∙ told))
+step : (q : ℕ) (out piece left rest total : List ℕ) → rest ≡ piece ++ q ∷ left → HasNone q piece → out ++ with_quotes_doubled q rest ≡ total → out ++ piece ++ (q ∷ []) ++ (q ∷ []) ++ with_quotes_doubled q left ≡ total
+step q out piece left rest total e h told = simp append_assoc (ap (λ (ys : List ℕ). out ++ ys) (sym (doubled_piece q piece left h)) ∙ (ap (λ (ys : List ℕ). out ++ with_quotes_doubled q ys) (sym e) ∙ told))
 
-end : (q : ℕ) (out old text rest : List ℕ) → HasNone q rest → out ++ doubled q rest ≡ old ++ q ∷ doubled q text → out ++ rest ++ (q ∷ []) ≡ old ++ q ∷ (doubled q text ++ q ∷ [])
-end q out old text rest h told = ap (λ (ys : List ℕ). ys ++ (q ∷ [])) (ap (λ (ys : List ℕ). out ++ ys) (sym (doubled_none q rest h)) ∙ told) ∙ append_assoc old (q ∷ doubled q text) (q ∷ [])
+end : (q : ℕ) (out old text rest : List ℕ) → HasNone q rest → out ++ with_quotes_doubled q rest ≡ old ++ q ∷ with_quotes_doubled q text → out ++ rest ++ (q ∷ []) ≡ old ++ q ∷ (with_quotes_doubled q text ++ q ∷ [])
+end q out old text rest h told = ap (λ (ys : List ℕ). ys ++ (q ∷ [])) (ap (λ (ys : List ℕ). out ++ ys) (sym (doubled_none q rest h)) ∙ told) ∙ append_assoc old (q ∷ with_quotes_doubled q text) (q ∷ [])
 
 pub loop-piece-preserved : goal.loop-piece-preserved
 loop-piece-preserved c =

@@ -6,7 +6,7 @@ use Rattle.values.specs.Schema.{fields_of}
 use Rattle.query_ast.specs.Syntax.{element_form}
 use Rattle.semantics.specs.Names.{distinct, places_of}
 use Rattle.query_resolve.specs.Resolution.{contents}
-use Rattle.semantics.specs.Sets.{expanded, ordered_set, same_columns}
+use Rattle.semantics.specs.Sets.{expansion, ordered_set, same_columns}
 use Rattle.query_resolve.proofs.DistinctSets.{kept_sets}
 use Rattle.query_resolve.proofs.Rows.{ok_same}
 use Rattle.query_resolve.proofs.expansion.grouping_sets.Goals as goal
@@ -14,7 +14,7 @@ use Rattle.query_resolve.proofs.expansion.grouping_sets.Goals as goal
 pub returns : goal.returns
 returns c =
     let places : List (List ℕ) → List ℕ = places_of (fields_of c.args.columns.now) in
-    let groups = expanded (map element_form c.args.groups.now) in
+    let groups = expansion (map element_form c.args.groups.now) in
     let all : List (List ℕ) = map (λ names. ordered_set c.args.grouping.now (places names)) groups in
     let made = contents c.in_ok-all.all.items in
     ok_same c.kept.result (λ (v : Vec (Vec ℕ)). contents v.items) (if c.args.distinct_sets then distinct bytes_eq made else made) (if c.args.distinct_sets then distinct same_columns all else all) c.kept.ensures

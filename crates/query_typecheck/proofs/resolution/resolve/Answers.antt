@@ -7,7 +7,7 @@ use Rattle.query_ast.specs.declared.group.GroupingElement.{GroupingElement}
 use Rattle.query_ast.specs.Syntax.{element_form, tree_form}
 use Rattle.query_resolve.specs.declared.function.FilteredFunction.{FilteredFunction}
 use Rattle.semantics.specs.Names.{distinct, group_names, places_of}
-use Rattle.semantics.specs.Sets.{expanded, grouping_places, ordered_set, same_columns, sets_of}
+use Rattle.semantics.specs.Sets.{expansion, grouping_places, ordered_set, same_columns, sets_of}
 use Rattle.query_resolve.specs.Functions.{indexed_functions}
 use Rattle.query_resolve.specs.Resolution.{contents, Resolution}
 use Rattle.query_typecheck.proofs.resolution.resolve.Goals as goal
@@ -27,9 +27,9 @@ returns-clause-resolved c =
     let sets : contents c.in_ok-sets.sets.items ≡ sets_of fields t =
     c.in_ok-sets.ensures
     ∙ ap kept (
-    ap (λ (g : List ℕ). map (λ names. ordered_set g (places_of read names)) (expanded (map element_form c.deref-4.result.now))) (c.deref-3.ensures.value ∙ grouping)
-    ∙ ap (λ (gs : List GroupingElement). map (λ names. ordered_set (grouping_places fields t) (places_of read names)) (expanded (map element_form gs))) c.deref-4.ensures.value
-    ∙ ap (λ (fs : List Field). map (λ names. ordered_set (grouping_places fields t) (places_of fs names)) (expanded t.groups)) same
+    ap (λ (g : List ℕ). map (λ names. ordered_set g (places_of read names)) (expansion (map element_form c.deref-4.result.now))) (c.deref-3.ensures.value ∙ grouping)
+    ∙ ap (λ (gs : List GroupingElement). map (λ names. ordered_set (grouping_places fields t) (places_of read names)) (expansion (map element_form gs))) c.deref-4.ensures.value
+    ∙ ap (λ (fs : List Field). map (λ names. ordered_set (grouping_places fields t) (places_of fs names)) (expansion t.groups)) same
     ) in
     let made : List ℕ → List (List ℕ) → List FilteredFunction → Resolution = λ g s f. record { grouping = g; sets = s; functions = f } in
     ap (λ (g : List ℕ). made g (contents c.in_ok-sets.sets.items) c.in_ok-functions.functions.items) grouping

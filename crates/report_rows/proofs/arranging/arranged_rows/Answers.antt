@@ -6,7 +6,7 @@ use Rattle.tables_groups.specs.declared.group.Group.{Group}
 use Rattle.semantics.specs.Aggregates.{Summary}
 use Rattle.semantics.specs.Found.{Found}
 use Rattle.tables_groups.specs.Found.{row_of}
-use Rattle.semantics.specs.Order.{arranged}
+use Rattle.semantics.specs.Order.{rows_in_order}
 use Rattle.report_rows.specs.Shown.{cells_of}
 use Rattle.semantics.specs.Rows.{row_shown}
 use Rattle.report_rows.specs.declared.row.ReportRow.{ReportRow}
@@ -21,7 +21,7 @@ loop-group-init c =
     let found = (map row_of c.args.groups.now) in
     let shows = λ (r : Bor (ℕ × Group)). row_of r.now in
     let rest : c.into_iter-group-iterator.result.rest.items ≡ c.in_ok-shown.shown.items = c.into_iter-group-iterator.ensures.into_iter_gives.0 in
-    let left : map shows c.into_iter-group-iterator.result.rest.items ≡ arranged fields t found = ap (map shows) rest ∙ c.in_ok-shown.ensures.shown in
+    let left : map shows c.into_iter-group-iterator.result.rest.items ≡ rows_in_order fields t found = ap (map shows) rest ∙ c.in_ok-shown.ensures.shown in
     record {
       shown = ap (λ (rows : List ReportRow). map cells_of rows ++ map (row_shown fields t) (map shows c.into_iter-group-iterator.result.rest.items)) c.in_ok-rows.ensures.items ∙ ap (map (row_shown fields t)) left;
       within = subst (λ (f : List Found). AllByRecursion (λ x. x.0 < length (sets_of fields t)) f) (sym left) (within-having_true fields t found c.requires);
@@ -47,4 +47,4 @@ pub returns-clause-wide : goal.returns-clause-wide
 returns-clause-wide c =
     let fields = c.args.plan.now.fields in
     let t = c.args.plan.now.query in
-    all-wide fields t c.loop-group.rows.items (map (row_shown fields t) (map (λ (r : Bor (ℕ × Group)). row_of r.now) c.loop-group.group-iterator.rest.items)) (arranged fields t (map row_of c.args.groups.now)) c.loop-group.invariant.shown
+    all-wide fields t c.loop-group.rows.items (map (row_shown fields t) (map (λ (r : Bor (ℕ × Group)). row_of r.now) c.loop-group.group-iterator.rest.items)) (rows_in_order fields t (map row_of c.args.groups.now)) c.loop-group.invariant.shown

@@ -4,7 +4,7 @@ use Rattle.std.proofs.lemmas.Result.{IfOk-weaker}
 use Rattle.query_resolve.specs.declared.function.FilteredFunction.{FilteredFunction}
 use Rattle.query_resolve.specs.Resolution.{contents}
 use Rattle.semantics.specs.Sets.{grouping_places, sets_of}
-use Rattle.semantics.specs.Conditions.{kept}
+use Rattle.semantics.specs.Conditions.{kept_records}
 use Rattle.tables_groups.specs.Bags.{SameBag}
 use Rattle.semantics.specs.Aggregates.{AggregateFunction}
 use Rattle.tables_groups.specs.Functions.{bound}
@@ -37,7 +37,7 @@ returns g c = IfOk-weaker c.flattened.result _ _ (λ rows is records table.
     let q = c.args.plan.now.query in
     let fs = aggregate_functions fields q in
     let filters = filters_kept fields q in
-    let members = kept fields q records in
+    let members = kept_records fields q records in
     let groups = c.in_ok-groups.groups.items in
     let bound_are : map (bound filters) c.set_functions.result.now ≡ fs = ap (map (bound filters)) c.set_functions.ensures.functions ∙ bound-functions fields q in
     let finest = subst (λ grouping. IsTableOf grouping (map (bound filters) c.set_functions.result.now) c.args.finest members) (sym c.grouping.ensures.grouping)

@@ -5,7 +5,7 @@ use Rattle.semantics.specs.declared.line_fault.LineRefusal.{LineRefusal}
 use Rattle.semantics.specs.Records.{IsRefusal, decode_line}
 use Rattle.tables.specs.declared.folding.Folding.{Folding}
 use Rattle.tables.specs.Folding.{HasRead, valid_of}
-use Rattle.semantics.specs.Conditions.{kept}
+use Rattle.semantics.specs.Conditions.{kept_records}
 use Rattle.semantics.specs.Sets.{grouping_places}
 use Rattle.semantics.specs.Aggregates.{AggregateFunction}
 use Rattle.tables_groups.specs.Inside.Table.{IsTableOf}
@@ -21,8 +21,8 @@ take-requires-clause-room c =
     let q = c.args.plan.now.query in
     ∥∥₁_map c.requires (λ r. record {
       filters = filters_kept fields q;
-      rows = kept fields q (r.before ++ valid_of fields r.seen);
-      is_table = subst (λ (fs : List AggregateFunction). IsTableOf (grouping_places fields q) fs c.args.self.now.table (kept fields q (r.before ++ valid_of fields r.seen))) (sym (bound-functions fields q)) r.has_read.table;
+      rows = kept_records fields q (r.before ++ valid_of fields r.seen);
+      is_table = subst (λ (fs : List AggregateFunction). IsTableOf (grouping_places fields q) fs c.args.self.now.table (kept_records fields q (r.before ++ valid_of fields r.seen))) (sym (bound-functions fields q)) r.has_read.table;
       few = (let h = length-kept_behind fields q r.before r.seen in omega (arith, h, r.few));
     })
 

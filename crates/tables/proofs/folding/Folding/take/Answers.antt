@@ -7,7 +7,7 @@ use Rattle.tables_groups.specs.Inside.Table.{IsTableOf}
 use Rattle.values.specs.Datum.{data_of}
 use Rattle.query_resolve.specs.Functions.{filters_of}
 use Rattle.semantics.specs.Sets.{grouping_places}
-use Rattle.semantics.specs.Conditions.{is_kept, kept}
+use Rattle.semantics.specs.Conditions.{is_kept, kept_records}
 use Rattle.semantics.specs.Found.{aggregate_functions}
 use Rattle.tables.specs.Functions.{filters_kept}
 use Rattle.tables.proofs.Bound.{bound-functions, marks-kept}
@@ -26,10 +26,10 @@ returns-in_ok-add-clause-table c = λ rows given.
     let fs = aggregate_functions fields q in
     let filters = filters_kept fields q in
     let row = c.args.taken.now in
-    let before = kept fields q rows in
+    let before = kept_records fields q rows in
     let new = c.add.new.self in
     let is : is_kept fields q row ≡ true = search rules in
-    let all : kept fields q (rows ++ row ∷ []) ≡ before ++ row ∷ [] = kept-append fields q rows (row ∷ []) ∙ ap (λ b. before ++ cond b (row ∷ []) []) is in
+    let all : kept_records fields q (rows ++ row ∷ []) ≡ before ++ row ∷ [] = kept-append fields q rows (row ∷ []) ∙ ap (λ b. before ++ cond b (row ∷ []) []) is in
     let marks : c.as_slice.result.now ≡ map (λ keeps. keeps (data_of c.values.result.now)) filters =
     c.as_slice.ensures.value ∙ c.in_ok-mark_filters.ensures.marks ∙ marks-kept fields (filters_of fields q) row
     ∙ ap (λ (r : Row). map (λ keeps. keeps r) filters) (sym c.values.ensures.values) in

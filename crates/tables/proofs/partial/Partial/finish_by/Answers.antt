@@ -5,7 +5,7 @@ use Rattle.semantics.specs.Groups.{Row}
 use Rattle.semantics.specs.Aggregates.{AggregateFunction}
 use Rattle.tables_groups.specs.Inside.Table.{IsTableOf}
 use Rattle.semantics.specs.Sets.{grouping_places, sets_of}
-use Rattle.semantics.specs.Conditions.{kept}
+use Rattle.semantics.specs.Conditions.{kept_records}
 use Rattle.semantics.specs.Found.{Found, aggregate_functions, all_found, query_found}
 use Rattle.tables_groups.specs.Found.{row_of}
 use Rattle.tables.specs.Functions.{filters_kept}
@@ -30,8 +30,8 @@ rows_of-requires-clause-few g c =
     let p = subst (λ (v : PartialState). StandsFor fields q v s.0) (sym c.self.view_is) s.1 in
     record {
       filters = filters_kept fields q;
-      rows = kept fields q (records_of fields s.0);
-      is_table = subst (λ (fs : List AggregateFunction). IsTableOf (grouping_places fields q) fs c.self.inside.table (kept fields q (records_of fields s.0))) (sym (bound-functions fields q)) p.table;
+      rows = kept_records fields q (records_of fields s.0);
+      is_table = subst (λ (fs : List AggregateFunction). IsTableOf (grouping_places fields q) fs c.self.inside.table (kept_records fields q (records_of fields s.0))) (sym (bound-functions fields q)) p.table;
       few = few-kept fields q s.0 c.self.inside.lines p.lines c.self.inside.few;
     })
 
@@ -43,7 +43,7 @@ new-requires g c =
     let found = map row_of c.in_ok-rows.rows.items in
     record {
       fit = ∥∥₁_map c.requires.of_plan (λ s.
-          let rows = kept fields q (records_of fields s.0) in
+          let rows = kept_records fields q (records_of fields s.0) in
           let p = subst (λ (v : PartialState). StandsFor fields q v s.0) (sym c.self.view_is) s.1 in
           (plan, found-fit fields q rows found (c.in_ok-rows.ensures (records_of fields s.0) p.table) (kept-fits fields q s.0)));
     }
@@ -62,7 +62,7 @@ returns-clause-fit g c =
     let q = c.args.plan.now.query in
     ∥∥₁_elim c.requires.of_plan (fitting-prop fields q c.new.result.found) (λ s.
     let p = subst (λ (v : PartialState). StandsFor fields q v s.0) (sym c.self.view_is) s.1 in
-    let rows = kept fields q (records_of fields s.0) in
+    let rows = kept_records fields q (records_of fields s.0) in
     let found = all_found (sets_of fields q) (aggregate_functions fields q) rows in
     found-fit fields q rows c.new.result.found
     (subst (λ (fs : List Found). SameBag fs found) (sym c.new.ensures.rows) (c.in_ok-rows.ensures (records_of fields s.0) p.table))

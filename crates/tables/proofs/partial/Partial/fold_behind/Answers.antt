@@ -9,7 +9,7 @@ use Rattle.tables_groups.proofs.Meaning.{table-within}
 use Rattle.query_resolve.specs.declared.function.FilteredFunction.{FilteredFunction}
 use Rattle.query_resolve.specs.Functions.{indexed_functions}
 use Rattle.semantics.specs.Sets.{grouping_places}
-use Rattle.semantics.specs.Conditions.{kept}
+use Rattle.semantics.specs.Conditions.{kept_records}
 use Rattle.tables.specs.Folding.{valid_of}
 use Rattle.tables.specs.Notes.{notes_in}
 use Rattle.tables.specs.Partials.{StandsFor}
@@ -78,7 +78,7 @@ invariant_of-result c =
           ∥∥₁_elim c.requires.of_plan (hlevel props) (λ s.
               let p = subst (λ (v : PartialState). StandsFor fields q v s.0) (sym c.self.view_is) s.1 in
               subst (λ (fs : List FilteredFunction). AreGroupsWithin (self.lines + folding.lines) fs folding.table) (sym p.functions)
-              (table-within (grouping_places fields q) (indexed_functions fields q) (aggregate_functions fields q) folding.table (kept fields q (records_of fields s.0 ++ valid_of fields ls)) (self.lines + folding.lines) (as-many fields q) (read.read (records_of fields s.0) p.table).table
+              (table-within (grouping_places fields q) (indexed_functions fields q) (aggregate_functions fields q) folding.table (kept_records fields q (records_of fields s.0 ++ valid_of fields ls)) (self.lines + folding.lines) (as-many fields q) (read.read (records_of fields s.0) p.table).table
               (let few = length-kept_behind fields q (records_of fields s.0) ls in let records = few-records fields s.0 in let before = p.lines in omega (arith, few, records, before, count)))),
           (
             notes.0,
@@ -109,7 +109,7 @@ returns c = record {
         sets = p.sets;
         functions = p.functions;
         filters = p.filters;
-        table = subst (λ (rows : List Row). IsTableOf (grouping_places fields q) (aggregate_functions fields q) folding.table (kept fields q rows)) (sym (records-behind fields front rest pieces whole given.cut)) read.table;
+        table = subst (λ (rows : List Row). IsTableOf (grouping_places fields q) (aggregate_functions fields q) folding.table (kept_records fields q rows)) (sym (records-behind fields front rest pieces whole given.cut)) read.table;
         lines = (let x = p.lines in let y = read.lines in let z = whole-lines (front ++ rest) in omega (arith, x, y, z, count));
         refused = (let x = p.refused in let n = c.len.ensures in let y = ap length read.refused in let z = count-behind fields front rest pieces whole given.cut in omega (arith, x, n, y, z));
         notes = followed-note fields (front ++ rest) c.in_ok-notes.notes.items _ c.in_ok-notes.ensures (omega arith) (let x = p.lines in let y = read.lines in omega (arith, x, y, count)) refused;

@@ -10,7 +10,7 @@ use Rattle.tables_groups.proofs.Meaning.{table-within}
 use Rattle.query_resolve.specs.declared.function.FilteredFunction.{FilteredFunction}
 use Rattle.query_resolve.specs.Functions.{indexed_functions}
 use Rattle.semantics.specs.Sets.{grouping_places}
-use Rattle.semantics.specs.Conditions.{kept}
+use Rattle.semantics.specs.Conditions.{kept_records}
 use Rattle.tables.specs.declared.piece_refusals.PieceRefusals.{PieceRefusals}
 use Rattle.tables.specs.Folding.{valid_of}
 use Rattle.tables.specs.Notes.{Noted, note_in, note_of}
@@ -65,7 +65,7 @@ invariant_of-result c =
           ∥∥₁_elim c.requires.of_plan (hlevel props) (λ s.
               let p = subst (λ (v : PartialState). StandsFor fields q v s.0) (sym c.self.view_is) s.1 in
               subst (λ (fs : List FilteredFunction). AreGroupsWithin (self.lines + folding.lines) fs folding.table) (sym p.functions)
-              (table-within (grouping_places fields q) (indexed_functions fields q) (aggregate_functions fields q) folding.table (kept fields q (records_of fields s.0 ++ valid_of fields ls)) (self.lines + folding.lines) (as-many fields q) (read.read (records_of fields s.0) p.table).table
+              (table-within (grouping_places fields q) (indexed_functions fields q) (aggregate_functions fields q) folding.table (kept_records fields q (records_of fields s.0 ++ valid_of fields ls)) (self.lines + folding.lines) (as-many fields q) (read.read (records_of fields s.0) p.table).table
               (let few = length-kept_behind fields q (records_of fields s.0) ls in let records = few-records fields s.0 in let before = p.lines in omega (arith, few, records, before, count)))),
           (
             noted.0,
@@ -88,7 +88,7 @@ returns-clause-stands c = λ pieces given.
       sets = p.sets;
       functions = p.functions;
       filters = p.filters;
-      table = subst (λ (rows : List Row). IsTableOf (grouping_places fields q) (aggregate_functions fields q) folding.table (kept fields q rows)) (sym (records-more fields pieces c.args.index bytes)) read.table;
+      table = subst (λ (rows : List Row). IsTableOf (grouping_places fields q) (aggregate_functions fields q) folding.table (kept_records fields q rows)) (sym (records-more fields pieces c.args.index bytes)) read.table;
       lines = (let x = p.lines in let y = read.lines in let z = lines-more pieces c.args.index bytes in omega (arith, x, y, z));
       refused = (let x = p.refused in let n = c.len-more.ensures in let y = ap length read.refused in let z = refused-more fields pieces c.args.index bytes in omega (arith, x, n, y, z));
       notes = subst (λ (ns : List Noted). SameBag (map (note_of fields) (pieces ++ record { index = c.args.index; bytes = bytes } ∷ [])) ns)

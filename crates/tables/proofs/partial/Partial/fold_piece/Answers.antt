@@ -2,7 +2,7 @@ use Rattle.std.proofs.Common.{◌∷◌, [], List, length, map, refl, sym, ap, s
 use Rattle.semantics.specs.Lines.{lines}
 use Rattle.query_resolve.specs.Functions.{indexed_functions}
 use Rattle.semantics.specs.Sets.{grouping_places}
-use Rattle.semantics.specs.Conditions.{kept}
+use Rattle.semantics.specs.Conditions.{kept_records}
 use Rattle.tables.specs.Folding.{valid_of}
 use Rattle.tables_groups.specs.Bags.{SameBag}
 use Rattle.semantics.specs.Groups.{Row}
@@ -42,7 +42,7 @@ invariant_of-result c =
         (let n = c.len-count.ensures in let r = c.in_ok-table.ensures.refused in let m = length-refused_of fields ls in let ok = folding.refused.ok in grind (arith, n, r, m, count, ok)),
         (
           subst (λ (fs : List FilteredFunction). AreGroupsWithin folding.lines fs folding.table) (sym c.in_ok-shape.ensures.functions)
-              (table-within (grouping_places fields q) (indexed_functions fields q) (aggregate_functions fields q) folding.table (kept fields q (valid_of fields ls)) folding.lines (as-many fields q) read.table (omega (arith, valid, few, count))),
+              (table-within (grouping_places fields q) (indexed_functions fields q) (aggregate_functions fields q) folding.table (kept_records fields q (valid_of fields ls)) folding.lines (as-many fields q) read.table (omega (arith, valid, few, count))),
           (
             notes.0,
             (notes.1, tt),
@@ -63,7 +63,7 @@ returns c =
         sets = c.in_ok-shape.ensures.sets;
         functions = c.in_ok-shape.ensures.functions;
         filters = c.in_ok-shape.ensures.filters;
-        table = subst (λ (rows : List Row). IsTableOf (grouping_places fields q) (aggregate_functions fields q) folding.table (kept fields q rows)) (sym (records-more fields [] c.args.index bytes)) read.table;
+        table = subst (λ (rows : List Row). IsTableOf (grouping_places fields q) (aggregate_functions fields q) folding.table (kept_records fields q rows)) (sym (records-more fields [] c.args.index bytes)) read.table;
         lines = (let y = read.lines in let z = lines-more [] c.args.index bytes in omega (arith, y, z));
         refused = (let n = c.len-count.ensures in let y = ap length read.refused in let z = refused-more fields [] c.args.index bytes in omega (arith, n, y, z));
         notes = subst (λ (ns : List Noted). SameBag (map (note_of fields) (record { index = c.args.index; bytes = bytes } ∷ [])) ns)

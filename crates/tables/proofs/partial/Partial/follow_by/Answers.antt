@@ -9,7 +9,7 @@ use Rattle.tables.specs.Notes.{notes_in}
 use Rattle.tables.specs.Pieces.{records_of}
 use Rattle.tables.specs.Partials.{StandsFor}
 use Rattle.tables.specs.States.{PartialState}
-use Rattle.semantics.specs.Conditions.{kept}
+use Rattle.semantics.specs.Conditions.{kept_records}
 use Rattle.tables.proofs.Following.{behind-within, followed-count, followed-lines, followed-note, followed-records, followed-refused, lines-within, whole-lines}
 use Rattle.tables.proofs.Merging.{one-note}
 use Rattle.tables.proofs.Reading.{kept-append}
@@ -89,8 +89,8 @@ returns g c = record {
         functions = p.functions;
         filters = p.filters;
         table = subst (λ (rows : List Row). IsTableOf (grouping_places fields q) (aggregate_functions fields q) c.in_ok-joined.joined rows)
-            (sym (ap (kept fields q) (followed-records fields front back given.pieces other.pieces whole given.cut other.cut) ∙ kept-append fields q (records_of fields given.pieces) (records_of fields other.pieces)))
-            (c.in_ok-joined.ensures.joined (grouping_places fields q) (aggregate_functions fields q) (kept fields q (records_of fields given.pieces)) (kept fields q (records_of fields other.pieces)) p.table m.table);
+            (sym (ap (kept_records fields q) (followed-records fields front back given.pieces other.pieces whole given.cut other.cut) ∙ kept-append fields q (records_of fields given.pieces) (records_of fields other.pieces)))
+            (c.in_ok-joined.ensures.joined (grouping_places fields q) (aggregate_functions fields q) (kept_records fields q (records_of fields given.pieces)) (kept_records fields q (records_of fields other.pieces)) p.table m.table);
         lines = (let x = p.lines in let y = m.lines in let z = whole-lines (front ++ back) in omega (arith, x, y, z, count));
         refused = (let x = p.refused in let y = m.refused in let z = followed-count fields front back given.pieces other.pieces whole given.cut other.cut in omega (arith, x, y, z));
         notes = followed-note fields (front ++ back) c.in_ok-notes.notes.items _ c.in_ok-notes.ensures (omega arith) (let x = p.lines in let y = m.lines in omega (arith, x, y, count)) refused;

@@ -2,7 +2,7 @@ use Rattle.std.proofs.Common.{◌≤◌, List, All, sym, subst, arith}
 use Rattle.tables_groups.specs.Inside.Table.{IsTableOf}
 use Rattle.semantics.specs.Groups.{Row}
 use Rattle.semantics.specs.Sets.{grouping_places}
-use Rattle.semantics.specs.Conditions.{kept}
+use Rattle.semantics.specs.Conditions.{kept_records}
 use Rattle.semantics.specs.Found.{aggregate_functions}
 use Rattle.tables.specs.Notes.{notes_in}
 use Rattle.tables.specs.Partials.{StandsFor}
@@ -38,7 +38,7 @@ returns-clause-stands c = λ fields q input given.
       sets = p.sets;
       functions = p.functions;
       filters = p.filters;
-      table = subst (λ (rows : List Row). IsTableOf (grouping_places fields q) (aggregate_functions fields q) self.table (kept fields q rows)) (sym (one-records fields input pieces given.cut)) p.table;
+      table = subst (λ (rows : List Row). IsTableOf (grouping_places fields q) (aggregate_functions fields q) self.table (kept_records fields q rows)) (sym (one-records fields input pieces given.cut)) p.table;
       lines = omega (arith, counted, lines);
       refused = omega (arith, count, refused);
       notes = one-noted fields input pieces self.lines found c.in_ok-notes.notes.items given.cut (omega (arith, counted)) (refused-in_order fields input pieces (notes_in self.notes) found given.cut p.notes c.in_ok-numbered.ensures)

@@ -13,7 +13,7 @@ use Rattle.tables.specs.Notes.{IsWellNumbered, Noted, lines_noted, note_in, note
 use Rattle.tables.specs.Pieces.{records_of}
 use Rattle.tables.specs.Partials.{StandsFor}
 use Rattle.tables.specs.States.{PartialState}
-use Rattle.semantics.specs.Conditions.{kept}
+use Rattle.semantics.specs.Conditions.{kept_records}
 use Rattle.tables.proofs.Reading.{kept-append}
 use Rattle.tables.proofs.Merging.{counted-append, lines-append, notes-append, records-append, refused-append}
 use Rattle.tables.proofs.partial.Partial.merge_by.Goals as goal
@@ -64,8 +64,8 @@ returns-clause-stands g c = λ fields q pieces more given other.
       sets = p.sets;
       functions = p.functions;
       filters = p.filters;
-      table = subst (λ (rows : List Row). IsTableOf (grouping_places fields q) (aggregate_functions fields q) c.in_ok-joined.joined rows) (sym (ap (kept fields q) (records-append fields pieces more) ∙ kept-append fields q (records_of fields pieces) (records_of fields more)))
-          (c.in_ok-joined.ensures.joined (grouping_places fields q) (aggregate_functions fields q) (kept fields q (records_of fields pieces)) (kept fields q (records_of fields more)) p.table m.table);
+      table = subst (λ (rows : List Row). IsTableOf (grouping_places fields q) (aggregate_functions fields q) c.in_ok-joined.joined rows) (sym (ap (kept_records fields q) (records-append fields pieces more) ∙ kept-append fields q (records_of fields pieces) (records_of fields more)))
+          (c.in_ok-joined.ensures.joined (grouping_places fields q) (aggregate_functions fields q) (kept_records fields q (records_of fields pieces)) (kept_records fields q (records_of fields more)) p.table m.table);
       lines = (let x = p.lines in let y = m.lines in let z = lines-append pieces more in omega (arith, x, y, z));
       refused = (let x = p.refused in let y = m.refused in let z = refused-append fields pieces more in omega (arith, x, y, z));
       notes = subst (λ (ns : List Noted). SameBag (map (note_of fields) (pieces ++ more)) ns) (sym joined) (notes-append fields pieces more (notes_in a.notes) (notes_in b.notes) p.notes m.notes);
