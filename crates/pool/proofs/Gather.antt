@@ -1,10 +1,11 @@
 -- The pieces of a list, in whatever order they stand.
 use Rattle.std.proofs.Common.{◌≡◌, ◌≢◌, ℕ, zero, suc, ◌+◌, ◌<◌, ◌≤◌, true, ◌==◌, if◌then◌else◌, List, [], ◌∷◌, ◌++◌, sym, refl, ap, ◌∙◌, subst, ⊎_elim, arith, eq-eqb, ne_eqb}
 use Rattle.std.proofs.lemmas.Bool.{cases_eq}
+use Rattle.pool.specs.Reduction.{Reduction, reduction_below}
 use Rattle.pool.specs.Lawful.{Lawful}
 use Rattle.pool.specs.Dealing.{times}
-use Rattle.pool.specs.Totals.{total, sum_below, sum_list, once_below}
-use Rattle.pool.specs.Inside.Totals.{gathered}
+use Rattle.pool.specs.Totals.{sum_below, sum_list, once_below}
+use Rattle.pool.specs.Inside.Totals.{reduction_from}
 use Rattle.pool.proofs.Rules.{times-append}
 
 same : (x : ℕ) → (x == x) ≡ true
@@ -54,41 +55,41 @@ sum_list-within f (suc k) xs h =
     omega arith)
     (cases_eq (times k xs) 0)
 
-module _ {M : Type 0} {fits : M → Type 0} {unit : M} {combined : M → M → M} {piece : ℕ → M} {weight load : M → ℕ} (laws : Lawful fits unit combined piece weight load) where
+module _ {M : Type 0} {reduction : Reduction M} (laws : Lawful reduction) where
   -- pieces that go onto a part that was made before
-  module _ (b : M) (its : fits b) where
-    pub onto_fits : (xs : List ℕ) → fits (gathered b combined piece xs)
+  module _ (b : M) (its : reduction.fits b) where
+    pub onto_fits : (xs : List ℕ) → reduction.fits (reduction_from reduction b xs)
     onto_fits [] = its
     onto_fits (x ∷ xs) = laws.combined_fits _ _ (laws.piece_fits x) (onto_fits xs)
 
-    pub onto_load : (xs : List ℕ) → load (gathered b combined piece xs) ≡ load b + sum_list (λ i. load (piece i)) xs
+    pub onto_load : (xs : List ℕ) → reduction.load (reduction_from reduction b xs) ≡ reduction.load b + sum_list (λ i. reduction.load (reduction.piece i)) xs
     onto_load [] = omega arith
     onto_load (x ∷ xs) = let a = laws.load_adds _ _ (laws.piece_fits x) (onto_fits xs) in omega (arith, a, onto_load xs)
 
-    pub onto_weight : (xs : List ℕ) → weight (gathered b combined piece xs) ≡ weight b + sum_list (λ i. weight (piece i)) xs
+    pub onto_weight : (xs : List ℕ) → reduction.weight (reduction_from reduction b xs) ≡ reduction.weight b + sum_list (λ i. reduction.weight (reduction.piece i)) xs
     onto_weight [] = omega arith
     onto_weight (x ∷ xs) = let a = laws.weight_adds _ _ (laws.piece_fits x) (onto_fits xs) in omega (arith, a, onto_weight xs)
 
-    pub onto-middle : (x : ℕ) (ys zs : List ℕ) → gathered b combined piece (ys ++ x ∷ zs) ≡ combined (gathered b combined piece (ys ++ zs)) (piece x)
+    pub onto-middle : (x : ℕ) (ys zs : List ℕ) → reduction_from reduction b (ys ++ x ∷ zs) ≡ reduction.combine (reduction_from reduction b (ys ++ zs)) (reduction.piece x)
     onto-middle x [] zs = laws.commutative _ _ (laws.piece_fits x) (onto_fits zs)
-    onto-middle x (y ∷ ys) zs = ap (combined (piece y)) (onto-middle x ys zs) ∙ sym (laws.associative _ _ _ (laws.piece_fits y) (onto_fits (ys ++ zs)) (laws.piece_fits x))
+    onto-middle x (y ∷ ys) zs = ap (reduction.combine (reduction.piece y)) (onto-middle x ys zs) ∙ sym (laws.associative _ _ _ (laws.piece_fits y) (onto_fits (ys ++ zs)) (laws.piece_fits x))
 
-  pub gathered_fits : (xs : List ℕ) → fits (gathered unit combined piece xs)
-  gathered_fits xs = onto_fits unit laws.unit_fits xs
+  pub gathered_fits : (xs : List ℕ) → reduction.fits (reduction_from reduction reduction.unit xs)
+  gathered_fits xs = onto_fits reduction.unit laws.unit_fits xs
 
-  pub unit_after : (a : M) → fits a → combined a unit ≡ a
+  pub unit_after : (a : M) → reduction.fits a → reduction.combine a reduction.unit ≡ a
   unit_after a its = laws.commutative _ _ its laws.unit_fits ∙ laws.unit_combined _ its
 
   -- what there was to begin with may be combined last
-  pub onto_apart : (b : M) → fits b → (xs : List ℕ) → gathered b combined piece xs ≡ combined b (gathered unit combined piece xs)
+  pub onto_apart : (b : M) → reduction.fits b → (xs : List ℕ) → reduction_from reduction b xs ≡ reduction.combine b (reduction_from reduction reduction.unit xs)
   onto_apart b its [] = sym (unit_after b its)
   onto_apart b its (x ∷ xs) =
       let p = laws.piece_fits x in
       let r = gathered_fits xs in
-      ap (combined (piece x)) (onto_apart b its xs) ∙ sym (laws.associative _ _ _ p its r) ∙ ap (λ m. combined m (gathered unit combined piece xs)) (laws.commutative _ _ p its) ∙ laws.associative _ _ _ its p r
+      ap (reduction.combine (reduction.piece x)) (onto_apart b its xs) ∙ sym (laws.associative _ _ _ p its r) ∙ ap (λ m. reduction.combine m (reduction_from reduction reduction.unit xs)) (laws.commutative _ _ p its) ∙ laws.associative _ _ _ its p r
 
   -- each number below n once, and no other
-  pub gathered_whole : (n : ℕ) (xs : List ℕ) → ((x : ℕ) → times x xs ≡ once_below x n) → gathered unit combined piece xs ≡ total unit combined piece n
+  pub gathered_whole : (n : ℕ) (xs : List ℕ) → ((x : ℕ) → times x xs ≡ once_below x n) → reduction_from reduction reduction.unit xs ≡ reduction_below reduction n
   gathered_whole zero [] h = refl
   gathered_whole zero (x ∷ xs) h = let a = h x in let e = one_if_same x in absurd (omega arith)
   gathered_whole (suc k) xs h =
@@ -96,22 +97,22 @@ module _ {M : Type 0} {fits : M → Type 0} {unit : M} {combined : M → M → M
       let e = one_if_same k in
       let r = split_at k xs (omega arith) in
       let i = gathered_whole k (r.0 ++ r.1) (λ x. let b = h x in let t = ap (times x) r.2 ∙ times-middle x k r.0 r.1 in omega arith) in
-      ap (gathered unit combined piece) r.2 ∙ onto-middle unit laws.unit_fits k r.0 r.1 ∙ ap (λ m. combined m (piece k)) i
+      ap (reduction_from reduction reduction.unit) r.2 ∙ onto-middle reduction.unit laws.unit_fits k r.0 r.1 ∙ ap (λ m. reduction.combine m (reduction.piece k)) i
 
-  pub onto_whole : (b : M) → fits b → (n : ℕ) (xs : List ℕ) → ((x : ℕ) → times x xs ≡ once_below x n) → gathered b combined piece xs ≡ combined b (total unit combined piece n)
-  onto_whole b its n xs h = onto_apart b its xs ∙ ap (combined b) (gathered_whole n xs h)
+  pub onto_whole : (b : M) → reduction.fits b → (n : ℕ) (xs : List ℕ) → ((x : ℕ) → times x xs ≡ once_below x n) → reduction_from reduction b xs ≡ reduction.combine b (reduction_below reduction n)
+  onto_whole b its n xs h = onto_apart b its xs ∙ ap (reduction.combine b) (gathered_whole n xs h)
 
   -- the next list goes onto what was gathered so far
-  pub onto-append : (b : M) → fits b → (xs ys : List ℕ) → gathered b combined piece (xs ++ ys) ≡ combined (gathered b combined piece xs) (gathered unit combined piece ys)
+  pub onto-append : (b : M) → reduction.fits b → (xs ys : List ℕ) → reduction_from reduction b (xs ++ ys) ≡ reduction.combine (reduction_from reduction b xs) (reduction_from reduction reduction.unit ys)
   onto-append b its [] ys = onto_apart b its ys
-  onto-append b its (x ∷ xs) ys = ap (combined (piece x)) (onto-append b its xs ys) ∙ sym (laws.associative _ _ _ (laws.piece_fits x) (onto_fits b its xs) (gathered_fits ys))
+  onto-append b its (x ∷ xs) ys = ap (reduction.combine (reduction.piece x)) (onto-append b its xs ys) ∙ sym (laws.associative _ _ _ (laws.piece_fits x) (onto_fits b its xs) (gathered_fits ys))
 
   -- a part m still lacks what b stands for; with a part that b was begun with and the list l, it lacks nothing
-  pub onto_next : (first : M) → fits first → (m b p : M) → fits m → fits b → (done l : List ℕ) → combined m b ≡ gathered first combined piece done → p ≡ gathered b combined piece l → combined (combined m p) unit ≡ gathered first combined piece (done ++ l)
+  pub onto_next : (first : M) → reduction.fits first → (m b p : M) → reduction.fits m → reduction.fits b → (done l : List ℕ) → reduction.combine m b ≡ reduction_from reduction first done → p ≡ reduction_from reduction b l → reduction.combine (reduction.combine m p) reduction.unit ≡ reduction_from reduction first (done ++ l)
   onto_next first its m b p fm fb done l so_far is =
       let r = gathered_fits l in
-      unit_after _ (laws.combined_fits _ _ fm (subst fits (sym is) (onto_fits b fb l)))
-      ∙ ap (combined m) (is ∙ onto_apart b fb l)
+      unit_after _ (laws.combined_fits _ _ fm (subst reduction.fits (sym is) (onto_fits b fb l)))
+      ∙ ap (reduction.combine m) (is ∙ onto_apart b fb l)
       ∙ sym (laws.associative _ _ _ fm fb r)
-      ∙ ap (λ n. combined n (gathered unit combined piece l)) so_far
+      ∙ ap (λ n. reduction.combine n (reduction_from reduction reduction.unit l)) so_far
       ∙ sym (onto-append first its done l)

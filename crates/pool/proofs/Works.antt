@@ -4,8 +4,9 @@ use Rattle.std.proofs.Math.Nat.{div-add-mod, mod-eq_of_lt}
 use Rattle.std.proofs.lemmas.Bool.{cases_eq, cases_lt}
 use mathlib.Core.Option.{some, some-injective, some-ne-none}
 use lib.ListN.{get_elem?}
+use Rattle.pool.specs.Reduction.{Reduction}
 use Rattle.pool.specs.Dealing.{dealt, times}
-use Rattle.pool.specs.Inside.Totals.{gathered}
+use Rattle.pool.specs.Inside.Totals.{reduction_from}
 use Rattle.pool.specs.Totals.{sum_below, sum_list, once_below}
 use Rattle.pool.specs.Lawful.{Lawful}
 use Rattle.pool.specs.Seen.{Seen}
@@ -87,74 +88,74 @@ follows_next h k answer a i names pieces hands number b = belongs_next names pie
 pub gained_pieces : (h k : Holding) (x : ℕ) → Gained h x k → k.pieces ≡ h.pieces
 gained_pieces h k x = λ g. ⊎_elim (λ (o : _). ap (λ (u : Holding). u.pieces) o.2) (λ (o : _). ap (λ (u : Holding). u.pieces) o.5) g
 
-module _ {M : Type 0} {fits : M → Type 0} {unit : M} {combined : M → M → M} {piece : ℕ → M} {weight load : M → ℕ} (laws : Lawful fits unit combined piece weight load) where
-  pub weights_at_most_loads : (xs : List ℕ) → sum_list (λ i. weight (piece i)) xs ≤ sum_list (λ i. load (piece i)) xs
+module _ {M : Type 0} {reduction : Reduction M} (laws : Lawful reduction) where
+  pub weights_at_most_loads : (xs : List ℕ) → sum_list (λ i. reduction.weight (reduction.piece i)) xs ≤ sum_list (λ i. reduction.load (reduction.piece i)) xs
   weights_at_most_loads [] = omega arith
-  weights_at_most_loads (x ∷ xs) = omega (arith, laws.weight_at_most_load (piece x) (laws.piece_fits x), weights_at_most_loads xs)
+  weights_at_most_loads (x ∷ xs) = omega (arith, laws.weight_at_most_load (reduction.piece x) (laws.piece_fits x), weights_at_most_loads xs)
 
-  turn_room : (old new : List ℕ) (x n s : ℕ) → Grown old x new → ((z : ℕ) → times z new ≤ once_below z n) → s + sum_below (λ i. load (piece i)) n < 2 ^ 63 + sum_list (λ i. weight (piece i)) old → s + load (piece x) < 2 ^ 63
+  turn_room : (old new : List ℕ) (x n s : ℕ) → Grown old x new → ((z : ℕ) → times z new ≤ once_below z n) → s + sum_below (λ i. reduction.load (reduction.piece i)) n < 2 ^ 63 + sum_list (λ i. reduction.weight (reduction.piece i)) old → s + reduction.load (reduction.piece x) < 2 ^ 63
   turn_room old new x n s g within room =
-      let a = grown_at_most (λ i. load (piece i)) old new x n g within in
+      let a = grown_at_most (λ i. reduction.load (reduction.piece i)) old new x n g within in
       let c = weights_at_most_loads old in
       omega arith
 
-module _ {M : Type 0} {fits : M → Type 0} {unit : M} {combined : M → M → M} {piece : ℕ → M} {weight load : M → ℕ} (laws : Lawful fits unit combined piece weight load) (begin : M) (its : fits begin) where
-  grown_gathered : (old new : List ℕ) (x : ℕ) → Grown old x new → gathered begin combined piece new ≡ combined (gathered begin combined piece old) (piece x)
-  grown_gathered old new x g = ap (gathered begin combined piece) g.3 ∙ onto-middle laws begin its x g.0 g.1 ∙ ap (λ l. combined (gathered begin combined piece l) (piece x)) (sym g.2)
+module _ {M : Type 0} {reduction : Reduction M} (laws : Lawful reduction) (begin : M) (its : reduction.fits begin) where
+  grown_gathered : (old new : List ℕ) (x : ℕ) → Grown old x new → reduction_from reduction begin new ≡ reduction.combine (reduction_from reduction begin old) (reduction.piece x)
+  grown_gathered old new x g = ap (reduction_from reduction begin) g.3 ∙ onto-middle laws begin its x g.0 g.1 ∙ ap (λ l. reduction.combine (reduction_from reduction begin l) (reduction.piece x)) (sym g.2)
 
   -- a new hand, with what it begins with
-  pub may_begin : (h : Holding) (s : ℕ) (m : M) → numbers_of h ≡ [] → m ≡ begin → load begin + sum_below (λ i. load (piece i)) h.pieces < 2 ^ 63 → sum_below (λ i. load (piece i)) h.pieces + s < 2 ^ 63 → MayGoOn begin combined piece weight load h s m
+  pub may_begin : (h : Holding) (s : ℕ) (m : M) → numbers_of h ≡ [] → m ≡ begin → reduction.load begin + sum_below (λ i. reduction.load (reduction.piece i)) h.pieces < 2 ^ 63 → sum_below (λ i. reduction.load (reduction.piece i)) h.pieces + s < 2 ^ 63 → MayGoOn begin reduction h s m
   may_begin h s m new first loads room =
-      let none = ap (sum_list (λ i. weight (piece i))) new in
-      record { part = first ∙ ap (gathered begin combined piece) (sym new); loads = loads; room = omega (arith, none, room) }
+      let none = ap (sum_list (λ i. reduction.weight (reduction.piece i))) new in
+      record { part = first ∙ ap (reduction_from reduction begin) (sym new); loads = loads; room = omega (arith, none, room) }
 
   -- a worker that may go on, and went on, may go on again
-  pub may_again : (h : Holding) (s : ℕ) (m : M) (k : Holding) (t : ℕ) (n : M) → k.pieces ≡ h.pieces → MayGoOn begin combined piece weight load h s m → Did begin combined piece weight h s k t n → MayGoOn begin combined piece weight load k t n
+  pub may_again : (h : Holding) (s : ℕ) (m : M) (k : Holding) (t : ℕ) (n : M) → k.pieces ≡ h.pieces → MayGoOn begin reduction h s m → Did begin reduction h s k t n → MayGoOn begin reduction k t n
   may_again h s m k t n same may did =
-      let e = ap (sum_below (λ i. load (piece i))) same in
+      let e = ap (sum_below (λ i. reduction.load (reduction.piece i))) same in
       let a = may.loads in
       let b = may.room in
       let c = did.sum in
       record { part = did.part; loads = omega (arith, e, a); room = omega (arith, e, b, c) }
 
   -- the piece that the hand has gained goes onto the part, and its weight to the share
-  module _ (h : Holding) (s : ℕ) (m : M) (k : Holding) (x : ℕ) (may : MayGoOn begin combined piece weight load h s m) (gained : Gained h x k) (holding : IsHolding k) where
+  module _ (h : Holding) (s : ℕ) (m : M) (k : Holding) (x : ℕ) (may : MayGoOn begin reduction h s m) (gained : Gained h x k) (holding : IsHolding k) where
     within : (z : ℕ) → times z (numbers_of k) ≤ once_below z h.pieces
     within z = subst (λ (n : ℕ). times z (numbers_of k) ≤ once_below z n) (gained_pieces h k x gained) (holding_within k z holding)
 
-    pub piece_fits_on : fits m
-    piece_fits_on = subst fits (sym may.part) (onto_fits laws begin its (numbers_of h))
+    pub piece_fits_on : reduction.fits m
+    piece_fits_on = subst reduction.fits (sym may.part) (onto_fits laws begin its (numbers_of h))
 
-    pub piece_load : load m + load (piece x) < 2 ^ 63
+    pub piece_load : reduction.load m + reduction.load (reduction.piece x) < 2 ^ 63
     piece_load =
-        let a = grown_at_most (λ i. load (piece i)) (numbers_of h) (numbers_of k) x h.pieces (holding_grown h k x gained) within in
+        let a = grown_at_most (λ i. reduction.load (reduction.piece i)) (numbers_of h) (numbers_of k) x h.pieces (holding_grown h k x gained) within in
         let b = may.loads in
-        let e = ap load may.part ∙ onto_load laws begin its (numbers_of h) in
+        let e = ap reduction.load may.part ∙ onto_load laws begin its (numbers_of h) in
         omega (arith, a, b, e)
 
-    pub piece_room : s + load (piece x) < 2 ^ 63
+    pub piece_room : s + reduction.load (reduction.piece x) < 2 ^ 63
     piece_room = turn_room laws (numbers_of h) (numbers_of k) x h.pieces s (holding_grown h k x gained) within may.room
 
-    pub did_piece : (n : M) (t : ℕ) → n ≡ combined m (piece x) → t ≡ s + weight (piece x) → Did begin combined piece weight h s k t n
+    pub did_piece : (n : M) (t : ℕ) → n ≡ reduction.combine m (reduction.piece x) → t ≡ s + reduction.weight (reduction.piece x) → Did begin reduction h s k t n
     did_piece n t more sum =
         let g = holding_grown h k x gained in
-        let c = grown_sum (λ i. weight (piece i)) (numbers_of h) (numbers_of k) x g in
+        let c = grown_sum (λ i. reduction.weight (reduction.piece i)) (numbers_of h) (numbers_of k) x g in
         record {
           follows = follows_next h k (Piece x) gained holding;
-          part = more ∙ ap (λ l. combined l (piece x)) may.part ∙ sym (grown_gathered (numbers_of h) (numbers_of k) x g);
+          part = more ∙ ap (λ l. reduction.combine l (reduction.piece x)) may.part ∙ sym (grown_gathered (numbers_of h) (numbers_of k) x g);
           sum = omega (arith, c, sum);
         }
 
   -- a hand that is spent has what it had
-  pub did_nothing : (h k : Holding) (s : ℕ) (m : M) → MayGoOn begin combined piece weight load h s m → Answers h k Spent → IsHolding k → Did begin combined piece weight h s k s m
+  pub did_nothing : (h k : Holding) (s : ℕ) (m : M) → MayGoOn begin reduction h s m → Answers h k Spent → IsHolding k → Did begin reduction h s k s m
   did_nothing h k s m may answer holding =
       let same : numbers_of k ≡ numbers_of h = ap numbers_of answer in
-      let c = ap (sum_list (λ i. weight (piece i))) same in
-      record { follows = follows_next h k Spent answer holding; part = may.part ∙ ap (gathered begin combined piece) (sym same); sum = omega (arith, c) }
+      let c = ap (sum_list (λ i. reduction.weight (reduction.piece i))) same in
+      record { follows = follows_next h k Spent answer holding; part = may.part ∙ ap (reduction_from reduction begin) (sym same); sum = omega (arith, c) }
 
-module _ {M : Type 0} (begin : M) (combined : M → M → M) (piece : ℕ → M) (weight : M → ℕ) where
+module _ {M : Type 0} (begin : M) (reduction : Reduction M) where
   -- who goes on twice does as by going on once
-  pub did_twice : (h : Holding) (s : ℕ) (k : Holding) (t : ℕ) (m : M) (l : Holding) (u : ℕ) (n : M) → Did begin combined piece weight h s k t m → Did begin combined piece weight k t l u n → Did begin combined piece weight h s l u n
+  pub did_twice : (h : Holding) (s : ℕ) (k : Holding) (t : ℕ) (m : M) (l : Holding) (u : ℕ) (n : M) → Did begin reduction h s k t m → Did begin reduction k t l u n → Did begin reduction h s l u n
   did_twice h s k t m l u n a b =
       let c = a.sum in
       let d = b.sum in

@@ -5,7 +5,7 @@ ghost use Rattle.pool.specs.Inside.Views.{Looked, IsThief};
 ghost use Rattle.pool.specs.Inside.Hands.{Steals, new_holding};
 ghost use Rattle.pool.specs.Holding.{IsHolding, InOrder};
 ghost use Rattle.pool.specs.Answered.{Answers};
-ghost use Rattle.pool.specs.Inside.Looks.{list_from, Reaches, AllReach, told, KnowsAbove};
+ghost use Rattle.pool.specs.Inside.Looks.{AccountFor, HoldWhatWasDealt, list_from, Reaches, AllReach, told, KnowsAbove};
 ghost use Rattle.pool.specs.Settled.{AreAll, AllSpent, HaveEachOnce, HaveNoneTwice, HaveThoseGone, IsClosed, joined, pieces_of};
 ghost use Rattle.pool.specs.Totals.{once_below};
 ghost use Rattle.pool.specs.Inside.Rule.{held, UpTo, Seated, Apart, lent_view, giving_view, given_view};
@@ -232,11 +232,7 @@ impl LocalQueue {
         requires before { AllReach self.old.seen.deque self.old.seen.numbers
             (length before.old) before.old }
         ensures same { (self.new ≡ self.old) × (before.new ≡ before.old) × (after.new ≡ after.old) }
-        ensures apart { (x : ℕ)
-            → UpTo (self.old.closed ≡ true) (times x self.old.seen.list
-            + (held x (told (length before.old + length after.old) after.old)
-            + held x (told (length before.old) before.old)))
-            (times x self.old.seen.numbers) }
+        ensures apart { HoldWhatWasDealt self.old before.old after.old }
     {
         let place = before.len() + after.len();
         compare(&mut self.worker, after, before, place);
@@ -267,11 +263,7 @@ impl Hand {
         requires before { AllReach self.old.own.seen.deque self.old.own.seen.numbers
             (length before.old) before.old }
         ensures same { (self.new ≡ self.old) × (before.new ≡ before.old) × (after.new ≡ after.old) }
-        ensures apart { (x : ℕ)
-            → UpTo (self.old.own.closed ≡ true) (times x self.old.own.seen.list
-            + (held x (told (length before.old + length after.old) after.old)
-            + held x (told (length before.old) before.old)))
-            (times x self.old.own.seen.numbers) }
+        ensures apart { HoldWhatWasDealt self.old.own before.old after.old }
     {
         self.local.apart(before, after);
     }
@@ -413,11 +405,8 @@ impl StealHandle {
         ensures deque { (worker_deque worker.new ≡ worker_deque worker.old)
             × (worker_flavor worker.new ≡ worker_flavor worker.old) }
         ensures looked { Looked (worker_view worker.old) (worker_view worker.new) }
-        ensures within { (x : ℕ)
-            → UpTo ((worker_view worker.old).closed ≡ true)
-            (held x (worker_view worker.old).known + (times x self.old.list
-            + (held x (told (place - 1) others.old) + held x (told (length more.old) more.old))))
-            (times x (worker_view worker.old).numbers) }
+        ensures within { AccountFor (worker_view worker.old) (λ x. times x self.old.list
+            + (held x (told (place - 1) others.old) + held x (told (length more.old) more.old))) }
     {
         let closed = self.closed;
         let blank = worker.another::<Seal>();
@@ -442,10 +431,8 @@ fn compare(worker: &mut Deque, hands: &mut [Hand], more: &mut [Hand], place: usi
     ensures deque { (worker_deque worker.new ≡ worker_deque worker.old)
         × (worker_flavor worker.new ≡ worker_flavor worker.old) }
     ensures looked { Looked (worker_view worker.old) (worker_view worker.new) }
-    ensures within { (x : ℕ)
-        → UpTo ((worker_view worker.old).closed ≡ true) (held x (worker_view worker.old).known
-        + (held x (told place hands.old) + held x (told (length more.old) more.old)))
-        (times x (worker_view worker.old).numbers) }
+    ensures within { AccountFor (worker_view worker.old)
+        (λ x. held x (told place hands.old) + held x (told (length more.old) more.old)) }
 {
     if let Some((hand, rest)) = hands.split_first_mut() {
         let handle = &mut hand.others[place - 1];

@@ -1,6 +1,7 @@
 //! What a pool works on, and what it answers.
 ghost use Rattle.std.specs.Prelude.{◌≡◌, ℕ, ◌+◌, ◌^◌, ◌<◌, IfOk};
 ghost use Rattle.pool.specs.Lawful.{Lawful};
+ghost use Rattle.pool.specs.Reduction.{Reduction};
 ghost use Rattle.pool.specs.declared.laws.PoolFault.TheVariants.{OutOfMemory};
 
 use std::alloc::AllocError;
@@ -52,23 +53,10 @@ pub trait Work {
 
     ghost meaning: { Self.Part → Self.Meaning };
 
-    /// The meanings that parts of this work have.
-    ghost fits: { Self → Self.Meaning → Type 0 };
-
-    /// What nothing at all comes to.
-    ghost unit_meaning: { Self → Self.Meaning };
-
-    /// What the piece with this number comes to.
-    ghost piece_meaning: { Self → ℕ → Self.Meaning };
-
-    /// What two parts come to together.
-    ghost combined: { Self → Self.Meaning → Self.Meaning → Self.Meaning };
-
-    /// What a part of this meaning counts against a limit.
-    ghost weight_of: { Self → Self.Meaning → ℕ };
-
-    /// The load of a part of this meaning, which is never less than its weight.
-    ghost load_of: { Self → Self.Meaning → ℕ };
+    /// What a fold over the pieces of this work combines: which meanings parts have, what nothing at all and what each
+    /// piece comes to, what two parts come to together, and what a part counts against a limit. The load of a part is
+    /// never less than its weight.
+    ghost reduction: { Self → Reduction Self.Meaning };
 
     /// The part of no piece, which has no weight and no load.
     ///
@@ -78,7 +66,7 @@ pub trait Work {
     ///
     /// `AllocError` where memory was refused.
     fn unit(&self) -> Result<Self::Part, AllocError>
-        ensures { IfOk result (λ p. Self.meaning p ≡ Self.unit_meaning self.now) };
+        ensures { IfOk result (λ p. Self.meaning p ≡ (Self.reduction self.now).unit) };
 
     /// The part of one piece, by the piece's number, from 0.
     ///
@@ -88,7 +76,7 @@ pub trait Work {
     ///
     /// `AllocError` where memory was refused.
     fn piece(&self, i: u32) -> Result<Self::Part, AllocError>
-        ensures { IfOk result (λ p. Self.meaning p ≡ Self.piece_meaning self.now i) };
+        ensures { IfOk result (λ p. Self.meaning p ≡ (Self.reduction self.now).piece i) };
 
     /// Two parts as one. It asks that both are parts of this work, and that their loads add up to less than 2^63.
     ///
@@ -98,11 +86,12 @@ pub trait Work {
     ///
     /// `AllocError` where memory was refused. Both parts are then given up.
     fn combine(&self, a: Self::Part, b: Self::Part) -> Result<Self::Part, AllocError>
-        requires parts { Self.fits self.now (Self.meaning a) × Self.fits self.now (Self.meaning b) }
-        requires room { Self.load_of self.now (Self.meaning a)
-            + Self.load_of self.now (Self.meaning b) < 2 ^ 63 }
-        ensures { IfOk result (λ p.
-            Self.meaning p ≡ Self.combined self.now (Self.meaning a) (Self.meaning b)) };
+        requires parts { (Self.reduction self.now).fits (Self.meaning a)
+            × (Self.reduction self.now).fits (Self.meaning b) }
+        requires room { (Self.reduction self.now).load (Self.meaning a)
+            + (Self.reduction self.now).load (Self.meaning b) < 2 ^ 63 }
+        ensures { IfOk result (λ p. Self.meaning p
+            ≡ (Self.reduction self.now).combine (Self.meaning a) (Self.meaning b)) };
 
     /// A part with one piece more. It may be written anew where a piece can go onto a part without a part of its own.
     /// It asks that the part is one of this work, and that its load and the piece's add up to less than 2^63.
@@ -113,11 +102,12 @@ pub trait Work {
     ///
     /// `AllocError` where memory was refused. The part is then given up.
     fn add(&self, part: Self::Part, i: u32) -> Result<Self::Part, AllocError>
-        requires part { Self.fits self.now (Self.meaning part) }
-        requires more { Self.load_of self.now (Self.meaning part)
-            + Self.load_of self.now (Self.piece_meaning self.now i) < 2 ^ 63 }
+        requires part { (Self.reduction self.now).fits (Self.meaning part) }
+        requires more { (Self.reduction self.now).load (Self.meaning part)
+            + (Self.reduction self.now).load ((Self.reduction self.now).piece i) < 2 ^ 63 }
         ensures { IfOk result (λ p. Self.meaning p
-            ≡ Self.combined self.now (Self.meaning part) (Self.piece_meaning self.now i)) }
+            ≡ (Self.reduction self.now).combine (Self.meaning part)
+            ((Self.reduction self.now).piece i)) }
     {
         let piece = self.piece(i)?;
         self.combine(part, piece)
@@ -127,20 +117,18 @@ pub trait Work {
     ///
     /// Example: where a part stands for lines of a file, the number of those that are refused.
     fn weight(&self, p: &Self::Part) -> u64
-        requires { Self.fits self.now (Self.meaning p.now)
-            × (Self.load_of self.now (Self.meaning p.now) < 2 ^ 63) }
-        ensures { result ≡ Self.weight_of self.now (Self.meaning p.now) };
+        requires { (Self.reduction self.now).fits (Self.meaning p.now)
+            × ((Self.reduction self.now).load (Self.meaning p.now) < 2 ^ 63) }
+        ensures { result ≡ (Self.reduction self.now).weight (Self.meaning p.now) };
 
     /// The part's load. No weight is above it. It asks that the part is one of this work, of a load below 2^63.
     ///
     /// Example: where a part stands for lines of a file, the number of all of them.
     fn load(&self, p: &Self::Part) -> u64
-        requires { Self.fits self.now (Self.meaning p.now)
-            × (Self.load_of self.now (Self.meaning p.now) < 2 ^ 63) }
-        ensures { result ≡ Self.load_of self.now (Self.meaning p.now) };
+        requires { (Self.reduction self.now).fits (Self.meaning p.now)
+            × ((Self.reduction self.now).load (Self.meaning p.now) < 2 ^ 63) }
+        ensures { result ≡ (Self.reduction self.now).load (Self.meaning p.now) };
 
     /// The meanings of a work keep the laws.
-    ghost lawful: { (w : Self)
-        → Lawful (Self.fits w) (Self.unit_meaning w) (Self.combined w) (Self.piece_meaning w)
-        (Self.weight_of w) (Self.load_of w) };
+    ghost lawful: { (w : Self) → Lawful (Self.reduction w) };
 }

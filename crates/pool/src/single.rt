@@ -1,7 +1,7 @@
 //! All pieces on the calling thread.
 ghost use Rattle.std.specs.Prelude.{◌≡◌, ℕ, ◌+◌, ◌^◌, ◌<◌, ◌≤◌, MatchResult, IfOk};
-ghost use Rattle.pool.specs.Totals.{total, sum_below};
-ghost use Rattle.pool.specs.Outcomes.{Decides};
+ghost use Rattle.pool.specs.Reduction.{load_below};
+ghost use Rattle.pool.specs.Outcomes.{DecidesBelow};
 
 use crate::laws::{Outcome, PoolFault, Work};
 
@@ -15,11 +15,8 @@ use crate::laws::{Outcome, PoolFault, Work};
 ///
 /// `OutOfMemory`, and no other.
 pub fn alone<W: Work>(work: &W, pieces: u32, limit: u64) -> Result<Outcome<W::Part>, PoolFault>
-    requires loads { sum_below (λ i. W.load_of work.now (W.piece_meaning work.now i)) pieces
-        < 2 ^ 63 }
-    ensures { MatchResult result (Decides W.meaning
-        (total (W.unit_meaning work.now) (W.combined work.now) (W.piece_meaning work.now) pieces)
-        (sum_below (λ i. W.weight_of work.now (W.piece_meaning work.now i)) pieces) limit)
+    requires loads { load_below (W.reduction work.now) pieces < 2 ^ 63 }
+    ensures { MatchResult result (DecidesBelow (W.reduction work.now) W.meaning pieces limit)
         (λ e. e ≡ PoolFault.OutOfMemory) }
 {
     let mut part = work.unit()?;

@@ -1,12 +1,13 @@
 //! The hands of a deal, each on a thread of its own.
 ghost use Rattle.std.specs.Prelude.{◌≡◌, ℕ, ◌+◌, ◌-◌, ◌^◌, ◌<◌, ◌≤◌, ◌⊎◌, ◌++◌, ◌∷◌, [], All, IfOk, IfErr, IfSome, IfNone, IsOkAnd, MatchResult, OnOk, vec_len, length, map};
-ghost use Rattle.pool.specs.Totals.{sum_below, sum_list, total, once_below};
-ghost use Rattle.pool.specs.Inside.Totals.{together};
-ghost use Rattle.pool.specs.Outcomes.{Decides};
+ghost use Rattle.pool.specs.Totals.{once_below};
+ghost use Rattle.pool.specs.Reduction.{load_below, load_onto, piece_weight, weight_with};
+ghost use Rattle.pool.specs.Inside.Totals.{combination_of};
+ghost use Rattle.pool.specs.Outcomes.{DecidesBelow, DecidesOf, DecidesOnto};
 ghost use Rattle.pool.specs.Dealing.{times};
 ghost use Rattle.pool.specs.Inside.Rule.{UpTo};
 ghost use Rattle.pool.specs.Settled.{AreAll, AllSpent, HaveNoneTwice, joined, pieces_of};
-ghost use Rattle.pool.specs.Inside.Fanned.{AreReady, begun, DidAll, AreUnderWay, NeedNoThread};
+ghost use Rattle.pool.specs.Inside.Fanned.{AreReady, HaveBegunAndResumed, HaveResumed, IsLonger, MayResumeAll, NeedNoThread};
 ghost use Rattle.pool.specs.Fanned.{CameBack, Settles, Outweighs, IsAbove, Reported};
 ghost use Rattle.pool.specs.Assembly.{IsNewDeal};
 ghost use mathlib.Core.Option.{some};
@@ -80,10 +81,9 @@ fn with_done<P: Drop, L: Ledger>(
     others: Result<Gathered<P, L>, PoolFault>,
     done: Result<Done<P, L>, AllocError>,
 ) -> Result<Gathered<P, L>, PoolFault>
-    ensures more { IfOk result (λ g.
-        IsOkAnd others (λ o. IsOkAnd done (λ d. (g.hands.items ≡ o.hands.items ++ d.hand ∷ [])
-        × (g.shares.items ≡ o.shares.items ++ d.share ∷ [])
-        × (g.parts.items ≡ o.parts.items ++ d.part ∷ [])))) }
+    ensures more { IfOk result (λ g. IsOkAnd others (λ o. IsOkAnd done (λ d.
+        IsLonger g.hands.items g.shares.items g.parts.items
+        o.hands.items o.shares.items o.parts.items d.hand d.share d.part))) }
     ensures fault { IfErr result (λ e.
         MatchResult others (λ _. e ≡ PoolFault.OutOfMemory) (λ f. e ≡ f)) }
 {
@@ -99,17 +99,11 @@ fn spread<'s, E, W: Work + Sync, L: Ledger + Send + Sync, R: Threads + Wait + Sy
     crew: &'s Crew<'s, W, L, R>,
     ready: Gathered<W::Part, L>,
 ) -> Result<Gathered<W::Part, L>, PoolFault>
-    requires under_way { (begin : ℕ → W.Meaning) × ((i : ℕ) → W.fits crew.now.work.now (begin i))
-        × AreUnderWay begin (W.combined crew.now.work.now) (W.piece_meaning crew.now.work.now)
-        (W.weight_of crew.now.work.now) (W.load_of crew.now.work.now) (λ s. s.sum) W.meaning
+    requires under_way { MayResumeAll (W.reduction crew.now.work.now) (λ s. s.sum) W.meaning
         ready.hands.items ready.shares.items ready.parts.items }
-    ensures did { (begin : ℕ → W.Meaning) → ((i : ℕ) → W.fits crew.now.work.now (begin i))
-        → AreUnderWay begin (W.combined crew.now.work.now) (W.piece_meaning crew.now.work.now)
-        (W.weight_of crew.now.work.now) (W.load_of crew.now.work.now) (λ s. s.sum)
+    ensures did { IfOk result (λ g. HaveResumed (W.reduction crew.now.work.now) (λ s. s.sum)
         W.meaning ready.hands.items ready.shares.items ready.parts.items
-        → IfOk result (λ g. DidAll begin (W.combined crew.now.work.now)
-        (W.piece_meaning crew.now.work.now) (W.weight_of crew.now.work.now) (λ s. s.sum) W.meaning
-        ready.hands.items ready.shares.items g.hands.items g.shares.items g.parts.items) }
+        g.hands.items g.shares.items g.parts.items) }
     ensures alone { NeedNoThread ready.hands.items → IfErr result (λ e. e ≡ PoolFault.OutOfMemory) }
 {
     let mut ready = ready;
@@ -132,39 +126,22 @@ fn gather<W: Work + Sync, L: Ledger + Send + Sync, R: Threads + Wait + Sync>(
     crew: &Crew<'_, W, L, R>,
     ready: Gathered<W::Part, L>,
 ) -> Result<Gathered<W::Part, L>, PoolFault>
-    requires under_way { (begin : ℕ → W.Meaning) × ((i : ℕ) → W.fits crew.now.work.now (begin i))
-        × AreUnderWay begin (W.combined crew.now.work.now) (W.piece_meaning crew.now.work.now)
-        (W.weight_of crew.now.work.now) (W.load_of crew.now.work.now) (λ s. s.sum) W.meaning
+    requires under_way { MayResumeAll (W.reduction crew.now.work.now) (λ s. s.sum) W.meaning
         ready.hands.items ready.shares.items ready.parts.items }
-    ensures did { (begin : ℕ → W.Meaning) → ((i : ℕ) → W.fits crew.now.work.now (begin i))
-        → AreUnderWay begin (W.combined crew.now.work.now) (W.piece_meaning crew.now.work.now)
-        (W.weight_of crew.now.work.now) (W.load_of crew.now.work.now) (λ s. s.sum)
+    ensures did { IfOk result (λ g. HaveResumed (W.reduction crew.now.work.now) (λ s. s.sum)
         W.meaning ready.hands.items ready.shares.items ready.parts.items
-        → IfOk result (λ g. DidAll begin (W.combined crew.now.work.now)
-        (W.piece_meaning crew.now.work.now) (W.weight_of crew.now.work.now) (λ s. s.sum) W.meaning
-        ready.hands.items ready.shares.items g.hands.items g.shares.items g.parts.items) }
+        g.hands.items g.shares.items g.parts.items) }
     ensures alone { NeedNoThread ready.hands.items → IfErr result (λ e. e ≡ PoolFault.OutOfMemory) }
 {
     thread::scope(
         thread::scope_env(),
         crew.rt,
         move |scope| -> Result<Gathered<W::Part, L>, PoolFault>
-            requires under_way { (begin : ℕ → W.Meaning)
-                × ((i : ℕ) → W.fits crew.now.work.now (begin i))
-                × AreUnderWay begin (W.combined crew.now.work.now)
-                (W.piece_meaning crew.now.work.now) (W.weight_of crew.now.work.now)
-                (W.load_of crew.now.work.now) (λ s. s.sum) W.meaning ready.hands.items
-                ready.shares.items ready.parts.items }
-            ensures did { (begin : ℕ → W.Meaning)
-                → ((i : ℕ) → W.fits crew.entry.now.work.now (begin i))
-                → AreUnderWay begin (W.combined crew.entry.now.work.now)
-                (W.piece_meaning crew.entry.now.work.now) (W.weight_of crew.entry.now.work.now)
-                (W.load_of crew.entry.now.work.now) (λ s. s.sum) W.meaning
-                ready.hands.items ready.shares.items ready.parts.items
-                → IfOk result (λ g. DidAll begin (W.combined crew.entry.now.work.now)
-                (W.piece_meaning crew.entry.now.work.now) (W.weight_of crew.entry.now.work.now)
-                (λ s. s.sum) W.meaning ready.hands.items ready.shares.items g.hands.items
-                g.shares.items g.parts.items) }
+            requires under_way { MayResumeAll (W.reduction crew.now.work.now) (λ s. s.sum) W.meaning
+                ready.hands.items ready.shares.items ready.parts.items }
+            ensures did { IfOk result (λ g. HaveResumed (W.reduction crew.entry.now.work.now)
+                (λ s. s.sum) W.meaning ready.hands.items ready.shares.items ready.parts.items
+                g.hands.items g.shares.items g.parts.items) }
             ensures alone { NeedNoThread ready.hands.items
                 → IfErr result (λ e. e ≡ PoolFault.OutOfMemory) }
         { spread(scope, crew, ready) },
@@ -173,12 +150,11 @@ fn gather<W: Work + Sync, L: Ledger + Send + Sync, R: Threads + Wait + Sync>(
 
 /// The weight of all parts, combined.
 fn weigh<W: Work>(work: &W, parts: &Vec<W::Part>) -> u64
-    requires parts { All (λ p. W.fits work.now (W.meaning p)) parts.now.items }
-    requires room { W.load_of work.now
-        (together (W.unit_meaning work.now) (W.combined work.now) (map W.meaning parts.now.items))
-        < 2 ^ 63 }
-    ensures { result ≡ W.weight_of work.now
-        (together (W.unit_meaning work.now) (W.combined work.now) (map W.meaning parts.now.items)) }
+    requires parts { All (λ p. (W.reduction work.now).fits (W.meaning p)) parts.now.items }
+    requires room { (W.reduction work.now).load
+        (combination_of (W.reduction work.now) (map W.meaning parts.now.items)) < 2 ^ 63 }
+    ensures { result ≡ (W.reduction work.now).weight
+        (combination_of (W.reduction work.now) (map W.meaning parts.now.items)) }
 {
     let mut sum = 0;
     for part in parts {
@@ -193,17 +169,11 @@ fn finish_all<W: Work, L: Ledger, R: Wait>(
     gathered: Gathered<W::Part, L>,
 ) -> Result<Gathered<W::Part, L>, PoolFault>
     requires never { crew.now.stop ≡ 2 ^ 128 - 1 }
-    requires under_way { (begin : ℕ → W.Meaning) × ((i : ℕ) → W.fits crew.now.work.now (begin i))
-        × AreUnderWay begin (W.combined crew.now.work.now) (W.piece_meaning crew.now.work.now)
-        (W.weight_of crew.now.work.now) (W.load_of crew.now.work.now) (λ s. s.sum) W.meaning
+    requires under_way { MayResumeAll (W.reduction crew.now.work.now) (λ s. s.sum) W.meaning
         gathered.hands.items gathered.shares.items gathered.parts.items }
-    ensures did { (begin : ℕ → W.Meaning) → ((i : ℕ) → W.fits crew.now.work.now (begin i))
-        → AreUnderWay begin (W.combined crew.now.work.now) (W.piece_meaning crew.now.work.now)
-        (W.weight_of crew.now.work.now) (W.load_of crew.now.work.now) (λ s. s.sum)
+    ensures did { IfOk result (λ g. HaveResumed (W.reduction crew.now.work.now) (λ s. s.sum)
         W.meaning gathered.hands.items gathered.shares.items gathered.parts.items
-        → IfOk result (λ g. DidAll begin (W.combined crew.now.work.now)
-        (W.piece_meaning crew.now.work.now) (W.weight_of crew.now.work.now) (λ s. s.sum) W.meaning
-        gathered.hands.items gathered.shares.items g.hands.items g.shares.items g.parts.items) }
+        g.hands.items g.shares.items g.parts.items) }
     ensures spent { IfOk result (λ g. AllSpent g.hands.items) }
     ensures fault { IfErr result (λ e. e ≡ PoolFault.OutOfMemory) }
 {
@@ -219,12 +189,11 @@ fn finish_all<W: Work, L: Ledger, R: Wait>(
 
 /// All parts as one.
 fn combine_all<W: Work>(work: &W, parts: Vec<W::Part>) -> Result<W::Part, AllocError>
-    requires parts { All (λ p. W.fits work.now (W.meaning p)) parts.items }
-    requires room { W.load_of work.now
-        (together (W.unit_meaning work.now) (W.combined work.now) (map W.meaning parts.items))
-        < 2 ^ 63 }
+    requires parts { All (λ p. (W.reduction work.now).fits (W.meaning p)) parts.items }
+    requires room { (W.reduction work.now).load
+        (combination_of (W.reduction work.now) (map W.meaning parts.items)) < 2 ^ 63 }
     ensures { IfOk result (λ p. W.meaning p
-        ≡ together (W.unit_meaning work.now) (W.combined work.now) (map W.meaning parts.items)) }
+        ≡ combination_of (W.reduction work.now) (map W.meaning parts.items)) }
 {
     let mut all = work.unit()?;
     for part in parts {
@@ -240,13 +209,13 @@ fn parts_from<W: Work>(
     first: W::Part,
     hands: usize,
 ) -> Result<Vec<W::Part>, AllocError>
-    requires first { W.fits work.now (W.meaning first) }
+    requires first { (W.reduction work.now).fits (W.meaning first) }
     requires hands { 1 ≤ hands }
     ensures count { IfOk result (λ parts. vec_len parts ≡ hands) }
-    ensures parts { IfOk result (λ parts. All (λ p. W.fits work.now (W.meaning p)) parts.items) }
+    ensures parts { IfOk result (λ parts.
+        All (λ p. (W.reduction work.now).fits (W.meaning p)) parts.items) }
     ensures together { IfOk result (λ parts.
-        together (W.unit_meaning work.now) (W.combined work.now) (map W.meaning parts.items)
-        ≡ W.meaning first) }
+        combination_of (W.reduction work.now) (map W.meaning parts.items) ≡ W.meaning first) }
 {
     let mut parts = Vec::new(alloc);
     put_last(&mut parts, first)?;
@@ -287,17 +256,15 @@ fn work_through<W: Work + Sync, L: Ledger + Send + Sync, R: Threads + Wait + Syn
     limit: u64,
     ready: Gathered<W::Part, L>,
 ) -> Result<Gathered<W::Part, L>, PoolFault>
-    requires ready { AreReady (W.fits crew.work.now) (W.unit_meaning crew.work.now)
-        (W.combined crew.work.now) (W.piece_meaning crew.work.now) (W.load_of crew.work.now)
-        (λ s. s.sum) W.meaning ready.hands.items ready.shares.items ready.parts.items }
+    requires ready { AreReady (W.reduction crew.work.now) (λ s. s.sum) W.meaning
+        ready.hands.items ready.shares.items ready.parts.items }
     ensures did { IfOk result (λ g.
-        DidAll (begun (W.unit_meaning crew.entry.work.now) (map W.meaning ready.parts.items))
-        (W.combined crew.entry.work.now) (W.piece_meaning crew.entry.work.now)
-        (W.weight_of crew.entry.work.now) (λ s. s.sum) W.meaning ready.hands.items
-        ready.shares.items g.hands.items g.shares.items g.parts.items) }
+        HaveBegunAndResumed (W.reduction crew.entry.work.now) (λ s. s.sum) W.meaning
+        ready.hands.items ready.shares.items ready.parts.items
+        g.hands.items g.shares.items g.parts.items) }
     ensures spent { IfOk result (λ g. AllSpent g.hands.items
-        ⊎ (limit < W.weight_of crew.entry.work.now (together (W.unit_meaning crew.entry.work.now)
-        (W.combined crew.entry.work.now) (map W.meaning g.parts.items)))) }
+        ⊎ (limit < (W.reduction crew.entry.work.now).weight
+        (combination_of (W.reduction crew.entry.work.now) (map W.meaning g.parts.items)))) }
     ensures alone { NeedNoThread ready.hands.items → IfErr result (λ e. e ≡ PoolFault.OutOfMemory) }
 {
     let mut crew = crew;
@@ -316,13 +283,11 @@ fn conclude<W: Work, L: Ledger>(
     limit: u64,
     finished: Gathered<W::Part, L>,
 ) -> Result<(Outcome<W::Part>, Vec<Hand>, Vec<Share<L>>), AllocError>
-    requires parts { All (λ p. W.fits work.now (W.meaning p)) finished.parts.items }
-    requires room { W.load_of work.now (together (W.unit_meaning work.now) (W.combined work.now)
-        (map W.meaning finished.parts.items)) < 2 ^ 63 }
-    ensures decided { IfOk result (λ r. Decides W.meaning (together (W.unit_meaning work.now)
-        (W.combined work.now) (map W.meaning finished.parts.items))
-        (W.weight_of work.now (together (W.unit_meaning work.now) (W.combined work.now)
-        (map W.meaning finished.parts.items))) limit r.0) }
+    requires parts { All (λ p. (W.reduction work.now).fits (W.meaning p)) finished.parts.items }
+    requires room { (W.reduction work.now).load
+        (combination_of (W.reduction work.now) (map W.meaning finished.parts.items)) < 2 ^ 63 }
+    ensures decided { IfOk result (λ r. DecidesOf (W.reduction work.now) W.meaning
+        (combination_of (W.reduction work.now) (map W.meaning finished.parts.items)) limit r.0) }
     ensures same { IfOk result (λ r. (r.1 ≡ finished.hands) × (r.2 ≡ finished.shares)) }
 {
     let Gathered {
@@ -344,29 +309,20 @@ fn fan_ready<W: Work + Sync, L: Ledger + Send + Sync, R: Threads + Wait + Sync>(
     limit: u64,
     ready: Gathered<W::Part, L>,
 ) -> Result<(Outcome<W::Part>, Vec<Hand>, Vec<Share<L>>), PoolFault>
-    requires ready { AreReady (W.fits crew.work.now) (W.unit_meaning crew.work.now)
-        (W.combined crew.work.now) (W.piece_meaning crew.work.now) (W.load_of crew.work.now)
-        (λ s. s.sum) W.meaning ready.hands.items ready.shares.items ready.parts.items }
-    ensures decided { IfOk result (λ r. Decides W.meaning
-        (W.combined crew.entry.work.now (together (W.unit_meaning crew.entry.work.now)
-        (W.combined crew.entry.work.now) (map W.meaning ready.parts.items))
-        (total (W.unit_meaning crew.entry.work.now) (W.combined crew.entry.work.now)
-        (W.piece_meaning crew.entry.work.now) (pieces_of ready.hands.items)))
-        (W.weight_of crew.entry.work.now (together (W.unit_meaning crew.entry.work.now)
-        (W.combined crew.entry.work.now) (map W.meaning ready.parts.items))
-        + sum_below (λ i. W.weight_of crew.entry.work.now (W.piece_meaning crew.entry.work.now i))
-        (pieces_of ready.hands.items)) limit r.0) }
+    requires ready { AreReady (W.reduction crew.work.now) (λ s. s.sum) W.meaning
+        ready.hands.items ready.shares.items ready.parts.items }
+    ensures decided { IfOk result (λ r. DecidesOnto (W.reduction crew.entry.work.now) W.meaning
+        (combination_of (W.reduction crew.entry.work.now) (map W.meaning ready.parts.items))
+        (pieces_of ready.hands.items) limit r.0) }
     ensures deal { IfOk result (λ r. AreAll r.1.items
         × (pieces_of r.1.items ≡ pieces_of ready.hands.items)) }
     ensures back { IfOk result (λ r.
-        CameBack (λ i. W.weight_of crew.entry.work.now (W.piece_meaning crew.entry.work.now i))
-        (λ s. s.sum) ready.hands.items ready.shares.items r.1.items r.2.items) }
+        CameBack (piece_weight (W.reduction crew.entry.work.now)) (λ s. s.sum)
+        ready.hands.items ready.shares.items r.1.items r.2.items) }
     ensures once { IfOk result (λ r. HaveNoneTwice r.1.items) }
     ensures settled { IfOk result (λ r. Settles r.0 r.1.items) }
-    ensures over { IfOk result (λ r. IsAbove (W.weight_of crew.entry.work.now
-        (together (W.unit_meaning crew.entry.work.now)
-        (W.combined crew.entry.work.now) (map W.meaning ready.parts.items))
-        + sum_list (λ i. W.weight_of crew.entry.work.now (W.piece_meaning crew.entry.work.now i))
+    ensures over { IfOk result (λ r. IsAbove (weight_with (W.reduction crew.entry.work.now)
+        (combination_of (W.reduction crew.entry.work.now) (map W.meaning ready.parts.items))
         (joined r.1.items)) limit r.0) }
     ensures alone { (vec_len ready.hands ≡ 1) ⊎ (pieces_of ready.hands.items ≡ 0)
         → IfErr result (λ e. e ≡ PoolFault.OutOfMemory) }
@@ -391,30 +347,24 @@ fn fan_onto<W: Work + Sync, L: Ledger + Send + Sync, R: Threads + Wait + Sync>(
     stop: u128,
     shares: Vec<Share<L>>,
 ) -> Result<(Outcome<W::Part>, Vec<Hand>, Vec<Share<L>>), PoolFault>
-    requires part { W.fits work.now (W.meaning part) }
+    requires part { (W.reduction work.now).fits (W.meaning part) }
     requires deal { IsNewDeal (pieces_of hands.items) (vec_len hands) hands.items }
     requires count { vec_len shares ≡ vec_len hands }
-    requires loads { W.load_of work.now (W.meaning part)
-        + sum_below (λ i. W.load_of work.now (W.piece_meaning work.now i)) (pieces_of hands.items)
+    requires loads { load_onto (W.reduction work.now) (W.meaning part) (pieces_of hands.items)
         < 2 ^ 63 }
     requires room { (i : ℕ) (s : _) → get_elem? shares.items i ≡ some s
-        → sum_below (λ i. W.load_of work.now (W.piece_meaning work.now i)) (pieces_of hands.items)
-        + s.sum < 2 ^ 63 }
-    ensures decided { IfOk result (λ r. Decides W.meaning
-        (W.combined work.now (W.meaning part) (total (W.unit_meaning work.now)
-        (W.combined work.now) (W.piece_meaning work.now) (pieces_of hands.items)))
-        (W.weight_of work.now (W.meaning part) + sum_below
-        (λ i. W.weight_of work.now (W.piece_meaning work.now i)) (pieces_of hands.items))
-        limit r.0) }
+        → load_below (W.reduction work.now) (pieces_of hands.items) + s.sum < 2 ^ 63 }
+    ensures decided { IfOk result (λ r. DecidesOnto (W.reduction work.now) W.meaning
+        (W.meaning part) (pieces_of hands.items) limit r.0) }
     ensures deal { IfOk result (λ r. AreAll r.1.items
         × (pieces_of r.1.items ≡ pieces_of hands.items)) }
     ensures back { IfOk result (λ r.
-        CameBack (λ i. W.weight_of work.now (W.piece_meaning work.now i)) (λ s. s.sum) hands.items
-        shares.items r.1.items r.2.items) }
+        CameBack (piece_weight (W.reduction work.now)) (λ s. s.sum)
+        hands.items shares.items r.1.items r.2.items) }
     ensures once { IfOk result (λ r. HaveNoneTwice r.1.items) }
     ensures settled { IfOk result (λ r. Settles r.0 r.1.items) }
-    ensures over { IfOk result (λ r. IsAbove (W.weight_of work.now (W.meaning part)
-        + sum_list (λ i. W.weight_of work.now (W.piece_meaning work.now i)) (joined r.1.items))
+    ensures over { IfOk result (λ r.
+        IsAbove (weight_with (W.reduction work.now) (W.meaning part) (joined r.1.items))
         limit r.0) }
     ensures alone { (vec_len hands ≡ 1) ⊎ (pieces_of hands.items ≡ 0)
         → IfErr result (λ e. e ≡ PoolFault.OutOfMemory) }
@@ -464,24 +414,20 @@ pub fn fan_on<W: Work + Sync, L: Ledger + Send + Sync, R: Threads + Wait + Sync>
 ) -> Result<(Outcome<W::Part>, Vec<Hand>, Vec<Share<L>>), PoolFault>
     requires deal { IsNewDeal (pieces_of hands.items) (vec_len hands) hands.items }
     requires count { vec_len shares ≡ vec_len hands }
-    requires loads { sum_below (λ i. W.load_of work.now (W.piece_meaning work.now i))
-        (pieces_of hands.items) < 2 ^ 63 }
+    requires loads { load_below (W.reduction work.now) (pieces_of hands.items) < 2 ^ 63 }
     requires room { (i : ℕ) (s : _) → get_elem? shares.items i ≡ some s
-        → sum_below (λ i. W.load_of work.now (W.piece_meaning work.now i)) (pieces_of hands.items)
-        + s.sum < 2 ^ 63 }
-    ensures decided { IfOk result (λ r. Decides W.meaning (total (W.unit_meaning work.now)
-        (W.combined work.now) (W.piece_meaning work.now) (pieces_of hands.items))
-        (sum_below (λ i. W.weight_of work.now (W.piece_meaning work.now i)) (pieces_of hands.items))
-        limit r.0) }
+        → load_below (W.reduction work.now) (pieces_of hands.items) + s.sum < 2 ^ 63 }
+    ensures decided { IfOk result (λ r. DecidesBelow (W.reduction work.now) W.meaning
+        (pieces_of hands.items) limit r.0) }
     ensures deal { IfOk result (λ r. AreAll r.1.items
         × (pieces_of r.1.items ≡ pieces_of hands.items)) }
     ensures back { IfOk result (λ r.
-        CameBack (λ i. W.weight_of work.now (W.piece_meaning work.now i)) (λ s. s.sum) hands.items
-        shares.items r.1.items r.2.items) }
+        CameBack (piece_weight (W.reduction work.now)) (λ s. s.sum)
+        hands.items shares.items r.1.items r.2.items) }
     ensures once { IfOk result (λ r. HaveNoneTwice r.1.items) }
     ensures settled { IfOk result (λ r. Settles r.0 r.1.items) }
     ensures over { IfOk result (λ r.
-        Outweighs (λ i. W.weight_of work.now (W.piece_meaning work.now i)) limit r.0 r.1.items) }
+        Outweighs (piece_weight (W.reduction work.now)) limit r.0 r.1.items) }
     ensures alone { (vec_len hands ≡ 1) ⊎ (pieces_of hands.items ≡ 0)
         → IfErr result (λ e. e ≡ PoolFault.OutOfMemory) }
 {
@@ -522,26 +468,21 @@ pub fn fan_deal_onto<W: Work + Sync, L: Ledger + Send + Sync, R: Threads + Wait 
     stop: u128,
     shares: Vec<Share<L>>,
 ) -> Result<(Outcome<W::Part>, Vec<Hand>, Vec<Share<L>>), PoolFault>
-    requires part { W.fits work.now (W.meaning part) }
+    requires part { (W.reduction work.now).fits (W.meaning part) }
     requires pieces { pieces ≤ 1048576 }
     requires hands { (1 ≤ vec_len shares) × (vec_len shares ≤ 64) }
-    requires loads { W.load_of work.now (W.meaning part)
-        + sum_below (λ i. W.load_of work.now (W.piece_meaning work.now i)) pieces < 2 ^ 63 }
-    requires room { All (λ s.
-        sum_below (λ i. W.load_of work.now (W.piece_meaning work.now i)) pieces + s.sum < 2 ^ 63)
+    requires loads { load_onto (W.reduction work.now) (W.meaning part) pieces < 2 ^ 63 }
+    requires room { All (λ s. load_below (W.reduction work.now) pieces + s.sum < 2 ^ 63)
         shares.items }
-    ensures decided { IfOk result (λ r. Decides W.meaning (W.combined work.now (W.meaning part)
-        (total (W.unit_meaning work.now) (W.combined work.now) (W.piece_meaning work.now) pieces))
-        (W.weight_of work.now (W.meaning part)
-        + sum_below (λ i. W.weight_of work.now (W.piece_meaning work.now i)) pieces) limit r.0) }
+    ensures decided { IfOk result (λ r. DecidesOnto (W.reduction work.now) W.meaning
+        (W.meaning part) pieces limit r.0) }
     ensures deal { IfOk result (λ r. AreAll r.1.items × (pieces_of r.1.items ≡ pieces)) }
-    ensures reported { IfOk result (λ r.
-        Reported (λ i. W.weight_of work.now (W.piece_meaning work.now i)) (λ s. s.sum) shares.items
-        r.1.items r.2.items) }
+    ensures reported { IfOk result (λ r. Reported (piece_weight (W.reduction work.now))
+        (λ s. s.sum) shares.items r.1.items r.2.items) }
     ensures once { IfOk result (λ r. HaveNoneTwice r.1.items) }
     ensures settled { IfOk result (λ r. Settles r.0 r.1.items) }
-    ensures over { IfOk result (λ r. IsAbove (W.weight_of work.now (W.meaning part)
-        + sum_list (λ i. W.weight_of work.now (W.piece_meaning work.now i)) (joined r.1.items))
+    ensures over { IfOk result (λ r.
+        IsAbove (weight_with (W.reduction work.now) (W.meaning part) (joined r.1.items))
         limit r.0) }
     ensures alone { (vec_len shares ≡ 1) ⊎ (pieces ≡ 0)
         → IfErr result (λ e. e ≡ PoolFault.OutOfMemory) }
@@ -562,13 +503,10 @@ fn with_book<L: Ledger + Send + Sync, W: Work + Sync, R: Threads + Wait + Sync>(
 ) -> Result<Outcome<W::Part>, PoolFault>
     requires pieces { pieces ≤ 1048576 }
     requires hands { (1 ≤ hands) × (hands ≤ 64) }
-    requires loads { sum_below (λ i. W.load_of work.now (W.piece_meaning work.now i)) pieces
-        < 2 ^ 63 }
+    requires loads { load_below (W.reduction work.now) pieces < 2 ^ 63 }
     requires name { blank.name ≡ L.name }
     requires parts { (blank.parts ≡ L.parts) × (L.parts ≡ hands) }
-    ensures decided { IfOk result (Decides W.meaning
-        (total (W.unit_meaning work.now) (W.combined work.now) (W.piece_meaning work.now) pieces)
-        (sum_below (λ i. W.weight_of work.now (W.piece_meaning work.now i)) pieces) limit) }
+    ensures decided { IfOk result (DecidesBelow (W.reduction work.now) W.meaning pieces limit) }
     ensures alone { (hands ≡ 1) ⊎ (pieces ≡ 0) → IfErr result (λ e. e ≡ PoolFault.OutOfMemory) }
 {
     let unit = work.unit()?;
@@ -610,11 +548,8 @@ pub fn fan_out<W: Work + Sync, R: Threads + Wait + Sync>(
 ) -> Result<Outcome<W::Part>, PoolFault>
     requires pieces { pieces ≤ 1048576 }
     requires hands { (1 ≤ hands) × (hands ≤ 64) }
-    requires loads { sum_below (λ i. W.load_of work.now (W.piece_meaning work.now i)) pieces
-        < 2 ^ 63 }
-    ensures decided { IfOk result (Decides W.meaning
-        (total (W.unit_meaning work.now) (W.combined work.now) (W.piece_meaning work.now) pieces)
-        (sum_below (λ i. W.weight_of work.now (W.piece_meaning work.now i)) pieces) limit) }
+    requires loads { load_below (W.reduction work.now) pieces < 2 ^ 63 }
+    ensures decided { IfOk result (DecidesBelow (W.reduction work.now) W.meaning pieces limit) }
     ensures alone { (hands ≡ 1) ⊎ (pieces ≡ 0) → IfErr result (λ e. e ≡ PoolFault.OutOfMemory) }
 {
     with_book::<Brand, W, R>(

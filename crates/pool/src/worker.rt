@@ -1,6 +1,7 @@
 //! One worker: it takes pieces until its hand is spent or the book is above a number, and reports their weights.
 ghost use Rattle.std.specs.Prelude.{◌≡◌, ℕ, ◌+◌, ◌^◌, ◌<◌, ◌-◌, true, IfOk, IfSome};
-ghost use Rattle.pool.specs.Inside.Done.{Did, MayGoOn};
+ghost use Rattle.pool.specs.Inside.Done.{HasResumed, MayResume};
+ghost use Rattle.pool.specs.Reduction.{piece_load, piece_weight};
 
 use crate::book::{Book, Share};
 use crate::deal::{Hand, Next};
@@ -45,13 +46,9 @@ impl<'a, W, P, L: Ledger> Drop for Promised<'a, W, P, L> {
 
 impl<'a, W: Work, L: Ledger> Promise<Result<Done<W::Part, L>, AllocError>>
     for Promised<'a, W, W::Part, L> {
-    ghost kept_by = { λ p r. (begin : W.Meaning) → W.fits p.work.now begin
-        → MayGoOn begin (W.combined p.work.now) (W.piece_meaning p.work.now)
-        (W.weight_of p.work.now) (W.load_of p.work.now) p.before.value.hand
-        p.before.value.share.sum (W.meaning p.before.value.part)
-        → IfOk r (λ d.
-        Did begin (W.combined p.work.now) (W.piece_meaning p.work.now) (W.weight_of p.work.now)
-        p.before.value.hand p.before.value.share.sum d.hand d.share.sum (W.meaning d.part)) };
+    ghost kept_by = { λ p r. IfOk r (λ d. HasResumed (W.reduction p.work.now)
+        p.before.value.hand p.before.value.share.sum (W.meaning p.before.value.part)
+        d.hand d.share.sum (W.meaning d.part)) };
 }
 
 /// Does one piece: the part has one more, and the share's sum its weight more. Also answers the book's number after it.
@@ -61,15 +58,15 @@ fn one_more<W: Work, L: Ledger, R: Wait>(
     part: W::Part,
     i: u32,
 ) -> Result<(W::Part, u128), AllocError>
-    requires fits { W.fits crew.now.work.now (W.meaning part) }
-    requires room { W.load_of crew.now.work.now (W.meaning part)
-        + W.load_of crew.now.work.now (W.piece_meaning crew.now.work.now i) < 2 ^ 63 }
-    requires sum { share.old.sum + W.load_of crew.now.work.now (W.piece_meaning crew.now.work.now i)
-        < 2 ^ 63 }
+    requires fits { (W.reduction crew.now.work.now).fits (W.meaning part) }
+    requires room { (W.reduction crew.now.work.now).load (W.meaning part)
+        + piece_load (W.reduction crew.now.work.now) i < 2 ^ 63 }
+    requires sum { share.old.sum + piece_load (W.reduction crew.now.work.now) i < 2 ^ 63 }
     ensures part { IfOk result (λ r. W.meaning r.0
-        ≡ W.combined crew.now.work.now (W.meaning part) (W.piece_meaning crew.now.work.now i)) }
+        ≡ (W.reduction crew.now.work.now).combine (W.meaning part)
+        ((W.reduction crew.now.work.now).piece i)) }
     ensures sum { IfOk result (λ p. share.new.sum
-        ≡ share.old.sum + W.weight_of crew.now.work.now (W.piece_meaning crew.now.work.now i)) }
+        ≡ share.old.sum + piece_weight (W.reduction crew.now.work.now) i) }
 {
     let before = crew.work.weight(&part);
     let part = crew.work.add(part, i)?;
@@ -86,17 +83,9 @@ fn take_pieces<W: Work, L: Ledger, R: Wait>(
     share: &mut Share<L>,
     part: W::Part,
 ) -> Result<W::Part, AllocError>
-    requires { (begin : W.Meaning) × W.fits crew.now.work.now begin
-        × MayGoOn begin (W.combined crew.now.work.now) (W.piece_meaning crew.now.work.now)
-        (W.weight_of crew.now.work.now) (W.load_of crew.now.work.now) hand.old share.old.sum
-        (W.meaning part) }
-    ensures did { (begin : W.Meaning) → W.fits crew.now.work.now begin
-        → MayGoOn begin (W.combined crew.now.work.now)
-        (W.piece_meaning crew.now.work.now) (W.weight_of crew.now.work.now)
-        (W.load_of crew.now.work.now) hand.old share.old.sum (W.meaning part)
-        → IfOk result (λ p. Did begin (W.combined crew.now.work.now)
-        (W.piece_meaning crew.now.work.now) (W.weight_of crew.now.work.now) hand.old share.old.sum
-        hand.new share.new.sum (W.meaning p)) }
+    requires { MayResume (W.reduction crew.now.work.now) hand.old share.old.sum (W.meaning part) }
+    ensures did { IfOk result (λ p. HasResumed (W.reduction crew.now.work.now)
+        hand.old share.old.sum (W.meaning part) hand.new share.new.sum (W.meaning p)) }
     ensures spent { crew.now.stop ≡ 2 ^ 128 - 1 → IfOk result (λ p. hand.new.spent ≡ true) }
 {
     let mut part = part;
@@ -121,17 +110,10 @@ pub fn go_on<W: Work, L: Ledger, R: Wait>(
     crew: &Crew<'_, W, L, R>,
     done: Done<W::Part, L>,
 ) -> Result<Done<W::Part, L>, AllocError>
-    requires { (begin : W.Meaning) × W.fits crew.now.work.now begin
-        × MayGoOn begin (W.combined crew.now.work.now) (W.piece_meaning crew.now.work.now)
-        (W.weight_of crew.now.work.now) (W.load_of crew.now.work.now) done.hand done.share.sum
+    requires { MayResume (W.reduction crew.now.work.now) done.hand done.share.sum
         (W.meaning done.part) }
-    ensures did { (begin : W.Meaning) → W.fits crew.now.work.now begin
-        → MayGoOn begin (W.combined crew.now.work.now)
-        (W.piece_meaning crew.now.work.now) (W.weight_of crew.now.work.now)
-        (W.load_of crew.now.work.now) done.hand done.share.sum (W.meaning done.part)
-        → IfOk result (λ d. Did begin (W.combined crew.now.work.now)
-        (W.piece_meaning crew.now.work.now) (W.weight_of crew.now.work.now) done.hand done.share.sum
-        d.hand d.share.sum (W.meaning d.part)) }
+    ensures did { IfOk result (λ d. HasResumed (W.reduction crew.now.work.now)
+        done.hand done.share.sum (W.meaning done.part) d.hand d.share.sum (W.meaning d.part)) }
     ensures spent { crew.now.stop ≡ 2 ^ 128 - 1 → IfOk result (λ d. d.hand.spent ≡ true) }
 {
     let Done {
@@ -155,9 +137,7 @@ pub fn start<'s, E, W: Work + Sync, L: Ledger + Send + Sync, R: Wait + Sync>(
     crew: &'s Crew<'s, W, L, R>,
     done: Done<W::Part, L>,
 ) -> Option<Running<'s, W, W::Part, L>>
-    requires { (begin : W.Meaning) × W.fits crew.now.work.now begin
-        × MayGoOn begin (W.combined crew.now.work.now) (W.piece_meaning crew.now.work.now)
-        (W.weight_of crew.now.work.now) (W.load_of crew.now.work.now) done.hand done.share.sum
+    requires { MayResume (W.reduction crew.now.work.now) done.hand done.share.sum
         (W.meaning done.part) }
     ensures work { IfSome result (λ h. h.promise.work.now ≡ crew.now.work.now) }
     ensures before { IfSome result (λ h. h.promise.before.value ≡ done) }
@@ -167,17 +147,10 @@ pub fn start<'s, E, W: Work + Sync, L: Ledger + Send + Sync, R: Wait + Sync>(
         before: Snapshot::of(&done),
     };
     let run = move || -> Result<Done<W::Part, L>, AllocError>
-        requires { (begin : W.Meaning) × W.fits crew.now.work.now begin
-            × MayGoOn begin (W.combined crew.now.work.now) (W.piece_meaning crew.now.work.now)
-            (W.weight_of crew.now.work.now) (W.load_of crew.now.work.now) done.hand done.share.sum
+        requires { MayResume (W.reduction crew.now.work.now) done.hand done.share.sum
             (W.meaning done.part) }
-        ensures { (begin : W.Meaning) → W.fits crew.entry.now.work.now begin
-            → MayGoOn begin (W.combined crew.entry.now.work.now)
-            (W.piece_meaning crew.entry.now.work.now) (W.weight_of crew.entry.now.work.now)
-            (W.load_of crew.entry.now.work.now) done.hand done.share.sum (W.meaning done.part)
-            → IfOk result (λ d. Did begin (W.combined crew.entry.now.work.now)
-            (W.piece_meaning crew.entry.now.work.now) (W.weight_of crew.entry.now.work.now)
-            done.hand done.share.sum d.hand d.share.sum (W.meaning d.part)) }
+        ensures { IfOk result (λ d. HasResumed (W.reduction crew.entry.now.work.now)
+            done.hand done.share.sum (W.meaning done.part) d.hand d.share.sum (W.meaning d.part)) }
     { go_on(crew, done) };
     scope.spawn_with(promise, run).ok()
 }

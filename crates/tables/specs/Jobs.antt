@@ -1,8 +1,9 @@
 -- What a job is, which a pool is given to work on, and what its pieces come to.
 use Rattle.std.specs.Prelude.{ℕ, List, []}
 use Rattle.lines.specs.declared.pieces.Piece.{Piece}
+use Rattle.pool.specs.Reduction.{Reduction}
 use Rattle.query_plan.specs.Planned.{PlannedQuery}
-use Rattle.tables.specs.Denotations.{IsDenotation, Denotation, denotation, denotation_at, denotation_from}
+use Rattle.tables.specs.Denotations.{IsDenotation, Denotation, both, denotation, denotation_at, denotation_from}
 use Rattle.tables.specs.declared.job.Job.{Job}
 use Rattle.tables.specs.declared.job.JobBy.{JobBy}
 use Rattle.tables.specs.declared.executor.Executor as Executor
@@ -34,6 +35,14 @@ denotation_of_piece job index = denotation_at (plan_of_job job).fields (plan_of_
 -- what the job's piece comes to that comes so many behind its first one, where that has the index `first`
 abbrev pub denotation_of_piece_from : ℕ → Job → ℕ → Denotation
 denotation_of_piece_from first job place = denotation_from (plan_of_job job).fields (plan_of_job job).query first (input_of_job job) (pieces_of_job job) place
+
+-- what a fold over the job's pieces combines
+abbrev pub reduction_of_job : Job → Reduction Denotation
+reduction_of_job job = record { fits = IsDenotationUnder job; unit = no_denotation job; combine = both; piece = denotation_of_piece job; weight = λ m. m.refused; load = λ m. m.lines }
+
+-- the same, where the job's first piece has the index `first`
+abbrev pub reduction_of_job_from : ℕ → Job → Reduction Denotation
+reduction_of_job_from first job = record { fits = IsDenotationUnder job; unit = no_denotation job; combine = both; piece = denotation_of_piece_from first job; weight = λ m. m.refused; load = λ m. m.lines }
 
 -- ---- a job whose results a executor merges
 

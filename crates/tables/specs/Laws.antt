@@ -21,9 +21,10 @@ use Rattle.tables_groups.proofs.Bags.{weigh-append}
 use Rattle.tables_groups.proofs.Meaning.{has_key, group_at-append}
 use Rattle.tables_groups.proofs.AnyOrder.{options-flip}
 use Rattle.pool.specs.Lawful.{Lawful}
+use Rattle.pool.specs.Reduction.{Reduction}
 use Rattle.semantics.specs.Found.{aggregate_functions}
 use Rattle.tables.specs.Functions.{filter_texts}
-use Rattle.tables.specs.Denotations.{IsDenotation, both, group_of, denotation, denotation_at, denotation_from, piece_at, piece_from}
+use Rattle.tables.specs.Denotations.{Denotation, IsDenotation, both, group_of, denotation, denotation_at, denotation_from, piece_at, piece_from}
 use Rattle.tables.specs.Notes.{note_of}
 use Rattle.tables.specs.Pieces.{IndexedPiece, all_lines, records_of, refused_within}
 
@@ -106,9 +107,13 @@ few-refused fields (p ∷ pieces) =
     let b = length-append (lines p.bytes) (all_lines pieces) in
     omega (arith, more, here, many, a, b)
 
+-- the reduction of pieces that come to these, by their numbers
+abbrev pub denotations_reduction : List Field → TreeForm → (ℕ → Denotation) → Reduction Denotation
+denotations_reduction fields q piece = record { fits = IsDenotation fields q; unit = denotation fields q []; combine = both; piece = piece; weight = λ m. m.refused; load = λ m. m.lines }
+
 -- whatever the pieces are, by their numbers
 pub pieces_lawful : (fields : List Field) (q : TreeForm) (piece : ℕ → IndexedPiece)
-    → Lawful (IsDenotation fields q) (denotation fields q []) both (λ i. denotation fields q (piece i ∷ [])) (λ m. m.refused) (λ m. m.lines)
+    → Lawful (denotations_reduction fields q (λ i. denotation fields q (piece i ∷ [])))
 pieces_lawful fields q piece = record {
   unit_fits = ([], refl);
   piece_fits = λ i. (piece i ∷ [], refl);
@@ -127,10 +132,10 @@ pieces_lawful fields q piece = record {
 }
 
 pub denotations_lawful : (fields : List Field) (q : TreeForm) (input : List ℕ) (pieces : List Piece)
-    → Lawful (IsDenotation fields q) (denotation fields q []) both (denotation_at fields q input pieces) (λ m. m.refused) (λ m. m.lines)
+    → Lawful (denotations_reduction fields q (denotation_at fields q input pieces))
 denotations_lawful fields q input pieces = pieces_lawful fields q (piece_at input pieces)
 
 -- the pieces of the rest of an input
 pub denotations_lawful_from : (fields : List Field) (q : TreeForm) (first : ℕ) (rest : List ℕ) (pieces : List Piece)
-    → Lawful (IsDenotation fields q) (denotation fields q []) both (denotation_from fields q first rest pieces) (λ m. m.refused) (λ m. m.lines)
+    → Lawful (denotations_reduction fields q (denotation_from fields q first rest pieces))
 denotations_lawful_from fields q first rest pieces = pieces_lawful fields q (piece_from first rest pieces)

@@ -69,8 +69,8 @@ impl<'a> Job<'a> {
 }
 
 impl<'a> Work for Job<'a> {
-    ghost use Rattle.tables.specs.Jobs.{IsDenotationUnder, denotation_of_piece, no_denotation, input_of_job, pieces_of_job, plan_of_job};
-    ghost use Rattle.tables.specs.Denotations.{Denotation, both, meaning};
+    ghost use Rattle.tables.specs.Jobs.{input_of_job, pieces_of_job, plan_of_job, reduction_of_job};
+    ghost use Rattle.tables.specs.Denotations.{Denotation, meaning};
     ghost use Rattle.tables.specs.Laws.{denotations_lawful};
 
     type Part = Partial;
@@ -79,17 +79,7 @@ impl<'a> Work for Job<'a> {
 
     ghost meaning = { λ part. meaning part };
 
-    ghost fits = { λ job m. IsDenotationUnder job m };
-
-    ghost unit_meaning = { λ job. no_denotation job };
-
-    ghost piece_meaning = { λ job i. denotation_of_piece job i };
-
-    ghost combined = { λ job a b. both a b };
-
-    ghost weight_of = { λ job m. m.refused };
-
-    ghost load_of = { λ job m. m.lines };
+    ghost reduction = { λ job. reduction_of_job job };
 
     ghost lawful = { λ job. denotations_lawful (plan_of_job job).fields (plan_of_job job).query
         (input_of_job job) (pieces_of_job job) };
@@ -158,8 +148,8 @@ impl<'a, J: Executor> JobBy<'a, J> {
 }
 
 impl<'a, J: Executor> Work for JobBy<'a, J> {
-    ghost use Rattle.tables.specs.Jobs.{IsDenotationUnder, denotation_of_piece_from, no_denotation, first_of_job, input_of_job, joined_job, pieces_of_job, plan_of_job};
-    ghost use Rattle.tables.specs.Denotations.{Denotation, both, meaning};
+    ghost use Rattle.tables.specs.Jobs.{first_of_job, input_of_job, joined_job, pieces_of_job, plan_of_job, reduction_of_job_from};
+    ghost use Rattle.tables.specs.Denotations.{Denotation, meaning};
     ghost use Rattle.tables.specs.Laws.{denotations_lawful_from};
 
     type Part = Partial;
@@ -168,17 +158,7 @@ impl<'a, J: Executor> Work for JobBy<'a, J> {
 
     ghost meaning = { λ part. meaning part };
 
-    ghost fits = { λ it m. IsDenotationUnder (joined_job it) m };
-
-    ghost unit_meaning = { λ it. no_denotation (joined_job it) };
-
-    ghost piece_meaning = { λ it i. denotation_of_piece_from (first_of_job it) (joined_job it) i };
-
-    ghost combined = { λ it a b. both a b };
-
-    ghost weight_of = { λ it m. m.refused };
-
-    ghost load_of = { λ it m. m.lines };
+    ghost reduction = { λ it. reduction_of_job_from (first_of_job it) (joined_job it) };
 
     ghost lawful = { λ it. denotations_lawful_from
         (plan_of_job (joined_job it)).fields (plan_of_job (joined_job it)).query

@@ -1,6 +1,6 @@
 //! What no clause says: that the calls give their answers where memory and threads are ample, that threads run side by side, and who gets which piece.
 ghost use Rattle.std.specs.Prelude.{◌≡◌, ℕ, ◌<◌, ◌≤◌, ◌^◌, vec_len, IfOk};
-ghost use Rattle.pool.specs.Totals.{sum_below};
+ghost use Rattle.pool.specs.Reduction.{load_below};
 ghost use Rattle.pool.specs.Settled.{AreAll};
 
 use pool::{
@@ -46,17 +46,14 @@ impl Work for Numbers {
 
     ghost meaning = { λ p. p };
 
-    ghost fits = { λ w m. Unit {0} };
-
-    ghost unit_meaning = { λ w. 0 };
-
-    ghost piece_meaning = { λ w i. i };
-
-    ghost combined = { λ w a b. a + b };
-
-    ghost weight_of = { λ w m. m };
-
-    ghost load_of = { λ w m. m };
+    ghost reduction = { λ w. record {
+      fits = λ m. Unit {0};
+      unit = 0;
+      combine = λ a b. a + b;
+      piece = λ i. i;
+      weight = λ m. m;
+      load = λ m. m;
+    } };
 
     ghost lawful = { λ w. record {
       unit_fits = tt;
@@ -106,17 +103,14 @@ impl Work for Ones {
 
     ghost meaning = { λ p. p };
 
-    ghost fits = { λ w m. Unit {0} };
-
-    ghost unit_meaning = { λ w. 0 };
-
-    ghost piece_meaning = { λ w i. 1 };
-
-    ghost combined = { λ w a b. a + b };
-
-    ghost weight_of = { λ w m. m };
-
-    ghost load_of = { λ w m. m };
+    ghost reduction = { λ w. record {
+      fits = λ m. Unit {0};
+      unit = 0;
+      combine = λ a b. a + b;
+      piece = λ i. 1;
+      weight = λ m. m;
+      load = λ m. m;
+    } };
 
     ghost lawful = { λ w. record {
       unit_fits = tt;
@@ -175,17 +169,14 @@ impl Work for Meeting {
 
     ghost meaning = { λ p. p };
 
-    ghost fits = { λ w m. m ≡ 0 };
-
-    ghost unit_meaning = { λ w. 0 };
-
-    ghost piece_meaning = { λ w i. 0 };
-
-    ghost combined = { λ w a b. a };
-
-    ghost weight_of = { λ w m. 0 };
-
-    ghost load_of = { λ w m. 0 };
+    ghost reduction = { λ w. record {
+      fits = λ m. m ≡ 0;
+      unit = 0;
+      combine = λ a b. a;
+      piece = λ i. 0;
+      weight = λ m. 0;
+      load = λ m. 0;
+    } };
 
     ghost lawful = { λ w. record {
       unit_fits = refl;
@@ -249,8 +240,7 @@ fn on_deal<L: Ledger + Send + Sync, W: Work + Sync, R: Threads + Wait + Sync>(
 ) -> Result<(Outcome<W::Part>, bool, u128), PoolFault>
     requires pieces { pieces ≤ 1048576 }
     requires hands { (1 ≤ hands) × (hands ≤ 64) }
-    requires loads { sum_below (λ i. W.load_of work.now (W.piece_meaning work.now i)) pieces
-        < 2 ^ 63 }
+    requires loads { load_below (W.reduction work.now) pieces < 2 ^ 63 }
     requires name { blank.name ≡ L.name }
     requires parts { (blank.parts ≡ L.parts) × (L.parts ≡ hands) }
 {

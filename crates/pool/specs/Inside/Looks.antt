@@ -5,8 +5,9 @@ use lib.ListN.{get_elem?}
 use Rattle.std.specs.declared.alloc.Global.{Global}
 use Rattle.pool.specs.declared.view.View.{View}
 use Rattle.pool.specs.Holding.{Holding}
-use Rattle.pool.specs.Inside.Rule.{Up}
-use Rattle.pool.specs.Seen.{Seen}
+use Rattle.pool.specs.Dealing.{times}
+use Rattle.pool.specs.Inside.Rule.{Up, UpTo, held}
+use Rattle.pool.specs.Seen.{Seen, Owned}
 
 -- the list, where there is one
 abbrev pub list_in : Option Seen → List ℕ
@@ -34,3 +35,12 @@ told r (h ∷ hs) = (r, list_from r h) ∷ told (r - 1) hs
 -- the owner knows its own list, and those of all hands above this place
 abbrev pub KnowsAbove : ℕ → View → Type 0
 KnowsAbove r v = (v.filling ≡ false) × (v.owner ≡ true) × ((list : List ℕ) × (above : List (ℕ × List ℕ)) × (v.known ≡ (0, list) ∷ above) × Up (r + 1) above × (v.made ≡ r + 1 + length above))
+
+-- what this view knows and these lists hold no number more often than it was dealt, and each as often where the view knows that no number is left
+abbrev pub AccountFor : View → (ℕ → ℕ) → Type 0
+AccountFor v others = (x : ℕ) → UpTo (v.closed ≡ true) (held x v.known + others x) (times x v.numbers)
+
+-- the owner's list, and what the hands before and after it in the deal have of its deque, hold no number more often than it was dealt, and each as often where the owner knows that no number is left
+abbrev pub HoldWhatWasDealt : Owned → List Holding → List Holding → Type 0
+HoldWhatWasDealt own before after =
+    (x : ℕ) → UpTo (own.closed ≡ true) (times x own.seen.list + (held x (told (length before + length after) after) + held x (told (length before) before))) (times x own.seen.numbers)

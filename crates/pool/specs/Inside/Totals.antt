@@ -1,12 +1,13 @@
 -- What a worker and all workers have combined.
 use Rattle.std.specs.Prelude.{ℕ, List, [], ◌∷◌}
+use Rattle.pool.specs.Reduction.{Reduction}
 
 -- all of these, combined, and of none the unit: the first with all that follows, and so on
-abbrev pub together : {M : Type 0} → M → (M → M → M) → List M → M
-together unit combined [] = unit
-together unit combined (m ∷ ms) = combined m (together unit combined ms)
+abbrev pub combination_of : {M : Type 0} → Reduction M → List M → M
+combination_of r [] = r.unit
+combination_of r (m ∷ ms) = r.combine m (combination_of r ms)
 
 -- the pieces of a list and what there was to begin with, combined: the first piece with all that follows, and so on
-abbrev pub gathered : {M : Type 0} → M → (M → M → M) → (ℕ → M) → List ℕ → M
-gathered begin combined piece [] = begin
-gathered begin combined piece (x ∷ xs) = combined (piece x) (gathered begin combined piece xs)
+abbrev pub reduction_from : {M : Type 0} → Reduction M → M → List ℕ → M
+reduction_from r begin [] = begin
+reduction_from r begin (x ∷ xs) = r.combine (r.piece x) (reduction_from r begin xs)

@@ -35,7 +35,7 @@ returns-clause-deal g c =
 
 pub returns-clause-back : goal.returns-clause-back
 returns-clause-back g c =
-    subst (λ l. CameBack (λ i. g.W.Work.weight_of c.args.crew.work.now (g.W.Work.piece_meaning c.args.crew.work.now i)) (λ s. s.sum) c.args.ready.hands.items c.args.ready.shares.items c.in_ok-concluded.concluded.1.items l) (sym (ap (λ v. v.items) c.in_ok-concluded.ensures.same.1)) (fanned_back ((g.met.W.Work g.world.𝓛 g.world.𝓜 g.world.𝓡 ((λ s x. x), (λ x. x), (λ x. x), λ x. x)).lawful c.args.crew.work.now) (λ s. s.sum) g.W.Work.meaning c.args.ready.hands.items c.args.ready.shares.items c.args.ready.parts.items c.requires.ready c.in_ok-finished.finished.hands.items c.in_ok-finished.finished.shares.items c.in_ok-finished.finished.parts.items c.in_ok-finished.ensures.did c.in_ok-concluded.concluded.1.items (ap (λ v. v.items) c.in_ok-concluded.ensures.same.0 ∙ c.keep_apart.ensures.same))
+    subst (λ l. CameBack (λ i. (g.W.Work.reduction c.args.crew.work.now).weight ((g.W.Work.reduction c.args.crew.work.now).piece i)) (λ s. s.sum) c.args.ready.hands.items c.args.ready.shares.items c.in_ok-concluded.concluded.1.items l) (sym (ap (λ v. v.items) c.in_ok-concluded.ensures.same.1)) (fanned_back ((g.met.W.Work g.world.𝓛 g.world.𝓜 g.world.𝓡 ((λ s x. x), (λ x. x), (λ x. x), λ x. x)).lawful c.args.crew.work.now) (λ s. s.sum) g.W.Work.meaning c.args.ready.hands.items c.args.ready.shares.items c.args.ready.parts.items c.requires.ready c.in_ok-finished.finished.hands.items c.in_ok-finished.finished.shares.items c.in_ok-finished.finished.parts.items c.in_ok-finished.ensures.did c.in_ok-concluded.concluded.1.items (ap (λ v. v.items) c.in_ok-concluded.ensures.same.0 ∙ c.keep_apart.ensures.same))
 
 pub returns-clause-once : goal.returns-clause-once
 returns-clause-once g c =

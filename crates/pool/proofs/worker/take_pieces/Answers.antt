@@ -23,13 +23,13 @@ one_more-requires-clause-sum g c κs within =
 pub returns-in-Spent-clause-did : goal.returns-in-Spent-clause-did
 returns-in-Spent-clause-did g c = λ begin its may.
     let so_far = c.loop.invariant.1 begin its may in
-    did_twice begin (g.W.Work.combined c.args.crew.now.work.now) (g.W.Work.piece_meaning c.args.crew.now.work.now) (g.W.Work.weight_of c.args.crew.now.work.now) c.args.hand.now c.args.share.now.sum c.loop.hand c.loop.share.sum (g.W.Work.meaning c.loop.part) c.next-in-loop.new.self c.loop.share.sum (g.W.Work.meaning c.loop.part) so_far.0
+    did_twice begin (g.W.Work.reduction c.args.crew.now.work.now) c.args.hand.now c.args.share.now.sum c.loop.hand c.loop.share.sum (g.W.Work.meaning c.loop.part) c.next-in-loop.new.self c.loop.share.sum (g.W.Work.meaning c.loop.part) so_far.0
     (did_nothing (g.met.W.Work.lawful c.args.crew.now.work.now) begin its c.loop.hand c.next-in-loop.new.self c.loop.share.sum (g.W.Work.meaning c.loop.part) so_far.1 c.in-Spent.ensures.answer c.in-Spent.ensures.holding)
 
 pub returns-then-number-crew-clause-did : goal.returns-then-number-crew-clause-did
 returns-then-number-crew-clause-did g c = λ begin its may.
     let so_far = c.loop.invariant.1 begin its may in
-    did_twice begin (g.W.Work.combined c.args.crew.now.work.now) (g.W.Work.piece_meaning c.args.crew.now.work.now) (g.W.Work.weight_of c.args.crew.now.work.now) c.args.hand.now c.args.share.now.sum c.loop.hand c.loop.share.sum (g.W.Work.meaning c.loop.part) c.next-in-loop.new.self c.one_more.new.share.sum (g.W.Work.meaning c.in_ok-more-in-Piece.more) so_far.0 (did_piece (g.met.W.Work.lawful c.args.crew.now.work.now) begin its c.loop.hand c.loop.share.sum (g.W.Work.meaning c.loop.part) c.next-in-loop.new.self c.in-Piece.i so_far.1 c.in-Piece.ensures.answer c.in-Piece.ensures.holding (g.W.Work.meaning c.in_ok-more-in-Piece.more) c.one_more.new.share.sum c.in_ok-more-in-Piece.ensures.part c.in_ok-more-in-Piece.ensures.sum)
+    did_twice begin (g.W.Work.reduction c.args.crew.now.work.now) c.args.hand.now c.args.share.now.sum c.loop.hand c.loop.share.sum (g.W.Work.meaning c.loop.part) c.next-in-loop.new.self c.one_more.new.share.sum (g.W.Work.meaning c.in_ok-more-in-Piece.more) so_far.0 (did_piece (g.met.W.Work.lawful c.args.crew.now.work.now) begin its c.loop.hand c.loop.share.sum (g.W.Work.meaning c.loop.part) c.next-in-loop.new.self c.in-Piece.i so_far.1 c.in-Piece.ensures.answer c.in-Piece.ensures.holding (g.W.Work.meaning c.in_ok-more-in-Piece.more) c.one_more.new.share.sum c.in_ok-more-in-Piece.ensures.part c.in_ok-more-in-Piece.ensures.sum)
 
 pub loop-preserved : goal.loop-preserved
 loop-preserved g c =
@@ -38,7 +38,7 @@ loop-preserved g c =
       λ begin its may.
           let so_far = c.loop.invariant.1 begin its may in
           let did = did_piece (g.met.W.Work.lawful c.args.crew.now.work.now) begin its c.loop.hand c.loop.share.sum (g.W.Work.meaning c.loop.part) c.next-in-loop.new.self c.in-Piece.i so_far.1 c.in-Piece.ensures.answer c.in-Piece.ensures.holding (g.W.Work.meaning c.in_ok-more-in-Piece.more) c.one_more.new.share.sum c.in_ok-more-in-Piece.ensures.part c.in_ok-more-in-Piece.ensures.sum in (
-            did_twice begin (g.W.Work.combined c.args.crew.now.work.now) (g.W.Work.piece_meaning c.args.crew.now.work.now) (g.W.Work.weight_of c.args.crew.now.work.now) c.args.hand.now c.args.share.now.sum c.loop.hand c.loop.share.sum (g.W.Work.meaning c.loop.part) c.next-in-loop.new.self c.one_more.new.share.sum (g.W.Work.meaning c.in_ok-more-in-Piece.more) so_far.0 did,
+            did_twice begin (g.W.Work.reduction c.args.crew.now.work.now) c.args.hand.now c.args.share.now.sum c.loop.hand c.loop.share.sum (g.W.Work.meaning c.loop.part) c.next-in-loop.new.self c.one_more.new.share.sum (g.W.Work.meaning c.in_ok-more-in-Piece.more) so_far.0 did,
             may_again (g.met.W.Work.lawful c.args.crew.now.work.now) begin its c.loop.hand c.loop.share.sum (g.W.Work.meaning c.loop.part) c.next-in-loop.new.self c.one_more.new.share.sum (g.W.Work.meaning c.in_ok-more-in-Piece.more) same so_far.1 did,
           ),
     )

@@ -5,7 +5,7 @@ use Rattle.pool.proofs.worker.take_pieces.Given as goal
 abbrev pub invariant-loop : goal.invariant-loop
 invariant-loop g l =
     (l.hand.pieces ≡ l.fn.hand.pieces)
-    × ((begin : g.W.Work.Meaning) → g.W.Work.fits l.crew.work.now begin
-    → MayGoOn begin (g.W.Work.combined l.crew.work.now) (g.W.Work.piece_meaning l.crew.work.now) (g.W.Work.weight_of l.crew.work.now) (g.W.Work.load_of l.crew.work.now) l.fn.hand l.fn.share.sum (g.W.Work.meaning l.fn.part)
-    → Did begin (g.W.Work.combined l.crew.work.now) (g.W.Work.piece_meaning l.crew.work.now) (g.W.Work.weight_of l.crew.work.now) l.fn.hand l.fn.share.sum l.hand l.share.sum (g.W.Work.meaning l.part)
-    × MayGoOn begin (g.W.Work.combined l.crew.work.now) (g.W.Work.piece_meaning l.crew.work.now) (g.W.Work.weight_of l.crew.work.now) (g.W.Work.load_of l.crew.work.now) l.hand l.share.sum (g.W.Work.meaning l.part))
+    × ((begin : g.W.Work.Meaning) → (g.W.Work.reduction l.crew.work.now).fits begin
+    → MayGoOn begin (g.W.Work.reduction l.crew.work.now) l.fn.hand l.fn.share.sum (g.W.Work.meaning l.fn.part)
+    → Did begin (g.W.Work.reduction l.crew.work.now) l.fn.hand l.fn.share.sum l.hand l.share.sum (g.W.Work.meaning l.part)
+    × MayGoOn begin (g.W.Work.reduction l.crew.work.now) l.hand l.share.sum (g.W.Work.meaning l.part))
