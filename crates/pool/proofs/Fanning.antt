@@ -8,7 +8,7 @@ use Rattle.pool.specs.Totals.{sum_below, sum_list, once_below}
 use Rattle.pool.specs.Outcomes.{Decides}
 use Rattle.pool.specs.Lawful.{Lawful}
 use Rattle.pool.specs.Holding.{Holding}
-use Rattle.pool.specs.Settled.{AreAll, AllSpent, HaveEachOnce, HaveNoneTwice, joined, pieces_of}
+use Rattle.pool.specs.Settled.{AreAll, AllSpent, HaveEachOnce, HaveNoneTwice, numbers_of_all, pieces_of}
 use Rattle.pool.specs.Inside.Fanned.{AreReady, DidAll, AreUnderWay, beginning_at}
 use Rattle.pool.specs.Fanned.{CameBack, Settles, Outweighs, IsAbove}
 use Rattle.pool.specs.declared.laws.Outcome.{Outcome}
@@ -38,11 +38,11 @@ module _ {M S P : Type 0} {reduction : Reduction M} (laws : Lawful reduction) (s
     fanned_twice us vs rs more = did_join reduction sum meaning (beginning_at reduction (map meaning ps)) hs ss ls ts qs us vs rs (subst (λ l. DidAll (beginning_at reduction (map meaning ps)) reduction sum meaning hs ss l ts qs) (sym same) did) more
 
   -- the hands have no piece twice, and each where all are spent
-  module _ (apart : (x : ℕ) → UpTo (AllSpent ks) (times x (joined ks)) (once_below x (pieces_of ks))) where
+  module _ (apart : (x : ℕ) → UpTo (AllSpent ks) (times x (numbers_of_all ks)) (once_below x (pieces_of ks))) where
     dealt : (x : ℕ) → once_below x (pieces_of ks) ≡ once_below x (pieces_of hs)
     dealt x = ap (once_below x) (did_all reduction sum meaning (beginning_at reduction (map meaning ps)) hs ss ks ts qs did ready.deal.0).0
 
-    at_most_once : (x : ℕ) → times x (joined ks) ≤ once_below x (pieces_of hs)
+    at_most_once : (x : ℕ) → times x (numbers_of_all ks) ≤ once_below x (pieces_of hs)
     at_most_once x = let a = (apart x).0 in let b = dealt x in omega (arith, a, b)
 
     all_spent : (limit : ℕ) → AllSpent ks ⊎ (limit < reduction.weight (combination_of reduction (map meaning qs))) → reduction.weight (combination_of reduction (map meaning qs)) ≤ limit → AllSpent ks
@@ -57,7 +57,7 @@ module _ {M S P : Type 0} {reduction : Reduction M} (laws : Lawful reduction) (s
         → AllSpent ks ⊎ (limit < reduction.weight (combination_of reduction (map meaning qs)))
         → Decides meaning (reduction.combine (combination_of reduction (map meaning ps)) (reduction_below reduction (pieces_of hs))) (reduction.weight (combination_of reduction (map meaning ps)) + sum_below (λ j. reduction.weight (reduction.piece j)) (pieces_of hs)) limit outcome
     fanned_decided limit (Whole p) told spent =
-        let each : (x : ℕ) → times x (joined ks) ≡ once_below x (pieces_of hs) = λ x. (apart x).1 (all_spent limit spent told.1) ∙ dealt x in
+        let each : (x : ℕ) → times x (numbers_of_all ks) ≡ once_below x (pieces_of hs) = λ x. (apart x).1 (all_spent limit spent told.1) ∙ dealt x in
         let whole = came_whole laws sum meaning hs ss ps ready ks ts qs did each in
         let begin = together_fits laws (map meaning ps) (each_of reduction.fits meaning ps ready.fit) in
         let count = ap reduction.weight whole ∙ laws.weight_adds _ _ begin (total_fits laws (pieces_of hs)) in
@@ -79,11 +79,11 @@ module _ {M S P : Type 0} {reduction : Reduction M} (laws : Lawful reduction) (s
 
   pub fanned_above : (ls : List Holding) → ls ≡ ks → (limit : ℕ) (outcome : Outcome P)
       → Decides meaning (combination_of reduction (map meaning qs)) (reduction.weight (combination_of reduction (map meaning qs))) limit outcome
-      → IsAbove (reduction.weight (combination_of reduction (map meaning ps)) + sum_list (λ j. reduction.weight (reduction.piece j)) (joined ls)) limit outcome
+      → IsAbove (reduction.weight (combination_of reduction (map meaning ps)) + sum_list (λ j. reduction.weight (reduction.piece j)) (numbers_of_all ls)) limit outcome
   fanned_above ls same limit (Whole p) told = tt
   fanned_above ls same limit Over told =
       let all = came_weight laws sum meaning hs ss ps ready ks ts qs did in
-      let joined_are = ap (λ l. sum_list (λ j. reduction.weight (reduction.piece j)) (joined l)) same in
+      let joined_are = ap (λ l. sum_list (λ j. reduction.weight (reduction.piece j)) (numbers_of_all l)) same in
       omega (arith, all, joined_are, told)
 
 -- a part made before that means what the unit means is as none
@@ -100,6 +100,6 @@ module _ {M P : Type 0} {reduction : Reduction M} (laws : Lawful reduction) (mea
       let same = ap (λ m. reduction.combine m (reduction_below reduction n)) is ∙ laws.unit_combined _ (total_fits laws n) in
       subst (λ (k : ℕ). Decides meaning (reduction_below reduction n) k limit outcome) none (subst (λ m. Decides meaning m (reduction.weight first + sum_below (λ i. reduction.weight (reduction.piece i)) n) limit outcome) same decided)
 
-  pub outweighs_alone : (limit : ℕ) (outcome : Outcome P) (hs : List Holding) → IsAbove (reduction.weight first + sum_list (λ i. reduction.weight (reduction.piece i)) (joined hs)) limit outcome → Outweighs (λ i. reduction.weight (reduction.piece i)) limit outcome hs
+  pub outweighs_alone : (limit : ℕ) (outcome : Outcome P) (hs : List Holding) → IsAbove (reduction.weight first + sum_list (λ i. reduction.weight (reduction.piece i)) (numbers_of_all hs)) limit outcome → Outweighs (λ i. reduction.weight (reduction.piece i)) limit outcome hs
   outweighs_alone limit (Whole p) hs above = tt
   outweighs_alone limit Over hs above = let none = ap reduction.weight is ∙ laws.unit_weight in omega (arith, none, above)

@@ -3,7 +3,7 @@ use Rattle.std.proofs.Common.{◌≡◌, ℕ, suc, Bool, true, false, ◌+◌, �
 use Rattle.std.specs.declared.alloc.Global.{Global}
 use Rattle.pool.specs.declared.view.View.{View}
 use Rattle.pool.specs.Dealing.{times}
-use Rattle.pool.specs.Inside.Rule.{view_of, held, UpTo, front, rest, Up, Apart, lent_view}
+use Rattle.pool.specs.Inside.Rule.{view_of, times_in_lists, UpTo, front, rest, Up, Apart, lent_view}
 use Rattle.pool.specs.Inside.Views.{owned_of, place_of, list_of, IsThief, IsOwner, Looked}
 use Rattle.pool.specs.Inside.Looks.{KnowsAbove}
 use Rattle.pool.proofs.Rules.{up_apart}
@@ -41,10 +41,10 @@ module _ {closed : Bool} (place : ℕ) (v0 v1 v2 w : View) (positive : 0 < place
     pub second : (p : ℕ × List ℕ) × (q : ℕ × List ℕ) × (more : List (ℕ × List ℕ)) × (v3.known ≡ p ∷ q ∷ more) × (p.0 ≡ q.0 → ⊥) × Apart q.0 more
     second = ((0, ka.2.0), (place, list_of w.known), ka.2.1, known_three, (λ e. omega (arith, e, positive)), up_apart place (place + 1) ka.2.1 (omega arith) ka.2.3)
 
-  pub within_four : (x a : ℕ) → UpTo (v2.closed ≡ true) (held x v2.known + a) (times x v2.numbers) → UpTo (v0.closed ≡ true) (held x v0.known + (times x (list_of w.known) + a)) (times x v0.numbers)
+  pub within_four : (x a : ℕ) → UpTo (v2.closed ≡ true) (times_in_lists x v2.known + a) (times x v2.numbers) → UpTo (v0.closed ≡ true) (times_in_lists x v0.known + (times x (list_of w.known) + a)) (times x v0.numbers)
   within_four x a h =
-      let k = ap (held x) known_two in
-      let z = ap (held x) ka.2.2 in
+      let k = ap (times_in_lists x) known_two in
+      let z = ap (times_in_lists x) ka.2.2 in
       let m = ap (times x) (ap (λ (u : View). u.numbers) b2 ∙ ap (λ (u : View). u.numbers) b1) in
       let l = h.0 in
       (omega (arith, k, z, m, l), λ c. let e = h.1 (c2.1 (ap (λ (u : View). u.closed) b1 ∙ c)) in omega (arith, k, z, m, e))
@@ -56,5 +56,5 @@ knows_own place v is made = (is.0, is.1, (list_of v.known, [], is.2, tt, omega (
 pub looked_same : (b : Bool) (deque new : (ℕ × ℕ) × Global) (v w : View) → new ≡ deque → Looked v w → owned_of new w b ≡ owned_of deque v b
 looked_same b deque new v w same looked = ap (λ u. owned_of new u b) looked.0 ∙ ap (λ d. owned_of d v b) same
 
-pub owner_within : {b : Bool} (v : View) (x a : ℕ) → IsOwner v b → UpTo (v.closed ≡ true) (held x v.known + a) (times x v.numbers) → UpTo (b ≡ true) (times x (list_of v.known) + a) (times x v.numbers)
-owner_within v x a is h = let k = ap (held x) is.2 in let l = h.0 in (omega (arith, k, l), λ c. let e = h.1 (is.4 c) in omega (arith, k, e))
+pub owner_within : {b : Bool} (v : View) (x a : ℕ) → IsOwner v b → UpTo (v.closed ≡ true) (times_in_lists x v.known + a) (times x v.numbers) → UpTo (b ≡ true) (times x (list_of v.known) + a) (times x v.numbers)
+owner_within v x a is h = let k = ap (times_in_lists x) is.2 in let l = h.0 in (omega (arith, k, l), λ c. let e = h.1 (is.4 c) in omega (arith, k, e))

@@ -9,7 +9,7 @@ use Rattle.pool.specs.Inside.Totals.{combination_of, reduction_from}
 use Rattle.pool.specs.Totals.{once_below, sum_below, sum_list}
 use Rattle.pool.specs.Lawful.{Lawful}
 use Rattle.pool.specs.Holding.{Holding, numbers_of}
-use Rattle.pool.specs.Settled.{joined, pieces_of}
+use Rattle.pool.specs.Settled.{numbers_of_all, pieces_of}
 use Rattle.pool.specs.Assembly.{IsNewDeal}
 use Rattle.pool.specs.Inside.Fanned.{AreReady, AreUnderWay, beginning_at, DidAll}
 use Rattle.pool.proofs.Gather.{gathered_fits, gathered_whole, onto-append, onto_apart, onto_fits, onto_load, onto_weight, sum_list-within, unit_after}
@@ -88,14 +88,14 @@ module _ {M : Type 0} {reduction : Reduction M} (laws : Lawful reduction) where
     -- whatever the hands did: the parts come to what they began with and all that was taken
     pub did_together : (ms : List M) (hs : List Holding) (ss : List S) (ks : List Holding) (ts : List S) (ps : List P) → Each reduction.fits ms → length ms ≡ length hs
         → DidAll (beginning_at reduction ms) reduction sum meaning hs ss ks ts ps
-        → Each reduction.fits (map meaning ps) × (combination_of reduction (map meaning ps) ≡ reduction.combine (combination_of reduction ms) (reduction_from reduction reduction.unit (joined ks)))
+        → Each reduction.fits (map meaning ps) × (combination_of reduction (map meaning ps) ≡ reduction.combine (combination_of reduction ms) (reduction_from reduction reduction.unit (numbers_of_all ks)))
     did_together [] [] ss ks ts ps each count all = rw (all.1, all.3) (tt, sym (laws.unit_combined reduction.unit laws.unit_fits))
     did_together [] (h ∷ hs) ss ks ts ps each count all = absurd (omega (arith, count))
     did_together (m ∷ ms) [] ss ks ts ps each count all = absurd (omega (arith, count))
     did_together (m ∷ ms) (h ∷ hs) ss ks ts ps each count (s, k, t, p, ss', ks', ts', ps', es, ek, et, ep, d, rest) =
         let r = did_together ms hs ss' ks' ts' ps' each.1 (omega (arith, count)) rest in
         let its = numbers_of k in
-        let others = joined ks' in
+        let others = numbers_of_all ks' in
         let is = d.part ∙ onto_apart laws m each.0 its in
         rw (ek, ep) (
           (subst reduction.fits (sym d.part) (onto_fits laws m each.0 its), r.0),
@@ -141,7 +141,7 @@ module _ {M : Type 0} {reduction : Reduction M} (laws : Lawful reduction) where
       )
 
       module _ (ks : List Holding) (ts : List S) (qs : List P) (did : DidAll (beginning_at reduction (map meaning ps)) reduction sum meaning hs ss ks ts qs) where
-        came : Each reduction.fits (map meaning qs) × (combination_of reduction (map meaning qs) ≡ reduction.combine (combination_of reduction (map meaning ps)) (reduction_from reduction reduction.unit (joined ks)))
+        came : Each reduction.fits (map meaning qs) × (combination_of reduction (map meaning qs) ≡ reduction.combine (combination_of reduction (map meaning ps)) (reduction_from reduction reduction.unit (numbers_of_all ks)))
         came = did_together (map meaning ps) hs ss ks ts qs (each_of reduction.fits meaning ps ready.fit) (length-map ps meaning ∙ ready.parts) did
 
         begin_fits : reduction.fits (combination_of reduction (map meaning ps))
@@ -150,36 +150,36 @@ module _ {M : Type 0} {reduction : Reduction M} (laws : Lawful reduction) where
         pub came_fit : All (λ q. reduction.fits (meaning q)) qs
         came_fit = all_each reduction.fits meaning qs came.0
 
-        pub came_weight : reduction.weight (combination_of reduction (map meaning qs)) ≡ reduction.weight (combination_of reduction (map meaning ps)) + sum_list (λ j. reduction.weight (reduction.piece j)) (joined ks)
+        pub came_weight : reduction.weight (combination_of reduction (map meaning qs)) ≡ reduction.weight (combination_of reduction (map meaning ps)) + sum_list (λ j. reduction.weight (reduction.piece j)) (numbers_of_all ks)
         came_weight =
-            let a = ap reduction.weight came.1 ∙ laws.weight_adds _ _ begin_fits (gathered_fits laws (joined ks)) in
-            let b = onto_weight laws reduction.unit laws.unit_fits (joined ks) in
+            let a = ap reduction.weight came.1 ∙ laws.weight_adds _ _ begin_fits (gathered_fits laws (numbers_of_all ks)) in
+            let b = onto_weight laws reduction.unit laws.unit_fits (numbers_of_all ks) in
             let c = laws.unit_weight in
             omega (arith, a, b, c)
 
-        came_load : reduction.load (combination_of reduction (map meaning qs)) ≡ reduction.load (combination_of reduction (map meaning ps)) + sum_list (λ j. reduction.load (reduction.piece j)) (joined ks)
+        came_load : reduction.load (combination_of reduction (map meaning qs)) ≡ reduction.load (combination_of reduction (map meaning ps)) + sum_list (λ j. reduction.load (reduction.piece j)) (numbers_of_all ks)
         came_load =
-            let a = ap reduction.load came.1 ∙ laws.load_adds _ _ begin_fits (gathered_fits laws (joined ks)) in
-            let b = onto_load laws reduction.unit laws.unit_fits (joined ks) in
+            let a = ap reduction.load came.1 ∙ laws.load_adds _ _ begin_fits (gathered_fits laws (numbers_of_all ks)) in
+            let b = onto_load laws reduction.unit laws.unit_fits (numbers_of_all ks) in
             let c = laws.unit_load in
             omega (arith, a, b, c)
 
         -- where no piece was taken twice
-        module _ (once : (x : ℕ) → times x (joined ks) ≤ once_below x (pieces_of hs)) where
+        module _ (once : (x : ℕ) → times x (numbers_of_all ks) ≤ once_below x (pieces_of hs)) where
           pub came_room : reduction.load (combination_of reduction (map meaning qs)) < 2 ^ 63
           came_room =
               let a = came_load in
-              let b = sum_list-within (λ j. reduction.load (reduction.piece j)) (pieces_of hs) (joined ks) once in
+              let b = sum_list-within (λ j. reduction.load (reduction.piece j)) (pieces_of hs) (numbers_of_all ks) once in
               let c = ready.loads in
               omega (arith, a, b, c)
 
           pub came_within : reduction.weight (combination_of reduction (map meaning qs)) ≤ reduction.weight (combination_of reduction (map meaning ps)) + sum_below (λ j. reduction.weight (reduction.piece j)) (pieces_of hs)
           came_within =
               let a = came_weight in
-              let b = sum_list-within (λ j. reduction.weight (reduction.piece j)) (pieces_of hs) (joined ks) once in
+              let b = sum_list-within (λ j. reduction.weight (reduction.piece j)) (pieces_of hs) (numbers_of_all ks) once in
               omega (arith, a, b)
 
         -- where each piece was taken
-        pub came_whole : ((x : ℕ) → times x (joined ks) ≡ once_below x (pieces_of hs))
+        pub came_whole : ((x : ℕ) → times x (numbers_of_all ks) ≡ once_below x (pieces_of hs))
             → combination_of reduction (map meaning qs) ≡ reduction.combine (combination_of reduction (map meaning ps)) (reduction_below reduction (pieces_of hs))
-        came_whole each = came.1 ∙ ap (reduction.combine (combination_of reduction (map meaning ps))) (gathered_whole laws (pieces_of hs) (joined ks) each)
+        came_whole each = came.1 ∙ ap (reduction.combine (combination_of reduction (map meaning ps))) (gathered_whole laws (pieces_of hs) (numbers_of_all ks) each)

@@ -11,7 +11,7 @@ use Rattle.pool.specs.declared.view.Task.{Task}
 use Rattle.pool.specs.declared.view.Task.TheVariants.{Number, End}
 use Rattle.pool.specs.Dealing.{State, state, begin, put, take_first, step, times, AllAbove, Ascends}
 use Rattle.pool.specs.Totals.{sum_below}
-use Rattle.pool.specs.Inside.Rule.{after, view_of, blank, tasks, pieces, total, held, Theirs, Seated, Fits, DealtBy, Dealt, Had, given, front, rest, TakenFrom, AllAscend, UpTo, lent_view, giving_view, given_view, Up, Apart}
+use Rattle.pool.specs.Inside.Rule.{after, view_of, blank, tasks, pieces, total, times_in_lists, Theirs, IsSeated, Fits, DealtBy, Dealt, Had, known_with, front, rest, TakenFrom, AllAscend, UpTo, lent_view, giving_view, given_view, Up, Apart}
 
 -- Lists
 
@@ -192,7 +192,7 @@ lone_total f (u ∷ []) zero v n e = let i = ap f (some-injective u v e) in omeg
 lone_total f (u ∷ []) (suc j) v n e = absurd (some-ne-none v (sym e))
 lone_total f (u ∷ w ∷ ws) port v n e = absurd (omega arith)
 
-pub fills : (port : ℕ) (v : View) (x : ℕ) → v.filling ≡ true → v.ends ≡ 0 → v.closed ≡ false → Seated v.known → Pushes Dealt port v (Number x ∷ []) (λ w. w ≡ view_of v.filling v.owner v.ends v.made (v.numbers ++ pieces (Number x ∷ [])) v.known v.closed)
+pub fills : (port : ℕ) (v : View) (x : ℕ) → v.filling ≡ true → v.ends ≡ 0 → v.closed ≡ false → IsSeated v.known → Pushes Dealt port v (Number x ∷ []) (λ w. w ≡ view_of v.filling v.owner v.ends v.made (v.numbers ++ pieces (Number x ∷ [])) v.known v.closed)
 fills port v x may none opened seated items views (numbers, schedule, left, lists, seat, boss, made, ends, facts) at =
     let mine = facts.each port v at in
     let lone = mine.alone may in
@@ -264,8 +264,8 @@ module _ (port : ℕ) (v : View) (hand : ℕ) (list : List ℕ) (is : v.known �
       let mine = facts.each port v at in
       let opened : (u : View) (j : ℕ) → get_elem? views j ≡ some u → u.closed ≡ false = λ u j e. ⊎_elim (λ (c : u.closed ≡ true). let none : x ∷ xs ≡ [] = (facts.each j u e).ended c in cc) (λ (c : u.closed ≡ false). c) (cases_Bool u.closed) in
       let t : Theirs seat lists made port ((hand, list) ∷ []) = subst (Theirs seat lists made port) is mine.theirs in
-      let w : View = view_of v.filling v.owner v.ends v.made v.numbers (given v.known x) v.closed in
-      let now : w.known ≡ (hand, list ++ x ∷ []) ∷ [] = ap (λ k. given k x) is in
+      let w : View = view_of v.filling v.owner v.ends v.made v.numbers (known_with v.known x) v.closed in
+      let now : w.known ≡ (hand, list ++ x ∷ []) ∷ [] = ap (λ k. known_with k x) is in
       let lists' = put lists hand x in
       let schedule' = schedule ++ hand ∷ [] in
       let len : length (set views port w) ≡ length views = length-set views port w in
@@ -290,7 +290,7 @@ module _ (port : ℕ) (v : View) (hand : ℕ) (list : List ℕ) (is : v.known �
             each = subst (λ n. Each (Fits numbers schedule' xs lists' seat boss made n) (set views port w)) (sym len)
                 (each_set F views port w
                 record {
-                  same = λ p. mine.same (subst Seated (sym is) tt);
+                  same = λ p. mine.same (subst IsSeated (sym is) tt);
                   theirs = subst (Theirs seat lists' made port) (sym now) theirs';
                   owns = mine.owns;
                   alone = λ p. absurd (true≢false (sym p ∙ not_filling));
@@ -310,12 +310,12 @@ module _ (port : ℕ) (v : View) (hand : ℕ) (list : List ℕ) (is : v.known �
           refl,
           λ y. (let a = facts.account y in
               let b = sum_put y lists hand x made t.2 in
-              let c : held y w.known ≡ times y (list ++ x ∷ []) + 0 = ap (held y) now in
+              let c : times_in_lists y w.known ≡ times y (list ++ x ∷ []) + 0 = ap (times_in_lists y) now in
               let d = sum_at (λ h. times y (put lists hand x h)) made hand t.2 in
               let e : times y (put lists hand x hand) ≡ times y (list ++ x ∷ []) = ap (times y) theirs'.1 in
-              let f : times y w.numbers ≡ times y numbers = ap (times y) (mine.same (subst Seated (sym is) tt)) in
+              let f : times y w.numbers ≡ times y numbers = ap (times y) (mine.same (subst IsSeated (sym is) tt)) in
               omega arith),
-          λ asc. (let up : Ascends numbers = subst Ascends (mine.same (subst Seated (sym is) tt)) asc in
+          λ asc. (let up : Ascends numbers = subst Ascends (mine.same (subst IsSeated (sym is) tt)) asc in
               let run = run_ascends schedule' (begin numbers) (λ _. up) hand in
               let here : Ascends (lists' hand ++ xs) = subst (λ (s : State). Ascends (s.lists hand ++ s.deque)) (after-snoc schedule hand (begin numbers) ∙ ap (step hand) facts.reached) run in
               let list_up : Ascends (list ++ x ∷ []) = subst Ascends theirs'.1 (ascends_front (lists' hand) xs here) in
@@ -415,7 +415,7 @@ module _ (items : List Task) (views : List View) (numbers schedule left : List �
 pub seals : (port : ℕ) (v : View) → Forks Dealt port v (view_of false v.owner v.ends v.made v.numbers v.known v.closed) blank
 seals port v items views (numbers, schedule, left, lists, seat, boss, made, ends, facts) at = (numbers, schedule, left, lists, seat, boss, made, ends, seals_dealt items views numbers schedule left lists seat boss made ends port v at facts)
 
-pub seats : (port : ℕ) (v : View) → v.owner ≡ true → v.filling ≡ false → Seated v.known → 1 < v.ends
+pub seats : (port : ℕ) (v : View) → v.owner ≡ true → v.filling ≡ false → IsSeated v.known → 1 < v.ends
     → Forks Dealt port v (view_of v.filling v.owner (v.ends - 1) (v.made + 1) v.numbers v.known v.closed) (view_of false false 1 0 v.numbers ((v.made, []) ∷ []) false)
 seats port v owns sealed seated more items views (numbers, schedule, left, lists, seat, boss, made, ends, facts) at =
     let mine = facts.each port v at in
@@ -487,7 +487,7 @@ lends closed port v other w p more is sealed guest shut unshut items views (numb
     let vs : List View = set views port both in
     let was : get_elem? views other ≡ some w = ⊎_elim (λ (x : (other ≡ port) × (both ≡ w)). absurd (two x.0)) (λ (x : (other ≢ port) × (get_elem? views other ≡ some w)). x.1) (at_set views port other both w at') in
     let mine = facts.each port v at in
-    let seated : Seated v.known = subst Seated (sym is) tt in
+    let seated : IsSeated v.known = subst IsSeated (sym is) tt in
     let theirs = facts.each other w was in
     let seat' = moved seat other port in
     let all = set vs other blank in
@@ -559,7 +559,7 @@ gives_back n port v p q more is apart others sealed enough items views (numbers,
     let yes : (q.0 == q.0) ≡ true = eq-eqb q.0 q.0 refl in
     let new : Theirs seat' lists made (length vs) (q ∷ []) = (rw yes (sym count), t.3.1, t.3.2, tt) in
     let stay : Theirs seat' lists made port (p ∷ more) = theirs_sent seat lists made q.0 (length views) port (p ∷ more) (apart, others) (t.0, t.1, t.2, t.3.3) in
-    let seated : Seated v.known = subst Seated (sym is) tt in (
+    let seated : IsSeated v.known = subst IsSeated (sym is) tt in (
       numbers,
       schedule,
       left,
@@ -595,7 +595,7 @@ gives_back n port v p q more is apart others sealed enough items views (numbers,
       },
     )
 
-sum_up : (x : ℕ) (lists : ℕ → List ℕ) (k : ℕ) (ps : List (ℕ × List ℕ)) → Up k ps → Had lists ps → sum_below (λ h. times x (lists h)) (k + length ps) ≡ sum_below (λ h. times x (lists h)) k + held x ps
+sum_up : (x : ℕ) (lists : ℕ → List ℕ) (k : ℕ) (ps : List (ℕ × List ℕ)) → Up k ps → Had lists ps → sum_below (λ h. times x (lists h)) (k + length ps) ≡ sum_below (λ h. times x (lists h)) k + times_in_lists x ps
 sum_up x lists k [] up has = let e : k + 0 ≡ k = omega arith in rw e (omega arith)
 sum_up x lists k (p ∷ ps) up has =
     let e : k + length (p ∷ ps) ≡ suc k + length ps = omega arith in
@@ -604,7 +604,7 @@ sum_up x lists k (p ∷ ps) up has =
     rw e (omega (arith, i, l))
 
 -- the owner of a deque that knows every hand's list: together they have no number more often than it was dealt, and each as often where none is left
-pub learns_within : (port : ℕ) (v : View) → v.owner ≡ true → Seated v.known → Up 0 v.known → v.made ≡ length v.known → Learns Dealt port v (λ items. (x : ℕ) → UpTo (v.closed ≡ true) (held x v.known) (times x v.numbers))
+pub learns_within : (port : ℕ) (v : View) → v.owner ≡ true → IsSeated v.known → Up 0 v.known → v.made ≡ length v.known → Learns Dealt port v (λ items. (x : ℕ) → UpTo (v.closed ≡ true) (times_in_lists x v.known) (times x v.numbers))
 learns_within port v owns seated up count items views (numbers, schedule, left, lists, seat, boss, made, ends, facts) at x =
     let mine = facts.each port v at in
     let a = facts.account x in
@@ -619,12 +619,12 @@ pub up_apart : (q k : ℕ) (ps : List (ℕ × List ℕ)) → q < k → Up k ps �
 up_apart q k [] low up = tt
 up_apart q k (p ∷ ps) low up = ((λ (e : p.0 ≡ q). omega (arith, e, up.0, low)), up_apart q (suc k) ps (omega (arith, low)) up.1)
 
-seated_first : (ks : List (ℕ × List ℕ)) → Seated ks → (p : ℕ × List ℕ) × (more : List (ℕ × List ℕ)) × (ks ≡ p ∷ more)
+seated_first : (ks : List (ℕ × List ℕ)) → IsSeated ks → (p : ℕ × List ℕ) × (more : List (ℕ × List ℕ)) × (ks ≡ p ∷ more)
 seated_first [] s = absurd s
 seated_first (p ∷ ps) s = (p, ps, refl)
 
-pub lends_open : (port : ℕ) (v : View) (other : ℕ) (w : View) → Seated v.known → v.filling ≡ false → w.owner ≡ false → Merges Dealt port v other w (lent_view v.closed v w) blank
+pub lends_open : (port : ℕ) (v : View) (other : ℕ) (w : View) → IsSeated v.known → v.filling ≡ false → w.owner ≡ false → Merges Dealt port v other w (lent_view v.closed v w) blank
 lends_open port v other w s sealed guest = let f = seated_first v.known s in lends v.closed port v other w f.0 f.1 f.2 sealed guest (λ c. inl c) (λ c. c)
 
-pub lends_shut : (port : ℕ) (v : View) (other : ℕ) (w : View) → Seated v.known → v.filling ≡ false → w.owner ≡ false → w.closed ≡ true → Merges Dealt port v other w (lent_view true v w) blank
+pub lends_shut : (port : ℕ) (v : View) (other : ℕ) (w : View) → IsSeated v.known → v.filling ≡ false → w.owner ≡ false → w.closed ≡ true → Merges Dealt port v other w (lent_view true v w) blank
 lends_shut port v other w s sealed guest shut = let f = seated_first v.known s in lends true port v other w f.0 f.1 f.2 sealed guest (λ _. inr shut) (λ c. absurd (true≢false c))

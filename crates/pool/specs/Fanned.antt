@@ -7,7 +7,7 @@ use Rattle.pool.specs.declared.laws.Outcome.TheVariants.{Whole, Over}
 use Rattle.std.specs.Prelude.{◌≡◌, ℕ, ◌+◌, ◌<◌, List}
 use Rattle.std.specs.declared.alloc.Global.{Global}
 use Rattle.pool.specs.Holding.{Holding, numbers_of}
-use Rattle.pool.specs.Settled.{joined, Belongs, AllSpent, HaveEachOnce}
+use Rattle.pool.specs.Settled.{numbers_of_all, Belongs, AllSpent, HaveEachOnce}
 use Rattle.pool.specs.Totals.{sum_list}
 
 -- the second hand has the first one's seat: it is that hand of each deal that the first is of
@@ -35,7 +35,7 @@ Settles Over hs = Unit {0}
 -- after Over, the pieces in the hands' lists weigh more than the limit
 abbrev pub Outweighs : {P : Type 0} → (ℕ → ℕ) → ℕ → Outcome P → List Holding → Type 0
 Outweighs weights limit (Whole p) hs = Unit {0}
-Outweighs weights limit Over hs = limit < sum_list weights (joined hs)
+Outweighs weights limit Over hs = limit < sum_list weights (numbers_of_all hs)
 
 -- after Over, this number is more than the limit
 abbrev pub IsAbove : {P : Type 0} → ℕ → ℕ → Outcome P → Type 0

@@ -5,10 +5,10 @@ ghost use Rattle.pool.specs.Inside.Views.{Looked, IsThief};
 ghost use Rattle.pool.specs.Inside.Hands.{Steals, new_holding};
 ghost use Rattle.pool.specs.Holding.{IsHolding, InOrder};
 ghost use Rattle.pool.specs.Answered.{Answers};
-ghost use Rattle.pool.specs.Inside.Looks.{AccountFor, HoldWhatWasDealt, list_from, Reaches, AllReach, told, KnowsAbove};
-ghost use Rattle.pool.specs.Settled.{AreAll, AllSpent, HaveEachOnce, HaveNoneTwice, HaveThoseGone, IsClosed, joined, pieces_of};
+ghost use Rattle.pool.specs.Inside.Looks.{AccountFor, HoldWhatWasDealt, list_from, Reaches, AllReach, lists_from, KnowsAbove};
+ghost use Rattle.pool.specs.Settled.{AreAll, AllSpent, HaveEachOnce, HaveNoneTwice, HaveThoseGone, IsClosed, numbers_of_all, pieces_of};
 ghost use Rattle.pool.specs.Totals.{once_below};
-ghost use Rattle.pool.specs.Inside.Rule.{held, UpTo, Seated, Apart, lent_view, giving_view, given_view};
+ghost use Rattle.pool.specs.Inside.Rule.{times_in_lists, UpTo, IsSeated, Apart, lent_view, giving_view, given_view};
 ghost use Rattle.pool.specs.Dealing.{times};
 ghost use Rattle.crossbeam_deque.specs.Handles.{worker_deque, worker_flavor, worker_view, view as pass_view, IsPassOf};
 
@@ -224,7 +224,7 @@ impl Hand {
 
 impl LocalQueue {
     /// The owner looks at what all other hands have of the deque, whether or not numbers are left there: with its own list, they hold no number more often than it was dealt, and each as often once no number is left.
-    fn apart(&mut self, before: &mut [Hand], after: &mut [Hand])
+    fn compare_with(&mut self, before: &mut [Hand], after: &mut [Hand])
         requires few { length before.old + length after.old < 64 }
         requires count { self.old.made ≡ length before.old + length after.old + 1 }
         requires after { AllReach self.old.seen.deque self.old.seen.numbers
@@ -254,8 +254,8 @@ impl Hand {
         self.pieces
     }
 
-    /// As `LocalQueue::apart`, at this hand's deque.
-    fn apart(&mut self, before: &mut [Hand], after: &mut [Hand])
+    /// As `LocalQueue::compare_with`, at this hand's deque.
+    fn compare_with(&mut self, before: &mut [Hand], after: &mut [Hand])
         requires few { length before.old + length after.old < 64 }
         requires count { self.old.own.made ≡ length before.old + length after.old + 1 }
         requires after { AllReach self.old.own.seen.deque self.old.own.seen.numbers
@@ -265,38 +265,38 @@ impl Hand {
         ensures same { (self.new ≡ self.old) × (before.new ≡ before.old) × (after.new ≡ after.old) }
         ensures apart { HoldWhatWasDealt self.old.own before.old after.old }
     {
-        self.local.apart(before, after);
+        self.local.compare_with(before, after);
     }
 }
 
 /// No piece of the deque of the hand d is in the lists more than once, and each is in one where that hand knows that none
 /// is left there.
-fn apart_of(hands: &mut [Hand], d: usize)
+fn compare_at(hands: &mut [Hand], d: usize)
     requires deal { AreAll hands.old }
     requires low { d < length hands.old }
     ensures same { hands.new ≡ hands.old }
     ensures apart { (x : ℕ) → x % length hands.old ≡ d
-        → UpTo (IsClosed d hands.old) (times x (joined hands.old))
+        → UpTo (IsClosed d hands.old) (times x (numbers_of_all hands.old))
         (once_below x (pieces_of hands.old)) }
 {
     let (before, rest) = hands.split_at_mut(d);
     let Some((mine, after)) = rest.split_first_mut() else {
         unreachable!();
     };
-    mine.apart(before, after);
+    mine.compare_with(before, after);
 }
 
 /// The hands of a deal have no piece twice, and none that the deal does not have; and they have each piece that was dealt
 /// to a hand that knows that none is left in its deque. It takes no memory.
-pub fn apart(hands: &mut [Hand])
+pub fn compare_all(hands: &mut [Hand])
     requires deal { AreAll hands.old }
     ensures same { hands.new ≡ hands.old }
     ensures apart { (x : ℕ)
-        → UpTo (IsClosed (x % length hands.old) hands.old) (times x (joined hands.old))
+        → UpTo (IsClosed (x % length hands.old) hands.old) (times x (numbers_of_all hands.old))
         (once_below x (pieces_of hands.old)) }
 {
     for d in 0..hands.len() {
-        apart_of(hands, d);
+        compare_at(hands, d);
     }
 }
 
@@ -316,7 +316,7 @@ fn all_spent(hands: &[Hand]) -> bool
 /// whatever it answers, no piece is in two hands. It takes no memory, and leaves the hands as they were. It asks for all hands of one deal, from hand 0 on.
 ///
 /// Example: of a new deal it answers `false`; of one without a piece it answers `true` once each hand was asked.
-pub fn settled(hands: &mut [Hand]) -> bool
+pub fn are_settled(hands: &mut [Hand]) -> bool
     requires deal { AreAll hands.old }
     ensures same { hands.new ≡ hands.old }
     ensures answer { IsTrue result ↔ AllSpent hands.old }
@@ -324,7 +324,7 @@ pub fn settled(hands: &mut [Hand]) -> bool
     ensures once { HaveNoneTwice hands.old }
     ensures gone { HaveThoseGone hands.old }
 {
-    apart(hands);
+    compare_all(hands);
     all_spent(hands)
 }
 
@@ -354,7 +354,7 @@ pub fn first_hand(
 fn take_in(worker: &mut Deque, pass: Pass<Packed, View, Global>, closed: bool)
     requires pass { IsPassOf (worker_deque worker.old) pass × IsThief (pass_view pass) closed }
     requires owner { ((worker_view worker.old).filling ≡ false)
-        × Seated (worker_view worker.old).known }
+        × IsSeated (worker_view worker.old).known }
     ensures deque { (worker_deque worker.new ≡ worker_deque worker.old)
         × (worker_flavor worker.new ≡ worker_flavor worker.old) }
     ensures lent { worker_view worker.new
@@ -406,7 +406,7 @@ impl StealHandle {
             × (worker_flavor worker.new ≡ worker_flavor worker.old) }
         ensures looked { Looked (worker_view worker.old) (worker_view worker.new) }
         ensures within { AccountFor (worker_view worker.old) (λ x. times x self.old.list
-            + (held x (told (place - 1) others.old) + held x (told (length more.old) more.old))) }
+            + (times_in_lists x (lists_from (place - 1) others.old) + times_in_lists x (lists_from (length more.old) more.old))) }
     {
         let closed = self.closed;
         let blank = worker.another::<Seal>();
@@ -432,7 +432,7 @@ fn compare(worker: &mut Deque, hands: &mut [Hand], more: &mut [Hand], place: usi
         × (worker_flavor worker.new ≡ worker_flavor worker.old) }
     ensures looked { Looked (worker_view worker.old) (worker_view worker.new) }
     ensures within { AccountFor (worker_view worker.old)
-        (λ x. held x (told place hands.old) + held x (told (length more.old) more.old)) }
+        (λ x. times_in_lists x (lists_from place hands.old) + times_in_lists x (lists_from (length more.old) more.old)) }
 {
     if let Some((hand, rest)) = hands.split_first_mut() {
         let handle = &mut hand.others[place - 1];

@@ -2,7 +2,7 @@
 ghost use Rattle.std.specs.Prelude.{◌≡◌, ℕ, ◌+◌, ◌-◌, ◌<◌, ◌≤◌, ◌^◌, true, false, [], ◌∷◌, ◌++◌, IfOk, OnOk};
 ghost use Rattle.pool.specs.Dealing.{dealt};
 ghost use Rattle.pool.specs.Seen.{Seen, Owned};
-ghost use Rattle.pool.specs.Inside.Views.{Offer, seated, offered, owned_first};
+ghost use Rattle.pool.specs.Inside.Views.{Offer, next_seat, offer_with, owned_first};
 
 use crate::deal::{Deque, LocalQueue, StealHandle};
 use crate::protocol::{Fill, Mark, Seal, Seat};
@@ -104,8 +104,8 @@ impl Source {
     /// A seat for the next hand in the round.
     pub fn seat(&mut self) -> Result<StealHandle, AllocError>
         requires { self.old.made < self.old.hands }
-        ensures left { IfOk result (λ r. self.new ≡ offered self.old (self.old.made + 1)) }
-        ensures seat { IfOk result (λ r. r ≡ seated self.old) }
+        ensures left { IfOk result (λ r. self.new ≡ offer_with self.old (self.old.made + 1)) }
+        ensures seat { IfOk result (λ r. r ≡ next_seat self.old) }
     {
         let Ok(thief) = self.worker.stealer() else {
             return Err(AllocError);

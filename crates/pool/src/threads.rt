@@ -6,7 +6,7 @@ ghost use Rattle.pool.specs.Inside.Totals.{combination_of};
 ghost use Rattle.pool.specs.Outcomes.{DecidesBelow, DecidesOf, DecidesOnto};
 ghost use Rattle.pool.specs.Dealing.{times};
 ghost use Rattle.pool.specs.Inside.Rule.{UpTo};
-ghost use Rattle.pool.specs.Settled.{AreAll, AllSpent, HaveNoneTwice, joined, pieces_of};
+ghost use Rattle.pool.specs.Settled.{AreAll, AllSpent, HaveNoneTwice, numbers_of_all, pieces_of};
 ghost use Rattle.pool.specs.Inside.Fanned.{AreReady, HaveBegunAndResumed, HaveResumed, IsLonger, MayResumeAll, NeedNoThread};
 ghost use Rattle.pool.specs.Fanned.{CameBack, Settles, Outweighs, IsAbove, Reported};
 ghost use Rattle.pool.specs.Assembly.{IsNewDeal};
@@ -14,7 +14,7 @@ ghost use mathlib.Core.Option.{some};
 ghost use lib.ListN.{get_elem?};
 
 use crate::book::{Book, Share};
-use crate::deal::{Hand, apart};
+use crate::deal::{Hand, compare_all};
 use crate::dealing::Deal;
 use crate::growing::put_last;
 use crate::laws::{Outcome, PoolFault, Work};
@@ -122,7 +122,7 @@ fn spread<'s, E, W: Work + Sync, L: Ledger + Send + Sync, R: Threads + Wait + Sy
 }
 
 /// As `spread`, with a scope of its own.
-fn gather<W: Work + Sync, L: Ledger + Send + Sync, R: Threads + Wait + Sync>(
+fn spread_in_scope<W: Work + Sync, L: Ledger + Send + Sync, R: Threads + Wait + Sync>(
     crew: &Crew<'_, W, L, R>,
     ready: Gathered<W::Part, L>,
 ) -> Result<Gathered<W::Part, L>, PoolFault>
@@ -243,13 +243,13 @@ fn keep_apart(hands: &mut Vec<Hand>)
     requires { AreAll hands.old.items }
     ensures same { hands.new.items ≡ hands.old.items }
     ensures apart { (x : ℕ)
-        → UpTo (AllSpent hands.old.items) (times x (joined hands.old.items))
+        → UpTo (AllSpent hands.old.items) (times x (numbers_of_all hands.old.items))
         (once_below x (pieces_of hands.old.items)) }
 {
-    apart(hands.as_mut_slice());
+    compare_all(hands.as_mut_slice());
 }
 
-/// The hands of a new deal work, each on a thread of its own, as `gather` says. Where the parts do not weigh more than
+/// The hands of a new deal work, each on a thread of its own, as `spread` says. Where the parts do not weigh more than
 /// `limit` then, each goes on until it is spent, on the calling thread.
 fn work_through<W: Work + Sync, L: Ledger + Send + Sync, R: Threads + Wait + Sync>(
     crew: Crew<'_, W, L, R>,
@@ -268,7 +268,7 @@ fn work_through<W: Work + Sync, L: Ledger + Send + Sync, R: Threads + Wait + Syn
     ensures alone { NeedNoThread ready.hands.items → IfErr result (λ e. e ≡ PoolFault.OutOfMemory) }
 {
     let mut crew = crew;
-    let mut gathered = gather(&crew, ready)?;
+    let mut gathered = spread_in_scope(&crew, ready)?;
     keep_apart(&mut gathered.hands);
     if weigh(crew.work, &gathered.parts) > limit {
         return Ok(gathered);
@@ -323,7 +323,7 @@ fn fan_ready<W: Work + Sync, L: Ledger + Send + Sync, R: Threads + Wait + Sync>(
     ensures settled { IfOk result (λ r. Settles r.0 r.1.items) }
     ensures over { IfOk result (λ r. IsAbove (weight_with (W.reduction crew.entry.work.now)
         (combination_of (W.reduction crew.entry.work.now) (map W.meaning ready.parts.items))
-        (joined r.1.items)) limit r.0) }
+        (numbers_of_all r.1.items)) limit r.0) }
     ensures alone { (vec_len ready.hands ≡ 1) ⊎ (pieces_of ready.hands.items ≡ 0)
         → IfErr result (λ e. e ≡ PoolFault.OutOfMemory) }
 {
@@ -364,7 +364,7 @@ fn fan_onto<W: Work + Sync, L: Ledger + Send + Sync, R: Threads + Wait + Sync>(
     ensures once { IfOk result (λ r. HaveNoneTwice r.1.items) }
     ensures settled { IfOk result (λ r. Settles r.0 r.1.items) }
     ensures over { IfOk result (λ r.
-        IsAbove (weight_with (W.reduction work.now) (W.meaning part) (joined r.1.items))
+        IsAbove (weight_with (W.reduction work.now) (W.meaning part) (numbers_of_all r.1.items))
         limit r.0) }
     ensures alone { (vec_len hands ≡ 1) ⊎ (pieces_of hands.items ≡ 0)
         → IfErr result (λ e. e ≡ PoolFault.OutOfMemory) }
@@ -482,7 +482,7 @@ pub fn fan_deal_onto<W: Work + Sync, L: Ledger + Send + Sync, R: Threads + Wait 
     ensures once { IfOk result (λ r. HaveNoneTwice r.1.items) }
     ensures settled { IfOk result (λ r. Settles r.0 r.1.items) }
     ensures over { IfOk result (λ r.
-        IsAbove (weight_with (W.reduction work.now) (W.meaning part) (joined r.1.items))
+        IsAbove (weight_with (W.reduction work.now) (W.meaning part) (numbers_of_all r.1.items))
         limit r.0) }
     ensures alone { (vec_len shares ≡ 1) ⊎ (pieces ≡ 0)
         → IfErr result (λ e. e ≡ PoolFault.OutOfMemory) }

@@ -6,7 +6,7 @@ use Rattle.std.specs.declared.alloc.Global.{Global}
 use Rattle.pool.specs.declared.view.View.{View}
 use Rattle.pool.specs.Holding.{Holding}
 use Rattle.pool.specs.Dealing.{times}
-use Rattle.pool.specs.Inside.Rule.{Up, UpTo, held}
+use Rattle.pool.specs.Inside.Rule.{Up, UpTo, times_in_lists}
 use Rattle.pool.specs.Seen.{Seen, Owned}
 
 -- the list, where there is one
@@ -28,9 +28,9 @@ AllReach deque numbers r [] = Unit {0}
 AllReach deque numbers r (h ∷ hs) = Reaches deque numbers r h × AllReach deque numbers (r - 1) hs
 
 -- these hands with what they have of the deque, the first at this place and the others at the places below
-abbrev pub told : ℕ → List Holding → List (ℕ × List ℕ)
-told r [] = []
-told r (h ∷ hs) = (r, list_from r h) ∷ told (r - 1) hs
+abbrev pub lists_from : ℕ → List Holding → List (ℕ × List ℕ)
+lists_from r [] = []
+lists_from r (h ∷ hs) = (r, list_from r h) ∷ lists_from (r - 1) hs
 
 -- the owner knows its own list, and those of all hands above this place
 abbrev pub KnowsAbove : ℕ → View → Type 0
@@ -38,9 +38,9 @@ KnowsAbove r v = (v.filling ≡ false) × (v.owner ≡ true) × ((list : List �
 
 -- what this view knows and these lists hold no number more often than it was dealt, and each as often where the view knows that no number is left
 abbrev pub AccountFor : View → (ℕ → ℕ) → Type 0
-AccountFor v others = (x : ℕ) → UpTo (v.closed ≡ true) (held x v.known + others x) (times x v.numbers)
+AccountFor v others = (x : ℕ) → UpTo (v.closed ≡ true) (times_in_lists x v.known + others x) (times x v.numbers)
 
 -- the owner's list, and what the hands before and after it in the deal have of its deque, hold no number more often than it was dealt, and each as often where the owner knows that no number is left
 abbrev pub HoldWhatWasDealt : Owned → List Holding → List Holding → Type 0
 HoldWhatWasDealt own before after =
-    (x : ℕ) → UpTo (own.closed ≡ true) (times x own.seen.list + (held x (told (length before + length after) after) + held x (told (length before) before))) (times x own.seen.numbers)
+    (x : ℕ) → UpTo (own.closed ≡ true) (times x own.seen.list + (times_in_lists x (lists_from (length before + length after) after) + times_in_lists x (lists_from (length before) before))) (times x own.seen.numbers)

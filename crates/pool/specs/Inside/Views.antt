@@ -43,12 +43,12 @@ abbrev pub offer_of : (ℕ × ℕ) × Global → View → ℕ → Offer
 offer_of deque v hands = record { deque = deque; numbers = v.numbers; made = v.made; hands = hands }
 
 -- the next seat
-abbrev pub seated : Offer → Seen
-seated o = record { deque = o.deque; numbers = o.numbers; place = o.made; list = [] }
+abbrev pub next_seat : Offer → Seen
+next_seat o = record { deque = o.deque; numbers = o.numbers; place = o.made; list = [] }
 
 -- with so many seats given
-abbrev pub offered : Offer → ℕ → Offer
-offered o made = record { deque = o.deque; numbers = o.numbers; made = made; hands = o.hands }
+abbrev pub offer_with : Offer → ℕ → Offer
+offer_with o made = record { deque = o.deque; numbers = o.numbers; made = made; hands = o.hands }
 
 -- what the owner has of it, once all seats are given
 abbrev pub owned_first : Offer → Owned

@@ -10,9 +10,9 @@ use lib.ListN.{get_elem?}
 use Rattle.crossbeam_deque.proofs.Lists.{at_index}
 use Rattle.crossbeam_deque.specs.Handles.{worker_deque}
 use Rattle.pool.specs.Dealing.{times}
-use Rattle.pool.specs.Inside.Rule.{held, UpTo, Seated, Up}
+use Rattle.pool.specs.Inside.Rule.{times_in_lists, UpTo, IsSeated, Up}
 use Rattle.pool.specs.Holding.{Holding}
-use Rattle.pool.specs.Inside.Looks.{AllReach, told, list_in}
+use Rattle.pool.specs.Inside.Looks.{AllReach, lists_from, list_in}
 use Rattle.pool.proofs.Rounds.{at_less}
 use Rattle.pool.proofs.Rules.{seals, learns_within}
 use Rattle.pool.proofs.Looks.{second, knows_two, within_four}
@@ -68,8 +68,8 @@ StealHandle::lend-returns-clause-within t c =
     let v2 = worker_view c.take_in.new.worker in
     let at = ap (λ (s : Seen). s.place) c.self.view_is ∙ c.requires.place.0 in
     let lent = c.take_in.ensures.lent ∙ ap (λ (u : View). lent_view v2.closed v1 u) (ap view_in c.replace-pass.ensures.value) in
-    let rest : ℕ → ℕ = λ x. held x (told (c.args.place - 1) c.args.others.now) + held x (told (length c.args.more.now) c.args.more.now) in
-    subst (λ (s : Seen). (x : ℕ) → UpTo (v0.closed ≡ true) (held x v0.known + (times x s.list + rest x)) (times x v0.numbers)) c.self.view_is
+    let rest : ℕ → ℕ = λ x. times_in_lists x (lists_from (c.args.place - 1) c.args.others.now) + times_in_lists x (lists_from (length c.args.more.now) c.args.more.now) in
+    subst (λ (s : Seen). (x : ℕ) → UpTo (v0.closed ≡ true) (times_in_lists x v0.known + (times x s.list + rest x)) (times x v0.numbers)) c.self.view_is
     (λ x. within_four c.args.place v0 v1 v2 w c.requires.place.1 c.requires.owner c.another-blank.ensures.rule.0 c.self.invariant.2 at lent c.take_in.ensures.closed x (rest x) (c.compare.ensures.within x))
 
 pub compare-index_mut-handle-requires : goal.compare-index_mut-handle-requires
@@ -119,7 +119,7 @@ compare-returns-in-Some-clause-within t c = λ x.
     let below : c.args.place - 1 < length c.hand.inside.others.items = at_less c.hand.inside.others.items (c.args.place - 1) s there in
     let is : c.index_mut-handle.result.now ≡ s = some-injective c.index_mut-handle.result.now s (sym (at_index c.hand.inside.others.items (c.args.place - 1) c.index_mut-handle.result.now below c.index_mut-handle.ensures.value) ∙ there) in
     let a = c.lend.ensures.within x in
-    let b = ap (λ l. held x (told c.args.place l)) cases in
+    let b = ap (λ l. times_in_lists x (lists_from c.args.place l)) cases in
     let e = ap (λ (u : Seen). times x u.list) is in
     let f = ap (λ o. times x (list_in o)) all.0.1.1 in
     let l = a.0 in
@@ -134,4 +134,4 @@ compare-len_as-requires t c =
     let one : c.args.place + 1 ≡ suc 0 = omega (arith, p, h, m) in
     let count = ap (λ (l : List (ℕ × List ℕ)). length l) ka.2.2 in
     let made = ka.2.4 in
-    learns_within _ (worker_view c.args.worker.now) ka.1 (subst Seated (sym ka.2.2) tt) (subst (Up 0) (sym ka.2.2) (refl, subst (λ k. Up k ka.2.1) one ka.2.3)) (omega (arith, count, made, one))
+    learns_within _ (worker_view c.args.worker.now) ka.1 (subst IsSeated (sym ka.2.2) tt) (subst (Up 0) (sym ka.2.2) (refl, subst (λ k. Up k ka.2.1) one ka.2.3)) (omega (arith, count, made, one))

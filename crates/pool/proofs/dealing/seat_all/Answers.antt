@@ -2,7 +2,7 @@ use Rattle.std.proofs.Common.{◌≡◌, ◌∙◌, ◌%◌, ◌<◌, ◌+◌, �
 use Rattle.std.proofs.lemmas.Nat.{mod_below}
 use Rattle.crossbeam_deque.proofs.Lists.{at_index}
 use Rattle.pool.specs.Seen.{Seen}
-use Rattle.pool.specs.Inside.Views.{Offer, seated, offered}
+use Rattle.pool.specs.Inside.Views.{Offer, next_seat, offer_with}
 use Rattle.pool.specs.Inside.Assembly.{Seating}
 use Rattle.pool.proofs.Assemblies.{seated_more, next_place}
 use Rattle.pool.proofs.dealing.seat_all.Goals as goal
@@ -41,12 +41,12 @@ loop-e-preserved c =
     let few : (c.loop-e.e + c.len-hands.result - c.args.r) % c.len-hands.result < length c.loop-e.rounds.items = omega (arith, okr, inv.1, b, is) in
     let at_deque = at_index c.loop-e.sources.items e o low c.index_mut-source.ensures.value in
     let at_round = at_index c.loop-e.rounds.items t ss few c.index_mut-round.ensures.value in
-    let pushed : c.push.new.self ≡ ss ++ seated o ∷ [] = c.in_ok-push.ensures ∙ ap (λ (s : Seen). ss ++ s ∷ []) c.in_ok-seat.ensures.seat in (
+    let pushed : c.push.new.self ≡ ss ++ next_seat o ∷ [] = c.in_ok-push.ensures ∙ ap (λ (s : Seen). ss ++ s ∷ []) c.in_ok-seat.ensures.seat in (
       inv.0,
       inv.1,
       λ pieces names s0.
           subst (λ (q : Offer). Seating names hands pieces r (e + 1) (set c.loop-e.sources.items e q) (set c.loop-e.rounds.items t c.push.new.self)) (sym c.in_ok-seat.ensures.left)
-          (subst (λ q. Seating names hands pieces r (e + 1) (set c.loop-e.sources.items e (offered o (o.made + 1))) (set c.loop-e.rounds.items t q)) (sym pushed)
+          (subst (λ q. Seating names hands pieces r (e + 1) (set c.loop-e.sources.items e (offer_with o (o.made + 1))) (set c.loop-e.rounds.items t q)) (sym pushed)
           (seated_more names hands pieces r e t c.loop-e.sources.items c.loop-e.rounds.items o ss c.requires.place.0 c.requires.place.1 below is at_deque at_round (inv.2 pieces names s0))),
     )
 

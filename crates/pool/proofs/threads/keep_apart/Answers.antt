@@ -3,19 +3,19 @@ use Rattle.std.proofs.lemmas.List.{with_items_is}
 use Rattle.pool.specs.Dealing.{times}
 use Rattle.pool.specs.Inside.Rule.{UpTo}
 use Rattle.pool.specs.Totals.{once_below}
-use Rattle.pool.specs.Settled.{AreAll, AllSpent, joined, pieces_of}
+use Rattle.pool.specs.Settled.{AreAll, AllSpent, numbers_of_all, pieces_of}
 use Rattle.pool.proofs.Deals.{apart_spent}
 use Rattle.pool.proofs.threads.keep_apart.Goals as goal
 
-pub apart-requires : goal.apart-requires
-apart-requires c = record { deal = subst AreAll (sym c.as_mut_slice.ensures.value) c.requires }
+pub compare_all-requires : goal.compare_all-requires
+compare_all-requires c = record { deal = subst AreAll (sym c.as_mut_slice.ensures.value) c.requires }
 
 pub returns-clause-same : goal.returns-clause-same
 returns-clause-same c =
-    let e = c.apart.ensures.same ∙ c.as_mut_slice.ensures.value in
+    let e = c.compare_all.ensures.same ∙ c.as_mut_slice.ensures.value in
     let n = ap length e in
     let ok = c.args.hands.now.ok in
-    with_items_is c.args.hands.now c.apart.new.hands (omega (arith, n, ok)) ∙ e
+    with_items_is c.args.hands.now c.compare_all.new.hands (omega (arith, n, ok)) ∙ e
 
 pub returns-clause-apart : goal.returns-clause-apart
-returns-clause-apart c = subst (λ l. (x : ℕ) → UpTo (AllSpent l) (times x (joined l)) (once_below x (pieces_of l))) c.as_mut_slice.ensures.value (apart_spent _ (subst AreAll (sym c.as_mut_slice.ensures.value) c.requires) c.apart.ensures.apart)
+returns-clause-apart c = subst (λ l. (x : ℕ) → UpTo (AllSpent l) (times x (numbers_of_all l)) (once_below x (pieces_of l))) c.as_mut_slice.ensures.value (apart_spent _ (subst AreAll (sym c.as_mut_slice.ensures.value) c.requires) c.compare_all.ensures.apart)

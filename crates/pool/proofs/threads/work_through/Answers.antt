@@ -5,8 +5,8 @@ use Rattle.pool.proofs.Parts.{came_fit, ready_begins, ready_under_way}
 use Rattle.pool.proofs.Fanning.{fanned_deal, fanned_room, fanned_twice, fanned_under_way}
 use Rattle.pool.proofs.threads.work_through.Goals as goal
 
-pub gather-requires-clause-under_way : goal.gather-requires-clause-under_way
-gather-requires-clause-under_way g c κs within = ((beginning_at (g.W.Work.reduction c.args.crew.work.now) (map g.W.Work.meaning c.args.ready.parts.items)), ready_begins ((g.met.W.Work g.world.𝓛 g.world.𝓜 g.world.𝓡 ((λ s x. x), (λ x. x), (λ x. x), λ x. x)).lawful c.args.crew.work.now) (λ s. s.sum) g.W.Work.meaning c.args.ready.hands.items c.args.ready.shares.items c.args.ready.parts.items c.requires.ready, ready_under_way ((g.met.W.Work g.world.𝓛 g.world.𝓜 g.world.𝓡 ((λ s x. x), (λ x. x), (λ x. x), λ x. x)).lawful c.args.crew.work.now) (λ s. s.sum) g.W.Work.meaning c.args.ready.hands.items c.args.ready.shares.items c.args.ready.parts.items c.requires.ready)
+pub spread_in_scope-requires-clause-under_way : goal.spread_in_scope-requires-clause-under_way
+spread_in_scope-requires-clause-under_way g c κs within = ((beginning_at (g.W.Work.reduction c.args.crew.work.now) (map g.W.Work.meaning c.args.ready.parts.items)), ready_begins ((g.met.W.Work g.world.𝓛 g.world.𝓜 g.world.𝓡 ((λ s x. x), (λ x. x), (λ x. x), λ x. x)).lawful c.args.crew.work.now) (λ s. s.sum) g.W.Work.meaning c.args.ready.hands.items c.args.ready.shares.items c.args.ready.parts.items c.requires.ready, ready_under_way ((g.met.W.Work g.world.𝓛 g.world.𝓜 g.world.𝓡 ((λ s x. x), (λ x. x), (λ x. x), λ x. x)).lawful c.args.crew.work.now) (λ s. s.sum) g.W.Work.meaning c.args.ready.hands.items c.args.ready.shares.items c.args.ready.parts.items c.requires.ready)
 
 pub keep_apart-requires : goal.keep_apart-requires
 keep_apart-requires g c =

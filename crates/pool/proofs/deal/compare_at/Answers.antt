@@ -1,23 +1,23 @@
 use Rattle.std.proofs.Common.{◌∙◌, ◌++◌, ap}
 use Rattle.pool.proofs.Deals.{mine_made, before_reach, after_reach, apart_account}
-use Rattle.pool.proofs.deal.apart_of.Goals as goal
+use Rattle.pool.proofs.deal.compare_at.Goals as goal
 
-pub apart-requires-clause-count : goal.apart-requires-clause-count
-apart-requires-clause-count c =
+pub compare_with-requires-clause-count : goal.compare_with-requires-clause-count
+compare_with-requires-clause-count c =
     let is = c.split_at_mut-before.ensures.value ∙ ap (λ l. c.split_at_mut-before.result.0.now ++ l) c.in-Some.ensures.cases.0 in
     mine_made c.args.hands.now c.split_at_mut-before.result.0.now c.in-Some.after.now c.in-Some.mine.now c.args.d c.requires.deal is c.split_at_mut-before.ensures.front_len
 
-pub apart-requires-clause-after : goal.apart-requires-clause-after
-apart-requires-clause-after c =
+pub compare_with-requires-clause-after : goal.compare_with-requires-clause-after
+compare_with-requires-clause-after c =
     let is = c.split_at_mut-before.ensures.value ∙ ap (λ l. c.split_at_mut-before.result.0.now ++ l) c.in-Some.ensures.cases.0 in
     after_reach c.args.hands.now c.split_at_mut-before.result.0.now c.in-Some.after.now c.in-Some.mine.now c.args.d c.requires.deal is c.split_at_mut-before.ensures.front_len
 
-pub apart-requires-clause-before : goal.apart-requires-clause-before
-apart-requires-clause-before c =
+pub compare_with-requires-clause-before : goal.compare_with-requires-clause-before
+compare_with-requires-clause-before c =
     let is = c.split_at_mut-before.ensures.value ∙ ap (λ l. c.split_at_mut-before.result.0.now ++ l) c.in-Some.ensures.cases.0 in
     before_reach c.args.hands.now c.split_at_mut-before.result.0.now c.in-Some.after.now c.in-Some.mine.now c.args.d c.requires.deal is c.split_at_mut-before.ensures.front_len
 
 pub returns-clause-apart : goal.returns-clause-apart
 returns-clause-apart c =
     let is = c.split_at_mut-before.ensures.value ∙ ap (λ l. c.split_at_mut-before.result.0.now ++ l) c.in-Some.ensures.cases.0 in
-    apart_account c.args.hands.now c.split_at_mut-before.result.0.now c.in-Some.after.now c.in-Some.mine.now c.args.d c.requires.deal is c.split_at_mut-before.ensures.front_len c.apart.ensures.apart
+    apart_account c.args.hands.now c.split_at_mut-before.result.0.now c.in-Some.after.now c.in-Some.mine.now c.args.d c.requires.deal is c.split_at_mut-before.ensures.front_len c.compare_with.ensures.apart
