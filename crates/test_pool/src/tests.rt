@@ -4,8 +4,8 @@ ghost use Rattle.pool.specs.Reduction.{load_below};
 ghost use Rattle.pool.specs.Settled.{AreAll};
 
 use pool::{
-    Book, Deal, Hand, Next, Outcome, PoolFault, Share, Work, alone, fan_deal_onto, fan_on, fan_out,
-    are_settled,
+    Book, Deal, Hand, Next, Outcome, PoolFault, Share, Work, alone, are_settled, fan_deal_onto,
+    fan_on, fan_out,
 };
 use std::alloc::{AllocError, Global};
 use std::marker::{Brand, Send, Sync};
@@ -260,7 +260,11 @@ fn on_deal<L: Ledger + Send + Sync, W: Work + Sync, R: Threads + Wait + Sync>(
         stop,
         shares,
     )?;
-    Ok((outcome, are_settled(hands.as_mut_slice()), book.close(shares)))
+    Ok((
+        outcome,
+        are_settled(hands.as_mut_slice()),
+        book.close(shares),
+    ))
 }
 
 /// Whether four pieces, which together weigh this much, are decided rightly.

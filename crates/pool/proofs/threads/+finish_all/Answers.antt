@@ -16,10 +16,10 @@ returns-in-Ok-clause-did g t c =
     let place = length c.last_done.new.gathered.hands.items in
     if_both c.with_done.result c.go_on.result c.with_done.ensures.more c.go_on.ensures.did
     (λ all d is went. λ begin fits under_way.
-        let others = c.in-Ok.ensures.did begin fits (under_way_front begin (g.W.Work.reduction c.args.crew.now.work.now) (λ s. s.sum) g.W.Work.meaning c.args.gathered.hands.items c.last_done.new.gathered.hands.items c.in-Some.done.hand c.args.gathered.shares.items c.last_done.new.gathered.shares.items c.in-Some.done.share c.args.gathered.parts.items c.last_done.new.gathered.parts.items c.in-Some.done.part c.in-Some.ensures.hands c.in-Some.ensures.shares c.in-Some.ensures.parts under_way) in
-        let did = went (begin place) (fits place) (under_way_last begin (g.W.Work.reduction c.args.crew.now.work.now) (λ s. s.sum) g.W.Work.meaning c.args.gathered.hands.items c.last_done.new.gathered.hands.items c.in-Some.done.hand c.args.gathered.shares.items c.last_done.new.gathered.shares.items c.in-Some.done.share c.args.gathered.parts.items c.last_done.new.gathered.parts.items c.in-Some.done.part c.in-Some.ensures.hands c.in-Some.ensures.shares c.in-Some.ensures.parts under_way) in
-        rw (c.in-Some.ensures.hands, c.in-Some.ensures.shares, is.0, is.1, is.2)
-        (did_more (g.W.Work.reduction c.args.crew.now.work.now) (λ s. s.sum) g.W.Work.meaning begin c.last_done.new.gathered.hands.items c.last_done.new.gathered.shares.items c.in-Ok.others.hands.items c.in-Ok.others.shares.items c.in-Ok.others.parts.items c.in-Some.done.hand c.in-Some.done.share d.hand d.share d.part others did))
+    let others = c.in-Ok.ensures.did begin fits (under_way_front begin (g.W.Work.reduction c.args.crew.now.work.now) (λ s. s.sum) g.W.Work.meaning c.args.gathered.hands.items c.last_done.new.gathered.hands.items c.in-Some.done.hand c.args.gathered.shares.items c.last_done.new.gathered.shares.items c.in-Some.done.share c.args.gathered.parts.items c.last_done.new.gathered.parts.items c.in-Some.done.part c.in-Some.ensures.hands c.in-Some.ensures.shares c.in-Some.ensures.parts under_way) in
+    let did = went (begin place) (fits place) (under_way_last begin (g.W.Work.reduction c.args.crew.now.work.now) (λ s. s.sum) g.W.Work.meaning c.args.gathered.hands.items c.last_done.new.gathered.hands.items c.in-Some.done.hand c.args.gathered.shares.items c.last_done.new.gathered.shares.items c.in-Some.done.share c.args.gathered.parts.items c.last_done.new.gathered.parts.items c.in-Some.done.part c.in-Some.ensures.hands c.in-Some.ensures.shares c.in-Some.ensures.parts under_way) in
+    rw (c.in-Some.ensures.hands, c.in-Some.ensures.shares, is.0, is.1, is.2)
+    (did_more (g.W.Work.reduction c.args.crew.now.work.now) (λ s. s.sum) g.W.Work.meaning begin c.last_done.new.gathered.hands.items c.last_done.new.gathered.shares.items c.in-Ok.others.hands.items c.in-Ok.others.shares.items c.in-Ok.others.parts.items c.in-Some.done.hand c.in-Some.done.share d.hand d.share d.part others did))
 
 pub returns-in-Ok-clause-spent : goal.returns-in-Ok-clause-spent
 returns-in-Ok-clause-spent g t c =
