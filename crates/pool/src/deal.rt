@@ -189,7 +189,7 @@ fn steal(others: &mut Vec<StealHandle>) -> Option<u32>
 }
 
 /// The first of its own deque, unless it was found to have none before.
-fn own_first(own: &mut LocalQueue) -> Option<u32>
+fn take_own(own: &mut LocalQueue) -> Option<u32>
     ensures none { IfNone result (own.new ≡ now_closed own.old) }
     ensures some { IfSome result (λ x. (s : Seen) × Took own.old.seen x s
         × (own.new ≡ with_seen own.old s) × (own.old.closed ≡ false)) }
@@ -211,7 +211,7 @@ impl Hand {
         ensures order { InOrder self.new }
         ensures memory { result ≢ Next.Memory }
     {
-        if let Some(x) = own_first(&mut self.local) {
+        if let Some(x) = take_own(&mut self.local) {
             return Next::Piece(x);
         }
         if let Some(x) = steal(&mut self.others) {
@@ -301,7 +301,7 @@ pub fn compare_all(hands: &mut [Hand])
 }
 
 /// Whether each of these has answered Spent.
-fn all_spent(hands: &[Hand]) -> bool
+fn are_all_spent(hands: &[Hand]) -> bool
     ensures { IsTrue result ↔ AllSpent hands.now }
 {
     for i in 0..hands.len() {
@@ -325,7 +325,7 @@ pub fn are_settled(hands: &mut [Hand]) -> bool
     ensures gone { HaveThoseGone hands.old }
 {
     compare_all(hands);
-    all_spent(hands)
+    are_all_spent(hands)
 }
 
 /// A hand that has taken nothing.

@@ -149,7 +149,7 @@ fn seat_everyone(sources: &mut Vec<Source>, rounds: &mut Vec<Round>) -> Result<(
 }
 
 /// The hands, once each has its seat at each deque.
-fn made_hands(
+fn make_hands(
     alloc: Global,
     pieces: u32,
     sources: Vec<Source>,
@@ -209,7 +209,7 @@ impl Deal {
         let mut sources = seal_all(alloc, deques, hands)?;
         let mut rounds = empty_rounds(alloc, hands)?;
         seat_everyone(&mut sources, &mut rounds)?;
-        let hands = made_hands(alloc, pieces, sources, rounds)?;
+        let hands = make_hands(alloc, pieces, sources, rounds)?;
         Ok(Deal { hands })
     }
 

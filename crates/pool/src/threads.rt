@@ -35,7 +35,7 @@ pub struct Gathered<P, L: Ledger> {
 }
 
 /// What the last worker has, which is taken from it.
-fn last_done<P, L: Ledger>(gathered: &mut Gathered<P, L>) -> Option<Done<P, L>>
+fn pop_done<P, L: Ledger>(gathered: &mut Gathered<P, L>) -> Option<Done<P, L>>
     requires count { (length gathered.old.hands.items ≡ length gathered.old.shares.items)
         × (length gathered.old.hands.items ≡ length gathered.old.parts.items) }
     ensures none { IfNone result ((gathered.old.hands.items ≡ []) × (gathered.old.shares.items ≡ [])
@@ -62,7 +62,7 @@ fn last_done<P, L: Ledger>(gathered: &mut Gathered<P, L>) -> Option<Done<P, L>>
 }
 
 /// What one more worker gave back, behind what the others did.
-fn put_done<P: Drop, L: Ledger>(
+fn push_done<P: Drop, L: Ledger>(
     all: &mut Gathered<P, L>,
     done: Done<P, L>,
 ) -> Result<(), AllocError>
@@ -77,7 +77,7 @@ fn put_done<P: Drop, L: Ledger>(
 }
 
 /// What the others gave back and one more worker's, unless one of them met a fault: that of the others comes first.
-fn with_done<P: Drop, L: Ledger>(
+fn add_done<P: Drop, L: Ledger>(
     others: Result<Gathered<P, L>, PoolFault>,
     done: Result<Done<P, L>, AllocError>,
 ) -> Result<Gathered<P, L>, PoolFault>
@@ -88,7 +88,7 @@ fn with_done<P: Drop, L: Ledger>(
         MatchResult others (λ _. e ≡ PoolFault.OutOfMemory) (λ f. e ≡ f)) }
 {
     let mut all = others?;
-    put_done(&mut all, done?)?;
+    push_done(&mut all, done?)?;
     Ok(all)
 }
 
@@ -107,18 +107,18 @@ fn spread<'s, E, W: Work + Sync, L: Ledger + Send + Sync, R: Threads + Wait + Sy
     ensures alone { NeedNoThread ready.hands.items → IfErr result (λ e. e ≡ PoolFault.OutOfMemory) }
 {
     let mut ready = ready;
-    let Some(done) = last_done(&mut ready) else {
+    let Some(done) = pop_done(&mut ready) else {
         return Ok(ready);
     };
     if ready.hands.is_empty() || done.hand.pieces() == 0 {
         let others = spread(scope, crew, ready);
-        return with_done(others, go_on(crew, done));
+        return add_done(others, go_on(crew, done));
     }
     let Some(handle) = start(scope, crew, done) else {
         return Err(PoolFault::ThreadNotStarted);
     };
     let others = spread(scope, crew, ready);
-    with_done(others, handle.join(crew.rt))
+    add_done(others, handle.join(crew.rt))
 }
 
 /// As `spread`, with a scope of its own.
@@ -178,11 +178,11 @@ fn finish_all<W: Work, L: Ledger, R: Wait>(
     ensures fault { IfErr result (λ e. e ≡ PoolFault.OutOfMemory) }
 {
     let mut gathered = gathered;
-    let Some(done) = last_done(&mut gathered) else {
+    let Some(done) = pop_done(&mut gathered) else {
         return Ok(gathered);
     };
     match finish_all(crew, gathered) {
-        Ok(others) => with_done(Ok(others), go_on(crew, done)),
+        Ok(others) => add_done(Ok(others), go_on(crew, done)),
         Err(fault) => Err(fault),
     }
 }

@@ -52,7 +52,7 @@ impl<'a, W: Work, L: Ledger> Promise<Result<Done<W::Part, L>, AllocError>>
 }
 
 /// Does one piece: the part has one more, and the share's sum its weight more. Also answers the book's number after it.
-fn one_more<W: Work, L: Ledger, R: Wait>(
+fn add_piece<W: Work, L: Ledger, R: Wait>(
     crew: &Crew<'_, W, L, R>,
     share: &mut Share<L>,
     part: W::Part,
@@ -92,7 +92,7 @@ fn take_pieces<W: Work, L: Ledger, R: Wait>(
     for _ in crew.rt.forever() {
         match hand.next() {
             Next::Piece(i) => {
-                let (more, number) = one_more(crew, share, part, i)?;
+                let (more, number) = add_piece(crew, share, part, i)?;
                 if number > crew.stop {
                     return Ok(more);
                 }

@@ -7,7 +7,7 @@ use Rattle.pool.specs.Settled.{Belongs}
 use Rattle.pool.specs.Inside.Assembly.{Gives, Gets}
 use Rattle.pool.specs.Assembly.{IsFresh}
 use Rattle.pool.proofs.Assemblies.{at_end, fresh_holding, fresh_belongs, fresh_is, new_deal}
-use Rattle.pool.proofs.dealing.made_hands.Goals as goal
+use Rattle.pool.proofs.dealing.make_hands.Goals as goal
 
 pub loop-source-init : goal.loop-source-init
 loop-source-init c =

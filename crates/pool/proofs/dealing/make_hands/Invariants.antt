@@ -9,7 +9,7 @@ use Rattle.pool.specs.Holding.{Holding}
 use Rattle.pool.specs.Settled.{Belongs}
 use Rattle.pool.specs.Inside.Assembly.{Gives, Gets}
 use Rattle.pool.specs.Assembly.{IsFresh}
-use Rattle.pool.proofs.dealing.made_hands.Given as goal
+use Rattle.pool.proofs.dealing.make_hands.Given as goal
 
 abbrev pub invariant-loop-source : goal.invariant-loop-source
 invariant-loop-source l =
