@@ -6,10 +6,10 @@ use Rattle.semantics.specs.declared.function.ColumnFunction.TheVariants as funct
 use Rattle.semantics.specs.Groups.{Row, Key, members, same_key}
 use Rattle.semantics.specs.Aggregates.{column_values, column_numbers, AggregateFunction, total, least, greatest}
 use Rattle.tables_groups.specs.Inside.Values.{set_of}
-use Rattle.tables_groups.specs.Inside.Accumulator.{counted, summed, averaged, collected, lowest, highest, accumulator_state, state_over, state_counted, state_by, joined}
-use Rattle.tables_groups.specs.Inside.Group.{group_state, all_joined, join}
+use Rattle.tables_groups.specs.Inside.Accumulator.{counted, summed, averaged, collected, lowest, highest, accumulator_state, state_over, state_counted, state_by, joint_state}
+use Rattle.tables_groups.specs.Inside.Group.{group_state, joint_states, joint_group}
 use Rattle.tables_groups.specs.Bags.{SameBag, weigh}
-use Rattle.tables_groups.specs.Inside.Table.{Contents, IsTableOf, join_options}
+use Rattle.tables_groups.specs.Inside.Table.{Contents, IsTableOf, joint_option}
 use Rattle.tables_groups.proofs.Bags.{weigh-append}
 use Rattle.tables_groups.proofs.Order.{same_key-Decides}
 use Rattle.tables_groups.proofs.Firsts.{less-flip, greater-flip}
@@ -22,7 +22,7 @@ plus_flip m n = omega arith
 sum_flip : (s t : ℤ) → s +ℤ t ≡ t +ℤ s
 sum_flip s t = omega (arith, ints)
 
-state_over-flip : (f : ColumnFunction) (l m : List Row) → joined (state_over f l) (state_over f m) ≡ joined (state_over f m) (state_over f l)
+state_over-flip : (f : ColumnFunction) (l m : List Row) → joint_state (state_over f l) (state_over f m) ≡ joint_state (state_over f m) (state_over f l)
 state_over-flip function.CountRows l m = refl
 state_over-flip (function.Count place) l m = ap counted (plus_flip (length (column_values place l)) (length (column_values place m)))
 state_over-flip (function.CountDistinct place) l m = ap collected (union-flip (set_of (column_values place l)) (set_of (column_values place m)))
@@ -31,7 +31,7 @@ state_over-flip (function.Min place) l m = ap lowest (less-flip (least (column_v
 state_over-flip (function.Max place) l m = ap highest (greater-flip (greatest (column_values place l)) (greatest (column_values place m)))
 state_over-flip (function.Avg place) l m = λ i. averaged (sum_flip (total (column_numbers place l)) (total (column_numbers place m)) i) (plus_flip (length (column_numbers place l)) (length (column_numbers place m)) i)
 
-state_counted-flip : (f : ColumnFunction) (l m : List Row) → joined (state_counted f l) (state_counted f m) ≡ joined (state_counted f m) (state_counted f l)
+state_counted-flip : (f : ColumnFunction) (l m : List Row) → joint_state (state_counted f l) (state_counted f m) ≡ joint_state (state_counted f m) (state_counted f l)
 state_counted-flip function.CountRows l m = ap counted (plus_flip (length l) (length m))
 state_counted-flip (function.Count place) l m = state_over-flip (function.Count place) l m
 state_counted-flip (function.CountDistinct place) l m = state_over-flip (function.CountDistinct place) l m
@@ -40,18 +40,18 @@ state_counted-flip (function.Min place) l m = state_over-flip (function.Min plac
 state_counted-flip (function.Max place) l m = state_over-flip (function.Max place) l m
 state_counted-flip (function.Avg place) l m = state_over-flip (function.Avg place) l m
 
-state_by-flip : (t : Option (Row → Bool)) (f : ColumnFunction) (l m : List Row) → joined (state_by t f l) (state_by t f m) ≡ joined (state_by t f m) (state_by t f l)
+state_by-flip : (t : Option (Row → Bool)) (f : ColumnFunction) (l m : List Row) → joint_state (state_by t f l) (state_by t f m) ≡ joint_state (state_by t f m) (state_by t f l)
 state_by-flip None f l m = state_over-flip f l m
 state_by-flip (Some keeps) f l m = state_counted-flip f (filter keeps l) (filter keeps m)
 
-parts-flip : (fs : List AggregateFunction) (l m : List Row) → all_joined (map (λ f. accumulator_state f l) fs) (map (λ f. accumulator_state f m) fs) ≡ all_joined (map (λ f. accumulator_state f m) fs) (map (λ f. accumulator_state f l) fs)
+parts-flip : (fs : List AggregateFunction) (l m : List Row) → joint_states (map (λ f. accumulator_state f l) fs) (map (λ f. accumulator_state f m) fs) ≡ joint_states (map (λ f. accumulator_state f m) fs) (map (λ f. accumulator_state f l) fs)
 parts-flip [] l m = refl
 parts-flip (f ∷ fs) l m = λ i. state_by-flip f.filter f.function l m i ∷ parts-flip fs l m i
 
-group_state-flip : (fs : List AggregateFunction) (l m : List Row) → join (group_state fs l) (group_state fs m) ≡ join (group_state fs m) (group_state fs l)
-group_state-flip fs l m = same_state (join (group_state fs l) (group_state fs m)) (join (group_state fs m) (group_state fs l)) (plus_flip (length l) (length m)) (parts-flip fs l m)
+group_state-flip : (fs : List AggregateFunction) (l m : List Row) → joint_group (group_state fs l) (group_state fs m) ≡ joint_group (group_state fs m) (group_state fs l)
+group_state-flip fs l m = same_state (joint_group (group_state fs l) (group_state fs m)) (joint_group (group_state fs m) (group_state fs l)) (plus_flip (length l) (length m)) (parts-flip fs l m)
 
-pub options-flip : (fs : List AggregateFunction) (a b : Bool) (x y : List Row) → join_options (cond a (Some (group_state fs x)) None) (cond b (Some (group_state fs y)) None) ≡ join_options (cond b (Some (group_state fs y)) None) (cond a (Some (group_state fs x)) None)
+pub options-flip : (fs : List AggregateFunction) (a b : Bool) (x y : List Row) → joint_option (cond a (Some (group_state fs x)) None) (cond b (Some (group_state fs y)) None) ≡ joint_option (cond b (Some (group_state fs y)) None) (cond a (Some (group_state fs x)) None)
 options-flip fs true true x y = ap Some (group_state-flip fs x y)
 options-flip fs true false x y = refl
 options-flip fs false true x y = refl
@@ -68,10 +68,10 @@ front-moved : (set : List ℕ) (fs : List AggregateFunction) (k : Key) (before :
 front-moved set fs k [] x after = refl
 front-moved set fs k (y ∷ before) x after =
     group_at-append set fs k (y ∷ []) (before ++ x ∷ after)
-    ∙ ap (join_options (group_at set fs k (y ∷ []))) (front-moved set fs k before x after)
+    ∙ ap (joint_option (group_at set fs k (y ∷ []))) (front-moved set fs k before x after)
     ∙ sym (group_at-append set fs k (y ∷ []) (x ∷ (before ++ after)))
     ∙ group_at-append set fs k (y ∷ x ∷ []) (before ++ after)
-    ∙ ap (λ o. join_options o (group_at set fs k (before ++ after))) (two set fs k y x)
+    ∙ ap (λ o. joint_option o (group_at set fs k (before ++ after))) (two set fs k y x)
     ∙ sym (group_at-append set fs k (x ∷ y ∷ []) (before ++ after))
 
 -- ---- a record of a list
@@ -107,7 +107,7 @@ group_at-bag set fs k (x ∷ l) m s =
     let d = weigh-append w r.before r.after in
     omega (arith, a, b, c, d) in
     group_at-append set fs k (x ∷ []) l
-    ∙ ap (join_options (group_at set fs k (x ∷ []))) (group_at-bag set fs k l (r.before ++ r.after) rest)
+    ∙ ap (joint_option (group_at set fs k (x ∷ []))) (group_at-bag set fs k l (r.before ++ r.after) rest)
     ∙ sym (group_at-append set fs k (x ∷ []) (r.before ++ r.after))
     ∙ sym (front-moved set fs k r.before x r.after)
     ∙ ap (group_at set fs k) (sym r.parts)

@@ -16,7 +16,7 @@ use Rattle.tables_groups.specs.Inside.Group.{GroupState, no_group}
 pub use Rattle.tables_groups.specs.Inside.Keys.{key_eq}
 use Rattle.tables_groups.specs.declared.part.Part.{Part}
 use Rattle.tables_groups.specs.declared.part.Part.TheVariants as taken
-use Rattle.tables_groups.specs.Inside.Table.{Contents, IsPut, IsFitting, IsTaken, IsWithPart, with_part, join_options, entries_by_key, contents_of}
+use Rattle.tables_groups.specs.Inside.Table.{Contents, IsPut, IsFitting, IsTaken, IsWithPart, group_with_part, joint_option, entries_by_key, contents_of}
 use Rattle.tables_groups.proofs.Order.{key_total, same_key-Decides, value_eq, key_eq-ties}
 
 abbrev pub Entries : Type 0
@@ -79,19 +79,19 @@ get-shown key es = get-from_entries key_total (entries_by_key es) (data_of key) 
 
 pub put_is : (old new : Contents) (key : Key) (part : GroupState) (w : Option GroupState)
     → ((q : Key) → get new q ≡ cond (same_key q key) w (get old q))
-    → w ≡ join_options (get old key) (Some part) → (k : Key) → IsPut old new key part k
+    → w ≡ joint_option (get old key) (Some part) → (k : Key) → IsPut old new key part k
 put_is old new key part w h e k =
-    h k ∙ elim (same_key k key) as (λ b. same_key k key ≡ b → cond b w (get old k) ≡ cond b (join_options (get old k) (Some part)) (get old k)) [
-      | true ↦ λ i. e ∙ ap (λ l. join_options (get old l) (Some part)) (sym ((same_key-Decides k key).0 i))
+    h k ∙ elim (same_key k key) as (λ b. same_key k key ≡ b → cond b w (get old k) ≡ cond b (joint_option (get old k) (Some part)) (get old k)) [
+      | true ↦ λ i. e ∙ ap (λ l. joint_option (get old l) (Some part)) (sym ((same_key-Decides k key).0 i))
       | false ↦ λ i. refl
     ] refl
 
 pub with_part_is : (functions : List FilteredFunction) (old new : Contents) (key : Key) (part : Part) (w : Option GroupState)
     → ((q : Key) → get new q ≡ cond (same_key q key) w (get old q))
-    → w ≡ Some (with_part functions (get old key) part) → (k : Key) → IsWithPart functions old new key part k
+    → w ≡ Some (group_with_part functions (get old key) part) → (k : Key) → IsWithPart functions old new key part k
 with_part_is functions old new key part w h e k =
-    h k ∙ elim (same_key k key) as (λ b. same_key k key ≡ b → cond b w (get old k) ≡ cond b (Some (with_part functions (get old k) part)) (get old k)) [
-      | true ↦ λ i. e ∙ ap (λ l. Some (with_part functions (get old l) part)) (sym ((same_key-Decides k key).0 i))
+    h k ∙ elim (same_key k key) as (λ b. same_key k key ≡ b → cond b w (get old k) ≡ cond b (Some (group_with_part functions (get old k) part)) (get old k)) [
+      | true ↦ λ i. e ∙ ap (λ l. Some (group_with_part functions (get old l) part)) (sym ((same_key-Decides k key).0 i))
       | false ↦ λ i. refl
     ] refl
 
@@ -100,11 +100,11 @@ pub got-by : (es : Entries) (table : Contents) (key : Key) (code : List Value) �
 got-by es table key code view is = ap (λ m. get m key) (sym view) ∙ ap (get (contents_of es)) (sym is) ∙ get-shown code es
 
 -- after one more part was put to what a search by a key of the code finds
-pub with_part-by : (functions : List FilteredFunction) (part : Part) (es fs : Entries) (old : Contents) (key : Key) (code : List Value) (group : GroupState)
+pub group_with_part-by : (functions : List FilteredFunction) (part : Part) (es fs : Entries) (old : Contents) (key : Key) (code : List Value) (group : GroupState)
     → contents_of es ≡ old → data_of code ≡ key → lookup (λ k. pointwise value_eq code k.items) fs ≡ Some group
     → KeepsOthers (λ x y. pointwise value_eq x.items y.items) (λ k. pointwise value_eq code k.items) es fs
-    → group ≡ with_part functions (get old key) part → (k : Key) → IsWithPart functions old (contents_of fs) key part k
-with_part-by functions part es fs old key code group view is at others h =
+    → group ≡ group_with_part functions (get old key) part → (k : Key) → IsWithPart functions old (contents_of fs) key part k
+group_with_part-by functions part es fs old key code group view is at others h =
     with_part_is functions old (contents_of fs) key part (Some group)
     (λ q. get-updated es fs code (Some group) at others q
     ∙ ap (λ l. cond (same_key q l) (Some group) (get (contents_of es) q)) is
@@ -118,7 +118,7 @@ taken-first functions (taken.Copies members) h = ((omega (arith, h.1), h.2 ∙ s
 
 -- ---- merging the entries of another table, one after another
 
-pub options-none : (a : Option GroupState) → join_options a None ≡ a
+pub options-none : (a : Option GroupState) → joint_option a None ≡ a
 options-none None = refl
 options-none (Some a) = refl
 
@@ -135,11 +135,11 @@ none_after k e (f ∷ es) d h =
 -- taking the first entry of the rest
 pub merged_step : (old new : Contents) (k : Key) (e : Vec Value Global × GroupState) (es : Entries)
     → IsDistinct key_eq (keys_of (e ∷ es)) → IsPut old new (data_of e.0.items) e.1 k
-    → join_options (get new k) (find key_order k (entries_by_key es)) ≡ join_options (get old k) (find key_order k (entries_by_key (e ∷ es)))
-merged_step old new k e es d a = ap (λ o. join_options o (find key_order k (entries_by_key es))) a
+    → joint_option (get new k) (find key_order k (entries_by_key es)) ≡ joint_option (get old k) (find key_order k (entries_by_key (e ∷ es)))
+merged_step old new k e es d a = ap (λ o. joint_option o (find key_order k (entries_by_key es))) a
     ∙ elim (same_key k (data_of e.0.items)) as (λ b. same_key k (data_of e.0.items) ≡ b →
-    join_options (cond b (join_options (get old k) (Some e.1)) (get old k)) (find key_order k (entries_by_key es)) ≡ join_options (get old k) (cond b (Some e.1) (find key_order k (entries_by_key es)))) [
-      | true ↦ λ i. ap (join_options (join_options (get old k) (Some e.1))) (none_after k e es d i) ∙ options-none (join_options (get old k) (Some e.1))
+    joint_option (cond b (joint_option (get old k) (Some e.1)) (get old k)) (find key_order k (entries_by_key es)) ≡ joint_option (get old k) (cond b (Some e.1) (find key_order k (entries_by_key es)))) [
+      | true ↦ λ i. ap (joint_option (joint_option (get old k) (Some e.1))) (none_after k e es d i) ∙ options-none (joint_option (get old k) (Some e.1))
       | false ↦ λ i. refl
     ] refl
 
@@ -148,7 +148,7 @@ pub fits_step : (old new : Contents) (k : Key) (e : Vec Value Global × GroupSta
     → IsDistinct key_eq (keys_of (e ∷ es)) → IsPut old new (data_of e.0.items) e.1 k
     → IfSome (find key_order k (entries_by_key (e ∷ es))) (λ p. IsFitting p (get old k)) → IfSome (find key_order k (entries_by_key es)) (λ p. IsFitting p (get new k))
 fits_step old new k e es d a h =
-    elim (same_key k (data_of e.0.items)) as (λ b. same_key k (data_of e.0.items) ≡ b → get new k ≡ cond b (join_options (get old k) (Some e.1)) (get old k)
+    elim (same_key k (data_of e.0.items)) as (λ b. same_key k (data_of e.0.items) ≡ b → get new k ≡ cond b (joint_option (get old k) (Some e.1)) (get old k)
     → IfSome (cond b (Some e.1) (find key_order k (entries_by_key es))) (λ p. IsFitting p (get old k)) → IfSome (find key_order k (entries_by_key es)) (λ p. IsFitting p (get new k))) [
       | true ↦ λ i a h. subst (λ (o : Option GroupState). IfSome o (λ p. IsFitting p (get new k))) (sym (none_after k e es d i)) tt
       | false ↦ λ i a h. subst (λ (g : Option GroupState). IfSome (find key_order k (entries_by_key es)) (λ p. IsFitting p g)) (sym a) h

@@ -11,7 +11,7 @@ use Rattle.values.specs.Datum.{datum_of}
 use Rattle.values.specs.declared.value.Value.{Value}
 use Rattle.values.specs.declared.value.Value.TheVariants as v
 use Rattle.semantics.specs.Aggregates.{is_present, present, least, greatest}
-use Rattle.tables_groups.specs.Inside.Values.{falling, first_by}
+use Rattle.tables_groups.specs.Inside.Values.{falling_order, first_by}
 use Rattle.tables_groups.proofs.Order.{value_total, value_antisymmetric}
 
 flipped : (r : Ordering) → is_lt (ordering_reverse r) ≡ is_gt r
@@ -209,28 +209,28 @@ nullness null = 1
 abbrev falling_parts : Datum → Datum → Ordering
 falling_parts a b = ordering_then (nat_cmp (nullness a) (nullness b)) (value_order b a)
 
-falling-is : (a b : Datum) → falling a b ≡ falling_parts a b
-falling-is (boolean a) (boolean b) = refl
-falling-is (boolean a) (whole n) = refl
-falling-is (boolean a) (text s) = refl
-falling-is (boolean a) null = refl
-falling-is (whole m) (boolean b) = refl
-falling-is (whole m) (whole n) = refl
-falling-is (whole m) (text s) = refl
-falling-is (whole m) null = refl
-falling-is (text s) (boolean b) = refl
-falling-is (text s) (whole n) = refl
-falling-is (text s) (text t) = refl
-falling-is (text s) null = refl
-falling-is null (boolean b) = refl
-falling-is null (whole n) = refl
-falling-is null (text s) = refl
-falling-is null null = refl
+falling_order-is : (a b : Datum) → falling_order a b ≡ falling_parts a b
+falling_order-is (boolean a) (boolean b) = refl
+falling_order-is (boolean a) (whole n) = refl
+falling_order-is (boolean a) (text s) = refl
+falling_order-is (boolean a) null = refl
+falling_order-is (whole m) (boolean b) = refl
+falling_order-is (whole m) (whole n) = refl
+falling_order-is (whole m) (text s) = refl
+falling_order-is (whole m) null = refl
+falling_order-is (text s) (boolean b) = refl
+falling_order-is (text s) (whole n) = refl
+falling_order-is (text s) (text t) = refl
+falling_order-is (text s) null = refl
+falling_order-is null (boolean b) = refl
+falling_order-is null (whole n) = refl
+falling_order-is null (text s) = refl
+falling_order-is null null = refl
 
-falling_total : IsTotalOrder falling
-falling_total = subst (λ (order : Datum → Datum → Ordering). IsTotalOrder order) (λ i a b. sym (falling-is a b) i) (then_total (on_total nullness nat_cmp_total) (back_total value_total))
+falling_total : IsTotalOrder falling_order
+falling_total = subst (λ (order : Datum → Datum → Ordering). IsTotalOrder order) (λ i a b. sym (falling_order-is a b) i) (then_total (on_total nullness nat_cmp_total) (back_total value_total))
 
-falling_antisymmetric : IsAntisymmetric falling
+falling_antisymmetric : IsAntisymmetric falling_order
 falling_antisymmetric (boolean a) (boolean b) e = sym (value_antisymmetric (boolean b) (boolean a) e)
 falling_antisymmetric (boolean a) (whole n) e = sym (value_antisymmetric (whole n) (boolean a) e)
 falling_antisymmetric (boolean a) (text s) e = sym (value_antisymmetric (text s) (boolean a) e)
@@ -248,7 +248,7 @@ falling_antisymmetric null (whole n) e = cc
 falling_antisymmetric null (text s) e = cc
 falling_antisymmetric null null e = refl
 
-falling_last : (d : Datum) → is_lt (falling null d) ≡ false
+falling_last : (d : Datum) → is_lt (falling_order null d) ≡ false
 falling_last (boolean b) = refl
 falling_last (whole n) = refl
 falling_last (text s) = refl
@@ -265,21 +265,21 @@ present-append : (xs ys : List Datum) → ArePresent xs → ArePresent ys → Ar
 present-append [] ys p q = q
 present-append (x ∷ xs) ys p q = (p.0, present-append xs ys p.1 q)
 
-falling-present : (x y : Datum) → is_present x ≡ true → is_present y ≡ true → falling x y ≡ value_order y x
-falling-present (boolean a) (boolean b) p q = refl
-falling-present (boolean a) (whole n) p q = refl
-falling-present (boolean a) (text s) p q = refl
-falling-present (whole m) (boolean b) p q = refl
-falling-present (whole m) (whole n) p q = refl
-falling-present (whole m) (text s) p q = refl
-falling-present (text s) (boolean b) p q = refl
-falling-present (text s) (whole n) p q = refl
-falling-present (text s) (text t) p q = refl
-falling-present null y p q = cc
-falling-present x null p q = cc
+falling_order-present : (x y : Datum) → is_present x ≡ true → is_present y ≡ true → falling_order x y ≡ value_order y x
+falling_order-present (boolean a) (boolean b) p q = refl
+falling_order-present (boolean a) (whole n) p q = refl
+falling_order-present (boolean a) (text s) p q = refl
+falling_order-present (whole m) (boolean b) p q = refl
+falling_order-present (whole m) (whole n) p q = refl
+falling_order-present (whole m) (text s) p q = refl
+falling_order-present (text s) (boolean b) p q = refl
+falling_order-present (text s) (whole n) p q = refl
+falling_order-present (text s) (text t) p q = refl
+falling_order-present null y p q = cc
+falling_order-present x null p q = cc
 
-above : (x y : Datum) → is_present x ≡ true → is_present y ≡ true → is_gt (value_order x y) ≡ is_lt (falling x y)
-above x y p q = sym (turned value_total value_antisymmetric null_last x y) ∙ ap is_lt (sym (falling-present x y p q))
+above : (x y : Datum) → is_present x ≡ true → is_present y ≡ true → is_gt (value_order x y) ≡ is_lt (falling_order x y)
+above x y p q = sym (turned value_total value_antisymmetric null_last x y) ∙ ap is_lt (sym (falling_order-present x y p q))
 
 value-present : (x : Value) → x ≢ v.Null → is_present (datum_of x) ≡ true
 value-present (v.Bool b) h = refl
@@ -288,24 +288,24 @@ value-present (v.Text s) h = refl
 value-present v.Null h = absurd (h refl)
 
 -- two values of the code of which none is NULL
-pub above-shown : (x y : Value) → x ≢ v.Null → y ≢ v.Null → is_gt (value_order (datum_of x) (datum_of y)) ≡ is_lt (falling (datum_of x) (datum_of y))
+pub above-shown : (x y : Value) → x ≢ v.Null → y ≢ v.Null → is_gt (value_order (datum_of x) (datum_of y)) ≡ is_lt (falling_order (datum_of x) (datum_of y))
 above-shown x y h k = above (datum_of x) (datum_of y) (value-present x h) (value-present y k)
 
-all-above : (z : Datum) (xs : List Datum) → is_present z ≡ true → ArePresent xs → list_all (λ y. not (is_gt (value_order y z))) xs ≡ list_all (λ y. not (is_lt (falling y z))) xs
+all-above : (z : Datum) (xs : List Datum) → is_present z ≡ true → ArePresent xs → list_all (λ y. not (is_gt (value_order y z))) xs ≡ list_all (λ y. not (is_lt (falling_order y z))) xs
 all-above z [] p q = refl
 all-above z (x ∷ xs) p q = λ i. not (above x z q.0 p i) && all-above z xs p q.1 i
 
-find-above : (ys xs : List Datum) → ArePresent ys → ArePresent xs → find (λ x. list_all (λ y. not (is_gt (value_order y x))) xs) ys ≡ find (λ x. list_all (λ y. not (is_lt (falling y x))) xs) ys
+find-above : (ys xs : List Datum) → ArePresent ys → ArePresent xs → find (λ x. list_all (λ y. not (is_gt (value_order y x))) xs) ys ≡ find (λ x. list_all (λ y. not (is_lt (falling_order y x))) xs) ys
 find-above [] xs p q = refl
 find-above (y ∷ ys) xs p q = λ i. cond (all-above y xs p.0 q i) (Some y) (find-above ys xs p.1 q i)
 
 greatest-picked : (xs : List Datum) → ArePresent xs → greatest xs ≡ picked falling_total falling_antisymmetric falling_last xs
 greatest-picked xs p = ap (λ r. unwrap_or r null) (find-above xs xs p p)
 
-pub greatest-append : (xs ys : List Datum) → ArePresent xs → ArePresent ys → greatest (xs ++ ys) ≡ first_by falling (greatest xs) (greatest ys)
+pub greatest-append : (xs ys : List Datum) → ArePresent xs → ArePresent ys → greatest (xs ++ ys) ≡ first_by falling_order (greatest xs) (greatest ys)
 greatest-append xs ys p q = greatest-picked (xs ++ ys) (present-append xs ys p q)
     ∙ picked-append falling_total falling_antisymmetric falling_last xs ys
-    ∙ (λ i. first_by falling (sym (greatest-picked xs p) i) (sym (greatest-picked ys q) i))
+    ∙ (λ i. first_by falling_order (sym (greatest-picked xs p) i) (sym (greatest-picked ys q) i))
 
 pub greatest-one : (d : Datum) → greatest (present (d ∷ [])) ≡ d
 greatest-one (boolean b) = greatest-picked (boolean b ∷ []) (refl, tt) ∙ picked-one falling_total falling_antisymmetric falling_last (boolean b)
@@ -313,8 +313,8 @@ greatest-one (whole n) = greatest-picked (whole n ∷ []) (refl, tt) ∙ picked-
 greatest-one (text s) = greatest-picked (text s ∷ []) (refl, tt) ∙ picked-one falling_total falling_antisymmetric falling_last (text s)
 greatest-one null = refl
 
-pub greater-flip : (a b : Datum) → first_by falling a b ≡ first_by falling b a
+pub greater-flip : (a b : Datum) → first_by falling_order a b ≡ first_by falling_order b a
 greater-flip a b = first-flip falling_total falling_antisymmetric falling_last a b
 
-pub greater-null : (d : Datum) → first_by falling d null ≡ d
+pub greater-null : (d : Datum) → first_by falling_order d null ≡ d
 greater-null d = first-null falling_total falling_antisymmetric falling_last d

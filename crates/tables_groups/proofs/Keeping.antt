@@ -9,8 +9,8 @@ use Rattle.query_resolve.specs.declared.function.FilteredFunction.{FilteredFunct
 use Rattle.tables_groups.specs.declared.accumulator.Accumulator.{Accumulator}
 use Rattle.semantics.specs.Groups.{Row, value_at}
 use Rattle.tables_groups.specs.Rows.{IsNarrow, IsNarrowRow}
-use Rattle.tables_groups.specs.Inside.Accumulator.{AccumulatorState, nothing, counted, summed, averaged, collected, lowest, highest, no_state, state_over, with_value, with_count, with_record, with_member, is_marked, joined, state_in, HasRoom, IsWithin, IsUnbounded}
-use Rattle.tables_groups.specs.Inside.Group.{all_with_row, all_joined, IsSound}
+use Rattle.tables_groups.specs.Inside.Accumulator.{AccumulatorState, nothing, counted, summed, averaged, collected, lowest, highest, no_state, state_over, with_value, with_count, with_record, with_member, is_marked, joint_state, state_in, HasRoom, IsWithin, IsUnbounded}
+use Rattle.tables_groups.specs.Inside.Group.{all_with_row, joint_states, IsSound}
 use Rattle.tables_groups.proofs.Firsts.{less-null, greater-null}
 use Rattle.tables_groups.proofs.Sets.{union-empty}
 
@@ -77,7 +77,7 @@ more-within a b (collected s) w = tt
 more-within a b (lowest k) w = tt
 more-within a b (highest k) w = tt
 
-pub joined-within : (a b : ℕ) (k l : AccumulatorState) → IsWithin a k → IsWithin b l → IsWithin (a + b) (joined k l)
+pub joined-within : (a b : ℕ) (k l : AccumulatorState) → IsWithin a k → IsWithin b l → IsWithin (a + b) (joint_state k l)
 joined-within a b (counted m) (counted n) v w = omega (arith, v, w)
 joined-within a b (summed s m) (summed t n) v w = (omega (arith, v, w), (omega (arith, ints, v, w), omega (arith, ints, v, w)))
 joined-within a b (averaged s m) (averaged t n) v w = (omega (arith, v, w), (omega (arith, ints, v, w), omega (arith, ints, v, w)))
@@ -123,10 +123,10 @@ all_with_row-sound lines [] marks ks row s n = more-sound lines 1 ks s
 all_with_row-sound lines (f ∷ fs) marks [] row s n = tt
 all_with_row-sound lines (f ∷ fs) marks (k ∷ ks) row s n = (with_member-within lines (is_marked marks f.filter) f.function k row s.0 n, all_with_row-sound lines fs marks ks row s.1 n)
 
-pub all_joined-sound : (a b : ℕ) (ks ls : List AccumulatorState) → IsSound a ks → IsSound b ls → IsSound (a + b) (all_joined ks ls)
-all_joined-sound a b [] ls s t = tt
-all_joined-sound a b (k ∷ ks) [] s t = more-sound a b (k ∷ ks) s
-all_joined-sound a b (k ∷ ks) (l ∷ ls) s t = (joined-within a b k l s.0 t.0, all_joined-sound a b ks ls s.1 t.1)
+pub joint_states-sound : (a b : ℕ) (ks ls : List AccumulatorState) → IsSound a ks → IsSound b ls → IsSound (a + b) (joint_states ks ls)
+joint_states-sound a b [] ls s t = tt
+joint_states-sound a b (k ∷ ks) [] s t = more-sound a b (k ∷ ks) s
+joint_states-sound a b (k ∷ ks) (l ∷ ls) s t = (joined-within a b k l s.0 t.0, joint_states-sound a b ks ls s.1 t.1)
 
 none_over-within : (f : ColumnFunction) → IsWithin 0 (state_over f [])
 none_over-within function.CountRows = tt
@@ -204,39 +204,39 @@ sound-set lines (suc n) (x ∷ parts) b s w = (s.0, sound-set lines n parts b s.
 
 -- ---- one after another: the accumulators from a place on are still to take the rest
 
-abbrev pub joined_from : ℕ → List AccumulatorState → List AccumulatorState → List AccumulatorState
-joined_from zero ks rest = all_joined ks rest
-joined_from (suc n) [] rest = []
-joined_from (suc n) (k ∷ ks) rest = k ∷ joined_from n ks rest
+abbrev pub joint_states_from : ℕ → List AccumulatorState → List AccumulatorState → List AccumulatorState
+joint_states_from zero ks rest = joint_states ks rest
+joint_states_from (suc n) [] rest = []
+joint_states_from (suc n) (k ∷ ks) rest = k ∷ joint_states_from n ks rest
 
-pub joined_from-step : (n : ℕ) (parts : List Accumulator) (l : AccumulatorState) (rest : List AccumulatorState) (a b : Accumulator) → n < length parts
-    → a ≡ get_or parts n a → state_in b ≡ joined (state_in a) l
-    → joined_from (suc n) (map state_in (set parts n b)) rest ≡ joined_from n (map state_in parts) (l ∷ rest)
-joined_from-step zero [] l rest a b h e k = absurd (omega arith)
-joined_from-step zero (x ∷ parts) l rest a b h e k = ap (λ z. z ∷ all_joined (map state_in parts) rest) (k ∙ ap (λ z. joined (state_in z) l) e)
-joined_from-step (suc n) [] l rest a b h e k = absurd (omega arith)
-joined_from-step (suc n) (x ∷ parts) l rest a b h e k = ap (λ js. state_in x ∷ js) (joined_from-step n parts l rest a b (omega arith) e k)
+pub joint_states_from-step : (n : ℕ) (parts : List Accumulator) (l : AccumulatorState) (rest : List AccumulatorState) (a b : Accumulator) → n < length parts
+    → a ≡ get_or parts n a → state_in b ≡ joint_state (state_in a) l
+    → joint_states_from (suc n) (map state_in (set parts n b)) rest ≡ joint_states_from n (map state_in parts) (l ∷ rest)
+joint_states_from-step zero [] l rest a b h e k = absurd (omega arith)
+joint_states_from-step zero (x ∷ parts) l rest a b h e k = ap (λ z. z ∷ joint_states (map state_in parts) rest) (k ∙ ap (λ z. joint_state (state_in z) l) e)
+joint_states_from-step (suc n) [] l rest a b h e k = absurd (omega arith)
+joint_states_from-step (suc n) (x ∷ parts) l rest a b h e k = ap (λ js. state_in x ∷ js) (joint_states_from-step n parts l rest a b (omega arith) e k)
 
-joined-nothing : (ks : List AccumulatorState) → all_joined ks [] ≡ ks
+joined-nothing : (ks : List AccumulatorState) → joint_states ks [] ≡ ks
 joined-nothing [] = refl
 joined-nothing (k ∷ ks) = refl
 
-pub joined_from-end : (n : ℕ) (ks : List AccumulatorState) → joined_from n ks [] ≡ ks
-joined_from-end zero ks = joined-nothing ks
-joined_from-end (suc n) [] = refl
-joined_from-end (suc n) (k ∷ ks) = ap (λ js. k ∷ js) (joined_from-end n ks)
+pub joint_states_from-end : (n : ℕ) (ks : List AccumulatorState) → joint_states_from n ks [] ≡ ks
+joint_states_from-end zero ks = joined-nothing ks
+joint_states_from-end (suc n) [] = refl
+joint_states_from-end (suc n) (k ∷ ks) = ap (λ js. k ∷ js) (joint_states_from-end n ks)
 
-pub joined_from-all : (n : ℕ) (parts rest : List Accumulator) (ks : List AccumulatorState) → length rest ≡ 0 → joined_from n (map state_in parts) (map state_in rest) ≡ ks → map state_in parts ≡ ks
-joined_from-all n parts [] ks h e = sym (joined_from-end n (map state_in parts)) ∙ e
-joined_from-all n parts (x ∷ rest) ks h e = absurd (omega (arith, h))
+pub joint_states_from-all : (n : ℕ) (parts rest : List Accumulator) (ks : List AccumulatorState) → length rest ≡ 0 → joint_states_from n (map state_in parts) (map state_in rest) ≡ ks → map state_in parts ≡ ks
+joint_states_from-all n parts [] ks h e = sym (joint_states_from-end n (map state_in parts)) ∙ e
+joint_states_from-all n parts (x ∷ rest) ks h e = absurd (omega (arith, h))
 
-pub joined_from-within : (lines n : ℕ) (parts : List Accumulator) (l : AccumulatorState) (rest : List AccumulatorState) (a : Accumulator) → n < length parts
-    → a ≡ get_or parts n a → IsSound lines (joined_from n (map state_in parts) (l ∷ rest)) → IsWithin lines (joined (state_in a) l)
-joined_from-within lines zero [] l rest a h e s = absurd (omega arith)
-joined_from-within lines zero (x ∷ parts) l rest a h e s = subst (λ z. IsWithin lines (joined (state_in z) l)) (sym e) s.0
-joined_from-within lines (suc n) [] l rest a h e s = absurd (omega arith)
-joined_from-within lines (suc n) (x ∷ parts) l rest a h e s = joined_from-within lines n parts l rest a (omega arith) e s.1
+pub joint_states_from-within : (lines n : ℕ) (parts : List Accumulator) (l : AccumulatorState) (rest : List AccumulatorState) (a : Accumulator) → n < length parts
+    → a ≡ get_or parts n a → IsSound lines (joint_states_from n (map state_in parts) (l ∷ rest)) → IsWithin lines (joint_state (state_in a) l)
+joint_states_from-within lines zero [] l rest a h e s = absurd (omega arith)
+joint_states_from-within lines zero (x ∷ parts) l rest a h e s = subst (λ z. IsWithin lines (joint_state (state_in z) l)) (sym e) s.0
+joint_states_from-within lines (suc n) [] l rest a h e s = absurd (omega arith)
+joint_states_from-within lines (suc n) (x ∷ parts) l rest a h e s = joint_states_from-within lines n parts l rest a (omega arith) e s.1
 
-pub joined_from-room : (lines n : ℕ) (parts : List Accumulator) (l : AccumulatorState) (rest : List AccumulatorState) (a : Accumulator) → n < length parts
-    → a ≡ get_or parts n a → lines < 2 ^ 63 → IsSound lines (joined_from n (map state_in parts) (l ∷ rest)) → HasRoom (joined (state_in a) l)
-joined_from-room lines n parts l rest a h e few s = within-room lines _ few (joined_from-within lines n parts l rest a h e s)
+pub joint_states_from-room : (lines n : ℕ) (parts : List Accumulator) (l : AccumulatorState) (rest : List AccumulatorState) (a : Accumulator) → n < length parts
+    → a ≡ get_or parts n a → lines < 2 ^ 63 → IsSound lines (joint_states_from n (map state_in parts) (l ∷ rest)) → HasRoom (joint_state (state_in a) l)
+joint_states_from-room lines n parts l rest a h e few s = within-room lines _ few (joint_states_from-within lines n parts l rest a h e s)

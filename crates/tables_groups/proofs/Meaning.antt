@@ -16,10 +16,10 @@ use Rattle.query_resolve.specs.declared.function.FilteredFunction.{FilteredFunct
 use Rattle.semantics.specs.Groups.{Row, value_at, Key, project, key_order, same_key, keys, members}
 use Rattle.semantics.specs.Aggregates.{is_present, number_of, column_values, column_numbers, AggregateFunction, total, least, greatest}
 use Rattle.tables_groups.specs.Functions.{bound, filter_at}
-use Rattle.tables_groups.specs.Inside.Values.{falling, first_by, set_of}
-use Rattle.tables_groups.specs.Inside.Accumulator.{AccumulatorState, counted, summed, averaged, collected, lowest, highest, accumulator_state, state_over, state_counted, state_by, no_state, is_marked, with_member, with_record, joined}
-use Rattle.tables_groups.specs.Inside.Group.{GroupState, group_state, no_group, all_with_row, all_joined, with_row, join}
-use Rattle.tables_groups.specs.Inside.Table.{Contents, IsTableOf, IsAdded, IsPut, IsJoined, HasPlace, IsFitting, CanJoin, IsGroupWithin, AreGroupsWithin, TakesOne, grown, join_options}
+use Rattle.tables_groups.specs.Inside.Values.{falling_order, first_by, set_of}
+use Rattle.tables_groups.specs.Inside.Accumulator.{AccumulatorState, counted, summed, averaged, collected, lowest, highest, accumulator_state, state_over, state_counted, state_by, no_state, is_marked, with_member, with_record, joint_state}
+use Rattle.tables_groups.specs.Inside.Group.{GroupState, group_state, no_group, all_with_row, joint_states, with_row, joint_group}
+use Rattle.tables_groups.specs.Inside.Table.{Contents, IsTableOf, IsAdded, IsPut, IsJoined, HasPlace, IsFitting, CanJoin, IsGroupWithin, AreGroupsWithin, TakesOne, group_with_record, joint_option}
 use Rattle.tables_groups.proofs.Order.{key_total}
 use Rattle.tables_groups.proofs.Firsts.{present-all, least-append, least-one, greatest-append, greatest-one}
 use Rattle.tables_groups.proofs.Repeats.{any-distinct}
@@ -49,7 +49,7 @@ numbers_count-append place l m = ap length (numbers-append place l m) ∙ length
 numbers_total-append : (place : ℕ) (l m : List Row) → total (column_numbers place (l ++ m)) ≡ total (column_numbers place l) +ℤ total (column_numbers place m)
 numbers_total-append place l m = ap total (numbers-append place l m) ∙ total-append (column_numbers place l) (column_numbers place m)
 
-state_over-append : (f : ColumnFunction) (l m : List Row) → state_over f (l ++ m) ≡ joined (state_over f l) (state_over f m)
+state_over-append : (f : ColumnFunction) (l m : List Row) → state_over f (l ++ m) ≡ joint_state (state_over f l) (state_over f m)
 state_over-append function.CountRows l m = refl
 state_over-append (function.Count place) l m = ap counted (count-append place l m)
 state_over-append (function.CountDistinct place) l m = ap collected (ap set_of (values-append place l m) ∙ union-append (column_values place l) (column_values place m))
@@ -59,7 +59,7 @@ state_over-append (function.Max place) l m = ap highest (ap greatest (values-app
     ∙ greatest-append (column_values place l) (column_values place m) (present-all (map (value_at place) l)) (present-all (map (value_at place) m)))
 state_over-append (function.Avg place) l m = λ i. averaged (numbers_total-append place l m i) (numbers_count-append place l m i)
 
-state_counted-append : (f : ColumnFunction) (l m : List Row) → state_counted f (l ++ m) ≡ joined (state_counted f l) (state_counted f m)
+state_counted-append : (f : ColumnFunction) (l m : List Row) → state_counted f (l ++ m) ≡ joint_state (state_counted f l) (state_counted f m)
 state_counted-append function.CountRows l m = ap counted (length-append l m)
 state_counted-append (function.Count place) l m = state_over-append (function.Count place) l m
 state_counted-append (function.CountDistinct place) l m = state_over-append (function.CountDistinct place) l m
@@ -68,7 +68,7 @@ state_counted-append (function.Min place) l m = state_over-append (function.Min 
 state_counted-append (function.Max place) l m = state_over-append (function.Max place) l m
 state_counted-append (function.Avg place) l m = state_over-append (function.Avg place) l m
 
-state_by-append : (t : Option (Row → Bool)) (f : ColumnFunction) (l m : List Row) → state_by t f (l ++ m) ≡ joined (state_by t f l) (state_by t f m)
+state_by-append : (t : Option (Row → Bool)) (f : ColumnFunction) (l m : List Row) → state_by t f (l ++ m) ≡ joint_state (state_by t f l) (state_by t f m)
 state_by-append None f l m = state_over-append f l m
 state_by-append (Some keeps) f l m = ap (state_counted f) (filter-append keeps l m) ∙ state_counted-append f (filter keeps l) (filter keeps m)
 
@@ -81,7 +81,7 @@ state_over-with_record (function.CountDistinct place) l row = sym (state_over-ap
 state_over-with_record (function.Sum place) l row = sym (λ i. summed (numbers_total-append place l (row ∷ []) i) (numbers_count-append place l (row ∷ []) i))
 state_over-with_record (function.Min place) l row = ap (λ d. lowest (first_by value_order (least (column_values place l)) d)) (sym (least-one (value_at place row)))
     ∙ sym (state_over-append (function.Min place) l (row ∷ []))
-state_over-with_record (function.Max place) l row = ap (λ d. highest (first_by falling (greatest (column_values place l)) d)) (sym (greatest-one (value_at place row)))
+state_over-with_record (function.Max place) l row = ap (λ d. highest (first_by falling_order (greatest (column_values place l)) d)) (sym (greatest-one (value_at place row)))
     ∙ sym (state_over-append (function.Max place) l (row ∷ []))
 state_over-with_record (function.Avg place) l row = sym (λ i. averaged (numbers_total-append place l (row ∷ []) i) (numbers_count-append place l (row ∷ []) i))
 
@@ -119,7 +119,7 @@ state_by-with_member filters (Some index) f l row =
     ap (λ b. with_member b f (state_counted f (filter (filter_at filters index) l)) row) (marked-at filters row index)
     ∙ state_kept (filter_at filters index) f l row
 
-parts-append : (fs : List AggregateFunction) (l m : List Row) → map (λ f. accumulator_state f (l ++ m)) fs ≡ all_joined (map (λ f. accumulator_state f l) fs) (map (λ f. accumulator_state f m) fs)
+parts-append : (fs : List AggregateFunction) (l m : List Row) → map (λ f. accumulator_state f (l ++ m)) fs ≡ joint_states (map (λ f. accumulator_state f l) fs) (map (λ f. accumulator_state f m) fs)
 parts-append [] l m = refl
 parts-append (f ∷ fs) l m = λ i. state_by-append f.filter f.function l m i ∷ parts-append fs l m i
 
@@ -141,8 +141,8 @@ all_parts-none filters (f ∷ fs) = λ i. parts-none filters f.filter f.function
 pub no_group-is : (filters : List (Row → Bool)) (fs : List FilteredFunction) → no_group fs ≡ group_state (map (bound filters) fs) []
 no_group-is filters fs = λ i. record { lines = 0; parts = all_parts-none filters fs i }
 
-pub group_state-append : (fs : List AggregateFunction) (l m : List Row) → group_state fs (l ++ m) ≡ join (group_state fs l) (group_state fs m)
-group_state-append fs l m = same_state (group_state fs (l ++ m)) (join (group_state fs l) (group_state fs m)) (length-append l m) (parts-append fs l m)
+pub group_state-append : (fs : List AggregateFunction) (l m : List Row) → group_state fs (l ++ m) ≡ joint_group (group_state fs l) (group_state fs m)
+group_state-append fs l m = same_state (group_state fs (l ++ m)) (joint_group (group_state fs l) (group_state fs m)) (length-append l m) (parts-append fs l m)
 
 group_state-with_row : (filters : List (Row → Bool)) (fs : List FilteredFunction) (l : List Row) (row : Row)
     → with_row fs (map (λ keeps. keeps row) filters) (group_state (map (bound filters) fs) l) row ≡ group_state (map (bound filters) fs) (l ++ row ∷ [])
@@ -208,13 +208,13 @@ abbrev pub group_at : List ℕ → List AggregateFunction → Key → List Row �
 group_at set fs k rows = cond (has_key set k rows) (Some (group_state fs (members set k rows))) None
 
 both : (fs : List AggregateFunction) (a b : Bool) (x y : List Row) → (a ≡ false → x ≡ []) → (b ≡ false → y ≡ [])
-    → cond (a || b) (Some (group_state fs (x ++ y))) None ≡ join_options (cond a (Some (group_state fs x)) None) (cond b (Some (group_state fs y)) None)
+    → cond (a || b) (Some (group_state fs (x ++ y))) None ≡ joint_option (cond a (Some (group_state fs x)) None) (cond b (Some (group_state fs y)) None)
 both fs true true x y p q = ap Some (group_state-append fs x y)
 both fs true false x y p q = ap (λ z. Some (group_state fs (x ++ z))) (q refl) ∙ ap (λ z. Some (group_state fs z)) (append-nil x)
 both fs false true x y p q = ap (λ z. Some (group_state fs (z ++ y))) (p refl)
 both fs false false x y p q = refl
 
-pub group_at-append : (set : List ℕ) (fs : List AggregateFunction) (k : Key) (l m : List Row) → group_at set fs k (l ++ m) ≡ join_options (group_at set fs k l) (group_at set fs k m)
+pub group_at-append : (set : List ℕ) (fs : List AggregateFunction) (k : Key) (l m : List Row) → group_at set fs k (l ++ m) ≡ joint_option (group_at set fs k l) (group_at set fs k m)
 group_at-append set fs k l m =
     ap (λ b. cond b (Some (group_state fs (members set k (l ++ m)))) None) (has_key-append set k l m)
     ∙ ap (λ ms. cond (has_key set k l || has_key set k m) (Some (group_state fs ms)) None) (filter-append (λ row. same_key k (project set row)) l m)
@@ -222,21 +222,21 @@ group_at-append set fs k l m =
 
 -- two tables put together are that of the records of both
 pub table-joined : (set : List ℕ) (fs : List AggregateFunction) (t u v : Contents) (l m : List Row) → IsTableOf set fs t l → IsTableOf set fs u m → ((k : Key) → IsJoined t u v k) → IsTableOf set fs v (l ++ m)
-table-joined set fs t u v l m a b j k = j k ∙ ap (λ o. join_options o (fin.get u k)) (a k) ∙ ap (join_options (group_at set fs k l)) (b k) ∙ sym (group_at-append set fs k l m)
+table-joined set fs t u v l m a b j k = j k ∙ ap (λ o. joint_option o (fin.get u k)) (a k) ∙ ap (joint_option (group_at set fs k l)) (b k) ∙ sym (group_at-append set fs k l m)
 
 pub group_state-at : (fs : List AggregateFunction) (b : Bool) (x : List Row) → (b ≡ false → x ≡ []) → unwrap_or (cond b (Some (group_state fs x)) None) (group_state fs []) ≡ group_state fs x
 group_state-at fs true x p = refl
 group_state-at fs false x p = ap (group_state fs) (sym (p refl))
 
-grown-at : (filters : List (Row → Bool)) (fs : List FilteredFunction) (row : Row) (a c : Bool) (x : List Row) → (a ≡ false → x ≡ [])
-    → cond c (Some (grown fs (map (λ keeps. keeps row) filters) (cond a (Some (group_state (map (bound filters) fs) x)) None) row)) (cond a (Some (group_state (map (bound filters) fs) x)) None)
+group_with_record-at : (filters : List (Row → Bool)) (fs : List FilteredFunction) (row : Row) (a c : Bool) (x : List Row) → (a ≡ false → x ≡ [])
+    → cond c (Some (group_with_record fs (map (λ keeps. keeps row) filters) (cond a (Some (group_state (map (bound filters) fs) x)) None) row)) (cond a (Some (group_state (map (bound filters) fs) x)) None)
     ≡ cond (a || (c || false)) (Some (group_state (map (bound filters) fs) (x ++ cond c (row ∷ []) []))) None
-grown-at filters fs row true true x p = ap Some (group_state-with_row filters fs x row)
-grown-at filters fs row false true x p =
+group_with_record-at filters fs row true true x p = ap Some (group_state-with_row filters fs x row)
+group_with_record-at filters fs row false true x p =
     ap (λ h. Some (with_row fs (map (λ keeps. keeps row) filters) h row)) (no_group-is filters fs ∙ ap (group_state (map (bound filters) fs)) (sym (p refl)))
     ∙ ap Some (group_state-with_row filters fs x row)
-grown-at filters fs row true false x p = ap (λ z. Some (group_state (map (bound filters) fs) z)) (sym (append-nil x))
-grown-at filters fs row false false x p = refl
+group_with_record-at filters fs row true false x p = ap (λ z. Some (group_state (map (bound filters) fs) z)) (sym (append-nil x))
+group_with_record-at filters fs row false false x p = refl
 
 -- a table with one more record
 table-added-marked : (set : List ℕ) (filters : List (Row → Bool)) (functions : List FilteredFunction) (t v : Contents) (l : List Row) (row : Row) → IsTableOf set (map (bound filters) functions) t l
@@ -244,8 +244,8 @@ table-added-marked : (set : List ℕ) (filters : List (Row → Bool)) (functions
 table-added-marked set filters functions t v l row a j k =
     let fs = map (bound filters) functions in
     j k
-    ∙ ap (λ o. cond (same_key k (project set row)) (Some (grown functions (map (λ keeps. keeps row) filters) o row)) o) (a k)
-    ∙ grown-at filters functions row (has_key set k l) (same_key k (project set row)) (members set k l) (no_members set k l)
+    ∙ ap (λ o. cond (same_key k (project set row)) (Some (group_with_record functions (map (λ keeps. keeps row) filters) o row)) o) (a k)
+    ∙ group_with_record-at filters functions row (has_key set k l) (same_key k (project set row)) (members set k l) (no_members set k l)
     ∙ ap (λ b. cond (has_key set k l || b) (Some (group_state fs (members set k l ++ members set k (row ∷ [])))) None) (sym (has_key-one set k row))
     ∙ ap (λ b. cond b (Some (group_state fs (members set k l ++ members set k (row ∷ [])))) None) (sym (has_key-append set k l (row ∷ [])))
     ∙ ap (λ ms. cond (has_key set k (l ++ row ∷ [])) (Some (group_state fs ms)) None) (sym (filter-append (λ r. same_key k (project set r)) l (row ∷ [])))
@@ -260,8 +260,8 @@ table-added set functions marks t v row j filters l m a =
 pub table-empty_set : (set : List ℕ) (functions : List FilteredFunction) (t : Contents) → length set ≡ 0 → ((k : Key) → IsPut fin.empty t [] (no_group functions) k)
     → (filters : List (Row → Bool)) → IsTableOf set (map (bound filters) functions) t []
 table-empty_set [] functions t z h filters k = h k
-    ∙ ap (λ (g : GroupState). cond (same_key k []) (join_options (fin.get (fin.empty {X = GroupState} {R = key_order}) k) (Some g)) (fin.get (fin.empty {X = GroupState} {R = key_order}) k)) (no_group-is filters functions)
-    ∙ ap (λ o. cond (same_key k []) (join_options o (Some (group_state (map (bound filters) functions) []))) o) (fin.get-empty key_order k)
+    ∙ ap (λ (g : GroupState). cond (same_key k []) (joint_option (fin.get (fin.empty {X = GroupState} {R = key_order}) k) (Some g)) (fin.get (fin.empty {X = GroupState} {R = key_order}) k)) (no_group-is filters functions)
+    ∙ ap (λ o. cond (same_key k []) (joint_option o (Some (group_state (map (bound filters) functions) []))) o) (fin.get-empty key_order k)
     ∙ ap (λ b. cond b (Some (group_state (map (bound filters) functions) [])) None) (or-false (same_key k []))
 table-empty_set (place ∷ places) functions t z h filters k = absurd (omega (arith, z))
 
@@ -313,16 +313,16 @@ pub table-within : (set : List ℕ) (functions : List FilteredFunction) (fs : Li
 table-within set functions fs t l n e a few k = subst (λ (o : Option GroupState). IfSome o (IsGroupWithin n functions)) (sym (a k))
     (within-at functions fs n (has_key set k l) (members set k l) e (omega (arith, few, filter-le (λ r. same_key k (project set r)) l)))
 
-all_joined-length : (ks ls : List AccumulatorState) → length ks ≡ length ls → length (all_joined ks ls) ≡ length ks
-all_joined-length [] ls h = refl
-all_joined-length (k ∷ ks) [] h = refl
-all_joined-length (k ∷ ks) (l ∷ ls) h = ap suc (all_joined-length ks ls (omega (arith, h)))
+joint_states-length : (ks ls : List AccumulatorState) → length ks ≡ length ls → length (joint_states ks ls) ≡ length ks
+joint_states-length [] ls h = refl
+joint_states-length (k ∷ ks) [] h = refl
+joint_states-length (k ∷ ks) (l ∷ ls) h = ap suc (joint_states-length ks ls (omega (arith, h)))
 
-within-join : (fs : List FilteredFunction) (m n : ℕ) (a b : Option GroupState) → IfSome a (IsGroupWithin m fs) → IfSome b (IsGroupWithin n fs) → IfSome (join_options a b) (IsGroupWithin (m + n) fs)
+within-join : (fs : List FilteredFunction) (m n : ℕ) (a b : Option GroupState) → IfSome a (IsGroupWithin m fs) → IfSome b (IsGroupWithin n fs) → IfSome (joint_option a b) (IsGroupWithin (m + n) fs)
 within-join fs m n None None p q = tt
 within-join fs m n None (Some b) p q = (omega (arith, q.0), q.1)
 within-join fs m n (Some a) None p q = (omega (arith, p.0), p.1)
-within-join fs m n (Some a) (Some b) p q = (omega (arith, p.0, q.0), all_joined-length a.parts b.parts (p.1 ∙ sym q.1) ∙ p.1)
+within-join fs m n (Some a) (Some b) p q = (omega (arith, p.0, q.0), joint_states-length a.parts b.parts (p.1 ∙ sym q.1) ∙ p.1)
 
 -- two tables put together are within both numbers of records
 pub tables-within : (fs : List FilteredFunction) (m n : ℕ) (t u v : Contents) → AreGroupsWithin m fs t → AreGroupsWithin n fs u → ((k : Key) → IsJoined t u v k) → AreGroupsWithin (m + n) fs v

@@ -13,7 +13,7 @@ use Rattle.values.specs.Datum.{datum_of, data_of}
 use Rattle.values.specs.declared.value.Value.{Value}
 use Rattle.values.specs.declared.value.Value.TheVariants as v
 use Rattle.values.specs.contracts.value.ValuePartialEq.TheImpl.{eq-value}
-use Rattle.tables_groups.specs.Inside.Coding.{parts, joined_parts, joined_parts-parts}
+use Rattle.tables_groups.specs.Inside.Coding.{parts, datum_of_parts, datum_of_parts-parts}
 use Rattle.semantics.specs.Groups.{Key, key_order, same_key}
 
 abbrev order_of_parts : Datum → Datum → Ordering
@@ -56,10 +56,10 @@ value_total = subst (λ (order : Datum → Datum → Ordering). IsTotalOrder ord
 
 pub value_antisymmetric : IsAntisymmetric value_order
 value_antisymmetric a b h =
-    sym (joined_parts-parts a)
-    ∙ ap joined_parts (exact_pairs nat_cmp (λ x y. ordering_then (int_cmp x.0 y.0) (slice_cmp nat_cmp x.1 y.1)) exact_unsigned
+    sym (datum_of_parts-parts a)
+    ∙ ap datum_of_parts (exact_pairs nat_cmp (λ x y. ordering_then (int_cmp x.0 y.0) (slice_cmp nat_cmp x.1 y.1)) exact_unsigned
     (exact_pairs int_cmp (slice_cmp nat_cmp) exact_signed exact_bytes) (parts a) (parts b) (sym (value_order-is a b) ∙ h))
-    ∙ joined_parts-parts b
+    ∙ datum_of_parts-parts b
 
 pub key_total : IsTotalOrder key_order
 key_total = lists_total value_total

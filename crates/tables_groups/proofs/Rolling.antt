@@ -12,10 +12,10 @@ use Rattle.semantics.specs.Groups.{Row, Key, project, key_order, same_key, membe
 use Rattle.semantics.specs.Aggregates.{AggregateFunction}
 use Rattle.tables_groups.specs.Functions.{bound}
 use Rattle.tables_groups.specs.Inside.Accumulator.{accumulator_state}
-use Rattle.tables_groups.specs.Inside.Group.{GroupState, group_state, no_group, join}
+use Rattle.tables_groups.specs.Inside.Group.{GroupState, group_state, no_group, joint_group}
 use Rattle.tables_groups.specs.Bags.{SameBag}
-use Rattle.tables_groups.specs.Rolled.{rolled, AreAmong, finer_keys, finer_members}
-use Rattle.tables_groups.specs.Inside.Table.{Contents, IsTableOf, IsEnlarged, IsFittingNew, IsPut, TakesEach, enlarged, join_options, joined_entries, joined_states, entries_by_key, contents_of}
+use Rattle.tables_groups.specs.Rolled.{rolled_key, AreAmong, finer_keys, finer_members}
+use Rattle.tables_groups.specs.Inside.Table.{Contents, IsTableOf, IsEnlarged, IsFittingNew, IsPut, TakesEach, group_with_members, joint_option, group_with_entries, group_of_keys, entries_by_key, contents_of}
 use Rattle.tables_groups.proofs.Order.{key_total, same_key-Decides, key_eq-ties}
 use Rattle.tables_groups.proofs.Entries.{Entries, key_eq, find-first}
 use Rattle.tables_groups.proofs.Distinct.{distinct-shown}
@@ -23,7 +23,7 @@ use Rattle.tables_groups.proofs.Meaning.{has_key, group_at, group_at-append, gro
 use Rattle.tables_groups.proofs.AnyOrder.{group_at-bag, table-same}
 use Rattle.tables_groups.proofs.Bags.{length-bag}
 use Rattle.tables_groups.proofs.Covering.{spread, spread-bag, own-key}
-use Rattle.tables_groups.proofs.Rolled.{rolled-project, members-rolled, members-partition}
+use Rattle.tables_groups.proofs.Rolled.{rolled_key-project, members-rolled, members-partition}
 
 or-false : (b : Bool) → (b || false) ≡ b
 or-false true = refl
@@ -40,38 +40,38 @@ or-and false b = refl
 -- ---- the members of one key of the finer set, as records of the other set
 
 any-rolled : (finer set : List ℕ) (k q : Key) (rows : List Row) → AreAmong set finer
-    → list_any (same_key k) (map (project set) (members finer q rows)) ≡ (same_key k (rolled finer set q) && list_any (same_key q) (map (project finer) rows))
-any-rolled finer set k q [] a = elim (same_key k (rolled finer set q)) as (λ b. false ≡ (b && false)) [ true ↦ refl | false ↦ refl ]
+    → list_any (same_key k) (map (project set) (members finer q rows)) ≡ (same_key k (rolled_key finer set q) && list_any (same_key q) (map (project finer) rows))
+any-rolled finer set k q [] a = elim (same_key k (rolled_key finer set q)) as (λ b. false ≡ (b && false)) [ true ↦ refl | false ↦ refl ]
 any-rolled finer set k q (row ∷ rows) a =
     elim (same_key q (project finer row)) as (λ b. same_key q (project finer row) ≡ b
     → list_any (same_key k) (map (project set) (cond b (row ∷ members finer q rows) (members finer q rows)))
-    ≡ (same_key k (rolled finer set q) && (b || list_any (same_key q) (map (project finer) rows)))) [
+    ≡ (same_key k (rolled_key finer set q) && (b || list_any (same_key q) (map (project finer) rows)))) [
       | true ↦ λ e.
-          let is : project set row ≡ rolled finer set q = sym (rolled-project finer set row a) ∙ ap (rolled finer set) (sym ((same_key-Decides q (project finer row)).0 e)) in
+          let is : project set row ≡ rolled_key finer set q = sym (rolled_key-project finer set row a) ∙ ap (rolled_key finer set) (sym ((same_key-Decides q (project finer row)).0 e)) in
           (λ i. same_key k (is i) || any-rolled finer set k q rows a i)
-          ∙ or-and (same_key k (rolled finer set q)) (list_any (same_key q) (map (project finer) rows))
+          ∙ or-and (same_key k (rolled_key finer set q)) (list_any (same_key q) (map (project finer) rows))
       | false ↦ λ e. any-rolled finer set k q rows a
     ] refl
 
 has_key-rolled : (finer set : List ℕ) (k q : Key) (rows : List Row) → AreAmong set finer → has_key finer q rows ≡ true
-    → has_key set k (members finer q rows) ≡ same_key k (rolled finer set q)
+    → has_key set k (members finer q rows) ≡ same_key k (rolled_key finer set q)
 has_key-rolled finer [] k q rows a h = or-false (same_key k [])
 has_key-rolled [] (s ∷ ss) k q rows a h = let n : false ≡ true = a.0 in cc
 has_key-rolled (f ∷ fs) (s ∷ ss) k q rows a h =
     any-key k (map (project (s ∷ ss)) (members (f ∷ fs) q rows))
     ∙ any-rolled (f ∷ fs) (s ∷ ss) k q rows a
-    ∙ ap (λ b. same_key k (rolled (f ∷ fs) (s ∷ ss) q) && b) (sym (any-key q (map (project (f ∷ fs)) rows)) ∙ h)
-    ∙ and-true (same_key k (rolled (f ∷ fs) (s ∷ ss) q))
+    ∙ ap (λ b. same_key k (rolled_key (f ∷ fs) (s ∷ ss) q) && b) (sym (any-key q (map (project (f ∷ fs)) rows)) ∙ h)
+    ∙ and-true (same_key k (rolled_key (f ∷ fs) (s ∷ ss) q))
 
 cond-both : (fs : List AggregateFunction) (c : Bool) (m : List Row) → cond c (Some (group_state fs (cond c m []))) None ≡ cond c (Some (group_state fs m)) None
 cond-both fs true m = refl
 cond-both fs false m = refl
 
 group_at-rolled : (finer set : List ℕ) (fs : List AggregateFunction) (k q : Key) (rows : List Row) → AreAmong set finer → has_key finer q rows ≡ true
-    → group_at set fs k (members finer q rows) ≡ cond (same_key k (rolled finer set q)) (Some (group_state fs (members finer q rows))) None
+    → group_at set fs k (members finer q rows) ≡ cond (same_key k (rolled_key finer set q)) (Some (group_state fs (members finer q rows))) None
 group_at-rolled finer set fs k q rows a h =
     (λ i. cond (has_key-rolled finer set k q rows a h i) (Some (group_state fs (members-rolled finer set k q rows a i))) None)
-    ∙ cond-both fs (same_key k (rolled finer set q)) (members finer q rows)
+    ∙ cond-both fs (same_key k (rolled_key finer set q)) (members finer q rows)
 
 -- ---- one more group of the finer table
 
@@ -84,26 +84,26 @@ group-of : (set : List ℕ) (fs : List AggregateFunction) (t : Contents) (rows :
     → (has_key set q rows ≡ true) × (group_state fs (members set q rows) ≡ h)
 group-of set fs t rows q h a e = group-there (has_key set q rows) (group_state fs (members set q rows)) h (sym (a q) ∙ e)
 
-enlarged-at : (functions : List FilteredFunction) (fs : List AggregateFunction) (c : Bool) (o : Option GroupState) (m : List Row) → no_group functions ≡ group_state fs []
-    → cond c (Some (enlarged functions o (group_state fs m))) o ≡ join_options o (cond c (Some (group_state fs m)) None)
-enlarged-at functions fs true None m e = ap (λ g. Some (join g (group_state fs m))) e ∙ ap Some (sym (group_state-append fs [] m))
-enlarged-at functions fs true (Some g) m e = refl
-enlarged-at functions fs false None m e = refl
-enlarged-at functions fs false (Some g) m e = refl
+group_with_members-at : (functions : List FilteredFunction) (fs : List AggregateFunction) (c : Bool) (o : Option GroupState) (m : List Row) → no_group functions ≡ group_state fs []
+    → cond c (Some (group_with_members functions o (group_state fs m))) o ≡ joint_option o (cond c (Some (group_state fs m)) None)
+group_with_members-at functions fs true None m e = ap (λ g. Some (joint_group g (group_state fs m))) e ∙ ap Some (sym (group_state-append fs [] m))
+group_with_members-at functions fs true (Some g) m e = refl
+group_with_members-at functions fs false None m e = refl
+group_with_members-at functions fs false (Some g) m e = refl
 
-pub table-enlarged : (finer set : List ℕ) (functions : List FilteredFunction) (filters : List (Row → Bool)) (t old new : Contents) (rows done : List Row) (q : Key) (h : GroupState)
+pub table-group_with_members : (finer set : List ℕ) (functions : List FilteredFunction) (filters : List (Row → Bool)) (t old new : Contents) (rows done : List Row) (q : Key) (h : GroupState)
     → AreAmong set finer → IsTableOf finer (map (bound filters) functions) t rows → fin.get t q ≡ Some h → IsTableOf set (map (bound filters) functions) old done
-    → ((k : Key) → IsEnlarged functions old new (rolled finer set q) h k) → IsTableOf set (map (bound filters) functions) new (done ++ members finer q rows)
-table-enlarged finer set functions filters t old new rows done q h a is e b j k =
+    → ((k : Key) → IsEnlarged functions old new (rolled_key finer set q) h k) → IsTableOf set (map (bound filters) functions) new (done ++ members finer q rows)
+table-group_with_members finer set functions filters t old new rows done q h a is e b j k =
     let fs = map (bound filters) functions in
     let g = group-of finer fs t rows q h is e in
     let m = members finer q rows in
-    let c = same_key k (rolled finer set q) in
+    let c = same_key k (rolled_key finer set q) in
     j k
-    ∙ ap (λ x. cond c (Some (enlarged functions (fin.get old k) x)) (fin.get old k)) (sym g.1)
-    ∙ ap (λ o. cond c (Some (enlarged functions o (group_state fs m))) o) (b k)
-    ∙ enlarged-at functions fs c (group_at set fs k done) m (no_group-is filters functions)
-    ∙ ap (join_options (group_at set fs k done)) (sym (group_at-rolled finer set fs k q rows a g.0))
+    ∙ ap (λ x. cond c (Some (group_with_members functions (fin.get old k) x)) (fin.get old k)) (sym g.1)
+    ∙ ap (λ o. cond c (Some (group_with_members functions o (group_state fs m))) o) (b k)
+    ∙ group_with_members-at functions fs c (group_at set fs k done) m (no_group-is filters functions)
+    ∙ ap (joint_option (group_at set fs k done)) (sym (group_at-rolled finer set fs k q rows a g.0))
     ∙ sym (group_at-append set fs k done m)
 
 fitting-at : (functions : List FilteredFunction) (fs : List AggregateFunction) (b : Bool) (x m : List Row) → length fs ≡ length functions → length x + length m < 2 ^ 63
@@ -192,11 +192,11 @@ pub record IsRolled (finer set : List ℕ) (fs : List AggregateFunction) (table 
 
 pub rolled-step : (finer set : List ℕ) (functions : List FilteredFunction) (filters : List (Row → Bool)) (t old new : Contents) (e : Vec Value Global × GroupState) (left all : Entries) (rows : List Row)
     → AreAmong set finer → IsTableOf finer (map (bound filters) functions) t rows → fin.get t (data_of e.0.items) ≡ Some e.1
-    → ((k : Key) → IsEnlarged functions old new (rolled finer set (data_of e.0.items)) e.1 k)
+    → ((k : Key) → IsEnlarged functions old new (rolled_key finer set (data_of e.0.items)) e.1 k)
     → IsRolled finer set (map (bound filters) functions) old (e ∷ left) all rows → IsRolled finer set (map (bound filters) functions) new left all rows
 rolled-step finer set functions filters t old new e left all rows a is g j r = record {
   done = r.done ++ members finer (data_of e.0.items) rows;
-  is_table = table-enlarged finer set functions filters t old new rows r.done (data_of e.0.items) e.1 a is g r.is_table j;
+  is_table = table-group_with_members finer set functions filters t old new rows r.done (data_of e.0.items) e.1 a is g r.is_table j;
   whole = append_assoc r.done (members finer (data_of e.0.items) rows) (spread finer rows (firsts left)) ∙ r.whole;
 }
 
@@ -230,13 +230,13 @@ group_state-bag fs l m s =
     ∙ ap (group_state fs) (members-all m)
 
 joined-spread : (finer : List ℕ) (fs : List AggregateFunction) (t : Contents) (rows done : List Row) (es : Entries) → IsTableOf finer fs t rows
-    → AllByRecursion (λ e. fin.get t (data_of e.0.items) ≡ Some e.1) es → joined_entries (group_state fs done) es ≡ group_state fs (done ++ spread finer rows (firsts es))
+    → AllByRecursion (λ e. fin.get t (data_of e.0.items) ≡ Some e.1) es → group_with_entries (group_state fs done) es ≡ group_state fs (done ++ spread finer rows (firsts es))
 joined-spread finer fs t rows done [] is each = ap (group_state fs) (sym (append-nil done))
 joined-spread finer fs t rows done (e ∷ es) is each =
     let m = members finer (data_of e.0.items) rows in
     let g = group-of finer fs t rows (data_of e.0.items) e.1 is each.0 in
-    ap (λ (h : GroupState). joined_entries (join (group_state fs done) h) es) (sym g.1)
-    ∙ ap (λ (h : GroupState). joined_entries h es) (sym (group_state-append fs done m))
+    ap (λ (h : GroupState). group_with_entries (joint_group (group_state fs done) h) es) (sym g.1)
+    ∙ ap (λ (h : GroupState). group_with_entries h es) (sym (group_state-append fs done m))
     ∙ joined-spread finer fs t rows (done ++ m) es is each.1
     ∙ ap (group_state fs) (append_assoc done m (spread finer rows (firsts es)))
 
@@ -249,7 +249,7 @@ takes-spread finer fs t rows done (e ∷ es) is each few =
     let a = length-append m rest in
     let b = length-append done m in
     let g = group-of finer fs t rows (data_of e.0.items) e.1 is each.0 in
-    subst (λ (h : GroupState). (length done + h.lines < 2 ^ 63) × (length h.parts ≡ length (map (λ f. accumulator_state f done) fs)) × TakesEach (join (group_state fs done) h) es) g.1 (
+    subst (λ (h : GroupState). (length done + h.lines < 2 ^ 63) × (length h.parts ≡ length (map (λ f. accumulator_state f done) fs)) × TakesEach (joint_group (group_state fs done) h) es) g.1 (
       omega (arith, few, a),
       length-map fs (λ f. accumulator_state f m) ∙ sym (length-map fs (λ f. accumulator_state f done)),
       subst (λ (h : GroupState). TakesEach h es) (group_state-append fs done m) (takes-spread finer fs t rows (done ++ m) es is each.1 (omega (arith, few, a, b))),
@@ -257,7 +257,7 @@ takes-spread finer fs t rows done (e ∷ es) is each few =
 
 pub takes-prop : (g : GroupState) (es : Entries) → IsProp (TakesEach g es)
 takes-prop g [] = Prim.hlevel props
-takes-prop g (e ∷ es) = let p = takes-prop (join g e.1) es in Prim.hlevel (props, p)
+takes-prop g (e ∷ es) = let p = takes-prop (joint_group g e.1) es in Prim.hlevel (props, p)
 
 -- a group without members takes the groups of a table of few records
 pub takes-all : (finer : List ℕ) (functions : List FilteredFunction) (filters : List (Row → Bool)) (t : Contents) (es : Entries) (rows : List Row) → contents_of es ≡ t → IsDistinct key_eq (keys_of es)
@@ -267,13 +267,13 @@ takes-all finer functions filters t es rows v d few is =
     let whole = length-bag (spread finer rows (firsts es)) rows (spread-entries finer fs es t rows v d is) in
     subst (λ (g : GroupState). TakesEach g es) (sym (no_group-is filters functions)) (takes-spread finer fs t rows [] es is (get-each es t v d) (omega (arith, few, whole)))
 
-pub joined_entries-append : (g : GroupState) (xs ys : Entries) → joined_entries g (xs ++ ys) ≡ joined_entries (joined_entries g xs) ys
-joined_entries-append g [] ys = refl
-joined_entries-append g (x ∷ xs) ys = joined_entries-append (join g x.1) xs ys
+pub group_with_entries-append : (g : GroupState) (xs ys : Entries) → group_with_entries g (xs ++ ys) ≡ group_with_entries (group_with_entries g xs) ys
+group_with_entries-append g [] ys = refl
+group_with_entries-append g (x ∷ xs) ys = group_with_entries-append (joint_group g x.1) xs ys
 
-pub takes-append : (g : GroupState) (xs ys : Entries) → TakesEach g (xs ++ ys) → TakesEach g xs × TakesEach (joined_entries g xs) ys
+pub takes-append : (g : GroupState) (xs ys : Entries) → TakesEach g (xs ++ ys) → TakesEach g xs × TakesEach (group_with_entries g xs) ys
 takes-append g [] ys h = (tt, h)
-takes-append g (x ∷ xs) ys h = let more = takes-append (join g x.1) xs ys h.2 in ((h.0, h.1, more.0), more.1)
+takes-append g (x ∷ xs) ys h = let more = takes-append (joint_group g x.1) xs ys h.2 in ((h.0, h.1, more.0), more.1)
 
 all-kept : (rows : List Row) → filter (λ (row : Row). true) rows ≡ rows
 all-kept [] = refl
@@ -288,17 +288,17 @@ one-at fs false group rows is = refl
 table-of_one : (fs : List AggregateFunction) (t : Contents) (group : GroupState) (rows : List Row) → group ≡ group_state fs rows → ((k : Key) → IsPut fin.empty t [] group k) → IsTableOf [] fs t rows
 table-of_one fs t group rows is h k =
     h k
-    ∙ ap (λ (o : Option GroupState). cond (same_key k []) (join_options o (Some group)) o) (fin.get-empty key_order k)
+    ∙ ap (λ (o : Option GroupState). cond (same_key k []) (joint_option o (Some group)) o) (fin.get-empty key_order k)
     ∙ one-at fs (same_key k []) group rows is
 
 -- what all groups of a table come to is the one group of the empty set
 pub rolled-to_one : (finer : List ℕ) (functions : List FilteredFunction) (filters : List (Row → Bool)) (t table : Contents) (es : Entries) (rows : List Row) → contents_of es ≡ t → IsDistinct key_eq (keys_of es)
-    → IsTableOf finer (map (bound filters) functions) t rows → ((k : Key) → IsPut fin.empty table [] (joined_entries (no_group functions) es) k) → IsTableOf [] (map (bound filters) functions) table rows
+    → IsTableOf finer (map (bound filters) functions) t rows → ((k : Key) → IsPut fin.empty table [] (group_with_entries (no_group functions) es) k) → IsTableOf [] (map (bound filters) functions) table rows
 rolled-to_one finer functions filters t table es rows v d is h =
     let fs = map (bound filters) functions in
-    let group = ap (λ (g : GroupState). joined_entries g es) (no_group-is filters functions) ∙ joined-spread finer fs t rows [] es is (get-each es t v d)
+    let group = ap (λ (g : GroupState). group_with_entries g es) (no_group-is filters functions) ∙ joined-spread finer fs t rows [] es is (get-each es t v d)
     ∙ group_state-bag fs (spread finer rows (firsts es)) rows (spread-entries finer fs es t rows v d is) in
-    table-of_one fs table (joined_entries (no_group functions) es) rows group h
+    table-of_one fs table (group_with_entries (no_group functions) es) rows group h
 
 -- ---- what is kept of a group, by the groups of a finer table
 
@@ -306,14 +306,14 @@ kept-at : (set : List ℕ) (fs : List AggregateFunction) (t : Contents) (rows : 
 kept-at set fs t rows q is = sym (ap (λ (o : Option GroupState). unwrap_or o (group_state fs [])) (is q) ∙ group_state-at fs (has_key set q rows) (members set q rows) (no_members set q rows))
 
 states-spread : (set : List ℕ) (fs : List AggregateFunction) (t : Contents) (rows : List Row) (qs : List Key) → IsTableOf set fs t rows
-    → group_state fs (spread set rows qs) ≡ joined_states fs t qs
+    → group_state fs (spread set rows qs) ≡ group_of_keys fs t qs
 states-spread set fs t rows [] is = refl
 states-spread set fs t rows (q ∷ qs) is =
-    group_state-append fs (members set q rows) (spread set rows qs) ∙ (λ i. join (kept-at set fs t rows q is i) (states-spread set fs t rows qs is i))
+    group_state-append fs (members set q rows) (spread set rows qs) ∙ (λ i. joint_group (kept-at set fs t rows q is i) (states-spread set fs t rows qs is i))
 
 -- what is kept of the group of a key is what the finer table keeps of the keys that are rolled to it, put together
 pub group-rolled : (finer set : List ℕ) (fs : List AggregateFunction) (t table : Contents) (key : Key) (group : GroupState) (rows : List Row) → AreAmong set finer
-    → IsTableOf finer fs t rows → IsTableOf set fs table rows → fin.get table key ≡ Some group → group ≡ joined_states fs t (finer_keys finer set key rows)
+    → IsTableOf finer fs t rows → IsTableOf set fs table rows → fin.get table key ≡ Some group → group ≡ group_of_keys fs t (finer_keys finer set key rows)
 group-rolled finer set fs t table key group rows a is b e =
     sym ((group-of set fs table rows key group b e).1)
     ∙ sym (group_state-bag fs (finer_members finer set key rows) (members set key rows) (members-partition finer set key rows a))

@@ -10,7 +10,7 @@ use Rattle.values.specs.Datum.{data_of}
 use Rattle.values.specs.declared.value.Value.{Value}
 use Rattle.semantics.specs.Groups.{Key, key_order, same_key}
 use Rattle.tables_groups.specs.Inside.Group.{GroupState}
-use Rattle.tables_groups.specs.Inside.Table.{CanJoin, Contents, IsFitting, IsJoined, join_options, entries_by_key}
+use Rattle.tables_groups.specs.Inside.Table.{CanJoin, Contents, IsFitting, IsJoined, joint_option, entries_by_key}
 use Rattle.tables_groups.specs.Inside.Shards.{AreApart, AreJoined, CanJoinEach, all_entries, contents_in, contents_of_shards, digest, entries_in, shard_index}
 use Rattle.tables_groups.specs.declared.shard.Shard.{Shard}
 use Rattle.tables_groups.proofs.Order.{key_total, same_key-Decides, key_eq-ties}
@@ -181,7 +181,7 @@ all-changed to ss s new key a within is others = changed-all (length ss) to ss s
 
 -- ---- shards put together one by one
 
-joined-some : (a b c : Option GroupState) (P : Type 0) → c ≡ join_options a b → IfSome a (λ _. P) → IfSome b (λ _. P) → IfSome c (λ _. P)
+joined-some : (a b c : Option GroupState) (P : Type 0) → c ≡ joint_option a b → IfSome a (λ _. P) → IfSome b (λ _. P) → IfSome c (λ _. P)
 joined-some None b c P e h g = subst (λ (o : Option GroupState). IfSome o (λ _. P)) (sym e) g
 joined-some (Some a) None c P e h g = subst (λ (o : Option GroupState). IfSome o (λ _. P)) (sym e) h
 joined-some (Some a) (Some b) c P e h g = subst (λ (o : Option GroupState). IfSome o (λ _. P)) (sym e) h
@@ -201,7 +201,7 @@ joined-by ss ts us d a b m n within j k =
     let w = within k in
     get-place-among (length ss) us d k n (apart-joined ss ts us a b m n j) w
     ∙ j (shard_index (length ss) k) d w k
-    ∙ (λ i. join_options (sym (get-place ss d k a w) i) (sym (get-place-among (length ss) ts d k m b w) i))
+    ∙ (λ i. joint_option (sym (get-place ss d k a w) i) (sym (get-place-among (length ss) ts d k m b w) i))
 
 pub all-joined : (ss ts us : List Shard) → AreApart ss → AreApart ts → length ts ≡ length ss → length us ≡ length ss → ((k : Key) → shard_index (length ss) k < length ss) → AreJoined ss ts us
     → (k : Key) → IsJoined (contents_of_shards ss) (contents_of_shards ts) (contents_of_shards us) k
@@ -316,13 +316,13 @@ none-behind k (e ∷ es) fs d g h =
       | false ↦ λ i f. none-behind k es fs d.1 g f
     ] refl h
 
-joined-options : (o a b : Option GroupState) → ((g : GroupState) → a ≡ Some g → b ≡ None) → join_options (join_options o a) b ≡ join_options o (or_else a b)
-joined-options o None b h = ap (λ x. join_options x b) (options-none o)
-joined-options o (Some g) b h = ap (join_options (join_options o (Some g))) (h g refl) ∙ options-none (join_options o (Some g))
+joined-options : (o a b : Option GroupState) → ((g : GroupState) → a ≡ Some g → b ≡ None) → joint_option (joint_option o a) b ≡ joint_option o (or_else a b)
+joined-options o None b h = ap (λ x. joint_option x b) (options-none o)
+joined-options o (Some g) b h = ap (joint_option (joint_option o (Some g))) (h g refl) ∙ options-none (joint_option o (Some g))
 
-fitting-options : (o a b : Option GroupState) → ((g : GroupState) → a ≡ Some g → b ≡ None) → IfSome (or_else a b) (λ p. IsFitting p o) → IfSome b (λ p. IsFitting p (join_options o a))
+fitting-options : (o a b : Option GroupState) → ((g : GroupState) → a ≡ Some g → b ≡ None) → IfSome (or_else a b) (λ p. IsFitting p o) → IfSome b (λ p. IsFitting p (joint_option o a))
 fitting-options o None b h f = subst (λ (x : Option GroupState). IfSome b (λ p. IsFitting p x)) (sym (options-none o)) f
-fitting-options o (Some g) b h f = subst (λ (x : Option GroupState). IfSome x (λ p. IsFitting p (join_options o (Some g)))) (sym (h g refl)) tt
+fitting-options o (Some g) b h f = subst (λ (x : Option GroupState). IfSome x (λ p. IsFitting p (joint_option o (Some g)))) (sym (h g refl)) tt
 
 first-options : (o a b : Option GroupState) → IfSome (or_else a b) (λ p. IsFitting p o) → IfSome a (λ p. IsFitting p o)
 first-options o None b f = tt
@@ -337,13 +337,13 @@ can_join-first table s ss f = λ k.
 
 -- once it is joined, the table and the rest have what they had with it
 pub joined-first : (old new : Contents) (k : Key) (s : Shard) (ss : List Shard) → IsDistinct key_eq (keys_of (all_entries (s ∷ ss))) → IsJoined old (contents_in s) new k
-    → join_options (get new k) (find key_order k (entries_by_key (all_entries ss))) ≡ join_options (get old k) (find key_order k (entries_by_key (all_entries (s ∷ ss))))
+    → joint_option (get new k) (find key_order k (entries_by_key (all_entries ss))) ≡ joint_option (get old k) (find key_order k (entries_by_key (all_entries (s ∷ ss))))
 joined-first old new k s ss d j =
     let es = entries_in s in
     let fs = all_entries ss in
-    ap (λ o. join_options o (find key_order k (entries_by_key fs))) (j ∙ ap (join_options (get old k)) (get-from_entries key_total (entries_by_key es) k))
+    ap (λ o. joint_option o (find key_order k (entries_by_key fs))) (j ∙ ap (joint_option (get old k)) (get-from_entries key_total (entries_by_key es) k))
     ∙ joined-options (get old k) (find key_order k (entries_by_key es)) (find key_order k (entries_by_key fs)) (none-behind k es fs d)
-    ∙ ap (join_options (get old k)) (sym (find-append k es fs))
+    ∙ ap (joint_option (get old k)) (sym (find-append k es fs))
 
 -- and the rest can be joined still
 pub fits-first : (old new : Contents) (k : Key) (s : Shard) (ss : List Shard) → IsDistinct key_eq (keys_of (all_entries (s ∷ ss))) → IsJoined old (contents_in s) new k
@@ -351,6 +351,6 @@ pub fits-first : (old new : Contents) (k : Key) (s : Shard) (ss : List Shard) �
 fits-first old new k s ss d j f =
     let es = entries_in s in
     let fs = all_entries ss in
-    subst (λ (o : Option GroupState). IfSome (find key_order k (entries_by_key fs)) (λ p. IsFitting p o)) (sym (j ∙ ap (join_options (get old k)) (get-from_entries key_total (entries_by_key es) k)))
+    subst (λ (o : Option GroupState). IfSome (find key_order k (entries_by_key fs)) (λ p. IsFitting p o)) (sym (j ∙ ap (joint_option (get old k)) (get-from_entries key_total (entries_by_key es) k)))
     (fitting-options (get old k) (find key_order k (entries_by_key es)) (find key_order k (entries_by_key fs)) (none-behind k es fs d)
     (subst (λ (o : Option GroupState). IfSome o (λ p. IsFitting p (get old k))) (find-append k es fs) f))

@@ -5,30 +5,26 @@ use Rattle.tables_groups.specs.Bags.{SameBag, weigh}
 use Rattle.semantics.specs.Found.{GroupSummary}
 use Rattle.tables_groups.specs.declared.walk.Walk.{Walk}
 use Rattle.tables_groups.specs.Inside.Group.{state_summary}
-use Rattle.tables_groups.specs.Inside.Table.{entries_by_key}
+use Rattle.tables_groups.specs.Inside.Summaries.{entry_summaries}
 use Rattle.tables_groups.specs.Inside.Walks.{entries_left}
 use Rattle.tables_groups.proofs.Bags.{weigh-append}
 use Rattle.tables_groups.proofs.Entries.{Entries}
 
--- the groups of entries
-abbrev pub summaries : Entries → List GroupSummary
-summaries es = map state_summary (entries_by_key es)
+pub entry_summaries-append : (es fs : Entries) → entry_summaries (es ++ fs) ≡ entry_summaries es ++ entry_summaries fs
+entry_summaries-append [] fs = refl
+entry_summaries-append (e ∷ es) fs = ap (λ rs. state_summary (data_of e.0.items, e.1) ∷ rs) (entry_summaries-append es fs)
 
-pub summaries-append : (es fs : Entries) → summaries (es ++ fs) ≡ summaries es ++ summaries fs
-summaries-append [] fs = refl
-summaries-append (e ∷ es) fs = ap (λ rs. state_summary (data_of e.0.items, e.1) ∷ rs) (summaries-append es fs)
-
-weigh-both : (f : GroupSummary → ℕ) (es fs : Entries) → weigh f (summaries (es ++ fs)) ≡ weigh f (summaries es) + weigh f (summaries fs)
-weigh-both f es fs = ap (weigh f) (summaries-append es fs) ∙ weigh-append f (summaries es) (summaries fs)
+weigh-both : (f : GroupSummary → ℕ) (es fs : Entries) → weigh f (entry_summaries (es ++ fs)) ≡ weigh f (entry_summaries es) + weigh f (entry_summaries fs)
+weigh-both f es fs = ap (weigh f) (entry_summaries-append es fs) ∙ weigh-append f (entry_summaries es) (entry_summaries fs)
 
 -- where one walk has come further, all weigh less by what it has come past
 exchanged : (f : GroupSummary → ℕ) (i : ℕ) (ws : List Walk) (old new : Walk) → old ≡ get_or ws i old → i < length ws
-    → weigh f (summaries (entries_left (set ws i new))) + weigh f (summaries old.entries) ≡ weigh f (summaries (entries_left ws)) + weigh f (summaries new.entries)
+    → weigh f (entry_summaries (entries_left (set ws i new))) + weigh f (entry_summaries old.entries) ≡ weigh f (entry_summaries (entries_left ws)) + weigh f (entry_summaries new.entries)
 exchanged f i [] old new is l = absurd (omega (arith, l))
 exchanged f zero (w ∷ ws) old new is l =
     let a = weigh-both f new.entries (entries_left ws) in
     let b = weigh-both f w.entries (entries_left ws) in
-    let e : weigh f (summaries old.entries) ≡ weigh f (summaries w.entries) = ap (λ (x : Walk). weigh f (summaries x.entries)) is in
+    let e : weigh f (entry_summaries old.entries) ≡ weigh f (entry_summaries w.entries) = ap (λ (x : Walk). weigh f (entry_summaries x.entries)) is in
     omega (arith, a, b, e)
 exchanged f (suc i) (w ∷ ws) old new is l =
     let a = weigh-both f w.entries (entries_left (set ws i new)) in
@@ -37,15 +33,15 @@ exchanged f (suc i) (w ∷ ws) old new is l =
     omega (arith, a, b, h)
 
 -- the groups with those that are left are the same bag as before, where they are for one walk
-pub turned : (gs hs : List GroupSummary) (i : ℕ) (ws : List Walk) (old new : Walk) → old ≡ get_or ws i old → i < length ws
-    → hs ++ summaries new.entries ≡ gs ++ summaries old.entries
-    → SameBag (hs ++ summaries (entries_left (set ws i new))) (gs ++ summaries (entries_left ws))
-turned gs hs i ws old new is l h = λ f.
+pub put_next-bag : (gs hs : List GroupSummary) (i : ℕ) (ws : List Walk) (old new : Walk) → old ≡ get_or ws i old → i < length ws
+    → hs ++ entry_summaries new.entries ≡ gs ++ entry_summaries old.entries
+    → SameBag (hs ++ entry_summaries (entries_left (set ws i new))) (gs ++ entry_summaries (entries_left ws))
+put_next-bag gs hs i ws old new is l h = λ f.
     let a = exchanged f i ws old new is l in
-    let b = weigh-append f hs (summaries new.entries) in
-    let c = weigh-append f gs (summaries old.entries) in
-    let d = weigh-append f hs (summaries (entries_left (set ws i new))) in
-    let e = weigh-append f gs (summaries (entries_left ws)) in
+    let b = weigh-append f hs (entry_summaries new.entries) in
+    let c = weigh-append f gs (entry_summaries old.entries) in
+    let d = weigh-append f hs (entry_summaries (entries_left (set ws i new))) in
+    let e = weigh-append f gs (entry_summaries (entries_left ws)) in
     let g = ap (weigh f) h in
     omega (arith, a, b, c, d, e, g)
 

@@ -2,9 +2,9 @@
 --
 -- A table that is not finished is said in words of `Table` and `Group`, and in those of `Accumulator`, `Values` and `Coding`, on which these stand: the public
 -- calls of `Table` say by them that a table is that of some records, and how it grows, is put to another one and is rolled; `order_law` and `roll_law` are laws on
--- such tables; and in `tables` a partial result has one (`PartialState`, `StandsFor`, `Denotation`), which an `Executor` puts to another. What a finished table gives,
--- and so what a result over an input is, `Table::finish` and the calls above it say in the words of the other files alone. Of `Keys`, `Shards`,
--- `Pairs`, `Walks` and `Finished` private calls alone speak.
+-- such tables; and in `tables` a partial result has one (`PartialState`, `StandsFor`, `Denotation`), which an `Executor` puts to another. `Table::finish` says by
+-- `AreGroupsOfTable` what a finished table gives. What a result over an input is, the calls above it say in the words of the other files alone. Of `Keys`,
+-- `Shards`, `Pairs`, `Walks`, `Summaries` and `GroupsOfShards` private calls alone speak.
 pub mod Values
 pub mod Coding
 pub mod Accumulator
@@ -14,4 +14,5 @@ pub mod Table
 pub mod Shards
 pub mod Pairs
 pub mod Walks
-pub mod Finished
+pub mod Summaries
+pub mod GroupsOfShards

@@ -13,12 +13,12 @@ index_in [] place = zero
 index_in (p ∷ ps) place = if p == place then zero else suc (index_in ps place)
 
 -- the values of a key of the finer set in the columns of the set
-abbrev pub rolled : List ℕ → List ℕ → Key → Key
-rolled finer set key = project (map (index_in finer) set) key
+abbrev pub rolled_key : List ℕ → List ℕ → Key → Key
+rolled_key finer set key = project (map (index_in finer) set) key
 
 -- the keys of the finer set that have a key's values in the columns of the set
 abbrev pub finer_keys : List ℕ → List ℕ → Key → List Row → List Key
-finer_keys finer set key rows = filter (λ k. same_key key (rolled finer set k)) (keys finer rows)
+finer_keys finer set key rows = filter (λ k. same_key key (rolled_key finer set k)) (keys finer rows)
 
 -- the members of those keys, joined
 abbrev pub finer_members : List ℕ → List ℕ → Key → List Row → List Row

@@ -35,7 +35,7 @@ pub(crate) enum Accumulator {
 
 impl Accumulator {
     ghost use Rattle.std.specs.Prelude.{[], IfOk, OnOk, OnErr};
-    ghost use Rattle.tables_groups.specs.Inside.Accumulator.{is_marked, no_state, state_in, state_counted, state_over, with_count, with_member, with_record, with_value, joined, summary, HasRoom, IsUnbounded};
+    ghost use Rattle.tables_groups.specs.Inside.Accumulator.{is_marked, no_state, state_in, state_counted, state_over, with_count, with_member, with_record, with_value, joint_state, summary, HasRoom, IsUnbounded};
     ghost use Rattle.semantics.specs.Groups.{value_at};
     ghost use Rattle.tables_groups.specs.Cells.{summary_of};
 
@@ -45,13 +45,13 @@ impl Accumulator {
             state_in accumulator ≡ no_state function.filter function.function) }
     {
         match function.filter {
-            None => Accumulator::of_all(alloc, function.function),
-            Some(_) => Accumulator::of_some(alloc, function.function),
+            None => Accumulator::without_filter(alloc, function.function),
+            Some(_) => Accumulator::with_filter(alloc, function.function),
         }
     }
 
     /// What is kept of no record for a set function with FILTER.
-    fn of_some(alloc: Global, function: ColumnFunction) -> Result<Accumulator, AllocError>
+    fn with_filter(alloc: Global, function: ColumnFunction) -> Result<Accumulator, AllocError>
         ensures { IfOk result (λ accumulator. state_in accumulator ≡ state_counted function []) }
     {
         match function {
@@ -61,12 +61,12 @@ impl Accumulator {
             | ColumnFunction::Sum(_)
             | ColumnFunction::Min(_)
             | ColumnFunction::Max(_)
-            | ColumnFunction::Avg(_) => Accumulator::of_all(alloc, function),
+            | ColumnFunction::Avg(_) => Accumulator::without_filter(alloc, function),
         }
     }
 
     /// What is kept of no record for a set function without FILTER.
-    fn of_all(alloc: Global, function: ColumnFunction) -> Result<Accumulator, AllocError>
+    fn without_filter(alloc: Global, function: ColumnFunction) -> Result<Accumulator, AllocError>
         ensures { IfOk result (λ accumulator. state_in accumulator ≡ state_over function []) }
     {
         match function {
@@ -181,9 +181,9 @@ impl Accumulator {
 
     /// Takes what is kept of other records for the same function. After an error what is kept is of no use.
     pub(crate) fn absorb(&mut self, other: Accumulator) -> Result<(), AllocError>
-        requires { HasRoom (joined (state_in self.old) (state_in other)) }
+        requires { HasRoom (joint_state (state_in self.old) (state_in other)) }
         ensures joined { OnOk result (state_in self.new
-            ≡ joined (state_in self.old) (state_in other)) }
+            ≡ joint_state (state_in self.old) (state_in other)) }
         ensures unbounded { OnErr result (IsUnbounded (state_in self.new)) }
     {
         match (self, other) {
@@ -217,9 +217,9 @@ impl Accumulator {
 
     /// Takes copies of what is kept of other records for the same function. After an error what is kept is of no use.
     pub(crate) fn absorb_copies(&mut self, other: &Accumulator) -> Result<(), AllocError>
-        requires { HasRoom (joined (state_in self.old) (state_in other.now)) }
+        requires { HasRoom (joint_state (state_in self.old) (state_in other.now)) }
         ensures joined { OnOk result (state_in self.new
-            ≡ joined (state_in self.old) (state_in other.now)) }
+            ≡ joint_state (state_in self.old) (state_in other.now)) }
         ensures unbounded { OnErr result (IsUnbounded (state_in self.new)) }
     {
         match (self, other) {

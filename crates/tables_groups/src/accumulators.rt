@@ -35,7 +35,7 @@ impl Accumulators {
     ghost use Rattle.std.specs.Prelude.{◌≡◌, ◌+◌, ◌<◌, ◌^◌, IfOk, OnOk, length, map};
     ghost use Rattle.values.specs.Datum.{data_of};
     ghost use Rattle.tables_groups.specs.Inside.Accumulator.{summary};
-    ghost use Rattle.tables_groups.specs.Inside.Group.{no_group, with_row, join};
+    ghost use Rattle.tables_groups.specs.Inside.Group.{no_group, with_row, joint_group};
     ghost use Rattle.tables_groups.specs.Rows.{IsNarrowRow};
     ghost use Rattle.tables_groups.specs.Cells.{summary_of};
 
@@ -78,7 +78,7 @@ impl Accumulators {
     pub(crate) fn absorb(&mut self, other: Accumulators) -> Result<(), AllocError>
         requires room { self.old.lines + other.lines < 2 ^ 63 }
         requires one_each { length other.parts ≡ length self.old.parts }
-        ensures { OnOk result (self.new ≡ join self.old other) }
+        ensures { OnOk result (self.new ≡ joint_group self.old other) }
     {
         let Accumulators { lines, parts } = other;
         self.lines += lines;
@@ -92,7 +92,7 @@ impl Accumulators {
     pub(crate) fn absorb_copies(&mut self, other: &Accumulators) -> Result<(), AllocError>
         requires room { self.old.lines + other.now.lines < 2 ^ 63 }
         requires one_each { length other.now.parts ≡ length self.old.parts }
-        ensures { OnOk result (self.new ≡ join self.old other.now) }
+        ensures { OnOk result (self.new ≡ joint_group self.old other.now) }
     {
         self.lines += other.lines;
         for (place, part) in other.parts.iter().enumerate() {

@@ -3,7 +3,7 @@ ghost use Rattle.std.specs.Prelude.{◌≡◌};
 ghost use Rattle.std.specs.Ordering.{is_lt};
 ghost use Rattle.values.specs.Datum.{datum_of};
 ghost use Rattle.semantics.specs.Values.{value_order};
-ghost use Rattle.tables_groups.specs.Inside.Values.{falling};
+ghost use Rattle.tables_groups.specs.Inside.Values.{falling_order};
 
 use std::cmp::Ordering;
 use values::Value;
@@ -17,7 +17,7 @@ pub(crate) fn is_less(value: &Value, other: &Value) -> bool
 
 /// Whether a value is greater than another one, or than none, for which NULL stands.
 pub(crate) fn is_greater(value: &Value, other: &Value) -> bool
-    ensures { result ≡ is_lt (falling (datum_of value.now) (datum_of other.now)) }
+    ensures { result ≡ is_lt (falling_order (datum_of value.now) (datum_of other.now)) }
 {
     match (value, other) {
         (Value::Null, _) => false,

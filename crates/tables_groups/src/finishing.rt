@@ -1,10 +1,9 @@
 //! The groups of shards, finished by several threads.
 ghost use Rattle.std.specs.Prelude.{◌≡◌, IfOk, List, map};
 ghost use Rattle.tables_groups.specs.GroupSummaries.{group_summary_in};
-ghost use Rattle.tables_groups.specs.Inside.Finished.{AreFinished, IsFinished};
-ghost use Rattle.tables_groups.specs.Inside.Group.{state_summary};
+ghost use Rattle.tables_groups.specs.Inside.GroupsOfShards.{AreGroupsOfEach, AreGroupsOfShard};
 ghost use Rattle.tables_groups.specs.Inside.Shards.{all_entries};
-ghost use Rattle.tables_groups.specs.Inside.Table.{entries_by_key};
+ghost use Rattle.tables_groups.specs.Inside.Summaries.{entry_summaries};
 
 use crate::group::{Group, put_groups};
 use crate::shard::Shard;
@@ -23,10 +22,10 @@ pub(crate) fn groups_among<H: Threads + Sync>(
     shards: Vec<Shard>,
 ) -> Result<Vec<Group>, AllocError>
     ensures { IfOk result (λ groups. map group_summary_in groups.items
-        ≡ map state_summary (entries_by_key (all_entries shards.items))) }
+        ≡ entry_summaries (all_entries shards.items)) }
 {
     let parts = parts_among(rt, alloc, shards)?;
-    joined(alloc, room, parts)
+    join_parts(alloc, room, parts)
 }
 
 /// The groups of each shard.
@@ -35,13 +34,13 @@ fn parts_among<H: Threads + Sync>(
     alloc: Global,
     shards: Vec<Shard>,
 ) -> Result<Vec<Result<Vec<Group>, AllocError>>, AllocError>
-    ensures { IfOk result (λ parts. AreFinished shards.items parts.items) }
+    ensures { IfOk result (λ parts. AreGroupsOfEach shards.items parts.items) }
 {
     let parts = thread::map_vec(
         rt,
         shards,
         &|shard: Shard| -> Result<Vec<Group>, AllocError>
-            ensures { IfOk result (λ groups. IsFinished shard groups.items) }
+            ensures { IfOk result (λ groups. AreGroupsOfShard shard groups.items) }
         { groups_of(alloc, shard) },
     )?;
     Ok(parts)
@@ -49,7 +48,7 @@ fn parts_among<H: Threads + Sync>(
 
 /// The groups of a shard.
 fn groups_of(alloc: Global, shard: Shard) -> Result<Vec<Group>, AllocError>
-    ensures { IfOk result (λ groups. IsFinished shard groups.items) }
+    ensures { IfOk result (λ groups. AreGroupsOfShard shard groups.items) }
 {
     let mut groups = Vec::with_capacity(alloc, shard.len())?;
     put_groups(alloc, &mut groups, walk_over(shard))?;
@@ -58,14 +57,13 @@ fn groups_of(alloc: Global, shard: Shard) -> Result<Vec<Group>, AllocError>
 
 /// The groups of all parts, one part after the other, where each part was made, in a list with room for so many groups from
 /// the start.
-fn joined(
+fn join_parts(
     alloc: Global,
     room: usize,
     parts: Vec<Result<Vec<Group>, AllocError>>,
 ) -> Result<Vec<Group>, AllocError>
-    ensures { IfOk result (λ groups. (shards : List Shard) → AreFinished shards parts.items
-        → map group_summary_in groups.items
-        ≡ map state_summary (entries_by_key (all_entries shards))) }
+    ensures { IfOk result (λ groups. (shards : List Shard) → AreGroupsOfEach shards parts.items
+        → map group_summary_in groups.items ≡ entry_summaries (all_entries shards)) }
 {
     let mut groups = Vec::with_capacity(alloc, room)?;
     for part in parts {

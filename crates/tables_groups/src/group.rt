@@ -1,9 +1,9 @@
 //! The groups that a table gives.
 ghost use Rattle.std.specs.Prelude.{◌≡◌, ◌++◌, ◌∷◌, [], OnOk, map};
 ghost use Rattle.values.specs.Datum.{data_of};
-ghost use Rattle.tables_groups.specs.Inside.Table.{entries_by_key};
 ghost use Rattle.tables_groups.specs.GroupSummaries.{group_summary_in};
 ghost use Rattle.tables_groups.specs.Inside.Group.{state_summary};
+ghost use Rattle.tables_groups.specs.Inside.Summaries.{summaries_with};
 
 use crate::accumulators::Accumulators;
 use crate::cell::Cell;
@@ -34,8 +34,7 @@ pub(crate) fn put_groups(
     walk: Walk,
 ) -> Result<(), AllocError>
     ensures { OnOk result (map group_summary_in groups.new.items
-        ≡ map group_summary_in groups.old.items
-        ++ map state_summary (entries_by_key walk.entries)) }
+        ≡ summaries_with groups.old.items walk.entries) }
 {
     let Walk { entries } = walk;
     for (key, group) in entries {

@@ -1,14 +1,12 @@
 //! Laws of tables and of their groups, which have no work to do.
-ghost use Rattle.std.specs.Prelude.{◌≡◌, ℕ, List, Some, length};
-ghost use Rattle.std.specs.FinMap as fin;
+ghost use Rattle.std.specs.Prelude.{◌≡◌, ℕ, List, length};
 ghost use Rattle.std.specs.List.{flat_map};
 ghost use Rattle.semantics.specs.Groups.{Key, keys, members, Row};
-ghost use Rattle.tables_groups.specs.Rolled.{AreAmong, finer_keys, finer_members};
-ghost use Rattle.tables_groups.specs.Inside.Group.{GroupState};
+ghost use Rattle.tables_groups.specs.Rolled.{AreAmong, finer_members};
 ghost use Rattle.tables_groups.specs.GroupSummaries.{group_summaries};
 ghost use Rattle.tables_groups.specs.Bags.{SameBag, weigh};
 ghost use Rattle.semantics.specs.Aggregates.{AggregateFunction};
-ghost use Rattle.tables_groups.specs.Inside.Table.{Contents, IsTableOf, joined_states};
+ghost use Rattle.tables_groups.specs.Inside.Table.{Contents, HasGroupsOfFiner, IsTableOf};
 
 /// A table of records is that of the same records in any other order.
 pub fn order_law()
@@ -45,8 +43,6 @@ pub fn roll_law()
     ensures members { (finer set : List ℕ) (key : Key) (rows : List Row)
         → AreAmong set finer → SameBag (finer_members finer set key rows) (members set key rows) }
     ensures groups { (finer set : List ℕ) (functions : List AggregateFunction)
-        (table rolled : Contents) (key : Key) (group : GroupState) (rows : List Row)
-        → AreAmong set finer → IsTableOf finer functions table rows
-        → IsTableOf set functions rolled rows → fin.get rolled key ≡ Some group
-        → group ≡ joined_states functions table (finer_keys finer set key rows) }
+        (table rolled : Contents)
+        → AreAmong set finer → HasGroupsOfFiner finer functions table set rolled }
 {}

@@ -1,6 +1,6 @@
 //! What a group takes.
 ghost use Rattle.std.specs.Prelude.{◌≡◌, Some, OnOk};
-ghost use Rattle.tables_groups.specs.Inside.Table.{IsTaken, with_part};
+ghost use Rattle.tables_groups.specs.Inside.Table.{IsTaken, group_with_part};
 
 use crate::accumulators::Accumulators;
 use query_resolve::FilteredFunction;
@@ -24,7 +24,8 @@ impl Part<'_> {
         functions: &[FilteredFunction],
     ) -> Result<(), AllocError>
         requires { IsTaken functions.now (Some group.old) self }
-        ensures { OnOk result (group.new ≡ with_part functions.now (Some group.old) self.entry) }
+        ensures { OnOk result (group.new
+            ≡ group_with_part functions.now (Some group.old) self.entry) }
     {
         match self {
             Part::Record(row, marks) => group.add(functions, marks, row),

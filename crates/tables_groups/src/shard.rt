@@ -31,7 +31,7 @@ impl Shard {
     ghost use Rattle.values.specs.Datum.{data_of};
     ghost use Rattle.semantics.specs.Groups.{Key, project, same_key};
     ghost use Rattle.tables_groups.specs.Inside.Shards.{contents_in, entries_in};
-    ghost use Rattle.tables_groups.specs.Inside.Table.{CanJoin, IsFitting, IsJoined, IsPut, IsTaken, IsWithPart, TakesEach, joined_entries};
+    ghost use Rattle.tables_groups.specs.Inside.Table.{CanJoin, IsFitting, IsJoined, IsPut, IsTaken, IsWithPart, TakesEach, group_with_entries};
 
     /// The shard that has no group.
     pub(crate) fn new(alloc: Global) -> Shard
@@ -121,7 +121,7 @@ impl Shard {
     /// Puts copies of what is kept of all groups to a group, whatever their keys. After an error the group is of no use.
     pub(crate) fn put_copies_to(&self, group: &mut Accumulators) -> Result<(), AllocError>
         requires { TakesEach group.old (entries_in self.now) }
-        ensures { OnOk result (group.new ≡ joined_entries group.old (entries_in self.now)) }
+        ensures { OnOk result (group.new ≡ group_with_entries group.old (entries_in self.now)) }
     {
         for (_key, part) in &self.groups {
             group.absorb_copies(part)?;

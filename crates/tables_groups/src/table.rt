@@ -11,7 +11,7 @@ use crate::pairs::join_shards_among;
 use crate::part::Part;
 use crate::place::{SHARDS, place_of};
 use crate::shard::Shard;
-use crate::walk::{fewest, put_rest, put_turn, walks_over};
+use crate::walk::{put_next_of_each, put_rest, smallest_shard_len, walks_over};
 use query_resolve::FilteredFunction;
 use std::alloc::{AllocError, Global};
 use std::marker::{Model, Sync};
@@ -70,18 +70,14 @@ impl Model for Table {
 }
 
 impl Table {
-    ghost use Rattle.std.specs.Prelude.{◌≡◌, ◌<◌, ◌≤◌, Bool, ℕ, [], ◌∷◌, ◌++◌, OnOk, IfOk, List, map};
-    ghost use Rattle.semantics.specs.Groups.{Row, Key, project};
+    ghost use Rattle.std.specs.Prelude.{◌≡◌, ◌<◌, ◌≤◌, ℕ, [], OnOk, IfOk, List};
+    ghost use Rattle.semantics.specs.Groups.{Key, project};
     ghost use Rattle.tables_groups.specs.Rows.{IsNarrowRow};
-    ghost use Rattle.semantics.specs.Aggregates.{AggregateFunction};
-    ghost use Rattle.tables_groups.specs.Functions.{bound};
     ghost use Rattle.std.specs.FinMap as fin;
     ghost use Rattle.values.specs.Datum.{data_of};
     ghost use Rattle.tables_groups.specs.Inside.Group.{no_group};
-    ghost use Rattle.tables_groups.specs.GroupSummaries.{group_summary_in, group_summaries};
-    ghost use Rattle.tables_groups.specs.Bags.{SameBag};
     ghost use Rattle.tables_groups.specs.Inside.Shards.{contents_in};
-    ghost use Rattle.tables_groups.specs.Inside.Table.{CanJoin, IsPut, IsFitting, IsJoined, IsOfFew, IsTableOf, IsTaken, IsWithPart, TakesOne};
+    ghost use Rattle.tables_groups.specs.Inside.Table.{AreGroupsOfTable, CanJoin, HasGroupsOfBoth, HasOneMore, IsFitting, IsOfFew, IsOfNone, IsPut, IsRollOf, IsTaken, IsUnionOf, IsWithPart, TakesOne};
     ghost use Rattle.tables_groups.specs.Rolled.{AreAmong};
 
     /// The table of no records under a grouping set, for these set functions, whatever their filters keep. The set has
@@ -97,8 +93,7 @@ impl Table {
         set: &[usize],
         functions: &[FilteredFunction],
     ) -> Result<Table, AllocError>
-        ensures empty { IfOk result (λ table. (filters : List (Row → Bool))
-            → IsTableOf set.now (map (bound filters) functions.now) table []) }
+        ensures empty { IfOk result (IsOfNone set.now functions.now) }
     {
         Table::for_hands(alloc, 1, set, functions)
     }
@@ -117,8 +112,7 @@ impl Table {
         set: &[usize],
         functions: &[FilteredFunction],
     ) -> Result<Table, AllocError>
-        ensures empty { IfOk result (λ table. (filters : List (Row → Bool))
-            → IsTableOf set.now (map (bound filters) functions.now) table []) }
+        ensures empty { IfOk result (IsOfNone set.now functions.now) }
     {
         let count = hands.clamp(1, SHARDS);
         if set.is_empty() {
@@ -182,11 +176,8 @@ impl Table {
     ) -> Result<(), AllocError>
         requires narrow { IsNarrowRow (data_of row.now) }
         requires room { ∥ TakesOne set.now functions.now self.old ∥₁ }
-        ensures added { OnOk result ((filters : List (Row → Bool)) (rows : List Row)
-            → marks.now ≡ map (λ keeps. keeps (data_of row.now)) filters
-            → IsTableOf set.now (map (bound filters) functions.now) self.old rows
-            → IsTableOf set.now (map (bound filters) functions.now) self.new
-            (rows ++ data_of row.now ∷ [])) }
+        ensures added { OnOk result (HasOneMore set.now functions.now self.old
+            (data_of row.now) marks.now self.new) }
     {
         self.put(set, functions, row, Part::Record(row, marks))
     }
@@ -204,15 +195,12 @@ impl Table {
     /// `AllocError` where there is no memory for it; the table is of no use then.
     pub fn absorb(&mut self, other: Table) -> Result<(), AllocError>
         requires { CanJoin self.old other }
-        ensures groups { OnOk result ((k : Key) → IsJoined self.old other self.new k) }
-        ensures joined { OnOk result
-            ((set : List ℕ) (functions : List AggregateFunction) (rows more : List Row)
-            → IsTableOf set functions self.old rows → IsTableOf set functions other more
-            → IsTableOf set functions self.new (rows ++ more)) }
+        ensures groups { OnOk result (HasGroupsOfBoth self.old other self.new) }
+        ensures joined { OnOk result (IsUnionOf self.old other self.new) }
     {
         let fresh = Table::without_groups(self.alloc, 1)?;
         let table = mem::replace(self, fresh);
-        *self = table.joined(other)?;
+        *self = table.join(other)?;
         Ok(())
     }
 
@@ -236,18 +224,15 @@ impl Table {
     ) -> Result<(), AllocError>
         requires join { CanJoin self.old other }
         requires hands { 0 < hands }
-        ensures groups { OnOk result ((k : Key) → IsJoined self.old other self.new k) }
-        ensures joined { OnOk result
-            ((set : List ℕ) (functions : List AggregateFunction) (rows more : List Row)
-            → IsTableOf set functions self.old rows → IsTableOf set functions other more
-            → IsTableOf set functions self.new (rows ++ more)) }
+        ensures groups { OnOk result (HasGroupsOfBoth self.old other self.new) }
+        ensures joined { OnOk result (IsUnionOf self.old other self.new) }
     {
         if hands == 1 || other.len() < PARALLEL_MIN_GROUPS {
             return self.absorb(other);
         }
         let fresh = Table::without_groups(self.alloc, 1)?;
         let table = mem::replace(self, fresh);
-        *self = table.joined_among(rt, hands, other)?;
+        *self = table.join_among(rt, hands, other)?;
         Ok(())
     }
 
@@ -271,12 +256,10 @@ impl Table {
     ) -> Result<Table, AllocError>
         requires among { AreAmong set.now finer.now }
         requires few { ∥ IsOfFew finer.now functions.now self.now ∥₁ }
-        ensures rolled { IfOk result (λ table. (filters : List (Row → Bool)) (rows : List Row)
-            → IsTableOf finer.now (map (bound filters) functions.now) self.now rows
-            → IsTableOf set.now (map (bound filters) functions.now) table rows) }
+        ensures rolled { IfOk result (IsRollOf finer.now functions.now self.now set.now) }
     {
         if set.is_empty() {
-            return self.rolled_to_one(functions);
+            return self.roll_to_one(functions);
         }
         let indices = indices_in(self.alloc, finer, set)?;
         let mut rolled = Table::new(self.alloc, set, functions)?;
@@ -294,12 +277,10 @@ impl Table {
     }
 
     /// The table under the empty set. Its one group takes what is kept of each group, and no key is searched.
-    fn rolled_to_one(&self, functions: &[FilteredFunction]) -> Result<Table, AllocError>
+    fn roll_to_one(&self, functions: &[FilteredFunction]) -> Result<Table, AllocError>
         requires few { ∥ ((finer : List ℕ) × IsOfFew finer functions.now self.now) ∥₁ }
         ensures rolled { IfOk result (λ table.
-            (finer : List ℕ) (filters : List (Row → Bool)) (rows : List Row)
-            → IsTableOf finer (map (bound filters) functions.now) self.now rows
-            → IsTableOf [] (map (bound filters) functions.now) table rows) }
+            (finer : List ℕ) → IsRollOf finer functions.now self.now [] table) }
     {
         let mut group = Accumulators::new(self.alloc, functions)?;
         for shard in &self.shards {
@@ -331,10 +312,7 @@ impl Table {
     ///
     /// `AllocError` where there is no memory for the groups; the table is given up then.
     pub fn finish(self) -> Result<Vec<Group>, AllocError>
-        ensures groups { IfOk result (λ groups.
-            (set : List ℕ) (functions : List AggregateFunction) (rows : List Row)
-            → IsTableOf set functions self rows
-            → SameBag (map group_summary_in groups.items) (group_summaries set functions rows)) }
+        ensures groups { IfOk result (λ groups. AreGroupsOfTable self groups.items) }
     {
         let count = self.len();
         let Table {
@@ -343,11 +321,11 @@ impl Table {
             scratch,
         } = self;
         drop(scratch);
-        let turns = fewest(shards.as_slice());
+        let shortest = smallest_shard_len(shards.as_slice());
         let mut walks = walks_over(alloc, shards)?;
         let mut groups = Vec::with_capacity(alloc, count)?;
-        for _ in 0..turns {
-            put_turn(alloc, &mut groups, &mut walks)?;
+        for _ in 0..shortest {
+            put_next_of_each(alloc, &mut groups, &mut walks)?;
         }
         put_rest(alloc, groups, walks)
     }
@@ -365,10 +343,7 @@ impl Table {
         rt: &H,
         hands: usize,
     ) -> Result<Vec<Group>, AllocError>
-        ensures groups { IfOk result (λ groups.
-            (set : List ℕ) (functions : List AggregateFunction) (rows : List Row)
-            → IsTableOf set functions self rows
-            → SameBag (map group_summary_in groups.items) (group_summaries set functions rows)) }
+        ensures groups { IfOk result (λ groups. AreGroupsOfTable self groups.items) }
     {
         let count = self.len();
         if hands < self.shards.len() || count < PARALLEL_MIN_GROUPS {
@@ -413,7 +388,7 @@ impl Table {
     /// Puts the groups of a shard of another table to these, each to the group of its key.
     fn absorb_shard(&mut self, shard: Shard) -> Result<(), AllocError>
         requires { CanJoin self.old (contents_in shard) }
-        ensures { OnOk result ((k : Key) → IsJoined self.old (contents_in shard) self.new k) }
+        ensures { OnOk result (HasGroupsOfBoth self.old (contents_in shard) self.new) }
     {
         let Shard { groups } = shard;
         for (key, part) in groups {
@@ -423,9 +398,9 @@ impl Table {
     }
 
     /// The table of the groups of both, group by group, however many shards each has.
-    fn joined_by_key(self, other: Table) -> Result<Table, AllocError>
+    fn join_by_key(self, other: Table) -> Result<Table, AllocError>
         requires { CanJoin self other }
-        ensures { IfOk result (λ table. (k : Key) → IsJoined self other table k) }
+        ensures { IfOk result (HasGroupsOfBoth self other) }
     {
         let Table {
             alloc: _,
@@ -441,12 +416,12 @@ impl Table {
     }
 
     /// The table of the groups of both: shard by shard, where one has as many as the other.
-    fn joined(self, other: Table) -> Result<Table, AllocError>
+    fn join(self, other: Table) -> Result<Table, AllocError>
         requires { CanJoin self other }
-        ensures { IfOk result (λ table. (k : Key) → IsJoined self other table k) }
+        ensures { IfOk result (HasGroupsOfBoth self other) }
     {
         if self.shards.len() != other.shards.len() {
-            return self.joined_by_key(other);
+            return self.join_by_key(other);
         }
         let Table {
             alloc,
@@ -468,7 +443,7 @@ impl Table {
     }
 
     /// The same: by as many threads as there are hands, where one has as many shards as the other.
-    fn joined_among<H: Threads + Sync>(
+    fn join_among<H: Threads + Sync>(
         self,
         rt: &H,
         hands: usize,
@@ -476,10 +451,10 @@ impl Table {
     ) -> Result<Table, AllocError>
         requires join { CanJoin self other }
         requires hands { 0 < hands }
-        ensures { IfOk result (λ table. (k : Key) → IsJoined self other table k) }
+        ensures { IfOk result (HasGroupsOfBoth self other) }
     {
         if self.shards.len() != other.shards.len() {
-            return self.joined_by_key(other);
+            return self.join_by_key(other);
         }
         let Table {
             alloc,

@@ -1,10 +1,9 @@
 //! The groups of shards, taken one of each shard in turn.
-ghost use Rattle.std.specs.Prelude.{◌≡◌, ◌++◌, IfOk, OnOk, map};
+ghost use Rattle.std.specs.Prelude.{◌≡◌, IfOk, OnOk, map};
 ghost use Rattle.tables_groups.specs.Bags.{SameBag};
 ghost use Rattle.tables_groups.specs.GroupSummaries.{group_summary_in};
-ghost use Rattle.tables_groups.specs.Inside.Group.{state_summary};
 ghost use Rattle.tables_groups.specs.Inside.Shards.{all_entries, entries_in};
-ghost use Rattle.tables_groups.specs.Inside.Table.{entries_by_key};
+ghost use Rattle.tables_groups.specs.Inside.Summaries.{summaries_with};
 ghost use Rattle.tables_groups.specs.Inside.Walks.{entries_left};
 
 use crate::accumulators::Accumulators;
@@ -43,7 +42,7 @@ pub(crate) fn walk_over(shard: Shard) -> Walk
 }
 
 /// The number of groups of the shard that has the fewest, and none where there is no shard.
-pub(crate) fn fewest(shards: &[Shard]) -> usize {
+pub(crate) fn smallest_shard_len(shards: &[Shard]) -> usize {
     shards
         .iter()
         .map(|shard| shard.groups.len())
@@ -52,15 +51,14 @@ pub(crate) fn fewest(shards: &[Shard]) -> usize {
 }
 
 /// Puts the next group of each walk that has one behind others.
-pub(crate) fn put_turn(
+pub(crate) fn put_next_of_each(
     alloc: Global,
     groups: &mut Vec<Group>,
     walks: &mut Vec<Walk>,
 ) -> Result<(), AllocError>
-    ensures { OnOk result (SameBag (map group_summary_in groups.new.items
-        ++ map state_summary (entries_by_key (entries_left walks.new.items)))
-        (map group_summary_in groups.old.items
-        ++ map state_summary (entries_by_key (entries_left walks.old.items)))) }
+    ensures { OnOk result (SameBag
+        (summaries_with groups.new.items (entries_left walks.new.items))
+        (summaries_with groups.old.items (entries_left walks.old.items))) }
 {
     for place in 0..walks.len() {
         put_next(alloc, groups, &mut walks[place])?;
@@ -70,10 +68,8 @@ pub(crate) fn put_turn(
 
 /// Puts the next group of a walk, where it has one, behind others.
 fn put_next(alloc: Global, groups: &mut Vec<Group>, walk: &mut Walk) -> Result<(), AllocError>
-    ensures { OnOk result (map group_summary_in groups.new.items
-        ++ map state_summary (entries_by_key walk.new.entries)
-        ≡ map group_summary_in groups.old.items
-        ++ map state_summary (entries_by_key walk.old.entries)) }
+    ensures { OnOk result (summaries_with groups.new.items walk.new.entries
+        ≡ summaries_with groups.old.items walk.old.entries) }
 {
     if let Some((key, group)) = walk.entries.next() {
         put_group(alloc, groups, key, group)?;
@@ -87,8 +83,8 @@ pub(crate) fn put_rest(
     groups: Vec<Group>,
     walks: Vec<Walk>,
 ) -> Result<Vec<Group>, AllocError>
-    ensures { IfOk result (λ all. map group_summary_in all.items ≡ map group_summary_in groups.items
-        ++ map state_summary (entries_by_key (entries_left walks.items))) }
+    ensures { IfOk result (λ all. map group_summary_in all.items
+        ≡ summaries_with groups.items (entries_left walks.items)) }
 {
     let mut all = groups;
     for walk in walks {

@@ -11,7 +11,7 @@ use Rattle.semantics.specs.declared.function.ColumnFunction.TheVariants as funct
 use Rattle.semantics.specs.Groups.{Row, value_at}
 use Rattle.semantics.specs.Aggregates.{present, numbers, column_values, column_numbers, AggregateFunction, Summary, plain, ratio, total, least, greatest}
 use Rattle.tables_groups.specs.Inside.Coding.{coded_datum}
-use Rattle.tables_groups.specs.Inside.Values.{Values, set_of, falling, first_by}
+use Rattle.tables_groups.specs.Inside.Values.{Values, set_of, falling_order, first_by}
 use Rattle.tables_groups.specs.declared.accumulator.Accumulator.{Accumulator}
 use Rattle.tables_groups.specs.declared.accumulator.Accumulator.TheVariants as accumulator
 
@@ -72,7 +72,7 @@ with_value (summed s n) d = summed (s +ℤ total (numbers (d ∷ []))) (n + leng
 with_value (averaged s n) d = averaged (s +ℤ total (numbers (d ∷ []))) (n + length (numbers (d ∷ [])))
 with_value (collected s) d = collected (set.union s (set_of (present (d ∷ []))))
 with_value (lowest k) d = lowest (first_by value_order k d)
-with_value (highest k) d = highest (first_by falling k d)
+with_value (highest k) d = highest (first_by falling_order k d)
 
 -- what is kept after one more record, where the number of records is kept
 abbrev pub with_count : AccumulatorState → AccumulatorState
@@ -93,14 +93,14 @@ abbrev pub with_member : Bool → ColumnFunction → AccumulatorState → Row �
 with_member kept f k row = if kept then with_record f k row else k
 
 -- what is kept of two parts of a group for one function; of different functions the first stays as it is
-abbrev pub joined : AccumulatorState → AccumulatorState → AccumulatorState
-joined (counted m) (counted n) = counted (m + n)
-joined (summed s m) (summed t n) = summed (s +ℤ t) (m + n)
-joined (averaged s m) (averaged t n) = averaged (s +ℤ t) (m + n)
-joined (collected s) (collected t) = collected (set.union s t)
-joined (lowest k) (lowest l) = lowest (first_by value_order k l)
-joined (highest k) (highest l) = highest (first_by falling k l)
-joined k l = k
+abbrev pub joint_state : AccumulatorState → AccumulatorState → AccumulatorState
+joint_state (counted m) (counted n) = counted (m + n)
+joint_state (summed s m) (summed t n) = summed (s +ℤ t) (m + n)
+joint_state (averaged s m) (averaged t n) = averaged (s +ℤ t) (m + n)
+joint_state (collected s) (collected t) = collected (set.union s t)
+joint_state (lowest k) (lowest l) = lowest (first_by value_order k l)
+joint_state (highest k) (highest l) = highest (first_by falling_order k l)
+joint_state k l = k
 
 -- the value of the function over a group of so many records
 abbrev pub summary : ℕ → AccumulatorState → Summary

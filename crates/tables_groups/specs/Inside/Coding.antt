@@ -17,21 +17,21 @@ abbrev is_one : ℤ → Bool
 is_one (pos (suc zero)) = true
 is_one _ = false
 
-abbrev pub joined_parts : Parts → Datum
-joined_parts (zero, (n, s)) = boolean (is_one n)
-joined_parts (suc zero, (n, s)) = whole n
-joined_parts (suc (suc zero), (n, s)) = text s
-joined_parts (suc (suc (suc _)), (n, s)) = null
+abbrev pub datum_of_parts : Parts → Datum
+datum_of_parts (zero, (n, s)) = boolean (is_one n)
+datum_of_parts (suc zero, (n, s)) = whole n
+datum_of_parts (suc (suc zero), (n, s)) = text s
+datum_of_parts (suc (suc (suc _)), (n, s)) = null
 
-pub joined_parts-parts : (d : Datum) → joined_parts (parts d) ≡ d
-joined_parts-parts (boolean true) = refl
-joined_parts-parts (boolean false) = refl
-joined_parts-parts (whole n) = refl
-joined_parts-parts (text s) = refl
-joined_parts-parts null = refl
+pub datum_of_parts-parts : (d : Datum) → datum_of_parts (parts d) ≡ d
+datum_of_parts-parts (boolean true) = refl
+datum_of_parts-parts (boolean false) = refl
+datum_of_parts-parts (whole n) = refl
+datum_of_parts-parts (text s) = refl
+datum_of_parts-parts null = refl
 
 abbrev pub coded_datum : Coded Datum
-coded_datum = code_by Parts (coded× coded_ℕ (coded× coded_ℤ (coded_list coded_ℕ))) parts joined_parts joined_parts-parts
+coded_datum = code_by Parts (coded× coded_ℕ (coded× coded_ℤ (coded_list coded_ℕ))) parts datum_of_parts datum_of_parts-parts
 
 abbrev pub coded_key : Coded (List Datum)
 coded_key = coded_list coded_datum

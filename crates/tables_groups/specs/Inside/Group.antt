@@ -6,7 +6,7 @@ use Rattle.query_resolve.specs.declared.function.FilteredFunction.{FilteredFunct
 use Rattle.semantics.specs.Groups.{Row, Key}
 use Rattle.semantics.specs.Aggregates.{AggregateFunction}
 use Rattle.semantics.specs.Found.{GroupSummary}
-use Rattle.tables_groups.specs.Inside.Accumulator.{AccumulatorState, accumulator_state, no_state, is_marked, with_member, joined, summary, IsWithin, coded_accumulator}
+use Rattle.tables_groups.specs.Inside.Accumulator.{AccumulatorState, accumulator_state, no_state, is_marked, with_member, joint_state, summary, IsWithin, coded_accumulator}
 
 pub record GroupState : Type 0 where
   pub lines : ℕ
@@ -30,18 +30,18 @@ all_with_row (f ∷ fs) marks [] row = []
 all_with_row (f ∷ fs) marks (k ∷ ks) row = with_member (is_marked marks f.filter) f.function k row ∷ all_with_row fs marks ks row
 
 -- the accumulators of two parts of a group, put together one by one
-abbrev pub all_joined : List AccumulatorState → List AccumulatorState → List AccumulatorState
-all_joined [] ls = []
-all_joined (k ∷ ks) [] = k ∷ ks
-all_joined (k ∷ ks) (l ∷ ls) = joined k l ∷ all_joined ks ls
+abbrev pub joint_states : List AccumulatorState → List AccumulatorState → List AccumulatorState
+joint_states [] ls = []
+joint_states (k ∷ ks) [] = k ∷ ks
+joint_states (k ∷ ks) (l ∷ ls) = joint_state k l ∷ joint_states ks ls
 
 -- what is kept after one more record, of which the marks say which filters keep it
 abbrev pub with_row : List FilteredFunction → List Bool → GroupState → Row → GroupState
 with_row functions marks h row = record { lines = h.lines + 1; parts = all_with_row functions marks h.parts row }
 
 -- what is kept of two parts of a group
-abbrev pub join : GroupState → GroupState → GroupState
-join g h = record { lines = g.lines + h.lines; parts = all_joined g.parts h.parts }
+abbrev pub joint_group : GroupState → GroupState → GroupState
+joint_group g h = record { lines = g.lines + h.lines; parts = joint_states g.parts h.parts }
 
 -- no sum is larger than the number of records allows
 abbrev pub IsSound : ℕ → List AccumulatorState → Type 0

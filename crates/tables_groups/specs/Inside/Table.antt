@@ -11,9 +11,10 @@ use Rattle.query_resolve.specs.declared.function.FilteredFunction.{FilteredFunct
 use Rattle.tables_groups.specs.Inside.Coding.{coded_key}
 use Rattle.semantics.specs.Groups.{Row, Key, key_order, same_key, keys, members}
 use Rattle.tables_groups.specs.Rows.{IsNarrowRow}
+use Rattle.tables_groups.specs.Rolled.{finer_keys}
 use Rattle.semantics.specs.Aggregates.{AggregateFunction}
-use Rattle.tables_groups.specs.Functions.{bound, bound_functions}
-use Rattle.tables_groups.specs.Inside.Group.{GroupState, coded_group, group_state, no_group, with_row, join}
+use Rattle.tables_groups.specs.Functions.{bound_functions}
+use Rattle.tables_groups.specs.Inside.Group.{GroupState, coded_group, group_state, no_group, with_row, joint_group}
 use Rattle.tables_groups.specs.Bags.{SameBag}
 use Rattle.tables_groups.specs.GroupSummaries.{group_summaries, group_summary_in}
 use Rattle.tables_groups.specs.declared.group.Group.{Group}
@@ -45,6 +46,13 @@ IsTableUnder set functions filters table rows = IsTableOf set (bound_functions f
 -- a table is that of no records under a grouping set, whatever the filters keep
 abbrev pub IsOfNone : List ℕ → List FilteredFunction → Contents → Type 0
 IsOfNone set functions table = (filters : List (Row → Bool)) → IsTableUnder set functions filters table []
+
+-- a table is another one with one more record, of which the marks say which filters keep it: whatever records that is of, and whatever the filters keep of them
+abbrev pub HasOneMore : List ℕ → List FilteredFunction → Contents → Row → List Bool → Contents → Type 0
+HasOneMore set functions table row marks new =
+    (filters : List (Row → Bool)) (rows : List Row)
+    → marks ≡ map (λ keeps. keeps row) filters
+    → IsTableUnder set functions filters table rows → IsTableUnder set functions filters new (rows ++ row ∷ [])
 
 -- a table is that of the records of two others: whatever records they are of, under one set and for the same functions
 abbrev pub IsUnionOf : Contents → Contents → Contents → Type 0
@@ -78,40 +86,51 @@ pub record IsOfFew (set : List ℕ) (functions : List FilteredFunction) (table :
   pub few : length rows < 2 ^ 63
 
 -- what a table keeps of some keys, put together
-abbrev pub joined_states : List AggregateFunction → Contents → List Key → GroupState
-joined_states functions table [] = group_state functions []
-joined_states functions table (key ∷ keys) = join (unwrap_or (fin.get table key) (group_state functions [])) (joined_states functions table keys)
+abbrev pub group_of_keys : List AggregateFunction → Contents → List Key → GroupState
+group_of_keys functions table [] = group_state functions []
+group_of_keys functions table (key ∷ keys) = joint_group (unwrap_or (fin.get table key) (group_state functions [])) (group_of_keys functions table keys)
+
+-- a table under a set keeps of each group what another one, under a finer set, keeps of the keys that have its values, put together: whatever records both are of
+abbrev pub HasGroupsOfFiner : List ℕ → List AggregateFunction → Contents → List ℕ → Contents → Type 0
+HasGroupsOfFiner finer functions table set rolled =
+    (key : Key) (group : GroupState) (rows : List Row)
+    → IsTableOf finer functions table rows → IsTableOf set functions rolled rows
+    → fin.get rolled key ≡ Some group → group ≡ group_of_keys functions table (finer_keys finer set key rows)
 
 -- ---- steps
 
 -- what is kept of a group after one more record, of which the marks say which filters keep it; of a group that is new, after its first one
-abbrev pub grown : List FilteredFunction → List Bool → Option GroupState → Row → GroupState
-grown functions marks old row = with_row functions marks (unwrap_or old (no_group functions)) row
+abbrev pub group_with_record : List FilteredFunction → List Bool → Option GroupState → Row → GroupState
+group_with_record functions marks old row = with_row functions marks (unwrap_or old (no_group functions)) row
 
 -- at the key k the table has the record added, where it is the record's key, and else what it had
 abbrev pub IsAdded : List FilteredFunction → List Bool → Contents → Contents → Key → Row → Key → Type 0
-IsAdded functions marks old new key row k = fin.get new k ≡ cond (same_key k key) (Some (grown functions marks (fin.get old k) row)) (fin.get old k)
+IsAdded functions marks old new key row k = fin.get new k ≡ cond (same_key k key) (Some (group_with_record functions marks (fin.get old k) row)) (fin.get old k)
 
-abbrev pub join_options : Option GroupState → Option GroupState → Option GroupState
-join_options None b = b
-join_options (Some a) None = Some a
-join_options (Some a) (Some b) = Some (join a b)
+abbrev pub joint_option : Option GroupState → Option GroupState → Option GroupState
+joint_option None b = b
+joint_option (Some a) None = Some a
+joint_option (Some a) (Some b) = Some (joint_group a b)
 
 -- at the key k the table has one more part of the group of a key
 abbrev pub IsPut : Contents → Contents → Key → GroupState → Key → Type 0
-IsPut old new key part k = fin.get new k ≡ cond (same_key k key) (join_options (fin.get old k) (Some part)) (fin.get old k)
+IsPut old new key part k = fin.get new k ≡ cond (same_key k key) (joint_option (fin.get old k) (Some part)) (fin.get old k)
 
 -- what is kept of a group after one more part; of a group that is new, after its first one
-abbrev pub enlarged : List FilteredFunction → Option GroupState → GroupState → GroupState
-enlarged functions old part = join (unwrap_or old (no_group functions)) part
+abbrev pub group_with_members : List FilteredFunction → Option GroupState → GroupState → GroupState
+group_with_members functions old part = joint_group (unwrap_or old (no_group functions)) part
 
 -- at the key k the table has one more part of the group of a key, put to what it had or to nothing
 abbrev pub IsEnlarged : List FilteredFunction → Contents → Contents → Key → GroupState → Key → Type 0
-IsEnlarged functions old new key part k = fin.get new k ≡ cond (same_key k key) (Some (enlarged functions (fin.get old k) part)) (fin.get old k)
+IsEnlarged functions old new key part k = fin.get new k ≡ cond (same_key k key) (Some (group_with_members functions (fin.get old k) part)) (fin.get old k)
 
 -- at the key k the table has what both have
 abbrev pub IsJoined : Contents → Contents → Contents → Key → Type 0
-IsJoined old other new k = fin.get new k ≡ join_options (fin.get old k) (fin.get other k)
+IsJoined old other new k = fin.get new k ≡ joint_option (fin.get old k) (fin.get other k)
+
+-- at each key the table has what both have
+abbrev pub HasGroupsOfBoth : Contents → Contents → Contents → Type 0
+HasGroupsOfBoth old other new = (key : Key) → IsJoined old other new key
 
 -- a group takes one more record
 abbrev pub HasPlace : List FilteredFunction → Option GroupState → Type 0
@@ -131,23 +150,23 @@ IsTaken functions group (taken.Record row marks) = IsNarrowRow (data_of row.now)
 IsTaken functions group (taken.Copies members) = IsFittingNew functions members.now group
 
 -- what is kept of a group after one more part; of a group that is new, after its first one
-abbrev pub with_part : List FilteredFunction → Option GroupState → Part → GroupState
-with_part functions old (taken.Record row marks) = grown functions marks.now old (data_of row.now)
-with_part functions old (taken.Copies members) = enlarged functions old members.now
+abbrev pub group_with_part : List FilteredFunction → Option GroupState → Part → GroupState
+group_with_part functions old (taken.Record row marks) = group_with_record functions marks.now old (data_of row.now)
+group_with_part functions old (taken.Copies members) = group_with_members functions old members.now
 
 -- at the key k the table has one more part of the group of a key, put to what it had or to nothing
 abbrev pub IsWithPart : List FilteredFunction → Contents → Contents → Key → Part → Key → Type 0
-IsWithPart functions old new key part k = fin.get new k ≡ cond (same_key k key) (Some (with_part functions (fin.get old k) part)) (fin.get old k)
+IsWithPart functions old new key part k = fin.get new k ≡ cond (same_key k key) (Some (group_with_part functions (fin.get old k) part)) (fin.get old k)
 
 -- what is kept of a group after the parts of all entries
-abbrev pub joined_entries : GroupState → List (Vec Value Global × GroupState) → GroupState
-joined_entries group [] = group
-joined_entries group (e ∷ entries) = joined_entries (join group e.1) entries
+abbrev pub group_with_entries : GroupState → List (Vec Value Global × GroupState) → GroupState
+group_with_entries group [] = group
+group_with_entries group (e ∷ entries) = group_with_entries (joint_group group e.1) entries
 
 -- a group takes the parts of all entries, one after the other
 abbrev pub TakesEach : GroupState → List (Vec Value Global × GroupState) → Type 0
 TakesEach group [] = ⊤
-TakesEach group (e ∷ entries) = (group.lines + e.1.lines < 2 ^ 63) × (length e.1.parts ≡ length group.parts) × TakesEach (join group e.1) entries
+TakesEach group (e ∷ entries) = (group.lines + e.1.lines < 2 ^ 63) × (length e.1.parts ≡ length group.parts) × TakesEach (joint_group group e.1) entries
 
 -- each group of the other table is a part that the group of its key takes, where there is one
 abbrev pub CanJoin : Contents → Contents → Type 0

@@ -17,11 +17,11 @@ abbrev pub set_of : List Datum → Values
 set_of values = set.from_list values
 
 -- the order of all values the other way round, but NULL still the last
-abbrev pub falling : Datum → Datum → Ordering
-falling null null = Equal
-falling null b = Greater
-falling a null = Less
-falling a b = value_order b a
+abbrev pub falling_order : Datum → Datum → Ordering
+falling_order null null = Equal
+falling_order null b = Greater
+falling_order a null = Less
+falling_order a b = value_order b a
 
 -- of two values the one that is first in an order; as NULL is the last, it stands for none
 abbrev pub first_by : (Datum → Datum → Ordering) → Datum → Datum → Datum

@@ -1,5 +1,5 @@
 use Rattle.std.proofs.Common.{IfOk, get_or, sym, subst, arith}
-use Rattle.tables_groups.specs.Inside.Finished.{IsFinished}
+use Rattle.tables_groups.specs.Inside.GroupsOfShards.{AreGroupsOfShard}
 use Rattle.tables_groups.specs.declared.shard.Shard.{Shard}
 use Rattle.tables_groups.proofs.InParts.{finished-each}
 use Rattle.tables_groups.proofs.finishing.parts_among.Goals as goal
@@ -14,4 +14,4 @@ returns g c =
     finished-each shards parts (omega (arith, n, a, b))
     (λ i d e l.
     let k = (c.in_ok-parts.ensures.each i d l).1 in
-    subst (λ (s : Shard). IfOk (get_or parts i d) (λ groups. IsFinished s groups.items)) (sym (k.job_is e)) k.call.met)
+    subst (λ (s : Shard). IfOk (get_or parts i d) (λ groups. AreGroupsOfShard s groups.items)) (sym (k.job_is e)) k.call.met)

@@ -1,8 +1,8 @@
 use Rattle.std.proofs.Common.{rules, ◌≡◌, ◌+◌, ◌<◌, suc, List, ◌∷◌, set, length, map, sym, ap, subst, ◌∙◌, arith, add-one, length-set}
 use Rattle.std.proofs.lemmas.List.{length-map}
 use Rattle.tables_groups.specs.Inside.Accumulator.{AccumulatorState, state_in, IsWithin}
-use Rattle.tables_groups.specs.Inside.Group.{GroupState, all_joined, IsSound}
-use Rattle.tables_groups.proofs.Keeping.{all_joined-sound, more-sound, sound-set, unbounded-within, joined_from, joined_from-within, joined_from-step, joined_from-all, joined_from-room}
+use Rattle.tables_groups.specs.Inside.Group.{GroupState, joint_states, IsSound}
+use Rattle.tables_groups.proofs.Keeping.{joint_states-sound, more-sound, sound-set, unbounded-within, joint_states_from, joint_states_from-within, joint_states_from-step, joint_states_from-all, joint_states_from-room}
 use Rattle.tables_groups.proofs.accumulators.Accumulators.absorb.Goals as goal
 
 pub index_mut-requires : goal.index_mut-requires
@@ -23,11 +23,11 @@ absorb-requires c =
     let e : length c.loop-place.place-iterator.iter.rest.items ≡ suc (length rest) = ap length s.0.0 in
     let start : IsSound old.lines old.parts = subst (λ (h : GroupState). IsSound h.lines h.parts) c.self.view_is c.self.invariant in
     let more : IsSound other.lines other.parts = subst (λ (h : GroupState). IsSound h.lines h.parts) c.other.view_is c.other.invariant in
-    let at : joined_from c.in-Some.place (map state_in items) (state_in c.in-Some.part ∷ map state_in rest) ≡ all_joined old.parts other.parts =
-    ap (λ n. joined_from n (map state_in items) (state_in c.in-Some.part ∷ map state_in rest)) s.1 ∙ ap (λ xs. joined_from c.loop-place.place-iterator.count (map state_in items) (map state_in xs)) (sym s.0.0) ∙ i.rest in
-    joined_from-room (old.lines + other.lines) c.in-Some.place items (state_in c.in-Some.part) (map state_in rest) c.index_mut.result.now
+    let at : joint_states_from c.in-Some.place (map state_in items) (state_in c.in-Some.part ∷ map state_in rest) ≡ joint_states old.parts other.parts =
+    ap (λ n. joint_states_from n (map state_in items) (state_in c.in-Some.part ∷ map state_in rest)) s.1 ∙ ap (λ xs. joint_states_from c.loop-place.place-iterator.count (map state_in items) (map state_in xs)) (sym s.0.0) ∙ i.rest in
+    joint_states_from-room (old.lines + other.lines) c.in-Some.place items (state_in c.in-Some.part) (map state_in rest) c.index_mut.result.now
     (omega (arith, e, i.one_each, s.1)) c.index_mut.ensures.value c.requires.room
-    (subst (λ (ks : List AccumulatorState). IsSound (old.lines + other.lines) ks) (sym at) (all_joined-sound old.lines other.lines old.parts other.parts start more))
+    (subst (λ (ks : List AccumulatorState). IsSound (old.lines + other.lines) ks) (sym at) (joint_states-sound old.lines other.lines old.parts other.parts start more))
 
 pub loop-place-preserved : goal.loop-place-preserved
 loop-place-preserved c =
@@ -44,19 +44,19 @@ loop-place-preserved c =
     let here : place < length items = omega (arith, e, i.one_each, s.1) in
     let start : IsSound old.lines old.parts = subst (λ (h : GroupState). IsSound h.lines h.parts) c.self.view_is c.self.invariant in
     let more : IsSound other.lines other.parts = subst (λ (h : GroupState). IsSound h.lines h.parts) c.other.view_is c.other.invariant in
-    let at : joined_from place (map state_in items) (part ∷ map state_in rest) ≡ all_joined old.parts other.parts =
-    ap (λ n. joined_from n (map state_in items) (part ∷ map state_in rest)) s.1 ∙ ap (λ xs. joined_from c.loop-place.place-iterator.count (map state_in items) (map state_in xs)) (sym s.0.0) ∙ i.rest in
-    let all : IsSound lines (joined_from place (map state_in items) (part ∷ map state_in rest)) =
-    subst (λ (ks : List AccumulatorState). IsSound lines ks) (sym at) (all_joined-sound old.lines other.lines old.parts other.parts start more) in
+    let at : joint_states_from place (map state_in items) (part ∷ map state_in rest) ≡ joint_states old.parts other.parts =
+    ap (λ n. joint_states_from n (map state_in items) (part ∷ map state_in rest)) s.1 ∙ ap (λ xs. joint_states_from c.loop-place.place-iterator.count (map state_in items) (map state_in xs)) (sym s.0.0) ∙ i.rest in
+    let all : IsSound lines (joint_states_from place (map state_in items) (part ∷ map state_in rest)) =
+    subst (λ (ks : List AccumulatorState). IsSound lines ks) (sym at) (joint_states-sound old.lines other.lines old.parts other.parts start more) in
     record {
-      rest = ap (λ n. joined_from n (map state_in (set items place c.absorb.new.self)) (map state_in rest)) (s.2 ∙ ap (λ n. n + 1) (sym s.1) ∙ add-one place)
-          ∙ joined_from-step place items part (map state_in rest) c.index_mut.result.now c.absorb.new.self here c.index_mut.ensures.value c.in_ok-absorb.ensures.joined
+      rest = ap (λ n. joint_states_from n (map state_in (set items place c.absorb.new.self)) (map state_in rest)) (s.2 ∙ ap (λ n. n + 1) (sym s.1) ∙ add-one place)
+          ∙ joint_states_from-step place items part (map state_in rest) c.index_mut.result.now c.absorb.new.self here c.index_mut.ensures.value c.in_ok-absorb.ensures.joined
           ∙ at;
       one_each = let l = length-set items place c.absorb.new.self in omega (arith, e, l, i.one_each, s.2);
       lines = i.lines;
       sound = sound-set lines place items c.absorb.new.self i.sound
           (subst (λ (k : AccumulatorState). IsWithin lines k) (sym c.in_ok-absorb.ensures.joined)
-          (joined_from-within lines place items part (map state_in rest) c.index_mut.result.now here c.index_mut.ensures.value all));
+          (joint_states_from-within lines place items part (map state_in rest) c.index_mut.result.now here c.index_mut.ensures.value all));
     }
 
 pub loop-place-init : goal.loop-place-init
@@ -91,6 +91,6 @@ returns c =
     let i = c.loop-place.invariant in
     let old = c.args.self.now in
     let other = c.args.other in
-    let all : map state_in c.loop-place.self-inside.parts.items ≡ all_joined old.parts other.parts =
-    joined_from-all c.loop-place.place-iterator.count c.loop-place.self-inside.parts.items c.loop-place.place-iterator.iter.rest.items (all_joined old.parts other.parts) (grind (arith, c.in-None.ensures.steps.0, c.loop-place.place-iterator.iter.rest.ok)) i.rest in
+    let all : map state_in c.loop-place.self-inside.parts.items ≡ joint_states old.parts other.parts =
+    joint_states_from-all c.loop-place.place-iterator.count c.loop-place.self-inside.parts.items c.loop-place.place-iterator.iter.rest.items (joint_states old.parts other.parts) (grind (arith, c.in-None.ensures.steps.0, c.loop-place.place-iterator.iter.rest.ok)) i.rest in
     λ j. record { lines = i.lines j; parts = all j }

@@ -2,8 +2,8 @@ use Rattle.std.proofs.Common.{◌≡◌, ◌+◌, ◌<◌, ℕ, zero, suc, List,
 use Rattle.std.proofs.lemmas.List.{length-map}
 use Rattle.tables_groups.specs.declared.accumulator.Accumulator.{Accumulator}
 use Rattle.tables_groups.specs.Inside.Accumulator.{AccumulatorState, state_in, IsWithin}
-use Rattle.tables_groups.specs.Inside.Group.{GroupState, all_joined, IsSound}
-use Rattle.tables_groups.proofs.Keeping.{all_joined-sound, more-sound, sound-set, unbounded-within, joined_from, joined_from-within, joined_from-step, joined_from-end, joined_from-room}
+use Rattle.tables_groups.specs.Inside.Group.{GroupState, joint_states, IsSound}
+use Rattle.tables_groups.proofs.Keeping.{joint_states-sound, more-sound, sound-set, unbounded-within, joint_states_from, joint_states_from-within, joint_states_from-step, joint_states_from-end, joint_states_from-room}
 use Rattle.tables_groups.proofs.accumulators.Accumulators.absorb_copies.Goals as goal
 
 drop-map : (items : List Accumulator) (i : ℕ) (a : Accumulator) → i < length items → a ≡ get_or items i a → drop i (map state_in items) ≡ state_in a ∷ drop (suc i) (map state_in items)
@@ -25,7 +25,7 @@ pub loop-place-init : goal.loop-place-init
 loop-place-init c =
     let items = c.self.inside.parts.items in
     record {
-      rest = ap (λ (h : GroupState). all_joined h.parts c.args.other.now.parts) c.self.view_is;
+      rest = ap (λ (h : GroupState). joint_states h.parts c.args.other.now.parts) c.self.view_is;
       one_each = c.requires.one_each ∙ ap (λ (h : GroupState). length h.parts) (sym c.self.view_is) ∙ length-map items state_in;
       lines = λ j. (c.self.view_is j).lines + (c.other.view_is j).lines;
       sound = subst (λ n. IsSound n (map state_in items)) (ap (λ (h : GroupState). h.lines + c.args.other.now.lines) c.self.view_is)
@@ -51,10 +51,10 @@ absorb_copies-requires c =
     let v : map state_in xs ≡ other.parts = ap (map state_in) c.deref-part-items.ensures.value ∙ ap (λ (h : GroupState). h.parts) c.other.view_is in
     let l : length xs ≡ length other.parts = sym (length-map xs state_in) ∙ ap length v in
     let next : drop place other.parts ≡ part ∷ drop (suc place) other.parts = next-part xs other.parts place c.part-item.result v c.loop-place-test.true c.part-item.is in
-    let at : joined_from place (map state_in items) (part ∷ drop (suc place) other.parts) ≡ all_joined old.parts other.parts = ap (joined_from place (map state_in items)) (sym next) ∙ i.rest in
-    joined_from-room (old.lines + other.lines) place items part (drop (suc place) other.parts) c.index_mut.result.now
+    let at : joint_states_from place (map state_in items) (part ∷ drop (suc place) other.parts) ≡ joint_states old.parts other.parts = ap (joint_states_from place (map state_in items)) (sym next) ∙ i.rest in
+    joint_states_from-room (old.lines + other.lines) place items part (drop (suc place) other.parts) c.index_mut.result.now
     (omega (arith, c.loop-place-test.true, l, i.one_each)) c.index_mut.ensures.value c.requires.room
-    (subst (λ (ks : List AccumulatorState). IsSound (old.lines + other.lines) ks) (sym at) (all_joined-sound old.lines other.lines old.parts other.parts start more))
+    (subst (λ (ks : List AccumulatorState). IsSound (old.lines + other.lines) ks) (sym at) (joint_states-sound old.lines other.lines old.parts other.parts start more))
 
 pub loop-place-preserved : goal.loop-place-preserved
 loop-place-preserved c =
@@ -73,18 +73,18 @@ loop-place-preserved c =
     let l : length xs ≡ length other.parts = sym (length-map xs state_in) ∙ ap length v in
     let here : place < length items = omega (arith, c.loop-place-test.true, l, i.one_each) in
     let next : drop place other.parts ≡ part ∷ rest = next-part xs other.parts place c.part-item.result v c.loop-place-test.true c.part-item.is in
-    let at : joined_from place (map state_in items) (part ∷ rest) ≡ all_joined old.parts other.parts = ap (joined_from place (map state_in items)) (sym next) ∙ i.rest in
-    let all : IsSound lines (joined_from place (map state_in items) (part ∷ rest)) =
-    subst (λ (ks : List AccumulatorState). IsSound lines ks) (sym at) (all_joined-sound old.lines other.lines old.parts other.parts start more) in
+    let at : joint_states_from place (map state_in items) (part ∷ rest) ≡ joint_states old.parts other.parts = ap (joint_states_from place (map state_in items)) (sym next) ∙ i.rest in
+    let all : IsSound lines (joint_states_from place (map state_in items) (part ∷ rest)) =
+    subst (λ (ks : List AccumulatorState). IsSound lines ks) (sym at) (joint_states-sound old.lines other.lines old.parts other.parts start more) in
     record {
-      rest = ap (λ n. joined_from n (map state_in (set items place c.absorb_copies.new.self)) (drop n other.parts)) (add-one place)
-          ∙ joined_from-step place items part rest c.index_mut.result.now c.absorb_copies.new.self here c.index_mut.ensures.value c.in_ok-absorb_copies.ensures.joined
+      rest = ap (λ n. joint_states_from n (map state_in (set items place c.absorb_copies.new.self)) (drop n other.parts)) (add-one place)
+          ∙ joint_states_from-step place items part rest c.index_mut.result.now c.absorb_copies.new.self here c.index_mut.ensures.value c.in_ok-absorb_copies.ensures.joined
           ∙ at;
       one_each = i.one_each ∙ sym (length-set items place c.absorb_copies.new.self);
       lines = i.lines;
       sound = sound-set lines place items c.absorb_copies.new.self i.sound
           (subst (λ (k : AccumulatorState). IsWithin lines k) (sym c.in_ok-absorb_copies.ensures.joined)
-          (joined_from-within lines place items part rest c.index_mut.result.now here c.index_mut.ensures.value all));
+          (joint_states_from-within lines place items part rest c.index_mut.result.now here c.index_mut.ensures.value all));
     }
 
 pub invariant_of-self-in_err-absorb_copies : goal.invariant_of-self-in_err-absorb_copies
@@ -107,5 +107,5 @@ returns c =
     let v : map state_in xs ≡ other.parts = ap (map state_in) c.deref-part-items.ensures.value ∙ ap (λ (h : GroupState). h.parts) c.other.view_is in
     let l : length xs ≡ length other.parts = sym (length-map xs state_in) ∙ ap length v in
     let none : drop place other.parts ≡ [] = all-dropped place other.parts (omega (arith, c.loop-place-test.false, c.loop-place.auto.place-end, l)) in
-    let all : map state_in items ≡ all_joined old.parts other.parts = sym (joined_from-end place (map state_in items)) ∙ ap (joined_from place (map state_in items)) (sym none) ∙ i.rest in
+    let all : map state_in items ≡ joint_states old.parts other.parts = sym (joint_states_from-end place (map state_in items)) ∙ ap (joint_states_from place (map state_in items)) (sym none) ∙ i.rest in
     λ j. record { lines = i.lines j; parts = all j }

@@ -1,13 +1,13 @@
 use Rattle.std.proofs.Common.{◌≡◌, ◌+◌, drop, length, map}
 use Rattle.tables_groups.specs.Inside.Accumulator.{state_in}
-use Rattle.tables_groups.specs.Inside.Group.{all_joined, IsSound}
-use Rattle.tables_groups.proofs.Keeping.{joined_from}
+use Rattle.tables_groups.specs.Inside.Group.{joint_states, IsSound}
+use Rattle.tables_groups.proofs.Keeping.{joint_states_from}
 use Rattle.tables_groups.proofs.accumulators.Accumulators.absorb_copies.Given as goal
 
 -- once the rest is taken too, all is taken
 abbrev pub invariant-loop-place : goal.invariant-loop-place
 invariant-loop-place l = record {
-  rest : joined_from l.place (map state_in l.self-inside.parts.items) (drop l.place l.other.parts) ≡ all_joined l.fn.self.parts l.other.parts;
+  rest : joint_states_from l.place (map state_in l.self-inside.parts.items) (drop l.place l.other.parts) ≡ joint_states l.fn.self.parts l.other.parts;
   one_each : length l.other.parts ≡ length l.self-inside.parts.items;
   lines : l.self-inside.lines ≡ l.fn.self.lines + l.other.lines;
   sound : IsSound (l.fn.self.lines + l.other.lines) (map state_in l.self-inside.parts.items);

@@ -9,7 +9,7 @@ use Rattle.values.specs.declared.value.Value.{Value}
 use Rattle.semantics.specs.Groups.{Key, key_order}
 use Rattle.tables_groups.specs.Inside.Group.{GroupState}
 use Rattle.tables_groups.specs.Inside.Shards.{contents_in}
-use Rattle.tables_groups.specs.Inside.Table.{IsFitting, join_options, entries_by_key}
+use Rattle.tables_groups.specs.Inside.Table.{IsFitting, joint_option, entries_by_key}
 use Rattle.tables_groups.proofs.Order.{key_total}
 use Rattle.tables_groups.proofs.Entries.{key_eq, merged_step, fits_step, find-first}
 use Rattle.tables_groups.proofs.shard.Shard.absorb.Goals as goal
@@ -20,7 +20,7 @@ loop-key-init c =
     let at : (k : Key) → find key_order k (entries_by_key c.into_iter-key-iterator.result) ≡ get (contents_in c.args.other) k =
     λ k. ap (λ es. find key_order k (entries_by_key es)) g.0 ∙ sym (get-from_entries key_total (entries_by_key c.args.other.groups.entries) k) in
     record {
-      joined = λ k. ap (join_options (get (contents_in c.args.self.now) k)) (at k);
+      joined = λ k. ap (joint_option (get (contents_in c.args.self.now) k)) (at k);
       fits = λ k. subst (λ (o : Option GroupState). IfSome o (λ p. IsFitting p (get (contents_in c.args.self.now) k))) (sym (at k)) (c.requires k);
       distinct = subst (λ es. IsDistinct key_eq (keys_of es)) (sym g.0) g.4;
     }
@@ -47,7 +47,7 @@ loop-key-preserved c =
     let new = contents_in c.put_group.new.self in
     record {
       joined = λ k. merged_step old new k e rest d (c.in_ok-put_group.ensures.put k)
-          ∙ ap (λ es. join_options (get old k) (find key_order k (entries_by_key es))) (sym is) ∙ c.loop-key.invariant.joined k;
+          ∙ ap (λ es. joint_option (get old k) (find key_order k (entries_by_key es))) (sym is) ∙ c.loop-key.invariant.joined k;
       fits = λ k. fits_step old new k e rest d (c.in_ok-put_group.ensures.put k)
           (subst (λ es. IfSome (find key_order k (entries_by_key es)) (λ p. IsFitting p (get old k))) is (c.loop-key.invariant.fits k));
       distinct = IsDistinct-tail key_eq e.0 (keys_of rest) d;

@@ -8,9 +8,9 @@ use Rattle.values.specs.Datum.{data_of}
 use Rattle.semantics.specs.Groups.{project, same_key}
 use Rattle.tables_groups.specs.Inside.Group.{GroupState}
 use Rattle.tables_groups.specs.Inside.Shards.{contents_in}
-use Rattle.tables_groups.specs.Inside.Table.{IsTaken, with_part}
+use Rattle.tables_groups.specs.Inside.Table.{IsTaken, group_with_part}
 use Rattle.tables_groups.proofs.Order.{value_eq}
-use Rattle.tables_groups.proofs.Entries.{got-by, with_part-by, taken-first, updated-elsewhere, elsewhere-after}
+use Rattle.tables_groups.proofs.Entries.{got-by, group_with_part-by, taken-first, updated-elsewhere, elsewhere-after}
 use Rattle.tables_groups.proofs.shard.Shard.put.Goals as goal
 
 pub put_to-requires : goal.put_to-requires
@@ -45,9 +45,9 @@ returns-in-Some-clause-put c =
     let found : fin.get old key ≡ Some c.in-Some.group.now =
     got-by es old key code refl c.requires.key ∙ sym c.get_mut.ensures.value ∙ ap option_copied_mut c.in-Some.is in
     on_ok_weaker c.put_to.result
-    (λ (h : new ≡ with_part fs (Some c.in-Some.group.now) c.args.part).
-    with_part-by fs c.args.part es n.entries old key code new refl c.requires.key u.1 u.3
-    (h ∙ ap (λ o. with_part fs o c.args.part) (sym found)))
+    (λ (h : new ≡ group_with_part fs (Some c.in-Some.group.now) c.args.part).
+    group_with_part-by fs c.args.part es n.entries old key code new refl c.requires.key u.1 u.3
+    (h ∙ ap (λ o. group_with_part fs o c.args.part) (sym found)))
     c.put_to.ensures
 
 pub returns-in-Some-clause-others : goal.returns-in-Some-clause-others
@@ -71,8 +71,8 @@ returns-clause-put c =
     let absent : fin.get old key ≡ None =
     got-by es old key c.args.key.now.items refl c.requires.key ∙ sym c.get_mut.ensures.value ∙ ap option_copied_mut c.in_default.is in
     let others = rw (c.get_mut.follows.holds-at-none) at u.3 in
-    with_part-by fs c.args.part es c.insert.new.self.entries old key c.in_ok-key.key.items new refl c.in_ok-key.ensures u.1 others
-    (c.in_ok-put_to.ensures ∙ ap (λ (g : GroupState). with_part fs (Some g) c.args.part) c.in_ok-group.ensures ∙ ap (λ o. with_part fs o c.args.part) (sym absent))
+    group_with_part-by fs c.args.part es c.insert.new.self.entries old key c.in_ok-key.key.items new refl c.in_ok-key.ensures u.1 others
+    (c.in_ok-put_to.ensures ∙ ap (λ (g : GroupState). group_with_part fs (Some g) c.args.part) c.in_ok-group.ensures ∙ ap (λ o. group_with_part fs o c.args.part) (sym absent))
 
 pub returns-clause-others : goal.returns-clause-others
 returns-clause-others c = λ k e.

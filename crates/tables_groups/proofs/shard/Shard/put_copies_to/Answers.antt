@@ -4,7 +4,7 @@ use Rattle.std.specs.Map.Iter.{deref_pair}
 use Rattle.values.specs.declared.value.Value.{Value}
 use Rattle.tables_groups.specs.Inside.Group.{GroupState}
 use Rattle.tables_groups.specs.Inside.Shards.{entries_in}
-use Rattle.tables_groups.specs.Inside.Table.{TakesEach, joined_entries}
+use Rattle.tables_groups.specs.Inside.Table.{TakesEach, group_with_entries}
 use Rattle.tables_groups.proofs.Entries.{Entries}
 use Rattle.tables_groups.proofs.shard.Shard.put_copies_to.Goals as goal
 
@@ -13,7 +13,7 @@ loop-key-init c =
     let is : c.into_iter-key-iterator.result ≡ entries_in c.args.self.now = c.into_iter-key-iterator.ensures.into_iter_gives.0 in
     record {
       takes = subst (λ (es : Entries). TakesEach c.args.group.now es) (sym is) c.requires;
-      joined = ap (joined_entries c.args.group.now) is;
+      joined = ap (group_with_entries c.args.group.now) is;
     }
 
 pub absorb_copies-requires-clause-room : goal.absorb_copies-requires-clause-room
@@ -39,10 +39,10 @@ loop-key-preserved c =
     let takes = subst (λ (es : Entries). TakesEach c.loop-key.group es) more c.loop-key.invariant.takes in
     record {
       takes = subst (λ (g : GroupState). TakesEach g rest) (sym c.in_ok-absorb_copies.ensures) takes.2;
-      joined = ap (λ (g : GroupState). joined_entries g rest) c.in_ok-absorb_copies.ensures ∙ ap (joined_entries c.loop-key.group) (sym more) ∙ c.loop-key.invariant.joined;
+      joined = ap (λ (g : GroupState). group_with_entries g rest) c.in_ok-absorb_copies.ensures ∙ ap (group_with_entries c.loop-key.group) (sym more) ∙ c.loop-key.invariant.joined;
     }
 
 pub returns : goal.returns
 returns c =
     let none : c.loop-key._key-iterator ≡ [] = rest_all (deref_pair {K = Vec Value Global} {X = GroupState}) c.loop-key._key-iterator c.next.new.self c.next.result c.in-None.is c.next.ensures.steps in
-    ap (joined_entries c.loop-key.group) (sym none) ∙ c.loop-key.invariant.joined
+    ap (group_with_entries c.loop-key.group) (sym none) ∙ c.loop-key.invariant.joined

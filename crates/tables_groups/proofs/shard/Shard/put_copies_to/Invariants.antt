@@ -1,11 +1,11 @@
 use Rattle.std.proofs.Common.{◌≡◌}
 use Rattle.tables_groups.specs.Inside.Shards.{entries_in}
-use Rattle.tables_groups.specs.Inside.Table.{TakesEach, joined_entries}
+use Rattle.tables_groups.specs.Inside.Table.{TakesEach, group_with_entries}
 use Rattle.tables_groups.proofs.shard.Shard.put_copies_to.Given as goal
 
 -- the group takes the parts that are left, and with them it is that with all parts
 abbrev pub invariant-loop-key : goal.invariant-loop-key
 invariant-loop-key l = record {
   takes : TakesEach l.group l._key-iterator;
-  joined : joined_entries l.group l._key-iterator ≡ joined_entries l.fn.group (entries_in l.self);
+  joined : group_with_entries l.group l._key-iterator ≡ group_with_entries l.fn.group (entries_in l.self);
 }

@@ -5,9 +5,9 @@ use Rattle.std.specs.Option.{option_copied_mut, is_some}
 use Rattle.std.specs.Map.{lookup}
 use Rattle.std.specs.Cmp.Lexicographic.{pointwise}
 use Rattle.values.specs.Datum.{data_of}
-use Rattle.tables_groups.specs.Inside.Group.{join}
+use Rattle.tables_groups.specs.Inside.Group.{joint_group}
 use Rattle.tables_groups.specs.Inside.Shards.{contents_in}
-use Rattle.tables_groups.specs.Inside.Table.{join_options, contents_of}
+use Rattle.tables_groups.specs.Inside.Table.{joint_option, contents_of}
 use Rattle.tables_groups.proofs.Order.{value_eq}
 use Rattle.tables_groups.proofs.Entries.{get-updated, get-shown, put_is, updated-elsewhere, elsewhere-after}
 use Rattle.tables_groups.proofs.shard.Shard.put_group.Goals as goal
@@ -34,10 +34,10 @@ returns-in-Some-clause-put c =
     let n = c.get_mut.follows.lender c.absorb.new.self in
     let u = (c.get_mut.follows.holds c.absorb.new.self).3 (there c) in
     on_ok_weaker c.absorb.result
-    (λ (h : c.absorb.new.self ≡ join c.in-Some.group.now c.args.part).
+    (λ (h : c.absorb.new.self ≡ joint_group c.in-Some.group.now c.args.part).
     put_is (contents_of es) (contents_of n.entries) (data_of c.args.key.items) c.args.part (Some c.absorb.new.self)
     (λ q. get-updated es n.entries c.args.key.items (Some c.absorb.new.self) u.1 u.3 q)
-    (ap Some h ∙ ap (λ o. join_options o (Some c.args.part)) (sym (found_then c))))
+    (ap Some h ∙ ap (λ o. joint_option o (Some c.args.part)) (sym (found_then c))))
     c.absorb.ensures
 
 pub returns-in-Some-clause-others : goal.returns-in-Some-clause-others
@@ -56,7 +56,7 @@ returns-clause-put c =
     let absent : fin.get (contents_of es) key ≡ None = get-shown c.args.key.items es ∙ sym c.get_mut.ensures.value ∙ ap option_copied_mut c.in_default.is in
     put_is (contents_of es) (contents_of c.insert.new.self.entries) key c.args.part (Some c.args.part)
     (λ q. get-updated es c.insert.new.self.entries c.args.key.items (Some c.args.part) u.1 others q)
-    (ap (λ o. join_options o (Some c.args.part)) (sym absent))
+    (ap (λ o. joint_option o (Some c.args.part)) (sym absent))
 
 pub returns-clause-others : goal.returns-clause-others
 returns-clause-others c =

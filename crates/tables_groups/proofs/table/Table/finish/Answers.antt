@@ -12,7 +12,7 @@ use Rattle.tables_groups.proofs.Distinct.{distinct-shown}
 use Rattle.tables_groups.proofs.Entries.{Entries}
 use Rattle.tables_groups.proofs.GroupsLaw.{lines-bag}
 use Rattle.tables_groups.proofs.Shards.{distinct-all}
-use Rattle.tables_groups.proofs.Walks.{summaries}
+use Rattle.tables_groups.specs.Inside.Summaries.{entry_summaries}
 use Rattle.tables_groups.proofs.table.Table.finish.Goals as goal
 
 pub returns : goal.returns
@@ -21,9 +21,9 @@ returns c =
     let es : Entries = all_entries shards in
     record {
       groups = IfOk-weaker c.put_rest.result _ _
-          (λ (all : Vec Group Global). λ (is : map group_summary_in all.items ≡ map group_summary_in c.loop.groups.items ++ summaries (entries_left c.loop.walks.items)).
+          (λ (all : Vec Group Global). λ (is : map group_summary_in all.items ≡ map group_summary_in c.loop.groups.items ++ entry_summaries (entries_left c.loop.walks.items)).
           λ (set : List ℕ) (fs : List AggregateFunction) (rows : List Row) (a : IsTableOf set fs c.args.self rows) f.
-          ap (weigh f) is ∙ c.loop.invariant f ∙ ap (λ (xs : Entries). weigh f (summaries xs)) c.in_ok-walks.ensures
+          ap (weigh f) is ∙ c.loop.invariant f ∙ ap (λ (xs : Entries). weigh f (entry_summaries xs)) c.in_ok-walks.ensures
           ∙ lines-bag set fs rows (entries_by_key es) c.args.self c.self.view_is a (distinct-shown es (distinct-all shards c.self.inside.apart)) f)
           c.put_rest.ensures;
     }

@@ -11,7 +11,7 @@ use Rattle.tables_groups.proofs.Distinct.{distinct-shown}
 use Rattle.tables_groups.proofs.Entries.{Entries}
 use Rattle.tables_groups.proofs.GroupsLaw.{lines-bag}
 use Rattle.tables_groups.proofs.Shards.{distinct-all}
-use Rattle.tables_groups.proofs.Walks.{summaries}
+use Rattle.tables_groups.specs.Inside.Summaries.{entry_summaries}
 use Rattle.tables_groups.proofs.table.Table.finish_among.Goals as goal
 
 pub returns : goal.returns
@@ -20,7 +20,7 @@ returns g c =
     let es : Entries = all_entries shards in
     record {
       groups = IfOk-weaker c.groups_among.result _ _
-          (λ (all : Vec Group Global). λ (is : map group_summary_in all.items ≡ summaries es).
+          (λ (all : Vec Group Global). λ (is : map group_summary_in all.items ≡ entry_summaries es).
           λ (set : List ℕ) (fs : List AggregateFunction) (rows : List Row) (a : IsTableOf set fs c.args.self rows) f.
           ap (weigh f) is ∙ lines-bag set fs rows (entries_by_key es) c.args.self c.self.view_is a (distinct-shown es (distinct-all shards c.self.inside.apart)) f)
           c.groups_among.ensures;

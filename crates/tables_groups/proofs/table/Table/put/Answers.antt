@@ -5,7 +5,7 @@ use Rattle.values.specs.Datum.{data_of}
 use Rattle.semantics.specs.Groups.{Key, project}
 use Rattle.tables_groups.specs.Inside.Group.{GroupState}
 use Rattle.tables_groups.specs.Inside.Shards.{AreApart, contents_in, contents_of_shards, shard_index}
-use Rattle.tables_groups.specs.Inside.Table.{Contents, IsTaken, IsWithPart, with_part}
+use Rattle.tables_groups.specs.Inside.Table.{Contents, IsTaken, IsWithPart, group_with_part}
 use Rattle.tables_groups.specs.declared.shard.Shard.{Shard}
 use Rattle.tables_groups.proofs.Shards.{all-changed, apart-changed, get-place, within-all}
 use Rattle.tables_groups.proofs.table.Table.put.Goals as goal
@@ -58,5 +58,5 @@ returns c =
     (λ (h : (k : Key) → IsWithPart fs (contents_in s) (contents_in new) key part k). λ (k : Key).
     subst (λ (t : Contents). IsWithPart fs t (contents_of_shards (set ss c.place_of-place.result new)) key part k) c.self.view_is
     (subst (λ n. IsWithPart fs (contents_of_shards ss) (contents_of_shards (set ss n new)) key part k) (sym p)
-    (all-changed (λ o. Some (with_part fs o part)) ss s new key c.self.inside.apart (within-all c.self.inside.shards c.self.inside.some) is c.put.ensures.others h k)))
+    (all-changed (λ o. Some (group_with_part fs o part)) ss s new key c.self.inside.apart (within-all c.self.inside.shards c.self.inside.some) is c.put.ensures.others h k)))
     c.put.ensures.put

@@ -5,7 +5,7 @@ use Rattle.values.specs.Datum.{data_of}
 use Rattle.semantics.specs.Groups.{Key}
 use Rattle.tables_groups.specs.Inside.Group.{GroupState}
 use Rattle.tables_groups.specs.Inside.Shards.{AreApart, contents_in, contents_of_shards, shard_index}
-use Rattle.tables_groups.specs.Inside.Table.{Contents, IsFitting, IsPut, join_options}
+use Rattle.tables_groups.specs.Inside.Table.{Contents, IsFitting, IsPut, joint_option}
 use Rattle.tables_groups.specs.declared.shard.Shard.{Shard}
 use Rattle.tables_groups.proofs.Shards.{all-changed, apart-changed, get-place, within-all}
 use Rattle.tables_groups.proofs.table.Table.put_to_group.Goals as goal
@@ -57,5 +57,5 @@ returns c =
     (λ (h : (k : Key) → IsPut (contents_in s) (contents_in new) key part k). λ (k : Key).
     subst (λ (t : Contents). IsPut t (contents_of_shards (set ss c.place_of-place.result new)) key part k) c.self.view_is
     (subst (λ n. IsPut (contents_of_shards ss) (contents_of_shards (set ss n new)) key part k) (sym p)
-    (all-changed (λ o. join_options o (Some part)) ss s new key c.self.inside.apart (within-all c.self.inside.shards c.self.inside.some) is c.put_group.ensures.others h k)))
+    (all-changed (λ o. joint_option o (Some part)) ss s new key c.self.inside.apart (within-all c.self.inside.shards c.self.inside.some) is c.put_group.ensures.others h k)))
     c.put_group.ensures.put

@@ -13,7 +13,7 @@ use Rattle.semantics.specs.Groups.{Key, project}
 use Rattle.tables_groups.specs.Functions.{bound}
 use Rattle.tables_groups.specs.Inside.Group.{GroupState}
 use Rattle.tables_groups.specs.Inside.Shards.{AreApart, all_entries, contents_of_shards, entries_in}
-use Rattle.tables_groups.specs.Rolled.{rolled}
+use Rattle.tables_groups.specs.Rolled.{rolled_key}
 use Rattle.tables_groups.specs.Inside.Table.{IsEnlarged, IsTableOf}
 use Rattle.tables_groups.specs.declared.shard.Shard.{Shard}
 use Rattle.tables_groups.proofs.Entries.{Entries, key_eq}
@@ -25,16 +25,16 @@ use Rattle.tables_groups.proofs.table.Table.roll.Goals as goal
 distinct-read : (shards inside : List Shard) → shards ≡ inside → AreApart inside → IsDistinct key_eq (keys_of (all_entries shards))
 distinct-read shards inside is apart = subst (λ (ss : List Shard). IsDistinct key_eq (keys_of (all_entries ss))) (sym is) (distinct-all inside apart)
 
-pub rolled_to_one-requires : goal.rolled_to_one-requires
-rolled_to_one-requires c = record { few = ∥∥₁_map c.requires.few (λ few. (c.args.finer.now, few)) }
+pub roll_to_one-requires : goal.roll_to_one-requires
+roll_to_one-requires c = record { few = ∥∥₁_map c.requires.few (λ few. (c.args.finer.now, few)) }
 
 pub returns-then-is_empty : goal.returns-then-is_empty
 returns-then-is_empty c =
     let none : c.args.set.now ≡ [] = none_left c.args.set.now (let f = c.if-is_empty.ensures in grind (arith, f)) in
     record {
-      rolled = IfOk-weaker c.rolled_to_one.result _ _
+      rolled = IfOk-weaker c.roll_to_one.result _ _
           (λ table h filters rows is. subst (λ (set : List ℕ). IsTableOf set (map (bound filters) c.args.functions.now) table rows) (sym none) (h c.args.finer.now filters rows is))
-          c.rolled_to_one.ensures.rolled;
+          c.roll_to_one.ensures.rolled;
     }
 
 pub loop-shard-init : goal.loop-shard-init
@@ -99,7 +99,7 @@ loop-key-preserved c =
     let e : Vec Value Global × GroupState = (c.in-Some.key.now, c.in-Some.part.now) in
     let more : c.loop-key.key-iterator ≡ e ∷ rest = rest_more (deref_pair {K = Vec Value Global} {X = GroupState}) c.loop-key.key-iterator rest c.next.result (c.in-Some.key, c.in-Some.part) c.in-Some.is c.next.ensures.steps in
     let each = subst (λ (es : Entries). AllByRecursion (λ e. fin.get t (data_of e.0.items) ≡ Some e.1) (es ++ others)) more i.each in
-    let key : project c.as_slice.result.now (data_of c.as_slice-in-loop-key.result.now) ≡ rolled finer set (data_of e.0.items) =
+    let key : project c.as_slice.result.now (data_of c.as_slice-in-loop-key.result.now) ≡ rolled_key finer set (data_of e.0.items) =
     (λ j. project (c.as_slice.ensures.value j) (data_of (c.as_slice-in-loop-key.ensures.value j))) ∙ ap (λ xs. project xs (data_of e.0.items)) c.in_ok-indices.ensures in
     record {
       rolled = λ filters rows is. rolled-step finer set fs filters t old new e (rest ++ others) all rows c.requires.among is each.0

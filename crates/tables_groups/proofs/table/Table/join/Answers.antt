@@ -2,7 +2,7 @@ use Rattle.std.proofs.Common.{◌≡◌, length, subst, sym, arith}
 use Rattle.tables_groups.specs.Inside.Shards.{contents_of_shards}
 use Rattle.tables_groups.specs.Inside.Table.{CanJoin, Contents, IsJoined}
 use Rattle.tables_groups.proofs.Shards.{all-joined, each-can_join, within-all}
-use Rattle.tables_groups.proofs.table.Table.joined.Goals as goal
+use Rattle.tables_groups.proofs.table.Table.join.Goals as goal
 
 pub join_shards-requires-clause-each : goal.join_shards-requires-clause-each
 join_shards-requires-clause-each c =

@@ -8,12 +8,12 @@ use Rattle.values.specs.Datum.{data_of}
 use Rattle.semantics.specs.Groups.{Key, key_order}
 use Rattle.tables_groups.specs.Inside.Group.{GroupState, no_group}
 use Rattle.tables_groups.specs.Inside.Shards.{AreApart, all_entries, contents_of_shards, entries_in}
-use Rattle.tables_groups.specs.Inside.Table.{Contents, IsFitting, IsPut, TakesEach, contents_of, joined_entries}
+use Rattle.tables_groups.specs.Inside.Table.{Contents, IsFitting, IsPut, TakesEach, contents_of, group_with_entries}
 use Rattle.tables_groups.specs.declared.shard.Shard.{Shard}
 use Rattle.tables_groups.proofs.Entries.{Entries, key_eq}
-use Rattle.tables_groups.proofs.Rolling.{joined_entries-append, rolled-to_one, takes-all, takes-append, takes-prop}
+use Rattle.tables_groups.proofs.Rolling.{group_with_entries-append, rolled-to_one, takes-all, takes-append, takes-prop}
 use Rattle.tables_groups.proofs.Shards.{distinct-all}
-use Rattle.tables_groups.proofs.table.Table.rolled_to_one.Goals as goal
+use Rattle.tables_groups.proofs.table.Table.roll_to_one.Goals as goal
 
 distinct-read : (shards inside : List Shard) → shards ≡ inside → AreApart inside → IsDistinct key_eq (keys_of (all_entries shards))
 distinct-read shards inside is apart = subst (λ (ss : List Shard). IsDistinct key_eq (keys_of (all_entries ss))) (sym is) (distinct-all inside apart)
@@ -29,7 +29,7 @@ loop-shard-init c =
     record {
       takes = subst (λ (g : GroupState). TakesEach g es) (sym c.in_ok-group.ensures)
           (∥∥₁_elim c.requires.few (takes-prop (no_group fs) es) (λ few. takes-all few.0 fs few.1.filters c.args.self.now es few.1.rows view distinct few.1.few few.1.is_table));
-      joined = ap (λ (g : GroupState). joined_entries g es) c.in_ok-group.ensures;
+      joined = ap (λ (g : GroupState). group_with_entries g es) c.in_ok-group.ensures;
     }
 
 pub put_copies_to-requires : goal.put_copies_to-requires
@@ -54,8 +54,8 @@ loop-shard-preserved c =
     let takes = takes-append old here others (subst (λ (es : Entries). TakesEach old es) left c.loop-shard.invariant.takes) in
     record {
       takes = subst (λ (g : GroupState). TakesEach g others) (sym c.in_ok-put_copies_to.ensures) takes.1;
-      joined = ap (λ (g : GroupState). joined_entries g others) c.in_ok-put_copies_to.ensures ∙ sym (joined_entries-append old here others)
-          ∙ ap (joined_entries old) (sym left) ∙ c.loop-shard.invariant.joined;
+      joined = ap (λ (g : GroupState). group_with_entries g others) c.in_ok-put_copies_to.ensures ∙ sym (group_with_entries-append old here others)
+          ∙ ap (group_with_entries old) (sym left) ∙ c.loop-shard.invariant.joined;
     }
 
 pub put_to_group-requires : goal.put_to_group-requires
@@ -76,10 +76,10 @@ returns c =
     let new = c.put_to_group.new.self in
     let items = c.new-2.result.items in
     let none : all_entries (drop c.loop-shard.shard-index shards) ≡ [] = ap all_entries (drop_all c.loop-shard.shard-index shards c.loop-shard-test.false) in
-    let whole : group ≡ joined_entries (no_group fs) es = ap (joined_entries group) (sym none) ∙ c.loop-shard.invariant.joined in
-    let put : (k : Key) → IsPut fin.empty new [] (joined_entries (no_group fs) es) k =
-    λ k. subst (λ (t : Contents). IsPut t new [] (joined_entries (no_group fs) es) k) c.in_ok-one.ensures
-    (subst (λ (key : Key). IsPut old new key (joined_entries (no_group fs) es) k) (ap data_of c.new-2.ensures.items)
+    let whole : group ≡ group_with_entries (no_group fs) es = ap (group_with_entries group) (sym none) ∙ c.loop-shard.invariant.joined in
+    let put : (k : Key) → IsPut fin.empty new [] (group_with_entries (no_group fs) es) k =
+    λ k. subst (λ (t : Contents). IsPut t new [] (group_with_entries (no_group fs) es) k) c.in_ok-one.ensures
+    (subst (λ (key : Key). IsPut old new key (group_with_entries (no_group fs) es) k) (ap data_of c.new-2.ensures.items)
     (subst (λ (g : GroupState). IsPut old new (data_of items) g k) whole (c.in_ok-put_to_group.ensures k))) in
     record {
       rolled = λ finer filters rows table. rolled-to_one finer fs filters c.args.self.now new es rows

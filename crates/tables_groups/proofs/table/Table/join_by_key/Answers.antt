@@ -6,12 +6,12 @@ use Rattle.semantics.specs.Groups.{Key, key_order}
 use Rattle.tables_groups.specs.Inside.Group.{GroupState}
 use Rattle.tables_groups.specs.Inside.Keys.{key_eq}
 use Rattle.tables_groups.specs.Inside.Shards.{all_entries}
-use Rattle.tables_groups.specs.Inside.Table.{Contents, IsFitting, join_options, entries_by_key}
+use Rattle.tables_groups.specs.Inside.Table.{Contents, IsFitting, joint_option, entries_by_key}
 use Rattle.tables_groups.specs.declared.shard.Shard.{Shard}
 use Rattle.tables_groups.proofs.Entries.{options-none}
 use Rattle.tables_groups.proofs.Order.{key_total}
 use Rattle.tables_groups.proofs.Shards.{can_join-first, distinct-all, distinct-rest, fits-first, joined-first}
-use Rattle.tables_groups.proofs.table.Table.joined_by_key.Goals as goal
+use Rattle.tables_groups.proofs.table.Table.join_by_key.Goals as goal
 
 pub loop-shard-init : goal.loop-shard-init
 loop-shard-init c =
@@ -21,7 +21,7 @@ loop-shard-init c =
     let at : (k : Key) → find key_order k (entries_by_key (all_entries left)) ≡ get c.args.other k =
     λ k. ap (λ (xs : List Shard). find key_order k (entries_by_key (all_entries xs))) is ∙ sym (get-from_entries key_total (entries_by_key (all_entries ss)) k) ∙ ap (λ (t : Contents). get t k) c.other.view_is in
     record {
-      joined = λ k. ap (join_options (get c.args.self k)) (at k);
+      joined = λ k. ap (joint_option (get c.args.self k)) (at k);
       fits = λ k. subst (λ (o : Option GroupState). IfSome o (λ p. IsFitting p (get c.args.self k))) (sym (at k)) (c.requires k);
       distinct = subst (λ (xs : List Shard). IsDistinct key_eq (keys_of (all_entries xs))) (sym is) (distinct-all ss c.other.inside.apart);
     }
@@ -45,7 +45,7 @@ loop-shard-preserved c =
     let d : IsDistinct key_eq (keys_of (all_entries (s ∷ rest))) = subst (λ (xs : List Shard). IsDistinct key_eq (keys_of (all_entries xs))) is i.distinct in
     record {
       joined = λ k. joined-first old new k s rest d (c.in_ok-absorb_shard.ensures k)
-          ∙ ap (λ (xs : List Shard). join_options (get old k) (find key_order k (entries_by_key (all_entries xs)))) (sym is) ∙ i.joined k;
+          ∙ ap (λ (xs : List Shard). joint_option (get old k) (find key_order k (entries_by_key (all_entries xs)))) (sym is) ∙ i.joined k;
       fits = λ k. fits-first old new k s rest d (c.in_ok-absorb_shard.ensures k)
           (subst (λ (xs : List Shard). IfSome (find key_order k (entries_by_key (all_entries xs))) (λ p. IsFitting p (get old k))) is (i.fits k));
       distinct = distinct-rest s rest d;
@@ -60,5 +60,5 @@ returns c = λ k.
     let left : List Shard = c.loop-shard.shard-iterator.rest.items in
     let many : length left ≡ 0 = let l = c.loop-shard.shard-iterator.rest.ok in let s = c.in-None.ensures.steps in omega (arith, l, s) in
     sym (options-none (get c.loop-shard.joined k))
-    ∙ ap (λ (xs : List Shard). join_options (get c.loop-shard.joined k) (find key_order k (entries_by_key (all_entries xs)))) (sym (none-left left many))
+    ∙ ap (λ (xs : List Shard). joint_option (get c.loop-shard.joined k) (find key_order k (entries_by_key (all_entries xs)))) (sym (none-left left many))
     ∙ c.loop-shard.invariant.joined k
