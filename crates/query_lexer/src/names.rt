@@ -26,7 +26,8 @@ pub fn is_plain_name(name: &str) -> bool
 /// `AllocError` where memory was refused. Then nothing is promised of what stands in `out`.
 pub fn push_quoted(out: &mut String, text: &str, quote: char) -> Result<(), AllocError>
     requires { quote < 128 }
-    ensures { OnOk result (string_bytes out.new ≡ string_bytes out.old ++ quoted_text quote text.now) }
+    ensures { OnOk result (string_bytes out.new
+        ≡ string_bytes out.old ++ quoted_text quote text.now) }
 {
     out.push(quote)?;
     let mut rest = text;

@@ -10,7 +10,11 @@ use semantics::Token;
 use std::alloc::{AllocError, Global};
 
 /// What is quoted, from behind its first quote on, and what stands behind its last quote.
-fn quoted(alloc: Global, text: &str, quote: char) -> Result<Option<(String, &str)>, AllocError>
+fn quoted_content(
+    alloc: Global,
+    text: &str,
+    quote: char,
+) -> Result<Option<(String, &str)>, AllocError>
     requires { quote < 128 }
     ensures exact { IfOk result (λ o.
         Tells (λ x. (string_bytes x.0, x.1.now)) o (quoted_at quote text.now)) }
@@ -35,7 +39,7 @@ pub fn quoted_name(alloc: Global, text: &str) -> Result<Option<(Token, &str)>, A
     ensures exact { IfOk result (λ o. Tells (λ x. (x.0, x.1.now)) o (name_behind text.now)) }
     ensures shorter { IfOk result (λ o. IfSome o (λ x. length x.1.now < length text.now)) }
 {
-    let Some((name, rest)) = quoted(alloc, text, '"')? else {
+    let Some((name, rest)) = quoted_content(alloc, text, '"')? else {
         return Ok(None);
     };
     if name.is_empty() {
@@ -50,7 +54,7 @@ pub fn quoted_text(alloc: Global, text: &str) -> Result<Option<(Token, &str)>, A
     ensures exact { IfOk result (λ o. Tells (λ x. (x.0, x.1.now)) o (text_behind text.now)) }
     ensures shorter { IfOk result (λ o. IfSome o (λ x. length x.1.now < length text.now)) }
 {
-    let Some((content, rest)) = quoted(alloc, text, '\'')? else {
+    let Some((content, rest)) = quoted_content(alloc, text, '\'')? else {
         return Ok(None);
     };
     Ok(Some((Token::Text(Text::from_string(content)), rest)))

@@ -8,7 +8,7 @@ use Rattle.semantics.specs.Leaves.{Limits}
 use Rattle.query_parser.specs.declared.fault.GrammarFault.{GrammarFault}
 use Rattle.query_parser.specs.declared.fault.GrammarFault.TheVariants as faults
 use Rattle.query_parser.specs.Fronts.{is_sign, after}
-use Rattle.query_parser.specs.Steps.{◌>>=◌, Reader, stuck, expected, excess, with_front, more, listed_at, name_at, begins_name}
+use Rattle.query_parser.specs.Steps.{◌>>=◌, Reader, stuck, found_or_stuck, excess, with_front, more, listed_at, name_at, begins_name}
 use Rattle.query_parser.specs.LeafSteps.{arguments_at, literal_at, begins_literal, literals_at}
 
 -- ---- limits
@@ -79,8 +79,8 @@ pub agrees_listed : {A : Type 0} (begins : List Token → Bool) (part wide_part 
 agrees_listed begins part wide_part n m few h stops ts = agrees_bind (h ts) (λ first. agrees_front (first.0 ∷ []) (agrees_more (is_sign s.Comma) begins part wide_part n m few h stops first.1))
 
 -- What has to stand in front does not stand there.
-expected_stuck : {A : Type 0} (front : List Token → Option A) (ts : List Token) → is_some (front ts) ≡ false → expected front ts ≡ stuck ts
-expected_stuck {A} front ts e = of_front (front ts) e where
+stuck_where_none : {A : Type 0} (front : List Token → Option A) (ts : List Token) → is_some (front ts) ≡ false → found_or_stuck front ts ≡ stuck ts
+stuck_where_none {A} front ts e = of_front (front ts) e where
   of_front : (o : Option A) → is_some o ≡ false → choose o (stuck ts) (λ x. Ok x) ≡ stuck ts
   of_front None h = refl
   of_front (Some x) h = absurd cc
@@ -88,12 +88,12 @@ expected_stuck {A} front ts e = of_front (front ts) e where
 -- The bracketed names behind GROUPING.
 pub arguments_agree : (n m : ℕ) → n ≤ m → (ts : List Token) → Agrees (arguments_at n ts) (arguments_at m ts)
 unfolding arguments_at
-arguments_agree n m few ts = agrees_bind Agrees.same (λ a. agrees_bind (agrees_listed begins_name (expected name_at) (expected name_at) (n - 1) (m - 1) (omega arith) (λ us. Agrees.same) (expected_stuck name_at) a) (λ all. Agrees.same))
+arguments_agree n m few ts = agrees_bind Agrees.same (λ a. agrees_bind (agrees_listed begins_name (found_or_stuck name_at) (found_or_stuck name_at) (n - 1) (m - 1) (omega arith) (λ us. Agrees.same) (stuck_where_none name_at) a) (λ all. Agrees.same))
 
 -- The bracketed literals behind IN.
 pub literals_agree : (n m : ℕ) → n ≤ m → (ts : List Token) → Agrees (literals_at n ts) (literals_at m ts)
 unfolding literals_at
-literals_agree n m few ts = agrees_bind Agrees.same (λ a. agrees_bind (agrees_listed begins_literal (expected literal_at) (expected literal_at) (n - 1) (m - 1) (omega arith) (λ us. Agrees.same) (expected_stuck literal_at) a) (λ all. Agrees.same))
+literals_agree n m few ts = agrees_bind Agrees.same (λ a. agrees_bind (agrees_listed begins_literal (found_or_stuck literal_at) (found_or_stuck literal_at) (n - 1) (m - 1) (omega arith) (λ us. Agrees.same) (stuck_where_none literal_at) a) (λ all. Agrees.same))
 
 -- ---- wider limits
 

@@ -5,7 +5,7 @@ use Rattle.query_lexer.specs.Options.{choose}
 use Rattle.query_parser.specs.declared.fault.GrammarFault.{GrammarFault}
 use Rattle.query_parser.specs.declared.fault.GrammarFault.TheVariants as faults
 use Rattle.query_parser.specs.Fronts.{after}
-use Rattle.query_parser.specs.Steps.{◌>>=◌, Reader, stuck, over, expected, excess, with_front, more}
+use Rattle.query_parser.specs.Steps.{◌>>=◌, Reader, stuck, over, found_or_stuck, excess, with_front, more}
 use Rattle.query_parser.proofs.Inversions.{bind_ok, ok_is}
 
 -- ---- lists of tokens with the same front
@@ -385,19 +385,19 @@ local_front {A} {X} {c} h n g front ln lg (t ∷ ts) =
       | inr e ↦ local_token (λ ts. choose (h ts) (n ts) (λ x. g x.0 x.1)) (g e.0) t ts (λ us. ap (λ (o : Option (X × List Token)). choose o (n (t ∷ us)) (λ x. g x.0 x.1)) (e.1 us)) (lg e.0 ts)
     ]
 
-expected_choice : {A B : Type 0} (o : Option A) (n : GrammarFault) (g : A → Result B GrammarFault) → (choose o (failed n) (λ x. Ok x) >>= g) ≡ choose o (failed n) g
-expected_choice None n g = refl
-expected_choice (Some x) n g = refl
+found_or_stuck_choice : {A B : Type 0} (o : Option A) (n : GrammarFault) (g : A → Result B GrammarFault) → (choose o (failed n) (λ x. Ok x) >>= g) ≡ choose o (failed n) g
+found_or_stuck_choice None n g = refl
+found_or_stuck_choice (Some x) n g = refl
 
 -- What has to stand in front, and what is read behind it.
-pub local_expected : {A : Type 0} {c : Bool} (test : Token → Bool) (g : Reader A) → Local c g → Local true (λ ts. expected (after test) ts >>= λ a. g a)
-local_expected {A} {c} test g lg =
-    local_as (λ ts. expected (after test) ts >>= λ a. g a) (λ ts. choose (after test ts) (stuck ts) (λ a. g a))
-    (λ ts. expected_choice (after test ts) (faults.Unexpected (length ts)) g) (local_choose test stuck g local_stuck lg)
+pub local_found_or_stuck : {A : Type 0} {c : Bool} (test : Token → Bool) (g : Reader A) → Local c g → Local true (λ ts. found_or_stuck (after test) ts >>= λ a. g a)
+local_found_or_stuck {A} {c} test g lg =
+    local_as (λ ts. found_or_stuck (after test) ts >>= λ a. g a) (λ ts. choose (after test ts) (stuck ts) (λ a. g a))
+    (λ ts. found_or_stuck_choice (after test ts) (faults.Unexpected (length ts)) g) (local_choose test stuck g local_stuck lg)
 
 -- A value that has to stand in front.
-pub local_expected_front : {X : Type 0} (h : List Token → Option (X × List Token)) → IsFront h → Local true (expected h)
-local_expected_front h front = local_front h stuck (λ x us. Ok (x, us)) front local_stuck (λ x. local_ok x)
+pub local_found_or_stuck_front : {X : Type 0} (h : List Token → Option (X × List Token)) → IsFront h → Local true (found_or_stuck h)
+local_found_or_stuck_front h front = local_front h stuck (λ x us. Ok (x, us)) front local_stuck (λ x. local_ok x)
 
 -- A separator and parts, at most n.
 pub local_more : {A : Type 0} (sep : Token → Bool) (b : List Token → Bool) (f : Reader A) → ((t : Token) (us vs : List Token) → b (t ∷ us) ≡ b (t ∷ vs)) → Local true f → (n : ℕ) → Local true (more sep b f n)

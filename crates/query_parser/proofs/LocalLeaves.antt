@@ -13,9 +13,9 @@ use Rattle.semantics.specs.declared.aggregate.Aggregate.TheVariants as aggregate
 use Rattle.semantics.specs.declared.literal.Literal.{Literal}
 use Rattle.semantics.specs.declared.literal.Literal.TheVariants as literals
 use Rattle.query_parser.specs.Fronts.{is_word, is_sign, after}
-use Rattle.query_parser.specs.Steps.{◌>>=◌, Reader, stuck, expected, with_front, more, listed_at, bracketed_at, name_at, begins_name}
-use Rattle.query_parser.specs.LeafSteps.{closed_name_at, argument_at, counted_at, count_at, aggregate_at, arguments_at, literal_at, begins_literal, literals_at, op_at, truth_at}
-use Rattle.query_parser.proofs.Local.{IsFront, Local, local_ok, local_stuck, local_end, local_head, local_token, local_choose, local_bind, local_expected, local_expected_front, local_more}
+use Rattle.query_parser.specs.Steps.{◌>>=◌, Reader, stuck, found_or_stuck, with_front, more, listed_at, bracketed_at, name_at, begins_name}
+use Rattle.query_parser.specs.LeafSteps.{closed_name_at, argument_at, counted_name_at, count_at, aggregate_at, arguments_at, literal_at, begins_literal, literals_at, op_at, truth_at}
+use Rattle.query_parser.proofs.Local.{IsFront, Local, local_ok, local_stuck, local_end, local_head, local_token, local_choose, local_bind, local_found_or_stuck, local_found_or_stuck_front, local_more}
 
 -- ---- lists
 
@@ -28,12 +28,12 @@ local_listed b f front lf n = local_bind f (λ x us. with_front (x ∷ []) (more
     (λ x. local_bind (more (is_sign s.Comma) b f n) (λ xs us. Ok ((x ∷ []) ++ xs, us)) (local_more (is_sign s.Comma) b f front lf n) (λ xs. local_ok ((x ∷ []) ++ xs)))
 
 -- A value and its closing bracket.
-pub local_closed : {A : Type 0} (x : A) → Local true (λ ts. expected (after (is_sign s.Close)) ts >>= λ rest. Ok (x, rest))
-local_closed x = local_expected (is_sign s.Close) (λ us. Ok (x, us)) (local_ok x)
+pub local_closed : {A : Type 0} (x : A) → Local true (λ ts. found_or_stuck (after (is_sign s.Close)) ts >>= λ rest. Ok (x, rest))
+local_closed x = local_found_or_stuck (is_sign s.Close) (λ us. Ok (x, us)) (local_ok x)
 
 pub local_bracketed : {A : Type 0} (b : List Token → Bool) (f : Reader A) → TellsByFront b → Local true f → (n : ℕ) → Local true (bracketed_at b f n)
-local_bracketed b f front lf n = local_expected (is_sign s.Open) (λ a. listed_at b f n a >>= λ all. expected (after (is_sign s.Close)) all.1 >>= λ rest. Ok (all.0, rest))
-    (local_bind (listed_at b f n) (λ xs us. expected (after (is_sign s.Close)) us >>= λ rest. Ok (xs, rest)) (local_listed b f front lf n) local_closed)
+local_bracketed b f front lf n = local_found_or_stuck (is_sign s.Open) (λ a. listed_at b f n a >>= λ all. found_or_stuck (after (is_sign s.Close)) all.1 >>= λ rest. Ok (all.0, rest))
+    (local_bind (listed_at b f n) (λ xs us. found_or_stuck (after (is_sign s.Close)) us >>= λ rest. Ok (xs, rest)) (local_listed b f front lf n) local_closed)
 
 -- ---- names and set functions
 
@@ -51,25 +51,25 @@ name_front = record { at_end = refl; at_token = name_token }
 
 pub closed_name_l : Local true closed_name_at
 unfolding closed_name_at
-closed_name_l = local_bind (expected name_at) (λ n us. expected (after (is_sign s.Close)) us >>= λ rest. Ok (n, rest)) (local_expected_front name_at name_front) local_closed
+closed_name_l = local_bind (found_or_stuck name_at) (λ n us. found_or_stuck (after (is_sign s.Close)) us >>= λ rest. Ok (n, rest)) (local_found_or_stuck_front name_at name_front) local_closed
 
 argument_l : Local true argument_at
 unfolding argument_at
-argument_l = local_expected (is_sign s.Open) (λ a. closed_name_at a) closed_name_l
+argument_l = local_found_or_stuck (is_sign s.Open) (λ a. closed_name_at a) closed_name_l
 
 -- What a name behind some tokens makes.
 named_l : {A B : Type 0} (f : Reader A) (make : A → B) → Local true f → Local true (λ ts. f ts >>= λ n. Ok (make n.0, n.1))
 named_l f make lf = local_bind f (λ x us. Ok (make x, us)) lf (λ x. local_ok (make x))
 
-counted_l : Local true counted_at
-unfolding counted_at
+counted_l : Local true counted_name_at
+unfolding counted_name_at
 counted_l = local_choose (is_word w.Distinct) (λ ts. closed_name_at ts >>= λ n. Ok (aggregates.Count n.0, n.1)) (λ a. closed_name_at a >>= λ n. Ok (aggregates.CountDistinct n.0, n.1))
     (named_l closed_name_at (λ n. aggregates.Count n) closed_name_l) (named_l closed_name_at (λ n. aggregates.CountDistinct n) closed_name_l)
 
 count_l : Local true count_at
 unfolding count_at
-count_l = local_expected (is_sign s.Open) (λ a. choose (after (is_sign s.Star) a) (counted_at a) (λ b. expected (after (is_sign s.Close)) b >>= λ rest. Ok (aggregates.CountRows, rest)))
-    (local_choose (is_sign s.Star) counted_at (λ b. expected (after (is_sign s.Close)) b >>= λ rest. Ok (aggregates.CountRows, rest)) counted_l (local_closed aggregates.CountRows))
+count_l = local_found_or_stuck (is_sign s.Open) (λ a. choose (after (is_sign s.Star) a) (counted_name_at a) (λ b. found_or_stuck (after (is_sign s.Close)) b >>= λ rest. Ok (aggregates.CountRows, rest)))
+    (local_choose (is_sign s.Star) counted_name_at (λ b. found_or_stuck (after (is_sign s.Close)) b >>= λ rest. Ok (aggregates.CountRows, rest)) counted_l (local_closed aggregates.CountRows))
 
 -- A set function of a name behind a word.
 of_argument : (make : List ℕ → Aggregate) → Local true (λ ts. argument_at ts >>= λ n. Ok (make n.0, n.1))
@@ -95,7 +95,7 @@ name_told (tokens.Text n) us vs = refl
 
 pub arguments_l : (most : ℕ) → Local true (arguments_at most)
 unfolding arguments_at
-arguments_l most = local_bracketed begins_name (expected name_at) name_told (local_expected_front name_at name_front) (most - 1)
+arguments_l most = local_bracketed begins_name (found_or_stuck name_at) name_told (local_found_or_stuck_front name_at name_front) (most - 1)
 
 -- ---- literals, operators and truth values
 
@@ -135,7 +135,7 @@ op_front = record { at_end = refl; at_token = op_token }
 
 pub literals_l : (most : ℕ) → Local true (literals_at most)
 unfolding literals_at
-literals_l most = local_bracketed begins_literal (expected literal_at) literal_told (local_expected_front literal_at literal_front) (most - 1)
+literals_l most = local_bracketed begins_literal (found_or_stuck literal_at) literal_told (local_found_or_stuck_front literal_at literal_front) (most - 1)
 
 pub truth_l : Local true truth_at
 unfolding truth_at

@@ -10,14 +10,14 @@ use Rattle.query_lexer.specs.Options.{choose}
 use Rattle.semantics.specs.declared.literal.Literal.{Literal}
 use Rattle.semantics.specs.Syntax.{ExpressionForm, OperandForm, PredicateForm, truth_test, compare, between, member, null_test, column}
 use Rattle.query_parser.specs.Fronts.{is_word, after}
-use Rattle.query_parser.specs.Steps.{◌>>=◌, Reader, expected}
+use Rattle.query_parser.specs.Steps.{◌>>=◌, Reader, found_or_stuck}
 use Rattle.query_parser.specs.LeafSteps.{literal_at, literals_at, op_at, truth_at, mark_at}
 use Rattle.query_parser.specs.ExpressionSteps.{Inside, expression_at}
 use Rattle.query_parser.specs.AtomSteps.{operand_at, member_after, between_after, negated_after, column_of, atom_after, test_after, is_after, tested_atom_at}
 use Rattle.semantics.specs.Leaves.{Derivation, IsLiteral, IsOp, IsOptional}
 use Rattle.semantics.specs.Productions.{IsExpression, IsOperand, IsAtom, IsPrimary, IsTest}
 use Rattle.query_parser.proofs.Viable.{Phrase, Viable, Listed, Enclosed, Exactly, exactly, viable_ok, viable_stuck, viable_as, viable_bind, viable_made, viable_front}
-use Rattle.query_parser.proofs.ViableLeaves.{limits_of, viable_word, expected_word, viable_mark, literal_finds, Literals, literals_v, op_finds, truth_v}
+use Rattle.query_parser.proofs.ViableLeaves.{limits_of, viable_word, found_or_stuck_word, viable_mark, literal_finds, Literals, literals_v, op_finds, truth_v}
 use Rattle.query_parser.proofs.ViableExpressions.{InsideViable, a_name, expression_v}
 
 -- A bare name, as an operand.
@@ -184,12 +184,12 @@ module _ (wide : Bool) (IsInner : Derivation PredicateForm) (inside : Inside) (i
 
   -- What is read behind the lower end of a BETWEEN.
   abbrev and_high_at : OperandForm → Bool → OperandForm → Reader PredicateForm
-  and_high_at x n y ts = expected (after (is_word w.And)) ts >>= λ a. high_at x n y a
+  and_high_at x n y ts = found_or_stuck (after (is_word w.And)) ts >>= λ a. high_at x n y a
 
   -- That is viable.
   high_v : (x : OperandForm) (n : Bool) (y : OperandForm) → Viable true wide (AfterLow x n y) (λ ts. and_high_at x n y ts)
   high_v x n y =
-      expected_word w.And (λ a. high_at x n y a) (high_end x n y)
+      found_or_stuck_word w.And (λ a. high_at x n y a) (high_end x n y)
       (viable_made (operand_at inside) (λ z. between x n y z)
       (λ us ws z h low l vs ms i m. IsAtom.between i m l h) operand_v)
 
@@ -204,9 +204,9 @@ module _ (wide : Bool) (IsInner : Derivation PredicateForm) (inside : Inside) (i
   negated_v : (x : OperandForm) → Viable true wide (AfterNot x) (negated_after inside x)
   unfolding negated_after
   negated_v x =
-      viable_word w.In (λ ts. expected (after (is_word w.Between)) ts >>= λ a. between_after inside x true a)
+      viable_word w.In (λ ts. found_or_stuck (after (is_word w.Between)) ts >>= λ a. between_after inside x true a)
       (λ a. member_after inside.limits.literals x true a)
-      (expected_word w.Between (λ a. between_after inside x true a) (not_between x)
+      (found_or_stuck_word w.Between (λ a. between_after inside x true a) (not_between x)
       (viable_as (λ us ws p q vs i. q vs (tokens.Word w.Not ∷ tokens.Word w.Between ∷ us) i IsOptional.written) (between_v x true)))
       (viable_as (λ us ws p q vs i. q vs (tokens.Word w.Not ∷ tokens.Word w.In ∷ us) i IsOptional.written) (member_v x true))
 

@@ -12,14 +12,14 @@ use Rattle.semantics.specs.Syntax.{ExpressionForm, FunctionForm, PredicateForm, 
 use Rattle.query_parser.specs.declared.fault.GrammarFault.{GrammarFault}
 use Rattle.query_parser.specs.declared.fault.GrammarFault.TheVariants as faults
 use Rattle.query_parser.specs.Fronts.{is_word, is_sign, after}
-use Rattle.query_parser.specs.Steps.{◌>>=◌, Reader, stuck, over, expected, name_at}
+use Rattle.query_parser.specs.Steps.{◌>>=◌, Reader, stuck, over, found_or_stuck, name_at}
 use Rattle.query_parser.specs.LeafSteps.{aggregate_at, arguments_at}
 use Rattle.query_parser.specs.ExpressionSteps.{Inside, filter_at, function_at, expression_at, begins_expression}
 use Rattle.semantics.specs.Leaves.{standard, Derivation, IsRepeated, IsName, IsAggregate}
 use Rattle.semantics.specs.Productions.{IsFunction, IsExpression}
 use Rattle.query_parser.proofs.Heads.{after_word_is, after_sign_is}
 use Rattle.query_parser.proofs.Inversions.{choose_ok}
-use Rattle.query_parser.proofs.Viable.{Phrase, GoesOn, Reaches, Claimed, Uncounted, Viable, BeginsPart, TellsPart, Listed, Closed, Enclosed, Exactly, choose_err, exactly, phrase_behind, phrase_closed, viable_ok, viable_over, viable_loose, viable_bind, viable_made, viable_expected, viable_front, viable_closed, counted}
+use Rattle.query_parser.proofs.Viable.{Phrase, GoesOn, Reaches, Claimed, Uncounted, Viable, BeginsPart, TellsPart, Listed, Closed, Enclosed, Exactly, choose_err, exactly, phrase_behind, phrase_closed, viable_ok, viable_over, viable_loose, viable_bind, viable_made, viable_found_or_stuck, viable_front, viable_closed, counted}
 use Rattle.query_parser.proofs.ViableLeaves.{limits_of, viable_word, name_finds, aggregate_v, Arguments, arguments_v}
 
 -- What reads a predicate in brackets is viable, and where something can stand in the brackets, there is a phrase of it:
@@ -48,15 +48,15 @@ InBrackets IsInner ts p rest = IsFilter IsInner (tokens.Sign s.Open ∷ ts) p re
 
 -- What is read before the closing bracket of a FILTER.
 abbrev closed_at : Reader PredicateForm → Reader PredicateForm
-closed_at read ts = read ts >>= λ p. expected (after (is_sign s.Close)) p.1 >>= λ rest. Ok (p.0, rest)
+closed_at read ts = read ts >>= λ p. found_or_stuck (after (is_sign s.Close)) p.1 >>= λ rest. Ok (p.0, rest)
 
 -- What is read behind the opening bracket of a FILTER, where a level of brackets is left or not.
 abbrev in_brackets : Bool → Reader PredicateForm → Reader PredicateForm
-in_brackets left read ts = cond left (expected (after (is_word w.Where)) ts >>= λ a. closed_at read a) (over ts)
+in_brackets left read ts = cond left (found_or_stuck (after (is_word w.Where)) ts >>= λ a. closed_at read a) (over ts)
 
 -- What is read behind the word FILTER.
 abbrev filter_with : Bool → Reader PredicateForm → Reader PredicateForm
-filter_with left read ts = expected (after (is_sign s.Open)) ts >>= λ a. in_brackets left read a
+filter_with left read ts = found_or_stuck (after (is_sign s.Open)) ts >>= λ a. in_brackets left read a
 
 -- What stands in the brackets of a FILTER, where something can stand there.
 phrase_in_brackets : {IsInner : Derivation PredicateForm} → Phrase IsInner → Phrase (InBrackets IsInner)
@@ -69,7 +69,7 @@ in_brackets_v : {wide : Bool} {IsInner : Derivation PredicateForm} (left : Bool)
     → Phrase IsInner → Viable false wide IsInner read
     → Viable false wide (InBrackets IsInner) (λ a. in_brackets left read a)
 in_brackets_v {IsInner = IsInner} true read phrase v =
-    viable_loose (viable_expected {strict = false} {Q = Closed IsInner} {R = InBrackets IsInner} (is_word w.Where)
+    viable_loose (viable_found_or_stuck {strict = false} {Q = Closed IsInner} {R = InBrackets IsInner} (is_word w.Where)
     (tokens.Word w.Where) (after_word_is w.Where) (λ i. refl) (λ us vs p q. IsFilter.brackets q)
     (λ b. closed_at read b) (phrase_closed phrase) (viable_closed IsInner read v))
 in_brackets_v false read phrase v = viable_over (λ i. phrase_in_brackets phrase)
@@ -78,7 +78,7 @@ in_brackets_v false read phrase v = viable_over (λ i. phrase_in_brackets phrase
 filter_v : {wide : Bool} {IsInner : Derivation PredicateForm} (left : Bool) (read : Reader PredicateForm)
     → Phrase IsInner → Viable false wide IsInner read → Viable true wide (IsFilter IsInner) (filter_with left read)
 filter_v {IsInner = IsInner} left read phrase v =
-    viable_expected {strict = false} {Q = InBrackets IsInner} (is_sign s.Open) (tokens.Sign s.Open)
+    viable_found_or_stuck {strict = false} {Q = InBrackets IsInner} (is_sign s.Open) (tokens.Sign s.Open)
     (after_sign_is s.Open) (λ i. refl) (λ us vs p q. q) (λ a. in_brackets left read a) (phrase_in_brackets phrase)
     (in_brackets_v left read phrase v)
 

@@ -8,14 +8,14 @@ use Rattle.semantics.specs.declared.token.Sign.TheVariants as s
 use Rattle.query_lexer.specs.Options.{choose}
 use Rattle.semantics.specs.Syntax.{ElementForm, set, rollup, cube, sets, element_forms}
 use Rattle.query_parser.specs.Fronts.{is_word, is_sign, after}
-use Rattle.query_parser.specs.Steps.{◌>>=◌, Reader, expected, more, name_at, begins_name}
+use Rattle.query_parser.specs.Steps.{◌>>=◌, Reader, found_or_stuck, more, name_at, begins_name}
 use Rattle.semantics.specs.Leaves.{Derivation, IsRepeated, IsName}
 use Rattle.semantics.specs.Grammar.{IsUnit, IsSet, IsElement, IsGroup}
 use Rattle.query_parser.specs.PredicateSteps.{any_front}
 use Rattle.query_parser.specs.GroupSteps.{all_at, enclosed_at, begins_unit, unit_at, units_at, nothing_at, set_at, element_at, sets_at, group_at}
 use Rattle.query_parser.proofs.Heads.{after_word_is, after_sign_is}
 use Rattle.query_parser.proofs.Viable.{Phrase, Viable, Listed, Closed, Enclosed, Exactly, exactly, phrase_listed, phrase_closed, viable_ok, viable_over, viable_as, viable_same, viable_loose, viable_made, viable_choose, viable_front, viable_all, viable_listed, viable_closed, viable_enclosed}
-use Rattle.query_parser.proofs.ViableLeaves.{viable_word, expected_word, name_finds, name_phrase, name_v}
+use Rattle.query_parser.proofs.ViableLeaves.{viable_word, found_or_stuck_word, name_finds, name_phrase, name_v}
 
 -- ---- lists
 
@@ -42,10 +42,10 @@ enclosed_v b f phrase vf = viable_enclosed (all_at b f) (all_phrase phrase) (all
 
 -- Names.
 abbrev names_at : Reader (List (List ℕ))
-names_at ts = all_at begins_name (expected name_at) ts
+names_at ts = all_at begins_name (found_or_stuck name_at) ts
 
 names_v : {wide : Bool} → Viable true wide (All IsName) names_at
-names_v = all_v begins_name (expected name_at) name_v
+names_v = all_v begins_name (found_or_stuck name_at) name_v
 
 -- A name is a unit.
 abbrev unit_phrase : Phrase IsUnit
@@ -56,8 +56,8 @@ unit_v : {wide : Bool} → Viable true wide IsUnit unit_at
 unfolding unit_at
 unit_v =
     viable_front {Q = λ n. Exactly (n ∷ [])} name_at name_finds one
-    (λ ts. enclosed_at begins_name (expected name_at) ts) (λ n us. Ok (n ∷ [], us))
-    (viable_as columns (enclosed_v begins_name (expected name_at) name_phrase name_v)) (λ n. exactly (n ∷ [])) where
+    (λ ts. enclosed_at begins_name (found_or_stuck name_at) ts) (λ n us. Ok (n ∷ [], us))
+    (viable_as columns (enclosed_v begins_name (found_or_stuck name_at) name_phrase name_v)) (λ n. exactly (n ∷ [])) where
       column : {us vs : List Token} {n : List ℕ} → IsName us n vs → IsUnit us (n ∷ []) vs
       column IsName.name = IsUnit.column
 
@@ -76,7 +76,7 @@ units_v = enclosed_v begins_unit unit_at unit_phrase unit_v
 
 -- Names and their closing bracket.
 abbrev closed_names_at : Reader (List (List ℕ))
-closed_names_at ts = names_at ts >>= λ all. expected (after (is_sign s.Close)) all.1 >>= λ rest. Ok (all.0, rest)
+closed_names_at ts = names_at ts >>= λ all. found_or_stuck (after (is_sign s.Close)) all.1 >>= λ rest. Ok (all.0, rest)
 
 -- A set of no names.
 abbrev no_names : Reader (List (List ℕ))
@@ -183,7 +183,7 @@ sets_behind : {wide : Bool} (m n : ℕ) → Viable true wide (IsGroup m) (group_
     → Viable false wide (Nested (IsGroup (suc m))) (sets_at (suc n))
 unfolding sets_at IsGroup
 sets_behind m n vg =
-    viable_loose (expected_word {R = Nested (IsGroup (suc m))} w.Sets
+    viable_loose (found_or_stuck_word {R = Nested (IsGroup (suc m))} w.Sets
     (λ a. enclosed_at any_front (group_at n) a >>= λ gs. Ok (sets (element_forms gs.0), gs.1)) one
     (viable_made (enclosed_at any_front (group_at n)) (λ gs. sets (element_forms gs)) listed
     (enclosed_v any_front (group_at n) (group_phrase m) vg))) where

@@ -10,13 +10,13 @@ use Rattle.semantics.specs.Leaves.{Limits, standard, Derivation}
 use Rattle.semantics.specs.Productions.{IsExpression, IsPredicate}
 use Rattle.semantics.specs.Grammar.{IsDirection, IsNullOrdering, IsKey, IsOrderBy}
 use Rattle.query_parser.specs.Fronts.{is_word, after}
-use Rattle.query_parser.specs.Steps.{◌>>=◌, Reader, expected}
+use Rattle.query_parser.specs.Steps.{◌>>=◌, Reader, found_or_stuck}
 use Rattle.query_parser.specs.ExpressionSteps.{expression_at, begins_expression}
 use Rattle.query_parser.specs.PredicateSteps.{inside_of}
 use Rattle.query_parser.specs.GroupSteps.{all_at}
 use Rattle.query_parser.specs.KeySteps.{direction_at, null_ordering_at, key_at, keys_at}
 use Rattle.query_parser.proofs.Viable.{Phrase, Viable, Listed, viable_ok, viable_as, viable_same, viable_bind, viable_made}
-use Rattle.query_parser.proofs.ViableLeaves.{limits_of, viable_word, expected_word}
+use Rattle.query_parser.proofs.ViableLeaves.{limits_of, viable_word, found_or_stuck_word}
 use Rattle.query_parser.proofs.ViableExpressions.{expression_v}
 use Rattle.query_parser.proofs.ViablePredicates.{inside_v}
 use Rattle.query_parser.proofs.ViableGroups.{All, all_phrase, all_v}
@@ -51,7 +51,7 @@ direction_way {A} g ts = of_way (after (is_word w.Desc) ts) (after (is_word w.As
 
 -- LAST, which puts NULL last.
 abbrev last_at : Reader Bool
-last_at ts = expected (after (is_word w.Last)) ts >>= λ r. Ok (false, r)
+last_at ts = found_or_stuck (after (is_word w.Last)) ts >>= λ r. Ok (false, r)
 
 -- FIRST or LAST behind NULLS.
 abbrev first_or_last_at : Reader Bool
@@ -63,7 +63,7 @@ unfolding null_ordering_at
 null_ordering_v d =
     viable_word w.Nulls (λ ts. Ok (d, ts)) first_or_last_at (viable_ok d (λ ts. IsNullOrdering.none))
     (viable_word w.First last_at (λ r. Ok (true, r))
-    (expected_word w.Last (λ r. Ok (false, r))
+    (found_or_stuck_word w.Last (λ r. Ok (false, r))
     record { tokens = []; value = false; derived = λ other. IsNullOrdering.last }
     (viable_ok false (λ ts. IsNullOrdering.last))) (viable_ok true (λ ts. IsNullOrdering.first)))
 
@@ -138,8 +138,8 @@ listed_keys_at ts = all_at begins_expression (key_at standard) ts
 pub keys_v : (wide : Bool) → Viable true wide (IsOrderBy (limits_of wide)) (keys_at standard)
 unfolding keys_at
 keys_v wide =
-    viable_word w.Order (λ ts. Ok ([], ts)) (λ a. expected (after (is_word w.By)) a >>= λ b. listed_keys_at b)
-    (viable_ok [] (λ ts. IsOrderBy.none)) (expected_word w.By listed_keys_at one
+    viable_word w.Order (λ ts. Ok ([], ts)) (λ a. found_or_stuck (after (is_word w.By)) a >>= λ b. listed_keys_at b)
+    (viable_ok [] (λ ts. IsOrderBy.none)) (found_or_stuck_word w.By listed_keys_at one
     (viable_as keys_of (all_v begins_expression (key_at standard) (key_v wide)))) where
       -- What derives keys behind ORDER BY.
       keys_of : (us vs : List Token) (ks : List KeyForm) → All (IsKey (limits_of wide)) us ks vs

@@ -16,11 +16,11 @@ use Rattle.semantics.specs.declared.aggregate.Aggregate.TheVariants as aggregate
 use Rattle.semantics.specs.declared.literal.Literal.{Literal}
 use Rattle.semantics.specs.declared.literal.Literal.TheVariants as literals
 use Rattle.query_parser.specs.Fronts.{is_word, is_sign, after}
-use Rattle.query_parser.specs.Steps.{◌>>=◌, Reader, stuck, expected, more, listed_at, name_at, begins_name}
-use Rattle.query_parser.specs.LeafSteps.{closed_name_at, argument_at, counted_at, count_at, aggregate_at, arguments_at, literal_at, begins_literal, literals_at, op_at, truth_at, mark_at}
+use Rattle.query_parser.specs.Steps.{◌>>=◌, Reader, stuck, found_or_stuck, more, listed_at, name_at, begins_name}
+use Rattle.query_parser.specs.LeafSteps.{closed_name_at, argument_at, counted_name_at, count_at, aggregate_at, arguments_at, literal_at, begins_literal, literals_at, op_at, truth_at, mark_at}
 use Rattle.semantics.specs.Leaves.{Limits, standard, Derivation, IsName, IsAggregate, IsLiteral, IsOp, IsTruthValue, IsRepeated, IsOptional}
 use Rattle.query_parser.proofs.Heads.{after_word_is, after_sign_is}
-use Rattle.query_parser.proofs.Viable.{Phrase, Viable, Finds, BeginsPart, TellsPart, AtMost, Listed, Closed, Enclosed, counted, phrase_listed, viable_ok, viable_stuck, viable_as, viable_same, viable_made, viable_choose, viable_expected, viable_expected_front, viable_more, viable_listed, viable_closed, viable_enclosed}
+use Rattle.query_parser.proofs.Viable.{Phrase, Viable, Finds, BeginsPart, TellsPart, AtMost, Listed, Closed, Enclosed, counted, phrase_listed, viable_ok, viable_stuck, viable_as, viable_same, viable_made, viable_choose, viable_found_or_stuck, viable_found_or_stuck_front, viable_more, viable_listed, viable_closed, viable_enclosed}
 
 -- The limits within which a reader's fronts go on: those of the language, or ones wider by one, where a fault may be that it
 -- is too much.
@@ -35,9 +35,9 @@ pub viable_word : {A : Type 0} {wide : Bool} {R : Derivation A} (word : Word) (n
 viable_word word n g vn vg = viable_choose (is_word word) (tokens.Word word) (after_word_is word) (λ i. absurd cc) (λ us vs x q. q) n g vn vg
 
 -- What has to stand behind a word that has to stand in front.
-pub expected_word : {A : Type 0} {wide : Bool} {R : Derivation A} (word : Word) (g : Reader A) → Phrase (λ us x ws. R (tokens.Word word ∷ us) x ws) → Viable true wide (λ us x ws. R (tokens.Word word ∷ us) x ws) g
-    → Viable true wide R (λ ts. expected (after (is_word word)) ts >>= λ a. g a)
-expected_word word g phrase vg = viable_expected (is_word word) (tokens.Word word) (after_word_is word) (λ i. absurd cc) (λ us vs x q. q) g phrase vg
+pub found_or_stuck_word : {A : Type 0} {wide : Bool} {R : Derivation A} (word : Word) (g : Reader A) → Phrase (λ us x ws. R (tokens.Word word ∷ us) x ws) → Viable true wide (λ us x ws. R (tokens.Word word ∷ us) x ws) g
+    → Viable true wide R (λ ts. found_or_stuck (after (is_word word)) ts >>= λ a. g a)
+found_or_stuck_word word g phrase vg = viable_found_or_stuck (is_word word) (tokens.Word word) (after_word_is word) (λ i. absurd cc) (λ us vs x q. q) g phrase vg
 
 -- A word, or none, and what is read behind it.
 pub flag_way : {A : Type 0} (word : Word) (g : Bool → Reader A) (ts : List Token)
@@ -74,8 +74,8 @@ name_part = record { at_end = refl; at_token = at_token } where
   at_token (tokens.Name n) us e = record { counts = refl; behind = []; value = n; derived = λ other. IsName.name }
   at_token t us e = absurd cc
 
-pub name_v : {wide : Bool} → Viable true wide IsName (expected name_at)
-name_v = viable_expected_front name_at name_finds name_phrase
+pub name_v : {wide : Bool} → Viable true wide IsName (found_or_stuck name_at)
+name_v = viable_found_or_stuck_front name_at name_finds name_phrase
 
 -- The names in brackets behind GROUPING.
 abbrev pub Arguments : Bool → Derivation (List (List ℕ))
@@ -83,23 +83,23 @@ Arguments wide = Enclosed (Listed IsName (AtMost (tokens.Sign s.Comma) IsName ((
 
 pub arguments_v : (wide : Bool) → Viable true wide (Arguments wide) (arguments_at standard.arguments)
 unfolding arguments_at
-arguments_v wide = viable_enclosed (listed_at begins_name (expected name_at) 7) (phrase_listed none name_phrase) (viable_listed (expected name_at) (more (is_sign s.Comma) begins_name (expected name_at) 7) none name_v (names wide)) where
+arguments_v wide = viable_enclosed (listed_at begins_name (found_or_stuck name_at) 7) (phrase_listed none name_phrase) (viable_listed (found_or_stuck name_at) (more (is_sign s.Comma) begins_name (found_or_stuck name_at) 7) none name_v (names wide)) where
   none : (ts : List Token) → AtMost (tokens.Sign s.Comma) IsName ((limits_of wide).arguments - 1) ts [] ts
   none ts = (IsRepeated.none, omega arith)
 
-  names : (wide : Bool) → Viable true wide (AtMost (tokens.Sign s.Comma) IsName ((limits_of wide).arguments - 1)) (more (is_sign s.Comma) begins_name (expected name_at) 7)
-  names true = viable_more (is_sign s.Comma) (tokens.Sign s.Comma) begins_name (expected name_at) (after_sign_is s.Comma) refl name_part name_phrase name_v 7 8 (omega arith) (λ i. omega arith)
-  names false = viable_more (is_sign s.Comma) (tokens.Sign s.Comma) begins_name (expected name_at) (after_sign_is s.Comma) refl name_part name_phrase name_v 7 7 (omega arith) (λ i. absurd cc)
+  names : (wide : Bool) → Viable true wide (AtMost (tokens.Sign s.Comma) IsName ((limits_of wide).arguments - 1)) (more (is_sign s.Comma) begins_name (found_or_stuck name_at) 7)
+  names true = viable_more (is_sign s.Comma) (tokens.Sign s.Comma) begins_name (found_or_stuck name_at) (after_sign_is s.Comma) refl name_part name_phrase name_v 7 8 (omega arith) (λ i. omega arith)
+  names false = viable_more (is_sign s.Comma) (tokens.Sign s.Comma) begins_name (found_or_stuck name_at) (after_sign_is s.Comma) refl name_part name_phrase name_v 7 7 (omega arith) (λ i. absurd cc)
 
 -- ---- set functions
 
 closed_name_v : {wide : Bool} → Viable true wide (Closed IsName) closed_name_at
 unfolding closed_name_at
-closed_name_v = viable_closed IsName (expected name_at) name_v
+closed_name_v = viable_closed IsName (found_or_stuck name_at) name_v
 
 argument_v : {wide : Bool} → Viable true wide (Enclosed IsName) argument_at
 unfolding argument_at closed_name_at
-argument_v = viable_enclosed (expected name_at) name_phrase name_v
+argument_v = viable_enclosed (found_or_stuck name_at) name_phrase name_v
 
 -- A set function behind its word.
 abbrev Of : Word → Derivation Aggregate
@@ -112,8 +112,8 @@ Counted ts f rest = IsAggregate (tokens.Word w.Count ∷ tokens.Sign s.Open ∷ 
 abbrev CountedDistinct : Derivation Aggregate
 CountedDistinct ts f rest = Counted (tokens.Word w.Distinct ∷ ts) f rest
 
-counted_v : {wide : Bool} → Viable true wide Counted counted_at
-unfolding counted_at
+counted_v : {wide : Bool} → Viable true wide Counted counted_name_at
+unfolding counted_name_at
 counted_v = viable_word w.Distinct (λ ts. closed_name_at ts >>= λ n. Ok (aggregates.Count n.0, n.1)) (λ a. closed_name_at a >>= λ n. Ok (aggregates.CountDistinct n.0, n.1)) (viable_made closed_name_at (λ n. aggregates.Count n) count closed_name_v) (viable_made closed_name_at (λ n. aggregates.CountDistinct n) count_distinct closed_name_v) where
   count : (us vs : List Token) (n : List ℕ) → Closed IsName us n vs → Counted us (aggregates.Count n) vs
   count _ _ _ IsName.name = IsAggregate.count
@@ -123,10 +123,10 @@ counted_v = viable_word w.Distinct (λ ts. closed_name_at ts >>= λ n. Ok (aggre
 
 count_v : {wide : Bool} → Viable true wide (Of w.Count) count_at
 unfolding count_at
-count_v = viable_expected {Q = Counted} (is_sign s.Open) (tokens.Sign s.Open) (after_sign_is s.Open) (λ i. refl) (λ us vs x q. q) (λ a. choose (after (is_sign s.Star) a) (counted_at a) (λ b. expected (after (is_sign s.Close)) b >>= λ rest. Ok (aggregates.CountRows, rest)))
+count_v = viable_found_or_stuck {Q = Counted} (is_sign s.Open) (tokens.Sign s.Open) (after_sign_is s.Open) (λ i. refl) (λ us vs x q. q) (λ a. choose (after (is_sign s.Star) a) (counted_name_at a) (λ b. found_or_stuck (after (is_sign s.Close)) b >>= λ rest. Ok (aggregates.CountRows, rest)))
     record { tokens = tokens.Sign s.Star ∷ tokens.Sign s.Close ∷ []; value = aggregates.CountRows; derived = λ other. IsAggregate.count_rows }
-    (viable_choose {Q = λ us f ws. Counted (tokens.Sign s.Star ∷ us) f ws} (is_sign s.Star) (tokens.Sign s.Star) (after_sign_is s.Star) (λ i. refl) (λ us vs x q. q) counted_at (λ b. expected (after (is_sign s.Close)) b >>= λ rest. Ok (aggregates.CountRows, rest)) counted_v
-    (viable_expected {Q = λ us f ws. Counted (tokens.Sign s.Star ∷ tokens.Sign s.Close ∷ us) f ws} (is_sign s.Close) (tokens.Sign s.Close) (after_sign_is s.Close) (λ i. refl) (λ us vs x q. q) (λ rest. Ok (aggregates.CountRows, rest)) record { tokens = []; value = aggregates.CountRows; derived = λ other. IsAggregate.count_rows } (viable_ok aggregates.CountRows (λ ts. IsAggregate.count_rows))))
+    (viable_choose {Q = λ us f ws. Counted (tokens.Sign s.Star ∷ us) f ws} (is_sign s.Star) (tokens.Sign s.Star) (after_sign_is s.Star) (λ i. refl) (λ us vs x q. q) counted_name_at (λ b. found_or_stuck (after (is_sign s.Close)) b >>= λ rest. Ok (aggregates.CountRows, rest)) counted_v
+    (viable_found_or_stuck {Q = λ us f ws. Counted (tokens.Sign s.Star ∷ tokens.Sign s.Close ∷ us) f ws} (is_sign s.Close) (tokens.Sign s.Close) (after_sign_is s.Close) (λ i. refl) (λ us vs x q. q) (λ rest. Ok (aggregates.CountRows, rest)) record { tokens = []; value = aggregates.CountRows; derived = λ other. IsAggregate.count_rows } (viable_ok aggregates.CountRows (λ ts. IsAggregate.count_rows))))
 
 sum_v : {wide : Bool} → Viable true wide (Of w.Sum) (λ ts. argument_at ts >>= λ n. Ok (aggregates.Sum n.0, n.1))
 sum_v = viable_made argument_at (λ n. aggregates.Sum n) sum argument_v where
@@ -199,8 +199,8 @@ literal_part = record { at_end = refl; at_token = at_token } where
   at_token (tokens.Word w.False) us e = record { counts = refl; behind = []; value = literals.Truth false; derived = λ other. IsLiteral.no }
   at_token t us e = absurd cc
 
-literal_v : {wide : Bool} → Viable true wide IsLiteral (expected literal_at)
-literal_v = viable_expected_front literal_at literal_finds literal_phrase
+literal_v : {wide : Bool} → Viable true wide IsLiteral (found_or_stuck literal_at)
+literal_v = viable_found_or_stuck_front literal_at literal_finds literal_phrase
 
 -- The literals in brackets behind IN.
 abbrev pub Literals : Bool → Derivation (List Literal)
@@ -211,13 +211,13 @@ literals_phrase wide = record { tokens = tokens.Sign s.Open ∷ tokens.Word w.Tr
 
 pub literals_v : (wide : Bool) → Viable true wide (Literals wide) (literals_at standard.literals)
 unfolding literals_at
-literals_v wide = viable_enclosed (listed_at begins_literal (expected literal_at) 63) (phrase_listed none literal_phrase) (viable_listed (expected literal_at) (more (is_sign s.Comma) begins_literal (expected literal_at) 63) none literal_v (others wide)) where
+literals_v wide = viable_enclosed (listed_at begins_literal (found_or_stuck literal_at) 63) (phrase_listed none literal_phrase) (viable_listed (found_or_stuck literal_at) (more (is_sign s.Comma) begins_literal (found_or_stuck literal_at) 63) none literal_v (others wide)) where
   none : (ts : List Token) → AtMost (tokens.Sign s.Comma) IsLiteral ((limits_of wide).literals - 1) ts [] ts
   none ts = (IsRepeated.none, omega arith)
 
-  others : (wide : Bool) → Viable true wide (AtMost (tokens.Sign s.Comma) IsLiteral ((limits_of wide).literals - 1)) (more (is_sign s.Comma) begins_literal (expected literal_at) 63)
-  others true = viable_more (is_sign s.Comma) (tokens.Sign s.Comma) begins_literal (expected literal_at) (after_sign_is s.Comma) refl literal_part literal_phrase literal_v 63 64 (omega arith) (λ i. omega arith)
-  others false = viable_more (is_sign s.Comma) (tokens.Sign s.Comma) begins_literal (expected literal_at) (after_sign_is s.Comma) refl literal_part literal_phrase literal_v 63 63 (omega arith) (λ i. absurd cc)
+  others : (wide : Bool) → Viable true wide (AtMost (tokens.Sign s.Comma) IsLiteral ((limits_of wide).literals - 1)) (more (is_sign s.Comma) begins_literal (found_or_stuck literal_at) 63)
+  others true = viable_more (is_sign s.Comma) (tokens.Sign s.Comma) begins_literal (found_or_stuck literal_at) (after_sign_is s.Comma) refl literal_part literal_phrase literal_v 63 64 (omega arith) (λ i. omega arith)
+  others false = viable_more (is_sign s.Comma) (tokens.Sign s.Comma) begins_literal (found_or_stuck literal_at) (after_sign_is s.Comma) refl literal_part literal_phrase literal_v 63 63 (omega arith) (λ i. absurd cc)
 
 pub op_finds : Finds IsOp op_at
 unfolding op_at

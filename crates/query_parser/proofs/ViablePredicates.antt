@@ -6,14 +6,14 @@ use Rattle.semantics.specs.declared.token.Word.TheVariants as w
 use Rattle.semantics.specs.declared.token.Sign.TheVariants as s
 use Rattle.semantics.specs.Syntax.{PredicateForm, not_of, column}
 use Rattle.query_parser.specs.Fronts.{is_word, is_sign, after}
-use Rattle.query_parser.specs.Steps.{◌>>=◌, Reader, expected, more}
+use Rattle.query_parser.specs.Steps.{◌>>=◌, Reader, found_or_stuck, more}
 use Rattle.query_parser.specs.AtomSteps.{test_after, tested_atom_at}
 use Rattle.query_parser.specs.ExpressionSteps.{Inside}
 use Rattle.query_parser.specs.PredicateSteps.{test_at, negation_at, conjunction_at, disjunction_at, has_level, predicate_at, any_front, inside_of}
 use Rattle.semantics.specs.Leaves.{standard, Derivation, IsRepeated}
 use Rattle.semantics.specs.Productions.{IsAtom, IsPrimary, IsTest, IsNegation, IsConjunction, IsDisjunction, IsPredicate, conjunction_of, disjunction_of}
 use Rattle.query_parser.proofs.Heads.{after_word_is, after_sign_is}
-use Rattle.query_parser.proofs.Viable.{Phrase, Viable, viable_over, viable_loose, viable_as, viable_bind, viable_made, viable_choose, viable_expected, viable_all}
+use Rattle.query_parser.proofs.Viable.{Phrase, Viable, viable_over, viable_loose, viable_as, viable_bind, viable_made, viable_choose, viable_found_or_stuck, viable_all}
 use Rattle.query_parser.proofs.ViableLeaves.{limits_of, viable_word}
 use Rattle.query_parser.proofs.ViableExpressions.{InsideViable, a_name}
 use Rattle.query_parser.proofs.ViableAtoms.{AfterPrimary, test_after_v, tested_atom_v}
@@ -53,12 +53,12 @@ module _ (wide : Bool) (IsInner : Derivation PredicateForm) (inside : Inside) (i
 
   -- What is read behind a predicate in brackets.
   abbrev closed_at : PredicateForm → Reader PredicateForm
-  closed_at p ts = expected (after (is_sign s.Close)) ts >>= λ b. test_after p b
+  closed_at p ts = found_or_stuck (after (is_sign s.Close)) ts >>= λ b. test_after p b
 
   -- That is viable.
   closed_v : (p : PredicateForm) → Viable true wide (AfterInner p) (closed_at p)
   closed_v p =
-      viable_expected {Q = AfterPrimary wide IsInner inside inside_v p} (is_sign s.Close) (tokens.Sign s.Close)
+      viable_found_or_stuck {Q = AfterPrimary wide IsInner inside inside_v p} (is_sign s.Close) (tokens.Sign s.Close)
       (after_sign_is s.Close) (λ i. refl) (λ us ws q k vs i. k (tokens.Sign s.Open ∷ vs) (IsPrimary.brackets i))
       (λ b. test_after p b) record { tokens = []; value = p; derived = λ other vs i. IsTest.plain i }
       (test_after_v wide IsInner inside inside_v p)

@@ -16,7 +16,7 @@ use Rattle.semantics.specs.Productions.{IsExpression, IsPredicate}
 use Rattle.semantics.specs.Grammar.{IsItem, IsGroup, IsGroupBy, IsOrderBy, IsQuery, IsClause}
 use Rattle.query_parser.specs.declared.fault.GrammarFault.{GrammarFault}
 use Rattle.query_parser.specs.Fronts.{is_word, is_sign, after}
-use Rattle.query_parser.specs.Steps.{◌>>=◌, Reader, stuck, expected, more, name_at}
+use Rattle.query_parser.specs.Steps.{◌>>=◌, Reader, stuck, found_or_stuck, more, name_at}
 use Rattle.query_parser.specs.ExpressionSteps.{begins_expression}
 use Rattle.query_parser.specs.PredicateSteps.{predicate_at, any_front}
 use Rattle.query_parser.specs.GroupSteps.{all_at, group_at}
@@ -24,7 +24,7 @@ use Rattle.query_parser.specs.KeySteps.{keys_at}
 use Rattle.query_parser.specs.QuerySteps.{alias_at, item_at, items_at, from_at, clause_at, set_quantifier_at, elements_at, groups_at, select_at, records_at, rows_at, query_at}
 use Rattle.query_parser.proofs.Heads.{after_sign_is}
 use Rattle.query_parser.proofs.Viable.{Phrase, Viable, counted, Finds, BeginsPart, TellsPart, AtMost, Listed, viable_ok, viable_stuck, viable_as, viable_same, viable_bind, viable_made, viable_front, viable_more, viable_listed}
-use Rattle.query_parser.proofs.ViableLeaves.{limits_of, viable_word, expected_word, flag_way, name_v}
+use Rattle.query_parser.proofs.ViableLeaves.{limits_of, viable_word, found_or_stuck_word, flag_way, name_v}
 use Rattle.query_parser.proofs.ViableExpressions.{expression_part}
 use Rattle.query_parser.proofs.ViablePredicates.{predicate_strict_v}
 use Rattle.query_parser.proofs.ViableGroups.{All, all_v, group_phrase, group_v}
@@ -48,8 +48,8 @@ ItemBehind limits e us i ws = (vs : List Token) → Plain limits vs e us → IsI
 alias_v : (wide : Bool) (e : ExpressionForm) → Viable true wide (AliasBehind (limits_of wide) e) alias_at
 unfolding alias_at
 alias_v wide e =
-    viable_word w.As (λ ts. Ok (None, ts)) (λ a. expected name_at a >>= λ n. Ok (Some n.0, n.1))
-    (viable_ok None (λ ts vs p. IsItem.plain p)) (viable_made (expected name_at) (λ n. Some n) named name_v) where
+    viable_word w.As (λ ts. Ok (None, ts)) (λ a. found_or_stuck name_at a >>= λ n. Ok (Some n.0, n.1))
+    (viable_ok None (λ ts vs p. IsItem.plain p)) (viable_made (found_or_stuck name_at) (λ n. Some n) named name_v) where
       named : (us vs : List Token) (n : List ℕ) → IsName us n vs
           → AliasBehind (limits_of wide) e (tokens.Word w.As ∷ us) (Some n) vs
       named _ _ _ IsName.name zs p = IsItem.named p
@@ -162,12 +162,12 @@ abbrev lines_beside : {A : Type 0} → A → Reader A
 lines_beside x a = choose (lines_at a) (stuck a) (λ l. beside x l.1)
 
 abbrev named_lines : List Token → Result (List Token) GrammarFault
-named_lines a = expected name_at a >>= λ n. cond (bytes_eq n.0 (codes "lines")) (Ok n.1) (stuck a)
+named_lines a = found_or_stuck name_at a >>= λ n. cond (bytes_eq n.0 (codes "lines")) (Ok n.1) (stuck a)
 
 from_way : {A : Type 0} (x : A) (ts : List Token)
-    → from_beside x ts ≡ (expected (after (is_word w.From)) ts >>= λ a. lines_beside x a)
+    → from_beside x ts ≡ (found_or_stuck (after (is_word w.From)) ts >>= λ a. lines_beside x a)
 unfolding from_at lines_at name_at
-from_way {A} x ts = of_from (expected (after (is_word w.From)) ts) where
+from_way {A} x ts = of_from (found_or_stuck (after (is_word w.From)) ts) where
   of_test : (b : Bool) (a us : List Token) → (cond b (Ok us) (stuck a) >>= λ rest. beside x rest)
       ≡ choose (where_named b us) (stuck a) (λ l. beside x l.1)
   of_test true a us = refl
@@ -200,8 +200,8 @@ LinesBehind limits is us js ws = NameBehind limits is (tokens.Name (codes "lines
 
 from_v : (wide : Bool) (is : List ItemForm) → Viable true wide (FromBehind (limits_of wide) is) (from_beside is)
 from_v wide is =
-    viable_same (from_beside is) (λ ts. expected (after (is_word w.From)) ts >>= λ a. lines_beside is a) (from_way is)
-    (expected_word w.From (lines_beside is) lines
+    viable_same (from_beside is) (λ ts. found_or_stuck (after (is_word w.From)) ts >>= λ a. lines_beside is a) (from_way is)
+    (found_or_stuck_word w.From (lines_beside is) lines
     (viable_front {Q = λ _. LinesBehind (limits_of wide) is} lines_at lines_finds joined stuck (λ _. beside is)
     (viable_stuck lines) (λ _. viable_ok is (λ ts vs p. p)))) where
       lines : Phrase (NameBehind (limits_of wide) is)
@@ -234,7 +234,7 @@ items_from_v wide =
 select_v : (wide : Bool) → Viable true wide (IsSelect (limits_of wide)) (select_at standard)
 unfolding select_at
 select_v wide =
-    expected_word w.Select items_from_at one (viable_as (λ us ws is q. IsSelect.select q) (items_from_v wide)) where
+    found_or_stuck_word w.Select items_from_at one (viable_as (λ us ws is q. IsSelect.select q) (items_from_v wide)) where
       one : Phrase (λ us is ws. IsSelect (limits_of wide) (tokens.Word w.Select ∷ us) is ws)
       one = record {
         tokens = tokens.Name (codes "a") ∷ tokens.Word w.From ∷ tokens.Name (codes "lines") ∷ [];
@@ -309,13 +309,13 @@ elements_v wide =
 
 -- BY and the elements.
 abbrev by_at : Reader (Bool × List ElementForm)
-by_at ts = expected (after (is_word w.By)) ts >>= λ b. elements_at standard b
+by_at ts = found_or_stuck (after (is_word w.By)) ts >>= λ b. elements_at standard b
 
 groups_v : (wide : Bool) → Viable true wide (Groups (limits_of wide)) (groups_at standard)
 unfolding groups_at
 groups_v wide =
     viable_word w.Group (λ ts. Ok ((false, []), ts)) by_at (viable_ok (false, []) (λ ts. IsGroupBy.none))
-    (expected_word w.By (elements_at standard) one (elements_v wide)) where
+    (found_or_stuck_word w.By (elements_at standard) one (elements_v wide)) where
       group : Phrase (IsGroup (limits_of wide).sets)
       group = group_phrase (limits_of wide).sets
 

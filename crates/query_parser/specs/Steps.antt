@@ -38,9 +38,9 @@ stuck ts = Err (faults.Unexpected (length ts))
 abbrev pub over : {A : Type 0} → List Token → Result A GrammarFault
 over ts = Err (faults.OverLimit (length ts))
 
--- What has to stand in front.
-abbrev pub expected : {A : Type 0} → (List Token → Option A) → List Token → Result A GrammarFault
-expected front ts = choose (front ts) (stuck ts) (λ x. Ok x)
+-- What stands in front, or the fault that it does not.
+abbrev pub found_or_stuck : {A : Type 0} → (List Token → Option A) → List Token → Result A GrammarFault
+found_or_stuck front ts = choose (front ts) (stuck ts) (λ x. Ok x)
 
 -- What was read before, and what is still read.
 abbrev pub with_front : {A : Type 0} → List A → Result (List A × List Token) GrammarFault → Result (List A × List Token) GrammarFault
@@ -61,7 +61,7 @@ listed_at begins part n ts = part ts >>= λ first. with_front (first.0 ∷ []) (
 
 -- The same in brackets.
 abbrev pub bracketed_at : {A : Type 0} → (List Token → Bool) → Reader A → ℕ → Reader (List A)
-bracketed_at begins part n ts = expected (after (is_sign s.Open)) ts >>= λ a. listed_at begins part n a >>= λ all. expected (after (is_sign s.Close)) all.1 >>= λ rest. Ok (all.0, rest)
+bracketed_at begins part n ts = found_or_stuck (after (is_sign s.Open)) ts >>= λ a. listed_at begins part n a >>= λ all. found_or_stuck (after (is_sign s.Close)) all.1 >>= λ rest. Ok (all.0, rest)
 
 -- A name, where one stands in front.
 unfoldable pub name_at : List Token → Option (List ℕ × List Token)

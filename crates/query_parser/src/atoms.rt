@@ -7,7 +7,7 @@ ghost use Rattle.query_parser.specs.AtomSteps.{member_after, column_of, test_aft
 ghost use Rattle.semantics.specs.Leaves.{standard};
 
 use crate::fault::GrammarFault;
-use crate::fronts::{after_word, unexpected};
+use crate::fronts::{after_word, unexpected_fault};
 use crate::keeping::keep;
 use crate::literals::in_list;
 use crate::operators::{mark, truth_value};
@@ -45,13 +45,13 @@ pub(crate) fn column(operand: Operand, tokens: &[Token]) -> Result<Predicate, Gr
         Operand::Expression(Expression::Name(name)) => Ok(Predicate::Column(name)),
         Operand::Expression(Expression::Grouping(_))
         | Operand::Expression(Expression::Function(_))
-        | Operand::Literal(_) => Err(unexpected(tokens)),
+        | Operand::Literal(_) => Err(unexpected_fault(tokens)),
     }
 }
 
 /// A predicate and the truth test behind it, where there is one.
 #[tactic(auto, unfolding(crate::specs::AtomSteps::test_after))]
-pub(crate) fn tested(
+pub(crate) fn optional_truth_test(
     alloc: Global,
     predicate: Predicate,
     tokens: &[Token],
@@ -84,7 +84,7 @@ pub(crate) fn null_or_truth_test(
     let (not, rest) = mark(tokens);
     if let Some(rest) = after_word(rest, Word::Null) {
         let operand = first;
-        return tested(alloc, Predicate::IsNull { operand, not }, rest);
+        return optional_truth_test(alloc, Predicate::IsNull { operand, not }, rest);
     }
     let column = column(first, rest)?;
     let (column, (truth, rest)) = keep(column, truth_value(rest))?;

@@ -4,7 +4,7 @@ ghost use Rattle.std.specs.Prelude.{◌≡◌, ◌<◌, length, IfOk, IfSome};
 ghost use Rattle.query_lexer.specs.Options.{Tells};
 ghost use Rattle.query_parser.specs.declared.fault.GrammarFault.TheVariants.{OverLimit, Unexpected};
 ghost use Rattle.query_parser.specs.Fronts.{is_word, is_sign, after};
-ghost use Rattle.query_parser.specs.Steps.{Gives, expected, name_at};
+ghost use Rattle.query_parser.specs.Steps.{Gives, found_or_stuck, name_at};
 
 use crate::fault::GrammarFault;
 use query_ast::Text;
@@ -58,7 +58,7 @@ pub(crate) fn name(tokens: &[Token]) -> Option<(&Text, &[Token])>
 /// their number.
 ///
 /// Example: of the tokens of `FROM lines` it answers `Unexpected(2)`, and of none `Unexpected(0)`.
-pub(crate) fn unexpected(tokens: &[Token]) -> GrammarFault
+pub(crate) fn unexpected_fault(tokens: &[Token]) -> GrammarFault
     ensures { result ≡ Unexpected (length tokens.now) }
 {
     GrammarFault::Unexpected(tokens.len())
@@ -67,7 +67,7 @@ pub(crate) fn unexpected(tokens: &[Token]) -> GrammarFault
 /// The fault that what stands before these tokens is too much: `OverLimit` with their number.
 ///
 /// Example: of the tokens of `shop)` it answers `OverLimit(2)`.
-pub(crate) fn over_limit(tokens: &[Token]) -> GrammarFault
+pub(crate) fn over_limit_fault(tokens: &[Token]) -> GrammarFault
     ensures { result ≡ OverLimit (length tokens.now) }
 {
     GrammarFault::OverLimit(tokens.len())
@@ -82,11 +82,11 @@ pub(crate) fn over_limit(tokens: &[Token]) -> GrammarFault
 ///
 /// `Unexpected` with the number of the tokens, where another token or none stands in front.
 pub(crate) fn expect_word(tokens: &[Token], word: Word) -> Result<&[Token], GrammarFault>
-    ensures exact { Gives (λ x. x.now) result (expected (after (is_word word)) tokens.now) }
+    ensures exact { Gives (λ x. x.now) result (found_or_stuck (after (is_word word)) tokens.now) }
     ensures shorter { IfOk result (λ x. length x.now < length tokens.now) }
 {
     match after_word(tokens, word) {
-        None => Err(unexpected(tokens)),
+        None => Err(unexpected_fault(tokens)),
         Some(rest) => Ok(rest),
     }
 }
@@ -100,11 +100,11 @@ pub(crate) fn expect_word(tokens: &[Token], word: Word) -> Result<&[Token], Gram
 ///
 /// `Unexpected` with the number of the tokens, where another token or none stands in front.
 pub(crate) fn expect_sign(tokens: &[Token], sign: Sign) -> Result<&[Token], GrammarFault>
-    ensures exact { Gives (λ x. x.now) result (expected (after (is_sign sign)) tokens.now) }
+    ensures exact { Gives (λ x. x.now) result (found_or_stuck (after (is_sign sign)) tokens.now) }
     ensures shorter { IfOk result (λ x. length x.now < length tokens.now) }
 {
     match after_sign(tokens, sign) {
-        None => Err(unexpected(tokens)),
+        None => Err(unexpected_fault(tokens)),
         Some(rest) => Ok(rest),
     }
 }
@@ -118,11 +118,11 @@ pub(crate) fn expect_sign(tokens: &[Token], sign: Sign) -> Result<&[Token], Gram
 ///
 /// `Unexpected` with the number of the tokens, where another token or none stands in front.
 pub(crate) fn expect_name(tokens: &[Token]) -> Result<(&Text, &[Token]), GrammarFault>
-    ensures exact { Gives (λ x. (x.0.now, x.1.now)) result (expected name_at tokens.now) }
+    ensures exact { Gives (λ x. (x.0.now, x.1.now)) result (found_or_stuck name_at tokens.now) }
     ensures shorter { IfOk result (λ x. length x.1.now < length tokens.now) }
 {
     match name(tokens) {
-        None => Err(unexpected(tokens)),
+        None => Err(unexpected_fault(tokens)),
         Some(found) => Ok(found),
     }
 }

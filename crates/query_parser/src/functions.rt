@@ -2,10 +2,10 @@
 
 ghost use Rattle.std.specs.Prelude.{◌<◌, length, IfOk};
 ghost use Rattle.query_parser.specs.Steps.{Gives};
-ghost use Rattle.query_parser.specs.LeafSteps.{closed_name_at, argument_at, counted_at, count_at, aggregate_at};
+ghost use Rattle.query_parser.specs.LeafSteps.{closed_name_at, argument_at, counted_name_at, count_at, aggregate_at};
 
 use crate::fault::GrammarFault;
-use crate::fronts::{after_sign, after_word, expect_name, expect_sign, unexpected};
+use crate::fronts::{after_sign, after_word, expect_name, expect_sign, unexpected_fault};
 use query_ast::{Aggregate, Text};
 use query_lexer::{Sign, Token, Word};
 
@@ -31,9 +31,9 @@ fn argument(tokens: &[Token]) -> Result<(Text, &[Token]), GrammarFault>
 }
 
 /// The name that a COUNT counts, with DISTINCT or without, and its closing bracket.
-#[tactic(auto, unfolding(crate::specs::LeafSteps::counted_at))]
-fn counted(tokens: &[Token]) -> Result<(Aggregate, &[Token]), GrammarFault>
-    ensures exact { Gives (λ x. (x.0, x.1.now)) result (counted_at tokens.now) }
+#[tactic(auto, unfolding(crate::specs::LeafSteps::counted_name_at))]
+fn counted_name(tokens: &[Token]) -> Result<(Aggregate, &[Token]), GrammarFault>
+    ensures exact { Gives (λ x. (x.0, x.1.now)) result (counted_name_at tokens.now) }
     ensures shorter { IfOk result (λ x. length x.1.now < length tokens.now) }
 {
     if let Some(rest) = after_word(tokens, Word::Distinct) {
@@ -52,7 +52,7 @@ fn count(tokens: &[Token]) -> Result<(Aggregate, &[Token]), GrammarFault>
 {
     let rest = expect_sign(tokens, Sign::Open)?;
     let Some(behind) = after_sign(rest, Sign::Star) else {
-        return counted(rest);
+        return counted_name(rest);
     };
     let rest = expect_sign(behind, Sign::Close)?;
     Ok((Aggregate::CountRows, rest))
@@ -91,6 +91,6 @@ pub(crate) fn aggregate(tokens: &[Token]) -> Result<(Aggregate, &[Token]), Gramm
             let (name, rest) = argument(rest)?;
             Ok((Aggregate::Avg(name), rest))
         }
-        _ => Err(unexpected(tokens)),
+        _ => Err(unexpected_fault(tokens)),
     }
 }

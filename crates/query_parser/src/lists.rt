@@ -7,7 +7,7 @@ ghost use Rattle.query_parser.specs.Fronts.{is_sign};
 ghost use Rattle.query_parser.specs.Steps.{Gives, Reader, excess, with_front, more};
 
 use crate::fault::GrammarFault;
-use crate::fronts::{after_sign, over_limit, unexpected};
+use crate::fronts::{after_sign, over_limit_fault, unexpected_fault};
 use query_lexer::{Sign, Token};
 use std::alloc::Global;
 
@@ -48,9 +48,9 @@ fn excess<L: Listed>(tokens: &[Token]) -> GrammarFault
     ensures { result ≡ excess L.front tokens.now }
 {
     if L::begins(tokens) {
-        return over_limit(tokens);
+        return over_limit_fault(tokens);
     }
-    unexpected(tokens)
+    unexpected_fault(tokens)
 }
 
 /// The first part of a list, which is read already, and those behind it, each behind its comma, with at most so many

@@ -7,7 +7,7 @@ ghost use Rattle.query_parser.specs.LeafSteps.{literal_at, literals_at};
 ghost use Rattle.semantics.specs.Leaves.{standard};
 
 use crate::fault::GrammarFault;
-use crate::fronts::{expect_sign, unexpected};
+use crate::fronts::{expect_sign, unexpected_fault};
 use crate::lists::{Listed, more_parts};
 use query_ast::Literal;
 use query_lexer::{Sign, Token, Word};
@@ -48,7 +48,7 @@ pub(crate) struct Literals;
 
 impl Listed for Literals {
     ghost use Rattle.semantics.specs.declared.literal.Literal.{Literal};
-    ghost use Rattle.query_parser.specs.Steps.{expected};
+    ghost use Rattle.query_parser.specs.Steps.{found_or_stuck};
     ghost use Rattle.query_parser.specs.LeafSteps.{literal_at, begins_literal};
 
     type Part = Literal;
@@ -57,7 +57,7 @@ impl Listed for Literals {
 
     ghost form = { λ a. a };
 
-    ghost reader = { expected literal_at };
+    ghost reader = { found_or_stuck literal_at };
 
     ghost front = { begins_literal };
 
@@ -74,7 +74,7 @@ impl Listed for Literals {
 
     fn read(_alloc: Global, tokens: &[Token]) -> Result<(Literal, &[Token]), GrammarFault> {
         match literal(tokens)? {
-            None => Err(unexpected(tokens)),
+            None => Err(unexpected_fault(tokens)),
             Some(found) => Ok(found),
         }
     }

@@ -6,7 +6,7 @@ ghost use Rattle.query_parser.specs.Steps.{Gives};
 ghost use Rattle.query_parser.specs.LeafSteps.{op_at, truth_at, mark_at};
 
 use crate::fault::GrammarFault;
-use crate::fronts::{after_word, unexpected};
+use crate::fronts::{after_word, unexpected_fault};
 use query_lexer::{Sign, Token, Word};
 use values::{Op, Truth};
 
@@ -47,7 +47,7 @@ pub(crate) fn truth_value(tokens: &[Token]) -> Result<(Truth, &[Token]), Grammar
         [Token::Word(Word::True), rest @ ..] => Ok((Truth::True, rest)),
         [Token::Word(Word::False), rest @ ..] => Ok((Truth::False, rest)),
         [Token::Word(Word::Unknown), rest @ ..] => Ok((Truth::Unknown, rest)),
-        _ => Err(unexpected(tokens)),
+        _ => Err(unexpected_fault(tokens)),
     }
 }
 

@@ -13,9 +13,9 @@ ghost use Rattle.query_parser.specs.PredicateSteps.{test_at, negation_at, conjun
 ghost use Rattle.semantics.specs.Leaves.{standard};
 
 use crate::arguments::grouping_names;
-use crate::atoms::{column, member, null_or_truth_test, tested};
+use crate::atoms::{column, member, null_or_truth_test, optional_truth_test};
 use crate::fault::GrammarFault;
-use crate::fronts::{after_sign, after_word, expect_sign, expect_word, name, over_limit};
+use crate::fronts::{after_sign, after_word, expect_sign, expect_word, name, over_limit_fault};
 use crate::functions::aggregate;
 use crate::keeping::keep;
 use crate::literals::literal;
@@ -70,7 +70,7 @@ fn filter(
 {
     let rest = expect_sign(tokens, Sign::Open)?;
     if levels == 0 {
-        return Err(over_limit(rest));
+        return Err(over_limit_fault(rest));
     }
     let rest = expect_word(rest, Word::Where)?;
     let (inner, rest) = predicate(alloc, rest, levels)?;
@@ -158,7 +158,7 @@ fn operand(
 /// The atom of a first operand and the two ends behind its BETWEEN.
 #[cycle(predicate)]
 #[tactic(auto, unfolding(crate::specs::AtomSteps::between_after))]
-fn between(
+fn between_atom(
     alloc: Global,
     first: Operand,
     not: bool,
@@ -184,7 +184,7 @@ fn between(
 /// The atom of a first operand and what stands behind its NOT.
 #[cycle(predicate)]
 #[tactic(auto, unfolding(crate::specs::AtomSteps::negated_after))]
-fn negated(
+fn negated_atom(
     alloc: Global,
     first: Operand,
     tokens: &[Token],
@@ -198,7 +198,7 @@ fn negated(
         return member(alloc, first, true, rest);
     }
     let (first, rest) = keep(first, expect_word(tokens, Word::Between))?;
-    between(alloc, first, true, rest, levels)
+    between_atom(alloc, first, true, rest, levels)
 }
 
 /// The atom of a first operand and what stands behind it, unless that is IS.
@@ -219,13 +219,13 @@ fn atom(
         return Ok((Predicate::Compare { left, op, right }, rest));
     }
     if let Some(rest) = after_word(tokens, Word::Not) {
-        return negated(alloc, first, rest, levels);
+        return negated_atom(alloc, first, rest, levels);
     }
     if let Some(rest) = after_word(tokens, Word::In) {
         return member(alloc, first, false, rest);
     }
     if let Some(rest) = after_word(tokens, Word::Between) {
-        return between(alloc, first, false, rest, levels);
+        return between_atom(alloc, first, false, rest, levels);
     }
     Ok((column(first, tokens)?, tokens))
 }
@@ -247,7 +247,7 @@ fn tested_atom(
         return null_or_truth_test(alloc, first, rest);
     }
     let (atom, rest) = atom(alloc, first, rest, levels)?;
-    tested(alloc, atom, rest)
+    optional_truth_test(alloc, atom, rest)
 }
 
 // ---- predicates
@@ -265,7 +265,7 @@ fn test(alloc: Global, tokens: &[Token], levels: u32) -> Result<(Predicate, &[To
     };
     let (inner, rest) = predicate(alloc, rest, levels)?;
     let (inner, rest) = keep(inner, expect_sign(rest, Sign::Close))?;
-    tested(alloc, inner, rest)
+    optional_truth_test(alloc, inner, rest)
 }
 
 /// A test with NOT or without.
@@ -369,7 +369,7 @@ pub(crate) fn predicate(
     ensures shorter { IfOk result (λ x. length x.1.now < length tokens.now) }
 {
     if levels == 0 {
-        return Err(over_limit(tokens));
+        return Err(over_limit_fault(tokens));
     }
     let (first, rest) = conjunction(alloc, tokens, levels - 1)?;
     let (first, (others, rest)) = keep(first, more_conjunctions(alloc, rest, levels - 1))?;

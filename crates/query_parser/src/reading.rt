@@ -12,7 +12,7 @@ ghost use Rattle.query_parser.specs.QuerySteps.{from_at, clause_at, select_at, r
 ghost use Rattle.semantics.specs.Leaves.{standard};
 
 use crate::fault::GrammarFault;
-use crate::fronts::{after_word, expect_name, expect_word, unexpected};
+use crate::fronts::{after_word, expect_name, expect_word, unexpected_fault};
 use crate::groups::groups;
 use crate::items::items;
 use crate::keeping::keep;
@@ -33,7 +33,7 @@ fn from_lines(tokens: &[Token]) -> Result<&[Token], GrammarFault>
     if name.as_str() == "lines" {
         return Ok(rest);
     }
-    Err(unexpected(source))
+    Err(unexpected_fault(source))
 }
 
 /// The predicate of WHERE or HAVING behind its word, none where it is not written.
@@ -126,7 +126,7 @@ fn whole(alloc: Global, tokens: &[Token]) -> Result<Box<Tree>, GrammarFault>
     let (tree, rest) = query(alloc, tokens)?;
     if !rest.is_empty() {
         drop(tree);
-        return Err(unexpected(rest));
+        return Err(unexpected_fault(rest));
     }
     Ok(tree)
 }

@@ -16,7 +16,7 @@ use Rattle.query_resolve.specs.declared.function.FilteredFunction.{FilteredFunct
 use Rattle.query_typecheck.specs.declared.scope.Clause.TheVariants as clause
 use Rattle.query_typecheck.specs.Filters.{LeadBack}
 use Rattle.semantics.specs.Names.{PlannedFunction}
-use Rattle.query_resolve.specs.Functions.{filter_at, filters_of, indexed, indexed_functions}
+use Rattle.query_resolve.specs.Functions.{filter_at, filters_of, indexed_function, indexed_functions}
 use Rattle.semantics.specs.SetFunctions.{functions_of}
 use Rattle.semantics.specs.Inside.Same.{same_predicate}
 use Rattle.query_typecheck.specs.Typing.{IsTypedPredicate}
@@ -100,8 +100,8 @@ pub index_below : (fields : List Field) (t : TreeForm) (place index : ℕ) (x : 
 index_below fields t place index x below here has =
     let fs = functions_of fields t in
     let g = there fs place below in
-    let made : Some x ≡ Some (indexed (filters_of fields t) g.0) = sym here ∙ at_map (indexed (filters_of fields t)) fs place ∙ ap (option_map (indexed (filters_of fields t))) g.1 in
-    let same : x ≡ indexed (filters_of fields t) g.0 = cc in
+    let made : Some x ≡ Some (indexed_function (filters_of fields t) g.0) = sym here ∙ at_map (indexed_function (filters_of fields t)) fs place ∙ ap (option_map (indexed_function (filters_of fields t))) g.1 in
+    let same : x ≡ indexed_function (filters_of fields t) g.0 = cc in
     index_within (filters_of fields t) g.0.filter index (ap (λ (f : FilteredFunction). f.filter) (sym same) ∙ has)
 
 -- What a filter is worth that is read from a list.
@@ -116,7 +116,7 @@ worth_read fields values ps index o t here worth =
 -- A place of a set function is below their number, with indexes too.
 pub place_within : (fields : List Field) (t : TreeForm) (place : ℕ) (xs : List FilteredFunction) → xs ≡ indexed_functions fields t → place < length (functions_of fields t) → place < length xs
 place_within fields t place xs same below =
-    let n = length-map (functions_of fields t) (indexed (filters_of fields t)) in
+    let n = length-map (functions_of fields t) (indexed_function (filters_of fields t)) in
     let m = ap length same in
     omega (arith, n, m, below)
 

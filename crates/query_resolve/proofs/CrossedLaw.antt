@@ -1,7 +1,7 @@
 -- The cross product of two lists of sets, by places.
 use Rattle.std.proofs.Common.{◌≡◌, ◌∙◌, ℕ, zero, suc, ◌+◌, ◌-◌, ◌*◌, ◌<◌, List, [], ◌∷◌, ◌++◌, map, length, get_or, ap, arith}
 use Rattle.std.proofs.lemmas.List.{get_or_append_left, get_or-append_right, get_or-map, length-map}
-use Rattle.query_resolve.specs.Laws.{IsCrossed}
+use Rattle.query_resolve.specs.Laws.{IsCrossProduct}
 use Rattle.semantics.specs.Sets.{cross_product}
 use Rattle.query_resolve.proofs.Counts.{length_crossed}
 
@@ -24,5 +24,5 @@ crossed_at {A} (x ∷ xs) ys (suc i) j below within =
     ∙ crossed_at xs ys i j (omega arith) within
 
 -- A cross product is the unions by their places.
-pub crossed_is : {A : Type 0} (xs ys : List (List A)) → IsCrossed xs ys (cross_product xs ys)
+pub crossed_is : {A : Type 0} (xs ys : List (List A)) → IsCrossProduct xs ys (cross_product xs ys)
 crossed_is xs ys = record { count = length_crossed xs ys; each = crossed_at xs ys }

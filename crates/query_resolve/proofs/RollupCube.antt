@@ -5,14 +5,14 @@ use Rattle.std.proofs.lemmas.List.{get_or_append_left, get_or-append_right, get_
 use Rattle.std.proofs.lemmas.Nat.{div-mul-add, pow-add, pow_pos}
 use Rattle.std.proofs.Math.Nat.{div-eq_of_lt, mul-add-div_right, pow-suc}
 use Rattle.std.specs.Int.Bits.{block_odd}
-use Rattle.query_resolve.specs.Laws.{IsCube, IsRollup, chosen, digit, joined}
+use Rattle.query_resolve.specs.Laws.{IsCube, IsRollup, columns_of_digits, columns_of_units, digit}
 use Rattle.semantics.specs.Sets.{cube_sets, rollup_sets}
 use Rattle.query_resolve.proofs.Counts.{length_cube, length_rollup}
 
 -- ---- ROLLUP
 
 -- The set of a unit in front of those of the others.
-rollup_at : {A : Type 0} (units : List (List A)) (k : ℕ) → k ≤ length units → get_or (rollup_sets units) k [] ≡ joined (take (length units - k) units)
+rollup_at : {A : Type 0} (units : List (List A)) (k : ℕ) → k ≤ length units → get_or (rollup_sets units) k [] ≡ columns_of_units (take (length units - k) units)
 rollup_at [] k within = let e : k ≡ 0 = omega arith in rw e refl
 rollup_at {A} (unit ∷ units) k within =
     let fronts = map (λ s. unit ++ s) (rollup_sets units) in
@@ -24,13 +24,13 @@ rollup_at {A} (unit ∷ units) k within =
           let start : k - (length units + 1) ≡ 0 = omega arith in
           get_or-append_right fronts ([] ∷ []) (length units + 1) k [] many (omega arith)
           ∙ ap (λ (i : ℕ). get_or {A = List A} ([] ∷ []) i []) start
-          ∙ sym (ap (λ (n : ℕ). joined (take n (unit ∷ units))) none))
+          ∙ sym (ap (λ (n : ℕ). columns_of_units (take n (unit ∷ units))) none))
       | inr inside ↦ (
           let more : suc (length units) - k ≡ suc (length units - k) = omega arith in
           get_or_append_left fronts ([] ∷ []) [] k (omega arith)
           ∙ get_or-map (λ s. unit ++ s) (rollup_sets units) k [] [] (omega (arith, length_rollup units))
           ∙ ap (λ (s : List A). unit ++ s) (rollup_at units k inside)
-          ∙ sym (ap (λ (n : ℕ). joined (take n (unit ∷ units))) more))
+          ∙ sym (ap (λ (n : ℕ). columns_of_units (take n (unit ∷ units))) more))
     ]
 
 -- A ROLLUP is its sets, from all units to none.
@@ -50,14 +50,14 @@ digit_low above place number =
     ∙ ap (λ (n : ℕ). n == 1) (block_odd 1 above (number / 2 ^ place))
 
 -- So are the units that are chosen, where there are no more than the power has digits below it.
-chosen_low : {A : Type 0} (units : List (List A)) (above number : ℕ) → chosen units (2 ^ (above + length units) + number) ≡ chosen units number
-chosen_low [] above number = refl
-chosen_low {A} (unit ∷ units) above number =
+columns_of_digits_low : {A : Type 0} (units : List (List A)) (above number : ℕ) → columns_of_digits units (2 ^ (above + length units) + number) ≡ columns_of_digits units number
+columns_of_digits_low [] above number = refl
+columns_of_digits_low {A} (unit ∷ units) above number =
     let place = length units in
     let e : above + suc place ≡ suc above + place = omega arith in
-    ap (λ (n : ℕ). chosen (unit ∷ units) (2 ^ n + number)) e
-    ∙ ap (λ (b : Bool). cond b unit [] ++ chosen units (2 ^ (suc above + place) + number)) (digit_low above place number)
-    ∙ ap (λ (s : List A). cond (digit number place) unit [] ++ s) (chosen_low units (suc above) number)
+    ap (λ (n : ℕ). columns_of_digits (unit ∷ units) (2 ^ n + number)) e
+    ∙ ap (λ (b : Bool). cond b unit [] ++ columns_of_digits units (2 ^ (suc above + place) + number)) (digit_low above place number)
+    ∙ ap (λ (s : List A). cond (digit number place) unit [] ++ s) (columns_of_digits_low units (suc above) number)
 
 -- The highest digit of a number that has it.
 digit_set : (place number : ℕ) → number < 2 ^ place → digit (2 ^ place + number) place ≡ true
@@ -71,7 +71,7 @@ digit_unset : (place number : ℕ) → number < 2 ^ place → digit number place
 digit_unset place number below = ap (λ (n : ℕ). n % 2 == 1) (div-eq_of_lt below)
 
 -- The sets with the first unit, then those without it.
-cube_at : {A : Type 0} (units : List (List A)) (k : ℕ) → k < 2 ^ length units → get_or (cube_sets units) k [] ≡ chosen units (2 ^ length units - 1 - k)
+cube_at : {A : Type 0} (units : List (List A)) (k : ℕ) → k < 2 ^ length units → get_or (cube_sets units) k [] ≡ columns_of_digits units (2 ^ length units - 1 - k)
 cube_at [] k below = let e : k ≡ 0 = omega arith in rw e refl
 cube_at {A} (unit ∷ units) k below =
     let half = 2 ^ length units in
@@ -84,20 +84,20 @@ cube_at {A} (unit ∷ units) k below =
           let small : number < half = omega arith in
           let e : 2 ^ suc (length units) - 1 - k ≡ half + number = omega arith in
           let none : 0 + length units ≡ length units = omega arith in
-          let low : chosen units (half + number) ≡ chosen units number = ap (λ (n : ℕ). chosen units (2 ^ n + number)) (sym none) ∙ chosen_low units 0 number in
+          let low : columns_of_digits units (half + number) ≡ columns_of_digits units number = ap (λ (n : ℕ). columns_of_digits units (2 ^ n + number)) (sym none) ∙ columns_of_digits_low units 0 number in
           get_or_append_left withs (cube_sets units) [] k (omega arith)
           ∙ get_or-map (λ s. unit ++ s) (cube_sets units) k [] [] (omega (arith, length_cube units))
           ∙ ap (λ (s : List A). unit ++ s) (cube_at units k first ∙ sym low)
-          ∙ sym (ap (λ (b : Bool). cond b unit [] ++ chosen units (half + number)) (digit_set (length units) number small))
-          ∙ sym (ap (chosen (unit ∷ units)) e))
+          ∙ sym (ap (λ (b : Bool). cond b unit [] ++ columns_of_digits units (half + number)) (digit_set (length units) number small))
+          ∙ sym (ap (columns_of_digits (unit ∷ units)) e))
       | inr second ↦ (
           let number = 2 ^ suc (length units) - 1 - k in
           let small : number < half = omega arith in
           let e : half - 1 - (k - half) ≡ number = omega arith in
           get_or-append_right withs (cube_sets units) half k [] many second
           ∙ cube_at units (k - half) (omega arith)
-          ∙ ap (chosen units) e
-          ∙ sym (ap (λ (b : Bool). cond b unit [] ++ chosen units number) (digit_unset (length units) number small)))
+          ∙ ap (columns_of_digits units) e
+          ∙ sym (ap (λ (b : Bool). cond b unit [] ++ columns_of_digits units number) (digit_unset (length units) number small)))
     ]
 
 -- A CUBE is its sets, by falling numbers.

@@ -24,9 +24,9 @@ abbrev pub filters_of : List Field → TreeForm → List PredicateForm
 filters_of fields t = different_filters (functions_of fields t)
 
 -- A set function with the index of its filter among some filters.
-abbrev pub indexed : List PredicateForm → PlannedFunction → FilteredFunction
-indexed filters f = record { function = f.function; filter = option_and_then (λ p. position (same_predicate p) filters) f.filter }
+abbrev pub indexed_function : List PredicateForm → PlannedFunction → FilteredFunction
+indexed_function filters f = record { function = f.function; filter = option_and_then (λ p. position (same_predicate p) filters) f.filter }
 
 -- The different set functions of a query, each with the index of its filter among the different filters.
 abbrev pub indexed_functions : List Field → TreeForm → List FilteredFunction
-indexed_functions fields t = map (indexed (filters_of fields t)) (functions_of fields t)
+indexed_functions fields t = map (indexed_function (filters_of fields t)) (functions_of fields t)

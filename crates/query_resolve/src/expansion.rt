@@ -4,13 +4,13 @@ ghost use Rattle.std.specs.Prelude.{◌≡◌, map, if◌then◌else◌, IfOk};
 ghost use Rattle.values.specs.Schema.{fields_of};
 ghost use Rattle.query_ast.specs.Syntax.{element_form, units_form};
 ghost use Rattle.semantics.specs.Names.{distinct, places_of};
-ghost use Rattle.semantics.specs.Sets.{expansion, group_sets, ordered_set, same_columns};
-ghost use Rattle.query_resolve.specs.Resolution.{contents};
+ghost use Rattle.semantics.specs.Sets.{group_sets, ordered_set, same_columns};
+ghost use Rattle.query_resolve.specs.Resolution.{contents, ordered_expansion};
 
 use crate::grouping::push_places;
 use crate::joining::{cube, one_set, ordered_set, ordered_sets, rollup};
 use crate::product::Product;
-use crate::repeats::kept;
+use crate::repeats::apply_distinct;
 use query_ast::{GroupingElement, Text};
 use std::alloc::{AllocError, Global};
 use values::Column;
@@ -87,14 +87,13 @@ fn expand(
     groups: &[GroupingElement],
 ) -> Result<Vec<Vec<usize>>, AllocError>
     ensures { IfOk result (λ v. contents v.items
-        ≡ map (λ names. ordered_set grouping.now (places_of (fields_of columns.now) names))
-        (expansion (map element_form groups.now))) }
+        ≡ ordered_expansion (fields_of columns.now) grouping.now (map element_form groups.now)) }
 {
     let mut product = Product::new(alloc)?;
     for group in groups {
         product.cross(alloc, &group_sets(alloc, columns, grouping, group)?)?;
     }
-    product.ordered(alloc, grouping)
+    product.sets_in_order(alloc, grouping)
 }
 
 /// The grouping sets as places of columns, from 0, each in the order of these grouping columns: the expanded list, and
@@ -114,12 +113,11 @@ pub fn grouping_sets(
     distinct_sets: bool,
     groups: &[GroupingElement],
 ) -> Result<Vec<Vec<usize>>, AllocError>
-    ensures { let all = map (λ names.
-        ordered_set grouping.now (places_of (fields_of columns.now) names))
-        (expansion (map element_form groups.now))
+    ensures { let all = ordered_expansion (fields_of columns.now) grouping.now
+        (map element_form groups.now)
         in IfOk result (λ v.
         contents v.items ≡ (if distinct_sets then distinct same_columns all else all)) }
 {
     let all = expand(alloc, columns, grouping, groups)?;
-    kept(alloc, distinct_sets, all)
+    apply_distinct(alloc, distinct_sets, all)
 }

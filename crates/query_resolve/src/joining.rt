@@ -16,7 +16,7 @@ fn both(alloc: Global, first: &[usize], second: &[usize]) -> Result<Vec<usize>, 
 }
 
 /// The unit in front of each set.
-fn prefixed(
+fn prefix_sets(
     alloc: Global,
     unit: &[usize],
     sets: &[Vec<usize>],
@@ -31,7 +31,7 @@ fn prefixed(
 }
 
 /// Each set of the first list joined with each of the second, the first varying slowest.
-pub(crate) fn crossed(
+pub(crate) fn cross_product(
     alloc: Global,
     firsts: &[Vec<usize>],
     seconds: &[Vec<usize>],
@@ -41,7 +41,7 @@ pub(crate) fn crossed(
 {
     let mut sets = Vec::new(alloc);
     for first in firsts {
-        let mut joined = prefixed(alloc, first, seconds)?;
+        let mut joined = prefix_sets(alloc, first, seconds)?;
         sets.append(&mut joined)?;
     }
     Ok(sets)
@@ -73,7 +73,7 @@ pub(crate) fn rollup(alloc: Global, units: &[Vec<usize>]) -> Result<Vec<Vec<usiz
         [] => one_set(alloc, Vec::new(alloc)),
         [first, others @ ..] => {
             let below = rollup(alloc, others)?;
-            with_empty(alloc, prefixed(alloc, first, &below)?)
+            with_empty(alloc, prefix_sets(alloc, first, &below)?)
         }
     }
 }
@@ -86,7 +86,7 @@ pub(crate) fn cube(alloc: Global, units: &[Vec<usize>]) -> Result<Vec<Vec<usize>
         [] => one_set(alloc, Vec::new(alloc)),
         [first, others @ ..] => {
             let mut below = cube(alloc, others)?;
-            let mut sets = prefixed(alloc, first, &below)?;
+            let mut sets = prefix_sets(alloc, first, &below)?;
             sets.append(&mut below)?;
             Ok(sets)
         }

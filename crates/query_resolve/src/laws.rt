@@ -6,7 +6,7 @@ ghost use Rattle.semantics.specs.Syntax.{TreeForm, PredicateForm};
 ghost use Rattle.semantics.specs.Names.{distinct, PlannedFunction};
 ghost use Rattle.semantics.specs.Sets.{cross_product, cube_sets, expanded_sets, rollup_sets, sets_of};
 ghost use Rattle.semantics.specs.Inside.Same.{same_planned, same_predicate};
-ghost use Rattle.query_resolve.specs.Laws.{AreDistinct, HaveSameColumns, IsCrossed, IsCube, IsRollup};
+ghost use Rattle.query_resolve.specs.Laws.{AreDistinct, HaveSameColumns, IsCrossProduct, IsCube, IsRollup};
 
 /// A law: ROLLUP stands for the sets of its first n units, of its first n-1, and so on to the empty set,
 /// ISO/IEC 9075-2 `<rollup list>`.
@@ -38,9 +38,9 @@ pub fn kept_law<A>()
 
 /// A law: in a cross product the leftmost list varies slowest: with n sets in the second list, at place i * n + j stand
 /// the columns of the first list's set at place i and of the second's at place j, ISO/IEC 9075-2 `<group by clause>`.
-pub fn crossed_law()
+pub fn cross_product_law()
     ensures { (firsts seconds : List (List (List ℕ)))
-        → IsCrossed firsts seconds (cross_product firsts seconds) }
+        → IsCrossProduct firsts seconds (cross_product firsts seconds) }
 {}
 
 /// A law: two predicates are the same exactly where their trees are equal.

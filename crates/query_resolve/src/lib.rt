@@ -21,7 +21,7 @@ pub use expansion::grouping_sets;
 pub use function::{FilteredFunction, column_function};
 pub use grouping::grouping_places;
 pub use laws::{
-    crossed_law, cube_law, distinct_law, kept_law, rollup_law, same_function_law,
+    cross_product_law, cube_law, distinct_law, kept_law, rollup_law, same_function_law,
     same_predicate_law,
 };
 pub use planning::{Planned, filters, indexed_functions, planned_functions, planned_place};

@@ -7,10 +7,10 @@ ghost use Rattle.query_ast.specs.Syntax.{expression_form, function_form, item_fo
 ghost use Rattle.semantics.specs.Syntax.{predicate_forms};
 ghost use Rattle.semantics.specs.Names.{distinct, planned_function};
 ghost use Rattle.semantics.specs.Inside.Same.{same_predicate, same_planned};
-ghost use Rattle.query_resolve.specs.Functions.{different_filters, filters_of, indexed, indexed_functions};
+ghost use Rattle.query_resolve.specs.Functions.{different_filters, filters_of, indexed_function, indexed_functions};
 ghost use Rattle.semantics.specs.SetFunctions.{expression_functions, functions_of, operand_functions};
-ghost use Rattle.query_resolve.specs.Inside.Collecting.{clause_functions, parts_functions, predicate_functions};
-ghost use Rattle.query_resolve.specs.Planning.{filter_forms, planned_form, planned_forms};
+ghost use Rattle.query_resolve.specs.Inside.Collecting.{clause_functions, parts_functions, predicate_functions, range_functions};
+ghost use Rattle.query_resolve.specs.Planning.{AppendsPlanned, filter_forms, planned_form, planned_forms};
 
 use crate::function::{FilteredFunction, column_function};
 use crate::sameness::is_same_predicate;
@@ -54,9 +54,9 @@ fn push_expression_function<'a>(
     columns: &[Column],
     expression: &'a Expression,
 ) -> Result<(), AllocError>
-    ensures { OnOk result (planned_forms functions.new.items
-        ≡ planned_forms functions.old.items ++ filter_map (planned_function (fields_of columns.now))
-        (expression_functions (expression_form expression.now))) }
+    ensures { OnOk result (AppendsPlanned (fields_of columns.now)
+        (expression_functions (expression_form expression.now))
+        functions.old.items functions.new.items) }
 {
     if let Expression::Function(function) = expression
         && let Some(planned) = planned_function(columns, function)
@@ -72,9 +72,9 @@ fn push_operand_function<'a>(
     columns: &[Column],
     operand: &'a Operand,
 ) -> Result<(), AllocError>
-    ensures { OnOk result (planned_forms functions.new.items
-        ≡ planned_forms functions.old.items ++ filter_map (planned_function (fields_of columns.now))
-        (operand_functions (operand_form operand.now))) }
+    ensures { OnOk result (AppendsPlanned (fields_of columns.now)
+        (operand_functions (operand_form operand.now))
+        functions.old.items functions.new.items) }
 {
     match operand {
         Operand::Expression(expression) => push_expression_function(functions, columns, expression),
@@ -90,9 +90,9 @@ fn push_pair_functions<'a>(
     left: &'a Operand,
     right: &'a Operand,
 ) -> Result<(), AllocError>
-    ensures { OnOk result (planned_forms functions.new.items
-        ≡ planned_forms functions.old.items ++ filter_map (planned_function (fields_of columns.now))
-        (operand_functions (operand_form left.now) ++ operand_functions (operand_form right.now))) }
+    ensures { OnOk result (AppendsPlanned (fields_of columns.now)
+        (operand_functions (operand_form left.now) ++ operand_functions (operand_form right.now))
+        functions.old.items functions.new.items) }
 {
     push_operand_function(functions, columns, left)?;
     push_operand_function(functions, columns, right)
@@ -107,10 +107,9 @@ fn push_three_functions<'a>(
     low: &'a Operand,
     high: &'a Operand,
 ) -> Result<(), AllocError>
-    ensures { OnOk result (planned_forms functions.new.items
-        ≡ planned_forms functions.old.items ++ filter_map (planned_function (fields_of columns.now))
-        (operand_functions (operand_form operand.now) ++ operand_functions (operand_form low.now)
-        ++ operand_functions (operand_form high.now))) }
+    ensures { OnOk result (AppendsPlanned (fields_of columns.now)
+        (range_functions (operand_form operand.now) (operand_form low.now) (operand_form high.now))
+        functions.old.items functions.new.items) }
 {
     push_pair_functions(functions, columns, operand, low)?;
     push_operand_function(functions, columns, high)
@@ -124,9 +123,9 @@ fn push_predicate_functions<'a>(
     columns: &[Column],
     predicate: &'a Predicate,
 ) -> Result<(), AllocError>
-    ensures { OnOk result (planned_forms functions.new.items
-        ≡ planned_forms functions.old.items ++ filter_map (planned_function (fields_of columns.now))
-        (predicate_functions (predicate_form predicate.now))) }
+    ensures { OnOk result (AppendsPlanned (fields_of columns.now)
+        (predicate_functions (predicate_form predicate.now))
+        functions.old.items functions.new.items) }
 {
     match predicate {
         Predicate::Or(parts) | Predicate::And(parts) => {
@@ -156,9 +155,9 @@ fn push_parts_functions<'a>(
     columns: &[Column],
     parts: &'a [Predicate],
 ) -> Result<(), AllocError>
-    ensures { OnOk result (planned_forms functions.new.items
-        ≡ planned_forms functions.old.items ++ filter_map (planned_function (fields_of columns.now))
-        (parts_functions (predicate_forms (map predicate_form parts.now)))) }
+    ensures { OnOk result (AppendsPlanned (fields_of columns.now)
+        (parts_functions (predicate_forms (map predicate_form parts.now)))
+        functions.old.items functions.new.items) }
 {
     for part in parts {
         push_predicate_functions(functions, columns, part)?;
@@ -172,9 +171,9 @@ fn push_item_functions<'a>(
     columns: &[Column],
     items: &'a [Item],
 ) -> Result<(), AllocError>
-    ensures { OnOk result (planned_forms functions.new.items
-        ≡ planned_forms functions.old.items ++ filter_map (planned_function (fields_of columns.now))
-        (flat_map (λ i. expression_functions i.expression) (map item_form items.now))) }
+    ensures { OnOk result (AppendsPlanned (fields_of columns.now)
+        (flat_map (λ i. expression_functions i.expression) (map item_form items.now))
+        functions.old.items functions.new.items) }
 {
     for item in items {
         push_expression_function(functions, columns, &item.expression)?;
@@ -188,9 +187,9 @@ fn push_key_functions<'a>(
     columns: &[Column],
     keys: &'a [Key],
 ) -> Result<(), AllocError>
-    ensures { OnOk result (planned_forms functions.new.items
-        ≡ planned_forms functions.old.items ++ filter_map (planned_function (fields_of columns.now))
-        (flat_map (λ k. expression_functions k.expression) (map key_form keys.now))) }
+    ensures { OnOk result (AppendsPlanned (fields_of columns.now)
+        (flat_map (λ k. expression_functions k.expression) (map key_form keys.now))
+        functions.old.items functions.new.items) }
 {
     for key in keys {
         push_expression_function(functions, columns, &key.expression)?;
@@ -374,8 +373,8 @@ fn filter_place(filters: &[&Predicate], filter: &Predicate) -> Option<usize>
 }
 
 /// A set function with the index of its filter among some filters.
-fn indexed(function: &Planned, filters: &[&Predicate]) -> FilteredFunction
-    ensures { result ≡ indexed (filter_forms filters.now) (planned_form function.now) }
+fn indexed_function(function: &Planned, filters: &[&Predicate]) -> FilteredFunction
+    ensures { result ≡ indexed_function (filter_forms filters.now) (planned_form function.now) }
 {
     let filter = match function.filter {
         Some(filter) => filter_place(filters, filter),
@@ -388,17 +387,17 @@ fn indexed(function: &Planned, filters: &[&Predicate]) -> FilteredFunction
 }
 
 /// Set functions with the indexes of their filters among some filters.
-fn all_indexed(
+fn index_functions(
     alloc: Global,
     functions: &[Planned],
     filters: &[&Predicate],
 ) -> Result<Vec<FilteredFunction>, AllocError>
     ensures { IfOk result (λ v.
-        v.items ≡ map (indexed (filter_forms filters.now)) (planned_forms functions.now)) }
+        v.items ≡ map (indexed_function (filter_forms filters.now)) (planned_forms functions.now)) }
 {
     let mut all = Vec::new(alloc);
     for function in functions {
-        all.push(indexed(function, filters))?;
+        all.push(indexed_function(function, filters))?;
     }
     Ok(all)
 }
@@ -423,7 +422,7 @@ pub fn indexed_functions(
 {
     let functions = planned_functions(alloc, columns, tree)?;
     let filters = different_filters(alloc, &functions)?;
-    all_indexed(alloc, &functions, &filters)
+    index_functions(alloc, &functions, &filters)
 }
 
 /// The place of a set function among others, from 0.

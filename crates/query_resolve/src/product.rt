@@ -4,7 +4,7 @@ ghost use Rattle.std.specs.Prelude.{◌≡◌, ◌∷◌, [], map, IfOk, OnOk};
 ghost use Rattle.semantics.specs.Sets.{cross_product, ordered_set};
 ghost use Rattle.query_resolve.specs.Resolution.{contents};
 
-use crate::joining::{crossed, one_set, ordered_set, ordered_sets};
+use crate::joining::{cross_product, one_set, ordered_set, ordered_sets};
 use std::alloc::{AllocError, Global};
 use std::marker::Model;
 
@@ -50,13 +50,13 @@ impl Product {
         if let [set] = sets {
             self.common.extend_from_slice(set)?;
         } else {
-            self.sets = crossed(alloc, &self.sets, sets)?;
+            self.sets = cross_product(alloc, &self.sets, sets)?;
         }
         Ok(())
     }
 
     /// The sets in the order of the grouping columns, each column once in each.
-    pub(crate) fn ordered(
+    pub(crate) fn sets_in_order(
         &self,
         alloc: Global,
         grouping: &[usize],
@@ -64,7 +64,7 @@ impl Product {
         ensures { IfOk result (λ v. contents v.items ≡ map (ordered_set grouping.now) self.now) }
     {
         let common = ordered_set(alloc, grouping, &self.common)?;
-        let sets = crossed(alloc, &self.sets, &one_set(alloc, common)?)?;
+        let sets = cross_product(alloc, &self.sets, &one_set(alloc, common)?)?;
         ordered_sets(alloc, grouping, &sets)
     }
 }

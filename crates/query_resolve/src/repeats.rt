@@ -16,7 +16,7 @@ fn has_set(sets: &[Vec<usize>], set: &[usize]) -> bool
 }
 
 /// A set once more.
-fn copied(alloc: Global, set: &[usize]) -> Result<Vec<usize>, AllocError>
+fn copy_set(alloc: Global, set: &[usize]) -> Result<Vec<usize>, AllocError>
     ensures { IfOk result (λ v. v.items ≡ set.now) }
 {
     set.to_vec(alloc)
@@ -29,14 +29,14 @@ fn without_repeats(alloc: Global, sets: &[Vec<usize>]) -> Result<Vec<Vec<usize>>
     let mut found: Vec<Vec<usize>> = Vec::new(alloc);
     for set in sets {
         if !has_set(&found, set) {
-            found.push(copied(alloc, set)?)?;
+            found.push(copy_set(alloc, set)?)?;
         }
     }
     Ok(found)
 }
 
 /// The sets, without repeats where they are to be distinct.
-pub(crate) fn kept(
+pub(crate) fn apply_distinct(
     alloc: Global,
     distinct_sets: bool,
     sets: Vec<Vec<usize>>,

@@ -15,7 +15,7 @@ use Rattle.query_typecheck.specs.declared.scope.Clause.TheVariants as clause
 use Rattle.semantics.specs.Names.{distinct, PlannedFunction, aggregate_of, column_function, filter_of, planned_function}
 use Rattle.semantics.specs.Sets.{grouping_places}
 use Rattle.semantics.specs.Inside.Same.{same_predicate, same_planned}
-use Rattle.query_resolve.specs.Functions.{different_filters, filters_of, indexed}
+use Rattle.query_resolve.specs.Functions.{different_filters, filters_of, indexed_function}
 use Rattle.semantics.specs.SetFunctions.{expression_functions, functions_of, operand_functions, set_functions}
 use Rattle.query_resolve.specs.Inside.Collecting.{clause_functions, parts_functions, predicate_functions}
 use Rattle.query_resolve.proofs.AtomFunctions.{collected}
@@ -169,10 +169,10 @@ leads_back filters None h = refl
 leads_back filters (Some p) h = at_position (same_predicate p) filters ∙ found_itself p filters h
 
 -- Where the filters of some functions are among others, their indexes lead to them.
-all_lead_back : (filters : List PredicateForm) (fs : List PlannedFunction) → AllByRecursion (λ (f : PlannedFunction). IsAmong filters f.filter) fs → filters_at filters (map (indexed filters) fs) ≡ map (λ (f : PlannedFunction). f.filter) fs
+all_lead_back : (filters : List PredicateForm) (fs : List PlannedFunction) → AllByRecursion (λ (f : PlannedFunction). IsAmong filters f.filter) fs → filters_at filters (map (indexed_function filters) fs) ≡ map (λ (f : PlannedFunction). f.filter) fs
 all_lead_back filters [] h = refl
 all_lead_back filters (f ∷ fs) h =
-    let rest = filters_at filters (map (indexed filters) fs) in
+    let rest = filters_at filters (map (indexed_function filters) fs) in
     ap (λ (o : Option PredicateForm). o ∷ rest) (leads_back filters f.filter h.0) ∙ ap (λ (os : List (Option PredicateForm)). f.filter ∷ os) (all_lead_back filters fs h.1)
 
 -- What is among some is so behind one more.

@@ -6,7 +6,7 @@ use Rattle.semantics.specs.Columns.{Field}
 use Rattle.semantics.specs.Syntax.{PredicateForm, TreeForm}
 use Rattle.query_typecheck.specs.Filters.{filters_at}
 use Rattle.semantics.specs.Names.{PlannedFunction}
-use Rattle.query_resolve.specs.Functions.{filters_of, indexed, indexed_functions}
+use Rattle.query_resolve.specs.Functions.{filters_of, indexed_function, indexed_functions}
 use Rattle.semantics.specs.SetFunctions.{functions_of}
 use Rattle.semantics.specs.Inside.Same.{same_predicate}
 use Rattle.query_typecheck.proofs.FilterLemmas.{indexes_lead_back}
@@ -40,8 +40,8 @@ first x y xs ys e = cc
 rest : {X : Type 0} (x y : X) (xs ys : List X) → x ∷ xs ≡ y ∷ ys → xs ≡ ys
 rest x y xs ys e = cc
 
-each-bound : (fields : List Field) (filters : List PredicateForm) (fs : List PlannedFunction) → filters_at filters (map (indexed filters) fs) ≡ map (λ f. f.filter) fs
-    → map (bound (map (passes fields) filters)) (map (indexed filters) fs) ≡ map (aggregate_function fields) fs
+each-bound : (fields : List Field) (filters : List PredicateForm) (fs : List PlannedFunction) → filters_at filters (map (indexed_function filters) fs) ≡ map (λ f. f.filter) fs
+    → map (bound (map (passes fields) filters)) (map (indexed_function filters) fs) ≡ map (aggregate_function fields) fs
 each-bound fields filters [] e = refl
 each-bound fields filters (f ∷ fs) e =
     let this = filter-bound fields filters f.filter (first _ _ _ _ e) in
@@ -54,7 +54,7 @@ bound-functions fields q = each-bound fields (filters_of fields q) (functions_of
 
 -- as many
 pub as-many : (fields : List Field) (q : TreeForm) → length (aggregate_functions fields q) ≡ length (indexed_functions fields q)
-as-many fields q = length-map (functions_of fields q) (aggregate_function fields) ∙ sym (length-map (functions_of fields q) (indexed (filters_of fields q)))
+as-many fields q = length-map (functions_of fields q) (aggregate_function fields) ∙ sym (length-map (functions_of fields q) (indexed_function (filters_of fields q)))
 
 -- the marks of a record by the filters of a query
 pub marks-kept : (fields : List Field) (filters : List PredicateForm) (row : Row) → map (λ p. passes fields p row) filters ≡ map (λ keeps. keeps row) (map (passes fields) filters)

@@ -2,8 +2,12 @@
 use Rattle.std.specs.Prelude.{List, [], ◌++◌}
 use Rattle.std.specs.List.{flat_map}
 use Rattle.std.specs.Option.{option_map_or}
-use Rattle.semantics.specs.Syntax.{FunctionForm, PredicateForm, PredicateForms, TreeForm, or_of, and_of, not_of, truth_test, compare, between, member, null_test, column, no_parts, part}
+use Rattle.semantics.specs.Syntax.{FunctionForm, OperandForm, PredicateForm, PredicateForms, TreeForm, or_of, and_of, not_of, truth_test, compare, between, member, null_test, column, no_parts, part}
 use Rattle.semantics.specs.SetFunctions.{expression_functions, operand_functions}
+
+-- The set functions that the operands of a BETWEEN are, from left to right.
+abbrev pub range_functions : OperandForm → OperandForm → OperandForm → List FunctionForm
+range_functions operand low high = operand_functions operand ++ operand_functions low ++ operand_functions high
 
 abbrev mutual
   -- The set functions in a predicate, from left to right.
@@ -13,7 +17,7 @@ abbrev mutual
   predicate_functions (not_of p) = predicate_functions p
   predicate_functions (truth_test p n t) = predicate_functions p
   predicate_functions (compare a c b) = operand_functions a ++ operand_functions b
-  predicate_functions (between a n b c) = operand_functions a ++ operand_functions b ++ operand_functions c
+  predicate_functions (between a n b c) = range_functions a b c
   predicate_functions (member a n ls) = operand_functions a
   predicate_functions (null_test a n) = operand_functions a
   predicate_functions (column n) = []

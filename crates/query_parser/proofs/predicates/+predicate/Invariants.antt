@@ -20,11 +20,11 @@ decreases-expression l = 16 * l.levels + 3
 abbrev pub decreases-operand : goal.decreases-operand
 decreases-operand l = 16 * l.levels + 4
 
-abbrev pub decreases-between : goal.decreases-between
-decreases-between l = 16 * l.levels + 5
+abbrev pub decreases-between_atom : goal.decreases-between_atom
+decreases-between_atom l = 16 * l.levels + 5
 
-abbrev pub decreases-negated : goal.decreases-negated
-decreases-negated l = 16 * l.levels + 6
+abbrev pub decreases-negated_atom : goal.decreases-negated_atom
+decreases-negated_atom l = 16 * l.levels + 6
 
 abbrev pub decreases-atom : goal.decreases-atom
 decreases-atom l = 16 * l.levels + 7

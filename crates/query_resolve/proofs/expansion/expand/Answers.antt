@@ -42,7 +42,7 @@ returns c =
     let groups = c.args.groups.now in
     let product = c.loop-group.product in
     let whole = λ (gs : List GroupingElement). in_order (cross_product product (map places (expansion (map element_form gs)))) in
-    ok_same c.ordered.result (λ v. contents v.items) (in_order product) (map (λ names. ordered_set c.args.grouping.now (places names)) (expansion (map element_form groups))) c.ordered.ensures
+    ok_same c.sets_in_order.result (λ v. contents v.items) (in_order product) (map (λ names. ordered_set c.args.grouping.now (places names)) (expansion (map element_form groups))) c.sets_in_order.ensures
     (ap in_order (sym (crossed_end product))
     ∙ sym (at_drop_all whole groups c.loop-group.group-index c.loop-group-test.false)
     ∙ c.loop-group.invariant

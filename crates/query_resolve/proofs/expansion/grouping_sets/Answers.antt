@@ -17,5 +17,5 @@ returns c =
     let groups = expansion (map element_form c.args.groups.now) in
     let all : List (List ℕ) = map (λ names. ordered_set c.args.grouping.now (places names)) groups in
     let made = contents c.in_ok-all.all.items in
-    ok_same c.kept.result (λ (v : Vec (Vec ℕ)). contents v.items) (if c.args.distinct_sets then distinct bytes_eq made else made) (if c.args.distinct_sets then distinct same_columns all else all) c.kept.ensures
+    ok_same c.apply_distinct.result (λ (v : Vec (Vec ℕ)). contents v.items) (if c.args.distinct_sets then distinct bytes_eq made else made) (if c.args.distinct_sets then distinct same_columns all else all) c.apply_distinct.ensures
     (kept_sets c.args.distinct_sets c.args.grouping.now places groups made c.in_ok-all.ensures)

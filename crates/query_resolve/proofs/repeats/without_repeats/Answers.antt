@@ -6,7 +6,7 @@ use Rattle.std.proofs.lemmas.List.{map-append}
 use Rattle.query_resolve.specs.Resolution.{contents}
 use Rattle.query_resolve.proofs.DistinctSets.{repeats_turn}
 use Rattle.query_resolve.proofs.repeats.without_repeats.Goals as goal
-use Rattle.query_resolve.proofs.repeats.without_repeats.Goals.{then-not-has_set+in_ok-copied+in_ok-push, else-not-has_set}
+use Rattle.query_resolve.proofs.repeats.without_repeats.Goals.{then-not-has_set+in_ok-copy_set+in_ok-push, else-not-has_set}
 
 pub loop-set-preserved : goal.loop-set-preserved
 loop-set-preserved c =
@@ -18,11 +18,11 @@ loop-set-preserved c =
     ∙ ap (λ (z : List ℕ). list_any (λ (u : Vec ℕ). bytes_eq u.items z) found) c.deref-in-loop-set.ensures.value in
     let turn = repeats_turn c.args.sets.now found c.loop-set.set-index s in
     elim c.if-not-has_set.branch [
-      | then-not-has_set+in_ok-copied+in_ok-push w ↦
-          let copy : w.in_ok-copied.field-0.items ≡ s.items = w.in_ok-copied.ensures ∙ w.deref-then-not-has_set.ensures.value in
+      | then-not-has_set+in_ok-copy_set+in_ok-push w ↦
+          let copy : w.in_ok-copy_set.field-0.items ≡ s.items = w.in_ok-copy_set.ensures ∙ w.deref-then-not-has_set.ensures.value in
           ap (λ (v : Vec (Vec ℕ)). contents v.items) w.found-is
           ∙ ap contents w.in_ok-push.ensures.items
-          ∙ map-append (λ (u : Vec ℕ). u.items) found (w.in_ok-copied.field-0 ∷ [])
+          ∙ map-append (λ (u : Vec ℕ). u.items) found (w.in_ok-copy_set.field-0 ∷ [])
           ∙ ap (λ (z : List ℕ). contents found ++ z ∷ []) copy
           ∙ turn false c.loop-set-test.true c.set-item.is c.loop-set.invariant (told false w.if-not-has_set.ensures)
       | else-not-has_set w ↦

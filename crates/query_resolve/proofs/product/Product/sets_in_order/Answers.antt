@@ -4,7 +4,7 @@ use Rattle.semantics.specs.Sets.{cross_product, ordered_set}
 use Rattle.query_resolve.specs.Resolution.{contents}
 use Rattle.query_resolve.proofs.Products.{crossed_right}
 use Rattle.query_resolve.proofs.Rows.{ok_same}
-use Rattle.query_resolve.proofs.product.Product.ordered.Goals as goal
+use Rattle.query_resolve.proofs.product.Product.sets_in_order.Goals as goal
 
 pub returns : goal.returns
 returns c =

@@ -4,7 +4,7 @@ use Rattle.std.proofs.lemmas.List.{map-append}
 use Rattle.semantics.specs.Sets.{cross_product}
 use Rattle.query_resolve.specs.Resolution.{contents}
 use Rattle.query_resolve.proofs.Rows.{appended_turn}
-use Rattle.query_resolve.proofs.joining.crossed.Goals as goal
+use Rattle.query_resolve.proofs.joining.cross_product.Goals as goal
 
 pub loop-first-preserved : goal.loop-first-preserved
 loop-first-preserved c =

@@ -1,7 +1,7 @@
 use Rattle.std.proofs.Common.{◌≡◌, ◌≤◌, length, arith, rules, string_bytes, ◌++◌, ◌∷◌, [], ℕ, refl, ap, length-append}
 use Rattle.std.proofs.lemmas.Str.Pattern.{split_parts}
 use Rattle.query_lexer.proofs.Loops.{loop_open, loop_close, loop_twice}
-use Rattle.query_lexer.proofs.quotes.quoted.Goals as goal
+use Rattle.query_lexer.proofs.quotes.quoted_content.Goals as goal
 
 pub returns-in_default-behind-clause-exact : goal.returns-in_default-behind-clause-exact
 returns-in_default-behind-clause-exact c =
