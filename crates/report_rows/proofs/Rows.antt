@@ -168,10 +168,10 @@ rows-beside : (fields : List Field) (t : TreeForm) (found : List Found) → map 
 rows-beside fields t [] = refl
 rows-beside fields t (x ∷ found) = ap (λ (xs : List Found). x ∷ xs) (rows-beside fields t found)
 
--- what is a permutation of rows beside the values of the keys
-pub ranks-moved : {Y : Type 0} (rank : Y → Ranked) (fields : List Field) (t : TreeForm) (found : List Found) (gathered sorted : List Y) → map rank gathered ≡ map (ranked fields t) found → IsPermutation gathered sorted
-    → IsPermutation (map (ranked fields t) found) (map rank sorted)
-ranks-moved rank fields t found gathered sorted are moved = subst (λ (rs : List Ranked). IsPermutation rs (map rank sorted)) are (IsPermutation-map rank gathered sorted moved)
+-- what is a permutation of rows beside values
+pub ranks-moved : {Y : Type 0} (rank : Y → Ranked) (beside : Found → Ranked) (found : List Found) (gathered sorted : List Y) → map rank gathered ≡ map beside found → IsPermutation gathered sorted
+    → IsPermutation (map beside found) (map rank sorted)
+ranks-moved rank beside found gathered sorted are moved = subst (λ (rs : List Ranked). IsPermutation rs (map rank sorted)) are (IsPermutation-map rank gathered sorted moved)
 
 -- what is sorted by values that are those of the keys, by index and by key has the rows in their order
 pub sorted-ranks : {Y : Type 0} (rank : Y → Ranked) (fields : List Field) (t : TreeForm) (found : List Found) (sorted : List Y) → IsPermutation (map (ranked fields t) found) (map rank sorted)

@@ -1,5 +1,5 @@
 //! The order of rows.
-ghost use Rattle.std.specs.Prelude.{◌≡◌, ◌<◌, ◌++◌, All, IfOk, OnOk, map};
+ghost use Rattle.std.specs.Prelude.{◌≡◌, ◌<◌, ◌++◌, All, IfOk, OnOk, length, map};
 ghost use Rattle.std.specs.List.{flat_map};
 ghost use Rattle.std.specs.List.Sorted.{IsPermutation, IsSortedBy};
 ghost use Rattle.std.specs.Ordering.{is_lt};
@@ -8,11 +8,11 @@ ghost use Rattle.tables_groups.specs.Found.{row_of};
 ghost use Rattle.tables_groups.specs.Fitting.{AreFitting};
 ghost use Rattle.semantics.specs.Order.{before, in_order};
 ghost use Rattle.report_rows.specs.Parts.{AreMade, items_of};
-ghost use Rattle.report_rows.specs.Inside.Ranked.{AreRanked, AreRankedParts, by_key, by_rank, ranked, ranked_in};
-ghost use Rattle.report_rows.specs.Planned.{HasSetUnder};
+ghost use Rattle.report_rows.specs.Inside.Ranked.{AreRanked, AreRankedParts, by_key, by_rank, ranked_at, ranked_in};
 
 use crate::keys::{key_values, under_values};
 use crate::ranked::{RankedRow, behind_of, compare_keys, first_text, front_of};
+use crate::source::{Source, key_sources};
 use crate::view::PlanView;
 use query_plan::Key;
 use std::alloc::{AllocError, Global};
@@ -53,7 +53,8 @@ pub(crate) fn in_order<'a>(
         ≡ in_order (before plan.now.fields plan.now.query)
         (map (λ r. row_of r.now) rows.entry.items)) }
 {
-    let ranked = rank(alloc, plan, rows.as_slice())?;
+    let sources = key_sources(alloc, plan)?;
+    let ranked = rank(alloc, &sources, rows.as_slice())?;
     let ordered = sorted(plan, ranked);
     groups_in(alloc, ordered)
 }
@@ -76,7 +77,8 @@ pub(crate) fn in_order_among<'a, H: Threads + Sync>(
     if rows.len() <= size {
         return in_order(alloc, plan, rows);
     }
-    let parts = parts_in_order(rt, alloc, plan, rows.as_slice(), size)?;
+    let sources = key_sources(alloc, plan)?;
+    let parts = parts_in_order(rt, alloc, plan, &sources, rows.as_slice(), size)?;
     let ranked = rows_of_parts(alloc, parts.as_slice(), rows.len())?;
     let ordered = merged(plan, ranked)?;
     groups_at(alloc, ordered)
@@ -87,12 +89,13 @@ fn parts_in_order<'a, H: Threads + Sync>(
     rt: &H,
     alloc: Global,
     plan: &PlanView<'_>,
+    sources: &[Vec<Source>],
     rows: &[&'a (usize, Group)],
     size: usize,
 ) -> Result<Vec<Result<Vec<RankedRow<'a>>, AllocError>>, AllocError>
     requires size { 0 < size }
-    requires sets { All (λ r. HasSetUnder plan.now (row_of r.now)) rows.now }
-    ensures { IfOk result (λ parts. AreRankedParts (ranked plan.now.fields plan.now.query) size
+    requires within { All (λ r. (row_of r.now).0 < length sources.now) rows.now }
+    ensures { IfOk result (λ parts. AreRankedParts (ranked_at sources.now) size
         (map (λ r. row_of r.now) rows.now) parts.items) }
 {
     let parts = thread::map_chunks(
@@ -101,11 +104,10 @@ fn parts_in_order<'a, H: Threads + Sync>(
         rows,
         size,
         &|_, part: &[&(usize, Group)]| -> Result<Vec<RankedRow<'_>>, AllocError>
-            requires { All (λ r. HasSetUnder plan.now (row_of r.now)) part.now }
-            ensures { IfOk result (λ v.
-                AreRanked (ranked plan.entry.now.fields plan.entry.now.query)
+            requires { All (λ r. (row_of r.now).0 < length sources.now) part.now }
+            ensures { IfOk result (λ v. AreRanked (ranked_at sources.entry.now)
                 (map (λ r. row_of r.now) part.entry.now) v.items) }
-        { part_in_order(alloc, plan, part) },
+        { part_in_order(alloc, plan, sources, part) },
     )?;
     Ok(parts)
 }
@@ -114,29 +116,31 @@ fn parts_in_order<'a, H: Threads + Sync>(
 fn part_in_order<'a>(
     alloc: Global,
     plan: &PlanView<'_>,
+    sources: &[Vec<Source>],
     rows: &[&'a (usize, Group)],
 ) -> Result<Vec<RankedRow<'a>>, AllocError>
-    requires { All (λ r. HasSetUnder plan.now (row_of r.now)) rows.now }
-    ensures { IfOk result (λ v. AreRanked (ranked plan.now.fields plan.now.query)
+    requires { All (λ r. (row_of r.now).0 < length sources.now) rows.now }
+    ensures { IfOk result (λ v. AreRanked (ranked_at sources.now)
         (map (λ r. row_of r.now) rows.now) v.items) }
 {
-    let ranked = rank(alloc, plan, rows)?;
+    let ranked = rank(alloc, sources, rows)?;
     Ok(sorted(plan, ranked))
 }
 
-/// The groups beside what their rows are put in order by.
+/// The groups beside what their rows are put in order by, where the rows of each grouping set have the values of the keys at
+/// these sources.
 fn rank<'a>(
     alloc: Global,
-    plan: &PlanView<'_>,
+    sources: &[Vec<Source>],
     rows: &[&'a (usize, Group)],
 ) -> Result<Vec<RankedRow<'a>>, AllocError>
-    requires { All (λ r. HasSetUnder plan.now (row_of r.now)) rows.now }
+    requires { All (λ r. (row_of r.now).0 < length sources.now) rows.now }
     ensures { IfOk result (λ v. map ranked_in v.items
-        ≡ map (ranked plan.now.fields plan.now.query) (map (λ r. row_of r.now) rows.now)) }
+        ≡ map (ranked_at sources.now) (map (λ r. row_of r.now) rows.now)) }
 {
     let mut ranked = Vec::with_capacity(alloc, rows.len())?;
     for found in rows {
-        let values = key_values(alloc, plan, found)?;
+        let values = key_values(alloc, sources, found)?;
         ranked.push(RankedRow {
             values,
             set: found.0,

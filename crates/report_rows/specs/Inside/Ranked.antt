@@ -16,6 +16,8 @@ use Rattle.semantics.specs.Found.{Found}
 use Rattle.tables_groups.specs.Found.{row_of}
 use Rattle.report_rows.specs.declared.ranked.RankedRow.{RankedRow}
 use Rattle.semantics.specs.Order.{key_value, under_key}
+use Rattle.report_rows.specs.declared.source.Source.{Source}
+use Rattle.report_rows.specs.Sources.{values_at}
 use Rattle.report_rows.specs.Parts.{AreOfParts}
 
 -- values, which stand beside a row
@@ -29,6 +31,10 @@ key_values fields t row = map (key_value fields t row) t.keys
 -- a row beside the values of the keys for it
 abbrev pub ranked : List Field → TreeForm → Found → Ranked
 ranked fields t row = (key_values fields t row, row)
+
+-- a row beside the values of the keys for it, which it has at these sources
+abbrev pub ranked_at : List (Vec Source) → Found → Ranked
+ranked_at sources row = (values_at sources row, row)
 
 -- how two lists of values stand to each other, where the first key is for the values at a place and each other one for those at the next: as under the first key that tells its values apart; there is NULL behind the end of a list
 abbrev pub under_values : ℕ → List KeyForm → List Datum → List Datum → Ordering

@@ -3,7 +3,7 @@ use denote.Param.Send.{sendable}
 use Rattle.std.proofs.Crossing as std
 use Rattle.std.proofs.lemmas.List.{drop-map, length-map, take-map}
 use Rattle.semantics.specs.Found.{Found}
-use Rattle.report_rows.specs.Inside.Ranked.{AreRanked, ranked}
+use Rattle.report_rows.specs.Inside.Ranked.{AreRanked, ranked_at}
 use Rattle.report_rows.proofs.InParts.{parts-cover, parts-made}
 use Rattle.report_rows.proofs.Rows.{row_at}
 use Rattle.report_rows.proofs.Sharing.{view_sync}
@@ -16,7 +16,7 @@ pub returns : goal.returns
 returns g c =
     let size = c.args.size in
     let groups = c.args.rows.now in
-    let rank = ranked c.args.plan.now.fields c.args.plan.now.query in
+    let rank = ranked_at c.args.sources.now in
     let parts = c.in_ok-parts.parts.items in
     let count = length-map groups row_at in
     let ok = c.in_ok-parts.parts.ok in

@@ -1,14 +1,13 @@
-use Rattle.std.proofs.Common.{◌∙◌, Bor, ℕ, List, [], ◌∷◌, ◌++◌, ap, get_or, map, subst, sym, take, take_all}
+use Rattle.std.proofs.Common.{◌∙◌, ◌<◌, Bor, ℕ, List, [], ◌∷◌, ◌++◌, ap, get_or, length, map, subst, sym, take, take_all}
 use Rattle.std.proofs.lemmas.List.{map-append, map_more}
 use Rattle.tables_groups.specs.declared.group.Group.{Group}
-use Rattle.report_rows.specs.Planned.{HasSetUnder}
-use Rattle.report_rows.specs.Inside.Ranked.{ranked, ranked_in}
+use Rattle.report_rows.specs.Inside.Ranked.{ranked_at, ranked_in}
 use Rattle.report_rows.proofs.Rows.{row_at}
 use Rattle.report_rows.proofs.ordering.rank.Goals as goal
 
 pub loop-found-preserved : goal.loop-found-preserved
 loop-found-preserved c =
-    let rank = ranked c.args.plan.now.fields c.args.plan.now.query in
+    let rank = ranked_at c.args.sources.now in
     let i = c.loop-found.found-index in
     let rows = c.args.rows.now in
     let found = c.found-item.result in
@@ -20,9 +19,9 @@ loop-found-preserved c =
 
 pub key_values-requires : goal.key_values-requires
 key_values-requires c =
-    subst (λ (r : Bor (ℕ × Group)). HasSetUnder c.args.plan.now (row_at r)) (sym c.found-item.is) (c.requires c.loop-found.found-index c.found-item.result c.loop-found-test.true)
+    subst (λ (r : Bor (ℕ × Group)). (row_at r).0 < length c.args.sources.now) (sym c.found-item.is) (c.requires c.loop-found.found-index c.found-item.result c.loop-found-test.true)
 
 pub returns : goal.returns
 returns c =
     c.loop-found.invariant
-    ∙ ap (λ (rows : List (Bor (ℕ × Group))). map (ranked c.args.plan.now.fields c.args.plan.now.query) (map row_at rows)) (take_all c.loop-found.found-index c.args.rows.now c.loop-found-test.false)
+    ∙ ap (λ (rows : List (Bor (ℕ × Group))). map (ranked_at c.args.sources.now) (map row_at rows)) (take_all c.loop-found.found-index c.args.rows.now c.loop-found-test.false)
