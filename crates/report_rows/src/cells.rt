@@ -21,21 +21,8 @@ use values::{Column, Value};
 /// The most columns that GROUPING takes.
 const MAX_COLUMNS: usize = 8;
 
-/// What a group of a grouping set shows for an expression.
-pub(crate) fn expression_cell(
-    plan: &PlanView<'_>,
-    set: &[usize],
-    group: &Group,
-    expression: &Expression,
-) -> Result<Cell, AllocError>
-    ensures { IfOk result (λ cell.
-        summary_of cell ≡ shown_under plan.now set.now group.now (expression_form expression.now)) }
-{
-    cell_from(&source_of(plan, set, expression), group)
-}
-
 /// What a group has where the rows of its grouping set have what they show.
-fn cell_from(source: &Source, group: &Group) -> Result<Cell, AllocError>
+pub(crate) fn cell_from(source: &Source, group: &Group) -> Result<Cell, AllocError>
     ensures { IfOk result (λ cell. summary_of cell ≡ shown_at
         (data_of group.now.key.items) (map summary_of group.now.cells.items) source.now) }
 {
