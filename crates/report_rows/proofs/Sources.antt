@@ -9,11 +9,10 @@ use Rattle.semantics.specs.Sets.{sets_of}
 use Rattle.semantics.specs.Found.{Found, set_of}
 use Rattle.tables_groups.specs.declared.group.Group.{Group}
 use Rattle.tables_groups.specs.Fitting.{AreFitting}
-use Rattle.semantics.specs.Order.{key_value}
 use Rattle.semantics.specs.Rows.{cell_value, expression_shown, row_value}
 use Rattle.query_plan.specs.Planned.{PlannedQuery}
 use Rattle.report_rows.specs.declared.source.Source.{Source}
-use Rattle.report_rows.specs.Inside.Ranked.{Ranked, key_values, ranked, ranked_at}
+use Rattle.report_rows.specs.Inside.SortEntries.{entry_at, entry_of, key_values}
 use Rattle.report_rows.specs.Sources.{AreKeySources, AreSourcesFor, AreSourcesOf, AreSourcesOfEach, ForEachSet, key_expressions, shown_at, sources_at, values_at}
 use Rattle.report_rows.proofs.Maps.{map-twice}
 use Rattle.report_rows.proofs.Rows.{row_at, sets-fitting}
@@ -88,18 +87,18 @@ values-keys plan all row each within =
     ∙ map-twice cell_value shown (key_expressions plan)
     ∙ map-twice (row_value fields t row) (λ (k : KeyForm). key_expression t.items k.expression) t.keys
 
--- so rows stand beside the same values
-pub ranked-same : (plan : PlannedQuery) (all : List (Vec Source)) (found : List Found) → AreKeySources plan all → AllByRecursion (λ row. row.0 < length (sets_of plan.fields plan.query)) found
-    → map (ranked_at all) found ≡ map (ranked plan.fields plan.query) found
-ranked-same plan all [] each within = refl
-ranked-same plan all (row ∷ found) each within =
-    let here : ranked_at all row ≡ ranked plan.fields plan.query row = λ i. (values-keys plan all row each within.0 i, row) in
-    let rest = ranked-same plan all found each within.1 in
+-- so rows have the same entries
+pub entries-same : (plan : PlannedQuery) (all : List (Vec Source)) (found : List Found) → AreKeySources plan all → AllByRecursion (λ row. row.0 < length (sets_of plan.fields plan.query)) found
+    → map (entry_at all) found ≡ map (entry_of plan.fields plan.query) found
+entries-same plan all [] each within = refl
+entries-same plan all (row ∷ found) each within =
+    let here : entry_at all row ≡ entry_of plan.fields plan.query row = λ i. (values-keys plan all row each within.0 i, row) in
+    let rest = entries-same plan all found each within.1 in
     λ i. here i ∷ rest i
 
 -- rows that fit do
-pub ranked-fitting : (plan : PlannedQuery) (all : List (Vec Source)) (found : List Found) → AreKeySources plan all → AreFitting plan.fields plan.query found → map (ranked_at all) found ≡ map (ranked plan.fields plan.query) found
-ranked-fitting plan all found each fit = ranked-same plan all found each (recursion_from_All (λ (row : Found). row.0 < length (sets_of plan.fields plan.query)) found fit.indexes)
+pub entries-fitting : (plan : PlannedQuery) (all : List (Vec Source)) (found : List Found) → AreKeySources plan all → AreFitting plan.fields plan.query found → map (entry_at all) found ≡ map (entry_of plan.fields plan.query) found
+entries-fitting plan all found each fit = entries-same plan all found each (recursion_from_All (λ (row : Found). row.0 < length (sets_of plan.fields plan.query)) found fit.indexes)
 
 -- the index of each row that fits is below the number of the lists, which a call is handed as a slice, as it is the rows
 pub within-sources : (plan : PlannedQuery) (all sources : List (Vec Source)) (rows slice : List (Bor (ℕ × Group))) → AreKeySources plan all → sources ≡ all → slice ≡ rows → AreFitting plan.fields plan.query (map row_at rows)

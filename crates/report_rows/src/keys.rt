@@ -5,7 +5,7 @@ ghost use Rattle.query_ast.specs.Syntax.{key_form};
 ghost use Rattle.tables_groups.specs.Found.{row_of};
 ghost use Rattle.semantics.specs.Order.{null_order, under_key};
 ghost use Rattle.report_rows.specs.Sources.{values_at};
-ghost use Rattle.report_rows.specs.Inside.Ranked.{under_values};
+ghost use Rattle.report_rows.specs.Inside.SortEntries.{under_values};
 
 use crate::cells::value_from;
 use crate::source::{Source, sources_at};

@@ -1,4 +1,4 @@
-use Rattle.std.proofs.Common.{◌≡◌, ◌∙◌, List, map, ap, take_all}
+use Rattle.std.proofs.Common.{◌∙◌, List, map, ap, take_all}
 use Rattle.tables_groups.specs.Cells.{summary_of}
 use Rattle.tables_groups.specs.Found.{row_of}
 use Rattle.report_rows.specs.declared.source.Source.{Source}

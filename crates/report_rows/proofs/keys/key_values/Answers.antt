@@ -1,4 +1,4 @@
-use Rattle.std.proofs.Common.{◌≡◌, ◌∙◌, List, map, ap, sym, take_all}
+use Rattle.std.proofs.Common.{◌∙◌, List, map, ap, sym, take_all}
 use Rattle.values.specs.Datum.{datum_of}
 use Rattle.tables_groups.specs.Found.{row_of}
 use Rattle.semantics.specs.Rows.{cell_value}

@@ -1,5 +1,5 @@
-use Rattle.std.proofs.Common.{◌≡◌, ◌∙◌, Bor, List, map, ap, refl, sym, take_all}
-use Rattle.semantics.specs.Syntax.{ExpressionForm, ItemForm, TreeForm}
+use Rattle.std.proofs.Common.{◌≡◌, ◌∙◌, Bor, map, ap, refl, sym, take_all}
+use Rattle.semantics.specs.Syntax.{ItemForm, TreeForm}
 use Rattle.query_ast.specs.declared.expression.Expression.{Expression}
 use Rattle.query_ast.specs.declared.tree.Item.{Item}
 use Rattle.query_ast.specs.Syntax.{expression_form, item_form}

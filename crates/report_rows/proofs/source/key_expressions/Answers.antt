@@ -1,5 +1,5 @@
 use Rattle.std.proofs.Common.{◌≡◌, ◌∙◌, Bor, List, map, ap, sym, take_all}
-use Rattle.semantics.specs.Syntax.{ExpressionForm, ItemForm, KeyForm, TreeForm}
+use Rattle.semantics.specs.Syntax.{ItemForm, KeyForm, TreeForm}
 use Rattle.semantics.specs.Types.{key_expression}
 use Rattle.query_ast.specs.declared.expression.Expression.{Expression}
 use Rattle.query_ast.specs.declared.tree.Key.{Key}
@@ -21,7 +21,7 @@ returns c =
     let t = c.args.plan.now.query in
     let of = λ (k : KeyForm). key_expression t.items k.expression in
     let keys = c.as_slice-keys.result.now in
-    let tree : map key_form keys ≡ t.keys = ap (map key_form) c.as_slice-keys.ensures.value ∙ ap (λ (f : TreeForm). f.keys) (c.tree-keys.ensures.form ∙ c.query-keys.ensures.query) in
+    let tree : map key_form keys ≡ t.keys = ap (map key_form) c.as_slice-keys.ensures.value ∙ ap (λ (f : TreeForm). f.keys) (c.tree-2.ensures.form ∙ c.query-2.ensures.query) in
     c.loop-key.invariant
     ∙ ap (map (λ (k : Key). of (key_form k))) (take_all c.loop-key.key-index keys c.loop-key-test.false)
     ∙ sym (map-twice of key_form keys)

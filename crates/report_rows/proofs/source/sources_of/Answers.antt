@@ -1,8 +1,7 @@
-use Rattle.std.proofs.Common.{◌≡◌, ◌∙◌, ◌++◌, ◌+◌, Bor, List, [], ◌∷◌, map, ap, sym, take, take_all}
+use Rattle.std.proofs.Common.{◌≡◌, ◌∙◌, ◌++◌, ◌+◌, Bor, [], ◌∷◌, map, ap, sym, take, take_all}
 use Rattle.std.proofs.lemmas.List.{map-append, take_more}
 use Rattle.query_ast.specs.declared.expression.Expression.{Expression}
 use Rattle.query_ast.specs.Syntax.{expression_form}
-use Rattle.semantics.specs.Syntax.{ExpressionForm}
 use Rattle.report_rows.specs.Sources.{expression_forms, shown_at}
 use Rattle.semantics.specs.Rows.{expression_shown}
 use Rattle.report_rows.proofs.source.sources_of.Goals as goal
