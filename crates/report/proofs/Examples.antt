@@ -16,7 +16,7 @@ use Rattle.semantics.specs.Aggregates.{Summary, plain, ratio}
 use Rattle.semantics.specs.Found.{Found}
 use Rattle.semantics.specs.Conditions.{truth}
 use Rattle.semantics.specs.Rows.{number_of_digits, row_value, rows_having_true}
-use Rattle.report_rows.specs.Inside.Fronts.{behind_of, front_of, with_digits}
+use Rattle.report_rows.specs.Inside.KeyPrefixes.{key_prefix, second_key_prefix, with_digits}
 use Rattle.semantics.specs.Order.{rows_in_order, under_key, rows_shown}
 use Rattle.report.specs.Report.{refusals_of, report_of}
 use Rattle.semantics.specs.Texts.{cell_field, escaped_text, report_bytes}
@@ -28,22 +28,22 @@ six-is-110 = refl
 a-backslash-is-marked : escaped_text (codes "\\N") ≡ codes "\\\\N"
 a-backslash-is-marked = refl
 
--- the seventeenth byte is the first one behind the front
-a-front : front_of (text (codes "A") ∷ []) ≡ 65 * 2 ^ 120
+-- the seventeenth byte is the first one of the second prefix
+a-prefix : key_prefix (text (codes "A") ∷ []) ≡ 65 * 2 ^ 120
 unfolding with_digits
-a-front = refl
+a-prefix = refl
 
-the-front-of-a-longer-text-is-that-of-its-start : front_of (text (codes "of sixteen bytesB") ∷ []) ≡ front_of (text (codes "of sixteen bytes") ∷ [])
+the-prefix-of-a-longer-text-is-that-of-its-start : key_prefix (text (codes "of sixteen bytesB") ∷ []) ≡ key_prefix (text (codes "of sixteen bytes") ∷ [])
 unfolding with_digits
-the-front-of-a-longer-text-is-that-of-its-start = refl
+the-prefix-of-a-longer-text-is-that-of-its-start = refl
 
-what-is-behind-a-front : behind_of (text (codes "of sixteen bytesBC") ∷ []) ≡ 66 * 2 ^ 120 + 67 * 2 ^ 112
+a-second-prefix : second_key_prefix (text (codes "of sixteen bytesBC") ∷ []) ≡ 66 * 2 ^ 120 + 67 * 2 ^ 112
 unfolding with_digits
-what-is-behind-a-front = refl
+a-second-prefix = refl
 
-nothing-is-behind-the-front-of-a-short-text : behind_of (text (codes "of sixteen bytes") ∷ []) ≡ 0
+the-second-prefix-of-a-short-text-is-nothing : second_key_prefix (text (codes "of sixteen bytes") ∷ []) ≡ 0
 unfolding with_digits
-nothing-is-behind-the-front-of-a-short-text = refl
+the-second-prefix-of-a-short-text-is-nothing = refl
 
 an-average : cell_field (ratio (negsuc 6) 2) ≡ codes "-7/2"
 unfolding digits

@@ -1,7 +1,7 @@
 -- The first bytes of a text as one number.
 use Rattle.std.proofs.Common.{◌≡◌, ◌∙◌, ◌+◌, ◌*◌, ◌<◌, ◌≤◌, ◌++◌, min, ℕ, zero, suc, List, [], ◌∷◌, length, take, drop, replicate, get_or, slice_index, refl, sym, ap, arith}
 use Rattle.std.specs.Int.{from_be_bytes, w128}
-use Rattle.report_rows.specs.Inside.Fronts.{with_digits}
+use Rattle.report_rows.specs.Inside.KeyPrefixes.{with_digits}
 
 -- the next digit
 one_digit : (m n i : ℕ) (s : List ℕ) → with_digits m (suc n) (drop i s) ≡ with_digits (256 * m + get_or s i 0) n (drop (suc i) s)

@@ -12,8 +12,8 @@ use Rattle.std.proofs.lemmas.List.{drop-drop, length-drop, map-append, take-appe
 use Rattle.std.proofs.lemmas.List.Sorted.{IsPermutation-append, IsPermutation-refl}
 use Rattle.semantics.specs.Found.{Found}
 use Rattle.report_rows.specs.Parts.{AreMade, AreOfParts, items_of}
-use Rattle.report_rows.specs.Inside.Ranked.{AreRanked, AreRankedParts, Ranked, ranked_in}
-use Rattle.report_rows.specs.declared.ranked.RankedRow.{RankedRow}
+use Rattle.report_rows.specs.Inside.SortEntries.{AreEntriesOf, AreEntriesOfParts, EntryForm, entry_form}
+use Rattle.report_rows.specs.declared.sort_entry.SortEntry.{SortEntry}
 
 none-left : {X : Type 0} (xs : List X) → length xs ≤ 0 → xs ≡ []
 none-left [] few = refl
@@ -45,14 +45,14 @@ module _ {X Y : Type 0} (IsOf : List X → List Y → Type 0) where
       (both (take size list) (drop size list) part.items (flat_map items_of parts) of-parts.0 (parts-joined none both size (drop size list) parts of-parts.1 made))
   parts-joined none both size list (Err e ∷ parts) of-parts made = absurd made
 
--- rows that are ranked in parts are all rows
-pub ranks-joined : (rank : Found → Ranked) (size : ℕ) (rows : List Found) (parts : List (Result (Vec RankedRow) AllocError)) → AreRankedParts rank size rows parts → AreMade parts → AreRanked rank rows (flat_map items_of parts)
-ranks-joined rank = parts-joined (AreRanked rank) (IsPermutation-refl []) both
+-- entries that are made in parts are those of all rows
+pub ranks-joined : (rank : Found → EntryForm) (size : ℕ) (rows : List Found) (parts : List (Result (Vec SortEntry) AllocError)) → AreEntriesOfParts rank size rows parts → AreMade parts → AreEntriesOf rank rows (flat_map items_of parts)
+ranks-joined rank = parts-joined (AreEntriesOf rank) (IsPermutation-refl []) both
   where
-    both : (xs us : List Found) (ys vs : List RankedRow) → AreRanked rank xs ys → AreRanked rank us vs → AreRanked rank (xs ++ us) (ys ++ vs)
+    both : (xs us : List Found) (ys vs : List SortEntry) → AreEntriesOf rank xs ys → AreEntriesOf rank us vs → AreEntriesOf rank (xs ++ us) (ys ++ vs)
     both xs us ys vs p q =
-        subst (λ (rs : List Ranked). IsPermutation rs (map ranked_in (ys ++ vs))) (sym (map-append rank xs us))
-        (subst (IsPermutation (map rank xs ++ map rank us)) (sym (map-append ranked_in ys vs)) (IsPermutation-append (map rank xs) (map ranked_in ys) (map rank us) (map ranked_in vs) p q))
+        subst (λ (rs : List EntryForm). IsPermutation rs (map entry_form (ys ++ vs))) (sym (map-append rank xs us))
+        (subst (IsPermutation (map rank xs ++ map rank us)) (sym (map-append entry_form ys vs)) (IsPermutation-append (map rank xs) (map entry_form ys) (map rank us) (map entry_form vs) p q))
 
 -- parts of so many rows are all rows, where there are as many as whole parts, and one more where rows are left
 pub parts-cover : (rows size parts : ℕ) → 0 < size → parts ≡ rows / size + min 1 (rows % size) → rows ≤ parts * size

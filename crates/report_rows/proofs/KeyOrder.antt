@@ -18,8 +18,8 @@ use Rattle.query_ast.specs.Syntax.{key_form}
 use Rattle.query_ast.specs.declared.tree.Key.{Key}
 use Rattle.semantics.specs.Groups.{key_order}
 use Rattle.semantics.specs.Order.{under_key}
-use Rattle.report_rows.specs.Inside.Fronts.{AreBytes, IsOfBytes, behind_of, first_text, front_of, text_order, with_digits}
-use Rattle.report_rows.specs.Inside.Ranked.{under_values}
+use Rattle.report_rows.specs.Inside.KeyPrefixes.{AreBytes, IsOfBytes, second_key_prefix, first_text, key_prefix, text_order, with_digits}
+use Rattle.report_rows.specs.Inside.SortEntries.{under_values}
 
 abbrev value_cmp : Value → Value → Ordering
 value_cmp = cmp-value.it
@@ -170,33 +170,33 @@ text_fits : (s : List ℕ) → AreBytes s → with_digits 0 16 s ≤ 2 ^ 128 - 1
 unfolding with_digits
 text_fits s bytes = let below : with_digits 0 16 s < 2 ^ 128 = digits-less 16 0 1 s [] (omega arith) bytes in omega (arith, below)
 
--- keys stand to each other as their fronts do, where these tell them apart
-fronts-tell : (k l : List Datum) → IsOfBytes k → IsOfBytes l → ordering_then (nat_cmp (front_of k) (front_of l)) (key_order k l) ≡ key_order k l
-fronts-tell [] [] a b = refl
-fronts-tell [] (boolean c ∷ l) a b = refl
-fronts-tell [] (whole n ∷ l) a b = refl
-fronts-tell [] (text t ∷ l) a b = told_less _ (at_most 0 (with_digits 0 16 t) (omega arith))
-fronts-tell [] (null ∷ l) a b = refl
-fronts-tell (boolean b ∷ k) [] c d = refl
-fronts-tell (boolean b ∷ k) (boolean c ∷ l) d e = refl
-fronts-tell (boolean b ∷ k) (whole n ∷ l) d e = refl
-fronts-tell (boolean b ∷ k) (text t ∷ l) d e = told_less _ (at_most 0 (with_digits 0 16 t) (omega arith))
-fronts-tell (boolean b ∷ k) (null ∷ l) d e = refl
-fronts-tell (whole m ∷ k) [] d e = refl
-fronts-tell (whole m ∷ k) (boolean c ∷ l) d e = refl
-fronts-tell (whole m ∷ k) (whole n ∷ l) d e = refl
-fronts-tell (whole m ∷ k) (text t ∷ l) d e = told_less _ (at_most 0 (with_digits 0 16 t) (omega arith))
-fronts-tell (whole m ∷ k) (null ∷ l) d e = refl
-fronts-tell (text s ∷ k) [] d e = told_greater _ (at_least 0 (with_digits 0 16 s) (omega arith))
-fronts-tell (text s ∷ k) (boolean c ∷ l) d e = told_greater _ (at_least 0 (with_digits 0 16 s) (omega arith))
-fronts-tell (text s ∷ k) (whole n ∷ l) d e = told_greater _ (at_least 0 (with_digits 0 16 s) (omega arith))
-fronts-tell (text s ∷ k) (text t ∷ l) d e = told_first (nat_cmp (with_digits 0 16 s) (with_digits 0 16 t)) (slice_cmp nat_cmp s t) (key_order k l) (digits-tell 16 0 s t d e)
-fronts-tell (text s ∷ k) (null ∷ l) d e = told_less _ (at_most _ _ (text_fits s d))
-fronts-tell (null ∷ k) [] d e = refl
-fronts-tell (null ∷ k) (boolean c ∷ l) d e = refl
-fronts-tell (null ∷ k) (whole n ∷ l) d e = refl
-fronts-tell (null ∷ k) (text t ∷ l) d e = told_greater _ (at_least _ _ (text_fits t e))
-fronts-tell (null ∷ k) (null ∷ l) d e = refl
+-- keys stand to each other as their prefixes do, where these tell them apart
+prefixes-tell : (k l : List Datum) → IsOfBytes k → IsOfBytes l → ordering_then (nat_cmp (key_prefix k) (key_prefix l)) (key_order k l) ≡ key_order k l
+prefixes-tell [] [] a b = refl
+prefixes-tell [] (boolean c ∷ l) a b = refl
+prefixes-tell [] (whole n ∷ l) a b = refl
+prefixes-tell [] (text t ∷ l) a b = told_less _ (at_most 0 (with_digits 0 16 t) (omega arith))
+prefixes-tell [] (null ∷ l) a b = refl
+prefixes-tell (boolean b ∷ k) [] c d = refl
+prefixes-tell (boolean b ∷ k) (boolean c ∷ l) d e = refl
+prefixes-tell (boolean b ∷ k) (whole n ∷ l) d e = refl
+prefixes-tell (boolean b ∷ k) (text t ∷ l) d e = told_less _ (at_most 0 (with_digits 0 16 t) (omega arith))
+prefixes-tell (boolean b ∷ k) (null ∷ l) d e = refl
+prefixes-tell (whole m ∷ k) [] d e = refl
+prefixes-tell (whole m ∷ k) (boolean c ∷ l) d e = refl
+prefixes-tell (whole m ∷ k) (whole n ∷ l) d e = refl
+prefixes-tell (whole m ∷ k) (text t ∷ l) d e = told_less _ (at_most 0 (with_digits 0 16 t) (omega arith))
+prefixes-tell (whole m ∷ k) (null ∷ l) d e = refl
+prefixes-tell (text s ∷ k) [] d e = told_greater _ (at_least 0 (with_digits 0 16 s) (omega arith))
+prefixes-tell (text s ∷ k) (boolean c ∷ l) d e = told_greater _ (at_least 0 (with_digits 0 16 s) (omega arith))
+prefixes-tell (text s ∷ k) (whole n ∷ l) d e = told_greater _ (at_least 0 (with_digits 0 16 s) (omega arith))
+prefixes-tell (text s ∷ k) (text t ∷ l) d e = told_first (nat_cmp (with_digits 0 16 s) (with_digits 0 16 t)) (slice_cmp nat_cmp s t) (key_order k l) (digits-tell 16 0 s t d e)
+prefixes-tell (text s ∷ k) (null ∷ l) d e = told_less _ (at_most _ _ (text_fits s d))
+prefixes-tell (null ∷ k) [] d e = refl
+prefixes-tell (null ∷ k) (boolean c ∷ l) d e = refl
+prefixes-tell (null ∷ k) (whole n ∷ l) d e = refl
+prefixes-tell (null ∷ k) (text t ∷ l) d e = told_greater _ (at_least _ _ (text_fits t e))
+prefixes-tell (null ∷ k) (null ∷ l) d e = refl
 
 -- a text has other digits than one that has ended where it has a byte above 0
 not_above : (n m c : ℕ) (t : List ℕ) → with_digits (256 * m) n [] ≡ with_digits (256 * m + suc c) n t → ⊥
@@ -253,7 +253,7 @@ digits_behind-tell (suc n) m (b ∷ s) (c ∷ t) left right same =
     both_against n m b c s t (rest_bytes b s left) (rest_bytes c t right) same (cases_order b c) (digits_behind-tell n (256 * m + b) s t (rest_bytes b s left) (rest_bytes c t right))
 
 -- keys of one front stand to each other as what is behind their fronts does, where this tells them apart
-behind-tells : (k l : List Datum) → IsOfBytes k → IsOfBytes l → front_of k ≡ front_of l → ordering_then (nat_cmp (behind_of k) (behind_of l)) (key_order k l) ≡ key_order k l
+behind-tells : (k l : List Datum) → IsOfBytes k → IsOfBytes l → key_prefix k ≡ key_prefix l → ordering_then (nat_cmp (second_key_prefix k) (second_key_prefix l)) (key_order k l) ≡ key_order k l
 behind-tells [] [] a b same = refl
 behind-tells [] (boolean c ∷ l) a b same = refl
 behind-tells [] (whole n ∷ l) a b same = refl
@@ -290,9 +290,9 @@ told_second Equal p q first second = second refl
 told_second Greater p q first second = first
 
 -- keys stand to each other as both of their numbers do, where these tell them apart
-pub numbers-tell : (k l : List Datum) → IsOfBytes k → IsOfBytes l → ordering_then (nat_cmp (front_of k) (front_of l)) (ordering_then (nat_cmp (behind_of k) (behind_of l)) (key_order k l)) ≡ key_order k l
+pub numbers-tell : (k l : List Datum) → IsOfBytes k → IsOfBytes l → ordering_then (nat_cmp (key_prefix k) (key_prefix l)) (ordering_then (nat_cmp (second_key_prefix k) (second_key_prefix l)) (key_order k l)) ≡ key_order k l
 numbers-tell k l left right =
-    told_second (nat_cmp (front_of k) (front_of l)) (nat_cmp (behind_of k) (behind_of l)) (key_order k l) (fronts-tell k l left right) (λ same. behind-tells k l left right (same-is _ _ same))
+    told_second (nat_cmp (key_prefix k) (key_prefix l)) (nat_cmp (second_key_prefix k) (second_key_prefix l)) (key_order k l) (prefixes-tell k l left right) (λ same. behind-tells k l left right (same-is _ _ same))
 
 -- so they do as the texts that they begin with
 pub texts-tell : (k l : List Datum) → ordering_then (text_order (first_text k) (first_text l)) (key_order k l) ≡ key_order k l

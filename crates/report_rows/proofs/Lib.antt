@@ -11,7 +11,6 @@ pub mod Filtering
 pub mod RowValues
 pub mod Keeping
 mod Arranged
-mod RowSets
 pub mod Sources
 pub mod InParts
 mod Sharing

@@ -26,11 +26,11 @@ use Rattle.tables_groups.specs.Found.{row_of}
 use Rattle.semantics.specs.Rows.{rows_having_true}
 use Rattle.semantics.specs.Order.{grouping_values, key_value, under_key, under_keys, before, in_order, rows_in_order}
 use Rattle.report_rows.specs.Order.{NoneBefore, Ascends}
-use Rattle.report_rows.specs.Inside.Ranked.{Ranked, by_key, by_rank, key_values, ranked, under_values}
+use Rattle.report_rows.specs.Inside.SortEntries.{EntryForm, by_key, by_values, key_values, entry_of, under_values}
 use Rattle.tables_groups.specs.Fitting.{AreFitting}
 use Rattle.report_rows.specs.Laws.{IsTheOrder, IsBlind}
 use Rattle.report_rows.proofs.Filtering.{bag-having_true, fit-having_true}
-use Rattle.report_rows.proofs.Totals.{before-total, by_rank-total}
+use Rattle.report_rows.proofs.Totals.{before-total, by_values-total}
 use Rattle.report_rows.proofs.Sorting.{Apart, apart-in_order, ascends-in_order, ascends-sorted, bag-permutation, one-list, weigh-in_order}
 use Rattle.report_rows.proofs.Sameness.{both-tied, found-tells, same_found}
 use Rattle.query_plan.specs.Planned.{PlannedQuery}
@@ -82,25 +82,25 @@ same-values fields t x y (k ∷ ks) =
     (same-values fields t x y ks ∙ sym (later 0 ks (key_value fields t x k) (key_value fields t y k) (map (key_value fields t x) ks) (map (key_value fields t y) ks)))
 
 -- the values beside the row are those of the keys, and the row fits
-abbrev IsRight : List Field → TreeForm → Ranked → Type 0
+abbrev IsRight : List Field → TreeForm → EntryForm → Type 0
 IsRight fields t r = (r.0 ≡ key_values fields t r.1) × IsFit fields t r.1
 
 -- rows that fit stand as the values beside them have them
-same-rank : (fields : List Field) (t : TreeForm) (r s : Ranked) → IsRight fields t r → IsRight fields t s → before fields t r.1 s.1 ≡ by_rank t.keys r s
+same-rank : (fields : List Field) (t : TreeForm) (r s : EntryForm) → IsRight fields t r → IsRight fields t s → before fields t r.1 s.1 ≡ by_values t.keys r s
 same-rank fields t r s p q =
     ap (λ (o : Ordering). ordering_then o (by_columns fields t r.1 s.1)) (same-values fields t r.1 s.1 t.keys ∙ (λ i. under_values 0 t.keys (sym p.0 i) (sym q.0 i)))
     ∙ ap (ordering_then (under_values 0 t.keys r.0 s.0)) (same-order fields t r.1 s.1 p.1 q.1)
 
 -- ---- lists of rows
 
-abbrev row_beside : Ranked → Found
+abbrev row_beside : EntryForm → Found
 row_beside r = r.1
 
-none-same : (fields : List Field) (t : TreeForm) (r : Ranked) (rs : List Ranked) → IsRight fields t r → AllByRecursion (IsRight fields t) rs → NoneBefore (by_rank t.keys) r rs → NoneBefore (before fields t) r.1 (map row_beside rs)
+none-same : (fields : List Field) (t : TreeForm) (r : EntryForm) (rs : List EntryForm) → IsRight fields t r → AllByRecursion (IsRight fields t) rs → NoneBefore (by_values t.keys) r rs → NoneBefore (before fields t) r.1 (map row_beside rs)
 none-same fields t r [] p all n = tt
 none-same fields t r (s ∷ rs) p all n = (ap is_gt (same-rank fields t r s p all.0) ∙ n.0, none-same fields t r rs p all.1 n.1)
 
-ascends-same : (fields : List Field) (t : TreeForm) (rs : List Ranked) → AllByRecursion (IsRight fields t) rs → Ascends (by_rank t.keys) rs → Ascends (before fields t) (map row_beside rs)
+ascends-same : (fields : List Field) (t : TreeForm) (rs : List EntryForm) → AllByRecursion (IsRight fields t) rs → Ascends (by_values t.keys) rs → Ascends (before fields t) (map row_beside rs)
 ascends-same fields t [] all a = tt
 ascends-same fields t (r ∷ rs) all a = (none-same fields t r rs all.0 all.1 a.0, ascends-same fields t rs all.1 a.1)
 
@@ -160,31 +160,31 @@ is-blind fields t found fit others bag =
 abbrev pub row_at : Bor (ℕ × Group) → Found
 row_at r = row_of r.now
 
-each-right : (fields : List Field) (t : TreeForm) (found : List Found) → AllByRecursion (IsFit fields t) found → AllByRecursion (IsRight fields t) (map (ranked fields t) found)
+each-right : (fields : List Field) (t : TreeForm) (found : List Found) → AllByRecursion (IsFit fields t) found → AllByRecursion (IsRight fields t) (map (entry_of fields t) found)
 each-right fields t [] all = tt
 each-right fields t (x ∷ found) all = ((refl, all.0), each-right fields t found all.1)
 
-rows-beside : (fields : List Field) (t : TreeForm) (found : List Found) → map row_beside (map (ranked fields t) found) ≡ found
+rows-beside : (fields : List Field) (t : TreeForm) (found : List Found) → map row_beside (map (entry_of fields t) found) ≡ found
 rows-beside fields t [] = refl
 rows-beside fields t (x ∷ found) = ap (λ (xs : List Found). x ∷ xs) (rows-beside fields t found)
 
--- what is a permutation of rows beside the values of the keys
-pub ranks-moved : {Y : Type 0} (rank : Y → Ranked) (fields : List Field) (t : TreeForm) (found : List Found) (gathered sorted : List Y) → map rank gathered ≡ map (ranked fields t) found → IsPermutation gathered sorted
-    → IsPermutation (map (ranked fields t) found) (map rank sorted)
-ranks-moved rank fields t found gathered sorted are moved = subst (λ (rs : List Ranked). IsPermutation rs (map rank sorted)) are (IsPermutation-map rank gathered sorted moved)
+-- what is a permutation of rows beside values
+pub ranks-moved : {Y : Type 0} (rank : Y → EntryForm) (beside : Found → EntryForm) (found : List Found) (gathered sorted : List Y) → map rank gathered ≡ map beside found → IsPermutation gathered sorted
+    → IsPermutation (map beside found) (map rank sorted)
+ranks-moved rank beside found gathered sorted are moved = subst (λ (rs : List EntryForm). IsPermutation rs (map rank sorted)) are (IsPermutation-map rank gathered sorted moved)
 
 -- what is sorted by values that are those of the keys, by index and by key has the rows in their order
-pub sorted-ranks : {Y : Type 0} (rank : Y → Ranked) (fields : List Field) (t : TreeForm) (found : List Found) (sorted : List Y) → IsPermutation (map (ranked fields t) found) (map rank sorted)
-    → IsSortedBy (λ a b. is_lt (by_rank t.keys (rank a) (rank b))) sorted → AreFitting fields t found → map (λ y. (rank y).1) sorted ≡ in_order (before fields t) found
+pub sorted-ranks : {Y : Type 0} (rank : Y → EntryForm) (fields : List Field) (t : TreeForm) (found : List Found) (sorted : List Y) → IsPermutation (map (entry_of fields t) found) (map rank sorted)
+    → IsSortedBy (λ a b. is_lt (by_values t.keys (rank a) (rank b))) sorted → AreFitting fields t found → map (λ y. (rank y).1) sorted ≡ in_order (before fields t) found
 sorted-ranks {Y} rank fields t found sorted there up fit =
-    let fits : AllByRecursion (IsRight fields t) (map (ranked fields t) found) = each-right fields t found (recursion_from_All (IsFit fields t) found (all-fit fields t found fit)) in
+    let fits : AllByRecursion (IsRight fields t) (map (entry_of fields t) found) = each-right fields t found (recursion_from_All (IsFit fields t) found (all-fit fields t found fit)) in
     let right : AllByRecursion (IsRight fields t) (map rank sorted) =
-    recursion_from_All (IsRight fields t) (map rank sorted) (All-permutation (IsRight fields t) (map (ranked fields t) found) (map rank sorted) there (All-from_recursion (IsRight fields t) (map (ranked fields t) found) fits)) in
+    recursion_from_All (IsRight fields t) (map rank sorted) (All-permutation (IsRight fields t) (map (entry_of fields t) found) (map rank sorted) there (All-from_recursion (IsRight fields t) (map (entry_of fields t) found) fits)) in
     let rows : IsPermutation found (map row_beside (map rank sorted)) =
-    subst (λ (xs : List Found). IsPermutation xs (map row_beside (map rank sorted))) (rows-beside fields t found) (IsPermutation-map row_beside (map (ranked fields t) found) (map rank sorted) there) in
+    subst (λ (xs : List Found). IsPermutation xs (map row_beside (map rank sorted))) (rows-beside fields t found) (IsPermutation-map row_beside (map (entry_of fields t) found) (map rank sorted) there) in
     sym (map-twice row_beside rank sorted)
     ∙ only-order fields t found (map row_beside (map rank sorted)) fit (bag-permutation found (map row_beside (map rank sorted)) rows)
-    (ascends-same fields t (map rank sorted) right (ascends-sorted (by_rank-total t.keys) rank sorted up))
+    (ascends-same fields t (map rank sorted) right (ascends-sorted (by_values-total t.keys) rank sorted up))
 
 -- rows that fit have indexes of sets
 pub sets-fitting : (plan : PlannedQuery) (groups : List (Bor (ℕ × Group))) → AreFitting plan.fields plan.query (map row_at groups) → All (λ r. HasSetUnder plan (row_at r)) groups

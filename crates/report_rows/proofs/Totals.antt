@@ -12,7 +12,7 @@ use Rattle.semantics.specs.Syntax.{KeyForm, TreeForm}
 use Rattle.tables_groups.proofs.Order.{value_total, key_total}
 use Rattle.semantics.specs.Found.{Found}
 use Rattle.semantics.specs.Order.{before, grouping_values, key_value, null_order, under_key, under_keys}
-use Rattle.report_rows.specs.Inside.Ranked.{Ranked, by_key, by_rank, under_values}
+use Rattle.report_rows.specs.Inside.SortEntries.{EntryForm, by_key, by_values, under_values}
 
 -- ---- values under a key
 
@@ -81,5 +81,5 @@ under_values-total place (k ∷ ks) = then_total (on_total (λ (ds : List Datum)
 pub by_key-total : IsTotalOrder by_key
 by_key-total = then_total (on_total (λ (x : Found). x.0) nat_cmp_total) (on_total (λ (x : Found). x.1.key) key_total)
 
-pub by_rank-total : (ks : List KeyForm) → IsTotalOrder (by_rank ks)
-by_rank-total ks = then_total (on_total (λ (r : Ranked). r.0) (under_values-total 0 ks)) (on_total (λ (r : Ranked). r.1) by_key-total)
+pub by_values-total : (ks : List KeyForm) → IsTotalOrder (by_values ks)
+by_values-total ks = then_total (on_total (λ (r : EntryForm). r.0) (under_values-total 0 ks)) (on_total (λ (r : EntryForm). r.1) by_key-total)

@@ -1,3 +1,3 @@
 -- What private calls compute and keep. No promise rests on it.
-pub mod Fronts
-pub mod Ranked
+pub mod KeyPrefixes
+pub mod SortEntries

@@ -1,16 +1,21 @@
 -- Where the rows of a grouping set have what they show.
 use Rattle.std.specs.Prelude.{◌≡◌, ℕ, ⊤, List, [], ◌∷◌, map, slice_get, slice_index_or, unwrap_or}
+use Rattle.std.specs.Borrow.{Bor}
 use Rattle.std.specs.Global.{Vec}
 use Rattle.values.specs.Datum.{datum_of}
-use Rattle.semantics.specs.Values.{null}
+use Rattle.semantics.specs.Values.{Datum, null}
 use Rattle.semantics.specs.Syntax.{ExpressionForm}
+use Rattle.semantics.specs.Sets.{sets_of}
+use Rattle.semantics.specs.Types.{key_expression}
+use Rattle.query_ast.specs.declared.expression.Expression.{Expression}
+use Rattle.query_ast.specs.Syntax.{expression_form}
 use Rattle.query_plan.specs.Planned.{PlannedQuery}
 use Rattle.semantics.specs.Aggregates.{Summary, plain}
 use Rattle.semantics.specs.Groups.{Key}
 use Rattle.semantics.specs.Found.{Found}
 use Rattle.report_rows.specs.declared.source.Source.{Source}
 use Rattle.report_rows.specs.declared.source.Source.TheVariants.{KeyAt, CellAt, Always}
-use Rattle.semantics.specs.Rows.{expression_shown}
+use Rattle.semantics.specs.Rows.{cell_value, expression_shown}
 
 -- what a row with this key and these cells has there, and NULL where it has nothing
 abbrev pub shown_at : Key → List Summary → Source → Summary
@@ -26,12 +31,16 @@ IsSourceOf plan set e source = (key : Key) (cells : List Summary) → shown_at k
 abbrev pub AreSourcesOf : PlannedQuery → List ℕ → List Source → Type 0
 AreSourcesOf plan set sources = (key : Key) (cells : List Summary) → map (shown_at key cells) sources ≡ map (λ item. expression_shown plan.fields plan.query set key cells item.expression) plan.query.items
 
--- so do the rows of each grouping set, in the order of the sets
+-- for each grouping set, in the order of the sets, there is a list of places, of which this holds
+abbrev pub ForEachSet : (List ℕ → List Source → Type 0) → List (List ℕ) → List (Vec Source) → Type 0
+ForEachSet Are [] [] = ⊤
+ForEachSet Are [] (sources ∷ others) = ⊥
+ForEachSet Are (set ∷ sets) [] = ⊥
+ForEachSet Are (set ∷ sets) (sources ∷ others) = Are set sources.items × ForEachSet Are sets others
+
+-- the rows of each grouping set have there what they show for the items of SELECT
 abbrev pub AreSourcesOfEach : PlannedQuery → List (List ℕ) → List (Vec Source) → Type 0
-AreSourcesOfEach plan [] [] = ⊤
-AreSourcesOfEach plan [] (sources ∷ others) = ⊥
-AreSourcesOfEach plan (set ∷ sets) [] = ⊥
-AreSourcesOfEach plan (set ∷ sets) (sources ∷ others) = AreSourcesOf plan set sources.items × AreSourcesOfEach plan sets others
+AreSourcesOfEach plan sets all = ForEachSet (AreSourcesOf plan) sets all
 
 -- those of the grouping set at an index
 abbrev pub sources_at : List (Vec Source) → ℕ → List Source
@@ -40,3 +49,25 @@ sources_at all index = slice_index_or (map (λ sources. sources.items) all) inde
 -- what the row of a group has where its grouping set has what it shows
 abbrev pub cells_at : List (Vec Source) → Found → List Summary
 cells_at all row = map (shown_at row.1.key row.1.cells) (sources_at all row.0)
+
+-- ---- places for a list of expressions
+
+-- the forms of expressions of the code
+abbrev pub expression_forms : List (Bor Expression) → List ExpressionForm
+expression_forms expressions = map (λ e. expression_form e.now) expressions
+
+-- each row of the grouping set has there what it shows for these expressions
+abbrev pub AreSourcesFor : PlannedQuery → List ExpressionForm → List ℕ → List Source → Type 0
+AreSourcesFor plan es set sources = (key : Key) (cells : List Summary) → map (shown_at key cells) sources ≡ map (expression_shown plan.fields plan.query set key cells) es
+
+-- the expressions of the keys of ORDER BY, where an alias of SELECT stands for its item
+abbrev pub key_expressions : PlannedQuery → List ExpressionForm
+key_expressions plan = map (λ k. key_expression plan.query.items k.expression) plan.query.keys
+
+-- the rows of each grouping set of the plan have there what they show for the keys of ORDER BY
+abbrev pub AreKeySources : PlannedQuery → List (Vec Source) → Type 0
+AreKeySources plan all = ForEachSet (AreSourcesFor plan (key_expressions plan)) (sets_of plan.fields plan.query) all
+
+-- the values of what the row of a group has where its grouping set has what it shows; an average is no single value, and is NULL
+abbrev pub values_at : List (Vec Source) → Found → List Datum
+values_at all row = map cell_value (cells_at all row)

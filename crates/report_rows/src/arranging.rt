@@ -5,13 +5,14 @@ ghost use Rattle.tables_groups.specs.Fitting.{AreFitting};
 ghost use Rattle.report_rows.specs.Planned.{HasSetUnder};
 ghost use Rattle.semantics.specs.Order.{rows_in_order, rows_shown};
 ghost use Rattle.report_rows.specs.Shown.{cells_of};
-ghost use Rattle.semantics.specs.Rows.{row_shown};
+ghost use Rattle.report_rows.specs.Sources.{cells_at};
 
-use crate::cells::expression_cell;
+use crate::cells::cell_from;
 use crate::having::rows_having_true;
 use crate::ordering::{in_order, in_order_among};
 use crate::parts::part_len;
 use crate::row::ReportRow;
+use crate::source::{Source, sources_at, sources_by_set};
 use crate::view::PlanView;
 use std::alloc::{AllocError, Global};
 use std::marker::Sync;
@@ -44,9 +45,10 @@ pub fn arranged_rows(
         All (λ row. length row.cells.items ≡ length plan.now.query.items) rows.items) }
 {
     let shown = shown_groups(alloc, groups, plan)?;
+    let sources = sources_by_set(alloc, plan)?;
     let mut rows = Vec::with_capacity(alloc, shown.len())?;
     for group in shown {
-        rows.push(row_for(alloc, plan, group)?)?;
+        rows.push(row_for(alloc, &sources, group)?)?;
     }
     Ok(rows)
 }
@@ -100,22 +102,21 @@ pub fn shown_among<'a, H: Threads + Sync>(
     in_order_among(rt, alloc, plan, unordered, size)
 }
 
-/// The row of a group, which stands beside the index of its grouping set.
+/// The row of a group, which stands beside the index of its grouping set, from where the rows of each set have what they
+/// show.
 fn row_for(
     alloc: Global,
-    plan: &PlanView<'_>,
+    sources: &[Vec<Source>],
     found: &(usize, Group),
 ) -> Result<ReportRow, AllocError>
-    requires { HasSetUnder plan.now (row_of found.now) }
-    ensures { IfOk result (λ row.
-        cells_of row ≡ row_shown plan.now.fields plan.now.query (row_of found.now)) }
+    requires { (row_of found.now).0 < length sources.now }
+    ensures { IfOk result (λ row. cells_of row ≡ cells_at sources.now (row_of found.now)) }
 {
     let (index, group) = found;
-    let set = &plan.sets()[*index];
-    let items = plan.query().tree().items.as_slice();
-    let mut cells = Vec::with_capacity(alloc, items.len())?;
-    for item in items {
-        cells.push(expression_cell(plan, set, group, &item.expression)?)?;
+    let set_sources = sources_at(sources, *index);
+    let mut cells = Vec::with_capacity(alloc, set_sources.len())?;
+    for source in set_sources {
+        cells.push(cell_from(source, group)?)?;
     }
     Ok(ReportRow { cells })
 }

@@ -21,33 +21,31 @@ use values::{Column, Value};
 /// The most columns that GROUPING takes.
 const MAX_COLUMNS: usize = 8;
 
-/// What a group of a grouping set shows for an expression.
-pub(crate) fn expression_cell(
-    plan: &PlanView<'_>,
-    set: &[usize],
-    group: &Group,
-    expression: &Expression,
-) -> Result<Cell, AllocError>
-    ensures { IfOk result (λ cell.
-        summary_of cell ≡ shown_under plan.now set.now group.now (expression_form expression.now)) }
-{
-    cell_from(source_of(plan, set, expression), group)
-}
-
 /// What a group has where the rows of its grouping set have what they show.
-fn cell_from(source: Source, group: &Group) -> Result<Cell, AllocError>
-    ensures { IfOk result (λ cell. summary_of cell
-        ≡ shown_at (data_of group.now.key.items) (map summary_of group.now.cells.items) source) }
+pub(crate) fn cell_from(source: &Source, group: &Group) -> Result<Cell, AllocError>
+    ensures { IfOk result (λ cell. summary_of cell ≡ shown_at
+        (data_of group.now.key.items) (map summary_of group.now.cells.items) source.now) }
 {
     match source {
-        Source::KeyAt(place) => Ok(Cell::Plain(value_at(group.key.as_slice(), place)?)),
-        Source::CellAt(place) => cell_at(group.cells.as_slice(), place),
-        Source::Always(value) => Ok(Cell::Plain(value)),
+        Source::KeyAt(place) => Ok(Cell::Plain(value_at(group.key.as_slice(), *place)?)),
+        Source::CellAt(place) => cell_at(group.cells.as_slice(), *place),
+        Source::Always(value) => Ok(Cell::Plain(value.clone()?)),
     }
 }
 
-/// The value that a group of a grouping set shows for an expression. An average is no single value, and none may stand
-/// where the value is asked for.
+/// The value of what a group has where the rows of its grouping set have what they show. An average is no single value,
+/// and none may stand where the value is asked for.
+pub(crate) fn value_from(source: &Source, group: &Group) -> Result<Value, AllocError>
+    ensures { IfOk result (λ value. datum_of value ≡ cell_value (shown_at
+        (data_of group.now.key.items) (map summary_of group.now.cells.items) source.now)) }
+{
+    match cell_from(source, group)? {
+        Cell::Plain(value) => Ok(value),
+        Cell::Ratio(..) => Ok(Value::Null),
+    }
+}
+
+/// The value that a group of a grouping set shows for an expression. An average is no single value.
 pub(crate) fn expression_value(
     plan: &PlanView<'_>,
     set: &[usize],
@@ -57,10 +55,7 @@ pub(crate) fn expression_value(
     ensures { IfOk result (λ value. datum_of value
         ≡ cell_value (shown_under plan.now set.now group.now (expression_form expression.now))) }
 {
-    match expression_cell(plan, set, group, expression)? {
-        Cell::Plain(value) => Ok(value),
-        Cell::Ratio(..) => Ok(Value::Null),
-    }
+    value_from(&source_of(plan, set, expression), group)
 }
 
 // ---- columns

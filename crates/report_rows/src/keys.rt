@@ -1,18 +1,15 @@
 //! The keys of ORDER BY: their values for a row, and how such values stand to each other.
-ghost use Rattle.std.specs.Prelude.{◌≡◌, IfOk, map};
+ghost use Rattle.std.specs.Prelude.{◌≡◌, ◌<◌, IfOk, length, map};
 ghost use Rattle.values.specs.Datum.{data_of, datum_of};
 ghost use Rattle.query_ast.specs.Syntax.{key_form};
-ghost use Rattle.semantics.specs.Types.{key_expression};
 ghost use Rattle.tables_groups.specs.Found.{row_of};
-ghost use Rattle.semantics.specs.Rows.{cell_value};
 ghost use Rattle.semantics.specs.Order.{null_order, under_key};
-ghost use Rattle.report_rows.specs.Planned.{HasSetUnder, shown_under};
-ghost use Rattle.report_rows.specs.Inside.Ranked.{key_values, under_values};
+ghost use Rattle.report_rows.specs.Sources.{values_at};
+ghost use Rattle.report_rows.specs.Inside.SortEntries.{under_values};
 
-use crate::cells::expression_value;
-use crate::view::PlanView;
+use crate::cells::value_from;
+use crate::source::{Source, sources_at};
 use query_plan::Key;
-use query_typecheck::key_expression;
 use std::alloc::{AllocError, Global};
 use std::cmp::Ordering;
 use tables_groups::Group;
@@ -20,39 +17,24 @@ use values::Value;
 
 // ---- the values of keys
 
-/// The values of the keys for a group, which stands beside the index of its grouping set.
+/// The values of the keys for a group, which stands beside the index of its grouping set, from where the rows of each set
+/// have them.
 pub(crate) fn key_values(
     alloc: Global,
-    plan: &PlanView<'_>,
+    sources: &[Vec<Source>],
     found: &(usize, Group),
 ) -> Result<Vec<Value>, AllocError>
-    requires { HasSetUnder plan.now (row_of found.now) }
+    requires { (row_of found.now).0 < length sources.now }
     ensures { IfOk result (λ values.
-        data_of values.items ≡ key_values plan.now.fields plan.now.query (row_of found.now)) }
+        data_of values.items ≡ values_at sources.now (row_of found.now)) }
 {
     let (index, group) = found;
-    let set = &plan.sets()[*index];
-    let keys = plan.query().tree().keys.as_slice();
-    let mut values = Vec::with_capacity(alloc, keys.len())?;
-    for key in keys {
-        values.push(key_value(plan, set, group, key)?)?;
+    let set_sources = sources_at(sources, *index);
+    let mut values = Vec::with_capacity(alloc, set_sources.len())?;
+    for source in set_sources {
+        values.push(value_from(source, group)?)?;
     }
     Ok(values)
-}
-
-/// The value of a key for a group of a grouping set.
-fn key_value(
-    plan: &PlanView<'_>,
-    set: &[usize],
-    group: &Group,
-    key: &Key,
-) -> Result<Value, AllocError>
-    ensures { IfOk result (λ value. datum_of value ≡ cell_value (shown_under plan.now set.now
-        group.now (key_expression plan.now.query.items (key_form key.now).expression))) }
-{
-    let items = plan.query().tree().items.as_slice();
-    let expression = key_expression(items, &key.expression);
-    expression_value(plan, set, group, expression)
 }
 
 // ---- values under keys

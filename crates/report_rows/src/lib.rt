@@ -11,8 +11,8 @@ mod keys;
 mod laws;
 mod ordering;
 mod parts;
-mod ranked;
 mod row;
+mod sort_entry;
 mod source;
 mod view;
 

@@ -1,5 +1,5 @@
 //! The order of rows.
-ghost use Rattle.std.specs.Prelude.{◌≡◌, ◌<◌, ◌++◌, All, IfOk, OnOk, map};
+ghost use Rattle.std.specs.Prelude.{◌≡◌, ◌<◌, ◌++◌, All, IfOk, OnOk, length, map};
 ghost use Rattle.std.specs.List.{flat_map};
 ghost use Rattle.std.specs.List.Sorted.{IsPermutation, IsSortedBy};
 ghost use Rattle.std.specs.Ordering.{is_lt};
@@ -8,11 +8,11 @@ ghost use Rattle.tables_groups.specs.Found.{row_of};
 ghost use Rattle.tables_groups.specs.Fitting.{AreFitting};
 ghost use Rattle.semantics.specs.Order.{before, in_order};
 ghost use Rattle.report_rows.specs.Parts.{AreMade, items_of};
-ghost use Rattle.report_rows.specs.Inside.Ranked.{AreRanked, AreRankedParts, by_key, by_rank, ranked, ranked_in};
-ghost use Rattle.report_rows.specs.Planned.{HasSetUnder};
+ghost use Rattle.report_rows.specs.Inside.SortEntries.{AreEntriesOf, AreEntriesOfParts, by_key, by_values, entry_at, entry_form};
 
 use crate::keys::{key_values, under_values};
-use crate::ranked::{RankedRow, behind_of, compare_keys, first_text, front_of};
+use crate::sort_entry::{SortEntry, compare_keys, first_text, key_prefix, second_key_prefix};
+use crate::source::{Source, key_sources};
 use crate::view::PlanView;
 use query_plan::Key;
 use std::alloc::{AllocError, Global};
@@ -23,7 +23,7 @@ use std::thread::Threads;
 use tables_groups::Group;
 
 /// How two groups stand to each other: by the index of their grouping set, and in one set by their keys.
-fn compare(a: &RankedRow, b: &RankedRow) -> Ordering
+fn compare(a: &SortEntry, b: &SortEntry) -> Ordering
     ensures { result ≡ by_key (row_of a.now.found.now) (row_of b.now.found.now) }
 {
     match a.set.cmp(&b.set) {
@@ -33,8 +33,8 @@ fn compare(a: &RankedRow, b: &RankedRow) -> Ordering
 }
 
 /// How two groups stand to each other by the values of these keys for them, and else by their sets and keys.
-fn compare_ranked(keys: &[Key], a: &RankedRow, b: &RankedRow) -> Ordering
-    ensures { result ≡ by_rank (map key_form keys.now) (ranked_in a.now) (ranked_in b.now) }
+fn compare_entries(keys: &[Key], a: &SortEntry, b: &SortEntry) -> Ordering
+    ensures { result ≡ by_values (map key_form keys.now) (entry_form a.now) (entry_form b.now) }
 {
     match under_values(keys, a.values.as_slice(), b.values.as_slice()) {
         Ordering::Equal => compare(a, b),
@@ -53,8 +53,9 @@ pub(crate) fn in_order<'a>(
         ≡ in_order (before plan.now.fields plan.now.query)
         (map (λ r. row_of r.now) rows.entry.items)) }
 {
-    let ranked = rank(alloc, plan, rows.as_slice())?;
-    let ordered = sorted(plan, ranked);
+    let sources = key_sources(alloc, plan)?;
+    let entries = make_entries(alloc, &sources, rows.as_slice())?;
+    let ordered = sort_entries(plan, entries);
     groups_in(alloc, ordered)
 }
 
@@ -76,9 +77,10 @@ pub(crate) fn in_order_among<'a, H: Threads + Sync>(
     if rows.len() <= size {
         return in_order(alloc, plan, rows);
     }
-    let parts = parts_in_order(rt, alloc, plan, rows.as_slice(), size)?;
-    let ranked = rows_of_parts(alloc, parts.as_slice(), rows.len())?;
-    let ordered = merged(plan, ranked)?;
+    let sources = key_sources(alloc, plan)?;
+    let parts = parts_in_order(rt, alloc, plan, &sources, rows.as_slice(), size)?;
+    let entries = rows_of_parts(alloc, parts.as_slice(), rows.len())?;
+    let ordered = merge_entries(plan, entries)?;
     groups_at(alloc, ordered)
 }
 
@@ -87,12 +89,13 @@ fn parts_in_order<'a, H: Threads + Sync>(
     rt: &H,
     alloc: Global,
     plan: &PlanView<'_>,
+    sources: &[Vec<Source>],
     rows: &[&'a (usize, Group)],
     size: usize,
-) -> Result<Vec<Result<Vec<RankedRow<'a>>, AllocError>>, AllocError>
+) -> Result<Vec<Result<Vec<SortEntry<'a>>, AllocError>>, AllocError>
     requires size { 0 < size }
-    requires sets { All (λ r. HasSetUnder plan.now (row_of r.now)) rows.now }
-    ensures { IfOk result (λ parts. AreRankedParts (ranked plan.now.fields plan.now.query) size
+    requires within { All (λ r. (row_of r.now).0 < length sources.now) rows.now }
+    ensures { IfOk result (λ parts. AreEntriesOfParts (entry_at sources.now) size
         (map (λ r. row_of r.now) rows.now) parts.items) }
 {
     let parts = thread::map_chunks(
@@ -100,12 +103,11 @@ fn parts_in_order<'a, H: Threads + Sync>(
         alloc,
         rows,
         size,
-        &|_, part: &[&(usize, Group)]| -> Result<Vec<RankedRow<'_>>, AllocError>
-            requires { All (λ r. HasSetUnder plan.now (row_of r.now)) part.now }
-            ensures { IfOk result (λ v.
-                AreRanked (ranked plan.entry.now.fields plan.entry.now.query)
+        &|_, part: &[&(usize, Group)]| -> Result<Vec<SortEntry<'_>>, AllocError>
+            requires { All (λ r. (row_of r.now).0 < length sources.now) part.now }
+            ensures { IfOk result (λ v. AreEntriesOf (entry_at sources.entry.now)
                 (map (λ r. row_of r.now) part.entry.now) v.items) }
-        { part_in_order(alloc, plan, part) },
+        { part_in_order(alloc, plan, sources, part) },
     )?;
     Ok(parts)
 }
@@ -114,63 +116,66 @@ fn parts_in_order<'a, H: Threads + Sync>(
 fn part_in_order<'a>(
     alloc: Global,
     plan: &PlanView<'_>,
+    sources: &[Vec<Source>],
     rows: &[&'a (usize, Group)],
-) -> Result<Vec<RankedRow<'a>>, AllocError>
-    requires { All (λ r. HasSetUnder plan.now (row_of r.now)) rows.now }
-    ensures { IfOk result (λ v. AreRanked (ranked plan.now.fields plan.now.query)
+) -> Result<Vec<SortEntry<'a>>, AllocError>
+    requires { All (λ r. (row_of r.now).0 < length sources.now) rows.now }
+    ensures { IfOk result (λ v. AreEntriesOf (entry_at sources.now)
         (map (λ r. row_of r.now) rows.now) v.items) }
 {
-    let ranked = rank(alloc, plan, rows)?;
-    Ok(sorted(plan, ranked))
+    let entries = make_entries(alloc, sources, rows)?;
+    Ok(sort_entries(plan, entries))
 }
 
-/// The groups beside what their rows are put in order by.
-fn rank<'a>(
+/// The groups beside what their rows are put in order by, where the rows of each grouping set have the values of the keys at
+/// these sources.
+fn make_entries<'a>(
     alloc: Global,
-    plan: &PlanView<'_>,
+    sources: &[Vec<Source>],
     rows: &[&'a (usize, Group)],
-) -> Result<Vec<RankedRow<'a>>, AllocError>
-    requires { All (λ r. HasSetUnder plan.now (row_of r.now)) rows.now }
-    ensures { IfOk result (λ v. map ranked_in v.items
-        ≡ map (ranked plan.now.fields plan.now.query) (map (λ r. row_of r.now) rows.now)) }
+) -> Result<Vec<SortEntry<'a>>, AllocError>
+    requires { All (λ r. (row_of r.now).0 < length sources.now) rows.now }
+    ensures { IfOk result (λ v. map entry_form v.items
+        ≡ map (entry_at sources.now) (map (λ r. row_of r.now) rows.now)) }
 {
-    let mut ranked = Vec::with_capacity(alloc, rows.len())?;
+    let mut entries = Vec::with_capacity(alloc, rows.len())?;
     for found in rows {
-        let values = key_values(alloc, plan, found)?;
-        ranked.push(RankedRow {
+        let values = key_values(alloc, sources, found)?;
+        entries.push(SortEntry {
             values,
             set: found.0,
-            front: front_of(found.1.key.as_slice()),
-            behind: behind_of(found.1.key.as_slice()),
+            prefix: key_prefix(found.1.key.as_slice()),
+            second_prefix: second_key_prefix(found.1.key.as_slice()),
             text: first_text(found.1.key.as_slice()),
             found: *found,
         })?;
     }
-    Ok(ranked)
+    Ok(entries)
 }
 
 /// The groups in the order of what stands beside them, in which no two are equal.
-fn sorted<'a>(plan: &PlanView<'_>, ranked: Vec<RankedRow<'a>>) -> Vec<RankedRow<'a>>
-    ensures permutation { IsPermutation ranked.entry.items result.items }
+fn sort_entries<'a>(plan: &PlanView<'_>, entries: Vec<SortEntry<'a>>) -> Vec<SortEntry<'a>>
+    ensures permutation { IsPermutation entries.entry.items result.items }
     ensures sorted { IsSortedBy
-        (λ a b. is_lt (by_rank plan.now.query.keys (ranked_in a) (ranked_in b))) result.items }
+        (λ a b. is_lt (by_values plan.now.query.keys (entry_form a) (entry_form b)))
+        result.items }
 {
     let keys = plan.query().tree().keys.as_slice();
-    let mut ranked = ranked;
-    ranked.sort_unstable_by(|a, b| compare_ranked(keys, a, b));
-    ranked
+    let mut entries = entries;
+    entries.sort_unstable_by(|a, b| compare_entries(keys, a, b));
+    entries
 }
 
 /// The groups alone, in the order in which they stand.
 fn groups_in<'a>(
     alloc: Global,
-    ranked: Vec<RankedRow<'a>>,
+    entries: Vec<SortEntry<'a>>,
 ) -> Result<Vec<&'a (usize, Group)>, AllocError>
     ensures { IfOk result (λ v.
-        map (λ r. row_of r.now) v.items ≡ map (λ r. (ranked_in r).1) ranked.entry.items) }
+        map (λ r. row_of r.now) v.items ≡ map (λ r. (entry_form r).1) entries.entry.items) }
 {
-    let mut groups = Vec::with_capacity(alloc, ranked.len())?;
-    for row in ranked {
+    let mut groups = Vec::with_capacity(alloc, entries.len())?;
+    for row in entries {
         groups.push(row.found)?;
     }
     Ok(groups)
@@ -180,9 +185,9 @@ fn groups_in<'a>(
 /// the list gets longer.
 fn rows_of_parts<'r, 'a>(
     alloc: Global,
-    parts: &'r [Result<Vec<RankedRow<'a>>, AllocError>],
+    parts: &'r [Result<Vec<SortEntry<'a>>, AllocError>],
     count: usize,
-) -> Result<Vec<&'r RankedRow<'a>>, AllocError>
+) -> Result<Vec<&'r SortEntry<'a>>, AllocError>
     ensures made { OnOk result (AreMade parts.entry.now) }
     ensures rows { IfOk result (λ rows.
         map (λ r. r.now) rows.items ≡ flat_map items_of parts.entry.now) }
@@ -199,8 +204,8 @@ fn rows_of_parts<'r, 'a>(
 
 /// Puts the rows of a part behind others.
 fn put_rows<'r, 'a>(
-    rows: &mut Vec<&'r RankedRow<'a>>,
-    part: &'r [RankedRow<'a>],
+    rows: &mut Vec<&'r SortEntry<'a>>,
+    part: &'r [SortEntry<'a>],
 ) -> Result<(), AllocError>
     ensures { OnOk result (map (λ r. r.now) rows.new.items
         ≡ map (λ r. r.now) rows.old.items ++ part.entry.now) }
@@ -213,27 +218,28 @@ fn put_rows<'r, 'a>(
 
 /// Rows that stand in order part by part, in the order of what stands beside them. The parts are put together by moving
 /// what leads to the rows, not the rows.
-fn merged<'r, 'a>(
+fn merge_entries<'r, 'a>(
     plan: &PlanView<'_>,
-    rows: Vec<&'r RankedRow<'a>>,
-) -> Result<Vec<&'r RankedRow<'a>>, AllocError>
+    rows: Vec<&'r SortEntry<'a>>,
+) -> Result<Vec<&'r SortEntry<'a>>, AllocError>
     ensures permutation { IfOk result (λ v. IsPermutation rows.entry.items v.items) }
     ensures sorted { IfOk result (λ v. IsSortedBy
-        (λ a b. is_lt (by_rank plan.now.query.keys (ranked_in a.now) (ranked_in b.now))) v.items) }
+        (λ a b. is_lt (by_values plan.now.query.keys (entry_form a.now) (entry_form b.now)))
+        v.items) }
 {
     let keys = plan.query().tree().keys.as_slice();
     let mut rows = rows;
-    rows.sort_by(|a, b| compare_ranked(keys, *a, *b))?;
+    rows.sort_by(|a, b| compare_entries(keys, *a, *b))?;
     Ok(rows)
 }
 
 /// The groups that these rows are of, in the order in which the rows stand.
 fn groups_at<'a>(
     alloc: Global,
-    rows: Vec<&RankedRow<'a>>,
+    rows: Vec<&SortEntry<'a>>,
 ) -> Result<Vec<&'a (usize, Group)>, AllocError>
     ensures { IfOk result (λ v.
-        map (λ r. row_of r.now) v.items ≡ map (λ r. (ranked_in r.now).1) rows.entry.items) }
+        map (λ r. row_of r.now) v.items ≡ map (λ r. (entry_form r.now).1) rows.entry.items) }
 {
     let mut groups = Vec::with_capacity(alloc, rows.len())?;
     for row in rows {

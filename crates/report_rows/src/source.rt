@@ -1,5 +1,5 @@
 //! Where the rows of a grouping set have what they show, which is looked up once for all of them.
-ghost use Rattle.std.specs.Prelude.{◌≡◌, ◌<◌, IfOk, List, length, slice_index_or};
+ghost use Rattle.std.specs.Prelude.{◌≡◌, ◌<◌, IfOk, List, length, map, slice_index_or};
 ghost use Rattle.std.specs.Option.{option_map_or};
 ghost use Rattle.semantics.specs.Values.{null};
 ghost use Rattle.values.specs.Schema.{fields_of};
@@ -8,12 +8,13 @@ ghost use Rattle.semantics.specs.Sets.{sets_of};
 ghost use Rattle.semantics.specs.Aggregates.{Summary, plain};
 ghost use Rattle.semantics.specs.Groups.{Key};
 ghost use Rattle.semantics.specs.Rows.{name_shown};
-ghost use Rattle.report_rows.specs.Sources.{AreSourcesOf, AreSourcesOfEach, IsSourceOf, shown_at, sources_at};
+ghost use Rattle.report_rows.specs.Sources.{AreKeySources, AreSourcesFor, AreSourcesOfEach, ForEachSet, IsSourceOf, expression_forms, key_expressions, shown_at, sources_at};
 
 use crate::cells::grouping_value;
 use crate::view::PlanView;
 use query_plan::{Expression, Text};
 use query_resolve::place_of;
+use query_typecheck::key_expression;
 use std::alloc::{AllocError, Global};
 use values::{Column, Value};
 
@@ -70,16 +71,71 @@ pub(crate) fn source_of(plan: &PlanView<'_>, set: &[usize], expression: &Express
     }
 }
 
-/// Where the rows of a grouping set have what they show for each item of SELECT.
-fn sources_of(alloc: Global, plan: &PlanView<'_>, set: &[usize]) -> Result<Vec<Source>, AllocError>
-    ensures { IfOk result (λ sources. AreSourcesOf plan.now set.now sources.items) }
+/// Where the rows of a grouping set have what they show for each of these expressions.
+fn sources_of(
+    alloc: Global,
+    plan: &PlanView<'_>,
+    set: &[usize],
+    expressions: &[&Expression],
+) -> Result<Vec<Source>, AllocError>
+    ensures { IfOk result (λ sources.
+        AreSourcesFor plan.now (expression_forms expressions.now) set.now sources.items) }
 {
-    let items = plan.query().tree().items.as_slice();
-    let mut sources = Vec::with_capacity(alloc, items.len())?;
-    for item in items {
-        sources.push(source_of(plan, set, &item.expression))?;
+    let mut sources = Vec::with_capacity(alloc, expressions.len())?;
+    for expression in expressions {
+        sources.push(source_of(plan, set, expression))?;
     }
     Ok(sources)
+}
+
+/// Where the rows of each grouping set of the plan, in their order, have what they show for each of these expressions.
+fn sources_of_each(
+    alloc: Global,
+    plan: &PlanView<'_>,
+    expressions: &[&Expression],
+) -> Result<Vec<Vec<Source>>, AllocError>
+    ensures { IfOk result (λ all.
+        ForEachSet (AreSourcesFor plan.now (expression_forms expressions.now))
+        (sets_of plan.now.fields plan.now.query) all.items) }
+{
+    let mut all = Vec::with_capacity(alloc, plan.sets().len())?;
+    for set in plan.sets() {
+        all.push(sources_of(alloc, plan, set, expressions)?)?;
+    }
+    Ok(all)
+}
+
+/// The expressions of the items of SELECT.
+fn item_expressions<'p>(
+    alloc: Global,
+    plan: &'p PlanView<'_>,
+) -> Result<Vec<&'p Expression>, AllocError>
+    ensures { IfOk result (λ expressions.
+        expression_forms expressions.items ≡ map (λ i. i.expression) plan.now.query.items) }
+{
+    let items = plan.query().tree().items.as_slice();
+    let mut expressions = Vec::with_capacity(alloc, items.len())?;
+    for item in items {
+        expressions.push(&item.expression)?;
+    }
+    Ok(expressions)
+}
+
+/// The expressions of the keys of ORDER BY, where an alias of SELECT stands for its item.
+fn key_expressions<'p>(
+    alloc: Global,
+    plan: &'p PlanView<'_>,
+) -> Result<Vec<&'p Expression>, AllocError>
+    ensures { IfOk result (λ expressions.
+        expression_forms expressions.items ≡ key_expressions plan.now) }
+{
+    let items = plan.query().tree().items.as_slice();
+    let keys = plan.query().tree().keys.as_slice();
+    let mut expressions = Vec::with_capacity(alloc, keys.len())?;
+    for key in keys {
+        expressions.push(key_expression(items, &key.expression))?;
+    }
+    Ok(expressions)
 }
 
 /// Where the rows of each grouping set of the plan, in their order, have what they show for each item of SELECT.
@@ -93,11 +149,19 @@ pub fn sources_by_set(alloc: Global, plan: &PlanView<'_>) -> Result<Vec<Vec<Sour
     ensures { IfOk result (λ all.
         AreSourcesOfEach plan.now (sets_of plan.now.fields plan.now.query) all.items) }
 {
-    let mut all = Vec::with_capacity(alloc, plan.sets().len())?;
-    for set in plan.sets() {
-        all.push(sources_of(alloc, plan, set)?)?;
-    }
-    Ok(all)
+    let expressions = item_expressions(alloc, plan)?;
+    sources_of_each(alloc, plan, expressions.as_slice())
+}
+
+/// Where the rows of each grouping set of the plan, in their order, have what they show for each key of ORDER BY.
+pub(crate) fn key_sources(
+    alloc: Global,
+    plan: &PlanView<'_>,
+) -> Result<Vec<Vec<Source>>, AllocError>
+    ensures { IfOk result (λ all. AreKeySources plan.now all.items) }
+{
+    let expressions = key_expressions(alloc, plan)?;
+    sources_of_each(alloc, plan, expressions.as_slice())
 }
 
 /// Where the rows of the grouping set at an index have what they show. There is a grouping set at the index.

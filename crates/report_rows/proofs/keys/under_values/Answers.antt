@@ -5,7 +5,7 @@ use Rattle.std.specs.Ordering.{ordering_then}
 use Rattle.values.specs.Datum.{data_of, datum_of}
 use Rattle.query_ast.specs.Syntax.{key_form}
 use Rattle.query_ast.specs.declared.tree.Key.{Key}
-use Rattle.report_rows.specs.Inside.Ranked.{under_values}
+use Rattle.report_rows.specs.Inside.SortEntries.{under_values}
 use Rattle.report_rows.proofs.KeyOrder.{told_apart, under_values-next, value-or-null}
 use Rattle.report_rows.proofs.keys.under_values.Goals as goal
 

@@ -2,7 +2,7 @@ use Rattle.std.proofs.Common.{◌≡◌, drop, map}
 use Rattle.values.specs.Datum.{data_of, datum_of}
 use Rattle.semantics.specs.Values.{null}
 use Rattle.query_ast.specs.Syntax.{key_form}
-use Rattle.report_rows.specs.Inside.Ranked.{under_values}
+use Rattle.report_rows.specs.Inside.SortEntries.{under_values}
 use Rattle.report_rows.proofs.keys.under_values.Given as goal
 
 -- the values stand to each other as they do from the place of the key on, and NULL is at hand

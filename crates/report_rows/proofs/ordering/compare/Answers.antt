@@ -13,6 +13,6 @@ returns-in-Equal c =
     let l = data_of b.found.now.1.key.items in
     let same : nat_cmp a.found.now.0 b.found.now.0 ≡ Equal = (λ i. nat_cmp (sym a.set_is i) (sym b.set_is i)) ∙ sym c.cmp.ensures ∙ c.in-Equal.is in
     c.compare_keys.ensures
-    ∙ (λ i. ordering_then (nat_cmp (a.front_is i) (b.front_is i)) (ordering_then (nat_cmp (a.behind_is i) (b.behind_is i)) (texts-tell k l i)))
+    ∙ (λ i. ordering_then (nat_cmp (a.prefix_is i) (b.prefix_is i)) (ordering_then (nat_cmp (a.second_prefix_is i) (b.second_prefix_is i)) (texts-tell k l i)))
     ∙ numbers-tell k l a.bytes b.bytes
     ∙ sym (ap (λ (o : Ordering). ordering_then o (key_order k l)) same)

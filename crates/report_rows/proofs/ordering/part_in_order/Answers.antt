@@ -1,8 +1,8 @@
 use Rattle.std.proofs.Common.{map}
-use Rattle.report_rows.specs.Inside.Ranked.{ranked_in}
+use Rattle.report_rows.specs.Inside.SortEntries.{entry_at, entry_form}
 use Rattle.report_rows.proofs.Rows.{ranks-moved, row_at}
 use Rattle.report_rows.proofs.ordering.part_in_order.Goals as goal
 
 pub returns : goal.returns
 returns c =
-    ranks-moved ranked_in c.args.plan.now.fields c.args.plan.now.query (map row_at c.args.rows.now) c.in_ok-ranked.ranked.items c.sorted.result.items c.in_ok-ranked.ensures c.sorted.ensures.permutation
+    ranks-moved entry_form (entry_at c.args.sources.now) (map row_at c.args.rows.now) c.in_ok-entries.entries.items c.sort_entries.result.items c.in_ok-entries.ensures c.sort_entries.ensures.permutation

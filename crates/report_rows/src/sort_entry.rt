@@ -4,35 +4,35 @@ ghost use Rattle.std.specs.Option.{option_map};
 ghost use Rattle.std.specs.Ordering.{nat_cmp, ordering_then};
 ghost use Rattle.std.proofs.Props.{props};
 ghost use Rattle.values.specs.Datum.{data_of};
-ghost use Rattle.semantics.specs.Groups.{key_order};
-ghost use Rattle.report_rows.specs.Inside.Fronts.{AreBytes, IsOfBytes, behind_of, first_text, front_of, text_order, with_digits};
+ghost use Rattle.report_rows.specs.Inside.KeyPrefixes.{AreBytes, IsOfBytes, first_text, group_key, key_prefix, second_key_prefix, text_order, tie_order, with_digits};
 
 use std::cmp::Ordering;
 use tables_groups::Group;
 use values::Value;
 
-/// How many bytes of a text the front of a key has.
-const FRONT: usize = 16;
+/// How many bytes of a text the prefix of a key has.
+const PREFIX_BYTES: usize = 16;
 
 /// A group beside the index of its grouping set, and what its row is put in order by.
 #[derive(Drop)]
-pub(crate) struct RankedRow<'a> {
+pub(crate) struct SortEntry<'a> {
     /// The values of the keys of ORDER BY for its row.
     pub(crate) values: Vec<Value>,
     /// The index of its grouping set.
     pub(crate) set: usize,
-    /// The front of the group's key. Fronts tell most groups apart, and are at hand here, where the keys lie elsewhere.
-    pub(crate) front: u128,
-    /// What is behind the front in the group's key. It tells apart most groups of one front.
-    pub(crate) behind: u128,
+    /// The prefix of the group's key. Prefixes tell most groups apart, and are at hand here, where the keys lie elsewhere.
+    pub(crate) prefix: u128,
+    /// The second prefix of the group's key. It tells apart most groups of one prefix.
+    pub(crate) second_prefix: u128,
     /// The text that the group's key begins with, where it begins with one: it tells apart what numbers do not.
     pub(crate) text: Option<&'a str>,
     /// The group, beside the index.
     pub(crate) found: &'a (usize, Group),
     ghost set_is: { set ≡ found.now.0 },
-    ghost front_is: { front ≡ front_of (data_of found.now.1.key.items) } by { Prim.hlevel props },
-    ghost behind_is: { behind
-        ≡ behind_of (data_of found.now.1.key.items) } by { Prim.hlevel props },
+    ghost prefix_is: { prefix
+        ≡ key_prefix (data_of found.now.1.key.items) } by { Prim.hlevel props },
+    ghost second_prefix_is: { second_prefix
+        ≡ second_key_prefix (data_of found.now.1.key.items) } by { Prim.hlevel props },
     ghost text_is: { ∥ option_map (λ t. t.now) text
         ≡ first_text (data_of found.now.1.key.items) ∥₁ },
     ghost bytes: { IsOfBytes (data_of found.now.1.key.items) } by { Prim.hlevel props },
@@ -43,16 +43,16 @@ fn digits_of(text: &[u8]) -> u128
     ensures number { result ≡ with_digits 0 16 text.now }
     ensures bytes { AreBytes text.now }
 {
-    let len = text.len().min(FRONT);
-    let mut front = [0; FRONT];
-    front[..len].copy_from_slice(&text[..len]);
-    u128::from_be_bytes(front)
+    let len = text.len().min(PREFIX_BYTES);
+    let mut prefix = [0; PREFIX_BYTES];
+    prefix[..len].copy_from_slice(&text[..len]);
+    u128::from_be_bytes(prefix)
 }
 
-/// The front of a key: the first bytes of the text that it begins with as one number. In front of texts there are truth
+/// The prefix of a key: the first bytes of the text that it begins with as one number. In front of texts there are truth
 /// values and whole numbers, and behind them NULL, as in the order of keys.
-pub(crate) fn front_of(key: &[Value]) -> u128
-    ensures number { result ≡ front_of (data_of key.now) }
+pub(crate) fn key_prefix(key: &[Value]) -> u128
+    ensures number { result ≡ key_prefix (data_of key.now) }
     ensures bytes { IsOfBytes (data_of key.now) }
 {
     match key {
@@ -62,14 +62,14 @@ pub(crate) fn front_of(key: &[Value]) -> u128
     }
 }
 
-/// What is behind the front in a key: the bytes behind the first ones of the text that it begins with, again as one number.
-/// Where it begins with no text, this is the number that its front is.
-pub(crate) fn behind_of(key: &[Value]) -> u128
-    ensures { result ≡ behind_of (data_of key.now) }
+/// The second prefix of a key: the bytes behind the first ones of the text that it begins with, again as one number. Where
+/// it begins with no text, this is the number that its prefix is.
+pub(crate) fn second_key_prefix(key: &[Value]) -> u128
+    ensures { result ≡ second_key_prefix (data_of key.now) }
 {
     match key {
-        [Value::Text(text), ..] => digits_of(text.as_bytes().get(FRONT..).unwrap_or(&[])),
-        [Value::Bool(_) | Value::Int(_) | Value::Null, ..] | [] => front_of(key),
+        [Value::Text(text), ..] => digits_of(text.as_bytes().get(PREFIX_BYTES..).unwrap_or(&[])),
+        [Value::Bool(_) | Value::Int(_) | Value::Null, ..] | [] => key_prefix(key),
     }
 }
 
@@ -95,10 +95,8 @@ fn compare_texts(a: Option<&str>, b: Option<&str>) -> Ordering
 }
 
 /// How two groups of one grouping set stand to each other where no number tells them apart.
-fn compare_ties(a: &RankedRow, b: &RankedRow) -> Ordering
-    ensures { result ≡ ordering_then (text_order (first_text (data_of a.now.found.now.1.key.items))
-        (first_text (data_of b.now.found.now.1.key.items)))
-        (key_order (data_of a.now.found.now.1.key.items) (data_of b.now.found.now.1.key.items)) }
+fn compare_ties(a: &SortEntry, b: &SortEntry) -> Ordering
+    ensures { result ≡ tie_order (group_key a.now.found.now.1) (group_key b.now.found.now.1) }
 {
     match compare_texts(a.text, b.text) {
         Ordering::Equal => a.found.1.key.cmp(&b.found.1.key),
@@ -106,14 +104,12 @@ fn compare_ties(a: &RankedRow, b: &RankedRow) -> Ordering
     }
 }
 
-/// How two groups of one grouping set and of one front stand to each other.
-fn compare_behind(a: &RankedRow, b: &RankedRow) -> Ordering
-    ensures { result ≡ ordering_then (nat_cmp a.now.behind b.now.behind)
-        (ordering_then (text_order (first_text (data_of a.now.found.now.1.key.items))
-        (first_text (data_of b.now.found.now.1.key.items)))
-        (key_order (data_of a.now.found.now.1.key.items) (data_of b.now.found.now.1.key.items))) }
+/// How two groups of one grouping set and of one prefix stand to each other.
+fn compare_second_prefixes(a: &SortEntry, b: &SortEntry) -> Ordering
+    ensures { result ≡ ordering_then (nat_cmp a.now.second_prefix b.now.second_prefix)
+        (tie_order (group_key a.now.found.now.1) (group_key b.now.found.now.1)) }
 {
-    match a.behind.cmp(&b.behind) {
+    match a.second_prefix.cmp(&b.second_prefix) {
         Ordering::Equal => compare_ties(a, b),
         other => other,
     }
@@ -121,15 +117,13 @@ fn compare_behind(a: &RankedRow, b: &RankedRow) -> Ordering
 
 /// How two groups of one grouping set stand to each other. The values of a key stand in the order of the grouping
 /// columns, and in the other ones two groups of one set are both NULL.
-pub(crate) fn compare_keys(a: &RankedRow, b: &RankedRow) -> Ordering
-    ensures { result ≡ ordering_then (nat_cmp a.now.front b.now.front)
-        (ordering_then (nat_cmp a.now.behind b.now.behind)
-        (ordering_then (text_order (first_text (data_of a.now.found.now.1.key.items))
-        (first_text (data_of b.now.found.now.1.key.items)))
-        (key_order (data_of a.now.found.now.1.key.items) (data_of b.now.found.now.1.key.items)))) }
+pub(crate) fn compare_keys(a: &SortEntry, b: &SortEntry) -> Ordering
+    ensures { result ≡ ordering_then (nat_cmp a.now.prefix b.now.prefix)
+        (ordering_then (nat_cmp a.now.second_prefix b.now.second_prefix)
+        (tie_order (group_key a.now.found.now.1) (group_key b.now.found.now.1))) }
 {
-    match a.front.cmp(&b.front) {
-        Ordering::Equal => compare_behind(a, b),
+    match a.prefix.cmp(&b.prefix) {
+        Ordering::Equal => compare_second_prefixes(a, b),
         other => other,
     }
 }

@@ -4,9 +4,9 @@ use Rattle.std.proofs.lemmas.Fn.{always_returns_same}
 use Rattle.std.proofs.lemmas.List.Sorted.{ranks_by}
 use Rattle.semantics.specs.Syntax.{KeyForm, TreeForm}
 use Rattle.query_ast.specs.Syntax.{key_form}
-use Rattle.report_rows.specs.Inside.Ranked.{by_rank, ranked_in}
-use Rattle.report_rows.proofs.Totals.{by_rank-total}
-use Rattle.report_rows.proofs.ordering.sorted.Goals as goal
+use Rattle.report_rows.specs.Inside.SortEntries.{by_values, entry_form}
+use Rattle.report_rows.proofs.Totals.{by_values-total}
+use Rattle.report_rows.proofs.ordering.sort_entries.Goals as goal
 
 pub returns-clause-sorted : goal.returns-clause-sorted
 returns-clause-sorted c =
@@ -14,7 +14,7 @@ returns-clause-sorted c =
     let sorted = c.sort_unstable_by.new.self.items in
     let code = map key_form c.as_slice-keys.result.now in
     let keys : code ≡ t.keys = ap (map key_form) c.as_slice-keys.ensures.value ∙ ap (λ (f : TreeForm). f.keys) (c.tree.ensures.form ∙ c.query.ensures.query) in
-    let by : List KeyForm → Type 0 = λ ks. IsSortedBy (λ a b. is_lt (by_rank ks (ranked_in a) (ranked_in b))) sorted in
+    let by : List KeyForm → Type 0 = λ ks. IsSortedBy (λ a b. is_lt (by_values ks (entry_form a) (entry_form b))) sorted in
     let up : by code =
-    c.sort_unstable_by.ensures.sorted (λ a b. is_lt (by_rank code (ranked_in a) (ranked_in b))) (ranks_by (by_rank-total code) ranked_in) (always_returns_same _ _ _ (λ a r f k. search rules)) in
+    c.sort_unstable_by.ensures.sorted (λ a b. is_lt (by_values code (entry_form a) (entry_form b))) (ranks_by (by_values-total code) entry_form) (always_returns_same _ _ _ (λ a r f k. search rules)) in
     subst by keys up

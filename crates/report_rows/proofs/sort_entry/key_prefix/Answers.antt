@@ -1,6 +1,6 @@
 use Rattle.std.proofs.Common.{arith}
 use Rattle.std.proofs.lemmas.Grind.{common_steps}
-use Rattle.report_rows.proofs.ranked.front_of.Goals as goal
+use Rattle.report_rows.proofs.sort_entry.key_prefix.Goals as goal
 
 pub returns-in-Text-clause-number : goal.returns-in-Text-clause-number
 returns-in-Text-clause-number c = grind (arith, common_steps)

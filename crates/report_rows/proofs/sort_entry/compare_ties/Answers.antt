@@ -2,9 +2,9 @@ use Rattle.std.proofs.Common.{◌≡◌, ◌∙◌, ap, sym, Equal, Ordering}
 use Rattle.std.specs.Ordering.{ordering_then}
 use Rattle.values.specs.Datum.{data_of}
 use Rattle.semantics.specs.Groups.{key_order}
-use Rattle.report_rows.specs.Inside.Fronts.{first_text, text_order}
+use Rattle.report_rows.specs.Inside.KeyPrefixes.{first_text, text_order}
 use Rattle.report_rows.proofs.KeyOrder.{key_cmp-is, texts-known, told_apart}
-use Rattle.report_rows.proofs.ranked.compare_ties.Goals as goal
+use Rattle.report_rows.proofs.sort_entry.compare_ties.Goals as goal
 
 pub returns-in-Equal : goal.returns-in-Equal
 returns-in-Equal c =

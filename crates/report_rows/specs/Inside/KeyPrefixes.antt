@@ -2,10 +2,12 @@
 use Rattle.std.specs.Prelude.{◌<◌, ◌+◌, ◌-◌, ◌*◌, ◌^◌, ℕ, zero, suc, List, [], ◌∷◌, drop, Option, Some, None, get_or, unwrap_or}
 use Rattle.std.specs.declared.cmp.Ordering.{Ordering}
 use Rattle.std.specs.declared.cmp.Ordering.TheVariants.{Equal}
-use Rattle.std.specs.Ordering.{nat_cmp}
+use Rattle.std.specs.Ordering.{nat_cmp, ordering_then}
 use Rattle.std.specs.Cmp.Lexicographic.{slice_cmp}
 use Rattle.semantics.specs.Values.{boolean, whole, text, null}
-use Rattle.semantics.specs.Groups.{Key}
+use Rattle.semantics.specs.Groups.{Key, key_order}
+use Rattle.values.specs.Datum.{data_of}
+use Rattle.tables_groups.specs.declared.group.Group.{Group}
 
 -- each number of a list is a byte
 abbrev pub AreBytes : List ℕ → Type 0
@@ -35,18 +37,26 @@ text_order None b = Equal
 text_order (Some s) None = Equal
 text_order (Some s) (Some t) = slice_cmp nat_cmp s t
 
--- the number of a key: the first 16 bytes of the text that it begins with; in front of texts there are truth values and whole numbers, and behind them NULL
-abbrev pub front_of : Key → ℕ
-front_of [] = 0
-front_of (boolean b ∷ key) = 0
-front_of (whole n ∷ key) = 0
-front_of (text s ∷ key) = with_digits 0 16 s
-front_of (null ∷ key) = 2 ^ 128 - 1
+-- the prefix of a key, a number: the first 16 bytes of the text that it begins with; in front of texts there are truth values and whole numbers, and behind them NULL
+abbrev pub key_prefix : Key → ℕ
+key_prefix [] = 0
+key_prefix (boolean b ∷ key) = 0
+key_prefix (whole n ∷ key) = 0
+key_prefix (text s ∷ key) = with_digits 0 16 s
+key_prefix (null ∷ key) = 2 ^ 128 - 1
 
--- the second number of a key: the 16 bytes behind the first 16 of that text, which tells most keys of one first number apart; for a key that begins with no text it is the first number again
-abbrev pub behind_of : Key → ℕ
-behind_of [] = 0
-behind_of (boolean b ∷ key) = 0
-behind_of (whole n ∷ key) = 0
-behind_of (text s ∷ key) = with_digits 0 16 (drop 16 s)
-behind_of (null ∷ key) = 2 ^ 128 - 1
+-- the second prefix of a key: the 16 bytes behind the first 16 of that text, which tells most keys of one prefix apart; for a key that begins with no text it is the prefix again
+abbrev pub second_key_prefix : Key → ℕ
+second_key_prefix [] = 0
+second_key_prefix (boolean b ∷ key) = 0
+second_key_prefix (whole n ∷ key) = 0
+second_key_prefix (text s ∷ key) = with_digits 0 16 (drop 16 s)
+second_key_prefix (null ∷ key) = 2 ^ 128 - 1
+
+-- how two keys stand to each other where their prefixes are the same: by the texts that they begin with, and else as keys do
+abbrev pub tie_order : Key → Key → Ordering
+tie_order k l = ordering_then (text_order (first_text k) (first_text l)) (key_order k l)
+
+-- the key of a group of the code
+abbrev pub group_key : Group → Key
+group_key group = data_of group.key.items

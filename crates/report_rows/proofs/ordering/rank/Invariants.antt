@@ -1,8 +1,0 @@
-use Rattle.std.proofs.Common.{◌≡◌, map, take}
-use Rattle.report_rows.specs.Inside.Ranked.{ranked, ranked_in}
-use Rattle.report_rows.proofs.Rows.{row_at}
-use Rattle.report_rows.proofs.ordering.rank.Given as goal
-
--- the rows so far
-abbrev pub invariant-loop-found : goal.invariant-loop-found
-invariant-loop-found l = map ranked_in l.ranked.items ≡ map (ranked l.plan.fields l.plan.query) (map row_at (take l.found-index l.rows))
