@@ -35,7 +35,7 @@ denotation_of_piece job index = denotation_at (plan_of_job job).fields (plan_of_
 abbrev pub denotation_of_piece_from : ℕ → Job → ℕ → Denotation
 denotation_of_piece_from first job place = denotation_from (plan_of_job job).fields (plan_of_job job).query first (input_of_job job) (pieces_of_job job) place
 
--- ---- a job whose results a executor merges
+-- ---- a job whose results an executor merges
 
 -- the job
 abbrev pub joined_job : {J : Type 0} {executor : Executor.Ghosts J} → JobBy J executor → Job
