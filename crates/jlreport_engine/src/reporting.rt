@@ -1,6 +1,7 @@
 //! Who finishes the groups of a report and writes its rows: the calling thread alone, or several.
-ghost use Rattle.std.specs.Prelude.{◌≡◌, ◌<◌, IfOk};
-ghost use Rattle.tables.specs.Planned.{AreFittingUnder, IsFinishOf, IsPartialUnder};
+ghost use Rattle.std.specs.Prelude.{◌≡◌, ◌<◌, ℕ, IfOk, List};
+ghost use Rattle.tables.specs.Pieces.{IndexedPiece, IsCutInto};
+ghost use Rattle.tables.specs.Planned.{AreFittingUnder, IsPartialUnder, IsResultUnder, StandsForUnder};
 ghost use Rattle.report.specs.Report.{report_of};
 
 use query::Plan;
@@ -26,7 +27,10 @@ pub(crate) trait ReportExecutor {
     fn groups(&self, plan: &Plan, whole: Partial) -> Result<Groups, AllocError>
         requires ready { Self.ready self.now }
         requires of_plan { IsPartialUnder plan.now whole }
-        ensures { IfOk result (IsFinishOf plan.now whole) };
+        ensures fit { IfOk result (λ groups. AreFittingUnder plan.now groups.found) }
+        ensures whole { IfOk result (λ groups. (input : List ℕ) (pieces : List IndexedPiece)
+            → StandsForUnder plan.now whole pieces → IsCutInto input pieces
+            → IsResultUnder plan.now groups input) };
 
     /// Gives back the memory of groups that have been written.
     fn give_back(&self, alloc: Global, groups: Groups)
