@@ -19,7 +19,8 @@ pub(crate) fn pieces_of(alloc: Global, input: &[u8], piece: usize) -> Result<Vec
         All (λ piece. piece.start < piece.stop) pieces.items) }
     ensures within { IfOk result (λ pieces.
         All (λ piece. piece.stop ≤ length input.now) pieces.items) }
-    ensures cut { IfOk result (λ pieces. IsCutInto input.now (indexed_pieces input.now pieces.items)) }
+    ensures cut { IfOk result (λ pieces.
+        IsCutInto input.now (indexed_pieces input.now pieces.items)) }
     ensures lines { IfOk result (λ pieces.
         all_lines (indexed_pieces input.now pieces.items) ≡ lines input.now) }
 {
