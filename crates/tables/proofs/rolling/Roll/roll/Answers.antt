@@ -19,7 +19,7 @@ returns c =
       rolled = (
         refl,
         subst (λ (o : Option Contents). IfSome o (λ table. (filters : List (Row → Bool)) (rows : List Row)
-            → AreTablesOf (map (bound filters) fs) tables rows → IsTableOf set (map (bound filters) fs) table rows)) (sym c.ok-self.ensures.value)
+            → AreTablesOf (map (bound filters) fs) tables rows → IsTableOf set (map (bound filters) fs) table rows)) (sym c.ok.ensures.value)
             (some-of_ok _ c.roll_from_finer.result
             (IfOk-weaker c.roll_from_finer.result _ _ (λ table rolled filters rows h.
             subst (λ (s : List ℕ). IsTableOf s (map (bound filters) fs) table rows) c.as_slice.ensures.value (rolled filters rows h)) c.roll_from_finer.ensures.rolled)),
