@@ -10,7 +10,7 @@ use Rattle.semantics.specs.Syntax.{TreeForm}
 use Rattle.query_plan.specs.Planned.{PlannedQuery}
 use Rattle.tables.specs.declared.job.Job.{Job}
 use Rattle.tables.specs.declared.partial.Partial.{Partial}
-use Rattle.tables.specs.Denotations.{both, indexed_from, denotation, denotation_from, meaning}
+use Rattle.tables.specs.Denotations.{both, indexed_pieces_from, denotation, denotation_from, meaning}
 use Rattle.tables.specs.Partials.{StandsFor}
 use Rattle.tables.specs.Planned.{IsPartialUnder}
 use Rattle.jlreport_scan.proofs.Pooled.{IsJobOf}
@@ -31,7 +31,7 @@ pub stands-for : (plan : PlannedQuery) (input : List ℕ) (pieces : List Piece) 
     → ((fields : List Field) (q : TreeForm) (first : ℕ) (input : List ℕ) (pieces : List Piece) (partial : Partial)
     → first + length pieces < 2 ^ 32
     → meaning partial ≡ total (denotation fields q []) both (denotation_from fields q first input pieces) (length pieces)
-    → StandsFor fields q partial (indexed_from first input pieces))
+    → StandsFor fields q partial (indexed_pieces_from first input pieces))
     → outcome ≡ Whole partial → DecidesAll job.plan.now first job.input.now job.pieces.now n limit outcome → IsPartialUnder plan partial
 stands-for plan input pieces job first n limit outcome partial of e count few law is d =
     let d1 = subst (λ (x : PlannedQuery). DecidesAll x first job.input.now job.pieces.now n limit outcome) of.plan_is d in
@@ -40,4 +40,4 @@ stands-for plan input pieces job first n limit outcome partial of e count few la
     let d4 = subst (λ (x : List Piece). DecidesAll plan 1 input x n limit outcome) of.pieces_are d3 in
     let d5 = subst (λ (x : ℕ). DecidesAll plan 1 input pieces x limit outcome) count d4 in
     let whole = subst (DecidesAll plan 1 input pieces (length pieces) limit) is d5 in
-    ∣ (indexed_from 1 input pieces, law plan.fields plan.query 1 input pieces partial (omega (arith, few)) whole.0) ∣₁
+    ∣ (indexed_pieces_from 1 input pieces, law plan.fields plan.query 1 input pieces partial (omega (arith, few)) whole.0) ∣₁

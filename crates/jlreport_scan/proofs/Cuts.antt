@@ -12,7 +12,7 @@ use Rattle.lines.specs.declared.pieces.Piece.{Piece}
 use Rattle.semantics.specs.Lines.{line_feed, lines}
 use Rattle.lines.specs.Pieces.{AllButLast, AreConsecutive, AreWholeLines, EndsInFeed, IsStop, after_feed, at_end, bytes_of}
 use Rattle.tables.specs.Pieces.{IndexedPiece, IsCutInto, all_lines, joined_bytes}
-use Rattle.tables.specs.Denotations.{indexed, indexed_from, no_bytes, with_index}
+use Rattle.tables.specs.Denotations.{indexed_pieces, indexed_pieces_from, no_bytes, with_index}
 use Rattle.tables.specs.Partials.{one_piece}
 
 -- ---- how many there are
@@ -127,7 +127,7 @@ same-lines input index (p ∷ ps) = ap (λ ls. lines (bytes_of input p) ++ ls) (
 pub cut-into : (input : List ℕ) (target : ℕ) (ps : List Piece) → 1 ≤ target → AreConsecutive ps (length input)
     → All (λ piece. piece.start < piece.stop) ps → All (λ piece. piece.stop ≤ length input) ps
     → All (λ piece. IsStop input target piece.start piece.stop) ps → flat_map (bytes_of input) ps ≡ input
-    → IsCutInto input (indexed input ps)
+    → IsCutInto input (indexed_pieces input ps)
 cut-into input target ps wanted follow some within stops joined = record {
   in_order = λ k lt. omega (arith, indexes-rise input 0 ps k (omega arith), indexes-rise input 0 ps (k + 1) lt);
   joined = same-bytes input 0 ps ∙ joined;
@@ -153,7 +153,7 @@ ends-some b bytes (inl none) = absurd (let n = ap length none in omega (arith, n
 ends-some b bytes (inr feed) = feed
 
 -- a front of whole lines as one piece, and behind it the pieces that the rest is cut into, are pieces of both
-pub cut-behind : (front rest : List ℕ) (ps : List Piece) → AreWholeLines front → IsCutInto rest (indexed rest ps) → IsCutInto (front ++ rest) (one_piece front ++ indexed_from 1 rest ps)
+pub cut-behind : (front rest : List ℕ) (ps : List Piece) → AreWholeLines front → IsCutInto rest (indexed_pieces rest ps) → IsCutInto (front ++ rest) (one_piece front ++ indexed_pieces_from 1 rest ps)
 cut-behind [] rest ps whole cut = record {
   in_order = λ k lt. omega (arith, indexes-rise rest 1 ps k (omega arith), indexes-rise rest 1 ps (k + 1) lt);
   joined = same-bytes rest 1 ps ∙ sym (same-bytes rest 0 ps) ∙ cut.joined;
@@ -162,7 +162,7 @@ cut-behind [] rest ps whole cut = record {
 cut-behind (b ∷ bytes) rest ps whole cut = record {
   in_order = λ k lt. omega (arith, indexes-rise rest 0 (no_bytes ∷ ps) k (omega arith), indexes-rise rest 0 (no_bytes ∷ ps) (k + 1) lt);
   joined = ap (λ bs. (b ∷ bytes) ++ bs) (same-bytes rest 1 ps ∙ sym (same-bytes rest 0 ps) ∙ cut.joined);
-  feeds = feeds-behind (record { index = 0; bytes = b ∷ bytes }) (indexed_from 1 rest ps) (ends-some b bytes whole) (feeds-same rest 0 1 ps cut.feeds);
+  feeds = feeds-behind (record { index = 0; bytes = b ∷ bytes }) (indexed_pieces_from 1 rest ps) (ends-some b bytes whole) (feeds-same rest 0 1 ps cut.feeds);
 }
 
 -- ---- of what is answered
@@ -182,13 +182,13 @@ pub cut-answered : {E : Type 0} (input : List ℕ) (target : ℕ) (r : Result (V
     → IfOk r (λ v. All (λ piece. piece.stop ≤ length input) v.items)
     → IfOk r (λ v. All (λ piece. IsStop input target piece.start piece.stop) v.items)
     → IfOk r (λ v. flat_map (bytes_of input) v.items ≡ input)
-    → IfOk r (λ v. IsCutInto input (indexed input v.items))
+    → IfOk r (λ v. IsCutInto input (indexed_pieces input v.items))
 cut-answered input target (Ok v) wanted follow some within stops joined = cut-into input target v.items wanted follow some within stops joined
 cut-answered input target (Err e) wanted follow some within stops joined = tt
 
 -- and its lines are those of the input
 pub lines-answered : {E : Type 0} (input : List ℕ) (r : Result (Vec Piece) E)
     → IfOk r (λ v. flat_map (λ piece. lines (bytes_of input piece)) v.items ≡ lines input)
-    → IfOk r (λ v. all_lines (indexed input v.items) ≡ lines input)
+    → IfOk r (λ v. all_lines (indexed_pieces input v.items) ≡ lines input)
 lines-answered input (Ok v) same = same-lines input 0 v.items ∙ same
 lines-answered input (Err e) same = tt

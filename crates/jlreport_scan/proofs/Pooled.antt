@@ -15,9 +15,9 @@ use Rattle.query_plan.specs.Planned.{PlannedQuery}
 use Rattle.tables.specs.declared.job.Job.{Job}
 use Rattle.tables.specs.declared.partial.Partial.{Partial}
 use Rattle.tables.specs.Laws.{denotations_lawful_from}
-use Rattle.tables.specs.Denotations.{Denotation, both, indexed, indexed_from, denotation, denotation_at, denotation_from, meaning}
+use Rattle.tables.specs.Denotations.{Denotation, both, indexed_pieces, indexed_pieces_from, denotation, denotation_at, denotation_from, meaning}
 use Rattle.tables.specs.Partials.{StandsFor, StandsForInput, one_piece}
-use Rattle.tables.specs.Pieces.{IndexedPiece, IsCutInto, all_lines, refused_within}
+use Rattle.tables.specs.Pieces.{IndexedPiece, IsCutInto, all_lines, refused_lines_within}
 use Rattle.tables.specs.States.{PartialState}
 use Rattle.tables.proofs.Denotations.{denotation-from_stands}
 use Rattle.jlreport_scan.specs.Pieces.{IsUnder, StandsBehind}
@@ -49,15 +49,15 @@ abbrev Stands : Type 0
 Stands = (fields : List Field) (q : TreeForm) (front : List IndexedPiece) (first : ℕ) (rest : List ℕ) (pieces : List Piece) (partial : Partial)
     → first + length pieces < 2 ^ 32
     → meaning partial ≡ both (denotation fields q front) (total (denotation fields q []) both (denotation_from fields q first rest pieces) (length pieces))
-    → StandsFor fields q partial (front ++ indexed_from first rest pieces)
+    → StandsFor fields q partial (front ++ indexed_pieces_from first rest pieces)
 
 abbrev Weighs : Type 0
 Weighs = (fields : List Field) (q : TreeForm) (input : List ℕ) (pieces : List Piece)
-    → sum_below (λ i. (denotation_at fields q input pieces i).refused) (length pieces) ≡ length (refused_within fields (indexed input pieces))
+    → sum_below (λ i. (denotation_at fields q input pieces i).refused) (length pieces) ≡ length (refused_lines_within fields (indexed_pieces input pieces))
 
 abbrev Loads : Type 0
 Loads = (fields : List Field) (q : TreeForm) (input : List ℕ) (pieces : List Piece)
-    → sum_below (λ i. (denotation_at fields q input pieces i).lines) (length pieces) ≡ length (all_lines (indexed input pieces))
+    → sum_below (λ i. (denotation_at fields q input pieces i).lines) (length pieces) ≡ length (all_lines (indexed_pieces input pieces))
 
 -- the parts weigh so much under the limit
 decided-under : {P M : Type 0} (meaning : P → M) (whole : M) (count limit : ℕ) (outcome : Outcome P) (Under : ℕ → ℕ → Outcome P → Type 0)
@@ -85,7 +85,7 @@ refused-whole front p first b ps n limit outcome partial is d =
 
 -- and it stands for the front and the rest
 pub stands-behind : (before front : PartialState) (plan p : PlannedQuery) (first : ℕ) (rest b : List ℕ) (pieces ps : List Piece) (n limit : ℕ) (outcome : Outcome Partial) (partial : Partial)
-    → p ≡ plan → first ≡ 1 → b ≡ rest → ps ≡ pieces → n ≡ length pieces → length pieces ≤ 1048576 → Stands → IsCutInto rest (indexed rest pieces)
+    → p ≡ plan → first ≡ 1 → b ≡ rest → ps ≡ pieces → n ≡ length pieces → length pieces ≤ 1048576 → Stands → IsCutInto rest (indexed_pieces rest pieces)
     → ((fields : List Field) (q : TreeForm) (input : List ℕ) → StandsForInput fields q before input → StandsFor fields q front (one_piece input))
     → outcome ≡ Whole partial → DecidesBehind front p first b ps n limit outcome → StandsBehind plan.fields plan.query before rest partial
 stands-behind before front plan p first rest b pieces ps n limit outcome partial e a f g h few stands cut as_one is d =
@@ -101,7 +101,7 @@ stands-behind before front plan p first rest b pieces ps n limit outcome partial
       behind = λ input given lines.
           let is_front = denotation-from_stands fields q front (one_piece input) (as_one fields q input given) in
           record {
-            pieces = one_piece input ++ indexed_from 1 rest pieces;
+            pieces = one_piece input ++ indexed_pieces_from 1 rest pieces;
             stands = stands fields q (one_piece input) 1 rest pieces partial (omega (arith, few))
                 (whole.0 ∙ ap (λ m. both m (total (denotation fields q []) both (denotation_from fields q 1 rest pieces) (length pieces))) is_front);
             cut = cut-behind input rest pieces lines cut;
@@ -110,7 +110,7 @@ stands-behind before front plan p first rest b pieces ps n limit outcome partial
 
 -- with some more they are few
 pub few-loads : (plan p : PlannedQuery) (input b : List ℕ) (pieces ps : List Piece) (n more : ℕ)
-    → p ≡ plan → b ≡ input → ps ≡ pieces → n ≡ length pieces → Loads → all_lines (indexed input pieces) ≡ lines input → more + length input < 2 ^ 63
+    → p ≡ plan → b ≡ input → ps ≡ pieces → n ≡ length pieces → Loads → all_lines (indexed_pieces input pieces) ≡ lines input → more + length input < 2 ^ 63
     → loads_of p b ps n + more < 2 ^ 63
 few-loads plan p input b pieces ps n more e f g h loads same short =
     let is = ap (λ (x : PlannedQuery). loads_of x b ps n) e ∙ ap (λ (x : List ℕ). loads_of plan x ps n) f ∙ ap (λ (x : List Piece). loads_of plan input x n) g
@@ -118,12 +118,12 @@ few-loads plan p input b pieces ps n more e f g h loads same short =
     omega (arith, is, length-lines input, short)
 
 pub weights-counted : (plan p : PlannedQuery) (input b : List ℕ) (pieces ps : List Piece) (n : ℕ)
-    → p ≡ plan → b ≡ input → ps ≡ pieces → n ≡ length pieces → Weighs → all_lines (indexed input pieces) ≡ lines input
+    → p ≡ plan → b ≡ input → ps ≡ pieces → n ≡ length pieces → Weighs → all_lines (indexed_pieces input pieces) ≡ lines input
     → weights_of p b ps n ≡ length (refused_lines plan.fields input)
 weights-counted plan p input b pieces ps n e f g h weighs same =
     ap (λ (x : PlannedQuery). weights_of x b ps n) e ∙ ap (λ (x : List ℕ). weights_of plan x ps n) f ∙ ap (λ (x : List Piece). weights_of plan input x n) g
     ∙ ap (λ (x : ℕ). weights_of plan input pieces x) h ∙ weighs plan.fields plan.query input pieces
-    ∙ refused-counted plan.fields (indexed input pieces) input same
+    ∙ refused-counted plan.fields (indexed_pieces input pieces) input same
 
 -- with each share below some number, and so many loads beside, there is room
 pub room-beside : {S : Type 0} (sum : S → ℕ) (shares : List S) (before loads : ℕ) → loads + before < 2 ^ 63 → All (λ share. sum share ≤ before) shares → All (λ share. loads + sum share < 2 ^ 63) shares

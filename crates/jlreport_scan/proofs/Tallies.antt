@@ -12,7 +12,7 @@ use Rattle.semantics.specs.Lines.{line_feed, lines, without_empty_last}
 use Rattle.semantics.specs.Records.{decode_line, answers, refused_lines}
 use Rattle.semantics.specs.Syntax.{TreeForm}
 use Rattle.tables.specs.Partials.{StandsForInput}
-use Rattle.tables.specs.Pieces.{IndexedPiece, all_lines, refused_within}
+use Rattle.tables.specs.Pieces.{IndexedPiece, all_lines, refused_lines_within}
 use Rattle.tables.specs.States.{PartialState}
 use Rattle.tables.proofs.Cutting.{cut-lines}
 
@@ -60,14 +60,14 @@ length-refused fields input = numbered 1 (answers fields input)
 faults-append : (fields : List Field) (xs ys : List (List ℕ)) → faults_of fields (xs ++ ys) ≡ faults_of fields xs ++ faults_of fields ys
 faults-append fields xs ys = ap (filter_map result_err) (map-append (decode_line fields) xs ys) ∙ filter_map-append result_err (map (decode_line fields) xs) (map (decode_line fields) ys)
 
-pub length-within : (fields : List Field) (pieces : List IndexedPiece) → length (refused_within fields pieces) ≡ length (faults_of fields (all_lines pieces))
+pub length-within : (fields : List Field) (pieces : List IndexedPiece) → length (refused_lines_within fields pieces) ≡ length (faults_of fields (all_lines pieces))
 length-within fields [] = refl
 length-within fields (piece ∷ pieces) =
     let both = ap length (faults-append fields (lines piece.bytes) (all_lines pieces)) in
     omega (
       arith,
       both,
-      length-append (refused_lines fields piece.bytes) (refused_within fields pieces),
+      length-append (refused_lines fields piece.bytes) (refused_lines_within fields pieces),
       length-append (faults_of fields (lines piece.bytes)) (faults_of fields (all_lines pieces)),
       length-refused fields piece.bytes,
       length-within fields pieces,
@@ -75,7 +75,7 @@ length-within fields (piece ∷ pieces) =
 
 -- the pieces that have the lines of an input have as many refused lines
 pub refused-counted : (fields : List Field) (pieces : List IndexedPiece) (input : List ℕ) → all_lines pieces ≡ lines input
-    → length (refused_within fields pieces) ≡ length (refused_lines fields input)
+    → length (refused_lines_within fields pieces) ≡ length (refused_lines fields input)
 refused-counted fields pieces input same =
     length-within fields pieces ∙ ap (λ ls. length (faults_of fields ls)) same ∙ sym (length-refused fields input)
 

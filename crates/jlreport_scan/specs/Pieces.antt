@@ -12,7 +12,7 @@ use Rattle.pool.specs.declared.laws.Outcome.{Outcome}
 use Rattle.pool.specs.declared.laws.Outcome.TheVariants.{Whole, Over}
 use Rattle.pool.specs.Holding.{Holding}
 use Rattle.pool.specs.Settled.{AreAll, HaveEachOnce, pieces_of}
-use Rattle.tables.specs.Denotations.{indexed}
+use Rattle.tables.specs.Denotations.{indexed_pieces}
 use Rattle.tables.specs.Pieces.{IsCutInto}
 use Rattle.jlreport_scan.specs.Gathered.{IsWhole}
 use Rattle.semantics.specs.Syntax.{TreeForm}
@@ -27,7 +27,7 @@ IsUnder count limit Over = limit < count
 
 -- a round is cut into these pieces, which were dealt to these hands, all hands of one deal to so many workers, and each piece is in the list of one of them, once
 pub record IsTaken (workers : ℕ) (round : List ℕ) (pieces : List Piece) (hands : List Holding) : Type 0 where
-  pub cut : IsCutInto round (indexed round pieces)
+  pub cut : IsCutInto round (indexed_pieces round pieces)
   pub deal : AreAll hands × (length hands ≡ workers) × (pieces_of hands ≡ length pieces)
   pub once : HaveEachOnce hands
 

@@ -2,7 +2,7 @@
 ghost use Rattle.std.specs.Prelude.{◌≡◌, ◌≤◌, ◌<◌, ◌^◌, All, IfOk, length};
 ghost use Rattle.semantics.specs.Lines.{lines};
 ghost use Rattle.tables.specs.Pieces.{IsCutInto, all_lines};
-ghost use Rattle.tables.specs.Denotations.{indexed};
+ghost use Rattle.tables.specs.Denotations.{indexed_pieces};
 
 use lines::{Piece, cut};
 use std::alloc::{AllocError, Global};
@@ -19,9 +19,10 @@ pub(crate) fn pieces_of(alloc: Global, input: &[u8], piece: usize) -> Result<Vec
         All (λ piece. piece.start < piece.stop) pieces.items) }
     ensures within { IfOk result (λ pieces.
         All (λ piece. piece.stop ≤ length input.now) pieces.items) }
-    ensures cut { IfOk result (λ pieces. IsCutInto input.now (indexed input.now pieces.items)) }
+    ensures cut { IfOk result (λ pieces.
+        IsCutInto input.now (indexed_pieces input.now pieces.items)) }
     ensures lines { IfOk result (λ pieces.
-        all_lines (indexed input.now pieces.items) ≡ lines input.now) }
+        all_lines (indexed_pieces input.now pieces.items) ≡ lines input.now) }
 {
     cut(alloc, input, piece.max(input.len() / MAX_PIECES + 1))
 }

@@ -14,7 +14,7 @@ use Rattle.semantics.specs.Conditions.{passes}
 use Rattle.tables_groups.specs.Functions.{bound, filter_at}
 use Rattle.semantics.specs.Groups.{Row}
 use Rattle.semantics.specs.Found.{aggregate_function, aggregate_functions}
-use Rattle.tables.specs.Functions.{filters_kept}
+use Rattle.tables.specs.Functions.{filter_tests}
 
 -- what the filter with an index keeps, where there is such a filter
 got : (fields : List Field) (filters : List PredicateForm) (index : ℕ) (p : PredicateForm) → slice_get filters index ≡ Some p
@@ -49,7 +49,7 @@ each-bound fields filters (f ∷ fs) e =
     λ i. record { function = f.function; filter = this i } ∷ more i
 
 -- where the index of each function leads to its filter, the functions by their indexes are those of the query
-pub bound-functions : (fields : List Field) (q : TreeForm) → map (bound (filters_kept fields q)) (indexed_functions fields q) ≡ aggregate_functions fields q
+pub bound-functions : (fields : List Field) (q : TreeForm) → map (bound (filter_tests fields q)) (indexed_functions fields q) ≡ aggregate_functions fields q
 bound-functions fields q = each-bound fields (filters_of fields q) (functions_of fields q) (indexes_lead_back fields q)
 
 -- as many

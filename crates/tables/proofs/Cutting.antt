@@ -11,8 +11,8 @@ use Rattle.semantics.specs.Records.{valid_records, refused_lines, decode_line}
 use Rattle.semantics.specs.Lines.{line_feed, lines}
 use Rattle.lines.specs.Pieces.{AllButLast, EndsInFeed}
 use Rattle.lines.proofs.Splits as splits
-use Rattle.tables.specs.Folding.{valid_of}
-use Rattle.tables.specs.Notes.{note_of, numbered_from}
+use Rattle.tables.specs.Folding.{valid_records_of}
+use Rattle.tables.specs.Notes.{note_of, refused_lines_from}
 use Rattle.tables.specs.Pieces.{IndexedPiece, IsCutInto, all_lines, joined_bytes, records_of}
 use Rattle.tables.proofs.Reading.{enumerate-append, numbered_fault}
 
@@ -30,7 +30,7 @@ cut-lines (p ∷ []) f = append-nil (lines p.bytes) ∙ ap lines (sym (append-ni
 cut-lines (p ∷ q ∷ more) f = ap (λ ls. lines p.bytes ++ ls) (cut-lines (q ∷ more) f.1) ∙ sym (behind-feed p.bytes (joined_bytes (q ∷ more)) f.0)
 
 -- the valid records of the pieces are those of all their lines
-pub records-valid : (fields : List Field) (pieces : List IndexedPiece) → records_of fields pieces ≡ valid_of fields (all_lines pieces)
+pub records-valid : (fields : List Field) (pieces : List IndexedPiece) → records_of fields pieces ≡ valid_records_of fields (all_lines pieces)
 records-valid fields [] = refl
 records-valid fields (p ∷ more) =
     ap (λ rows. valid_records fields p.bytes ++ rows) (records-valid fields more)
@@ -54,20 +54,20 @@ refused_from-append fields n ls ms =
     ∙ ap (λ k. refused_from fields n ls ++ filter_map numbered_fault (enumerate_from (n + k) (map (decode_line fields) ms))) (length-map ls (decode_line fields))
 
 -- numbered one piece after the other, the refused lines are those of all lines
-pub numbered-lines : (fields : List Field) (n : ℕ) (pieces : List IndexedPiece) → numbered_from n (map (note_of fields) pieces) ≡ refused_from fields (n + 1) (all_lines pieces)
+pub numbered-lines : (fields : List Field) (n : ℕ) (pieces : List IndexedPiece) → refused_lines_from n (map (note_of fields) pieces) ≡ refused_from fields (n + 1) (all_lines pieces)
 numbered-lines fields n [] = refl
 numbered-lines fields n (p ∷ more) =
     let ls = lines p.bytes in
-    ap (λ front. front ++ numbered_from (n + length ls) (map (note_of fields) more)) (shifted n 1 (map (decode_line fields) ls))
+    ap (λ front. front ++ refused_lines_from (n + length ls) (map (note_of fields) more)) (shifted n 1 (map (decode_line fields) ls))
     ∙ ap (λ rest. refused_from fields (n + 1) ls ++ rest) (numbered-lines fields (n + length ls) more)
     ∙ ap (λ k. refused_from fields (n + 1) ls ++ refused_from fields k (all_lines more)) (let e : n + length ls + 1 ≡ n + 1 + length ls = omega arith in e)
     ∙ sym (refused_from-append fields (n + 1) ls (all_lines more))
 
 -- what the pieces of an input that was cut between its lines come to
 pub cut-records : (fields : List Field) (input : List ℕ) (pieces : List IndexedPiece) → IsCutInto input pieces → records_of fields pieces ≡ valid_records fields input
-cut-records fields input pieces c = records-valid fields pieces ∙ ap (valid_of fields) (cut-lines pieces c.feeds ∙ ap lines c.joined)
+cut-records fields input pieces c = records-valid fields pieces ∙ ap (valid_records_of fields) (cut-lines pieces c.feeds ∙ ap lines c.joined)
 
-pub cut-refused : (fields : List Field) (input : List ℕ) (pieces : List IndexedPiece) → IsCutInto input pieces → numbered_from 0 (map (note_of fields) pieces) ≡ refused_lines fields input
+pub cut-refused : (fields : List Field) (input : List ℕ) (pieces : List IndexedPiece) → IsCutInto input pieces → refused_lines_from 0 (map (note_of fields) pieces) ≡ refused_lines fields input
 cut-refused fields input pieces c =
     numbered-lines fields 0 pieces
     ∙ ap (λ n. refused_from fields n (all_lines pieces)) (let e : 0 + 1 ≡ 1 = omega arith in e)

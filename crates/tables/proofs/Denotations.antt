@@ -10,9 +10,9 @@ use Rattle.semantics.specs.Syntax.{TreeForm}
 use Rattle.pool.specs.Totals as pool
 use Rattle.pool.proofs.Sums.{total_load, total_weight}
 use Rattle.tables.specs.Laws.{denotation-append, denotations_lawful}
-use Rattle.tables.specs.Denotations.{IsDenotation, Denotation, both, indexed, indexed_from, denotation, denotation_at, denotation_from, meaning, no_bytes, piece_at, piece_from, with_index}
+use Rattle.tables.specs.Denotations.{IsDenotation, Denotation, both, indexed_pieces, indexed_pieces_from, denotation, denotation_at, denotation_from, meaning, no_bytes, piece_at, piece_from, with_index}
 use Rattle.tables.specs.Partials.{StandsFor}
-use Rattle.tables.specs.Pieces.{IndexedPiece, all_lines, refused_within}
+use Rattle.tables.specs.Pieces.{IndexedPiece, all_lines, refused_lines_within}
 use Rattle.tables.specs.States.{PartialState}
 
 -- ---- standing for pieces is meaning what they come to
@@ -72,53 +72,53 @@ total-numbered fields q piece pieces numbered =
 -- ---- all pieces of an input
 
 -- there are as many with their indexes
-length-from : (first : ℕ) (input : List ℕ) (pieces : List Piece) → length (indexed_from first input pieces) ≡ length pieces
+length-from : (first : ℕ) (input : List ℕ) (pieces : List Piece) → length (indexed_pieces_from first input pieces) ≡ length pieces
 length-from first input pieces = length-map (enumerate_from first pieces) (with_index input) ∙ length-enumerate_from first pieces
 
-pub length-indexed : (input : List ℕ) (pieces : List Piece) → length (indexed input pieces) ≡ length pieces
+pub length-indexed : (input : List ℕ) (pieces : List Piece) → length (indexed_pieces input pieces) ≡ length pieces
 length-indexed input pieces = length-from 0 input pieces
 
 -- the pieces up to one, and that one
 one-more : (first : ℕ) (input : List ℕ) (pieces : List Piece) (k : ℕ) → k < length pieces
-    → take (suc k) (indexed_from first input pieces) ≡ take k (indexed_from first input pieces) ++ with_index input (first + k, slice_index_or pieces k no_bytes) ∷ []
+    → take (suc k) (indexed_pieces_from first input pieces) ≡ take k (indexed_pieces_from first input pieces) ++ with_index input (first + k, slice_index_or pieces k no_bytes) ∷ []
 one-more first input pieces k lt =
-    take-suc (indexed_from first input pieces) k (with_index input (0, no_bytes)) (omega (arith, lt, length-from first input pieces))
-    ∙ ap (λ piece. take k (indexed_from first input pieces) ++ piece ∷ [])
+    take-suc (indexed_pieces_from first input pieces) k (with_index input (0, no_bytes)) (omega (arith, lt, length-from first input pieces))
+    ∙ ap (λ piece. take k (indexed_pieces_from first input pieces) ++ piece ∷ [])
     (get_or-map (with_index input) (enumerate_from first pieces) k (0, no_bytes) (with_index input (0, no_bytes)) (omega (arith, lt, length-enumerate_from first pieces))
     ∙ ap (with_index input) (get_or-enumerate_from first pieces k (0, no_bytes) lt))
 
 -- the total of all pieces is what they come to
 pub total-all : (fields : List Field) (q : TreeForm) (input : List ℕ) (pieces : List Piece)
-    → pool.total (denotation fields q []) both (denotation_at fields q input pieces) (length pieces) ≡ denotation fields q (indexed input pieces)
+    → pool.total (denotation fields q []) both (denotation_at fields q input pieces) (length pieces) ≡ denotation fields q (indexed_pieces input pieces)
 total-all fields q input pieces =
     ap (pool.total (denotation fields q []) both (denotation_at fields q input pieces)) (sym (length-indexed input pieces))
-    ∙ total-numbered fields q (piece_at input pieces) (indexed input pieces)
+    ∙ total-numbered fields q (piece_at input pieces) (indexed_pieces input pieces)
     (λ k lt. one-more 0 input pieces k (omega (arith, lt, length-indexed input pieces))
-    ∙ ap (λ n. take k (indexed input pieces) ++ with_index input (n, slice_index_or pieces k no_bytes) ∷ []) (let e : 0 + k ≡ k = omega arith in e))
+    ∙ ap (λ n. take k (indexed_pieces input pieces) ++ with_index input (n, slice_index_or pieces k no_bytes) ∷ []) (let e : 0 + k ≡ k = omega arith in e))
 
 -- and so with indexes from a first one on
 pub total-from : (fields : List Field) (q : TreeForm) (first : ℕ) (rest : List ℕ) (pieces : List Piece) → first + length pieces < 2 ^ 32
-    → pool.total (denotation fields q []) both (denotation_from fields q first rest pieces) (length pieces) ≡ denotation fields q (indexed_from first rest pieces)
+    → pool.total (denotation fields q []) both (denotation_from fields q first rest pieces) (length pieces) ≡ denotation fields q (indexed_pieces_from first rest pieces)
 total-from fields q first rest pieces few =
     ap (pool.total (denotation fields q []) both (denotation_from fields q first rest pieces)) (sym (length-from first rest pieces))
-    ∙ total-numbered fields q (piece_from first rest pieces) (indexed_from first rest pieces)
+    ∙ total-numbered fields q (piece_from first rest pieces) (indexed_pieces_from first rest pieces)
     (λ k lt. one-more first rest pieces k (omega (arith, lt, length-from first rest pieces))
-    ∙ ap (λ n. take k (indexed_from first rest pieces) ++ with_index rest (n, slice_index_or pieces k no_bytes) ∷ [])
+    ∙ ap (λ n. take k (indexed_pieces_from first rest pieces) ++ with_index rest (n, slice_index_or pieces k no_bytes) ∷ [])
     (let e : first + k ≡ min (first + k) 4294967295 = omega (arith, lt, few, length-from first rest pieces) in e))
 
 -- what a front comes to, and behind it the pieces of the rest
 pub total-behind : (fields : List Field) (q : TreeForm) (front : List IndexedPiece) (first : ℕ) (rest : List ℕ) (pieces : List Piece) → first + length pieces < 2 ^ 32
-    → both (denotation fields q front) (pool.total (denotation fields q []) both (denotation_from fields q first rest pieces) (length pieces)) ≡ denotation fields q (front ++ indexed_from first rest pieces)
+    → both (denotation fields q front) (pool.total (denotation fields q []) both (denotation_from fields q first rest pieces) (length pieces)) ≡ denotation fields q (front ++ indexed_pieces_from first rest pieces)
 total-behind fields q front first rest pieces few =
-    ap (both (denotation fields q front)) (total-from fields q first rest pieces few) ∙ sym (denotation-append fields q front (indexed_from first rest pieces))
+    ap (both (denotation fields q front)) (total-from fields q first rest pieces few) ∙ sym (denotation-append fields q front (indexed_pieces_from first rest pieces))
 
 -- so are the numbers of refused lines and of lines, added up
 pub refused-all : (fields : List Field) (q : TreeForm) (input : List ℕ) (pieces : List Piece)
-    → pool.sum_below (λ i. (denotation_at fields q input pieces i).refused) (length pieces) ≡ length (refused_within fields (indexed input pieces))
+    → pool.sum_below (λ i. (denotation_at fields q input pieces i).refused) (length pieces) ≡ length (refused_lines_within fields (indexed_pieces input pieces))
 refused-all fields q input pieces =
     sym (total_weight (denotations_lawful fields q input pieces) (length pieces)) ∙ ap (λ (m : Denotation). m.refused) (total-all fields q input pieces)
 
 pub lines-all : (fields : List Field) (q : TreeForm) (input : List ℕ) (pieces : List Piece)
-    → pool.sum_below (λ i. (denotation_at fields q input pieces i).lines) (length pieces) ≡ length (all_lines (indexed input pieces))
+    → pool.sum_below (λ i. (denotation_at fields q input pieces i).lines) (length pieces) ≡ length (all_lines (indexed_pieces input pieces))
 lines-all fields q input pieces =
     sym (total_load (denotations_lawful fields q input pieces) (length pieces)) ∙ ap (λ (m : Denotation). m.lines) (total-all fields q input pieces)

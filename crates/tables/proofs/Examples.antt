@@ -1,7 +1,7 @@
 -- The definitions, computed on examples: an input is the line `a` and, read behind it, the lines `b` and `c`.
 use Rattle.std.proofs.Common.{◌≡◌, ℕ, List, [], ◌∷◌, refl, codes}
 use Rattle.lines.specs.declared.pieces.Piece.{Piece}
-use Rattle.tables.specs.Denotations.{indexed, indexed_from, piece_from}
+use Rattle.tables.specs.Denotations.{indexed_pieces, indexed_pieces_from, piece_from}
 use Rattle.tables.specs.Partials.{one_piece}
 use Rattle.tables.specs.Pieces.{IndexedPiece}
 
@@ -29,11 +29,11 @@ no_front : one_piece [] ≡ []
 no_front = refl
 
 -- the pieces behind the front have the indexes from 1 on
-behind : indexed_from 1 rest pieces ≡ piece 1 (line (codes "b")) ∷ piece 2 (line (codes "c")) ∷ []
+behind : indexed_pieces_from 1 rest pieces ≡ piece 1 (line (codes "b")) ∷ piece 2 (line (codes "c")) ∷ []
 behind = refl
 
 -- with no front they have those from 0 on
-alone : indexed_from 0 rest pieces ≡ indexed rest pieces
+alone : indexed_pieces_from 0 rest pieces ≡ indexed_pieces rest pieces
 alone = refl
 
 second : piece_from 1 rest pieces 1 ≡ piece 2 (line (codes "c"))

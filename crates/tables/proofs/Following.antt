@@ -15,9 +15,9 @@ use Rattle.lines.specs.Pieces.{AreWholeLines}
 use Rattle.lines.proofs.Fronts.{valid-whole_lines, lines-whole_lines, refused-whole_lines}
 use Rattle.tables_groups.specs.Bags.{SameBag, weigh}
 use Rattle.tables.specs.declared.piece_refusals.PieceRefusals.{PieceRefusals}
-use Rattle.tables.specs.Notes.{AreLinesBehind, AreLinesOf, IsWellNumbered, Noted, lines_noted, note_in, note_of, numbered_from}
+use Rattle.tables.specs.Notes.{AreLinesBehind, AreLinesOf, IsWellNumbered, Noted, line_count, note_in, note_of, refused_lines_from}
 use Rattle.tables.specs.Partials.{one_piece, whole_piece}
-use Rattle.tables.specs.Pieces.{IndexedPiece, IsCutInto, all_lines, records_of, refused_within}
+use Rattle.tables.specs.Pieces.{IndexedPiece, IsCutInto, all_lines, records_of, refused_lines_within}
 use Rattle.tables.proofs.Bags.{all-decided}
 use Rattle.tables.proofs.Cutting.{cut-lines, cut-records, cut-refused}
 use Rattle.tables.proofs.Merging.{no-notes, one-note}
@@ -39,35 +39,35 @@ shift-shift m n (line ∷ found) =
     ap (λ k. (k, line.1) ∷ map (shift (m + n)) found) (let e : m + n + line.0 ≡ m + (n + line.0) = omega arith in e)
     ∙ ap (λ ls. shift m (shift n line) ∷ ls) (shift-shift m n found)
 
-numbered-shift : (m n : ℕ) (notes : List Noted) → numbered_from (m + n) notes ≡ map (shift m) (numbered_from n notes)
+numbered-shift : (m n : ℕ) (notes : List Noted) → refused_lines_from (m + n) notes ≡ map (shift m) (refused_lines_from n notes)
 numbered-shift m n [] = refl
 numbered-shift m n (note ∷ notes) =
-    let rest = numbered_from (n + note.lines) notes in
-    ap (λ k. map (shift (m + n)) note.refused ++ numbered_from k notes) (let e : m + n + note.lines ≡ m + (n + note.lines) = omega arith in e)
+    let rest = refused_lines_from (n + note.lines) notes in
+    ap (λ k. map (shift (m + n)) note.refused ++ refused_lines_from k notes) (let e : m + n + note.lines ≡ m + (n + note.lines) = omega arith in e)
     ∙ ap (λ ls. map (shift (m + n)) note.refused ++ ls) (numbered-shift m (n + note.lines) notes)
     ∙ ap (λ ls. ls ++ map (shift m) rest) (shift-shift m n note.refused)
     ∙ sym (map-append (shift m) (map (shift n) note.refused) rest)
 
 -- behind so many lines each number is that much greater
-pub numbered-behind : (before : ℕ) (notes : List Noted) → numbered_from before notes ≡ map (shift before) (numbered_from 0 notes)
-numbered-behind before notes = ap (λ n. numbered_from n notes) (let e : before ≡ before + 0 = omega arith in e) ∙ numbered-shift before 0 notes
+pub numbered-behind : (before : ℕ) (notes : List Noted) → refused_lines_from before notes ≡ map (shift before) (refused_lines_from 0 notes)
+numbered-behind before notes = ap (λ n. refused_lines_from n notes) (let e : before ≡ before + 0 = omega arith in e) ∙ numbered-shift before 0 notes
 
 -- the lines of the first note keep their numbers
-pub first-numbered : (note : Noted) (notes : List Noted) → numbered_from 0 (note ∷ notes) ≡ note.refused ++ numbered_from note.lines notes
+pub first-numbered : (note : Noted) (notes : List Noted) → refused_lines_from 0 (note ∷ notes) ≡ note.refused ++ refused_lines_from note.lines notes
 first-numbered note notes =
-    ap (λ ls. ls ++ numbered_from (0 + note.lines) notes) (shift-none note.refused)
-    ∙ ap (λ n. note.refused ++ numbered_from n notes) (let e : 0 + note.lines ≡ note.lines = omega arith in e)
+    ap (λ ls. ls ++ refused_lines_from (0 + note.lines) notes) (shift-none note.refused)
+    ∙ ap (λ n. note.refused ++ refused_lines_from n notes) (let e : 0 + note.lines ≡ note.lines = omega arith in e)
 
 -- ---- no number is above that of the lines
 
-numbers-within : (before : ℕ) (notes : List Noted) → All IsWellNumbered notes → All (λ line. line.0 ≤ before + lines_noted notes) (numbered_from before notes)
-numbers-within before [] well = All-nil (λ line. line.0 ≤ before + lines_noted [])
+numbers-within : (before : ℕ) (notes : List Noted) → All IsWellNumbered notes → All (λ line. line.0 ≤ before + line_count notes) (refused_lines_from before notes)
+numbers-within before [] well = All-nil (λ line. line.0 ≤ before + line_count [])
 numbers-within before (note ∷ notes) well =
-    let sum : lines_noted (note ∷ notes) ≡ note.lines + lines_noted notes = sum_by-cons (λ (n : Noted). n.lines) note notes in
-    All-append (λ line. line.0 ≤ before + lines_noted (note ∷ notes)) (map (shift before) note.refused) (numbered_from (before + note.lines) notes)
-    (All-map (λ line. line.0 ≤ before + lines_noted (note ∷ notes)) (shift before) note.refused
-    (All-weaker (λ line. line.0 ≤ note.lines) (λ line. before + line.0 ≤ before + lines_noted (note ∷ notes)) (λ line l. omega (arith, sum, l)) note.refused (All-head IsWellNumbered note notes well)))
-    (All-weaker (λ line. line.0 ≤ before + note.lines + lines_noted notes) (λ line. line.0 ≤ before + lines_noted (note ∷ notes)) (λ line l. omega (arith, sum, l)) (numbered_from (before + note.lines) notes)
+    let sum : line_count (note ∷ notes) ≡ note.lines + line_count notes = sum_by-cons (λ (n : Noted). n.lines) note notes in
+    All-append (λ line. line.0 ≤ before + line_count (note ∷ notes)) (map (shift before) note.refused) (refused_lines_from (before + note.lines) notes)
+    (All-map (λ line. line.0 ≤ before + line_count (note ∷ notes)) (shift before) note.refused
+    (All-weaker (λ line. line.0 ≤ note.lines) (λ line. before + line.0 ≤ before + line_count (note ∷ notes)) (λ line l. omega (arith, sum, l)) note.refused (All-head IsWellNumbered note notes well)))
+    (All-weaker (λ line. line.0 ≤ before + note.lines + line_count notes) (λ line. line.0 ≤ before + line_count (note ∷ notes)) (λ line l. omega (arith, sum, l)) (refused_lines_from (before + note.lines) notes)
     (numbers-within (before + note.lines) notes (All-tail IsWellNumbered note notes well)))
 
 abbrev is_well_numbered : Noted → Bool
@@ -84,43 +84,43 @@ well-same : (notes ordered : List Noted) → SameBag notes ordered → All IsWel
 well-same notes ordered same well =
     All-from_recursion IsWellNumbered ordered (all-decided is_well_numbered IsWellNumbered well-Decides ordered notes (λ f. sym (same f)) (recursion_from_All IsWellNumbered notes well))
 
-noted-same : (notes ordered : List Noted) → SameBag notes ordered → lines_noted ordered ≡ lines_noted notes
+noted-same : (notes ordered : List Noted) → SameBag notes ordered → line_count ordered ≡ line_count notes
 noted-same notes ordered same =
     let count : Noted → ℕ = λ note. note.lines in
     sym (is_sum_by (weigh count) count refl (λ _ _. refl) ordered) ∙ sym (same count) ∙ is_sum_by (weigh count) count refl (λ _ _. refl) notes
 
-pub lines-within : (notes : List Noted) (found : List (ℕ × LineFault)) → All IsWellNumbered notes → AreLinesOf notes found → All (λ line. line.0 ≤ lines_noted notes) found
+pub lines-within : (notes : List Noted) (found : List (ℕ × LineFault)) → All IsWellNumbered notes → AreLinesOf notes found → All (λ line. line.0 ≤ line_count notes) found
 lines-within notes found well are =
     let sum = noted-same notes are.ordered are.same in
-    All-same (λ line. line.0 ≤ lines_noted notes) found (numbered_from 0 are.ordered) are.numbered
-    (All-weaker (λ line. line.0 ≤ 0 + lines_noted are.ordered) (λ line. line.0 ≤ lines_noted notes) (λ line l. omega (arith, sum, l)) (numbered_from 0 are.ordered)
+    All-same (λ line. line.0 ≤ line_count notes) found (refused_lines_from 0 are.ordered) are.numbered
+    (All-weaker (λ line. line.0 ≤ 0 + line_count are.ordered) (λ line. line.0 ≤ line_count notes) (λ line l. omega (arith, sum, l)) (refused_lines_from 0 are.ordered)
     (numbers-within 0 are.ordered (well-same notes are.ordered are.same well)))
 
 pub behind-within : (most before : ℕ) (notes : List Noted) (front all : List (ℕ × LineFault)) → All IsWellNumbered notes → All (λ line. line.0 ≤ most) front
-    → AreLinesBehind before notes front all → before ≤ most → All (λ line. line.0 ≤ most + lines_noted notes) all
+    → AreLinesBehind before notes front all → before ≤ most → All (λ line. line.0 ≤ most + line_count notes) all
 behind-within most before notes front all well low are few =
-    All-same (λ line. line.0 ≤ most + lines_noted notes) all (front ++ map (shift before) are.lines) are.behind
-    (All-append (λ line. line.0 ≤ most + lines_noted notes) front (map (shift before) are.lines)
-    (All-weaker (λ line. line.0 ≤ most) (λ line. line.0 ≤ most + lines_noted notes) (λ line l. omega (arith, l)) front low)
-    (All-map (λ line. line.0 ≤ most + lines_noted notes) (shift before) are.lines
-    (All-weaker (λ line. line.0 ≤ lines_noted notes) (λ line. before + line.0 ≤ most + lines_noted notes) (λ line l. omega (arith, l, few)) are.lines (lines-within notes are.lines well are.of_notes))))
+    All-same (λ line. line.0 ≤ most + line_count notes) all (front ++ map (shift before) are.lines) are.behind
+    (All-append (λ line. line.0 ≤ most + line_count notes) front (map (shift before) are.lines)
+    (All-weaker (λ line. line.0 ≤ most) (λ line. line.0 ≤ most + line_count notes) (λ line l. omega (arith, l)) front low)
+    (All-map (λ line. line.0 ≤ most + line_count notes) (shift before) are.lines
+    (All-weaker (λ line. line.0 ≤ line_count notes) (λ line. before + line.0 ≤ most + line_count notes) (λ line l. omega (arith, l, few)) are.lines (lines-within notes are.lines well are.of_notes))))
 
 -- ---- the pieces of an input come to what the input comes to
 
 count-lines : (input : List ℕ) (pieces : List IndexedPiece) → IsCutInto input pieces → length (all_lines pieces) ≡ length (lines input)
 count-lines input pieces c = ap length (cut-lines pieces c.feeds ∙ ap lines c.joined)
 
-count-numbered : (fields : List Field) (before : ℕ) (pieces : List IndexedPiece) → length (numbered_from before (map (note_of fields) pieces)) ≡ length (refused_within fields pieces)
+count-numbered : (fields : List Field) (before : ℕ) (pieces : List IndexedPiece) → length (refused_lines_from before (map (note_of fields) pieces)) ≡ length (refused_lines_within fields pieces)
 count-numbered fields before [] = refl
 count-numbered fields before (p ∷ more) =
     let found = refused_lines fields p.bytes in
-    let both = length-append (map (shift before) found) (numbered_from (before + length (lines p.bytes)) (map (note_of fields) more)) in
+    let both = length-append (map (shift before) found) (refused_lines_from (before + length (lines p.bytes)) (map (note_of fields) more)) in
     let first = length-map found (shift before) in
     let rest = count-numbered fields (before + length (lines p.bytes)) more in
-    let all = length-append found (refused_within fields more) in
+    let all = length-append found (refused_lines_within fields more) in
     omega (arith, both, first, rest, all)
 
-count-refused : (fields : List Field) (input : List ℕ) (pieces : List IndexedPiece) → IsCutInto input pieces → length (refused_within fields pieces) ≡ length (refused_lines fields input)
+count-refused : (fields : List Field) (input : List ℕ) (pieces : List IndexedPiece) → IsCutInto input pieces → length (refused_lines_within fields pieces) ≡ length (refused_lines fields input)
 count-refused fields input pieces c = sym (count-numbered fields 0 pieces) ∙ ap length (cut-refused fields input pieces c)
 
 pub refused-in_order : (fields : List Field) (input : List ℕ) (pieces : List IndexedPiece) (notes : List Noted) (found : List (ℕ × LineFault)) → IsCutInto input pieces
@@ -150,7 +150,7 @@ followed-lines front back pieces more whole c d =
     omega (arith, joined, both, first, rest)
 
 pub followed-count : (fields : List Field) (front back : List ℕ) (pieces more : List IndexedPiece) → AreWholeLines front → IsCutInto front pieces → IsCutInto back more
-    → length (refused_within fields (whole_piece (front ++ back))) ≡ length (refused_within fields pieces) + length (refused_within fields more)
+    → length (refused_lines_within fields (whole_piece (front ++ back))) ≡ length (refused_lines_within fields pieces) + length (refused_lines_within fields more)
 followed-count fields front back pieces more whole c d =
     let joined = ap length (append-nil (refused_lines fields (front ++ back)) ∙ refused-whole_lines fields front back whole) in
     let both = length-append (refused_lines fields front) (map (shift (length (lines front))) (refused_lines fields back)) in
@@ -186,10 +186,10 @@ lines-behind front rest pieces whole c =
     followed-lines front rest pieces (whole_piece rest) whole c (one-piece rest) ∙ ap (λ n. length (all_lines pieces) + n) (whole-lines rest)
 
 pub count-behind : (fields : List Field) (front rest : List ℕ) (pieces : List IndexedPiece) → AreWholeLines front → IsCutInto front pieces
-    → length (refused_within fields (whole_piece (front ++ rest))) ≡ length (refused_within fields pieces) + length (refused_lines fields rest)
+    → length (refused_lines_within fields (whole_piece (front ++ rest))) ≡ length (refused_lines_within fields pieces) + length (refused_lines fields rest)
 count-behind fields front rest pieces whole c =
     followed-count fields front rest pieces (whole_piece rest) whole c (one-piece rest)
-    ∙ ap (λ (ls : List (ℕ × LineFault)). length (refused_within fields pieces) + length ls) (append-nil (refused_lines fields rest))
+    ∙ ap (λ (ls : List (ℕ × LineFault)). length (refused_lines_within fields pieces) + length ls) (append-nil (refused_lines fields rest))
 
 pub refused-behind : (fields : List Field) (front rest : List ℕ) (pieces : List IndexedPiece) (notes : List Noted) (before : ℕ) (found more all : List (ℕ × LineFault))
     → AreWholeLines front → IsCutInto front pieces → SameBag (map (note_of fields) pieces) notes → AreLinesOf notes found → before ≡ length (all_lines pieces)
@@ -233,7 +233,7 @@ pub one-lines : (input : List ℕ) (pieces : List IndexedPiece) → IsCutInto in
 one-lines [] pieces c = sym (count-lines [] pieces c)
 one-lines (byte ∷ bytes) pieces c = whole-lines (byte ∷ bytes) ∙ sym (count-lines (byte ∷ bytes) pieces c)
 
-pub one-refused : (fields : List Field) (input : List ℕ) (pieces : List IndexedPiece) → IsCutInto input pieces → length (refused_within fields (one_piece input)) ≡ length (refused_within fields pieces)
+pub one-refused : (fields : List Field) (input : List ℕ) (pieces : List IndexedPiece) → IsCutInto input pieces → length (refused_lines_within fields (one_piece input)) ≡ length (refused_lines_within fields pieces)
 one-refused fields [] pieces c = sym (count-refused fields [] pieces c)
 one-refused fields (byte ∷ bytes) pieces c = ap length (append-nil (refused_lines fields (byte ∷ bytes))) ∙ sym (count-refused fields (byte ∷ bytes) pieces c)
 
@@ -264,7 +264,7 @@ one-noted fields (b ∷ bytes) pieces count found notes c counted same are =
     followed-note fields (b ∷ bytes) notes note.0 note.4 note.1 (let n = note.2 in omega (arith, n, counted, all)) (note.3 ∙ same)
 
 pub one-sound : (count : ℕ) (found : List (ℕ × LineFault)) (notes : List PieceRefusals) → All (λ line. line.0 ≤ count) found → AreOneNote count found notes
-    → (lines_noted (map note_in notes) ≡ count) × All IsWellNumbered (map note_in notes)
+    → (line_count (map note_in notes) ≡ count) × All IsWellNumbered (map note_in notes)
 one-sound zero found notes low are = no-notes notes (are.0 refl)
 one-sound (suc n) found notes low are =
     let note = are.1 (omega arith) in

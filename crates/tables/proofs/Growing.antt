@@ -11,8 +11,8 @@ use Rattle.semantics.specs.Syntax.{TreeForm}
 use Rattle.semantics.specs.Conditions.{kept_records}
 use Rattle.tables_groups.specs.Bags.{SameBag}
 use Rattle.tables.specs.declared.piece_refusals.PieceRefusals.{PieceRefusals}
-use Rattle.tables.specs.Notes.{IsWellNumbered, Noted, lines_noted, note_in, note_of}
-use Rattle.tables.specs.Pieces.{IndexedPiece, all_lines, records_of, refused_within}
+use Rattle.tables.specs.Notes.{IsWellNumbered, Noted, line_count, note_in, note_of}
+use Rattle.tables.specs.Pieces.{IndexedPiece, all_lines, records_of, refused_lines_within}
 use Rattle.tables.proofs.Merging.{counted-append, lines-append, notes-append, one-note, records-append, refused-append}
 use Rattle.tables.proofs.Reading.{length-valid_of, length-kept}
 
@@ -52,9 +52,9 @@ lines-more pieces index bytes =
     lines-append pieces (piece_at index bytes ∷ []) ∙ ap (λ ls. length (all_lines pieces) + length ls) (append-nil (lines bytes))
 
 pub refused-more : (fields : List Field) (pieces : List IndexedPiece) (index : ℕ) (bytes : List ℕ)
-    → length (refused_within fields (pieces ++ piece_at index bytes ∷ [])) ≡ length (refused_within fields pieces) + length (refused_lines fields bytes)
+    → length (refused_lines_within fields (pieces ++ piece_at index bytes ∷ [])) ≡ length (refused_lines_within fields pieces) + length (refused_lines fields bytes)
 refused-more fields pieces index bytes =
-    refused-append fields pieces (piece_at index bytes ∷ []) ∙ ap (λ rs. length (refused_within fields pieces) + length rs) (append-nil (refused_lines fields bytes))
+    refused-append fields pieces (piece_at index bytes ∷ []) ∙ ap (λ rs. length (refused_lines_within fields pieces) + length rs) (append-nil (refused_lines fields bytes))
 
 abbrev noted : ℕ → ℕ → List (ℕ × LineFault) → Noted
 noted index n rs = record { index = index; lines = n; refused = rs }
@@ -70,11 +70,11 @@ notes-more fields pieces ns index bytes n rs e f p =
     (λ f. refl))
 
 -- one note more
-pub one-noted_more : (old new : List PieceRefusals) (note : PieceRefusals) (n : ℕ) → new ≡ old ++ note ∷ [] → lines_noted (map note_in old) ≡ n → All IsWellNumbered (map note_in old)
-    → IsWellNumbered (note_in note) → (lines_noted (map note_in new) ≡ n + note.lines) × All IsWellNumbered (map note_in new)
+pub one-noted_more : (old new : List PieceRefusals) (note : PieceRefusals) (n : ℕ) → new ≡ old ++ note ∷ [] → line_count (map note_in old) ≡ n → All IsWellNumbered (map note_in old)
+    → IsWellNumbered (note_in note) → (line_count (map note_in new) ≡ n + note.lines) × All IsWellNumbered (map note_in new)
 one-noted_more old new note n e counted well w =
     let one = one-note (note ∷ []) note refl w in
     let joined = ap (map note_in) e ∙ map-append note_in old (note ∷ []) in (
-      ap lines_noted joined ∙ counted-append (map note_in old) (note_in note ∷ []) n note.lines counted one.0,
+      ap line_count joined ∙ counted-append (map note_in old) (note_in note ∷ []) n note.lines counted one.0,
       subst (λ (ns : List Noted). All IsWellNumbered ns) (sym joined) (All-append IsWellNumbered (map note_in old) (note_in note ∷ []) well one.1),
     )

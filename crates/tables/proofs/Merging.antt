@@ -9,9 +9,9 @@ use Rattle.semantics.specs.Columns.{Field}
 use Rattle.semantics.specs.Records.{valid_records, refused_lines}
 use Rattle.semantics.specs.Lines.{lines}
 use Rattle.tables_groups.specs.Bags.{SameBag}
-use Rattle.tables.specs.Notes.{IsWellNumbered, Noted, lines_noted, note_in, note_of}
+use Rattle.tables.specs.Notes.{IsWellNumbered, Noted, line_count, note_in, note_of}
 use Rattle.tables.specs.declared.piece_refusals.PieceRefusals.{PieceRefusals}
-use Rattle.tables.specs.Pieces.{IndexedPiece, all_lines, records_of, refused_within}
+use Rattle.tables.specs.Pieces.{IndexedPiece, all_lines, records_of, refused_lines_within}
 use Rattle.tables.proofs.Bags.{bag-append}
 
 -- ---- the pieces of both
@@ -22,8 +22,8 @@ records-append fields pieces more = flat_map-append (λ piece. valid_records fie
 pub lines-append : (pieces more : List IndexedPiece) → length (all_lines (pieces ++ more)) ≡ length (all_lines pieces) + length (all_lines more)
 lines-append pieces more = ap length (flat_map-append (λ piece. lines piece.bytes) pieces more) ∙ length-append (all_lines pieces) (all_lines more)
 
-pub refused-append : (fields : List Field) (pieces more : List IndexedPiece) → length (refused_within fields (pieces ++ more)) ≡ length (refused_within fields pieces) + length (refused_within fields more)
-refused-append fields pieces more = ap length (flat_map-append (λ piece. refused_lines fields piece.bytes) pieces more) ∙ length-append (refused_within fields pieces) (refused_within fields more)
+pub refused-append : (fields : List Field) (pieces more : List IndexedPiece) → length (refused_lines_within fields (pieces ++ more)) ≡ length (refused_lines_within fields pieces) + length (refused_lines_within fields more)
+refused-append fields pieces more = ap length (flat_map-append (λ piece. refused_lines fields piece.bytes) pieces more) ∙ length-append (refused_lines_within fields pieces) (refused_lines_within fields more)
 
 pub notes-append : (fields : List Field) (pieces more : List IndexedPiece) (ns ms : List Noted) → SameBag (map (note_of fields) pieces) ns → SameBag (map (note_of fields) more) ms
     → SameBag (map (note_of fields) (pieces ++ more)) (ns ++ ms)
@@ -31,16 +31,16 @@ notes-append fields pieces more ns ms a b = subst (λ xs. SameBag xs (ns ++ ms))
 
 -- ---- notes
 
-pub counted-append : (ns ms : List Noted) (m n : ℕ) → lines_noted ns ≡ m → lines_noted ms ≡ n → lines_noted (ns ++ ms) ≡ m + n
+pub counted-append : (ns ms : List Noted) (m n : ℕ) → line_count ns ≡ m → line_count ms ≡ n → line_count (ns ++ ms) ≡ m + n
 counted-append ns ms m n a b = let s = sum_by-append (λ (note : Noted). note.lines) ns ms in omega (arith, s, a, b)
 
 -- no notes
-pub no-notes : (ns : List PieceRefusals) → ns ≡ [] → (lines_noted (map note_in ns) ≡ 0) × All IsWellNumbered (map note_in ns)
-no-notes ns e = (ap (λ (xs : List PieceRefusals). lines_noted (map note_in xs)) e, subst (λ (xs : List PieceRefusals). All IsWellNumbered (map note_in xs)) (sym e) (λ k d l. absurd (omega (arith, l))))
+pub no-notes : (ns : List PieceRefusals) → ns ≡ [] → (line_count (map note_in ns) ≡ 0) × All IsWellNumbered (map note_in ns)
+no-notes ns e = (ap (λ (xs : List PieceRefusals). line_count (map note_in xs)) e, subst (λ (xs : List PieceRefusals). All IsWellNumbered (map note_in xs)) (sym e) (λ k d l. absurd (omega (arith, l))))
 
 -- the one note of a piece
-pub one-note : (ns : List PieceRefusals) (note : PieceRefusals) → ns ≡ note ∷ [] → IsWellNumbered (note_in note) → (lines_noted (map note_in ns) ≡ note.lines) × All IsWellNumbered (map note_in ns)
+pub one-note : (ns : List PieceRefusals) (note : PieceRefusals) → ns ≡ note ∷ [] → IsWellNumbered (note_in note) → (line_count (map note_in ns) ≡ note.lines) × All IsWellNumbered (map note_in ns)
 one-note ns note e w = (
-  ap (λ (xs : List PieceRefusals). lines_noted (map note_in xs)) e ∙ (let s = sum_by-cons (λ (n : Noted). n.lines) (note_in note) [] in omega (arith, s)),
+  ap (λ (xs : List PieceRefusals). line_count (map note_in xs)) e ∙ (let s = sum_by-cons (λ (n : Noted). n.lines) (note_in note) [] in omega (arith, s)),
   subst (λ (xs : List PieceRefusals). All IsWellNumbered (map note_in xs)) (sym e) (All-cons IsWellNumbered (note_in note) [] w (λ k d l. absurd (omega (arith, l)))),
 )

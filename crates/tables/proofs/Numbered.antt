@@ -12,8 +12,8 @@ use Rattle.semantics.specs.declared.line_fault.LineFault.{LineFault}
 use Rattle.semantics.specs.Records.{refused_lines, decode_line}
 use Rattle.semantics.specs.Lines.{lines}
 use Rattle.tables_groups.specs.Bags.{SameBag, weigh}
-use Rattle.tables.specs.Notes.{AreLinesOf, Noted, note_of, numbered_from}
-use Rattle.tables.specs.Pieces.{AreInOrder, AreNumbered, HaveOwnIndexes, IndexedPiece, all_lines, pieces_before, refused_numbered}
+use Rattle.tables.specs.Notes.{AreLinesOf, Noted, note_of, refused_lines_from}
+use Rattle.tables.specs.Pieces.{AreInOrder, AreNumbered, HaveOwnIndexes, IndexedPiece, all_lines, pieces_before, refused_lines_numbered}
 use Rattle.tables.proofs.Bags.{bag-map, weigh-flat_map, weigh-same}
 use Rattle.tables.proofs.Cutting.{numbered-lines, refused_from}
 use Rattle.tables.proofs.Orders.{Rises, rises-from_sorted, rises-same, strict-from_rises}
@@ -64,19 +64,19 @@ abbrev shift : ℕ → ℕ × LineFault → ℕ × LineFault
 shift n line = (n + line.0, line.1)
 
 numbered-behind : (fields : List Field) (front rest whole : List IndexedPiece) → whole ≡ front ++ rest → AreBelow front rest → Rises index_of rest
-    → numbered_from (length (all_lines front)) (map (note_of fields) rest) ≡ flat_map (λ piece. map (shift (length (all_lines (pieces_before piece.index whole)))) (refused_lines fields piece.bytes)) rest
+    → refused_lines_from (length (all_lines front)) (map (note_of fields) rest) ≡ flat_map (λ piece. map (shift (length (all_lines (pieces_before piece.index whole)))) (refused_lines fields piece.bytes)) rest
 numbered-behind fields front [] whole e b up = refl
 numbered-behind fields front (p ∷ more) whole e b up =
     let before : pieces_before p.index whole ≡ front = ap (pieces_before p.index) e ∙ before-is front p more b up.0 in
     let longer : length (all_lines front) + length (lines p.bytes) ≡ length (all_lines (front ++ p ∷ [])) =
     sym (ap length (flat_map-append (λ piece. lines piece.bytes) front (p ∷ []) ∙ ap (λ ls. all_lines front ++ ls) (append-nil (lines p.bytes))) ∙ length-append (all_lines front) (lines p.bytes)) in
-    ap (λ n. map (shift n) (refused_lines fields p.bytes) ++ numbered_from (length (all_lines front) + length (lines p.bytes)) (map (note_of fields) more)) (ap (λ qs. length (all_lines qs)) (sym before))
-    ∙ ap (λ n. map (shift (length (all_lines (pieces_before p.index whole)))) (refused_lines fields p.bytes) ++ numbered_from n (map (note_of fields) more)) longer
+    ap (λ n. map (shift n) (refused_lines fields p.bytes) ++ refused_lines_from (length (all_lines front) + length (lines p.bytes)) (map (note_of fields) more)) (ap (λ qs. length (all_lines qs)) (sym before))
+    ∙ ap (λ n. map (shift (length (all_lines (pieces_before p.index whole)))) (refused_lines fields p.bytes) ++ refused_lines_from n (map (note_of fields) more)) longer
     ∙ ap (λ ls. map (shift (length (all_lines (pieces_before p.index whole)))) (refused_lines fields p.bytes) ++ ls)
     (numbered-behind fields (front ++ p ∷ []) more whole (e ∙ sym (append_assoc front (p ∷ []) more)) (below-tail front p more b up.0) up.1)
 
 -- numbered one piece after the other, each refused line has its number by the pieces with a smaller index
-numbered-rising : (fields : List Field) (pieces : List IndexedPiece) → Rises index_of pieces → numbered_from 0 (map (note_of fields) pieces) ≡ refused_numbered fields pieces
+numbered-rising : (fields : List Field) (pieces : List IndexedPiece) → Rises index_of pieces → refused_lines_from 0 (map (note_of fields) pieces) ≡ refused_lines_numbered fields pieces
 numbered-rising fields pieces rise = numbered-behind fields [] pieces pieces refl tt rise
 
 -- ---- notes
@@ -92,16 +92,16 @@ notes-rise fields (p ∷ more) h = (note_above fields p more h.0, notes-rise fie
 
 -- the lines of notes are those of rising pieces with these notes
 lines-rising : (fields : List Field) (pieces : List IndexedPiece) (notes : List Noted) (lines : List (ℕ × LineFault)) → Rises index_of pieces
-    → SameBag (map (note_of fields) pieces) notes → AreLinesOf notes lines → lines ≡ numbered_from 0 (map (note_of fields) pieces)
+    → SameBag (map (note_of fields) pieces) notes → AreLinesOf notes lines → lines ≡ refused_lines_from 0 (map (note_of fields) pieces)
 lines-rising fields pieces notes lines rise same are =
     are.numbered
-    ∙ ap (numbered_from 0) (sym (rises-same (λ (note : Noted). note.index) same_note note-Decides (map (note_of fields) pieces) are.ordered (notes-rise fields pieces rise) (λ f. same f ∙ are.same f) are.ascending))
+    ∙ ap (refused_lines_from 0) (sym (rises-same (λ (note : Noted). note.index) same_note note-Decides (map (note_of fields) pieces) are.ordered (notes-rise fields pieces rise) (λ f. same f ∙ are.same f) are.ascending))
 
 pub lines-in_order : (fields : List Field) (pieces : List IndexedPiece) (notes : List Noted) (lines : List (ℕ × LineFault)) → AreInOrder pieces
-    → SameBag (map (note_of fields) pieces) notes → AreLinesOf notes lines → lines ≡ numbered_from 0 (map (note_of fields) pieces)
+    → SameBag (map (note_of fields) pieces) notes → AreLinesOf notes lines → lines ≡ refused_lines_from 0 (map (note_of fields) pieces)
 lines-in_order fields pieces notes lines o = lines-rising fields pieces notes lines (rises-from_sorted index_of pieces (sorted_from_strictly_increasing (map index_of pieces) o))
 
-pub numbered-in_order : (fields : List Field) (pieces : List IndexedPiece) → AreInOrder pieces → numbered_from 0 (map (note_of fields) pieces) ≡ refused_numbered fields pieces
+pub numbered-in_order : (fields : List Field) (pieces : List IndexedPiece) → AreInOrder pieces → refused_lines_from 0 (map (note_of fields) pieces) ≡ refused_lines_numbered fields pieces
 numbered-in_order fields pieces o = numbered-rising fields pieces (rises-from_sorted index_of pieces (sorted_from_strictly_increasing (map index_of pieces) o))
 
 -- ---- pieces of which no index stands twice, put in order
@@ -182,7 +182,7 @@ length-before index (p ∷ ps) =
 abbrev shifted_of : List Field → List IndexedPiece → IndexedPiece → List (ℕ × LineFault)
 shifted_of fields pieces piece = map (shift (length (all_lines (pieces_before piece.index pieces)))) (refused_lines fields piece.bytes)
 
-numbered-same : (fields : List Field) (ps qs : List IndexedPiece) → SameBag ps qs → SameBag (refused_numbered fields ps) (refused_numbered fields qs)
+numbered-same : (fields : List Field) (ps qs : List IndexedPiece) → SameBag ps qs → SameBag (refused_lines_numbered fields ps) (refused_lines_numbered fields qs)
 numbered-same fields ps qs same = λ f.
     let before : (index : ℕ) → length (all_lines (pieces_before index ps)) ≡ length (all_lines (pieces_before index qs)) =
     λ index. length-before index ps ∙ same (lines_below index) ∙ sym (length-before index qs) in

@@ -18,7 +18,7 @@ use Rattle.semantics.specs.Conditions.{is_kept, kept_records}
 use Rattle.semantics.specs.Groups.{Row}
 use Rattle.tables_groups.specs.Inside.Table.{Contents, IsTableOf}
 use Rattle.tables.specs.declared.folding.Folding.{Folding}
-use Rattle.tables.specs.Folding.{HasRead, valid_of, refused_of}
+use Rattle.tables.specs.Folding.{HasRead, valid_records_of, refused_lines_of}
 
 -- ---- an input has at most as many lines as bytes
 
@@ -47,14 +47,14 @@ length-lines (x ∷ bytes) = either-le (x == line_feed) x (slice_split (λ b. b 
 
 -- ---- one more line
 
-valid-more : (fields : List Field) (ls : List (List ℕ)) (line : List ℕ) → valid_of fields (ls ++ line ∷ []) ≡ valid_of fields ls ++ filter_map result_ok (decode_line fields line ∷ [])
+valid-more : (fields : List Field) (ls : List (List ℕ)) (line : List ℕ) → valid_records_of fields (ls ++ line ∷ []) ≡ valid_records_of fields ls ++ filter_map result_ok (decode_line fields line ∷ [])
 valid-more fields ls line = ap (filter_map result_ok) (map-append (decode_line fields) ls (line ∷ [])) ∙ filter_map-append result_ok (map (decode_line fields) ls) (decode_line fields line ∷ [])
 
-pub valid-ok : (fields : List Field) (ls : List (List ℕ)) (line : List ℕ) (row : List Datum) → decode_line fields line ≡ Ok row → valid_of fields (ls ++ line ∷ []) ≡ valid_of fields ls ++ row ∷ []
-valid-ok fields ls line row e = valid-more fields ls line ∙ ap (λ t. valid_of fields ls ++ filter_map result_ok (t ∷ [])) e
+pub valid-ok : (fields : List Field) (ls : List (List ℕ)) (line : List ℕ) (row : List Datum) → decode_line fields line ≡ Ok row → valid_records_of fields (ls ++ line ∷ []) ≡ valid_records_of fields ls ++ row ∷ []
+valid-ok fields ls line row e = valid-more fields ls line ∙ ap (λ t. valid_records_of fields ls ++ filter_map result_ok (t ∷ [])) e
 
-pub valid-err : (fields : List Field) (ls : List (List ℕ)) (line : List ℕ) (fault : LineFault) → decode_line fields line ≡ Err fault → valid_of fields (ls ++ line ∷ []) ≡ valid_of fields ls
-valid-err fields ls line fault e = valid-more fields ls line ∙ ap (λ t. valid_of fields ls ++ filter_map result_ok (t ∷ [])) e ∙ append-nil (valid_of fields ls)
+pub valid-err : (fields : List Field) (ls : List (List ℕ)) (line : List ℕ) (fault : LineFault) → decode_line fields line ≡ Err fault → valid_records_of fields (ls ++ line ∷ []) ≡ valid_records_of fields ls
+valid-err fields ls line fault e = valid-more fields ls line ∙ ap (λ t. valid_records_of fields ls ++ filter_map result_ok (t ∷ [])) e ∙ append-nil (valid_records_of fields ls)
 
 pub enumerate-append : {X : Type 0} (n : ℕ) (xs ys : List X) → enumerate_from n (xs ++ ys) ≡ enumerate_from n xs ++ enumerate_from (n + length xs) ys
 enumerate-append n [] ys = ap (λ m. enumerate_from m ys) (let e : n ≡ n + 0 = omega arith in e)
@@ -65,20 +65,20 @@ abbrev pub numbered_fault : ℕ × Result (List Datum) LineFault → Option (ℕ
 numbered_fault p = option_map (λ fault. (p.0, fault)) (result_err p.1)
 
 refused-more : (fields : List Field) (ls : List (List ℕ)) (line : List ℕ)
-    → refused_of fields (ls ++ line ∷ []) ≡ refused_of fields ls ++ filter_map numbered_fault ((length ls + 1, decode_line fields line) ∷ [])
+    → refused_lines_of fields (ls ++ line ∷ []) ≡ refused_lines_of fields ls ++ filter_map numbered_fault ((length ls + 1, decode_line fields line) ∷ [])
 refused-more fields ls line =
     ap (λ rs. filter_map numbered_fault (enumerate_from 1 rs)) (map-append (decode_line fields) ls (line ∷ []))
     ∙ ap (filter_map numbered_fault) (enumerate-append 1 (map (decode_line fields) ls) (decode_line fields line ∷ []))
     ∙ filter_map-append numbered_fault (enumerate_from 1 (map (decode_line fields) ls)) (enumerate_from (1 + length (map (decode_line fields) ls)) (decode_line fields line ∷ []))
-    ∙ ap (λ n. refused_of fields ls ++ filter_map numbered_fault ((n, decode_line fields line) ∷ []))
+    ∙ ap (λ n. refused_lines_of fields ls ++ filter_map numbered_fault ((n, decode_line fields line) ∷ []))
     (let long = length-map ls (decode_line fields) in let e : 1 + length (map (decode_line fields) ls) ≡ length ls + 1 = omega (arith, long) in e)
 
-pub refused-ok : (fields : List Field) (ls : List (List ℕ)) (line : List ℕ) (row : List Datum) → decode_line fields line ≡ Ok row → refused_of fields (ls ++ line ∷ []) ≡ refused_of fields ls
-refused-ok fields ls line row e = refused-more fields ls line ∙ ap (λ t. refused_of fields ls ++ filter_map numbered_fault ((length ls + 1, t) ∷ [])) e ∙ append-nil (refused_of fields ls)
+pub refused-ok : (fields : List Field) (ls : List (List ℕ)) (line : List ℕ) (row : List Datum) → decode_line fields line ≡ Ok row → refused_lines_of fields (ls ++ line ∷ []) ≡ refused_lines_of fields ls
+refused-ok fields ls line row e = refused-more fields ls line ∙ ap (λ t. refused_lines_of fields ls ++ filter_map numbered_fault ((length ls + 1, t) ∷ [])) e ∙ append-nil (refused_lines_of fields ls)
 
 pub refused-err : (fields : List Field) (ls : List (List ℕ)) (line : List ℕ) (fault : LineFault) → decode_line fields line ≡ Err fault
-    → refused_of fields (ls ++ line ∷ []) ≡ refused_of fields ls ++ (length ls + 1, fault) ∷ []
-refused-err fields ls line fault e = refused-more fields ls line ∙ ap (λ t. refused_of fields ls ++ filter_map numbered_fault ((length ls + 1, t) ∷ [])) e
+    → refused_lines_of fields (ls ++ line ∷ []) ≡ refused_lines_of fields ls ++ (length ls + 1, fault) ∷ []
+refused-err fields ls line fault e = refused-more fields ls line ∙ ap (λ t. refused_lines_of fields ls ++ filter_map numbered_fault ((length ls + 1, t) ∷ [])) e
 
 -- ---- how many they are
 
@@ -90,7 +90,7 @@ kept-le : {A B : Type 0} (f : A → Option B) (xs : List A) → length (filter_m
 kept-le f [] = omega arith
 kept-le f (x ∷ xs) = cons-le (f x) (filter_map f xs) (length xs) (kept-le f xs)
 
-pub length-valid_of : (fields : List Field) (ls : List (List ℕ)) → length (valid_of fields ls) ≤ length ls
+pub length-valid_of : (fields : List Field) (ls : List (List ℕ)) → length (valid_records_of fields ls) ≤ length ls
 length-valid_of fields ls = let h = kept-le result_ok (map (decode_line fields) ls) in let long = length-map ls (decode_line fields) in omega (arith, h, long)
 
 -- ---- the records that are kept
@@ -109,7 +109,7 @@ length-kept fields q rows = filter-le (is_kept fields q) rows
 pub kept-append : (fields : List Field) (q : TreeForm) (rows more : List (List Datum)) → kept_records fields q (rows ++ more) ≡ kept_records fields q rows ++ kept_records fields q more
 kept-append fields q rows more = filter-append (is_kept fields q) rows more
 
-pub length-refused_of : (fields : List Field) (ls : List (List ℕ)) → length (refused_of fields ls) ≤ length ls
+pub length-refused_of : (fields : List Field) (ls : List (List ℕ)) → length (refused_lines_of fields ls) ≤ length ls
 length-refused_of fields ls =
     let rs = map (decode_line fields) ls in
     let h = kept-le numbered_fault (enumerate_from 1 rs) in
@@ -127,9 +127,9 @@ at-most n [] h = tt
 at-most n (l ∷ ls) h = (let a = h.0 in omega (arith, a), at-most n ls h.1)
 
 -- no refused line has a number above that of the lines
-pub refused-numbers : (fields : List Field) (ls : List (List ℕ)) → All (λ line. line.0 ≤ length ls) (refused_of fields ls)
-refused-numbers fields ls = All-from_recursion (λ line. line.0 ≤ length ls) (refused_of fields ls)
-    (at-most (length ls) (refused_of fields ls) (numbers-below (length ls + 1) 1 (map (decode_line fields) ls) (let long = length-map ls (decode_line fields) in omega (arith, long))))
+pub refused-numbers : (fields : List Field) (ls : List (List ℕ)) → All (λ line. line.0 ≤ length ls) (refused_lines_of fields ls)
+refused-numbers fields ls = All-from_recursion (λ line. line.0 ≤ length ls) (refused_lines_of fields ls)
+    (at-most (length ls) (refused_lines_of fields ls) (numbers-below (length ls + 1) 1 (map (decode_line fields) ls) (let long = length-map ls (decode_line fields) in omega (arith, long))))
 
 -- behind these records no line has been read
 pub nothing-read : (fields : List Field) (q : TreeForm) (before : List Row) (table : Contents) (folding : Folding)
@@ -156,8 +156,8 @@ pub read-ok : (fields : List Field) (q : TreeForm) (before : List Row) (old new 
     → HasRead fields q before (record { table = new.table; lines = new.lines + 1; refused = new.refused; marks = new.marks }) (seen ++ line ∷ [])
 read-ok fields q before old new seen line row e h added same stay = record {
   table = subst (λ (rows : List (List Datum)). IsTableOf (grouping_places fields q) (aggregate_functions fields q) new.table (kept_records fields q rows))
-      (append_assoc before (valid_of fields seen) (row ∷ []) ∙ ap (λ rows. before ++ rows) (sym (valid-ok fields seen line row e)))
-      (added (before ++ valid_of fields seen) h.table);
+      (append_assoc before (valid_records_of fields seen) (row ∷ []) ∙ ap (λ rows. before ++ rows) (sym (valid-ok fields seen line row e)))
+      (added (before ++ valid_records_of fields seen) h.table);
   lines = (let a = h.lines in let b = length-append seen (line ∷ []) in omega (arith, same, a, b));
   refused = stay ∙ h.refused ∙ sym (refused-ok fields seen line row e);
 }
@@ -166,23 +166,23 @@ pub read-err : (fields : List Field) (q : TreeForm) (before : List Row) (old new
     → new.table ≡ old.table → new.lines ≡ old.lines → new.refused.items ≡ old.refused.items ++ (old.lines + 1, fault) ∷ []
     → HasRead fields q before (record { table = new.table; lines = new.lines + 1; refused = new.refused; marks = new.marks }) (seen ++ line ∷ [])
 read-err fields q before old new seen line fault e h stay same more = record {
-  table = subst (λ (t : Contents). IsTableOf (grouping_places fields q) (aggregate_functions fields q) t (kept_records fields q (before ++ valid_of fields (seen ++ line ∷ [])))) (sym stay)
+  table = subst (λ (t : Contents). IsTableOf (grouping_places fields q) (aggregate_functions fields q) t (kept_records fields q (before ++ valid_records_of fields (seen ++ line ∷ [])))) (sym stay)
       (subst (λ (rows : List (List Datum)). IsTableOf (grouping_places fields q) (aggregate_functions fields q) old.table (kept_records fields q (before ++ rows))) (sym (valid-err fields seen line fault e)) h.table);
   lines = (let a = h.lines in let b = length-append seen (line ∷ []) in omega (arith, same, a, b));
-  refused = more ∙ ap (λ rs. rs ++ (old.lines + 1, fault) ∷ []) h.refused ∙ ap (λ n. refused_of fields seen ++ (n + 1, fault) ∷ []) h.lines ∙ sym (refused-err fields seen line fault e);
+  refused = more ∙ ap (λ rs. rs ++ (old.lines + 1, fault) ∷ []) h.refused ∙ ap (λ n. refused_lines_of fields seen ++ (n + 1, fault) ∷ []) h.lines ∙ sym (refused-err fields seen line fault e);
 }
 
 -- ---- records behind those of earlier pieces
 
 -- the records that are kept, of earlier ones and of these lines, are no more than the earlier ones and the lines
-pub length-kept_behind : (fields : List Field) (q : TreeForm) (before : List Row) (ls : List (List ℕ)) → length (kept_records fields q (before ++ valid_of fields ls)) ≤ length before + length ls
+pub length-kept_behind : (fields : List Field) (q : TreeForm) (before : List Row) (ls : List (List ℕ)) → length (kept_records fields q (before ++ valid_records_of fields ls)) ≤ length before + length ls
 length-kept_behind fields q before ls =
-    let few = length-kept fields q (before ++ valid_of fields ls) in
-    let both = length-append before (valid_of fields ls) in
+    let few = length-kept fields q (before ++ valid_records_of fields ls) in
+    let both = length-append before (valid_records_of fields ls) in
     let valid = length-valid_of fields ls in
     omega (arith, few, both, valid)
 
 -- what is noted of lines that have been read
-pub well-numbered : (fields : List Field) (n : ℕ) (refused : List (ℕ × LineFault)) (ls : List (List ℕ)) → n ≡ length ls → refused ≡ refused_of fields ls → All (λ line. line.0 ≤ n) refused
+pub well-numbered : (fields : List Field) (n : ℕ) (refused : List (ℕ × LineFault)) (ls : List (List ℕ)) → n ≡ length ls → refused ≡ refused_lines_of fields ls → All (λ line. line.0 ≤ n) refused
 well-numbered fields n refused ls e f =
-    subst (λ (rs : List (ℕ × LineFault)). All (λ line. line.0 ≤ n) rs) (sym f) (subst (λ m. All (λ line. line.0 ≤ m) (refused_of fields ls)) (sym e) (refused-numbers fields ls))
+    subst (λ (rs : List (ℕ × LineFault)). All (λ line. line.0 ≤ n) rs) (sym f) (subst (λ m. All (λ line. line.0 ≤ m) (refused_lines_of fields ls)) (sym e) (refused-numbers fields ls))

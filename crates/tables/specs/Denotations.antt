@@ -1,5 +1,5 @@
 -- What a partial result means, whatever the order of its pieces, and what pieces come to.
-use Rattle.std.specs.Prelude.{◌≡◌, ℕ, ◌+◌, min, List, [], ◌∷◌, length, map, slice_index_or, Option, Some, None, if◌then◌else◌}
+use Rattle.std.specs.Prelude.{◌≡◌, ℕ, ◌+◌, ◌<◌, ◌^◌, min, List, [], ◌∷◌, ◌++◌, length, map, slice_index_or, Option, Some, None, if◌then◌else◌}
 use Rattle.std.specs.FinMap as fin
 use Rattle.std.specs.List.{enumerate_from, list_any}
 use Rattle.semantics.specs.Columns.{Field}
@@ -15,10 +15,12 @@ use Rattle.semantics.specs.Aggregates.{AggregateFunction}
 use Rattle.semantics.specs.Groups.{Key, keys, members, same_key, Row}
 use Rattle.tables_groups.specs.Inside.Group.{GroupState, group_state}
 use Rattle.tables_groups.specs.Inside.Table.{join_options}
+use Rattle.pool.specs.Totals.{sum_below, total}
 use Rattle.semantics.specs.Found.{aggregate_functions}
 use Rattle.tables.specs.Functions.{filter_texts}
 use Rattle.tables.specs.Notes.{Noted, note_of}
-use Rattle.tables.specs.Pieces.{IndexedPiece, all_lines, records_of, refused_within}
+use Rattle.tables.specs.Partials.{StandsFor}
+use Rattle.tables.specs.Pieces.{IndexedPiece, all_lines, records_of, refused_lines_within}
 use Rattle.tables.specs.States.{PartialState}
 
 -- the grouping sets, the set functions and the canonical texts of their filters; under all grouping columns what is kept of each key's group; how many lines and refused lines there are; and of
@@ -46,7 +48,7 @@ denotation fields q pieces = record {
   filters = filter_texts fields q;
   table = group_of (grouping_places fields q) (aggregate_functions fields q) (kept_records fields q (records_of fields pieces));
   lines = length (all_lines pieces);
-  refused = length (refused_within fields pieces);
+  refused = length (refused_lines_within fields pieces);
   notes = λ weight. weigh weight (map (note_of fields) pieces);
 }
 
@@ -75,8 +77,8 @@ abbrev pub with_index : List ℕ → ℕ × Piece → IndexedPiece
 with_index input piece = record { index = piece.0; bytes = bytes_of input piece.1 }
 
 -- the pieces of the input with their indexes, from 0
-abbrev pub indexed : List ℕ → List Piece → List IndexedPiece
-indexed input pieces = map (with_index input) (enumerate_from 0 pieces)
+abbrev pub indexed_pieces : List ℕ → List Piece → List IndexedPiece
+indexed_pieces input pieces = map (with_index input) (enumerate_from 0 pieces)
 
 -- the piece that starts and stops at the first byte, and so is empty
 abbrev pub no_bytes : Piece
@@ -93,8 +95,8 @@ denotation_at fields q input pieces index = denotation fields q (piece_at input 
 -- ---- pieces of the rest of an input, whose indexes begin behind those of its front
 
 -- the pieces of the rest with their indexes, from `first` on
-abbrev pub indexed_from : ℕ → List ℕ → List Piece → List IndexedPiece
-indexed_from first rest pieces = map (with_index rest) (enumerate_from first pieces)
+abbrev pub indexed_pieces_from : ℕ → List ℕ → List Piece → List IndexedPiece
+indexed_pieces_from first rest pieces = map (with_index rest) (enumerate_from first pieces)
 
 -- the piece of the rest that comes so many behind the first one, which has the index `first`; past the last piece an empty one. No index is above the
 -- greatest number of 32 bits
@@ -118,3 +120,39 @@ meaning partial = record {
   refused = partial.refused;
   notes = λ weight. weigh weight partial.notes;
 }
+
+-- ---- totals of the pieces of an input
+
+-- the denotation of all pieces, by those of each
+abbrev pub total_denotation : List Field → TreeForm → List ℕ → List Piece → Denotation
+total_denotation fields q input pieces = total (denotation fields q []) both (denotation_at fields q input pieces) (length pieces)
+
+-- so of the pieces of the rest of an input, with the indexes from `first` on
+abbrev pub total_denotation_from : List Field → TreeForm → ℕ → List ℕ → List Piece → Denotation
+total_denotation_from fields q first rest pieces = total (denotation fields q []) both (denotation_from fields q first rest pieces) (length pieces)
+
+-- how many refused lines the pieces have, added up
+abbrev pub total_refused : List Field → TreeForm → List ℕ → List Piece → ℕ
+total_refused fields q input pieces = sum_below (λ i. (denotation_at fields q input pieces i).refused) (length pieces)
+
+-- how many lines the pieces have, added up
+abbrev pub total_lines : List Field → TreeForm → List ℕ → List Piece → ℕ
+total_lines fields q input pieces = sum_below (λ i. (denotation_at fields q input pieces i).lines) (length pieces)
+
+-- each partial result that means the total of the pieces stands for all of them
+abbrev pub TotalStandsForAll : List Field → TreeForm → List ℕ → List Piece → Type 0
+TotalStandsForAll fields q input pieces =
+    (partial : PartialState) → meaning partial ≡ total_denotation fields q input pieces → StandsFor fields q partial (indexed_pieces input pieces)
+
+-- so it is with indexes from `first` on, where none is above the greatest number of 32 bits
+abbrev pub TotalStandsForAllFrom : List Field → TreeForm → ℕ → List ℕ → List Piece → Type 0
+TotalStandsForAllFrom fields q first input pieces =
+    (partial : PartialState) → first + length pieces < 2 ^ 32
+    → meaning partial ≡ total_denotation_from fields q first input pieces → StandsFor fields q partial (indexed_pieces_from first input pieces)
+
+-- so it is with the pieces of a front before them: what means both together stands for these and all pieces of the rest
+abbrev pub TotalStandsBehind : List Field → TreeForm → List IndexedPiece → ℕ → List ℕ → List Piece → Type 0
+TotalStandsBehind fields q front first rest pieces =
+    (partial : PartialState) → first + length pieces < 2 ^ 32
+    → meaning partial ≡ both (denotation fields q front) (total_denotation_from fields q first rest pieces)
+    → StandsFor fields q partial (front ++ indexed_pieces_from first rest pieces)

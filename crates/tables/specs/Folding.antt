@@ -16,18 +16,18 @@ use Rattle.semantics.specs.Found.{aggregate_functions}
 use Rattle.tables.specs.declared.folding.Folding.{Folding}
 
 -- the valid records of these lines
-abbrev pub valid_of : List Field → List (List ℕ) → List Row
-valid_of fields ls = filter_map result_ok (map (decode_line fields) ls)
+abbrev pub valid_records_of : List Field → List (List ℕ) → List Row
+valid_records_of fields ls = filter_map result_ok (map (decode_line fields) ls)
 
 -- the refused ones of these lines, numbered from 1
-abbrev pub refused_of : List Field → List (List ℕ) → List (ℕ × LineFault)
-refused_of fields ls = filter_map (λ p. option_map (λ fault. (p.0, fault)) (result_err p.1)) (enumerate_from 1 (map (decode_line fields) ls))
+abbrev pub refused_lines_of : List Field → List (List ℕ) → List (ℕ × LineFault)
+refused_lines_of fields ls = filter_map (λ p. option_map (λ fault. (p.0, fault)) (result_err p.1)) (enumerate_from 1 (map (decode_line fields) ls))
 
 -- behind the records of earlier pieces these lines have been read
 pub record HasRead (fields : List Field) (q : TreeForm) (before : List Row) (folding : Folding) (ls : List (List ℕ)) : Type 0 where
-  pub table : IsTableOf (grouping_places fields q) (aggregate_functions fields q) folding.table (kept_records fields q (before ++ valid_of fields ls))
+  pub table : IsTableOf (grouping_places fields q) (aggregate_functions fields q) folding.table (kept_records fields q (before ++ valid_records_of fields ls))
   pub lines : folding.lines ≡ length ls
-  pub refused : folding.refused.items ≡ refused_of fields ls
+  pub refused : folding.refused.items ≡ refused_lines_of fields ls
 
 -- some lines have been read, and with one more there are, with the records of earlier pieces, fewer than 2^63
 pub record ReadsOneMore (fields : List Field) (q : TreeForm) (folding : Folding) : Type 0 where
@@ -45,8 +45,8 @@ pub record HasRoom (fields : List Field) (q : TreeForm) (table : Contents) (more
 -- ---- under a plan
 
 -- the table is that of the records that WHERE keeps of these, under all grouping columns
-abbrev pub IsTableUnder : PlannedQuery → Contents → List Row → Type 0
-IsTableUnder plan table rows =
+abbrev pub IsTableOfKept : PlannedQuery → Contents → List Row → Type 0
+IsTableOfKept plan table rows =
     IsTableOf (grouping_places plan.fields plan.query) (aggregate_functions plan.fields plan.query) table
     (kept_records plan.fields plan.query rows)
 

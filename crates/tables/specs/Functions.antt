@@ -8,8 +8,8 @@ use Rattle.semantics.specs.Conditions.{passes}
 use Rattle.semantics.specs.Groups.{Row}
 
 -- of each different filter of a query the records that it keeps
-abbrev pub filters_kept : List Field → TreeForm → List (Row → Bool)
-filters_kept fields q = map (passes fields) (filters_of fields q)
+abbrev pub filter_tests : List Field → TreeForm → List (Row → Bool)
+filter_tests fields q = map (passes fields) (filters_of fields q)
 
 -- the canonical texts of the different filters of a query
 abbrev pub filter_texts : List Field → TreeForm → List (List ℕ)

@@ -44,7 +44,7 @@ reduction_of_job job = record { fits = IsDenotationUnder job; unit = no_denotati
 abbrev pub reduction_of_job_from : ℕ → Job → Reduction Denotation
 reduction_of_job_from first job = record { fits = IsDenotationUnder job; unit = no_denotation job; combine = both; piece = denotation_of_piece_from first job; weight = λ m. m.refused; load = λ m. m.lines }
 
--- ---- a job whose results a executor merges
+-- ---- a job whose results an executor merges
 
 -- the job
 abbrev pub joined_job : {J : Type 0} {executor : Executor.Ghosts J} → JobBy J executor → Job

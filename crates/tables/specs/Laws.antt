@@ -26,7 +26,7 @@ use Rattle.semantics.specs.Found.{aggregate_functions}
 use Rattle.tables.specs.Functions.{filter_texts}
 use Rattle.tables.specs.Denotations.{Denotation, IsDenotation, both, group_of, denotation, denotation_at, denotation_from, piece_at, piece_from}
 use Rattle.tables.specs.Notes.{note_of}
-use Rattle.tables.specs.Pieces.{IndexedPiece, all_lines, records_of, refused_within}
+use Rattle.tables.specs.Pieces.{IndexedPiece, all_lines, records_of, refused_lines_within}
 
 -- ---- what pieces have, joined
 
@@ -40,9 +40,9 @@ lines-append : (pieces more : List IndexedPiece) → length (all_lines (pieces +
 lines-append pieces more = ap length (flat_map-append (λ piece. lines piece.bytes) pieces more) ∙ length-append (all_lines pieces) (all_lines more)
 
 refused-append : (fields : List Field) (pieces more : List IndexedPiece)
-    → length (refused_within fields (pieces ++ more)) ≡ length (refused_within fields pieces) + length (refused_within fields more)
+    → length (refused_lines_within fields (pieces ++ more)) ≡ length (refused_lines_within fields pieces) + length (refused_lines_within fields more)
 refused-append fields pieces more =
-    ap length (flat_map-append (λ piece. refused_lines fields piece.bytes) pieces more) ∙ length-append (refused_within fields pieces) (refused_within fields more)
+    ap length (flat_map-append (λ piece. refused_lines fields piece.bytes) pieces more) ∙ length-append (refused_lines_within fields pieces) (refused_lines_within fields more)
 
 few-faults : (n : ℕ) (rs : List (Result (List Datum) LineFault))
     → length {A = ℕ × LineFault} (filter_map (λ p. option_map (λ fault. (p.0, fault)) (result_err p.1)) (enumerate_from n rs)) ≤ length rs
@@ -62,14 +62,14 @@ denotation-append fields q xs ys =
     let second = kept_records fields q (records_of fields ys) in
     let table = ap (group_of grouping fs) rows ∙ (λ i key. group_at-append grouping fs key first second i) in
     let lines = lines-append xs ys in
-    let refused_lines = refused-append fields xs ys in
+    let refused = refused-append fields xs ys in
     λ i. record {
       sets = sets_of fields q;
       functions = indexed_functions fields q;
       filters = filter_texts fields q;
       table = table i;
       lines = lines i;
-      refused_lines = refused_lines i;
+      refused = refused i;
       notes = λ weight. (ap (weigh weight) (map-append (note_of fields) xs ys) ∙ weigh-append weight (map (note_of fields) xs) (map (note_of fields) ys)) i;
     }
 
@@ -90,20 +90,20 @@ denotation-flip fields q xs ys =
       filters = filter_texts fields q;
       table = λ key. options-flip fs (has_key grouping key first) (has_key grouping key second) (members grouping key first) (members grouping key second) i;
       lines = plus-flip (length (all_lines xs)) (length (all_lines ys)) i;
-      refused_lines = plus-flip (length (refused_within fields xs)) (length (refused_within fields ys)) i;
+      refused = plus-flip (length (refused_lines_within fields xs)) (length (refused_lines_within fields ys)) i;
       notes = λ weight. plus-flip (weigh weight (map (note_of fields) xs)) (weigh weight (map (note_of fields) ys)) i;
     }
 
 -- ---- the laws
 
 -- pieces have at most as many refused lines as lines
-few-refused : (fields : List Field) (pieces : List IndexedPiece) → length (refused_within fields pieces) ≤ length (all_lines pieces)
+few-refused : (fields : List Field) (pieces : List IndexedPiece) → length (refused_lines_within fields pieces) ≤ length (all_lines pieces)
 few-refused fields [] = omega arith
 few-refused fields (p ∷ pieces) =
     let more = few-refused fields pieces in
     let here = few-faults 1 (answers fields p.bytes) in
     let many = length-map (lines p.bytes) (decode_line fields) in
-    let a = length-append (refused_lines fields p.bytes) (refused_within fields pieces) in
+    let a = length-append (refused_lines fields p.bytes) (refused_lines_within fields pieces) in
     let b = length-append (lines p.bytes) (all_lines pieces) in
     omega (arith, more, here, many, a, b)
 

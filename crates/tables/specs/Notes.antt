@@ -30,24 +30,24 @@ abbrev pub notes_in : Vec PieceRefusals → List Noted
 notes_in notes = map note_in notes.items
 
 -- all lines that the notes count
-abbrev pub lines_noted : List Noted → ℕ
-lines_noted notes = sum_by (λ note. note.lines) notes
+abbrev pub line_count : List Noted → ℕ
+line_count notes = sum_by (λ note. note.lines) notes
 
 -- no refused line has a number above that of the piece's lines
 abbrev pub IsWellNumbered : Noted → Type 0
 IsWellNumbered note = All (λ line. line.0 ≤ note.lines) note.refused
 
 -- the refused lines of the notes, in their order, each by its number within its piece and the lines that are counted before
-abbrev pub numbered_from : ℕ → List Noted → List (ℕ × LineFault)
-numbered_from before [] = []
-numbered_from before (note ∷ notes) = map (λ line. (before + line.0, line.1)) note.refused ++ numbered_from (before + note.lines) notes
+abbrev pub refused_lines_from : ℕ → List Noted → List (ℕ × LineFault)
+refused_lines_from before [] = []
+refused_lines_from before (note ∷ notes) = map (λ line. (before + line.0, line.1)) note.refused ++ refused_lines_from (before + note.lines) notes
 
 -- the lines are the refused lines of the notes, numbered in an order of these in which their indexes do not fall
 pub record AreLinesOf (notes : List Noted) (lines : List (ℕ × LineFault)) : Type 0 where
   pub ordered : List Noted
   pub same : SameBag notes ordered
   pub ascending : IsNonDecreasingBy (λ note. note.index) ordered
-  pub numbered : lines ≡ numbered_from 0 ordered
+  pub numbered : lines ≡ refused_lines_from 0 ordered
 
 -- behind a front of lines stand the refused lines of the notes, each by its number among the lines of the notes and so many lines before
 pub record AreLinesBehind (before : ℕ) (notes : List Noted) (front all : List (ℕ × LineFault)) : Type 0 where

@@ -1,7 +1,8 @@
 -- What a partial result stands for.
-use Rattle.std.specs.Prelude.{◌≡◌, ℕ, List, [], ◌∷◌, length, map}
+use Rattle.std.specs.Prelude.{◌≡◌, ℕ, List, [], ◌∷◌, ◌++◌, length, map}
 use Rattle.semantics.specs.Columns.{Field}
 use Rattle.semantics.specs.Records.{valid_records, refused_lines}
+use Rattle.lines.specs.Pieces.{AreWholeLines}
 use Rattle.semantics.specs.Syntax.{TreeForm}
 use Rattle.semantics.specs.Sets.{grouping_places, sets_of}
 use Rattle.query_resolve.specs.Functions.{indexed_functions}
@@ -12,7 +13,7 @@ use Rattle.tables_groups.specs.Inside.Table.{IsTableOf}
 use Rattle.semantics.specs.Found.{aggregate_functions, query_found}
 use Rattle.tables.specs.Functions.{filter_texts}
 use Rattle.tables.specs.Notes.{note_of}
-use Rattle.tables.specs.Pieces.{IndexedPiece, IsCutInto, all_lines, records_of, refused_within}
+use Rattle.tables.specs.Pieces.{IndexedPiece, IsCutInto, all_lines, records_of, refused_lines_within}
 use Rattle.tables.specs.States.{GroupsState, PartialState}
 
 -- Under a schema and a query a partial result stands for pieces, in whatever order: it has the query's grouping sets, set functions and filters, the table of all
@@ -23,7 +24,7 @@ pub record StandsFor (fields : List Field) (q : TreeForm) (partial : PartialStat
   pub filters : partial.filters ≡ filter_texts fields q
   pub table : IsTableOf (grouping_places fields q) (aggregate_functions fields q) partial.table (kept_records fields q (records_of fields pieces))
   pub lines : partial.lines ≡ length (all_lines pieces)
-  pub refused : partial.refused ≡ length (refused_within fields pieces)
+  pub refused : partial.refused ≡ length (refused_lines_within fields pieces)
   pub notes : SameBag (map (note_of fields) pieces) partial.notes
 
 -- a partial result of a query stands for some pieces
@@ -50,6 +51,33 @@ pub record HaveOneShape (partial other : PartialState) : Type 0 where
   pub sets : partial.sets ≡ other.sets
   pub functions : partial.functions ≡ other.functions
   pub filters : partial.filters ≡ other.filters
+
+-- ---- partial results that are made of others
+
+-- a partial result is the merge of two others: whatever pieces these stand for, under whatever schema and query, it stands for the pieces of both
+abbrev pub IsMergeOf : PartialState → PartialState → PartialState → Type 0
+IsMergeOf first second merged =
+    (fields : List Field) (q : TreeForm) (pieces more : List IndexedPiece)
+    → StandsFor fields q first pieces → StandsFor fields q second more → StandsFor fields q merged (pieces ++ more)
+
+-- a partial result is one of each query of which both others are
+abbrev pub IsOfSharedQueries : PartialState → PartialState → PartialState → Type 0
+IsOfSharedQueries first second merged =
+    (fields : List Field) (q : TreeForm) → IsPartialOf fields q first → IsPartialOf fields q second → IsPartialOf fields q merged
+
+-- a partial result is the concatenation of two others: where these stand for the front of an input, which is whole lines, and for the rest behind it, it stands for the input as one piece
+abbrev pub IsConcatenationOf : PartialState → PartialState → PartialState → Type 0
+IsConcatenationOf first second whole =
+    (fields : List Field) (q : TreeForm) (front back : List ℕ)
+    → StandsForInput fields q first front → StandsForInput fields q second back
+    → AreWholeLines front → StandsFor fields q whole (whole_piece (front ++ back))
+
+-- a partial result is another one in one piece: whatever input that stands for, it stands for the input as one piece of index 0, or as none where there is no byte
+abbrev pub IsInOnePiece : PartialState → PartialState → Type 0
+IsInOnePiece before partial =
+    (fields : List Field) (q : TreeForm) (input : List ℕ) → StandsForInput fields q before input → StandsFor fields q partial (one_piece input)
+
+-- ---- results
 
 -- the rows are those of the groups that the query finds in a list of records
 abbrev pub GivesGroups : List Field → TreeForm → GroupsState → List Row → Type 0

@@ -28,16 +28,16 @@ abbrev pub records_of : List Field → List IndexedPiece → List Row
 records_of fields pieces = flat_map (λ piece. valid_records fields piece.bytes) pieces
 
 -- the refused lines of the pieces, each by its number within its piece
-abbrev pub refused_within : List Field → List IndexedPiece → List (ℕ × LineFault)
-refused_within fields pieces = flat_map (λ piece. refused_lines fields piece.bytes) pieces
+abbrev pub refused_lines_within : List Field → List IndexedPiece → List (ℕ × LineFault)
+refused_lines_within fields pieces = flat_map (λ piece. refused_lines fields piece.bytes) pieces
 
 -- the pieces with a smaller index
 abbrev pub pieces_before : ℕ → List IndexedPiece → List IndexedPiece
 pieces_before index pieces = filter (λ piece. nat_lt piece.index index) pieces
 
 -- the refused lines of the pieces, each by its number within its piece and the number of all lines of the pieces with a smaller index
-abbrev pub refused_numbered : List Field → List IndexedPiece → List (ℕ × LineFault)
-refused_numbered fields pieces =
+abbrev pub refused_lines_numbered : List Field → List IndexedPiece → List (ℕ × LineFault)
+refused_lines_numbered fields pieces =
     flat_map (λ piece. map (λ line. (length (all_lines (pieces_before piece.index pieces)) + line.0, line.1)) (refused_lines fields piece.bytes)) pieces
 
 -- the pieces stand by their indexes, and none of these twice
@@ -50,7 +50,7 @@ HaveOwnIndexes pieces = IsDistinct nat_eq (map (λ piece. piece.index) pieces)
 
 -- the lines are the refused lines of the pieces by number, each as often as it is refused, and their numbers ascend, none twice
 pub record AreNumbered (fields : List Field) (pieces : List IndexedPiece) (lines : List (ℕ × LineFault)) : Type 0 where
-  pub same : SameBag lines (refused_numbered fields pieces)
+  pub same : SameBag lines (refused_lines_numbered fields pieces)
   pub ascending : IsStrictlyIncreasing (map (λ line. line.0) lines)
 
 -- the pieces stand in their order, are joined the input, and each but the last ends in a line feed

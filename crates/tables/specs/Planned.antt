@@ -1,5 +1,6 @@
 -- What partial results and groups are under a plan: under its columns and its query.
-use Rattle.std.specs.Prelude.{List, map, ℕ}
+use Rattle.std.specs.Prelude.{◌≡◌, List, [], ◌∷◌, ◌++◌, map, ℕ}
+use Rattle.lines.specs.Pieces.{AreWholeLines}
 use Rattle.semantics.specs.Sets.{grouping_places}
 use Rattle.semantics.specs.Conditions.{kept_records}
 use Rattle.tables_groups.specs.declared.group.Group.{Group}
@@ -11,8 +12,8 @@ use Rattle.query_plan.specs.Planned.{PlannedQuery}
 use Rattle.tables_groups.specs.Fitting.{AreFitting}
 use Rattle.semantics.specs.Found.{Found, aggregate_functions}
 use Rattle.tables.specs.Members.{HasEachRecordOnce}
-use Rattle.tables.specs.Partials.{GivesGroups, IsPartialOf, IsResultOf, StandsFor}
-use Rattle.tables.specs.Pieces.{IndexedPiece}
+use Rattle.tables.specs.Partials.{GivesGroups, IsPartialOf, IsResultOf, StandsFor, StandsForInput, whole_piece}
+use Rattle.tables.specs.Pieces.{AreInOrder, AreNumbered, HaveOwnIndexes, IndexedPiece, IsCutInto, records_of, refused_lines_numbered}
 use Rattle.tables.specs.States.{GroupsState, PartialState}
 
 abbrev pub StandsForUnder : PlannedQuery → PartialState → List IndexedPiece → Type 0
@@ -50,3 +51,34 @@ GivesGroupsOfSet plan set groups rows =
 -- the members of a key under a set of columns are those of all keys of the grouping columns that have its values, joined
 abbrev pub HasMembersOfFiner : PlannedQuery → List ℕ → Key → List Row → Type 0
 HasMembersOfFiner plan set key rows = SameBag (finer_members (grouping_places plan.fields plan.query) set key rows) (members set key rows)
+
+-- ---- what calls make of a partial result
+
+-- a partial result stands for no pieces
+abbrev pub StandsForNone : PlannedQuery → PartialState → Type 0
+StandsForNone plan partial = StandsForUnder plan partial []
+
+-- a partial result has one piece more than another: whatever pieces that stands for, it stands for these and the piece
+abbrev pub HasOneMorePiece : PlannedQuery → PartialState → IndexedPiece → PartialState → Type 0
+HasOneMorePiece plan before piece partial =
+    (pieces : List IndexedPiece) → StandsForUnder plan before pieces → StandsForUnder plan partial (pieces ++ piece ∷ [])
+
+-- a partial result has the rest of an input behind another: where that stands for the front, which is whole lines, it stands for front and rest as one piece
+abbrev pub HasRestBehind : PlannedQuery → PartialState → List ℕ → PartialState → Type 0
+HasRestBehind plan before rest partial =
+    (front : List ℕ) → StandsForInput plan.fields plan.query before front → AreWholeLines front → StandsForUnder plan partial (whole_piece (front ++ rest))
+
+-- groups and refused lines are what a partial result gives when it is finished, whatever pieces it stands for:
+-- rows      the rows are those of the groups of their records;
+-- fit       the groups fit the plan;
+-- members   each record that WHERE keeps is a member of one row of each grouping set;
+-- numbered  where no two pieces have one index, each refused line of theirs is there by its number;
+-- refused   where the pieces stand in their order, these are their refused lines one after the other;
+-- whole     where the pieces are those of an input that was cut between its lines, it is the result of the input.
+pub record IsFinishOf (plan : PlannedQuery) (partial : PartialState) (groups : GroupsState) : Type 0 where
+  pub rows : (pieces : List IndexedPiece) → StandsForUnder plan partial pieces → GivesGroupsUnder plan groups (records_of plan.fields pieces)
+  pub fit : AreFittingUnder plan groups.found
+  pub members : (pieces : List IndexedPiece) → StandsForUnder plan partial pieces → HasEachRecordOnceUnder plan groups.found (records_of plan.fields pieces)
+  pub numbered : (pieces : List IndexedPiece) → StandsForUnder plan partial pieces → HaveOwnIndexes pieces → AreNumbered plan.fields pieces groups.refused
+  pub refused : (pieces : List IndexedPiece) → StandsForUnder plan partial pieces → AreInOrder pieces → groups.refused ≡ refused_lines_numbered plan.fields pieces
+  pub whole : (input : List ℕ) (pieces : List IndexedPiece) → StandsForUnder plan partial pieces → IsCutInto input pieces → IsResultUnder plan groups input

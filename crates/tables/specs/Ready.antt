@@ -1,4 +1,4 @@
--- What lets several threads join. What is proved here stands beside the definitions since a executor cites it.
+-- What lets several threads join. What is proved here stands beside the definitions since an executor cites it.
 use base.Fml.{Share, Fml, ftrue, ffalse, feq, flt, fsep, fand, for, fwand, fex, fall, fupd, fhide, fat, froom, fleft, fdies, flft, fdead, fobs, fauth, fres, fown, fbor, fobor, flent, fshr_bor, finv, fnamed, ftok, fkid, fme, fsent}
 use base.Shift.{Keyless}
 use denote.RattleType.{RattleType}

@@ -1,11 +1,6 @@
 //! Who begins, merges, rolls up and finishes tables of groups.
-ghost use Rattle.std.specs.Prelude.{◌≡◌, ◌<◌, ◌⊎◌, ◌+◌, ◌++◌, [], All, Bool, ℕ, IfOk, List, map};
-ghost use Rattle.tables_groups.specs.Bags.{SameBag};
-ghost use Rattle.semantics.specs.Aggregates.{AggregateFunction};
-ghost use Rattle.tables_groups.specs.Functions.{bound};
-ghost use Rattle.tables_groups.specs.GroupSummaries.{group_summaries, group_summary_in};
-ghost use Rattle.tables_groups.specs.Inside.Table.{AreGroupsWithin, CanJoin, IsTableOf};
-ghost use Rattle.semantics.specs.Groups.{Row};
+ghost use Rattle.std.specs.Prelude.{◌≡◌, ◌<◌, ◌⊎◌, ◌+◌, All, ℕ, IfOk, List};
+ghost use Rattle.tables_groups.specs.Inside.Table.{AreGroupsOfTable, AreGroupsWithin, CanJoin, IsOfNone, IsUnionOf};
 ghost use Rattle.tables.specs.SetTables.{AreOfFew, AreRolled, HasFiner, HasRolled, set_of_roll};
 ghost use Rattle.query_resolve.specs.declared.function.FilteredFunction.{FilteredFunction};
 
@@ -21,13 +16,14 @@ use tables_groups::{Group, Table};
 ///
 /// Example: `Serial` is the calling thread alone, and `Parallel` several threads.
 pub trait Executor {
-    /// They can do it.
+    /// The executor can do so.
     ghost ready: { Self → Type 0 };
 
     /// This has one proof at most.
     ghost ready_once: { (executor : Self) → IsProp (Self.ready executor) };
 
-    /// The table of no records under a grouping set, for these set functions, to which this executor puts others soonest.
+    /// The table of no records under a grouping set, for these set functions, laid out so that this executor is fast in
+    /// merging others into it.
     ///
     /// Example: `executor.empty_table(alloc, set, functions)?` means what `Table::new(alloc, set, functions)?` means.
     ///
@@ -40,8 +36,7 @@ pub trait Executor {
         set: &[usize],
         functions: &[FilteredFunction],
     ) -> Result<Table, AllocError>
-        ensures empty { IfOk result (λ table. (filters : List (Row → Bool))
-            → IsTableOf set.now (map (bound filters) functions.now) table []) };
+        ensures empty { IfOk result (IsOfNone set.now functions.now) };
 
     /// The table of the records of two, which are under one grouping set and for the same set functions.
     ///
@@ -54,13 +49,10 @@ pub trait Executor {
     /// # Errors
     ///
     /// `AllocError` where there is no memory for it; both are given up then.
-    fn join(&self, first: Table, second: Table) -> Result<Table, AllocError>
+    fn merge_tables(&self, first: Table, second: Table) -> Result<Table, AllocError>
         requires ready { Self.ready self.now }
-        requires join { CanJoin first second }
-        ensures joined { IfOk result (λ table.
-            (set : List ℕ) (functions : List AggregateFunction) (rows more : List Row)
-            → IsTableOf set functions first rows → IsTableOf set functions second more
-            → IsTableOf set functions table (rows ++ more)) }
+        requires mergeable { CanJoin first second }
+        ensures merged { IfOk result (IsUnionOf first second) }
         ensures within { IfOk result (λ table. (functions : List FilteredFunction) (m n : ℕ)
             → AreGroupsWithin m functions first → AreGroupsWithin n functions second
             → AreGroupsWithin (m + n) functions table) };
@@ -87,10 +79,7 @@ pub trait Executor {
     /// `AllocError` where there is no memory for the groups; the table is given up then.
     fn finish(&self, table: Table) -> Result<Vec<Group>, AllocError>
         requires ready { Self.ready self.now }
-        ensures groups { IfOk result (λ groups.
-            (set : List ℕ) (functions : List AggregateFunction) (rows : List Row)
-            → IsTableOf set functions table rows
-            → SameBag (map group_summary_in groups.items) (group_summaries set functions rows)) };
+        ensures groups { IfOk result (λ groups. AreGroupsOfTable table groups.items) };
 }
 
 /// The calling thread alone.
@@ -114,10 +103,10 @@ impl Executor for Serial {
         Table::new(alloc, set, functions)
     }
 
-    fn join(&self, first: Table, second: Table) -> Result<Table, AllocError> {
-        let (mut joined, other) = larger_first(first, second);
-        joined.absorb(other)?;
-        Ok(joined)
+    fn merge_tables(&self, first: Table, second: Table) -> Result<Table, AllocError> {
+        let (mut larger, smaller) = put_larger_first(first, second);
+        larger.absorb(smaller)?;
+        Ok(larger)
     }
 
     fn roll_each(&self, tables: &[SetTable], rolls: &mut [Roll], functions: &[FilteredFunction]) {
@@ -161,10 +150,10 @@ impl<'a, H: Threads + Sync> Executor for Parallel<'a, H> {
         Table::for_hands(alloc, self.workers, set, functions)
     }
 
-    fn join(&self, first: Table, second: Table) -> Result<Table, AllocError> {
-        let (mut joined, other) = larger_first(first, second);
-        joined.absorb_among(self.rt, self.workers, other)?;
-        Ok(joined)
+    fn merge_tables(&self, first: Table, second: Table) -> Result<Table, AllocError> {
+        let (mut larger, smaller) = put_larger_first(first, second);
+        larger.absorb_among(self.rt, self.workers, smaller)?;
+        Ok(larger)
     }
 
     fn roll_each(&self, tables: &[SetTable], rolls: &mut [Roll], functions: &[FilteredFunction]) {
@@ -187,7 +176,7 @@ impl<'a, H: Threads + Sync> Executor for Parallel<'a, H> {
 }
 
 /// Both tables, the one that has more groups first. The other one's groups are to move into it.
-fn larger_first(first: Table, second: Table) -> (Table, Table)
+fn put_larger_first(first: Table, second: Table) -> (Table, Table)
     ensures { (result ≡ (first, second)) ⊎ (result ≡ (second, first)) }
 {
     if first.len() < second.len() {

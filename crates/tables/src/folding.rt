@@ -2,7 +2,7 @@
 ghost use Rattle.std.specs.Prelude.{◌≡◌, ◌≤◌, [], All, List, IfOk, length};
 ghost use Rattle.semantics.specs.Lines.{lines};
 ghost use Rattle.semantics.specs.Groups.{Row};
-ghost use Rattle.tables.specs.Folding.{HasReadUnder, HasRoomUnder, IsTableUnder, refused_of};
+ghost use Rattle.tables.specs.Folding.{HasReadUnder, HasRoomUnder, IsTableOfKept, refused_lines_of};
 
 use crate::executor::Executor;
 use lines::{LineFault, LineRefusal, RecordReader, lines_of};
@@ -28,10 +28,10 @@ impl Folding {
     ghost use Rattle.std.specs.Prelude.{◌≡◌, [], ◌∷◌, ◌++◌, ℕ, List, OnOk};
     ghost use Rattle.semantics.specs.Records.{Fits};
     ghost use Rattle.semantics.specs.Groups.{Row};
-    ghost use Rattle.tables.specs.Folding.{HasReadUnder, IsTableUnder, ReadsOneMoreUnder, TakesRecordUnder};
+    ghost use Rattle.tables.specs.Folding.{HasReadUnder, IsTableOfKept, ReadsOneMoreUnder, TakesRecordUnder};
 
     /// No line has been read behind the records that a table has.
-    fn onto(alloc: Global, table: Table) -> Folding
+    fn begin(alloc: Global, table: Table) -> Folding
         ensures table { result.table ≡ table }
         ensures lines { result.lines ≡ 0 }
         ensures refused { result.refused.items ≡ [] }
@@ -72,8 +72,8 @@ impl Folding {
     fn take(&mut self, plan: &Plan, taken: &Record) -> Result<(), AllocError>
         requires fits { Fits plan.now.fields taken.now }
         requires room { TakesRecordUnder plan.now self.old }
-        ensures table { OnOk result ((rows : List Row) → IsTableUnder plan.now self.old.table rows
-            → IsTableUnder plan.now self.new.table (rows ++ taken.now ∷ [])) }
+        ensures table { OnOk result ((rows : List Row) → IsTableOfKept plan.now self.old.table rows
+            → IsTableOfKept plan.now self.new.table (rows ++ taken.now ∷ [])) }
         ensures lines { self.new.lines ≡ self.old.lines }
         ensures refused { self.new.refused.items ≡ self.old.refused.items }
     {
@@ -90,13 +90,13 @@ impl Folding {
     }
 }
 
-/// The table of no records of a plan, which the executor will put to others.
-pub(crate) fn empty_table<J: Executor>(
+/// The table of no records of a plan, laid out so that the executor is fast in merging others into it.
+pub(crate) fn empty_table<E: Executor>(
     alloc: Global,
     plan: &Plan,
-    executor: &J,
+    executor: &E,
 ) -> Result<Table, AllocError>
-    ensures { IfOk result (λ table. IsTableUnder plan.now table []) }
+    ensures { IfOk result (λ table. IsTableOfKept plan.now table []) }
 {
     executor.empty_table(alloc, plan.grouping(), plan.set_functions())
 }
@@ -109,15 +109,16 @@ pub(crate) fn read_onto(
     piece: &[u8],
 ) -> Result<Folding, AllocError>
     requires { HasRoomUnder plan.now table (length (lines piece.now)) }
-    ensures read { IfOk result (λ folding. (before : List Row) → IsTableUnder plan.now table before
+    ensures read { IfOk result (λ folding. (before : List Row) → IsTableOfKept plan.now table before
         → HasReadUnder plan.now before folding (lines piece.now)) }
     ensures lines { IfOk result (λ folding. folding.lines ≡ length (lines piece.now)) }
     ensures refused { IfOk result (λ folding.
-        length folding.refused.items ≡ length (refused_of plan.now.fields (lines piece.now))) }
+        length folding.refused.items
+        ≡ length (refused_lines_of plan.now.fields (lines piece.now))) }
     ensures numbered { IfOk result (λ folding.
         All (λ line. line.0 ≤ folding.lines) folding.refused.items) }
 {
-    let mut folding = Folding::onto(alloc, table);
+    let mut folding = Folding::begin(alloc, table);
     let mut reader = RecordReader::new(alloc);
     for line in lines_of(piece) {
         folding.read(&mut reader, plan, line)?;

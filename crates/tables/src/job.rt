@@ -109,26 +109,26 @@ impl<'a> Work for Job<'a> {
     }
 }
 
-/// A job whose results are merged by a executor. Its pieces have indexes from a first one on, so that they can stand behind
+/// A job whose results are merged by an executor. Its pieces have indexes from a first one on, so that they can stand behind
 /// pieces that a result has already; no index is above the greatest number of 32 bits.
 ///
 /// Example: a pool makes of `JobBy::new(job, &Parallel { rt: &rt, workers: 4 }, 0)` what it makes of `job`.
 #[derive(Drop)]
-pub struct JobBy<'a, J: Executor> {
+pub struct JobBy<'a, E: Executor> {
     job: Job<'a>,
-    executor: &'a J,
+    executor: &'a E,
     first: u32,
-    ghost ready: { J.ready executor.now } by { J.ready_once executor.now },
+    ghost ready: { E.ready executor.now } by { E.ready_once executor.now },
 }
 
-impl<'a, J: Executor> JobBy<'a, J> {
+impl<'a, E: Executor> JobBy<'a, E> {
     ghost use Rattle.tables.specs.Jobs.{first_of_job, joined_job};
 
-    /// The job with this executor, which can join, whose first piece has the index `first`. It takes no memory.
+    /// The job with this executor, which is ready, whose first piece has the index `first`. It takes no memory.
     ///
     /// Example: `JobBy::new(job, &Serial, 0)` is a work like `job`.
-    pub fn new(job: Job<'a>, executor: &'a J, first: u32) -> JobBy<'a, J>
-        requires ready { J.ready executor.now }
+    pub fn new(job: Job<'a>, executor: &'a E, first: u32) -> JobBy<'a, E>
+        requires ready { E.ready executor.now }
         ensures job { joined_job result ≡ job.entry }
         ensures first { first_of_job result ≡ first }
     {

@@ -1,17 +1,16 @@
 //! Laws of partial results and of groups, with no work to do.
-ghost use Rattle.std.specs.Prelude.{◌≡◌, ◌↔◌, ◌+◌, ◌<◌, ◌^◌, ◌++◌, ℕ, [], List, length};
+ghost use Rattle.std.specs.Prelude.{◌≡◌, ◌↔◌, ℕ, List, length};
 ghost use Rattle.semantics.specs.Columns.{Field};
 ghost use Rattle.lines.specs.declared.pieces.Piece.{Piece};
 ghost use Rattle.semantics.specs.Syntax.{TreeForm};
 ghost use Rattle.semantics.specs.Groups.{Row};
-ghost use Rattle.pool.specs.Totals.{sum_below, total};
 ghost use Rattle.tables_groups.specs.Bags.{SameBag};
 ghost use Rattle.tables.specs.declared.grouped.Groups.{Groups};
 ghost use Rattle.tables.specs.declared.partial.Partial.{Partial};
 ghost use Rattle.tables.specs.Members.{HasEachRecordOnce};
 ghost use Rattle.tables.specs.Partials.{GivesGroups, StandsFor};
-ghost use Rattle.tables.specs.Denotations.{both, indexed, indexed_from, denotation, denotation_at, denotation_from, meaning};
-ghost use Rattle.tables.specs.Pieces.{IndexedPiece, all_lines, refused_within};
+ghost use Rattle.tables.specs.Denotations.{TotalStandsBehind, TotalStandsForAll, TotalStandsForAllFrom, denotation, indexed_pieces, meaning, total_lines, total_refused};
+ghost use Rattle.tables.specs.Pieces.{IndexedPiece, all_lines, refused_lines_within};
 ghost use Rattle.semantics.specs.Found.{query_found};
 
 /// A law, with no work to do: a result stands for the same pieces in any other order.
@@ -49,29 +48,19 @@ pub fn meaning_law()
 /// A law, with no work to do: what means the total of a job's pieces stands for all of them, and the weights and
 /// the loads of these are the numbers of their refused lines and of their lines.
 pub fn job_law()
-    ensures whole { (fields : List Field) (q : TreeForm)
-        (input : List ℕ) (pieces : List Piece) (partial : Partial)
-        → meaning partial
-        ≡ total (denotation fields q []) both (denotation_at fields q input pieces) (length pieces)
-        → StandsFor fields q partial (indexed input pieces) }
-    // So does what means the total of pieces with indexes from a first one on: of all pieces of a job by a executor.
+    ensures whole { (fields : List Field) (q : TreeForm) (input : List ℕ) (pieces : List Piece)
+        → TotalStandsForAll fields q input pieces }
+    // So does what means the total of pieces with indexes from a first one on: of all pieces of a job by an executor.
     ensures whole_by { (fields : List Field) (q : TreeForm) (first : ℕ)
-        (input : List ℕ) (pieces : List Piece) (partial : Partial)
-        → first + length pieces < 2 ^ 32
-        → meaning partial ≡ total (denotation fields q []) both
-        (denotation_from fields q first input pieces) (length pieces)
-        → StandsFor fields q partial (indexed_from first input pieces) }
+        (input : List ℕ) (pieces : List Piece)
+        → TotalStandsForAllFrom fields q first input pieces }
     // So does what a front comes to, and behind it the pieces of the rest, with indexes from a first one on.
     ensures behind { (fields : List Field) (q : TreeForm) (front : List IndexedPiece)
-        (first : ℕ) (rest : List ℕ) (pieces : List Piece) (partial : Partial)
-        → first + length pieces < 2 ^ 32
-        → meaning partial ≡ both (denotation fields q front) (total (denotation fields q [])
-        both (denotation_from fields q first rest pieces) (length pieces))
-        → StandsFor fields q partial (front ++ indexed_from first rest pieces) }
+        (first : ℕ) (rest : List ℕ) (pieces : List Piece)
+        → TotalStandsBehind fields q front first rest pieces }
     ensures refused { (fields : List Field) (q : TreeForm) (input : List ℕ) (pieces : List Piece)
-        → sum_below (λ i. (denotation_at fields q input pieces i).refused) (length pieces)
-        ≡ length (refused_within fields (indexed input pieces)) }
+        → total_refused fields q input pieces
+        ≡ length (refused_lines_within fields (indexed_pieces input pieces)) }
     ensures lines { (fields : List Field) (q : TreeForm) (input : List ℕ) (pieces : List Piece)
-        → sum_below (λ i. (denotation_at fields q input pieces i).lines) (length pieces)
-        ≡ length (all_lines (indexed input pieces)) }
+        → total_lines fields q input pieces ≡ length (all_lines (indexed_pieces input pieces)) }
 {}

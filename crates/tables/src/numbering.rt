@@ -1,7 +1,7 @@
 //! The refused lines of all pieces by their numbers in the input.
 ghost use Rattle.std.specs.Prelude.{◌≡◌, ◌+◌, ◌<◌, ◌++◌, ◌^◌, IfOk, OnOk, All, map};
 ghost use Rattle.std.specs.List.Sorted.{IsPermutation, IsNonDecreasingBy};
-ghost use Rattle.tables.specs.Notes.{AreLinesBehind, AreLinesOf, IsWellNumbered, lines_noted, notes_in, numbered_from};
+ghost use Rattle.tables.specs.Notes.{AreLinesBehind, AreLinesOf, IsWellNumbered, line_count, notes_in, refused_lines_from};
 
 use crate::piece_refusals::PieceRefusals;
 use lines::LineFault;
@@ -13,11 +13,11 @@ pub(crate) fn number(
     alloc: Global,
     notes: Vec<PieceRefusals>,
 ) -> Result<Vec<(u64, LineFault)>, AllocError>
-    requires few { lines_noted (notes_in notes) < 2 ^ 63 }
+    requires few { line_count (notes_in notes) < 2 ^ 63 }
     requires numbered { All IsWellNumbered (notes_in notes) }
     ensures { IfOk result (λ lines. AreLinesOf (notes_in notes) lines.items) }
 {
-    let notes = sorted(notes);
+    let notes = sort_by_index(notes);
     number_in_order(alloc, notes)
 }
 
@@ -28,17 +28,17 @@ pub(crate) fn number_behind(
     before: u64,
     notes: Vec<PieceRefusals>,
 ) -> Result<(), AllocError>
-    requires few { before + lines_noted (notes_in notes) < 2 ^ 63 }
+    requires few { before + line_count (notes_in notes) < 2 ^ 63 }
     requires numbered { All IsWellNumbered (notes_in notes) }
     ensures { OnOk result
         (AreLinesBehind before (notes_in notes) numbered.old.items numbered.new.items) }
 {
-    let notes = sorted(notes);
+    let notes = sort_by_index(notes);
     put_all_behind(numbered, before, notes)
 }
 
 /// The notes by ascending index.
-fn sorted(mut notes: Vec<PieceRefusals>) -> Vec<PieceRefusals>
+fn sort_by_index(mut notes: Vec<PieceRefusals>) -> Vec<PieceRefusals>
     ensures permutation { IsPermutation notes.items result.items }
     ensures ascending { IsNonDecreasingBy (λ note. note.index) result.items }
 {
@@ -52,9 +52,9 @@ fn number_in_order(
     alloc: Global,
     mut notes: Vec<PieceRefusals>,
 ) -> Result<Vec<(u64, LineFault)>, AllocError>
-    requires few { lines_noted (notes_in notes) < 2 ^ 63 }
+    requires few { line_count (notes_in notes) < 2 ^ 63 }
     requires numbered { All IsWellNumbered (notes_in notes) }
-    ensures { IfOk result (λ lines. lines.items ≡ numbered_from 0 (notes_in notes)) }
+    ensures { IfOk result (λ lines. lines.items ≡ refused_lines_from 0 (notes_in notes)) }
 {
     if notes.is_empty() {
         return Ok(Vec::new(alloc));
@@ -72,10 +72,10 @@ fn put_all_behind(
     mut before: u64,
     notes: Vec<PieceRefusals>,
 ) -> Result<(), AllocError>
-    requires few { before + lines_noted (notes_in notes) < 2 ^ 63 }
+    requires few { before + line_count (notes_in notes) < 2 ^ 63 }
     requires numbered { All IsWellNumbered (notes_in notes) }
     ensures { OnOk result (numbered.new.items
-        ≡ numbered.old.items ++ numbered_from before (notes_in notes)) }
+        ≡ numbered.old.items ++ refused_lines_from before (notes_in notes)) }
 {
     for note in notes {
         put_behind(numbered, before, note.refused.as_slice())?;

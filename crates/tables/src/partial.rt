@@ -2,7 +2,7 @@
 ghost use Rattle.std.specs.Prelude.{◌≡◌, ◌<◌, ◌≤◌, ◌^◌, ◌∷◌, [], All, IfOk, length};
 ghost use Rattle.tables.specs.declared.piece_refusals.PieceRefusals.{PieceRefusals};
 ghost use Rattle.std.proofs.Props.{props};
-ghost use Rattle.tables.specs.Notes.{IsWellNumbered, lines_noted, notes_in};
+ghost use Rattle.tables.specs.Notes.{IsWellNumbered, line_count, notes_in};
 ghost use Rattle.tables_groups.specs.Inside.Table.{AreGroupsWithin};
 
 use crate::executor::{Executor, Serial};
@@ -36,7 +36,7 @@ pub struct Partial {
     ghost few: { lines < 2 ^ 63 },
     ghost fewer: { refused ≤ lines },
     ghost within: { AreGroupsWithin lines shape.functions.items table } by { Prim.hlevel props },
-    ghost counted: { lines_noted (notes_in notes) ≡ lines },
+    ghost counted: { line_count (notes_in notes) ≡ lines },
     ghost numbered: { All IsWellNumbered (notes_in notes) } by { Prim.hlevel props },
 }
 
@@ -84,15 +84,14 @@ impl Model for Partial {
 }
 
 impl Partial {
-    ghost use Rattle.std.specs.Prelude.{[], ◌∷◌, ◌++◌, ◌+◌, ◌↔◌, ℕ, List, IfOk, OnOk, IsTrue};
+    ghost use Rattle.std.specs.Prelude.{[], ◌∷◌, ◌+◌, ◌↔◌, List, IfOk, OnOk, IsTrue};
     ghost use Rattle.semantics.specs.Columns.{Field};
     ghost use Rattle.semantics.specs.Lines.{lines};
-    ghost use Rattle.lines.specs.Pieces.{AreWholeLines};
     ghost use Rattle.semantics.specs.Syntax.{TreeForm};
     ghost use Rattle.semantics.specs.Groups.{Key, Row};
-    ghost use Rattle.tables.specs.Partials.{HaveOneShape, IsPartialOf, StandsFor, StandsForInput, one_piece, whole_piece};
-    ghost use Rattle.tables.specs.Planned.{AreFittingUnder, AreGroupingColumns, GivesGroupsOfSet, GivesGroupsUnder, HasEachRecordOnceUnder, HasMembersOfFiner, IsPartialUnder, IsResultUnder, StandsForUnder};
-    ghost use Rattle.tables.specs.Pieces.{AreInOrder, AreNumbered, HaveOwnIndexes, IndexedPiece, IsCutInto, all_lines, records_of, refused_numbered, refused_within};
+    ghost use Rattle.tables.specs.Partials.{HaveOneShape, IsConcatenationOf, IsInOnePiece, IsMergeOf, IsOfSharedQueries, StandsFor};
+    ghost use Rattle.tables.specs.Planned.{AreGroupingColumns, GivesGroupsOfSet, HasMembersOfFiner, HasOneMorePiece, HasRestBehind, IsFinishOf, IsPartialUnder, StandsForNone, StandsForUnder};
+    ghost use Rattle.tables.specs.Pieces.{IndexedPiece, all_lines, records_of, refused_lines_within};
 
     /// The result over no pieces, so of no lines: merged with another one of the plan, it adds nothing to that.
     ///
@@ -102,12 +101,12 @@ impl Partial {
     ///
     /// `AllocError` where there is no memory for it.
     pub fn empty(alloc: Global, plan: &Plan) -> Result<Partial, AllocError>
-        ensures stands { IfOk result (λ partial. StandsForUnder plan.now partial []) }
+        ensures stands { IfOk result (StandsForNone plan.now) }
     {
         Partial::empty_by(alloc, plan, &Serial)
     }
 
-    /// What `empty` gives, to which the executor puts other results soonest.
+    /// What `empty` gives, laid out so that the executor is fast in merging other results into it.
     ///
     /// Example: `Partial::empty_by(alloc, &plan, &Parallel { rt: &rt, workers: 4 })?` stands for no pieces, as
     /// `Partial::empty(alloc, &plan)?` does.
@@ -115,12 +114,12 @@ impl Partial {
     /// # Errors
     ///
     /// `AllocError` where there is no memory for it.
-    pub fn empty_by<J: Executor>(
+    pub fn empty_by<E: Executor>(
         alloc: Global,
         plan: &Plan,
-        executor: &J,
+        executor: &E,
     ) -> Result<Partial, AllocError>
-        ensures stands { IfOk result (λ partial. StandsForUnder plan.now partial []) }
+        ensures stands { IfOk result (StandsForNone plan.now) }
     {
         let shape = Shape::of(alloc, plan)?;
         let table = empty_table(alloc, plan, executor)?;
@@ -194,10 +193,8 @@ impl Partial {
     pub fn fold_onto(self, plan: &Plan, index: u32, piece: &[u8]) -> Result<Partial, AllocError>
         requires of_plan { IsPartialUnder plan.now self }
         requires few { self.lines + length (lines piece.now) < 2 ^ 63 }
-        ensures stands { IfOk result (λ partial. (pieces : List IndexedPiece)
-            → StandsForUnder plan.now self pieces
-            → StandsForUnder plan.now partial
-            (pieces ++ record { index = index; bytes = piece.now } ∷ [])) }
+        ensures stands { IfOk result
+            (HasOneMorePiece plan.now self (record { index = index; bytes = piece.now })) }
         ensures of_plan { IfOk result (IsPartialUnder plan.now) }
     {
         let Partial {
@@ -239,7 +236,8 @@ impl Partial {
     pub fn refused(&self) -> u64
         ensures refused { result ≡ self.now.refused }
         ensures of_pieces { (fields : List Field) (q : TreeForm) (pieces : List IndexedPiece)
-            → StandsFor fields q self.now pieces → result ≡ length (refused_within fields pieces) }
+            → StandsFor fields q self.now pieces
+            → result ≡ length (refused_lines_within fields pieces) }
         ensures fewer { result ≤ self.now.lines }
     {
         self.refused
@@ -272,18 +270,13 @@ impl Partial {
     pub fn merge(self, other: Partial) -> Result<Partial, AllocError>
         requires one_shape { HaveOneShape self other }
         requires few { self.lines + other.lines < 2 ^ 63 }
-        ensures stands { IfOk result (λ merged.
-            (fields : List Field) (q : TreeForm) (pieces more : List IndexedPiece)
-            → StandsFor fields q self pieces → StandsFor fields q other more
-            → StandsFor fields q merged (pieces ++ more)) }
-        ensures of_plan { IfOk result (λ merged. (fields : List Field) (q : TreeForm)
-            → IsPartialOf fields q self → IsPartialOf fields q other
-            → IsPartialOf fields q merged) }
+        ensures stands { IfOk result (IsMergeOf self other) }
+        ensures of_plan { IfOk result (IsOfSharedQueries self other) }
     {
         self.merge_by(&Serial, other)
     }
 
-    /// What `merge` does, where the executor puts the tables together. It can do so.
+    /// What `merge` does, where the executor merges the tables. It can do so.
     ///
     /// Example: `first.merge_by(&Parallel { rt: &rt, workers: 4 }, second)?` stands for the pieces of both, as
     /// `first.merge(second)?` does.
@@ -291,17 +284,12 @@ impl Partial {
     /// # Errors
     ///
     /// `AllocError` where there is no memory for it; both are given up then.
-    pub fn merge_by<J: Executor>(self, executor: &J, other: Partial) -> Result<Partial, AllocError>
-        requires ready { J.ready executor.now }
+    pub fn merge_by<E: Executor>(self, executor: &E, other: Partial) -> Result<Partial, AllocError>
+        requires ready { E.ready executor.now }
         requires one_shape { HaveOneShape self other }
         requires few { self.lines + other.lines < 2 ^ 63 }
-        ensures stands { IfOk result (λ merged.
-            (fields : List Field) (q : TreeForm) (pieces more : List IndexedPiece)
-            → StandsFor fields q self pieces → StandsFor fields q other more
-            → StandsFor fields q merged (pieces ++ more)) }
-        ensures of_plan { IfOk result (λ merged. (fields : List Field) (q : TreeForm)
-            → IsPartialOf fields q self → IsPartialOf fields q other
-            → IsPartialOf fields q merged) }
+        ensures stands { IfOk result (IsMergeOf self other) }
+        ensures of_plan { IfOk result (IsOfSharedQueries self other) }
     {
         let Partial {
             alloc,
@@ -321,11 +309,11 @@ impl Partial {
         } = other;
         drop(other_shape);
         notes.append(&mut other_notes)?;
-        let joined = executor.join(table, other_table)?;
+        let merged = executor.merge_tables(table, other_table)?;
         Ok(Partial {
             alloc,
             shape,
-            table: joined,
+            table: merged,
             lines: lines + other_lines,
             refused: refused + other_refused,
             notes,
@@ -347,15 +335,12 @@ impl Partial {
     pub fn follow(self, rest: Partial) -> Result<Partial, AllocError>
         requires one_shape { HaveOneShape self rest }
         requires few { self.lines + rest.lines < 2 ^ 63 }
-        ensures stands { IfOk result (λ followed.
-            (fields : List Field) (q : TreeForm) (front back : List ℕ)
-            → StandsForInput fields q self front → StandsForInput fields q rest back
-            → AreWholeLines front → StandsFor fields q followed (whole_piece (front ++ back))) }
+        ensures stands { IfOk result (IsConcatenationOf self rest) }
     {
         self.follow_by(&Serial, rest)
     }
 
-    /// What `follow` does, where the executor puts the tables together. It can do so.
+    /// What `follow` does, where the executor merges the tables. It can do so.
     ///
     /// Example: `front.follow_by(&Parallel { rt: &rt, workers: 4 }, rest)?` stands for the whole input, as
     /// `front.follow(rest)?` does.
@@ -363,14 +348,11 @@ impl Partial {
     /// # Errors
     ///
     /// `AllocError` where there is no memory for it; both are given up then.
-    pub fn follow_by<J: Executor>(self, executor: &J, rest: Partial) -> Result<Partial, AllocError>
-        requires ready { J.ready executor.now }
+    pub fn follow_by<E: Executor>(self, executor: &E, rest: Partial) -> Result<Partial, AllocError>
+        requires ready { E.ready executor.now }
         requires one_shape { HaveOneShape self rest }
         requires few { self.lines + rest.lines < 2 ^ 63 }
-        ensures stands { IfOk result (λ followed.
-            (fields : List Field) (q : TreeForm) (front back : List ℕ)
-            → StandsForInput fields q self front → StandsForInput fields q rest back
-            → AreWholeLines front → StandsFor fields q followed (whole_piece (front ++ back))) }
+        ensures stands { IfOk result (IsConcatenationOf self rest) }
     {
         let Partial {
             alloc,
@@ -390,7 +372,7 @@ impl Partial {
         } = rest;
         drop(rest_shape);
         let lines = before + rest_lines;
-        let joined = executor.join(table, rest_table)?;
+        let merged = executor.merge_tables(table, rest_table)?;
         let mut numbered = number(alloc, notes)?;
         number_behind(&mut numbered, before, rest_notes)?;
         let notes = one_note(
@@ -404,7 +386,7 @@ impl Partial {
         Ok(Partial {
             alloc,
             shape,
-            table: joined,
+            table: merged,
             lines,
             refused: refused + rest_refused,
             notes,
@@ -426,9 +408,7 @@ impl Partial {
     pub fn fold_behind(self, plan: &Plan, rest: &[u8]) -> Result<Partial, AllocError>
         requires of_plan { IsPartialUnder plan.now self }
         requires few { self.lines + length (lines rest.now) < 2 ^ 63 }
-        ensures stands { IfOk result (λ partial. (front : List ℕ)
-            → StandsForInput plan.now.fields plan.now.query self front → AreWholeLines front
-            → StandsForUnder plan.now partial (whole_piece (front ++ rest.now))) }
+        ensures stands { IfOk result (HasRestBehind plan.now self rest.now) }
     {
         let Partial {
             alloc,
@@ -470,9 +450,7 @@ impl Partial {
     ///
     /// `AllocError` where there is no memory for it; what was there is given up then.
     pub fn in_one_piece(self) -> Result<Partial, AllocError>
-        ensures stands { IfOk result (λ partial.
-            (fields : List Field) (q : TreeForm) (input : List ℕ)
-            → StandsForInput fields q self input → StandsFor fields q partial (one_piece input)) }
+        ensures stands { IfOk result (IsInOnePiece self) }
         ensures shape { IfOk result (HaveOneShape self) }
         ensures lines { IfOk result (λ partial. partial.lines ≡ self.lines) }
         ensures refused { IfOk result (λ partial. partial.refused ≡ self.refused) }
@@ -515,26 +493,7 @@ impl Partial {
     /// `AllocError` where there is no memory for them; the result is given up then.
     pub fn finish(self, plan: &Plan) -> Result<Groups, AllocError>
         requires of_plan { IsPartialUnder plan.now self }
-        ensures rows { IfOk result (λ groups. (pieces : List IndexedPiece)
-            → StandsForUnder plan.now self pieces
-            → GivesGroupsUnder plan.now groups (records_of plan.now.fields pieces)) }
-        ensures fit { IfOk result (λ groups. AreFittingUnder plan.now groups.found) }
-        // Each record that WHERE keeps is a member of one row of each grouping set.
-        ensures members { IfOk result (λ groups. (pieces : List IndexedPiece)
-            → StandsForUnder plan.now self pieces
-            → HasEachRecordOnceUnder plan.now groups.found (records_of plan.now.fields pieces)) }
-        // The refused lines, where no two pieces have one index.
-        ensures numbered { IfOk result (λ groups. (pieces : List IndexedPiece)
-            → StandsForUnder plan.now self pieces → HaveOwnIndexes pieces
-            → AreNumbered plan.now.fields pieces groups.refused) }
-        // Where the pieces stand in their order, these are their refused lines one after the other.
-        ensures refused { IfOk result (λ groups. (pieces : List IndexedPiece)
-            → StandsForUnder plan.now self pieces → AreInOrder pieces
-            → groups.refused ≡ refused_numbered plan.now.fields pieces) }
-        // Where the pieces are those of an input that was cut between its lines, it is the result of the input.
-        ensures whole { IfOk result (λ groups. (input : List ℕ) (pieces : List IndexedPiece)
-            → StandsForUnder plan.now self pieces → IsCutInto input pieces
-            → IsResultUnder plan.now groups input) }
+        ensures { IfOk result (IsFinishOf plan.now self) }
     {
         self.finish_by(&Serial, plan)
     }
@@ -549,25 +508,10 @@ impl Partial {
     /// # Errors
     ///
     /// `AllocError` where there is no memory for them; the result is given up then.
-    pub fn finish_by<J: Executor>(self, executor: &J, plan: &Plan) -> Result<Groups, AllocError>
-        requires ready { J.ready executor.now }
+    pub fn finish_by<E: Executor>(self, executor: &E, plan: &Plan) -> Result<Groups, AllocError>
+        requires ready { E.ready executor.now }
         requires of_plan { IsPartialUnder plan.now self }
-        ensures rows { IfOk result (λ groups. (pieces : List IndexedPiece)
-            → StandsForUnder plan.now self pieces
-            → GivesGroupsUnder plan.now groups (records_of plan.now.fields pieces)) }
-        ensures fit { IfOk result (λ groups. AreFittingUnder plan.now groups.found) }
-        ensures members { IfOk result (λ groups. (pieces : List IndexedPiece)
-            → StandsForUnder plan.now self pieces
-            → HasEachRecordOnceUnder plan.now groups.found (records_of plan.now.fields pieces)) }
-        ensures numbered { IfOk result (λ groups. (pieces : List IndexedPiece)
-            → StandsForUnder plan.now self pieces → HaveOwnIndexes pieces
-            → AreNumbered plan.now.fields pieces groups.refused) }
-        ensures refused { IfOk result (λ groups. (pieces : List IndexedPiece)
-            → StandsForUnder plan.now self pieces → AreInOrder pieces
-            → groups.refused ≡ refused_numbered plan.now.fields pieces) }
-        ensures whole { IfOk result (λ groups. (input : List ℕ) (pieces : List IndexedPiece)
-            → StandsForUnder plan.now self pieces → IsCutInto input pieces
-            → IsResultUnder plan.now groups input) }
+        ensures { IfOk result (IsFinishOf plan.now self) }
     {
         let Partial {
             alloc,

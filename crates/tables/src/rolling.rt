@@ -1,19 +1,17 @@
 //! The groups of each grouping set, rolled out of the table of all grouping columns.
-ghost use Rattle.std.specs.Prelude.{◌≡◌, ◌≢◌, ◌≤◌, ◌<◌, ◌↔◌, ◌∷◌, ◌++◌, [], Some, Bool, true, false, ℕ, nat_eq, All, IfOk, OnOk, IsTrue, List, length, map, slice_index_or};
+ghost use Rattle.std.specs.Prelude.{◌≡◌, ◌≢◌, ◌≤◌, ◌<◌, ◌↔◌, ◌∷◌, ◌++◌, [], Some, true, ℕ, nat_eq, All, IfOk, OnOk, IsTrue, List, length, slice_index_or};
 ghost use Rattle.std.specs.Cmp.Lexicographic.{pointwise};
 ghost use Rattle.std.specs.List.{list_any};
 ghost use Rattle.std.specs.List.Sorted.{IsPermutation};
 ghost use Rattle.query_resolve.specs.Resolution.{contents};
 ghost use Rattle.semantics.specs.Aggregates.{AggregateFunction};
-ghost use Rattle.tables_groups.specs.Functions.{bound};
 ghost use Rattle.semantics.specs.Groups.{Row};
 ghost use Rattle.tables_groups.specs.Rolled.{AreAmong};
 ghost use Rattle.tables_groups.specs.Inside.Table.{IsOfFew, IsTableOf};
-ghost use Rattle.tables.specs.SetTables.{AreOfFew, AreTablesOf, HasFiner, HasRolled, IsMade, IsMadeOrRolled, set_of_roll};
-ghost use Rattle.tables.specs.Sets.{AreGroupsOf};
+ghost use Rattle.tables.specs.SetTables.{AreGroupsOfRolls, AreGroupsOfSets, AreOfFew, AreOfSameRecords, AreRollsOf, AreTablesOf, HasFiner, HasRolled, IsMade, IsMadeOrRolled, IsOfSameRecords, set_of_roll};
 
 use crate::executor::Executor;
-use crate::shape::copied_sets;
+use crate::shape::copy_sets;
 use query_plan::FilteredFunction;
 use std::alloc::{AllocError, Global};
 use tables_groups::{Group, Table};
@@ -45,35 +43,34 @@ impl Roll {
     /// These are tables of one list of fewer than 2^63 records for these set functions, and one of them has the columns of
     /// the set.
     ///
-    /// Example: a executor that works alone calls it for one roll after the other.
+    /// Example: an executor that works alone calls it for one roll after the other.
     pub fn roll(&mut self, tables: &[SetTable], functions: &[FilteredFunction])
         requires few { ∥ AreOfFew functions.now tables.now ∥₁ }
         requires finer { HasFiner (set_of_roll self.old) tables.now }
         ensures rolled { HasRolled functions.now tables.now self.old self.new }
     {
-        self.table = rolled_out(tables, self.set.as_slice(), functions).ok();
+        self.table = roll_from_finer(tables, self.set.as_slice(), functions).ok();
     }
 }
 
 /// The groups of each grouping set of a list, in the order of the list; those of one set in no order that is said.
 ///
 /// They are made of the table of all grouping columns, among which the columns of each set are, and finished by the executor.
-pub(crate) fn groups_of_sets<J: Executor>(
+pub(crate) fn groups_of_sets<E: Executor>(
     alloc: Global,
-    executor: &J,
+    executor: &E,
     grouping: &[usize],
     sets: &[Vec<usize>],
     functions: &[FilteredFunction],
     finest: Table,
 ) -> Result<Vec<Vec<Group>>, AllocError>
-    requires ready { J.ready executor.now }
+    requires ready { E.ready executor.now }
     requires among { All (λ set. AreAmong set grouping.now) (contents sets.now) }
     requires few { ∥ IsOfFew grouping.now functions.now finest ∥₁ }
-    ensures { IfOk result (λ groups. (filters : List (Row → Bool)) (rows : List Row)
-        → IsTableOf grouping.now (map (bound filters) functions.now) finest rows
-        → AreGroupsOf (contents sets.now) (map (bound filters) functions.now) groups.items rows) }
+    ensures { IfOk result (λ groups.
+        AreGroupsOfRolls grouping.now functions.now finest (contents sets.now) groups.items) }
 {
-    let order = longest_first(alloc, sets)?;
+    let order = sort_longest_first(alloc, sets)?;
     let tables = tables_of_sets(
         alloc,
         executor,
@@ -87,20 +84,19 @@ pub(crate) fn groups_of_sets<J: Executor>(
 
 /// A table for each different set of a list, and the one of all grouping columns. The sets of as many columns are rolled by
 /// the executor at once, those of more columns first.
-fn tables_of_sets<J: Executor>(
+fn tables_of_sets<E: Executor>(
     alloc: Global,
-    executor: &J,
+    executor: &E,
     grouping: &[usize],
     sets: &[Vec<usize>],
     functions: &[FilteredFunction],
     finest: Table,
 ) -> Result<Vec<SetTable>, AllocError>
-    requires ready { J.ready executor.now }
+    requires ready { E.ready executor.now }
     requires among { All (λ set. AreAmong set.items grouping.now) sets.now }
     requires few { ∥ IsOfFew grouping.now functions.now finest ∥₁ }
-    ensures tables { IfOk result (λ tables. (filters : List (Row → Bool)) (rows : List Row)
-        → IsTableOf grouping.now (map (bound filters) functions.now) finest rows
-        → AreTablesOf (map (bound filters) functions.now) tables.items rows) }
+    ensures tables { IfOk result (λ tables.
+        AreRollsOf grouping.now functions.now finest tables.items) }
     ensures sets { IfOk result (λ tables. All (λ set. IsMade set.items tables.items) sets.now) }
 {
     let mut tables = first_table(alloc, grouping, finest)?;
@@ -130,29 +126,28 @@ fn first_table(
 }
 
 /// The sets, those of more columns before those of fewer, so that each comes after those that it can be rolled out of.
-fn longest_first(alloc: Global, sets: &[Vec<usize>]) -> Result<Vec<Vec<usize>>, AllocError>
+fn sort_longest_first(alloc: Global, sets: &[Vec<usize>]) -> Result<Vec<Vec<usize>>, AllocError>
     ensures { IfOk result (λ order. IsPermutation (contents sets.now) (contents order.items)) }
 {
-    let mut order = copied_sets(alloc, sets)?;
+    let mut order = copy_sets(alloc, sets)?;
     order.sort_unstable_by_key(|set| usize::MAX - set.len());
     Ok(order)
 }
 
 /// Makes the tables of those sets of a list that have none. The executor rolls them out of those that are there. After an
 /// error the tables are of no use.
-fn roll_sets<J: Executor>(
+fn roll_sets<E: Executor>(
     alloc: Global,
-    executor: &J,
+    executor: &E,
     tables: &mut Vec<SetTable>,
     sets: &[Vec<usize>],
     functions: &[FilteredFunction],
 ) -> Result<(), AllocError>
-    requires ready { J.ready executor.now }
+    requires ready { E.ready executor.now }
     requires few { ∥ AreOfFew functions.now tables.old.items ∥₁ }
     requires finer { All (λ set. HasFiner set.items tables.old.items) sets.now }
-    ensures tables { OnOk result ((filters : List (Row → Bool)) (rows : List Row)
-        → AreTablesOf (map (bound filters) functions.now) tables.old.items rows
-        → AreTablesOf (map (bound filters) functions.now) tables.new.items rows) }
+    ensures tables { OnOk result
+        (AreOfSameRecords functions.now tables.old.items tables.new.items) }
     ensures made { OnOk result (All (λ set. IsMade set.items tables.new.items) sets.now) }
     ensures others { OnOk result ((other : List ℕ) → IsMade other tables.old.items
         → IsMade other tables.new.items) }
@@ -231,16 +226,14 @@ fn put_rolled(tables: &mut Vec<SetTable>, roll: Roll) -> Result<(), AllocError>
 }
 
 /// The table of a set, out of the one with the fewest groups that has its columns.
-fn rolled_out(
+fn roll_from_finer(
     tables: &[SetTable],
     set: &[usize],
     functions: &[FilteredFunction],
 ) -> Result<Table, AllocError>
     requires few { ∥ AreOfFew functions.now tables.now ∥₁ }
     requires finer { HasFiner set.now tables.now }
-    ensures rolled { IfOk result (λ table. (filters : List (Row → Bool)) (rows : List Row)
-        → AreTablesOf (map (bound filters) functions.now) tables.now rows
-        → IsTableOf set.now (map (bound filters) functions.now) table rows) }
+    ensures rolled { IfOk result (IsOfSameRecords functions.now tables.now set.now) }
 {
     let finer = &tables[place_of_finer(tables, set)];
     finer.table.roll(finer.set.as_slice(), set, functions)
@@ -304,19 +297,18 @@ fn is_same(set: &[usize], other: &[usize]) -> bool
 }
 
 /// The groups of each set, whose tables are there and which the executor finishes.
-fn finish_sets<J: Executor>(
+fn finish_sets<E: Executor>(
     alloc: Global,
-    executor: &J,
+    executor: &E,
     sets: &[Vec<usize>],
     functions: &[FilteredFunction],
     tables: Vec<SetTable>,
 ) -> Result<Vec<Vec<Group>>, AllocError>
-    requires ready { J.ready executor.now }
+    requires ready { E.ready executor.now }
     requires few { ∥ AreOfFew functions.now tables.items ∥₁ }
     requires made { All (λ set. IsMade set.items tables.items) sets.now }
-    ensures { IfOk result (λ groups. (filters : List (Row → Bool)) (rows : List Row)
-        → AreTablesOf (map (bound filters) functions.now) tables.items rows
-        → AreGroupsOf (contents sets.now) (map (bound filters) functions.now) groups.items rows) }
+    ensures { IfOk result (λ groups.
+        AreGroupsOfSets functions.now tables.items (contents sets.now) groups.items) }
 {
     let mut tables = tables;
     let mut groups = Vec::with_capacity(alloc, sets.len())?;
@@ -346,12 +338,9 @@ fn take_table(
 ) -> Result<Table, AllocError>
     requires few { ∥ AreOfFew functions.now tables.old.items ∥₁ }
     requires made { IsMade set.now tables.old.items }
-    ensures table { IfOk result (λ table. (filters : List (Row → Bool)) (rows : List Row)
-        → AreTablesOf (map (bound filters) functions.now) tables.old.items rows
-        → IsTableOf set.now (map (bound filters) functions.now) table rows) }
-    ensures tables { OnOk result ((filters : List (Row → Bool)) (rows : List Row)
-        → AreTablesOf (map (bound filters) functions.now) tables.old.items rows
-        → AreTablesOf (map (bound filters) functions.now) tables.new.items rows) }
+    ensures table { IfOk result (IsOfSameRecords functions.now tables.old.items set.now) }
+    ensures tables { OnOk result
+        (AreOfSameRecords functions.now tables.old.items tables.new.items) }
     ensures others { OnOk result ((other : List ℕ) → (is_last ≡ true → other ≢ set.now)
         → IsMade other tables.old.items → IsMade other tables.new.items) }
 {

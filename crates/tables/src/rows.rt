@@ -4,7 +4,7 @@ ghost use Rattle.semantics.specs.Groups.{Row};
 ghost use Rattle.tables_groups.specs.GroupSummaries.{group_summary_in};
 ghost use Rattle.tables_groups.specs.Bags.{SameBag};
 ghost use Rattle.tables_groups.specs.Found.{row_of, rows_from};
-ghost use Rattle.tables.specs.Folding.{IsOfFewUnder, IsTableUnder};
+ghost use Rattle.tables.specs.Folding.{IsOfFewUnder, IsTableOfKept};
 ghost use Rattle.semantics.specs.Found.{query_found};
 
 use crate::executor::Executor;
@@ -15,15 +15,15 @@ use tables_groups::{Group, Table};
 
 /// The groups of each grouping set of a plan, each beside the index of its set, by the table of all grouping columns. The
 /// executor finishes them.
-pub(crate) fn rows_of<J: Executor>(
+pub(crate) fn rows_of<E: Executor>(
     alloc: Global,
-    executor: &J,
+    executor: &E,
     plan: &Plan,
     finest: Table,
 ) -> Result<Vec<(usize, Group)>, AllocError>
-    requires ready { J.ready executor.now }
+    requires ready { E.ready executor.now }
     requires few { IsOfFewUnder plan.now finest }
-    ensures { IfOk result (λ rows. (records : List Row) → IsTableUnder plan.now finest records
+    ensures { IfOk result (λ rows. (records : List Row) → IsTableOfKept plan.now finest records
         → SameBag (map row_of rows.items) (query_found plan.now.fields plan.now.query records)) }
 {
     let groups = groups_of_sets(
@@ -34,11 +34,11 @@ pub(crate) fn rows_of<J: Executor>(
         plan.set_functions(),
         finest,
     )?;
-    flattened(alloc, groups)
+    flatten_groups(alloc, groups)
 }
 
 /// The groups of all sets, one set after the other.
-fn flattened(alloc: Global, groups: Vec<Vec<Group>>) -> Result<Vec<(usize, Group)>, AllocError>
+fn flatten_groups(alloc: Global, groups: Vec<Vec<Group>>) -> Result<Vec<(usize, Group)>, AllocError>
     ensures { IfOk result (λ rows. map row_of rows.items ≡ rows_from 0 groups.items) }
 {
     let mut rows = Vec::with_capacity(alloc, count_of(groups.as_slice()))?;

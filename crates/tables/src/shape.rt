@@ -30,6 +30,7 @@ impl Shape {
     ghost use Rattle.semantics.specs.Sets.{sets_of};
     ghost use Rattle.query_resolve.specs.Functions.{indexed_functions};
     ghost use Rattle.tables.specs.Functions.{filter_texts};
+    ghost use Rattle.tables.specs.Shapes.{AreSameShapes};
 
     /// The shape of a plan.
     pub(crate) fn of(alloc: Global, plan: &Plan) -> Result<Shape, AllocError>
@@ -40,8 +41,8 @@ impl Shape {
         ensures filters { IfOk result (λ shape.
             map string_bytes shape.filters.items ≡ filter_texts plan.now.fields plan.now.query) }
     {
-        let sets = copied_sets(alloc, plan.sets())?;
-        let functions = copied_functions(alloc, plan.set_functions())?;
+        let sets = copy_sets(alloc, plan.sets())?;
+        let functions = copy_functions(alloc, plan.set_functions())?;
         let filters = filter_texts(alloc, plan)?;
         Ok(Shape {
             sets,
@@ -52,10 +53,7 @@ impl Shape {
 
     /// Whether two shapes are the same.
     pub(crate) fn is_same(&self, other: &Shape) -> bool
-        ensures { IsTrue result
-            ↔ (contents self.now.sets.items ≡ contents other.now.sets.items)
-            × (self.now.functions.items ≡ other.now.functions.items)
-            × (map string_bytes self.now.filters.items ≡ map string_bytes other.now.filters.items) }
+        ensures { IsTrue result ↔ AreSameShapes self.now other.now }
     {
         same_sets(self.sets.as_slice(), other.sets.as_slice())
             && same_functions(self.functions.as_slice(), other.functions.as_slice())
@@ -64,7 +62,7 @@ impl Shape {
 }
 
 /// A copy of grouping sets.
-pub(crate) fn copied_sets(alloc: Global, sets: &[Vec<usize>]) -> Result<Vec<Vec<usize>>, AllocError>
+pub(crate) fn copy_sets(alloc: Global, sets: &[Vec<usize>]) -> Result<Vec<Vec<usize>>, AllocError>
     ensures { IfOk result (λ copies. contents copies.items ≡ contents sets.now) }
 {
     let mut copies = Vec::with_capacity(alloc, sets.len())?;
@@ -75,7 +73,7 @@ pub(crate) fn copied_sets(alloc: Global, sets: &[Vec<usize>]) -> Result<Vec<Vec<
 }
 
 /// A copy of set functions.
-fn copied_functions(
+fn copy_functions(
     alloc: Global,
     functions: &[FilteredFunction],
 ) -> Result<Vec<FilteredFunction>, AllocError>

@@ -6,7 +6,7 @@ use Rattle.tables_groups.specs.Inside.Table.{Contents, IsTableOf}
 use Rattle.semantics.specs.Groups.{Row}
 use Rattle.semantics.specs.Sets.{grouping_places}
 use Rattle.semantics.specs.Found.{aggregate_functions}
-use Rattle.tables.specs.Functions.{filters_kept}
+use Rattle.tables.specs.Functions.{filter_tests}
 use Rattle.tables.proofs.Bound.{bound-functions}
 use Rattle.tables.proofs.folding.empty_table.Goals as goal
 
@@ -15,7 +15,7 @@ returns g c =
     let fields = c.args.plan.now.fields in
     let q = c.args.plan.now.query in
     let fs = aggregate_functions fields q in
-    let filters = filters_kept fields q in
+    let filters = filter_tests fields q in
     let bound_are : map (bound filters) c.set_functions.result.now ≡ fs = ap (map (bound filters)) c.set_functions.ensures.functions ∙ bound-functions fields q in
     IfOk-weaker c.empty_table.result (λ (t : Contents). (filters : List (Row → Bool)) → IsTableOf c.grouping.result.now (map (bound filters) c.set_functions.result.now) t []) (λ (t : Contents). IsTableOf (grouping_places fields q) fs t [])
     (λ t held. subst (λ (gs : List AggregateFunction). IsTableOf (grouping_places fields q) gs t []) bound_are

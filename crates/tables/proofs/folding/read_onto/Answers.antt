@@ -17,7 +17,7 @@ few before seen rest all line e short =
 pub loop-line-init : goal.loop-line-init
 loop-line-init c = λ before held. record {
   seen = [];
-  has_read = nothing-read c.args.plan.now.fields c.args.plan.now.query before c.args.table c.onto-folding.result held c.onto-folding.ensures.table c.onto-folding.ensures.lines c.onto-folding.ensures.refused;
+  has_read = nothing-read c.args.plan.now.fields c.args.plan.now.query before c.args.table c.begin-folding.result held c.begin-folding.ensures.table c.begin-folding.ensures.lines c.begin-folding.ensures.refused;
   is = c.into_iter-line-iterator.ensures.into_iter_gives ∙ c.lines_of-line-items.ensures;
 }
 

@@ -3,7 +3,7 @@ use Rattle.std.proofs.lemmas.Bool.Decides.{nat_tests}
 use Rattle.std.proofs.lemmas.List.Elements.{All-tail}
 use Rattle.std.proofs.lemmas.List.Sums.{sum_by-cons}
 use Rattle.tables.specs.declared.piece_refusals.PieceRefusals.{PieceRefusals}
-use Rattle.tables.specs.Notes.{IsWellNumbered, Noted, lines_noted, note_in, numbered_from}
+use Rattle.tables.specs.Notes.{IsWellNumbered, Noted, line_count, note_in, refused_lines_from}
 use Rattle.tables.proofs.Following.{first-numbered}
 use Rattle.tables.proofs.numbering.number_in_order.Goals as goal
 
@@ -17,7 +17,7 @@ put_all_behind-requires-clause-few c =
     let rest = c.remove-first.new.self.items in
     let first = c.remove-first.result in
     let e = parted c.args.notes.items rest first (grind (arith, nat_tests, c.is_empty.ensures, c.if-is_empty.false)) c.remove-first.ensures.value c.remove-first.ensures.items in
-    let sum = ap (λ (ns : List PieceRefusals). lines_noted (map note_in ns)) e ∙ sum_by-cons (λ (n : Noted). n.lines) (note_in first) (map note_in rest) in
+    let sum = ap (λ (ns : List PieceRefusals). line_count (map note_in ns)) e ∙ sum_by-cons (λ (n : Noted). n.lines) (note_in first) (map note_in rest) in
     omega (arith, sum, c.requires.few)
 
 pub put_all_behind-requires-clause-numbered : goal.put_all_behind-requires-clause-numbered
@@ -32,4 +32,4 @@ returns c =
     let rest = c.remove-first.new.self.items in
     let first = c.remove-first.result in
     let e = parted c.args.notes.items rest first (grind (arith, nat_tests, c.is_empty.ensures, c.if-is_empty.false)) c.remove-first.ensures.value c.remove-first.ensures.items in
-    c.in_ok-put_all_behind.ensures ∙ sym (first-numbered (note_in first) (map note_in rest)) ∙ ap (λ (ns : List PieceRefusals). numbered_from 0 (map note_in ns)) (sym e)
+    c.in_ok-put_all_behind.ensures ∙ sym (first-numbered (note_in first) (map note_in rest)) ∙ ap (λ (ns : List PieceRefusals). refused_lines_from 0 (map note_in ns)) (sym e)

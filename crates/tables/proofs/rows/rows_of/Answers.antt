@@ -11,7 +11,7 @@ use Rattle.tables_groups.specs.Functions.{bound}
 use Rattle.tables_groups.specs.Inside.Table.{IsOfFew, IsTableOf}
 use Rattle.tables_groups.specs.Rolled.{AreAmong}
 use Rattle.semantics.specs.Found.{aggregate_functions, query_found}
-use Rattle.tables.specs.Functions.{filters_kept}
+use Rattle.tables.specs.Functions.{filter_tests}
 use Rattle.tables.specs.Sets.{AreGroupsOf}
 use Rattle.tables.proofs.Bound.{bound-functions}
 use Rattle.tables.proofs.Finding.{all-found}
@@ -32,11 +32,11 @@ groups_of_sets-requires-clause-few g c =
     (subst (λ (fs : List FilteredFunction). IsOfFew (grouping_places c.args.plan.now.fields c.args.plan.now.query) fs c.args.finest) (sym c.set_functions.ensures.functions) p))
 
 pub returns : goal.returns
-returns g c = IfOk-weaker c.flattened.result _ _ (λ rows is records table.
+returns g c = IfOk-weaker c.flatten_groups.result _ _ (λ rows is records table.
     let fields = c.args.plan.now.fields in
     let q = c.args.plan.now.query in
     let fs = aggregate_functions fields q in
-    let filters = filters_kept fields q in
+    let filters = filter_tests fields q in
     let members = kept_records fields q records in
     let groups = c.in_ok-groups.groups.items in
     let bound_are : map (bound filters) c.set_functions.result.now ≡ fs = ap (map (bound filters)) c.set_functions.ensures.functions ∙ bound-functions fields q in
@@ -45,4 +45,4 @@ returns g c = IfOk-weaker c.flattened.result _ _ (λ rows is records table.
     let of_sets : AreGroupsOf (sets_of fields q) fs groups members =
     subst (λ (gs : List AggregateFunction). AreGroupsOf (sets_of fields q) gs groups members) bound_are
     (subst (λ sets. AreGroupsOf sets (map (bound filters) c.set_functions.result.now) groups members) c.sets.ensures.sets (c.in_ok-groups.ensures filters members finest)) in
-    subst (λ found. SameBag found (query_found fields q records)) (sym is) (all-found (sets_of fields q) fs groups members of_sets)) c.flattened.ensures
+    subst (λ found. SameBag found (query_found fields q records)) (sym is) (all-found (sets_of fields q) fs groups members of_sets)) c.flatten_groups.ensures

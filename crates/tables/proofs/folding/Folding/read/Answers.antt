@@ -4,12 +4,12 @@ use Rattle.std.proofs.Math.Logic.{∥∥₁_elim, ∥∥₁_map}
 use Rattle.semantics.specs.declared.line_fault.LineRefusal.{LineRefusal}
 use Rattle.semantics.specs.Records.{IsRefusal, decode_line}
 use Rattle.tables.specs.declared.folding.Folding.{Folding}
-use Rattle.tables.specs.Folding.{HasRead, valid_of}
+use Rattle.tables.specs.Folding.{HasRead, valid_records_of}
 use Rattle.semantics.specs.Conditions.{kept_records}
 use Rattle.semantics.specs.Sets.{grouping_places}
 use Rattle.semantics.specs.Aggregates.{AggregateFunction}
 use Rattle.tables_groups.specs.Inside.Table.{IsTableOf}
-use Rattle.tables.specs.Functions.{filters_kept}
+use Rattle.tables.specs.Functions.{filter_tests}
 use Rattle.tables.proofs.Bound.{bound-functions}
 use Rattle.tables.proofs.Reading.{length-kept_behind, read-err, read-ok}
 use Rattle.tables.proofs.folding.Folding.read.Goals as goal
@@ -20,9 +20,9 @@ take-requires-clause-room c =
     let fields = c.args.plan.now.fields in
     let q = c.args.plan.now.query in
     ∥∥₁_map c.requires (λ r. record {
-      filters = filters_kept fields q;
-      rows = kept_records fields q (r.before ++ valid_of fields r.seen);
-      is_table = subst (λ (fs : List AggregateFunction). IsTableOf (grouping_places fields q) fs c.args.self.now.table (kept_records fields q (r.before ++ valid_of fields r.seen))) (sym (bound-functions fields q)) r.has_read.table;
+      filters = filter_tests fields q;
+      rows = kept_records fields q (r.before ++ valid_records_of fields r.seen);
+      is_table = subst (λ (fs : List AggregateFunction). IsTableOf (grouping_places fields q) fs c.args.self.now.table (kept_records fields q (r.before ++ valid_records_of fields r.seen))) (sym (bound-functions fields q)) r.has_read.table;
       few = (let h = length-kept_behind fields q r.before r.seen in omega (arith, h, r.few));
     })
 

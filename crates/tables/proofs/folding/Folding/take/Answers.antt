@@ -9,7 +9,7 @@ use Rattle.query_resolve.specs.Functions.{filters_of}
 use Rattle.semantics.specs.Sets.{grouping_places}
 use Rattle.semantics.specs.Conditions.{is_kept, kept_records}
 use Rattle.semantics.specs.Found.{aggregate_functions}
-use Rattle.tables.specs.Functions.{filters_kept}
+use Rattle.tables.specs.Functions.{filter_tests}
 use Rattle.tables.proofs.Bound.{bound-functions, marks-kept}
 use Rattle.tables.proofs.Narrow.{narrow-from_fits}
 use Rattle.tables.proofs.Reading.{kept-append}
@@ -24,7 +24,7 @@ returns-in_ok-add-clause-table c = λ rows given.
     let q = c.args.plan.now.query in
     let grouping = grouping_places fields q in
     let fs = aggregate_functions fields q in
-    let filters = filters_kept fields q in
+    let filters = filter_tests fields q in
     let row = c.args.taken.now in
     let before = kept_records fields q rows in
     let new = c.add.new.self in

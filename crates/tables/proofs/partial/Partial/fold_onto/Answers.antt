@@ -12,7 +12,7 @@ use Rattle.query_resolve.specs.Functions.{indexed_functions}
 use Rattle.semantics.specs.Sets.{grouping_places}
 use Rattle.semantics.specs.Conditions.{kept_records}
 use Rattle.tables.specs.declared.piece_refusals.PieceRefusals.{PieceRefusals}
-use Rattle.tables.specs.Folding.{valid_of}
+use Rattle.tables.specs.Folding.{valid_records_of}
 use Rattle.tables.specs.Notes.{Noted, note_in, note_of}
 use Rattle.tables.specs.Partials.{StandsFor}
 use Rattle.tables.specs.Pieces.{records_of}
@@ -65,7 +65,7 @@ invariant_of-result c =
           ∥∥₁_elim c.requires.of_plan (hlevel props) (λ s.
               let p = subst (λ (v : PartialState). StandsFor fields q v s.0) (sym c.self.view_is) s.1 in
               subst (λ (fs : List FilteredFunction). AreGroupsWithin (self.lines + folding.lines) fs folding.table) (sym p.functions)
-              (table-within (grouping_places fields q) (indexed_functions fields q) (aggregate_functions fields q) folding.table (kept_records fields q (records_of fields s.0 ++ valid_of fields ls)) (self.lines + folding.lines) (as-many fields q) (read.read (records_of fields s.0) p.table).table
+              (table-within (grouping_places fields q) (indexed_functions fields q) (aggregate_functions fields q) folding.table (kept_records fields q (records_of fields s.0 ++ valid_records_of fields ls)) (self.lines + folding.lines) (as-many fields q) (read.read (records_of fields s.0) p.table).table
               (let few = length-kept_behind fields q (records_of fields s.0) ls in let records = few-records fields s.0 in let before = p.lines in omega (arith, few, records, before, count)))),
           (
             noted.0,

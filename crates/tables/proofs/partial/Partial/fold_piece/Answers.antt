@@ -3,7 +3,7 @@ use Rattle.semantics.specs.Lines.{lines}
 use Rattle.query_resolve.specs.Functions.{indexed_functions}
 use Rattle.semantics.specs.Sets.{grouping_places}
 use Rattle.semantics.specs.Conditions.{kept_records}
-use Rattle.tables.specs.Folding.{valid_of}
+use Rattle.tables.specs.Folding.{valid_records_of}
 use Rattle.tables_groups.specs.Bags.{SameBag}
 use Rattle.semantics.specs.Groups.{Row}
 use Rattle.tables_groups.specs.Inside.Table.{AreGroupsWithin, IsTableOf}
@@ -33,7 +33,7 @@ invariant_of-result c =
     let read = c.in_ok-table.ensures.read [] c.in_ok-empty.ensures in
     let folding = c.in_ok-table.field-0 in
     let valid = length-valid_of fields ls in
-    let few = length-kept fields q (valid_of fields ls) in
+    let few = length-kept fields q (valid_records_of fields ls) in
     let count = read.lines in
     let short = length-lines c.args.piece.now in
     let notes = one-note c.in_ok-notes.notes.items _ c.in_ok-notes.ensures c.in_ok-table.ensures.numbered in (
@@ -42,7 +42,7 @@ invariant_of-result c =
         (let n = c.len-count.ensures in let r = c.in_ok-table.ensures.refused in let m = length-refused_of fields ls in let ok = folding.refused.ok in grind (arith, n, r, m, count, ok)),
         (
           subst (λ (fs : List FilteredFunction). AreGroupsWithin folding.lines fs folding.table) (sym c.in_ok-shape.ensures.functions)
-              (table-within (grouping_places fields q) (indexed_functions fields q) (aggregate_functions fields q) folding.table (kept_records fields q (valid_of fields ls)) folding.lines (as-many fields q) read.table (omega (arith, valid, few, count))),
+              (table-within (grouping_places fields q) (indexed_functions fields q) (aggregate_functions fields q) folding.table (kept_records fields q (valid_records_of fields ls)) folding.lines (as-many fields q) read.table (omega (arith, valid, few, count))),
           (
             notes.0,
             (notes.1, tt),

@@ -15,8 +15,8 @@ use Rattle.tables.proofs.Merging.{one-note}
 use Rattle.tables.proofs.Reading.{kept-append}
 use Rattle.tables.proofs.partial.Partial.follow_by.Goals as goal
 
-pub join-requires-clause-join : goal.join-requires-clause-join
-join-requires-clause-join g c =
+pub merge_tables-requires-clause-mergeable : goal.merge_tables-requires-clause-mergeable
+merge_tables-requires-clause-mergeable g c =
     let a = c.self.inside in
     let b = c.rest.inside in
     let functions : a.shape.functions.items ≡ b.shape.functions.items =
@@ -62,7 +62,7 @@ invariant_of-result g c =
       (
         (let x = a.fewer in let y = b.fewer in omega (arith, x, y)),
         (
-          c.in_ok-joined.ensures.within a.shape.functions.items a.lines b.lines a.within
+          c.in_ok-merged.ensures.within a.shape.functions.items a.lines b.lines a.within
               (subst (λ (fs : List FilteredFunction). AreGroupsWithin b.lines fs b.table) (sym functions) b.within),
           (
             notes.0,
@@ -88,9 +88,9 @@ returns g c = record {
         sets = p.sets;
         functions = p.functions;
         filters = p.filters;
-        table = subst (λ (rows : List Row). IsTableOf (grouping_places fields q) (aggregate_functions fields q) c.in_ok-joined.joined rows)
+        table = subst (λ (rows : List Row). IsTableOf (grouping_places fields q) (aggregate_functions fields q) c.in_ok-merged.merged rows)
             (sym (ap (kept_records fields q) (followed-records fields front back given.pieces other.pieces whole given.cut other.cut) ∙ kept-append fields q (records_of fields given.pieces) (records_of fields other.pieces)))
-            (c.in_ok-joined.ensures.joined (grouping_places fields q) (aggregate_functions fields q) (kept_records fields q (records_of fields given.pieces)) (kept_records fields q (records_of fields other.pieces)) p.table m.table);
+            (c.in_ok-merged.ensures.merged (grouping_places fields q) (aggregate_functions fields q) (kept_records fields q (records_of fields given.pieces)) (kept_records fields q (records_of fields other.pieces)) p.table m.table);
         lines = (let x = p.lines in let y = m.lines in let z = whole-lines (front ++ back) in omega (arith, x, y, z, count));
         refused = (let x = p.refused in let y = m.refused in let z = followed-count fields front back given.pieces other.pieces whole given.cut other.cut in omega (arith, x, y, z));
         notes = followed-note fields (front ++ back) c.in_ok-notes.notes.items _ c.in_ok-notes.ensures (omega arith) (let x = p.lines in let y = m.lines in omega (arith, x, y, count)) refused;

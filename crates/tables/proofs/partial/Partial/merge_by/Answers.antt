@@ -9,7 +9,7 @@ use Rattle.query_resolve.specs.declared.function.FilteredFunction.{FilteredFunct
 use Rattle.tables_groups.specs.Inside.Table.{AreGroupsWithin, IsTableOf}
 use Rattle.tables_groups.proofs.Meaning.{within-can_join}
 use Rattle.semantics.specs.Found.{aggregate_functions}
-use Rattle.tables.specs.Notes.{IsWellNumbered, Noted, lines_noted, note_in, note_of, notes_in}
+use Rattle.tables.specs.Notes.{IsWellNumbered, Noted, line_count, note_in, note_of, notes_in}
 use Rattle.tables.specs.Pieces.{records_of}
 use Rattle.tables.specs.Partials.{StandsFor}
 use Rattle.tables.specs.States.{PartialState}
@@ -18,8 +18,8 @@ use Rattle.tables.proofs.Reading.{kept-append}
 use Rattle.tables.proofs.Merging.{counted-append, lines-append, notes-append, records-append, refused-append}
 use Rattle.tables.proofs.partial.Partial.merge_by.Goals as goal
 
-pub join-requires-clause-join : goal.join-requires-clause-join
-join-requires-clause-join g c =
+pub merge_tables-requires-clause-mergeable : goal.merge_tables-requires-clause-mergeable
+merge_tables-requires-clause-mergeable g c =
     let a = c.self.inside in
     let b = c.other.inside in
     let functions : a.shape.functions.items ≡ b.shape.functions.items =
@@ -43,10 +43,10 @@ invariant_of-result g c =
       (
         (let x = a.fewer in let y = b.fewer in omega (arith, x, y)),
         (
-          c.in_ok-joined.ensures.within a.shape.functions.items a.lines b.lines a.within
+          c.in_ok-merged.ensures.within a.shape.functions.items a.lines b.lines a.within
               (subst (λ (fs : List FilteredFunction). AreGroupsWithin b.lines fs b.table) (sym functions) b.within),
           (
-            ap lines_noted joined ∙ counted-append (notes_in a.notes) (notes_in b.notes) a.lines b.lines a.counted b.counted,
+            ap line_count joined ∙ counted-append (notes_in a.notes) (notes_in b.notes) a.lines b.lines a.counted b.counted,
             (subst (All IsWellNumbered) (sym joined) (All-append IsWellNumbered (notes_in a.notes) (notes_in b.notes) a.numbered b.numbered), tt),
           ),
         ),
@@ -64,8 +64,8 @@ returns-clause-stands g c = λ fields q pieces more given other.
       sets = p.sets;
       functions = p.functions;
       filters = p.filters;
-      table = subst (λ (rows : List Row). IsTableOf (grouping_places fields q) (aggregate_functions fields q) c.in_ok-joined.joined rows) (sym (ap (kept_records fields q) (records-append fields pieces more) ∙ kept-append fields q (records_of fields pieces) (records_of fields more)))
-          (c.in_ok-joined.ensures.joined (grouping_places fields q) (aggregate_functions fields q) (kept_records fields q (records_of fields pieces)) (kept_records fields q (records_of fields more)) p.table m.table);
+      table = subst (λ (rows : List Row). IsTableOf (grouping_places fields q) (aggregate_functions fields q) c.in_ok-merged.merged rows) (sym (ap (kept_records fields q) (records-append fields pieces more) ∙ kept-append fields q (records_of fields pieces) (records_of fields more)))
+          (c.in_ok-merged.ensures.merged (grouping_places fields q) (aggregate_functions fields q) (kept_records fields q (records_of fields pieces)) (kept_records fields q (records_of fields more)) p.table m.table);
       lines = (let x = p.lines in let y = m.lines in let z = lines-append pieces more in omega (arith, x, y, z));
       refused = (let x = p.refused in let y = m.refused in let z = refused-append fields pieces more in omega (arith, x, y, z));
       notes = subst (λ (ns : List Noted). SameBag (map (note_of fields) (pieces ++ more)) ns) (sym joined) (notes-append fields pieces more (notes_in a.notes) (notes_in b.notes) p.notes m.notes);

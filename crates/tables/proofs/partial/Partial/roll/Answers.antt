@@ -9,7 +9,7 @@ use Rattle.query_resolve.specs.Functions.{indexed_functions}
 use Rattle.semantics.specs.Sets.{grouping_places}
 use Rattle.semantics.specs.Conditions.{kept_records}
 use Rattle.semantics.specs.Found.{aggregate_functions}
-use Rattle.tables.specs.Functions.{filters_kept}
+use Rattle.tables.specs.Functions.{filter_tests}
 use Rattle.tables.specs.Partials.{StandsFor}
 use Rattle.tables.specs.Pieces.{records_of}
 use Rattle.tables.specs.Sets.{AreGroupsOfSet}
@@ -26,7 +26,7 @@ roll-requires-clause-few c =
     ∥∥₁_map c.requires.of_plan (λ s.
     let p = subst (λ (v : PartialState). StandsFor fields q v s.0) (sym c.self.view_is) s.1 in
     let of_few : IsOfFew (grouping_places fields q) (indexed_functions fields q) self.table = record {
-      filters = filters_kept fields q;
+      filters = filter_tests fields q;
       rows = kept_records fields q (records_of fields s.0);
       is_table = subst (λ (fs : List AggregateFunction). IsTableOf (grouping_places fields q) fs self.table (kept_records fields q (records_of fields s.0))) (sym (bound-functions fields q)) p.table;
       few = few-kept fields q s.0 self.lines p.lines self.few;
@@ -39,7 +39,7 @@ returns-clause-groups c = IfOk-weaker c.finish.result _ _ (λ (groups : _) given
     let fields = c.args.plan.now.fields in
     let q = c.args.plan.now.query in
     let self = c.self.inside in
-    let filters = filters_kept fields q in
+    let filters = filter_tests fields q in
     let rows = kept_records fields q (records_of fields pieces) in
     let p = subst (λ (v : PartialState). StandsFor fields q v pieces) (sym c.self.view_is) s in
     let bound_are : map (bound filters) c.set_functions.result.now ≡ aggregate_functions fields q = ap (map (bound filters)) c.set_functions.ensures.functions ∙ bound-functions fields q in

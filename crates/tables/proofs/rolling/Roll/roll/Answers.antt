@@ -7,8 +7,8 @@ use Rattle.tables.specs.SetTables.{AreTablesOf, HasFiner}
 use Rattle.tables.proofs.SetTables.{some-of_ok}
 use Rattle.tables.proofs.rolling.Roll.roll.Goals as goal
 
-pub rolled_out-requires-clause-finer : goal.rolled_out-requires-clause-finer
-rolled_out-requires-clause-finer c = subst (λ (set : List ℕ). HasFiner set c.args.tables.now) (sym c.as_slice.ensures.value) c.requires.finer
+pub roll_from_finer-requires-clause-finer : goal.roll_from_finer-requires-clause-finer
+roll_from_finer-requires-clause-finer c = subst (λ (set : List ℕ). HasFiner set c.args.tables.now) (sym c.as_slice.ensures.value) c.requires.finer
 
 pub returns : goal.returns
 returns c =
@@ -20,8 +20,8 @@ returns c =
         refl,
         subst (λ (o : Option Contents). IfSome o (λ table. (filters : List (Row → Bool)) (rows : List Row)
             → AreTablesOf (map (bound filters) fs) tables rows → IsTableOf set (map (bound filters) fs) table rows)) (sym c.ok.ensures.value)
-            (some-of_ok _ c.rolled_out.result
-            (IfOk-weaker c.rolled_out.result _ _ (λ table rolled filters rows h.
-            subst (λ (s : List ℕ). IsTableOf s (map (bound filters) fs) table rows) c.as_slice.ensures.value (rolled filters rows h)) c.rolled_out.ensures.rolled)),
+            (some-of_ok _ c.roll_from_finer.result
+            (IfOk-weaker c.roll_from_finer.result _ _ (λ table rolled filters rows h.
+            subst (λ (s : List ℕ). IsTableOf s (map (bound filters) fs) table rows) c.as_slice.ensures.value (rolled filters rows h)) c.roll_from_finer.ensures.rolled)),
       );
     }

@@ -1,6 +1,6 @@
 use Rattle.std.proofs.Common.{◌≡◌, take}
 use Rattle.query_resolve.specs.Resolution.{contents}
-use Rattle.tables.proofs.shape.copied_sets.Given as goal
+use Rattle.tables.proofs.shape.copy_sets.Given as goal
 
 -- the sets so far are copied
 abbrev pub invariant-loop-set : goal.invariant-loop-set

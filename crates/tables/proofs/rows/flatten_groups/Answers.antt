@@ -2,7 +2,7 @@ use Rattle.std.proofs.Common.{◌++◌, ℕ, List, map, Vec, Global, sym, ap, �
 use Rattle.tables_groups.specs.declared.group.Group.{Group}
 use Rattle.tables_groups.specs.GroupSummaries.{group_summary_in}
 use Rattle.tables_groups.specs.Found.{row_of, rows_from}
-use Rattle.tables.proofs.rows.flattened.Goals as goal
+use Rattle.tables.proofs.rows.flatten_groups.Goals as goal
 
 pub loop-index-preserved : goal.loop-index-preserved
 loop-index-preserved c =

@@ -1,6 +1,6 @@
 use Rattle.std.proofs.Common.{◌≡◌, ◌++◌, map}
 use Rattle.tables_groups.specs.Found.{row_of, rows_from}
-use Rattle.tables.proofs.rows.flattened.Given as goal
+use Rattle.tables.proofs.rows.flatten_groups.Given as goal
 
 -- the rows so far and those of the sets that are left are all
 abbrev pub invariant-loop-index : goal.invariant-loop-index

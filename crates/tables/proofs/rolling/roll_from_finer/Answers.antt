@@ -6,7 +6,7 @@ use Rattle.tables_groups.specs.Inside.Table.{IsTableOf}
 use Rattle.tables_groups.specs.Rolled.{AreAmong}
 use Rattle.tables.specs.declared.rolling.SetTable.{SetTable}
 use Rattle.tables.proofs.SetTables.{table-at}
-use Rattle.tables.proofs.rolling.rolled_out.Goals as goal
+use Rattle.tables.proofs.rolling.roll_from_finer.Goals as goal
 
 pub roll-requires-clause-among : goal.roll-requires-clause-among
 roll-requires-clause-among c =
