@@ -1,7 +1,8 @@
 //! Pieces, lines and records, to the byte: each call over a table.
 
 use lines::{
-    LineFault, LineRefusal, Piece, RecordReader, cut_into_pieces, lines_of, read_by_tree, read_record,
+    LineFault, LineRefusal, Piece, RecordReader, cut_into_pieces, lines_of, read_by_tree,
+    read_record,
 };
 use std::alloc::Global;
 use std::process::Abort;
