@@ -68,7 +68,7 @@ denotation-append fields q xs ys =
       filters = filter_texts fields q;
       table = table i;
       lines = lines i;
-      refused_lines = refused_lines i;
+      refused = refused_lines i;
       notes = λ weight. (ap (weigh weight) (map-append (note_of fields) xs ys) ∙ weigh-append weight (map (note_of fields) xs) (map (note_of fields) ys)) i;
     }
 
@@ -89,7 +89,7 @@ denotation-flip fields q xs ys =
       filters = filter_texts fields q;
       table = λ key. options-flip fs (has_key grouping key first) (has_key grouping key second) (members grouping key first) (members grouping key second) i;
       lines = plus-flip (length (all_lines xs)) (length (all_lines ys)) i;
-      refused_lines = plus-flip (length (refused_within fields xs)) (length (refused_within fields ys)) i;
+      refused = plus-flip (length (refused_within fields xs)) (length (refused_within fields ys)) i;
       notes = λ weight. plus-flip (weigh weight (map (note_of fields) xs)) (weigh weight (map (note_of fields) ys)) i;
     }
 
