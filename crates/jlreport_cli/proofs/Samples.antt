@@ -45,20 +45,20 @@ unfolding clap_on_literals
 words-explain = refl
 
 -- words that ask for an explanation
-abbrev explained : List Text
-explained = codes "jlreport" ∷ codes "--explain" ∷ codes "--columns=a" ∷ codes "--query=b" ∷ codes "f" ∷ []
+abbrev words_for_explanation : List Text
+words_for_explanation = codes "jlreport" ∷ codes "--explain" ∷ codes "--columns=a" ∷ codes "--query=b" ∷ codes "f" ∷ []
 
-explained-fault : fault_of command explained ≡ []
+words_for_explanation-fault : fault_of command words_for_explanation ≡ []
 unfolding clap_on_literals
-explained-fault = refl
+words_for_explanation-fault = refl
 
-explained-set : IsSet (codes "explain") explained
+words_for_explanation-set : IsSet (codes "explain") words_for_explanation
 unfolding clap_on_literals
-explained-set = refl
+words_for_explanation-set = refl
 
-explained-file : value_of (codes "file") explained ≡ Some (codes "f")
+words_for_explanation-file : value_of (codes "file") words_for_explanation ≡ Some (codes "f")
 unfolding clap_on_literals
-explained-file = refl
+words_for_explanation-file = refl
 
 -- the file has to be given also there
 explained_nothing-fault : fault_of command (codes "jlreport" ∷ codes "--explain" ∷ codes "--columns=a" ∷ codes "--query=b" ∷ []) ≡ MissingRequiredArgument ∷ []
@@ -71,20 +71,20 @@ unfolding clap_on_literals
 flag_value-fault = refl
 
 -- numbers that are given
-abbrev numbered : List Text
-numbered = codes "jlreport" ∷ codes "--columns=a" ∷ codes "--query=b" ∷ codes "--max-refused=3" ∷ codes "--piece" ∷ codes "7" ∷ codes "f" ∷ []
+abbrev words_with_numbers : List Text
+words_with_numbers = codes "jlreport" ∷ codes "--columns=a" ∷ codes "--query=b" ∷ codes "--max-refused=3" ∷ codes "--piece" ∷ codes "7" ∷ codes "f" ∷ []
 
-numbered-fault : fault_of command numbered ≡ []
+words_with_numbers-fault : fault_of command words_with_numbers ≡ []
 unfolding clap_on_literals
-numbered-fault = refl
+words_with_numbers-fault = refl
 
-numbered-piece : one_of (codes "piece") (matches_of command numbered) ≡ Some (codes "7")
+words_with_numbers-piece : one_of (codes "piece") (matches_of command words_with_numbers) ≡ Some (codes "7")
 unfolding clap_on_literals
-numbered-piece = refl
+words_with_numbers-piece = refl
 
-numbered-max_refused : one_of (codes "max-refused") (matches_of command numbered) ≡ Some (codes "3")
+words_with_numbers-max_refused : one_of (codes "max-refused") (matches_of command words_with_numbers) ≡ Some (codes "3")
 unfolding clap_on_literals
-numbered-max_refused = refl
+words_with_numbers-max_refused = refl
 
 -- a size that is no number
 no_number-fault : fault_of command (codes "jlreport" ∷ codes "--columns=a" ∷ codes "--query=b" ∷ codes "--piece=x" ∷ codes "f" ∷ []) ≡ ValueValidation ∷ []

@@ -1,8 +1,9 @@
 //! The command of the program, and what words say under it.
 ghost use Rattle.std.specs.Prelude.{◌≡◌, ◌↔◌, [], ℕ, IfErr, IfOk, IfSome, IsNone, Some, codes, true};
 ghost use Rattle.clap.specs.Walk.{texts};
-ghost use Rattle.clap.specs.Words.{app_of, fault_of, found_of, kind_of, new_app, one_text};
-ghost use Rattle.semantics.specs.CommandLine.{IsNumberOf, IsSet, command, value_of, IsNumberIn, AreInRange, IsRefusalOf};
+ghost use Rattle.clap.specs.Words.{app_of, fault_of, kind_of, new_app};
+ghost use Rattle.jlreport_cli.specs.Matches.{IsNumberAt};
+ghost use Rattle.semantics.specs.CommandLine.{IsNumberOf, IsSet, command, value_of, AreInRange, IsRefusalOf};
 
 use crate::arguments::{
     defaulted_option, flag, is_set, number_of, number_option, required_option, required_word,
@@ -146,14 +147,14 @@ fn program_command<'a>(alloc: Global) -> Result<Command<'a>, Error>
 /// How a run is done by what was given, where the numbers are in their ranges.
 fn options_of(matches: &ArgMatches<'_>) -> Option<Options>
     ensures piece { IfSome result (λ options.
-        IsNumberIn (one_text (found_of matches.now) (codes "piece")) (Some options.piece)) }
+        IsNumberAt matches.now (codes "piece") (Some options.piece)) }
     ensures max_refused { IfSome result (λ options.
-        IsNumberIn (one_text (found_of matches.now) (codes "max-refused")) options.max_refused) }
+        IsNumberAt matches.now (codes "max-refused") options.max_refused) }
     ensures workers { IfSome result (λ options.
-        IsNumberIn (one_text (found_of matches.now) (codes "workers")) (Some options.workers)) }
+        IsNumberAt matches.now (codes "workers") (Some options.workers)) }
     ensures out_of_range { IsNone result → (workers piece : ℕ)
-        → IsNumberIn (one_text (found_of matches.now) (codes "workers")) (Some workers)
-        → IsNumberIn (one_text (found_of matches.now) (codes "piece")) (Some piece)
+        → IsNumberAt matches.now (codes "workers") (Some workers)
+        → IsNumberAt matches.now (codes "piece") (Some piece)
         → AreInRange workers piece → ⊥ }
 {
     let (Some(workers), Some(piece)) = (number_of(matches, "workers"), number_of(matches, "piece"))

@@ -1,6 +1,6 @@
 -- What a run leaves, from what it is known to have read and made.
 use Rattle.std.proofs.Common.{◌≡◌, ◌≢◌, ◌≤◌, ◌<◌, ◌∙◌, ℕ, List, length, Option, Some, None, Result, Ok, Err, refl, subst, sym, ap, arith}
-use Rattle.std.specs.Prelude.{IfErr, IfOk, IfSome, OnOk}
+use Rattle.std.specs.Prelude.{◌↔◌, IfErr, IfOk, IfSome, IsErrAnd, IsOk, OnOk}
 use Rattle.semantics.specs.Columns.{Field}
 use Rattle.semantics.specs.Syntax.{TreeForm}
 use Rattle.semantics.specs.declared.run_fault.RunFault.{RunFault}
@@ -15,17 +15,18 @@ use Rattle.report.specs.Report.{refusals_of, report_of}
 use Rattle.tables.specs.Partials.{StandsForInput}
 use Rattle.semantics.specs.Found.{query_found}
 use Rattle.tables.specs.States.{PartialState}
-use Rattle.jlreport_engine.specs.declared.running.Done.{Done}
+use Rattle.semantics.specs.declared.run_done.Done.{Done}
 use Rattle.jlreport_scan.specs.declared.fault.GatherFault.{GatherFault}
 use Rattle.jlreport_scan.specs.declared.fault.GatherFault.TheVariants as gathering
 use Rattle.jlreport_scan.specs.Faults.{Stops}
 use Rattle.jlreport_scan.specs.Gathered.{IsWhole, limit_number}
-use Rattle.semantics.specs.Run.{IsResourceFault, IsDecided, IsWithin, Leaves, refusals, report, AppendsBeginning}
-use Rattle.jlreport_engine.specs.Run.{LeavesOfInput}
+use Rattle.semantics.specs.Run.{IsResourceFault, IsRun, IsWithin, Leaves, refusals, report, AppendsBeginning}
+use Rattle.jlreport_engine.specs.Run.{LeavesOfInput, LeavesOfWhole}
 use Rattle.jlreport_scan.specs.RunFaults.{fault_of_gathering}
 use Rattle.jlreport_engine.specs.Written.{LeavesWritten}
 use Rattle.jlreport_scan.proofs.Tallies.{lines-of-input, refused-of-input}
 use Rattle.std.specs.Io.KnownBytes.{Appends, Keeps}
+use Rattle.std.proofs.KnownBytes.{Keeps-refl}
 
 -- what holds of all that was read holds of what the reader gives, where that is known
 of-known : (P : List ℕ → Type 0) (bytes : List ℕ) (known : Option (List ℕ)) → ((input : List ℕ) → P (clip_lines input) → P input) → IfSome known (λ input. bytes ≡ clip_lines input)
@@ -86,6 +87,15 @@ pub limit-known : (r : Result Done RunFault) (limit : Option ℕ) (partial : Par
     → IfOk r (λ done. done.refused ≡ partial.refused) → IfOk r (λ done. IsWithin limit done.refused)
 limit-known (Err e) limit partial few h = tt
 limit-known (Ok done) limit partial few h = within limit partial.refused done.refused few h
+
+-- where nothing was refused to the run, it is done exactly where not more lines are refused than the limit
+abbrev IsDecided : {X : Type 0} → Result X RunFault → Option ℕ → ℕ → Type 0
+IsDecided result limit count = IfErr result (λ fault. IsResourceFault fault → ⊥) → (IsOk result ↔ IsWithin limit count)
+
+-- so it is of what the reader gives, where that is known
+decided-free : (A : Type 0) (known : Option (List ℕ)) (P : List ℕ → Type 0) → IfSome known (λ input. A → P input) → A → IfSome known P
+decided-free A None P h free = tt
+decided-free A (Some input) P h free = h free
 
 -- a fault before anything was written, and the limit
 stopped : (limit : Option ℕ) (count : ℕ) (most : ℕ) → limit ≡ Some most → most < count → IsDecided {X = Done} (Err (TooManyRefused most)) limit count
@@ -200,3 +210,40 @@ leaves-written fields q bytes text list oo on eo en WritingRefused is_text is_li
 -- what was appended is the text that it is
 pub appends-text : (old new : Option (List ℕ)) (bytes text : List ℕ) → bytes ≡ text → Appends old new bytes → Appends old new text
 appends-text old new bytes text e h = subst (λ (t : List ℕ). Appends old new t) e h
+
+-- ---- the run
+
+-- what a run over all of an input promises, from what was gathered and written
+pub is-run : (r : Result Done RunFault) (limit : Option ℕ) (fields : List Field) (q : TreeForm) (known : Option (List ℕ)) (partial : PartialState) (oo on eo en : Option (List ℕ)) → IsWhole fields q known partial
+    → partial.refused ≤ limit_number limit
+    → OnOk r ((input : List ℕ) → StandsForInput fields q partial input → Appends oo on (report fields q input))
+    → OnOk r ((input : List ℕ) → StandsForInput fields q partial input → Appends eo en (refusals fields input))
+    → IfOk r (λ done. done.lines ≡ partial.lines) → IfOk r (λ done. done.refused ≡ partial.refused)
+    → IfErr r (λ fault. LeavesOfWhole fault fields q partial oo on eo en)
+    → IsRun r limit fields q known oo on eo en
+is-run r limit fields q known partial oo on eo en w few written listed lines_are refused_are left = record {
+  writes_report = report-known r fields q known partial oo on w written;
+  writes_refusals = refusals-known r fields q known partial eo en w listed;
+  counts_lines = lines-known r fields q known partial w lines_are;
+  counts_refused = refused-known r fields q known partial w refused_are;
+  is_within = limit-known r limit partial few refused_are;
+  is_decided = decided-free (IfErr r (λ fault. IsResourceFault fault → ⊥)) known (λ input. IsOk r ↔ IsWithin limit (length (refused_lines fields input)))
+      (decided-known r limit fields q known partial oo on eo en w few left);
+  leaves = leaves-known r limit fields q known partial oo on eo en w few left;
+}
+
+-- what a run promises that fails before anything was written
+pub is-run-stopped : (r : Result Done RunFault) (limit : Option ℕ) (fields : List Field) (q : TreeForm) (known out err : Option (List ℕ)) (fault : GatherFault)
+    → IsErrAnd r (λ given. given ≡ fault_of_gathering fault) → Stops fault limit fields known → IsRun r limit fields q known out out err err
+is-run-stopped (Ok done) limit fields q known out err fault is stops = absurd is
+is-run-stopped (Err given) limit fields q known out err fault is stops = record {
+  writes_report = tt;
+  writes_refusals = tt;
+  counts_lines = tt;
+  counts_refused = tt;
+  is_within = tt;
+  is_decided = decided-free (IsResourceFault given → ⊥) known (λ input. IsOk {T = Done} (Err given) ↔ IsWithin limit (length (refused_lines fields input)))
+      (subst (λ (f : RunFault). IfSome known (λ input. IsDecided {X = Done} (Err f) limit (length (refused_lines fields input)))) (sym is) (decided-stopped limit fields known fault stops));
+  leaves = subst (λ (f : RunFault). Leaves f limit fields q known out out err err) (sym is)
+      (leaves-stopped limit fields q known out err fault stops (Keeps-refl out) (Keeps-refl err));
+}

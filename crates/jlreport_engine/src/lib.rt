@@ -7,7 +7,7 @@ mod running;
 mod serving;
 mod writing;
 
-pub use running::{Done, run, run_alone};
-pub use semantics::RunFault;
+pub use running::{run, run_alone};
+pub use semantics::{Done, RunFault};
 pub use serving::serve;
 pub use writing::put;

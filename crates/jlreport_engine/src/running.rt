@@ -1,13 +1,9 @@
 //! A run: from a reader to the report and the list of refused lines.
-ghost use Rattle.std.specs.Prelude.{◌≡◌, ◌≢◌, ℕ, List, IfErr, IfOk, IfSome, OnOk, length};
+ghost use Rattle.std.specs.Prelude.{◌≡◌, ◌≢◌, ℕ, List, IfErr, IfOk, OnOk};
 ghost use Rattle.std.specs.Io.KnownBytes.{Appends};
-ghost use Rattle.semantics.specs.Columns.{Field};
-ghost use Rattle.semantics.specs.Records.{refused_lines};
-ghost use Rattle.semantics.specs.Lines.{lines};
-ghost use Rattle.semantics.specs.Syntax.{TreeForm};
 ghost use Rattle.tables.specs.Partials.{StandsForInput};
-ghost use Rattle.semantics.specs.Run.{IsDecided, IsWithin, Leaves, refusals, report};
-ghost use Rattle.jlreport_engine.specs.Run.{LeavesOfInput};
+ghost use Rattle.semantics.specs.Run.{IsRun, refusals, report};
+ghost use Rattle.jlreport_engine.specs.Run.{LeavesOfWhole};
 
 use crate::reporting::ReportExecutor;
 use crate::writing::put_both;
@@ -15,25 +11,13 @@ use jlreport_cli::Options;
 use jlreport_scan::{gather, gather_alone};
 use query::Plan;
 use report::{arranged_law, refused_text};
-use semantics::RunFault;
+use semantics::{Done, RunFault};
 use std::alloc::{AllocError, Global};
 use std::io::{Read, Write};
 use std::marker::{Send, Sync};
 use std::sync::Wait;
 use std::thread::Threads;
 use tables::{Groups, Parallel, Partial, Serial};
-
-/// The counts of an input.
-///
-/// Example: of the input of the line `{}` and an empty line, each ended by a line feed, `lines` is
-/// 2 and `refused` is 1.
-#[derive(Clone, Copy, Debug, PartialEq, Eq)]
-pub struct Done {
-    /// How many lines the input has, refused ones among them.
-    pub lines: u64,
-    /// How many of them are refused.
-    pub refused: u64,
-}
 
 /// What is written of an input, and what that is made of.
 #[derive(Drop)]
@@ -77,22 +61,9 @@ pub fn run<R: Read + Drop + Send, O: Write, E: Write, H: Threads + Wait + Sync>(
     out: &mut O,
     err: &mut E,
 ) -> Result<Done, RunFault>
-    ensures report { OnOk result (IfSome (R.remaining reader) (λ input.
-        Appends (O.contents out.old) (O.contents out.new)
-        (report plan.now.fields plan.now.query input))) }
-    ensures refusals { OnOk result (IfSome (R.remaining reader) (λ input.
-        Appends (E.contents err.old) (E.contents err.new) (refusals plan.now.fields input))) }
-    ensures lines { IfOk result (λ done. IfSome (R.remaining reader) (λ input.
-        done.lines ≡ length (lines input))) }
-    ensures refused { IfOk result (λ done. IfSome (R.remaining reader) (λ input.
-        done.refused ≡ length (refused_lines plan.now.fields input))) }
-    ensures limit { IfOk result (λ done. IsWithin options.max_refused done.refused) }
-    // Where nothing is refused to it, the limit alone decides.
-    ensures decided { IfSome (R.remaining reader) (λ input.
-        IsDecided result options.max_refused (length (refused_lines plan.now.fields input))) }
-    ensures fault { IfErr result (λ fault. Leaves fault options.max_refused
-        plan.now.fields plan.now.query (R.remaining reader)
-        (O.contents out.old) (O.contents out.new) (E.contents err.old) (E.contents err.new)) }
+    ensures run { IsRun result options.max_refused plan.now.fields plan.now.query
+        (R.remaining reader) (O.contents out.old) (O.contents out.new)
+        (E.contents err.old) (E.contents err.new) }
     // One worker starts no thread.
     ensures started { options.workers ≡ 1
         → IfErr result (λ fault. fault ≢ RunFault.ThreadNotStarted) }
@@ -124,22 +95,9 @@ pub fn run_alone<R: Read + Drop, O: Write, E: Write>(
     out: &mut O,
     err: &mut E,
 ) -> Result<Done, RunFault>
-    ensures report { OnOk result (IfSome (R.remaining reader) (λ input.
-        Appends (O.contents out.old) (O.contents out.new)
-        (report plan.now.fields plan.now.query input))) }
-    ensures refusals { OnOk result (IfSome (R.remaining reader) (λ input.
-        Appends (E.contents err.old) (E.contents err.new) (refusals plan.now.fields input))) }
-    ensures lines { IfOk result (λ done. IfSome (R.remaining reader) (λ input.
-        done.lines ≡ length (lines input))) }
-    ensures refused { IfOk result (λ done. IfSome (R.remaining reader) (λ input.
-        done.refused ≡ length (refused_lines plan.now.fields input))) }
-    ensures limit { IfOk result (λ done. IsWithin options.max_refused done.refused) }
-    // Where nothing is refused to it, the limit alone decides.
-    ensures decided { IfSome (R.remaining reader) (λ input.
-        IsDecided result options.max_refused (length (refused_lines plan.now.fields input))) }
-    ensures fault { IfErr result (λ fault. Leaves fault options.max_refused
-        plan.now.fields plan.now.query (R.remaining reader)
-        (O.contents out.old) (O.contents out.new) (E.contents err.old) (E.contents err.new)) }
+    ensures run { IsRun result options.max_refused plan.now.fields plan.now.query
+        (R.remaining reader) (O.contents out.old) (O.contents out.new)
+        (E.contents err.old) (E.contents err.new) }
     ensures started { IfErr result (λ fault. fault ≢ RunFault.ThreadNotStarted) }
 {
     let whole = gather_alone(alloc, plan, options, reader)?;
@@ -167,10 +125,8 @@ fn write_whole<X: ReportExecutor, O: Write, E: Write>(
         → Appends (E.contents err.old) (E.contents err.new) (refusals plan.now.fields input)) }
     ensures lines { IfOk result (λ done. done.lines ≡ whole.lines) }
     ensures refused { IfOk result (λ done. done.refused ≡ whole.refused) }
-    ensures fault { IfErr result (λ fault. (input : List ℕ)
-        → StandsForInput plan.now.fields plan.now.query whole input
-        → LeavesOfInput fault plan.now.fields plan.now.query input (O.contents out.old)
-        (O.contents out.new) (E.contents err.old) (E.contents err.new)) }
+    ensures fault { IfErr result (λ fault. LeavesOfWhole fault plan.now.fields plan.now.query
+        whole (O.contents out.old) (O.contents out.new) (E.contents err.old) (E.contents err.new)) }
 {
     let done = Done {
         lines: whole.lines(),

@@ -193,7 +193,7 @@ fn execute<
 {
     let plan = plan_of(alloc, settings)?;
     if settings.explain {
-        return explained(alloc, &plan, out);
+        return write_explanation(alloc, &plan, out);
     }
     let Some(reader) = opener(settings.file) else {
         return Err(Ending::NotOpened);
@@ -203,7 +203,7 @@ fn execute<
 }
 
 /// Writes the explanation of a query.
-fn explained<O: Write>(alloc: Global, plan: &Plan, out: &mut O) -> Result<u8, Ending>
+fn write_explanation<O: Write>(alloc: Global, plan: &Plan, out: &mut O) -> Result<u8, Ending>
     ensures { OnOk result (Appends (O.contents out.old) (O.contents out.new)
         (explanation plan.now.fields plan.now.query)) }
 {

@@ -1,6 +1,6 @@
 -- The result over all rounds so far, and what it is after one more.
-use Rattle.std.proofs.Common.{◌≡◌, ◌⊎◌, ◌∙◌, ◌+◌, ◌-◌, ◌*◌, ◌<◌, cond, ◌≤◌, ◌^◌, ℕ, Bool, true, false, List, [], ◌∷◌, ◌++◌, length, map, Option, None, Some, option_map, Result, Ok, inl, inr, refl, sym, ap, subst, arith, append-nil, append_assoc, length-append}
-use Rattle.std.specs.Prelude.{IfSome, IsErr}
+use Rattle.std.proofs.Common.{◌≡◌, ◌⊎◌, ◌∙◌, ◌+◌, ◌-◌, ◌*◌, ◌<◌, cond, ◌≤◌, ◌^◌, ℕ, Bool, true, false, List, [], ◌∷◌, ◌++◌, length, map, Option, None, Some, option_map, Result, Ok, Err, inl, inr, refl, sym, ap, subst, arith, append-nil, append_assoc, length-append}
+use Rattle.std.specs.Prelude.{IfSome, IsErr, IsErrAnd}
 use Rattle.std.specs.Io.KnownBytes.{Consumes, IsAtEnd}
 use Rattle.std.proofs.KnownBytes.{Consumes-nil, Consumes-trans}
 use Rattle.std.proofs.lemmas.List.{length-map}
@@ -19,7 +19,7 @@ use Rattle.tables.specs.Partials.{StandsFor, StandsForInput, whole_piece}
 use Rattle.tables.specs.States.{PartialState}
 use Rattle.tables.proofs.Following.{one-piece}
 use Rattle.jlreport_scan.specs.Pieces.{StandsBehind, StandsForRounds}
-use Rattle.jlreport_scan.specs.Gathered.{IsWhole}
+use Rattle.jlreport_scan.specs.Gathered.{IsGather, IsWhole}
 use Rattle.jlreport_scan.specs.Faults.{IsWant, Refuses, Stops}
 use Rattle.jlreport_scan.specs.declared.fault.GatherFault.{GatherFault}
 use Rattle.jlreport_scan.specs.declared.fault.GatherFault.TheVariants.{Reading, OutOfMemory, ThreadNotStarted, TooManyRefused}
@@ -201,3 +201,11 @@ round-stops fields q known limit most old new found partial before round fault s
     let there = subst (λ (bytes : List ℕ). IsWant fault ⊎ Refuses fault most (before + length (refused_lines fields bytes))) f h in
     stops-there fields q known limit most old new found partial fault s moved is
     (subst (λ (n : ℕ). IsWant fault ⊎ Refuses fault most (n + length (refused_lines fields new.round))) e there)
+
+-- ---- what gathering answers
+
+-- a fault, which says of the input what it says
+pub gather-fault : (r : Result PartialState GatherFault) (limit : Option ℕ) (fields : List Field) (q : TreeForm) (known : Option (List ℕ)) (P : GatherFault → Type 0)
+    → IsErrAnd r P → ((fault : GatherFault) → P fault → Stops fault limit fields known) → IsGather r limit fields q known
+gather-fault (Ok partial) limit fields q known P h stops = absurd h
+gather-fault (Err fault) limit fields q known P h stops = record { is_whole = tt; is_within = tt; stops = stops fault h }

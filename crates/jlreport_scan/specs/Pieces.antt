@@ -1,12 +1,10 @@
 -- The result over the rounds so far, and over a round behind them. Private calls alone speak of it.
 use Rattle.std.specs.Prelude.{◌≡◌, ◌⊎◌, ◌<◌, ◌≤◌, ◌+◌, ◌-◌, ◌*◌, ◌++◌, Bool, true, false, if◌then◌else◌, ℕ, All, List, Ok, Option, length, option_map, vec_len}
 use Rattle.std.specs.Io.KnownBytes.{Consumes}
-use Rattle.std.specs.declared.alloc.Global.{Global}
-use Rattle.std.specs.declared.vec.Vec.{Vec}
 use Rattle.semantics.specs.Columns.{Field}
 use Rattle.lines.specs.declared.pieces.Piece.{Piece}
 use Rattle.lines.specs.Pieces.{AreWholeLines}
-use Rattle.lines.specs.Rounds.{HasMoved, RoundState, RoundsState}
+use Rattle.lines.specs.Rounds.{HasMoved, RoundsState}
 use Rattle.lines.specs.Clip.{clip_lines}
 use Rattle.pool.specs.declared.laws.Outcome.{Outcome}
 use Rattle.pool.specs.declared.laws.Outcome.TheVariants.{Whole, Over}
@@ -14,7 +12,10 @@ use Rattle.pool.specs.Holding.{Holding}
 use Rattle.pool.specs.Settled.{AreAll, HaveEachOnce, pieces_of}
 use Rattle.tables.specs.Denotations.{indexed_pieces}
 use Rattle.tables.specs.Pieces.{IsCutInto}
-use Rattle.jlreport_scan.specs.Gathered.{IsWhole}
+use Rattle.jlreport_cli.specs.declared.options.Options.{Options}
+use Rattle.jlreport_scan.specs.declared.rounds.Ahead.{Ahead}
+use Rattle.jlreport_scan.specs.Gathered.{IsWhole, limit_number}
+use Rattle.query_plan.specs.Planned.{PlannedQuery}
 use Rattle.semantics.specs.Syntax.{TreeForm}
 use Rattle.tables.specs.declared.partial.Partial.{Partial}
 use Rattle.tables.specs.Partials.{StandsForInput}
@@ -47,14 +48,14 @@ pub record StandsForRounds {R : Type 0} (fields : List Field) (q : TreeForm) (kn
 
 -- While a round is worked on, the next one is read. Where one was read, the result stands for all rounds before it; else it stands for all that the reader gives.
 -- The buffers are as long as a round may be; there are as many shares as workers, and none has reported more lines than were refused, which are within the limit.
-pub record IsAhead {R S : Type 0} (fields : List Field) (q : TreeForm) (known : Option (List ℕ)) (limit longest workers : ℕ) (sum : S → ℕ) (whole : PartialState) (rounds : RoundsState R) (found : Bool) (buffer : RoundState) (parts : Vec S Global) : Type 0 where
-  pub size : rounds.size ≡ longest
-  pub spare : buffer.size ≡ longest
-  pub more : found ≡ true → (old : RoundsState R) × StandsForRounds fields q known limit old whole × HasMoved old (Ok true) rounds
-  pub none : found ≡ false → IsWhole fields q known whole
-  pub within : whole.refused ≤ limit
-  pub hands : vec_len parts ≡ workers
-  pub reported : All (λ share. sum share ≤ whole.refused) parts.items
+pub record IsAheadUnder {L R : Type 0} (plan : PlannedQuery) (options : Options) (known : Option (List ℕ)) (ahead : Ahead L R) : Type 0 where
+  pub size : ahead.rounds.size ≡ options.round
+  pub spare : ahead.spare.size ≡ options.round
+  pub more : ahead.found ≡ true → (old : RoundsState R) × StandsForRounds plan.fields plan.query known (limit_number options.max_refused) old ahead.whole × HasMoved old (Ok true) ahead.rounds
+  pub none : ahead.found ≡ false → IsWhole plan.fields plan.query known ahead.whole
+  pub within : ahead.whole.refused ≤ limit_number options.max_refused
+  pub hands : vec_len ahead.shares ≡ options.workers
+  pub reported : All (λ share. share.sum ≤ ahead.whole.refused) ahead.shares.items
 
 -- At most so many turns are left: each reads a round, which has a byte of an input of fewer than 2^63, or finds that there is none and is the last.
 abbrev pub most_turns : {R : Type 0} → RoundsState R → Bool → ℕ

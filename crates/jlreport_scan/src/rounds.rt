@@ -4,12 +4,12 @@ ghost use Rattle.lines.specs.Rounds.{HasMoved};
 ghost use Rattle.semantics.specs.Records.{refused_lines};
 ghost use Rattle.lines.specs.Pieces.{AreWholeLines};
 ghost use Rattle.tables.specs.Partials.{StandsForInput};
-ghost use Rattle.jlreport_scan.specs.Gathered.{IsWhole, limit_number};
+ghost use Rattle.jlreport_scan.specs.Gathered.{IsGather, limit_number};
 ghost use Rattle.jlreport_scan.specs.Faults.{IsWant, Refuses, Stops};
-ghost use Rattle.jlreport_scan.specs.Pieces.{IsAhead, IsTaken, StandsBehind, most_turns};
+ghost use Rattle.jlreport_scan.specs.Pieces.{IsAheadUnder, IsTaken, StandsBehind, most_turns};
 
 use crate::fault::GatherFault;
-use crate::working::{Worked, round_among, within_limit};
+use crate::working::{RoundOutcome, Scan, check_limit, work_on_round};
 use jlreport_cli::Options;
 use lines::{Demand, ReadFault, Round, Rounds};
 use pool::{Book, Share};
@@ -43,17 +43,15 @@ pub fn gather_alone<R: Read + Drop>(
     options: Options,
     reader: R,
 ) -> Result<Partial, GatherFault>
-    ensures whole { IfOk result (IsWhole plan.now.fields plan.now.query (R.remaining reader)) }
-    ensures limit { IfOk result (λ partial. partial.refused ≤ limit_number options.max_refused) }
-    ensures fault { IfErr result (λ fault.
-        Stops fault options.max_refused plan.now.fields (R.remaining reader)) }
+    ensures gather { IsGather result options.max_refused plan.now.fields plan.now.query
+        (R.remaining reader) }
     ensures started { IfErr result (λ fault. fault ≢ GatherFault.ThreadNotStarted) }
 {
     let mut rounds = Rounds::new(alloc, reader, options.round().min(LONGEST_ALONE))?;
     let mut whole = Partial::empty(alloc, plan)?;
     while rounds.advance()? {
         whole = whole.fold_behind(plan, rounds.round())?;
-        within_limit(options, whole.refused())?;
+        check_limit(options, whole.refused())?;
     }
     Ok(whole)
 }
@@ -78,10 +76,8 @@ pub fn gather<R: Read + Drop + Send, H: Threads + Wait + Sync>(
     options: Options,
     reader: R,
 ) -> Result<Partial, GatherFault>
-    ensures whole { IfOk result (IsWhole plan.now.fields plan.now.query (R.remaining reader)) }
-    ensures limit { IfOk result (λ partial. partial.refused ≤ limit_number options.max_refused) }
-    ensures fault { IfErr result (λ fault.
-        Stops fault options.max_refused plan.now.fields (R.remaining reader)) }
+    ensures gather { IsGather result options.max_refused plan.now.fields plan.now.query
+        (R.remaining reader) }
     ensures started { options.workers ≡ 1
         → IfErr result (λ fault. fault ≢ GatherFault.ThreadNotStarted) }
 {
@@ -89,12 +85,12 @@ pub fn gather<R: Read + Drop + Send, H: Threads + Wait + Sync>(
         return gather_alone(alloc, plan, options, reader);
     }
     let blank = Blank::new(options.workers() as u64);
-    reading_ahead::<Brand, R, H>(rt, alloc, plan, options, reader, blank)
+    gather_reading_ahead::<Brand, R, H>(rt, alloc, plan, options, reader, blank)
 }
 
 /// The same with one book of refused lines over all rounds, whose ledger is L, and with two buffers: while a round is
 /// worked on, the next one is read into the other.
-fn reading_ahead<L: Ledger + Send + Sync, R: Read + Drop + Send, H: Threads + Wait + Sync>(
+fn gather_reading_ahead<L: Ledger + Send + Sync, R: Read + Drop + Send, H: Threads + Wait + Sync>(
     rt: &H,
     alloc: Global,
     plan: &Plan,
@@ -104,15 +100,20 @@ fn reading_ahead<L: Ledger + Send + Sync, R: Read + Drop + Send, H: Threads + Wa
 ) -> Result<Partial, GatherFault>
     requires name { blank.name ≡ L.name }
     requires parts { (blank.parts ≡ L.parts) × (L.parts ≡ options.workers) }
-    ensures whole { IfOk result (IsWhole plan.now.fields plan.now.query (R.remaining reader)) }
-    ensures limit { IfOk result (λ partial. partial.refused ≤ limit_number options.max_refused) }
-    ensures fault { IfErr result (λ fault.
-        Stops fault options.max_refused plan.now.fields (R.remaining reader)) }
+    ensures { IsGather result options.max_refused plan.now.fields plan.now.query
+        (R.remaining reader) }
 {
     let (book, shares) = Book::<L>::new(alloc, blank, options.workers())?;
-    let mut ahead = first_ahead(rt, alloc, plan, options, reader, shares)?;
+    let scan = Scan {
+        rt,
+        alloc,
+        plan,
+        options,
+        book: &book,
+    };
+    let mut ahead = first_ahead(&scan, reader, shares)?;
     while ahead.found {
-        ahead = work_ahead(rt, alloc, plan, options, &book, ahead)?;
+        ahead = work_ahead(&scan, ahead)?;
     }
     let Ahead { whole, shares, .. } = ahead;
     book.close(shares);
@@ -135,28 +136,25 @@ struct Ahead<L: Ledger, R: Read + Drop> {
 
 /// Reads the first round.
 fn first_ahead<L: Ledger, R: Read + Drop, H: Threads + Sync>(
-    rt: &H,
-    alloc: Global,
-    plan: &Plan,
-    options: Options,
+    scan: &Scan<'_, L, H>,
     reader: R,
     shares: Vec<Share<L>>,
 ) -> Result<Ahead<L, R>, GatherFault>
-    requires hands { vec_len shares ≡ options.workers }
+    requires hands { vec_len shares ≡ scan.now.options.workers }
     requires none { All (λ share. share.sum ≤ 0) shares.items }
-    ensures ahead { IfOk result (λ ahead. IsAhead plan.now.fields plan.now.query
-        (R.remaining reader) (limit_number options.max_refused) options.round options.workers
-        (λ share. share.sum) ahead.whole ahead.rounds ahead.found ahead.spare ahead.shares) }
-    ensures fault { IfErr result (λ fault.
-        Stops fault options.max_refused plan.now.fields (R.remaining reader)) }
+    ensures ahead { IfOk result
+        (IsAheadUnder scan.now.plan.now scan.now.options (R.remaining reader)) }
+    ensures fault { IfErr result (λ fault. Stops fault scan.now.options.max_refused
+        scan.now.plan.now.fields (R.remaining reader)) }
 {
-    let mut rounds = Rounds::new(alloc, reader, options.round())?;
-    let spare = Round::new(alloc, options.round())?;
+    let options = scan.options;
+    let mut rounds = Rounds::new(scan.alloc, reader, options.round())?;
+    let spare = Round::new(scan.alloc, options.round())?;
     let parallel = Parallel {
-        rt,
+        rt: scan.rt,
         workers: options.workers(),
     };
-    let whole = Partial::empty_by(alloc, plan, &parallel)?;
+    let whole = Partial::empty_by(scan.alloc, scan.plan, &parallel)?;
     let found = rounds.advance()?;
     Ok(Ahead {
         whole,
@@ -170,30 +168,19 @@ fn first_ahead<L: Ledger, R: Read + Drop, H: Threads + Sync>(
 /// Works on the round that was read, and reads the next one meanwhile. What the work answers is looked at first, so that
 /// a read that fails tells nothing before the limit of refused lines does.
 fn work_ahead<L: Ledger + Send + Sync, R: Read + Drop + Send, H: Threads + Wait + Sync>(
-    rt: &H,
-    alloc: Global,
-    plan: &Plan,
-    options: Options,
-    book: &Book<L>,
+    scan: &Scan<'_, L, H>,
     ahead: Ahead<L, R>,
 ) -> Result<Ahead<L, R>, GatherFault>
     requires found { ahead.found ≡ true }
     requires ahead { (known : Option (List ℕ))
-        × IsAhead plan.now.fields plan.now.query known (limit_number options.max_refused)
-        options.round options.workers (λ share. share.sum) ahead.whole ahead.rounds ahead.found
-        ahead.spare ahead.shares }
+        × IsAheadUnder scan.now.plan.now scan.now.options known ahead }
     ensures ahead { (known : Option (List ℕ))
-        → IsAhead plan.now.fields plan.now.query known (limit_number options.max_refused)
-        options.round options.workers (λ share. share.sum)
-        ahead.whole ahead.rounds ahead.found ahead.spare ahead.shares
-        → IfOk result (λ next. IsAhead plan.now.fields plan.now.query known
-        (limit_number options.max_refused) options.round options.workers (λ share. share.sum)
-        next.whole next.rounds next.found next.spare next.shares) }
+        → IsAheadUnder scan.now.plan.now scan.now.options known ahead
+        → IfOk result (IsAheadUnder scan.now.plan.now scan.now.options known) }
     ensures fault { (known : Option (List ℕ))
-        → IsAhead plan.now.fields plan.now.query known (limit_number options.max_refused)
-        options.round options.workers (λ share. share.sum)
-        ahead.whole ahead.rounds ahead.found ahead.spare ahead.shares
-        → IfErr result (λ fault. Stops fault options.max_refused plan.now.fields known) }
+        → IsAheadUnder scan.now.plan.now scan.now.options known ahead
+        → IfErr result (λ fault.
+        Stops fault scan.now.options.max_refused scan.now.plan.now.fields known) }
     ensures fewer { IfOk result (λ next.
         most_turns next.rounds next.found < most_turns ahead.rounds ahead.found) }
 {
@@ -205,14 +192,16 @@ fn work_ahead<L: Ledger + Send + Sync, R: Read + Drop + Send, H: Threads + Wait 
         ..
     } = ahead;
     let round = rounds.hand_out(spare);
-    let Beside { read, kept, worked } = round_beside(
-        rt, alloc, plan, options, whole, rounds, &round, book, shares,
-    );
-    let Worked { whole, shares, .. } = worked?;
-    let found = read?;
+    let RoundAndRead {
+        outcome,
+        found,
+        rounds,
+    } = work_and_read_on(scan, whole, rounds, &round, shares);
+    let RoundOutcome { whole, shares, .. } = outcome?;
+    let found = found?;
     Ok(Ahead {
         whole,
-        rounds: kept,
+        rounds,
         found,
         spare: round,
         shares,
@@ -231,86 +220,75 @@ fn read_on<R: Read + Drop, D: Demand>(
     (found, rounds)
 }
 
-/// What a round comes to, and what reading on meanwhile came to.
-struct Beside<L: Ledger, R: Read + Drop> {
+/// What comes of a round, and of reading on meanwhile.
+struct RoundAndRead<L: Ledger, R: Read + Drop> {
+    /// What comes of the round.
+    outcome: Result<RoundOutcome<L>, GatherFault>,
     /// Whether there is a next round.
-    read: Result<bool, ReadFault>,
+    found: Result<bool, ReadFault>,
     /// The input, read on.
-    kept: Rounds<R>,
-    /// What came of the round.
-    worked: Result<Worked<L>, GatherFault>,
+    rounds: Rounds<R>,
 }
 
-/// Works on a round behind the rounds before it, as `round_among` does, and meanwhile reads the next one on a thread of its
-/// own, where the round may not be the last one. When the work is done, the next round ends early.
-fn round_beside<L: Ledger + Send + Sync, R: Read + Drop + Send, H: Threads + Wait + Sync>(
-    rt: &H,
-    alloc: Global,
-    plan: &Plan,
-    options: Options,
+/// Works on a round behind the rounds before it, as `work_on_round` does, and meanwhile reads the next one on a thread of
+/// its own, where the round may not be the last one. When the work is done, the next round ends early.
+fn work_and_read_on<L: Ledger + Send + Sync, R: Read + Drop + Send, H: Threads + Wait + Sync>(
+    scan: &Scan<'_, L, H>,
     before: Partial,
     rounds: Rounds<R>,
     round: &Round,
-    book: &Book<L>,
     shares: Vec<Share<L>>,
-) -> Beside<L, R>
-    requires front { (front : List ℕ) × StandsForInput plan.now.fields plan.now.query before front
+) -> RoundAndRead<L, R>
+    requires front { (front : List ℕ)
+        × StandsForInput scan.now.plan.now.fields scan.now.plan.now.query before front
         × AreWholeLines front }
     requires short { before.lines + length round.now.bytes < 2 ^ 63 }
     requires hands { (1 ≤ vec_len shares) × (vec_len shares ≤ 64) }
     requires reported { All (λ share. share.sum ≤ before.refused) shares.items }
-    ensures read { HasMoved rounds result.read result.kept }
-    ensures whole { IfOk result.worked (λ r.
-        StandsBehind plan.now.fields plan.now.query before round.now.bytes r.whole) }
-    ensures limit { IfOk result.worked (λ r. r.whole.refused ≤ limit_number options.max_refused) }
-    ensures taken { IfOk result.worked (λ r.
+    ensures read { HasMoved rounds result.found result.rounds }
+    ensures whole { IfOk result.outcome (λ r. StandsBehind scan.now.plan.now.fields
+        scan.now.plan.now.query before round.now.bytes r.whole) }
+    ensures limit { IfOk result.outcome (λ r.
+        r.whole.refused ≤ limit_number scan.now.options.max_refused) }
+    ensures taken { IfOk result.outcome (λ r.
         IsTaken (vec_len shares) round.now.bytes r.pieces.items r.hands.items) }
-    ensures hands { IfOk result.worked (λ r. vec_len r.shares ≡ vec_len shares) }
-    ensures reported { IfOk result.worked (λ r.
+    ensures hands { IfOk result.outcome (λ r. vec_len r.shares ≡ vec_len shares) }
+    ensures reported { IfOk result.outcome (λ r.
         All (λ share. share.sum ≤ r.whole.refused) r.shares.items) }
-    ensures fault { IfErr result.worked (λ fault. IsWant fault
-        ⊎ Refuses fault options.max_refused
-        (before.refused + length (refused_lines plan.now.fields round.now.bytes))) }
+    ensures fault { IfErr result.outcome (λ fault. IsWant fault
+        ⊎ Refuses fault scan.now.options.max_refused
+        (before.refused + length (refused_lines scan.now.plan.now.fields round.now.bytes))) }
 {
     let done = AtomicBool::new(false);
     let demand = &done;
     if rounds.is_over() {
-        let worked = round_among(
-            rt,
-            alloc,
-            plan,
-            options,
-            before,
-            round.bytes(),
-            book,
-            shares,
-        );
-        let (read, kept) = read_on(rounds, demand);
-        return Beside { read, kept, worked };
+        let outcome = work_on_round(scan, before, round.bytes(), shares);
+        let (found, rounds) = read_on(rounds, demand);
+        return RoundAndRead {
+            outcome,
+            found,
+            rounds,
+        };
     }
-    let ((read, kept), worked) = join(
-        rt,
+    let ((found, rounds), outcome) = join(
+        scan.rt,
         move || read_on(rounds, demand),
-        move || -> Result<Worked<L>, GatherFault>
+        move || -> Result<RoundOutcome<L>, GatherFault>
             requires front { (front : List ℕ)
-                × StandsForInput plan.now.fields plan.now.query before front × AreWholeLines front }
+                × StandsForInput scan.now.plan.now.fields scan.now.plan.now.query before front
+                × AreWholeLines front }
             requires short { before.lines + length round.now.bytes < 2 ^ 63 }
             requires hands { (1 ≤ vec_len shares) × (vec_len shares ≤ 64) }
             requires reported { All (λ share. share.sum ≤ before.refused) shares.items }
         {
-            let worked = round_among(
-                rt,
-                alloc,
-                plan,
-                options,
-                before,
-                round.bytes(),
-                book,
-                shares,
-            );
+            let outcome = work_on_round(scan, before, round.bytes(), shares);
             demand.store(true, Ordering::Relaxed);
-            worked
+            outcome
         },
     );
-    Beside { read, kept, worked }
+    RoundAndRead {
+        outcome,
+        found,
+        rounds,
+    }
 }

@@ -22,7 +22,7 @@ use std::thread::Threads;
 use tables::{Job, JobBy, Parallel, Partial, job_law};
 
 /// Nothing, where so many refused lines are not more than may be; else the fault that says so.
-pub(crate) fn within_limit(options: Options, count: u64) -> Result<(), GatherFault>
+pub(crate) fn check_limit(options: Options, count: u64) -> Result<(), GatherFault>
     ensures within { OnOk result (count ≤ limit_number options.max_refused) }
     ensures over { IfErr result (λ fault. Refuses fault options.max_refused count) }
 {
@@ -32,9 +32,21 @@ pub(crate) fn within_limit(options: Options, count: u64) -> Result<(), GatherFau
     }
 }
 
-/// What came of a round.
+/// What stays the same for all rounds of an input.
 #[derive(Drop)]
-pub(crate) struct Worked<L: Ledger> {
+pub(crate) struct Scan<'a, L: Ledger, H> {
+    /// What starts the threads.
+    pub(crate) rt: &'a H,
+    pub(crate) alloc: Global,
+    pub(crate) plan: &'a Plan,
+    pub(crate) options: Options,
+    /// The book of refused lines.
+    pub(crate) book: &'a Book<L>,
+}
+
+/// What comes of a round.
+#[derive(Drop)]
+pub(crate) struct RoundOutcome<L: Ledger> {
     /// The result over the rounds before and this one.
     pub(crate) whole: Partial,
     /// The pieces that the round was cut into.
@@ -48,60 +60,58 @@ pub(crate) struct Worked<L: Ledger> {
 /// are shares, the calling one among them, which goes on with the result over the rounds before; and the shares. Those
 /// rounds are whole lines, and no share has reported more lines than were refused in them. The pieces come back, and the
 /// hands, in whose lists each piece is once.
-pub(crate) fn round_among<L: Ledger + Send + Sync, H: Threads + Wait + Sync>(
-    rt: &H,
-    alloc: Global,
-    plan: &Plan,
-    options: Options,
+pub(crate) fn work_on_round<L: Ledger + Send + Sync, H: Threads + Wait + Sync>(
+    scan: &Scan<'_, L, H>,
     before: Partial,
     round: &[u8],
-    book: &Book<L>,
     shares: Vec<Share<L>>,
-) -> Result<Worked<L>, GatherFault>
-    requires front { (front : List ℕ) × StandsForInput plan.now.fields plan.now.query before front
+) -> Result<RoundOutcome<L>, GatherFault>
+    requires front { (front : List ℕ)
+        × StandsForInput scan.now.plan.now.fields scan.now.plan.now.query before front
         × AreWholeLines front }
     requires short { before.lines + length round.now < 2 ^ 63 }
     requires hands { (1 ≤ vec_len shares) × (vec_len shares ≤ 64) }
     requires reported { All (λ share. share.sum ≤ before.refused) shares.items }
-    ensures whole { IfOk result (λ r.
-        StandsBehind plan.now.fields plan.now.query before round.now r.whole) }
-    ensures limit { IfOk result (λ r. r.whole.refused ≤ limit_number options.max_refused) }
+    ensures whole { IfOk result (λ r. StandsBehind scan.now.plan.now.fields
+        scan.now.plan.now.query before round.now r.whole) }
+    ensures limit { IfOk result (λ r.
+        r.whole.refused ≤ limit_number scan.now.options.max_refused) }
     ensures taken { IfOk result (λ r.
         IsTaken (vec_len shares) round.now r.pieces.items r.hands.items) }
     ensures hands { IfOk result (λ r. vec_len r.shares ≡ vec_len shares) }
     ensures reported { IfOk result (λ r.
         All (λ share. share.sum ≤ r.whole.refused) r.shares.items) }
     ensures fault { IfErr result (λ fault. IsWant fault
-        ⊎ Refuses fault options.max_refused
-        (before.refused + length (refused_lines plan.now.fields round.now))) }
+        ⊎ Refuses fault scan.now.options.max_refused
+        (before.refused + length (refused_lines scan.now.plan.now.fields round.now))) }
 {
-    let pieces = pieces_of(alloc, round, options.piece())?;
+    let pieces = pieces_of(scan.alloc, round, scan.options.piece())?;
     let front = before.in_one_piece()?;
     job_law();
     let executor = Parallel {
-        rt,
+        rt: scan.rt,
         workers: shares.len(),
     };
     // The front is the piece of index 0.
     let job = JobBy::new(
-        Job::new(alloc, plan, round, pieces.as_slice()),
+        Job::new(scan.alloc, scan.plan, round, pieces.as_slice()),
         &executor,
         1,
     );
-    let limit = limit_of(options);
+    let limit = limit_of(scan.options);
     let (outcome, hands, shares) = fan_deal_onto(
-        rt,
-        alloc,
+        scan.rt,
+        scan.alloc,
         &job,
         front,
         pieces.len() as u32,
         limit,
-        book,
+        scan.book,
         limit as u128,
         shares,
     )?;
-    let whole = decided(options, outcome)?;
-    Ok(Worked {
+    let whole = whole_of(scan.options, outcome)?;
+    Ok(RoundOutcome {
         whole,
         pieces,
         hands,
@@ -117,7 +127,7 @@ fn limit_of(options: Options) -> u64
 }
 
 /// The result that a pool answers; Over is the fault that too many lines are refused.
-fn decided(options: Options, outcome: Outcome<Partial>) -> Result<Partial, GatherFault>
+fn whole_of(options: Options, outcome: Outcome<Partial>) -> Result<Partial, GatherFault>
     requires { (count : ℕ) × (count < 2 ^ 63)
         × IsUnder count (limit_number options.max_refused) outcome }
     ensures whole { IfOk result (λ partial. outcome ≡ Outcome.Whole partial) }

@@ -1,7 +1,8 @@
 -- What contracts see of an input that is read in rounds.
-use Rattle.std.specs.Prelude.{◌≡◌, ◌⊎◌, ◌↔◌, ℕ, ◌+◌, ◌^◌, ◌<◌, ◌≤◌, Bool, true, false, List, [], length, Option, Result, Ok, IsErr}
+use Rattle.std.specs.Prelude.{◌≡◌, ◌⊎◌, ◌↔◌, ℕ, ◌+◌, ◌^◌, ◌<◌, ◌≤◌, Bool, true, false, List, [], length, Option, Result, Ok, IsErr, option_map}
 use Rattle.std.specs.Io.KnownBytes.{Consumes, IsAtEnd, Keeps}
 use Rattle.lines.specs.declared.fault.ReadFault.{ReadFault}
+use Rattle.lines.specs.Clip.{clip_lines}
 use Rattle.lines.specs.Pieces.{EndsInFeed}
 
 -- the reader; what is left to give, where the reader's bytes are known; the round that the last call gave, and no byte before the first call, where the last one
@@ -18,6 +19,21 @@ pub record RoundsState (R : Type 0) : Type 0 where
   pub unread : Option (List ℕ)
   pub taken : ℕ
   pub erred : Bool
+
+-- before the first round, of a reader that has these bytes: they are left to give, clipped
+abbrev pub rounds_at_start : {R : Type 0} → R → Option (List ℕ) → ℕ → RoundsState R
+rounds_at_start reader bytes size = record {
+  reader = reader;
+  left = option_map clip_lines bytes;
+  round = [];
+  size = size;
+  given = 0;
+  over = false;
+  failed = false;
+  unread = bytes;
+  taken = 0;
+  erred = false;
+}
 
 -- a round that was handed out, and the greatest length of a round in its buffer
 pub record RoundState : Type 0 where

@@ -1,9 +1,9 @@
 //! Reading an input in rounds of whole lines.
-ghost use Rattle.std.specs.Prelude.{◌≡◌, [], ◌+◌, ◌-◌, ◌<◌, ◌≤◌, ◌^◌, ◌⊎◌, max, true, false, zero, IsTrue, IsFalse, IsErr, Ok, Err, None, Some, IfErr, IfOk, IfSome, OnOk, length, option_map, take, drop, vec_capacity, vec_len};
+ghost use Rattle.std.specs.Prelude.{◌≡◌, [], ◌+◌, ◌-◌, ◌<◌, ◌≤◌, ◌^◌, ◌⊎◌, max, true, false, zero, IsTrue, IsFalse, IsErr, Ok, Err, None, Some, IfErr, IfOk, IfSome, OnOk, length, take, drop, vec_capacity, vec_len};
 ghost use Rattle.std.specs.Io.KnownBytes.{Consumes, IsAtEnd, Keeps};
 ghost use Rattle.lines.specs.Holding.{IsBetween, IsHeld, left_behind, left_of, open_part, whole_lines};
-ghost use Rattle.lines.specs.Rounds.{HasCause, HasMoved, HasRead};
-ghost use Rattle.lines.specs.Clip.{clip_lines, clipped_len};
+ghost use Rattle.lines.specs.Rounds.{HasCause, HasMoved, HasRead, rounds_at_start};
+ghost use Rattle.lines.specs.Clip.{clipped_len};
 
 use crate::fault::ReadFault;
 use crate::line_buffer::{CLIPPED_LEN, LineBuffer, let_go, release, scan_lines, skip_lines};
@@ -412,18 +412,8 @@ impl<R: Read + Drop> Rounds<R> {
     /// `AllocError` where there is no memory for the buffer.
     pub fn new(alloc: Global, reader: R, size: usize) -> Result<Self, AllocError>
         requires { clipped_len < size }
-        ensures { IfOk result (λ rounds. rounds ≡ record {
-          reader = reader;
-          left = option_map clip_lines (R.remaining reader);
-          round = [];
-          size = size;
-          given = 0;
-          over = false;
-          failed = false;
-          unread = R.remaining reader;
-          taken = 0;
-          erred = false;
-        }) }
+        ensures { IfOk result (λ rounds.
+            rounds ≡ rounds_at_start reader (R.remaining reader) size) }
     {
         let buffer = buffer_of(alloc, size)?;
         let held = LineBuffer {

@@ -1,4 +1,5 @@
 -- The report of a query on the groups that its grouping sets find, the list of refused lines, and which faults name a column.
+use Rattle.std.specs.List.{flat_map}
 use Rattle.std.specs.Prelude.{◌<◌, ℕ, ⊤, List, length}
 use Rattle.semantics.specs.Columns.{Field}
 use Rattle.semantics.specs.declared.line_fault.LineFault.{LineFault}

@@ -1,10 +1,10 @@
 //! Taking the columns' values out of the members of an object, token by token.
-ghost use Rattle.std.specs.Prelude.{◌≡◌, ◌≢◌, ◌<◌, ◌≤◌, ℕ, Some, All, get_or, length, map, set, string_bytes, IfSome, MatchOption};
+ghost use Rattle.std.specs.Prelude.{◌≡◌, ◌≢◌, ◌<◌, ◌≤◌, Some, All, length, map, set, string_bytes, IfSome, MatchOption};
 ghost use Rattle.serde_json.specs.Data.{Data, Members, no_members};
 ghost use Rattle.values.specs.Datum.{datum_of, data_of};
-ghost use Rattle.semantics.specs.Columns.{Field};
 ghost use Rattle.values.specs.Schema.{IsSchema, fields_of};
 ghost use Rattle.lines.specs.Meant.{AreMembers, IsValue};
+ghost use Rattle.lines.specs.Naming.{IsPlaceOf, NoneHasName};
 ghost use Rattle.semantics.specs.Records.{data_taken, datum_taken};
 
 use crate::tokens::numerals::whole_number;
@@ -68,9 +68,8 @@ fn missing_values(columns: &[Column], spare: &mut Spare) -> Option<Vec<Value>>
 /// The place of the column of a name, which is looked for from `first` on, and then before `first`.
 fn place_found_from(columns: &[Column], name: &str, first: usize) -> Option<usize>
     requires { first ≤ length columns.now }
-    ensures { MatchOption result (All (λ f. f.name ≢ name.now) (fields_of columns.now)) (λ place.
-        (place < length columns.now)
-        × ((d : Field) → (get_or (fields_of columns.now) place d).name ≡ name.now)) }
+    ensures { MatchOption result (All (λ f. f.name ≢ name.now) (fields_of columns.now))
+        (IsPlaceOf columns.now name.now) }
 {
     match place_between(columns, name, first, columns.len()) {
         Some(place) => Some(place),
@@ -82,10 +81,8 @@ fn place_found_from(columns: &[Column], name: &str, first: usize) -> Option<usiz
 #[inline(always)]
 fn place_between(columns: &[Column], name: &str, low: usize, high: usize) -> Option<usize>
     requires { high ≤ length columns.now }
-    ensures { MatchOption result ((k : ℕ) → low ≤ k → k < high
-        → (d : Field) → (get_or (fields_of columns.now) k d).name ≢ name.now)
-        (λ place. (place < length columns.now)
-        × ((d : Field) → (get_or (fields_of columns.now) place d).name ≡ name.now)) }
+    ensures { MatchOption result (NoneHasName columns.now name.now low high)
+        (IsPlaceOf columns.now name.now) }
 {
     for place in low..high {
         if columns[place].name.as_str() == name {

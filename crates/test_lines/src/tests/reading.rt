@@ -1,7 +1,8 @@
 //! Pieces, lines and records, to the byte: each call over a table.
 
 use lines::{
-    LineFault, LineRefusal, Piece, RecordReader, cut, lines_of, read_by_tree, read_record,
+    LineFault, LineRefusal, Piece, RecordReader, cut_into_pieces, lines_of, read_by_tree,
+    read_record,
 };
 use std::alloc::Global;
 use std::process::Abort;
@@ -93,7 +94,7 @@ fn check_line(
 }
 
 /// `{"q":1}` with white space behind it, `len` bytes in all.
-fn padded(alloc: Global, len: usize) -> Result<Vec<u8>, Fail> {
+fn pad_line(alloc: Global, len: usize) -> Result<Vec<u8>, Fail> {
     let mut line = b"{\"q\":1}".to_vec(alloc)?;
     line.resize(len, b' ')?;
     Ok(line)
@@ -133,7 +134,7 @@ fn cuts_of_bytes(rt: HostRuntime) -> Result<(), Fail> {
     ];
     for (input, target, stops) in rows {
         assert!(rt; target >= 1);
-        let pieces = cut(rt.alloc(), input, target)?;
+        let pieces = cut_into_pieces(rt.alloc(), input, target)?;
         assert_eq!(rt; pieces.len(), stops.len());
         let mut start = 0;
         for (piece, stop) in pieces.iter().zip(stops) {
@@ -213,8 +214,8 @@ fn long_lines(rt: HostRuntime) -> Result<(), Fail> {
     let mut nested = vec![in alloc; b'['; 200]?;
     nested.resize(400, b']')?;
     let rows: [(Vec<u8>, Result<&[Expected], LineFault>); 3] = [
-        (padded(alloc, 1_048_576)?, Ok(&[Expected::Int(1)])),
-        (padded(alloc, 1_048_577)?, Err(LineFault::TooLong)),
+        (pad_line(alloc, 1_048_576)?, Ok(&[Expected::Int(1)])),
+        (pad_line(alloc, 1_048_577)?, Err(LineFault::TooLong)),
         (nested, Err(LineFault::NoJson)),
     ];
     for (line, expected) in &rows {
@@ -226,7 +227,7 @@ fn long_lines(rt: HostRuntime) -> Result<(), Fail> {
 /// For the loop that refuses each allocation in turn: all pieces, or want of memory.
 #[test]
 fn refusal_of_cut(rt: HostRuntime) {
-    match cut(rt.alloc(), FOUR_LINES, 1) {
+    match cut_into_pieces(rt.alloc(), FOUR_LINES, 1) {
         Ok(pieces) => assert_eq!(rt; pieces.len(), 4),
         Err(_) => {}
     }

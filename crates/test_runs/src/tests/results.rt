@@ -1,5 +1,5 @@
 //! The result over an input, gathered without writing it: with ample memory, and with memory refused.
-use super::running::{BY_D, By, COUNT, THREE, plan_if_any, planned};
+use super::running::{BY_D, By, COUNT, THREE, make_plan, plan_if_any};
 use jlreport_cli::Options;
 use jlreport_scan::{GatherFault, gather, gather_alone};
 use query::Plan;
@@ -10,7 +10,7 @@ use std::test::Fail;
 use std::thread::Threads;
 
 /// The numbers of lines and of refused lines that a call gathers of an input.
-fn gathered(
+fn gather_counts(
     rt: &(impl Threads + Wait + Sync),
     alloc: Global,
     (by, options): (By, Options),
@@ -60,10 +60,10 @@ fn is_refusal(by: By, met: Result<(u64, u64), GatherFault>) -> bool {
 #[test]
 fn gathers(rt: HostRuntime) {
     for (query, input, limit, wanted) in ROWS {
-        let plan = planned(&rt, rt.alloc(), query);
+        let plan = make_plan(&rt, rt.alloc(), query);
         for by in CALLS {
             let asked = (by, by.options(&rt, 1, limit));
-            let met = gathered(&rt, rt.alloc(), asked, &plan, input);
+            let met = gather_counts(&rt, rt.alloc(), asked, &plan, input);
             assert!(rt; met == wanted, "{met:?}: {by:?}");
         }
         drop(plan);
@@ -76,7 +76,7 @@ fn refusal_of_gathering(rt: HostRuntime) {
         if let Some(plan) = plan_if_any(rt.alloc(), query) {
             for by in CALLS {
                 let asked = (by, by.options(&rt, 1, limit));
-                let met = gathered(&rt, rt.alloc(), asked, &plan, input);
+                let met = gather_counts(&rt, rt.alloc(), asked, &plan, input);
                 assert!(rt; met == wanted || is_refusal(by, met), "{met:?}: {by:?}");
             }
             drop(plan);

@@ -1,7 +1,7 @@
 //! Runs that read their input in several rounds write what they write of one round: the numbers of lines run on, and
 //! the limit of refused lines is one limit for all rounds.
 use super::running::{
-    BY_D, By, Case, LEAST_ROUND, assert_done, assert_run_or_refused, assert_too_many, planned,
+    BY_D, By, Case, LEAST_ROUND, assert_done, assert_run_or_refused, assert_too_many, make_plan,
 };
 use super::streams::{Pause, Source};
 use jlreport_cli::Options;
@@ -117,7 +117,7 @@ fn assert_done_in_rounds(
     alloc: Global,
     case: &Case<'_>,
 ) {
-    let plan = planned(rt, alloc, case.query);
+    let plan = make_plan(rt, alloc, case.query);
     for by in CALLS {
         for (round, piece, at_once) in SIZES {
             let asked = in_rounds(rt, by, (round, piece), None);
@@ -166,7 +166,7 @@ fn limits_over_rounds(rt: HostRuntime) -> Result<(), Fail> {
     let alloc = rt.alloc();
     let several = three_rounds(alloc)?;
     let case = case_of_three_rounds(several.as_slice());
-    let plan = planned(&rt, alloc, case.query);
+    let plan = make_plan(&rt, alloc, case.query);
     for by in CALLS {
         for round in ROUNDS {
             let sizes = (round, 1_048_576);
@@ -190,7 +190,7 @@ fn limits_before_a_read_that_fails(rt: HostRuntime) -> Result<(), Fail> {
     for _ in 0..1_500_000 {
         lines.extend_from_slice(b"x\n")?;
     }
-    let plan = planned(&rt, alloc, SUM);
+    let plan = make_plan(&rt, alloc, SUM);
     for by in CALLS {
         let asked = in_rounds(&rt, by, (LEAST_ROUND, 1_048_576), Some(0));
         let reader = Source {

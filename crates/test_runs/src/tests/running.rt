@@ -120,7 +120,7 @@ pub fn plan_if_any(alloc: Global, query: &str) -> Option<Plan> {
 }
 
 /// The plan of a query under the columns.
-pub fn planned(rt: &impl Abort, alloc: Global, query: &str) -> Plan {
+pub fn make_plan(rt: &impl Abort, alloc: Global, query: &str) -> Plan {
     plan_if_any(alloc, query).expect(rt, "a plan")
 }
 
@@ -201,7 +201,7 @@ fn assert_done_by_all(
 #[test]
 fn slow_readers(rt: HostRuntime) {
     for case in [GROUPED, REFUSED, ROLLED_UP] {
-        let plan = planned(&rt, rt.alloc(), case.query);
+        let plan = make_plan(&rt, rt.alloc(), case.query);
         assert_done_by_all(&rt, rt.alloc(), (&plan, &case));
         drop(plan);
     }
@@ -249,7 +249,7 @@ const KINDS: [ErrorKind; 2] = [ErrorKind::BrokenPipe, ErrorKind::Interrupted];
 #[test]
 fn readers_that_fail(rt: HostRuntime) {
     for case in [GROUPED, REFUSED] {
-        let plan = planned(&rt, rt.alloc(), case.query);
+        let plan = make_plan(&rt, rt.alloc(), case.query);
         for kind in KINDS {
             let asked = (&plan, &case);
             assert_none_read(&rt, rt.alloc(), (By::Alone, kind), asked);
@@ -331,7 +331,7 @@ fn assert_each_cut(
 #[test]
 fn writers_that_fail(rt: HostRuntime) {
     for case in [GROUPED, REFUSED] {
-        let plan = planned(&rt, rt.alloc(), case.query);
+        let plan = make_plan(&rt, rt.alloc(), case.query);
         for pause in PAUSES {
             let asked = (&plan, &case);
             assert_each_cut(&rt, rt.alloc(), (By::Alone, pause), asked);
@@ -379,7 +379,7 @@ fn assert_limited(
 /// The limit decides alone, also where workers stop early.
 #[test]
 fn limits(rt: HostRuntime) {
-    let plan = planned(&rt, rt.alloc(), REFUSED.query);
+    let plan = make_plan(&rt, rt.alloc(), REFUSED.query);
     for workers in [1, 2, 64] {
         assert_limited(&rt, rt.alloc(), (By::Workers(workers), 1), &plan);
         assert_limited(&rt, rt.alloc(), (By::Workers(workers), 1_048_576), &plan);

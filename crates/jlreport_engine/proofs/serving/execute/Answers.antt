@@ -4,7 +4,7 @@ use Rattle.jlreport_engine.proofs.serving.execute.Goals as goal
 pub returns-then-settings-clause-explains : goal.returns-then-settings-clause-explains
 returns-then-settings-clause-explains g c asks =
     let plan = c.in_ok-plan.plan in
-    on_ok_weaker c.explained.result
+    on_ok_weaker c.write_explanation.result
     (λ written. record {
       answerable = record {
         fields = plan.fields;
@@ -15,4 +15,4 @@ returns-then-settings-clause-explains g c asks =
       };
       written = written;
     })
-    c.explained.ensures
+    c.write_explanation.ensures

@@ -7,10 +7,10 @@ use Rattle.jlreport_scan.proofs.rounds.first_ahead.Goals as goal
 
 pub returns-clause-ahead : goal.returns-clause-ahead
 returns-clause-ahead g c =
-    let fields = c.args.plan.now.fields in
-    let q = c.args.plan.now.query in
+    let fields = c.args.scan.now.plan.now.fields in
+    let q = c.args.scan.now.plan.now.query in
     let known = g.R.Read.remaining c.args.reader in
-    let limit = limit_number c.args.options.max_refused in
+    let limit = limit_number c.args.scan.now.options.max_refused in
     let first = c.in_ok-rounds.rounds in
     let before = no-round fields q known limit first c.in_ok-whole.whole
     (ap (λ (r : RoundsState _). r.left) c.in_ok-rounds.ensures) (ap (λ (r : RoundsState _). r.given) c.in_ok-rounds.ensures) c.in_ok-whole.ensures.stands in

@@ -1,10 +1,11 @@
-use Rattle.std.proofs.Common.{◌∙◌, ◌+◌, ◌<◌, ◌^◌, ◌++◌, length, List, ℕ, Ok, ap, subst, sym, refl, arith, inr, rules}
+use Rattle.std.proofs.Common.{◌≡◌, ◌∙◌, ◌+◌, ◌<◌, ◌^◌, ◌++◌, length, List, ℕ, Ok, ap, subst, sym, refl, arith, inr}
 use Rattle.semantics.specs.Lines.{lines}
 use Rattle.lines.specs.Rounds.{RoundsState}
 use Rattle.tables.specs.Partials.{StandsFor, whole_piece}
 use Rattle.jlreport_scan.specs.Gathered.{limit_number}
 use Rattle.jlreport_scan.specs.Faults.{Refuses, Stops}
-use Rattle.jlreport_scan.proofs.Gathered.{behind-as_one, few-behind, next-behind, no-round, refused-behind, round-stops}
+use Rattle.jlreport_scan.specs.declared.fault.GatherFault.{GatherFault}
+use Rattle.jlreport_scan.proofs.Gathered.{behind-as_one, few-behind, gather-fault, next-behind, no-more, no-round, refused-behind, round-stops}
 use Rattle.jlreport_scan.proofs.rounds.gather_alone.Goals as goal
 
 pub loop-whole-init : goal.loop-whole-init
@@ -31,24 +32,36 @@ loop-whole-preserved g c =
     let behind = behind-as_one fields q c.loop-whole.whole sum c.advance.new.self.round (λ front given whole.
     subst (λ (bytes : List ℕ). StandsFor fields q sum (whole_piece (front ++ bytes))) c.round-in-loop-whole.ensures (c.in_ok-whole-2.ensures.stands front given whole)) in
     let count = c.refused.ensures.refused in
-    let within = c.in_ok-within_limit.ensures.within in
+    let within = c.in_ok-check_limit.ensures.within in
     let rounds = next-behind fields q (g.R.Read.remaining c.args.reader) (limit_number c.args.options.max_refused)
     c.loop-whole.rounds c.advance.new.self _ c.loop-whole.whole sum c.loop-whole.invariant c.in_ok-advance.ensures (ap Ok c.if-branch.true) behind (omega (arith, count, within)) in
     rounds
 
-pub returns-in_err-within_limit-clause-fault : goal.returns-in_err-within_limit-clause-fault
-returns-in_err-within_limit-clause-fault g c =
+pub returns-in_err-check_limit-clause-gather : goal.returns-in_err-check_limit-clause-gather
+returns-in_err-check_limit-clause-gather g c =
     let fields = c.args.plan.now.fields in
     let q = c.args.plan.now.query in
     let known = g.R.Read.remaining c.args.reader in
     let most = c.args.options.max_refused in
     let sum = c.in_ok-whole-2.whole in
-    let fault = c.in_err-within_limit.field-0.0 in
+    let fault = c.in_err-check_limit.field-0.0 in
     let behind = behind-as_one fields q c.loop-whole.whole sum c.advance.new.self.round (λ front given whole.
     subst (λ (bytes : List ℕ). StandsFor fields q sum (whole_piece (front ++ bytes))) c.round-in-loop-whole.ensures (c.in_ok-whole-2.ensures.stands front given whole)) in
     let count = refused-behind fields q known (limit_number most) c.loop-whole.rounds c.advance.new.self _ c.loop-whole.whole sum c.loop-whole.invariant c.in_ok-advance.ensures (ap Ok c.if-branch.true) behind in
     let stops : Stops fault most fields known =
     round-stops fields q known (limit_number most) most c.loop-whole.rounds c.advance.new.self _ c.loop-whole.whole c.loop-whole.whole.refused c.advance.new.self.round fault
     c.loop-whole.invariant c.in_ok-advance.ensures (ap Ok c.if-branch.true) refl refl
-    (inr (subst (λ (n : ℕ). Refuses fault most n) (c.refused.ensures.refused ∙ count) c.in_err-within_limit.ensures.over)) in
-    search rules
+    (inr (subst (λ (n : ℕ). Refuses fault most n) (c.refused.ensures.refused ∙ count) c.in_err-check_limit.ensures.over)) in
+    gather-fault c.from_residual-in_err-check_limit.result most fields q known (λ given. given ≡ fault) c.from_residual-in_err-check_limit.ensures.1
+    (λ given e. subst (λ (f : GatherFault). Stops f most fields known) (sym e) stops)
+
+pub returns-clause-gather : goal.returns-clause-gather
+returns-clause-gather g c =
+    let fields = c.args.plan.now.fields in
+    let q = c.args.plan.now.query in
+    let known = g.R.Read.remaining c.args.reader in
+    record {
+      is_whole = no-more fields q known (limit_number c.args.options.max_refused) c.loop-whole.rounds c.advance.new.self _ c.loop-whole.whole c.loop-whole.invariant c.in_ok-advance.ensures (ap Ok c.if-branch.false);
+      is_within = c.loop-whole.invariant.within;
+      stops = tt;
+    }

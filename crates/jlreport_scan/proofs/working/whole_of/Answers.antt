@@ -1,7 +1,7 @@
 use Rattle.std.proofs.Common.{◌≡◌, ◌∙◌, None, ap, subst, sym, arith}
 use Rattle.jlreport_scan.specs.Pieces.{IsUnder}
 use Rattle.jlreport_scan.specs.Gathered.{limit_number}
-use Rattle.jlreport_scan.proofs.working.decided.Goals as goal
+use Rattle.jlreport_scan.proofs.working.whole_of.Goals as goal
 
 pub unreachable-requires : goal.unreachable-requires
 unreachable-requires c =

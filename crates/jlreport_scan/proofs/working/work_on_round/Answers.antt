@@ -12,14 +12,14 @@ use Rattle.tables.proofs.Denotations.{denotation-from_stands}
 use Rattle.tables.proofs.Sharing.{parallel_sync, job_by_sync}
 use Rattle.jlreport_scan.proofs.Pooled.{IsJobOf, few-loads, grown-by, refused-whole, room-beside, stands-behind, under-of, under-same, weights-counted}
 use Rattle.jlreport_scan.proofs.Tallies.{few-refused}
-use Rattle.jlreport_scan.proofs.working.round_among.Goals as goal
+use Rattle.jlreport_scan.proofs.working.work_on_round.Goals as goal
 
 pub fan_deal_onto-requires-sync-W : goal.fan_deal_onto-requires-sync-W
 fan_deal_onto-requires-sync-W g c κs within = search (job_by_sync, parallel_sync, sendable) depth 20
 
 pub fan_deal_onto-requires-clause-part : goal.fan_deal_onto-requires-clause-part
 fan_deal_onto-requires-clause-part g c κs within =
-    let plan = c.args.plan.now in
+    let plan = c.args.scan.now.plan.now in
     let pieces = c.in_ok-pieces.pieces in
     let front = c.in_ok-front.front in
     let of = subst (IsJobOf plan c.args.round.now pieces.items) (sym c.new-job.ensures.job)
@@ -33,10 +33,10 @@ pub fan_deal_onto-requires-clause-loads : goal.fan_deal_onto-requires-clause-loa
 fan_deal_onto-requires-clause-loads g c κs within =
     let pieces = c.in_ok-pieces.pieces in
     let job = c.new-job.result.job in
-    let of = subst (IsJobOf c.args.plan.now c.args.round.now pieces.items) (sym c.new-job.ensures.job)
+    let of = subst (IsJobOf c.args.scan.now.plan.now c.args.round.now pieces.items) (sym c.new-job.ensures.job)
     record { plan_is = c.new.ensures.plan; input_is = c.new.ensures.input; pieces_are = c.new.ensures.pieces ∙ c.as_slice.ensures.value } in
     let count : c.len-2.result ≡ length pieces.items = grind (arith, c.len-2.ensures, pieces.ok) in
-    let few = few-loads c.args.plan.now job.plan.now c.args.round.now job.input.now pieces.items job.pieces.now c.len-2.result c.args.before.lines
+    let few = few-loads c.args.scan.now.plan.now job.plan.now c.args.round.now job.input.now pieces.items job.pieces.now c.len-2.result c.args.before.lines
     of.plan_is of.input_is of.pieces_are count
     c.job_law.ensures.lines c.in_ok-pieces.ensures.lines c.requires.short in
     let same = c.in_ok-front.ensures.lines in
@@ -46,21 +46,21 @@ pub fan_deal_onto-requires-clause-room : goal.fan_deal_onto-requires-clause-room
 fan_deal_onto-requires-clause-room g c κs within =
     let pieces = c.in_ok-pieces.pieces in
     let job = c.new-job.result.job in
-    let of = subst (IsJobOf c.args.plan.now c.args.round.now pieces.items) (sym c.new-job.ensures.job)
+    let of = subst (IsJobOf c.args.scan.now.plan.now c.args.round.now pieces.items) (sym c.new-job.ensures.job)
     record { plan_is = c.new.ensures.plan; input_is = c.new.ensures.input; pieces_are = c.new.ensures.pieces ∙ c.as_slice.ensures.value } in
     let count : c.len-2.result ≡ length pieces.items = grind (arith, c.len-2.ensures, pieces.ok) in
     let fewer = c.in_ok-front.ensures.fewer in
     let refused_lines = c.in_ok-front.ensures.refused in
     let lines = c.in_ok-front.ensures.lines in
     room-beside (λ share. share.sum) c.args.shares.items c.args.before.refused _
-    (few-loads c.args.plan.now job.plan.now c.args.round.now job.input.now pieces.items job.pieces.now c.len-2.result c.args.before.refused
+    (few-loads c.args.scan.now.plan.now job.plan.now c.args.round.now job.input.now pieces.items job.pieces.now c.len-2.result c.args.before.refused
     of.plan_is of.input_is of.pieces_are count
     c.job_law.ensures.lines c.in_ok-pieces.ensures.lines (let short = c.requires.short in omega (arith, fewer, refused_lines, lines, short)))
     c.requires.reported
 
-pub decided-requires : goal.decided-requires
-decided-requires g c =
-    let plan = c.args.plan.now in
+pub whole_of-requires : goal.whole_of-requires
+whole_of-requires g c =
+    let plan = c.args.scan.now.plan.now in
     let round = c.args.round.now in
     let pieces = c.in_ok-pieces.pieces in
     let front = c.in_ok-front.front in
@@ -85,7 +85,7 @@ decided-requires g c =
 
 pub returns-in_err-whole-clause-fault : goal.returns-in_err-whole-clause-fault
 returns-in_err-whole-clause-fault g c =
-    let plan = c.args.plan.now in
+    let plan = c.args.scan.now.plan.now in
     let round = c.args.round.now in
     let pieces = c.in_ok-pieces.pieces in
     let front = c.in_ok-front.front in
@@ -106,7 +106,7 @@ returns-in_err-whole-clause-fault g c =
 
 pub returns-clause-whole : goal.returns-clause-whole
 returns-clause-whole g c =
-    let plan = c.args.plan.now in
+    let plan = c.args.scan.now.plan.now in
     let round = c.args.round.now in
     let pieces = c.in_ok-pieces.pieces in
     let front = c.in_ok-front.front in
