@@ -20,7 +20,7 @@ struct Counts {
 }
 
 /// One more where the condition holds.
-fn counted(count: u64, condition: bool) -> u64 {
+fn count_if(count: u64, condition: bool) -> u64 {
     count.saturating_add(u64::from(condition))
 }
 
@@ -47,10 +47,10 @@ fn counts_of(alloc: Global, schema: &Schema, bytes: &[u8]) -> Counts {
         let read = reader.read(schema, line);
         let by_tokens = reader.read_by_tokens(schema, line);
         counts = Counts {
-            lines: counted(counts.lines, true),
-            records: counted(counts.records, by_tree.is_ok()),
-            by_tokens: counted(counts.by_tokens, by_tokens.is_some()),
-            different: counted(counts.different, !are_same(&read, &by_tree)),
+            lines: count_if(counts.lines, true),
+            records: count_if(counts.records, by_tree.is_ok()),
+            by_tokens: count_if(counts.by_tokens, by_tokens.is_some()),
+            different: count_if(counts.different, !are_same(&read, &by_tree)),
         };
     }
     counts

@@ -31,7 +31,7 @@ pub enum Way {
 
 impl Way {
     /// The way of a name, `ruled`, `endmarked` or `plain`. Any other name is the plain way.
-    pub fn named(name: &str) -> Self {
+    pub fn from_name(name: &str) -> Self {
         match name {
             "ruled" => Way::Ruled,
             "endmarked" => Way::EndMarked,

@@ -34,7 +34,7 @@ fn main(rt: HostRuntime) -> io::Result<()> {
     let words: Vec<&str> = words.iter().map(|word| word.as_str()).collect(rt.alloc())?;
     match words.as_slice() {
         ["fold", columns, query, path, hands, ..] => fold::run(&rt, columns, query, path, hands),
-        ["deal", way, hands, ..] => deal::run(&rt, Way::named(way), hands),
+        ["deal", way, hands, ..] => deal::run(&rt, Way::from_name(way), hands),
         ["compare", columns, path, ..] => compare::run(&rt, columns, path),
         ["floor", paths @ ..] => floor::run(&rt, paths),
         _ => Ok(()),

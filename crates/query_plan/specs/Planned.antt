@@ -9,5 +9,5 @@ pub record PlannedQuery : Type 0 where
   pub query : TreeForm
 
 -- The plan of a query under columns.
-abbrev pub planned : List Field → TreeForm → PlannedQuery
-planned columns q = record { fields = columns; query = q }
+abbrev pub plan_of : List Field → TreeForm → PlannedQuery
+plan_of columns q = record { fields = columns; query = q }

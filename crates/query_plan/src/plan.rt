@@ -32,14 +32,14 @@ pub struct Plan {
 }
 
 impl Model for Plan {
-    ghost use Rattle.query_plan.specs.Planned.{PlannedQuery, planned};
+    ghost use Rattle.query_plan.specs.Planned.{PlannedQuery, plan_of};
     ghost use Rattle.query_plan.specs.Inside.Coding.{coded_planned};
 
     ghost Value = { PlannedQuery };
 
     ghost coded = { coded_planned };
 
-    ghost view = { λ p. planned p.schema p.query };
+    ghost view = { λ p. plan_of p.schema p.query };
 }
 
 // A function of its own: a derived one is written out, and proved, wherever a plan is given up.

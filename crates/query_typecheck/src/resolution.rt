@@ -12,7 +12,7 @@ ghost use Rattle.semantics.specs.Sets.{expansion, grouping_places};
 ghost use Rattle.query_typecheck.specs.Typing.{IsTyped};
 ghost use Rattle.semantics.specs.Types.{key_expression};
 ghost use Rattle.query_typecheck.specs.Inside.FirstFaults.{Answers, clause_fault, expression_fault, first_fault, headers_fault, limit_fault, query_fault};
-ghost use Rattle.query_typecheck.specs.Inside.Clauses.{clauses_fault, records_fault, rows_fault, select_fault};
+ghost use Rattle.query_typecheck.specs.Inside.Clauses.{clauses_fault, keys_fault, records_fault, rows_fault, select_fault};
 ghost use Rattle.query_typecheck.specs.Standing.{IsViolation};
 ghost use Rattle.semantics.specs.declared.query_fault.QueryFault.TheVariants.{OutOfMemory, RepeatedHeader};
 ghost use Rattle.query_resolve.specs.Resolution.{resolution_of};
@@ -145,10 +145,8 @@ pub fn key_expression<'a>(items: &'a [Item], expression: &'a Expression) -> &'a 
 
 /// Whether the keys are typed.
 fn check_keys(scope: &Scope, items: &[Item], keys: &[Key]) -> Result<(), QueryFault>
-    ensures fault { Answers result
-        (first_fault (λ k. expression_fault (fields_of scope.now.columns.now) scope.now.grouping.now
-        scope.now.clause (key_expression (map item_form items.now) k.expression))
-        (map key_form keys.now)) }
+    ensures fault { Answers result (keys_fault (fields_of scope.now.columns.now)
+        scope.now.grouping.now scope.now.clause (map item_form items.now) (map key_form keys.now)) }
 {
     for key in keys {
         check_expression(scope, key_expression(items, &key.expression))?;

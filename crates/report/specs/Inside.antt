@@ -1,3 +1,4 @@
 -- What private calls compute and keep. No promise rests on it.
 pub mod Between
+pub mod Fields
 pub mod Parts

@@ -7,8 +7,8 @@ ghost use Rattle.report.specs.Text.{rows_bytes};
 ghost use Rattle.report.specs.Inside.Parts.{AreTextsOf};
 ghost use Rattle.report_rows.specs.Sources.{cells_at};
 
-use crate::parts::joined;
-use crate::text::{begun, ended, put_groups, report_on};
+use crate::parts::join_parts;
+use crate::text::{put_groups, report_on, text_of, writer_with_headers};
 use csv::WriterBuilder;
 use query_plan::Plan;
 use report_rows::{PlanView, Source, part_len, shown_among, sources_by_set};
@@ -49,8 +49,8 @@ pub fn report_among<H: Threads + Sync>(
     let sources = sources_by_set(alloc, &view)?;
     let size = part_len(shown.len(), hands);
     let texts = texts_among(rt, alloc, sources.as_slice(), shown.as_slice(), size)?;
-    let text = ended(begun(alloc, plan)?)?;
-    joined(text, texts)
+    let text = text_of(writer_with_headers(alloc, plan)?)?;
+    join_parts(text, texts)
 }
 
 /// The bytes of the rows of groups, in parts of so many rows, each by a thread of its own where one can be started.
@@ -92,5 +92,5 @@ fn rows_text(
 {
     let mut writer = WriterBuilder::new().from_writer(Vec::new(alloc));
     put_groups(&mut writer, alloc, sources, groups)?;
-    ended(writer)
+    text_of(writer)
 }

@@ -4,6 +4,7 @@ ghost use Rattle.std.specs.Fmt.{signed_decimal};
 ghost use Rattle.values.specs.Datum.{data_of, datum_of};
 ghost use Rattle.tables_groups.specs.Cells.{summary_of};
 ghost use Rattle.csv.specs.Records.{fields_of, partial_of};
+ghost use Rattle.report.specs.Inside.Fields.{group_fields};
 ghost use Rattle.report_rows.specs.Sources.{shown_at};
 ghost use Rattle.semantics.specs.Texts.{cell_field, escaped_text, value_field};
 
@@ -37,9 +38,7 @@ pub(crate) fn write_group(
     sources: &[Source],
     group: &Group,
 ) -> Result<(), AllocError>
-    ensures { OnOk result (fields_of fields.new ≡ map cell_field
-        (map (shown_at (data_of group.now.key.items) (map summary_of group.now.cells.items))
-        sources.now)) }
+    ensures { OnOk result (fields_of fields.new ≡ group_fields sources.now group.now) }
 {
     fields.clear();
     for source in sources {

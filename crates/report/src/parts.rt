@@ -12,7 +12,7 @@ use std::alloc::AllocError;
 /// # Errors
 ///
 /// `AllocError` where a part was not made, or there is no memory for the list.
-pub(crate) fn joined<T: Drop>(
+pub(crate) fn join_parts<T: Drop>(
     list: Vec<T>,
     parts: Vec<Result<Vec<T>, AllocError>>,
 ) -> Result<Vec<T>, AllocError>

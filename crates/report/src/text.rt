@@ -1,15 +1,13 @@
 //! The bytes of a report.
 ghost use Rattle.std.specs.Prelude.{◌≡◌, ◌<◌, [], Some, All, IfOk, OnOk, length, map};
-ghost use Rattle.std.specs.Io.KnownBytes.{Appends};
 ghost use Rattle.csv.specs.Records.{fields_of};
-ghost use Rattle.csv.specs.Writing.{row_text, default_writer, text_written};
-ghost use Rattle.values.specs.Datum.{data_of};
+ghost use Rattle.csv.specs.Writing.{row_text, default_writer};
 ghost use Rattle.semantics.specs.Canonical.{header_text};
-ghost use Rattle.tables_groups.specs.Cells.{summary_of};
 ghost use Rattle.tables_groups.specs.Found.{row_of};
 ghost use Rattle.tables.specs.Planned.{AreFittingUnder};
-ghost use Rattle.report.specs.Inside.Between.{IsBetweenRows};
-ghost use Rattle.report_rows.specs.Sources.{cells_at, shown_at};
+ghost use Rattle.report.specs.Inside.Between.{HasWritten, IsBetweenRows, text_in};
+ghost use Rattle.report.specs.Inside.Fields.{group_fields};
+ghost use Rattle.report_rows.specs.Sources.{cells_at};
 ghost use Rattle.report.specs.Report.{report_of};
 ghost use Rattle.report_rows.specs.Shown.{cells_of};
 ghost use Rattle.semantics.specs.Texts.{cell_field, report_bytes};
@@ -20,7 +18,6 @@ use csv::{ByteRecord, Writer, WriterBuilder};
 use query_plan::{Plan, header};
 use report_rows::{PlanView, ReportRow, Source, shown_groups, sources_at, sources_by_set};
 use std::alloc::{AllocError, Global};
-use std::io::Write;
 use tables::Groups;
 use tables_groups::{Cell, Group};
 use values::Value;
@@ -46,12 +43,12 @@ pub fn report_text(alloc: Global, rows: &[ReportRow], plan: &Plan) -> Result<Vec
     ensures { IfOk result (λ text.
         text.items ≡ report_bytes plan.now.query.items (map cells_of rows.now)) }
 {
-    let mut writer = begun(alloc, plan)?;
+    let mut writer = writer_with_headers(alloc, plan)?;
     let mut fields = ByteRecord::new(alloc);
     for row in rows {
         put_row(&mut writer, &mut fields, alloc, row)?;
     }
-    ended(writer)
+    text_of(writer)
 }
 
 /// The bytes of the report on groups: those that `report_text` gives for the rows of `arrange`, of which it makes none.
@@ -72,9 +69,9 @@ pub fn report_on(alloc: Global, groups: &Groups, plan: &Plan) -> Result<Vec<u8>,
     let view = PlanView::new(alloc, plan)?;
     let shown = shown_groups(alloc, groups.rows(), &view)?;
     let sources = sources_by_set(alloc, &view)?;
-    let mut writer = begun(alloc, plan)?;
+    let mut writer = writer_with_headers(alloc, plan)?;
     put_groups(&mut writer, alloc, sources.as_slice(), shown.as_slice())?;
-    ended(writer)
+    text_of(writer)
 }
 
 /// Writes the rows of groups, each of which stands beside the index of its grouping set.
@@ -87,8 +84,7 @@ pub(crate) fn put_groups(
     requires between { IsBetweenRows writer.old }
     requires within { All (λ r. (row_of r.now).0 < length sources.now) groups.now }
     ensures between { OnOk result (IsBetweenRows writer.new) }
-    ensures appends { OnOk result (Appends (text_written ⟦<Vec<u8> as Write>⟧.contents writer.old)
-        (text_written ⟦<Vec<u8> as Write>⟧.contents writer.new)
+    ensures appends { OnOk result (HasWritten writer.old writer.new
         (rows_bytes (map (λ r. cells_at sources.now (row_of r.now)) groups.now))) }
 {
     let mut start = 0;
@@ -111,8 +107,7 @@ fn put_few(
     requires between { IsBetweenRows writer.old }
     requires within { All (λ r. (row_of r.now).0 < length sources.now) groups.now }
     ensures between { OnOk result (IsBetweenRows writer.new) }
-    ensures appends { OnOk result (Appends (text_written ⟦<Vec<u8> as Write>⟧.contents writer.old)
-        (text_written ⟦<Vec<u8> as Write>⟧.contents writer.new)
+    ensures appends { OnOk result (HasWritten writer.old writer.new
         (rows_bytes (map (λ r. cells_at sources.now (row_of r.now)) groups.now))) }
 {
     let mut fields = ByteRecord::with_capacity(alloc, longest_text(groups), 0)?;
@@ -163,9 +158,8 @@ fn cell_len(cell: &Cell) -> usize {
 }
 
 /// What a writer has written.
-pub(crate) fn ended(writer: Writer<Vec<u8>>) -> Result<Vec<u8>, AllocError>
-    ensures { IfOk result (λ text.
-        text_written ⟦<Vec<u8> as Write>⟧.contents writer ≡ Some text.items) }
+pub(crate) fn text_of(writer: Writer<Vec<u8>>) -> Result<Vec<u8>, AllocError>
+    ensures { IfOk result (λ text. text_in writer ≡ Some text.items) }
 {
     match writer.into_inner() {
         Ok(text) => Ok(text),
@@ -174,10 +168,10 @@ pub(crate) fn ended(writer: Writer<Vec<u8>>) -> Result<Vec<u8>, AllocError>
 }
 
 /// A writer of a report that has the row of the headers.
-pub(crate) fn begun(alloc: Global, plan: &Plan) -> Result<Writer<Vec<u8>>, AllocError>
+pub(crate) fn writer_with_headers(alloc: Global, plan: &Plan) -> Result<Writer<Vec<u8>>, AllocError>
     ensures between { IfOk result IsBetweenRows }
-    ensures text { IfOk result (λ writer. text_written ⟦<Vec<u8> as Write>⟧.contents writer
-        ≡ Some (report_bytes plan.now.query.items [])) }
+    ensures text { IfOk result (λ writer.
+        text_in writer ≡ Some (report_bytes plan.now.query.items [])) }
 {
     let mut writer = WriterBuilder::new().from_writer(Vec::new(alloc));
     put_headers(&mut writer, alloc, plan)?;
@@ -201,8 +195,7 @@ fn headers(alloc: Global, plan: &Plan) -> Result<ByteRecord, AllocError>
 fn put_headers(writer: &mut Writer<Vec<u8>>, alloc: Global, plan: &Plan) -> Result<(), AllocError>
     requires { IsBetweenRows writer.old }
     ensures between { OnOk result (IsBetweenRows writer.new) }
-    ensures appends { OnOk result (Appends (text_written ⟦<Vec<u8> as Write>⟧.contents writer.old)
-        (text_written ⟦<Vec<u8> as Write>⟧.contents writer.new)
+    ensures appends { OnOk result (HasWritten writer.old writer.new
         (row_text default_writer (map header_text plan.now.query.items))) }
 {
     let fields = headers(alloc, plan)?;
@@ -218,8 +211,7 @@ fn put_row(
 ) -> Result<(), AllocError>
     requires { IsBetweenRows writer.old }
     ensures between { OnOk result (IsBetweenRows writer.new) }
-    ensures appends { OnOk result (Appends (text_written ⟦<Vec<u8> as Write>⟧.contents writer.old)
-        (text_written ⟦<Vec<u8> as Write>⟧.contents writer.new)
+    ensures appends { OnOk result (HasWritten writer.old writer.new
         (row_text default_writer (map cell_field (cells_of row.now)))) }
 {
     write_cells(fields, alloc, row.cells.as_slice())?;
@@ -237,11 +229,8 @@ fn put_group(
 ) -> Result<(), AllocError>
     requires { IsBetweenRows writer.old }
     ensures between { OnOk result (IsBetweenRows writer.new) }
-    ensures appends { OnOk result (Appends (text_written ⟦<Vec<u8> as Write>⟧.contents writer.old)
-        (text_written ⟦<Vec<u8> as Write>⟧.contents writer.new)
-        (row_text default_writer (map cell_field
-        (map (shown_at (data_of group.now.key.items) (map summary_of group.now.cells.items))
-        sources.now)))) }
+    ensures appends { OnOk result (HasWritten writer.old writer.new
+        (row_text default_writer (group_fields sources.now group.now))) }
 {
     write_group(fields, alloc, sources, group)?;
     put_fields(writer, fields)
@@ -251,8 +240,7 @@ fn put_group(
 fn put_fields(writer: &mut Writer<Vec<u8>>, fields: &ByteRecord) -> Result<(), AllocError>
     requires { IsBetweenRows writer.old }
     ensures between { OnOk result (IsBetweenRows writer.new) }
-    ensures appends { OnOk result (Appends (text_written ⟦<Vec<u8> as Write>⟧.contents writer.old)
-        (text_written ⟦<Vec<u8> as Write>⟧.contents writer.new)
+    ensures appends { OnOk result (HasWritten writer.old writer.new
         (row_text default_writer (fields_of fields.now))) }
 {
     match writer.write_byte_record(fields) {

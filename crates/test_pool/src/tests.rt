@@ -24,8 +24,8 @@ struct Numbers {
 
 impl Numbers {
     /// A number that was put into memory of its own.
-    fn noted(&self, number: u64) -> Result<u64, AllocError>
-        ensures { IfOk result (λ noted. noted ≡ number) }
+    fn store_number(&self, number: u64) -> Result<u64, AllocError>
+        ensures { IfOk result (λ stored. stored ≡ number) }
     {
         let mut numbers = Vec::new(self.alloc);
         numbers.push(number)?;
@@ -70,15 +70,15 @@ impl Work for Numbers {
     } };
 
     fn unit(&self) -> Result<u64, AllocError> {
-        self.noted(0)
+        self.store_number(0)
     }
 
     fn piece(&self, i: u32) -> Result<u64, AllocError> {
-        self.noted(i as u64)
+        self.store_number(i as u64)
     }
 
     fn combine(&self, a: u64, b: u64) -> Result<u64, AllocError> {
-        self.noted(a + b)
+        self.store_number(a + b)
     }
 
     fn weight(&self, p: &u64) -> u64 {
@@ -484,7 +484,7 @@ fn nothing_to_deal(rt: HostRuntime) -> Result<(), Fail> {
 }
 
 /// The pieces that a hand gets, until it is spent.
-fn noted(alloc: Global, hand: Hand) -> Result<Vec<u32>, AllocError> {
+fn take_pieces(alloc: Global, hand: Hand) -> Result<Vec<u32>, AllocError> {
     let mut hand = hand;
     let mut pieces = Vec::new(alloc);
     for _ in 0..1001 {
@@ -525,7 +525,7 @@ fn is_each_once(all: &[u32]) -> bool {
 fn get_each_once<R: Threads + Sync>(rt: &R, alloc: Global) -> Result<bool, Fail> {
     let hands = Deal::new(alloc, 1000, 4)?.into_hands();
     let mut all = Vec::new(alloc);
-    for pieces in thread::map_vec(rt, hands, &|hand| noted(alloc, hand))? {
+    for pieces in thread::map_vec(rt, hands, &|hand| take_pieces(alloc, hand))? {
         let mut pieces = pieces?;
         if !ascend(pieces.as_slice()) {
             return Ok(false);
@@ -545,7 +545,12 @@ fn four_threads(rt: HostRuntime) -> Result<(), Fail> {
 }
 
 /// Reports a small weight to a share that has reported little.
-fn reported<L: Ledger, R: Wait>(rt: &R, book: &Book<L>, share: &mut Share<L>, weight: u64) -> u128
+fn report_weight<L: Ledger, R: Wait>(
+    rt: &R,
+    book: &Book<L>,
+    share: &mut Share<L>,
+    weight: u64,
+) -> u128
     requires { weight < 10 }
 {
     if share.sum() > 10 {
@@ -559,9 +564,9 @@ fn reports<L: Ledger, R: Wait>(rt: &R, alloc: Global, blank: Blank) -> Result<[u
     requires { (blank.name ≡ L.name) × (blank.parts ≡ L.parts) × (L.parts ≡ 2) }
 {
     let (book, mut shares) = Book::<L>::new(alloc, blank, 2)?;
-    let three = reported(rt, &book, &mut shares[0], 3);
-    let seven = reported(rt, &book, &mut shares[1], 4);
-    let twelve = reported(rt, &book, &mut shares[0], 5);
+    let three = report_weight(rt, &book, &mut shares[0], 3);
+    let seven = report_weight(rt, &book, &mut shares[1], 4);
+    let twelve = report_weight(rt, &book, &mut shares[0], 5);
     Ok([three, seven, twelve, book.close(shares)])
 }
 

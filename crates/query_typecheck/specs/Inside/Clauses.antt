@@ -6,6 +6,7 @@ use Rattle.semantics.specs.Columns.{Field}
 use Rattle.semantics.specs.Syntax.{PredicateForm, ElementForm, ItemForm, KeyForm, TreeForm}
 use Rattle.semantics.specs.Canonical.{header_text}
 use Rattle.semantics.specs.declared.query_fault.QueryFault.{QueryFault}
+use Rattle.query_typecheck.specs.declared.scope.Clause.{Clause}
 use Rattle.query_typecheck.specs.declared.scope.Clause.TheVariants as clause
 use Rattle.semantics.specs.Names.{group_names}
 use Rattle.semantics.specs.Sets.{expansion}
@@ -26,12 +27,16 @@ select_fault fields grouped items =
     option_or (first_fault (λ i. expression_fault fields grouped clause.Select i.expression) items)
     (headers_fault (map header_text items))
 
+-- The keys of a clause, each as the expression that it stands for.
+abbrev pub keys_fault : List Field → List ℕ → Clause → List ItemForm → List KeyForm → Option QueryFault
+keys_fault fields grouped c items keys = first_fault (λ k. expression_fault fields grouped c (key_expression items k.expression)) keys
+
 -- SELECT, then HAVING, then ORDER BY.
 unfoldable pub rows_fault : List Field → List ℕ → List ItemForm → Option PredicateForm → List KeyForm → Option QueryFault
 rows_fault fields grouped items having_condition keys =
     option_or (select_fault fields grouped items)
     (option_or (clause_fault fields grouped clause.Having having_condition)
-    (first_fault (λ k. expression_fault fields grouped clause.OrderBy (key_expression items k.expression)) keys))
+    (keys_fault fields grouped clause.OrderBy items keys))
 
 -- WHERE and GROUP BY, then SELECT, HAVING and ORDER BY, then the number of different set functions.
 unfoldable pub clauses_fault : List Field → List ℕ → TreeForm → Option QueryFault

@@ -108,7 +108,7 @@ fn are_two_groups(groups: &[Group]) -> bool {
                 && group.lines == 2
                 && group.cells.as_slice() == ones.as_slice(),
             [Value::Null] => group.lines == 1 && group.cells.as_slice() == nulls.as_slice(),
-            _ => false,
+            [Value::Int(_) | Value::Bool(_)] | [] | [_, _, ..] => false,
         })
 }
 

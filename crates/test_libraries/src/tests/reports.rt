@@ -90,7 +90,7 @@ fn written<H: Threads + Sync>(rt: &H, alloc: Global, plan: &Plan) -> Result<Text
 #[test]
 fn writes_the_report_and_the_list(rt: HostRuntime) -> Result<(), Fail> {
     let plan = plan_if_any(rt.alloc()).expect(&rt, "a plan");
-    let answer = written(&rt, rt.alloc(), &plan);
+    let answer = write_texts(&rt, rt.alloc(), &plan);
     drop(plan);
     let written = answer?;
     assert_eq!(rt; written.report.as_slice(), REPORT);
@@ -106,7 +106,7 @@ fn refusal_of_the_report_and_the_list(rt: HostRuntime) {
     let Some(plan) = plan_if_any(rt.alloc()) else {
         return;
     };
-    let answer = written(&rt, rt.alloc(), &plan);
+    let answer = write_texts(&rt, rt.alloc(), &plan);
     drop(plan);
     match answer {
         Ok(written) => {

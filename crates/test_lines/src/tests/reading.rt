@@ -28,7 +28,7 @@ impl Expected {
             (Expected::Int(number), Value::Int(found)) => i128::from(number) == *found,
             (Expected::Text(text), Value::Text(found)) => found.as_str() == text,
             (Expected::Bool(truth), Value::Bool(found)) => truth == *found,
-            _ => false,
+            (Expected::Null | Expected::Int(_) | Expected::Text(_) | Expected::Bool(_), _) => false,
         }
     }
 }

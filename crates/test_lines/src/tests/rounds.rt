@@ -56,7 +56,7 @@ impl Row {
 }
 
 /// A line of so many bytes between two others, and how many of them are given.
-const fn between(count: usize, given: usize) -> Row {
+const fn line_between(count: usize, given: usize) -> Row {
     Row {
         front: b"{\"q\":1}\n",
         byte: b'x',
@@ -147,13 +147,13 @@ fn rounds_of_inputs(rt: HostRuntime) -> Result<(), Fail> {
         feeds(LEAST - 3),
         feeds(1_048_576),
         feeds(LEAST - 1),
-        between(1_048_576, 1_048_576),
-        between(1_048_577, 1_048_577),
-        between(1_048_578, 1_048_577),
-        between(3_000_000, 1_048_577),
+        line_between(1_048_576, 1_048_576),
+        line_between(1_048_577, 1_048_577),
+        line_between(1_048_578, 1_048_577),
+        line_between(3_000_000, 1_048_577),
         Row {
             behind: b"",
-            ..between(3_000_000, 1_048_577)
+            ..line_between(3_000_000, 1_048_577)
         },
     ];
     for row in rows {

@@ -5,7 +5,7 @@ ghost use Rattle.lines.specs.Pieces.{AreWholeLines};
 ghost use Rattle.tables.specs.Partials.{IsPartialOf, StandsForInput};
 
 use super::partials::{
-    BY_D, BY_D_AND_R, UNGROUPED, assert_groups, assert_two_found, planned, planned_or_refused,
+    BY_D, BY_D_AND_R, UNGROUPED, assert_groups, assert_two_found, plan_of, plan_or_refused,
 };
 use super::reference::{Findings, findings_of};
 use lines::LineFault;
@@ -108,7 +108,7 @@ pub fn over(alloc: Global, plan: &Plan, input: &[u8]) -> Result<Partial, AllocEr
 }
 
 /// The result over a front of whole lines, followed by that over the rest.
-fn followed(
+fn follow(
     rt: &impl Abort,
     alloc: Global,
     plan: &Plan,
@@ -219,9 +219,9 @@ fn assert_followed<H: Abort + Threads + Sync>(rt: &H, alloc: Global, plan: &Plan
     let whole = Partial::fold_piece(alloc, plan, 0, input.as_slice()).expect(rt, "memory");
     assert_found(rt, alloc, plan, whole, parted, &wanted);
     assert!(rt; are_whole_lines(parted.front));
-    let both = followed(rt, alloc, plan, parted.front, parted.rest).expect(rt, "memory");
+    let both = follow(rt, alloc, plan, parted.front, parted.rest).expect(rt, "memory");
     assert_found(rt, alloc, plan, both, parted, &wanted);
-    let by_hands = followed_by_hands(rt, alloc, plan, parted.front, parted.rest, 3);
+    let by_hands = follow_by_hands(rt, alloc, plan, parted.front, parted.rest, 3);
     let by_hands = by_hands.expect(rt, "memory");
     assert_found(rt, alloc, plan, by_hands, parted, &wanted);
     let folded = folded_behind(rt, alloc, plan, parted.front, parted.rest).expect(rt, "memory");
@@ -235,7 +235,7 @@ fn assert_followed<H: Abort + Threads + Sync>(rt: &H, alloc: Global, plan: &Plan
 fn followed_like_the_whole(rt: HostRuntime) {
     let sets = "SELECT COUNT(DISTINCT q), MIN(d), AVG(q) FROM lines GROUP BY CUBE (d, r)";
     for text in [BY_D, UNGROUPED, BY_D_AND_R, sets] {
-        let plan = planned(&rt, rt.alloc(), text);
+        let plan = plan_of(&rt, rt.alloc(), text);
         for parted in ALL_PARTED {
             assert_followed(&rt, rt.alloc(), &plan, parted);
         }
@@ -259,8 +259,8 @@ fn assert_both_or_refused(rt: &impl Abort, plan: &Plan, both: Result<Partial, Al
 #[test]
 fn refusal_of_follow(rt: HostRuntime) {
     assert!(rt; are_whole_lines(IN_BOTH.front));
-    if let Some(plan) = planned_or_refused(&rt, rt.alloc(), BY_D) {
-        let both = followed(&rt, rt.alloc(), &plan, IN_BOTH.front, IN_BOTH.rest);
+    if let Some(plan) = plan_or_refused(&rt, rt.alloc(), BY_D) {
+        let both = follow(&rt, rt.alloc(), &plan, IN_BOTH.front, IN_BOTH.rest);
         assert_both_or_refused(&rt, &plan, both);
         drop(plan);
     }
@@ -270,8 +270,8 @@ fn refusal_of_follow(rt: HostRuntime) {
 #[test]
 fn refusal_of_follow_by(rt: HostRuntime) {
     assert!(rt; are_whole_lines(IN_BOTH.front));
-    if let Some(plan) = planned_or_refused(&rt, rt.alloc(), BY_D) {
-        let both = followed_by_hands(&rt, rt.alloc(), &plan, IN_BOTH.front, IN_BOTH.rest, 3);
+    if let Some(plan) = plan_or_refused(&rt, rt.alloc(), BY_D) {
+        let both = follow_by_hands(&rt, rt.alloc(), &plan, IN_BOTH.front, IN_BOTH.rest, 3);
         assert_both_or_refused(&rt, &plan, both);
         drop(plan);
     }
@@ -281,7 +281,7 @@ fn refusal_of_follow_by(rt: HostRuntime) {
 #[test]
 fn refusal_of_fold_behind(rt: HostRuntime) {
     assert!(rt; are_whole_lines(IN_BOTH.front));
-    if let Some(plan) = planned_or_refused(&rt, rt.alloc(), BY_D) {
+    if let Some(plan) = plan_or_refused(&rt, rt.alloc(), BY_D) {
         let both = folded_behind(&rt, rt.alloc(), &plan, IN_BOTH.front, IN_BOTH.rest);
         assert_both_or_refused(&rt, &plan, both);
         let both = folded_onto_one_piece(&rt, rt.alloc(), &plan, IN_BOTH.front, IN_BOTH.rest);

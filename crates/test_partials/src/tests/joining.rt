@@ -2,8 +2,8 @@
 ghost use Rattle.std.specs.Prelude.{◌<◌, IfOk};
 ghost use Rattle.tables.specs.Partials.{IsPartialOf};
 
-use super::following::{are_whole_lines, followed_by_hands, has_few_lines};
-use super::partials::{BY_D, merge_by_hands, planned, sorted_rows};
+use super::following::{are_whole_lines, follow_by_hands, has_few_lines};
+use super::partials::{BY_D, merge_by_hands, plan_of, sorted_rows};
 use query::Plan;
 use std::alloc::{AllocError, Global};
 use std::marker::Sync;
@@ -114,7 +114,7 @@ fn assert_joined<H: Abort + Threads + Sync>(
     assert!(rt; are_whole_lines(front));
     let merged = merged_by_hands(rt, alloc, plan, rest, front, count, others);
     assert_finds(rt, alloc, plan, merged.expect(rt, "memory"), count, wanted);
-    let followed = followed_by_hands(rt, alloc, plan, front, rest, count);
+    let followed = follow_by_hands(rt, alloc, plan, front, rest, count);
     assert_finds(
         rt,
         alloc,
@@ -133,7 +133,7 @@ fn joined_by_hands_like_the_whole(rt: HostRuntime) {
     let rest = numbered_lines(alloc, 3000, 9000).expect(&rt, "memory");
     let mut input = front.clone().expect(&rt, "memory");
     input.push_str(rest.as_str()).expect(&rt, "memory");
-    let plan = planned(&rt, alloc, BY_D);
+    let plan = plan_of(&rt, alloc, BY_D);
     let whole = Partial::fold_piece(alloc, &plan, 0, input.as_bytes()).expect(&rt, "memory");
     let wanted = whole.finish(&plan).expect(&rt, "memory");
     assert_eq!(rt; wanted.rows().len(), 9000);

@@ -52,7 +52,7 @@ fn query_or_refused(rt: &impl Abort, alloc: Global, text: &str) -> Option<Query>
 // A query or a plan is given up by a call: a drop in place is proved in place, for each form of a query.
 
 /// The plan of a query's text, and `None` for want of memory.
-pub fn planned_or_refused(rt: &impl Abort, alloc: Global, text: &str) -> Option<Plan> {
+pub fn plan_or_refused(rt: &impl Abort, alloc: Global, text: &str) -> Option<Plan> {
     let query = query_or_refused(rt, alloc, text)?;
     let Some(schema) = schema_or_refused(rt, alloc) else {
         drop(query);
@@ -68,8 +68,8 @@ pub fn planned_or_refused(rt: &impl Abort, alloc: Global, text: &str) -> Option<
 }
 
 /// The plan of a query's text.
-pub fn planned(rt: &impl Abort, alloc: Global, text: &str) -> Plan {
-    planned_or_refused(rt, alloc, text).expect(rt, "memory")
+pub fn plan_of(rt: &impl Abort, alloc: Global, text: &str) -> Plan {
+    plan_or_refused(rt, alloc, text).expect(rt, "memory")
 }
 
 /// The result over the pieces of both, which are of the query of a plan.
@@ -102,7 +102,7 @@ pub fn merge_by_hands<H: Abort + Threads + Sync>(
 }
 
 /// The result over a piece of an input.
-fn folded(
+fn fold_piece(
     rt: &impl Abort,
     alloc: Global,
     plan: &Plan,
@@ -146,7 +146,7 @@ impl Parting {
 
 /// Pieces are parted in two, what comes of the one part is merged with what comes of the other, and each part is
 /// treated so; a single piece is merged into the result over none.
-fn merged(
+fn merge_pieces(
     rt: &impl Abort,
     alloc: Global,
     plan: &Plan,
@@ -162,13 +162,13 @@ fn merged(
         let Some(piece) = pieces.first() else {
             return none;
         };
-        let one = folded(rt, alloc, plan, input, first, piece);
+        let one = fold_piece(rt, alloc, plan, input, first, piece);
         return merge(rt, plan, none, one).expect(rt, "memory");
     }
     let (left, right) = pieces.split_at(parting.place(pieces.len()));
     let second = first.checked_add(left.len()).expect(rt, "few pieces");
-    let left = merged(rt, alloc, plan, input, left, first, parting);
-    let right = merged(rt, alloc, plan, input, right, second, parting);
+    let left = merge_pieces(rt, alloc, plan, input, left, first, parting);
+    let right = merge_pieces(rt, alloc, plan, input, right, second, parting);
     merge(rt, plan, left, right).expect(rt, "memory")
 }
 
@@ -213,7 +213,7 @@ fn assert_found(rt: &impl Abort, alloc: Global, plan: &Plan, input: &[u8], wante
     for target in [1, 7, 1_000_000] {
         let pieces = cut_into_pieces(alloc, input, target).expect(rt, "memory");
         for parting in partings {
-            let partial = merged(rt, alloc, plan, input, pieces.as_slice(), 0, parting);
+            let partial = merge_pieces(rt, alloc, plan, input, pieces.as_slice(), 0, parting);
             assert_eq!(rt; partial.lines(), wanted.lines);
             assert_eq!(rt; partial.refused(), wanted.refused.len() as u64);
             let groups = partial.finish(plan).expect(rt, "memory");
@@ -348,7 +348,7 @@ fn by_hand(alloc: Global, found: &ByHand<'_>) -> Result<Findings, AllocError> {
 #[test]
 fn found_by_hand(rt: HostRuntime) {
     for found in ALL_BY_HAND {
-        let plan = planned(&rt, rt.alloc(), found.text);
+        let plan = plan_of(&rt, rt.alloc(), found.text);
         let wanted = by_hand(rt.alloc(), found).expect(&rt, "memory");
         assert_found(&rt, rt.alloc(), &plan, found.input, &wanted);
         drop(plan);
@@ -357,7 +357,7 @@ fn found_by_hand(rt: HostRuntime) {
 
 /// The result of a query over no pieces.
 fn empty_of(rt: &impl Abort, alloc: Global, text: &str) -> Partial {
-    let plan = planned(rt, alloc, text);
+    let plan = plan_of(rt, alloc, text);
     let empty = Partial::empty(alloc, &plan).expect(rt, "memory");
     drop(plan);
     empty
@@ -480,7 +480,7 @@ pub const INPUTS: u64 = 500;
 
 /// Holds the result of a query over the made-up inputs to the plain program.
 fn assert_like_reference(rt: &impl Abort, alloc: Global, text: &str) {
-    let plan = planned(rt, alloc, text);
+    let plan = plan_of(rt, alloc, text);
     for seed in 0..INPUTS {
         let input = made_up_input(alloc, seed).expect(rt, "memory");
         let wanted = findings_of(rt, alloc, &plan, input.as_bytes());
@@ -494,7 +494,7 @@ fn assert_like_reference(rt: &impl Abort, alloc: Global, text: &str) {
 #[test]
 fn made_up_inputs_are_of_all_kinds(rt: HostRuntime) {
     let alloc = rt.alloc();
-    let plan = planned(&rt, alloc, BY_D_AND_R);
+    let plan = plan_of(&rt, alloc, BY_D_AND_R);
     let mut most_groups = 0;
     let mut most_refused = 0;
     let mut fewest_lines = u64::MAX;
@@ -552,7 +552,7 @@ fn is_one_of_two((set, group): &(usize, Group)) -> bool {
     let (lines, sum) = match group.key.first() {
         Some(Value::Text(text)) if text.as_str() == "x" => (2, Value::Int(7)),
         Some(Value::Text(text)) if text.as_str() == "y" => (1, Value::Null),
-        _ => return false,
+        Some(Value::Text(_) | Value::Null | Value::Int(_) | Value::Bool(_)) | None => return false,
     };
     let cells = [Cell::Plain(Value::Int(i128::from(lines))), Cell::Plain(sum)];
     *set == 0
@@ -588,7 +588,7 @@ fn assert_four_or_refused(rt: &impl Abort, plan: &Plan, partial: Result<Partial,
 /// For the loop that refuses each allocation in turn: the result over a piece, or want of memory.
 #[test]
 fn refusal_of_fold_piece(rt: HostRuntime) {
-    if let Some(plan) = planned_or_refused(&rt, rt.alloc(), BY_D) {
+    if let Some(plan) = plan_or_refused(&rt, rt.alloc(), BY_D) {
         let folded = Partial::fold_piece(rt.alloc(), &plan, 0, FOUR);
         assert_four_or_refused(&rt, &plan, folded);
         drop(plan);
@@ -619,7 +619,7 @@ fn two_merged(rt: &impl Abort, alloc: Global, plan: &Plan) -> Result<Partial, Al
 /// The same of two results: the result over both, or want of memory.
 #[test]
 fn refusal_of_merge(rt: HostRuntime) {
-    if let Some(plan) = planned_or_refused(&rt, rt.alloc(), BY_D) {
+    if let Some(plan) = plan_or_refused(&rt, rt.alloc(), BY_D) {
         let merged = two_merged(&rt, rt.alloc(), &plan);
         assert_four_or_refused(&rt, &plan, merged);
         drop(plan);
@@ -680,7 +680,7 @@ fn assert_four_by_hands<H: Abort + Threads + Sync>(
 /// The same of two results that several hands begin, put together and finish.
 #[test]
 fn refusal_of_merge_by(rt: HostRuntime) {
-    if let Some(plan) = planned_or_refused(&rt, rt.alloc(), BY_D) {
+    if let Some(plan) = plan_or_refused(&rt, rt.alloc(), BY_D) {
         let merged = two_merged_by_hands(&rt, rt.alloc(), &plan);
         assert_four_by_hands(&rt, rt.alloc(), &plan, merged);
         drop(plan);
@@ -699,7 +699,7 @@ fn folded_on(rt: &impl Abort, alloc: Global, plan: &Plan) -> Result<Partial, All
 /// The same of a piece folded onto a result: the result over both, or want of memory.
 #[test]
 fn refusal_of_fold_onto(rt: HostRuntime) {
-    if let Some(plan) = planned_or_refused(&rt, rt.alloc(), BY_D) {
+    if let Some(plan) = plan_or_refused(&rt, rt.alloc(), BY_D) {
         let folded = folded_on(&rt, rt.alloc(), &plan);
         assert_four_or_refused(&rt, &plan, folded);
         drop(plan);
@@ -726,7 +726,7 @@ fn assert_none_found(rt: &impl Abort, groups: &Groups) {
 /// The same of the groups of no line: the one group, or want of memory.
 #[test]
 fn refusal_of_finish(rt: HostRuntime) {
-    if let Some(plan) = planned_or_refused(&rt, rt.alloc(), UNGROUPED) {
+    if let Some(plan) = plan_or_refused(&rt, rt.alloc(), UNGROUPED) {
         if let Some(groups) = finished_or_refused(rt.alloc(), &plan) {
             assert_none_found(&rt, &groups);
         }

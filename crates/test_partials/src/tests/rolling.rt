@@ -5,7 +5,7 @@ ghost use Rattle.tables.specs.Partials.{IsPartialOf};
 ghost use Rattle.tables.specs.Planned.{AreGroupingColumns};
 
 use super::partials::{
-    BY_D, BY_D_AND_R, FOUR, INPUTS, is_row, made_up_input, planned, planned_or_refused,
+    BY_D, BY_D_AND_R, FOUR, INPUTS, is_row, made_up_input, plan_of, plan_or_refused,
 };
 use super::reference::{Row, rows_under};
 use query::Plan;
@@ -23,7 +23,7 @@ const THREE: &[u8] =
 fn rolled_to_a_set_that_is_not_listed(rt: HostRuntime) {
     let alloc = rt.alloc();
     let text = "SELECT COUNT(DISTINCT d) FROM lines GROUP BY GROUPING SETS ((r), (d))";
-    let plan = planned(&rt, alloc, text);
+    let plan = plan_of(&rt, alloc, text);
     let partial = Partial::fold_piece(alloc, &plan, 0, THREE).expect(&rt, "memory");
     let groups = partial.roll(&plan, &[]).expect(&rt, "memory");
     assert_eq!(rt; groups.len(), 1);
@@ -50,7 +50,7 @@ fn are_grouping_columns(plan: &Plan, set: &[usize]) -> bool
 }
 
 /// The groups by their keys.
-fn sorted(mut groups: Vec<Group>) -> Vec<Group> {
+fn sort_groups(mut groups: Vec<Group>) -> Vec<Group> {
     groups.sort_unstable_by(|a, b| a.key.cmp(&b.key));
     groups
 }
@@ -67,7 +67,7 @@ fn assert_rolled(
     requires { IsPartialOf plan.now.fields plan.now.query partial.now }
 {
     assert!(rt; are_grouping_columns(plan, set));
-    let groups = sorted(partial.roll(plan, set).expect(rt, "memory"));
+    let groups = sort_groups(partial.roll(plan, set).expect(rt, "memory"));
     assert_eq!(rt; groups.len(), wanted.len());
     for (group, wanted) in groups.into_iter().zip(wanted.iter()) {
         let row = (0, group);
@@ -85,7 +85,7 @@ fn rolled_like_reference(rt: HostRuntime) {
     let listed =
         "SELECT MIN(d), COUNT(DISTINCT q), AVG(q) FROM lines GROUP BY GROUPING SETS ((r), (d))";
     for text in [BY_D_AND_R, listed] {
-        let plan = planned(&rt, alloc, text);
+        let plan = plan_of(&rt, alloc, text);
         for seed in 0..INPUTS {
             let input = made_up_input(alloc, seed).expect(&rt, "memory");
             let input = input.as_bytes();
@@ -103,7 +103,7 @@ fn rolled_like_reference(rt: HostRuntime) {
 /// is as it was.
 #[test]
 fn refusal_of_roll(rt: HostRuntime) {
-    if let Some(plan) = planned_or_refused(&rt, rt.alloc(), BY_D) {
+    if let Some(plan) = plan_or_refused(&rt, rt.alloc(), BY_D) {
         if let Ok(partial) = Partial::fold_piece(rt.alloc(), &plan, 0, FOUR) {
             if let Ok(groups) = partial.roll(&plan, &[]) {
                 let [group] = groups.as_slice() else {

@@ -10,7 +10,7 @@ use values::{Record, Schema, Truth, Value};
 const COLUMNS: &str = "d:text,r:text,q:int";
 
 /// The plan of a query under the columns, whose text is a schema: it is refused for want of memory alone.
-fn planned(alloc: Global, text: &str) -> Result<Plan, QueryFault> {
+fn plan_of(alloc: Global, text: &str) -> Result<Plan, QueryFault> {
     let query = parse(alloc, text)?;
     match Schema::parse(alloc, COLUMNS) {
         Ok(schema) => check(alloc, query, schema),
@@ -23,7 +23,7 @@ fn planned(alloc: Global, text: &str) -> Result<Plan, QueryFault> {
 
 /// The header of the first item and the text of the first set of a query.
 fn first_texts(alloc: Global, text: &str) -> Result<(String, String), QueryFault> {
-    let plan = planned(alloc, text)?;
+    let plan = plan_of(alloc, text)?;
     if plan.query().tree().items.is_empty() || plan.sets().is_empty() {
         return Ok((String::new(alloc), String::new(alloc)));
     }
@@ -89,7 +89,7 @@ fn assert_places(rt: &impl Abort, plan: &Plan) {
 #[test]
 fn keeps_functions_and_places(rt: HostRuntime) {
     let text = "SELECT r, COUNT(*), SUM(q) AS s, SUM(q) AS t FROM lines GROUP BY r, d, r";
-    let plan = planned(rt.alloc(), text).expect(&rt, "a plan");
+    let plan = plan_of(rt.alloc(), text).expect(&rt, "a plan");
     assert_functions(&rt, &plan);
     assert_places(&rt, &plan);
 }
@@ -121,7 +121,7 @@ fn truths_of(alloc: Global, plan: &Plan, record: &Record) -> Result<Vec<Truth>, 
 }
 
 /// What the filters of a plan are for a record without texts and with this number.
-fn marked(alloc: Global, plan: &Plan, number: i128) -> Result<FiltersFound, AllocError> {
+fn find_filters(alloc: Global, plan: &Plan, number: i128) -> Result<FiltersFound, AllocError> {
     let record = Record::new(vec![in alloc; Value::Null, Value::Null, Value::Int(number)]?);
     let mut marks = vec![in alloc; true, true]?;
     if plan.schema().fits(&record) {
@@ -135,15 +135,15 @@ fn marked(alloc: Global, plan: &Plan, number: i128) -> Result<FiltersFound, Allo
 }
 
 /// What the filters of a query are for a record without texts and with this number.
-fn marked_by(alloc: Global, text: &str, number: i128) -> Result<FiltersFound, QueryFault> {
-    let plan = planned(alloc, text)?;
-    let found = marked(alloc, &plan, number);
+fn find_filters_of(alloc: Global, text: &str, number: i128) -> Result<FiltersFound, QueryFault> {
+    let plan = plan_of(alloc, text)?;
+    let found = find_filters(alloc, &plan, number);
     drop(plan);
     Ok(found?)
 }
 
 /// Asserts what the three filters, and those of the five set functions, are for a record with the number 2.
-fn assert_marked(rt: &impl Abort, found: &FiltersFound) {
+fn assert_filters(rt: &impl Abort, found: &FiltersFound) {
     assert_eq!(rt; found.texts.len(), 3);
     assert_eq!(rt; found.texts[0].as_str(), "q > 1");
     assert_eq!(rt; found.texts[1].as_str(), "q > 2");
@@ -162,8 +162,8 @@ fn assert_marked(rt: &impl Abort, found: &FiltersFound) {
 /// Where memory is refused the answer is want of memory, else the filters and what they are for a record.
 #[test]
 fn refusal_of_filters(rt: HostRuntime) {
-    match marked_by(rt.alloc(), FILTERED, 2) {
-        Ok(found) => assert_marked(&rt, &found),
+    match find_filters_of(rt.alloc(), FILTERED, 2) {
+        Ok(found) => assert_filters(&rt, &found),
         Err(fault) => assert!(rt; is_out_of_memory(&fault), "{fault:?}"),
     }
 }

@@ -79,6 +79,6 @@ fn keeps_the_tree(rt: HostRuntime) {
 fn is_name(expression: &Expression, wanted: &str) -> bool {
     match expression {
         Expression::Name(name) => name.as_str() == wanted,
-        _ => false,
+        Expression::Grouping(_) | Expression::Function(_) => false,
     }
 }

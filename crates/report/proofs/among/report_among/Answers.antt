@@ -32,9 +32,9 @@ returns g c =
     let rows = map (λ (r : Bor (ℕ × Group)). cells_at c.as_slice.result.now (row_of r.now)) c.as_slice-2.result.now in
     let is = groups-shown c.args.plan.now c.in_ok-view.view (map row_of c.rows.result.now) c.in_ok-shown.shown.items c.as_slice-2.result.now c.in_ok-sources.sources.items c.as_slice.result.now
     c.in_ok-view.ensures c.as_slice-2.ensures.value c.as_slice.ensures.value c.in_ok-shown.ensures.shown c.in_ok-shown.ensures.sets c.in_ok-sources.ensures in
-    joined-whole c.joined.result c.joined.ensures.made c.joined.ensures.items (λ whole made bytes.
-    report-joined items (text_written (λ v. Some v.items) c.in_ok-begun.field-0) c.in_ok-text.text.items whole.items (flat_map items_of c.in_ok-texts.texts.items) rows
-    c.in_ok-begun.ensures.text c.in_ok-text.ensures bytes
+    joined-whole c.join_parts.result c.join_parts.ensures.made c.join_parts.ensures.items (λ whole made bytes.
+    report-joined items (text_written (λ v. Some v.items) c.in_ok-writer_with_headers.field-0) c.in_ok-text.text.items whole.items (flat_map items_of c.in_ok-texts.texts.items) rows
+    c.in_ok-writer_with_headers.ensures.text c.in_ok-text.ensures bytes
     (texts-joined c.part_len-size.result rows c.in_ok-texts.texts.items c.in_ok-texts.ensures made)
     ∙ ap (λ (all : List (List Summary)). report_bytes items all) is
     ∙ ap (λ (found : List Found). report_bytes items (rows_shown c.args.plan.now.fields c.args.plan.now.query found)) c.rows.ensures.rows)

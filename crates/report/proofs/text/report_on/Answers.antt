@@ -30,5 +30,5 @@ returns c =
     let rows = map (λ (r : Bor (ℕ × Group)). cells_at c.as_slice.result.now (row_of r.now)) c.as_slice-2.result.now in
     let is = groups-shown c.args.plan.now c.in_ok-view.view (map row_of c.rows.result.now) c.in_ok-shown.shown.items c.as_slice-2.result.now c.in_ok-sources.sources.items c.as_slice.result.now
     c.in_ok-view.ensures c.as_slice-2.ensures.value c.as_slice.ensures.value c.in_ok-shown.ensures.shown c.in_ok-shown.ensures.sets c.in_ok-sources.ensures in
-    IfOk-weaker c.ended.result _ _ (λ text e. report-written items (text_written (λ v. Some v.items) c.in_ok-writer.writer) (text_written (λ v. Some v.items) c.put_groups.new.writer) text.items rows c.in_ok-writer.ensures.text c.in_ok-put_groups.ensures.appends e ∙ ap (λ (all : List (List Summary)). report_bytes items all) is
-    ∙ ap (λ (found : List Found). report_bytes items (rows_shown c.args.plan.now.fields c.args.plan.now.query found)) c.rows.ensures.rows) c.ended.ensures
+    IfOk-weaker c.text_of.result _ _ (λ text e. report-written items (text_written (λ v. Some v.items) c.in_ok-writer.writer) (text_written (λ v. Some v.items) c.put_groups.new.writer) text.items rows c.in_ok-writer.ensures.text c.in_ok-put_groups.ensures.appends e ∙ ap (λ (all : List (List Summary)). report_bytes items all) is
+    ∙ ap (λ (found : List Found). report_bytes items (rows_shown c.args.plan.now.fields c.args.plan.now.query found)) c.rows.ensures.rows) c.text_of.ensures

@@ -1,4 +1,4 @@
-use Rattle.test_libraries.proofs.tests.reports.written.Goals as goal
+use Rattle.test_libraries.proofs.tests.reports.write_texts.Goals as goal
 
 pub arrange-requires : goal.arrange-requires
 arrange-requires g c = c.in_ok-groups.ensures.fit

@@ -1,7 +1,7 @@
 use Rattle.std.proofs.Common.{◌++◌}
 use Rattle.std.proofs.lemmas.Result.{IfOk-weaker}
 use Rattle.tables.specs.Partials.{whole_piece}
-use Rattle.test_partials.proofs.tests.following.followed_by_hands.Goals as goal
+use Rattle.test_partials.proofs.tests.following.follow_by_hands.Goals as goal
 
 pub returns-in-Ok : goal.returns-in-Ok
 returns-in-Ok g c =

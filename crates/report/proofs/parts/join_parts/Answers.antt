@@ -3,7 +3,7 @@ use Rattle.std.proofs.lemmas.List.{append-nil, nil_from_length}
 use Rattle.std.specs.List.{flat_map}
 use Rattle.std.specs.declared.result.Result.TheVariants.{Ok}
 use Rattle.report_rows.specs.Parts.{AreMade, items_of}
-use Rattle.report.proofs.parts.joined.Goals as goal
+use Rattle.report.proofs.parts.join_parts.Goals as goal
 
 pub loop-part-preserved : goal.loop-part-preserved
 loop-part-preserved g c =
