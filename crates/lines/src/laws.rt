@@ -3,7 +3,7 @@ ghost use Rattle.std.specs.Prelude.{◌≡◌, ◌++◌, ℕ, List, length, map,
 ghost use Rattle.semantics.specs.Columns.{Field};
 ghost use Rattle.semantics.specs.Records.{valid_records, refused_lines};
 ghost use Rattle.semantics.specs.Lines.{lines};
-ghost use Rattle.lines.specs.Numbering.{refused_behind};
+ghost use Rattle.lines.specs.Numbering.{refused_from};
 ghost use Rattle.lines.specs.Pieces.{AreWholeLines};
 ghost use Rattle.lines.specs.Clip.{parts, clip_lines, clipped_len};
 
@@ -32,5 +32,5 @@ pub fn front_law()
         ≡ valid_records fields front ++ valid_records fields rest }
     ensures refused { (fields : List Field) (front rest : List ℕ) → AreWholeLines front
         → refused_lines fields (front ++ rest) ≡ refused_lines fields front
-        ++ refused_behind (length (lines front)) (refused_lines fields rest) }
+        ++ refused_from (length (lines front)) (refused_lines fields rest) }
 {}
