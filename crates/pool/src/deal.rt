@@ -406,7 +406,8 @@ impl StealHandle {
             × (worker_flavor worker.new ≡ worker_flavor worker.old) }
         ensures looked { Looked (worker_view worker.old) (worker_view worker.new) }
         ensures within { AccountFor (worker_view worker.old) (λ x. times x self.old.list
-            + (times_in_lists x (lists_from (place - 1) others.old) + times_in_lists x (lists_from (length more.old) more.old))) }
+            + (times_in_lists x (lists_from (place - 1) others.old)
+            + times_in_lists x (lists_from (length more.old) more.old))) }
     {
         let closed = self.closed;
         let blank = worker.another::<Seal>();
@@ -432,7 +433,8 @@ fn compare(worker: &mut Deque, hands: &mut [Hand], more: &mut [Hand], place: usi
         × (worker_flavor worker.new ≡ worker_flavor worker.old) }
     ensures looked { Looked (worker_view worker.old) (worker_view worker.new) }
     ensures within { AccountFor (worker_view worker.old)
-        (λ x. times_in_lists x (lists_from place hands.old) + times_in_lists x (lists_from (length more.old) more.old)) }
+        (λ x. times_in_lists x (lists_from place hands.old)
+        + times_in_lists x (lists_from (length more.old) more.old)) }
 {
     if let Some((hand, rest)) = hands.split_first_mut() {
         let handle = &mut hand.others[place - 1];

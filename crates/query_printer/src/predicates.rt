@@ -152,7 +152,8 @@ fn push_parts(
     parts: &[Predicate],
 ) -> Result<(), AllocError>
     ensures { OnOk result (string_bytes out.new ≡ string_bytes out.old
-        ++ separated_texts keyword.now (part_texts least (predicate_forms (map predicate_form parts.now)))) }
+        ++ separated_texts keyword.now
+        (part_texts least (predicate_forms (map predicate_form parts.now)))) }
 {
     let [first, others @ ..] = parts else {
         return Ok(());
