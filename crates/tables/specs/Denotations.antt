@@ -14,7 +14,7 @@ use Rattle.tables_groups.specs.Bags.{weigh}
 use Rattle.semantics.specs.Aggregates.{AggregateFunction}
 use Rattle.semantics.specs.Groups.{Key, keys, members, same_key, Row}
 use Rattle.tables_groups.specs.Inside.Group.{GroupState, group_state}
-use Rattle.tables_groups.specs.Inside.Table.{join_options}
+use Rattle.tables_groups.specs.Inside.Table.{joint_option}
 use Rattle.pool.specs.Totals.{sum_below, total}
 use Rattle.semantics.specs.Found.{aggregate_functions}
 use Rattle.tables.specs.Functions.{filter_texts}
@@ -64,7 +64,7 @@ both a b = record {
   sets = a.sets;
   functions = a.functions;
   filters = a.filters;
-  table = λ key. join_options (a.table key) (b.table key);
+  table = λ key. joint_option (a.table key) (b.table key);
   lines = a.lines + b.lines;
   refused = a.refused + b.refused;
   notes = λ weight. a.notes weight + b.notes weight;
