@@ -133,7 +133,7 @@ fn follow(
 }
 
 /// The same, where so many hands put the tables together.
-pub fn followed_by_hands<H: Abort + Threads + Sync>(
+pub fn follow_by_hands<H: Abort + Threads + Sync>(
     rt: &H,
     alloc: Global,
     plan: &Plan,
