@@ -66,7 +66,7 @@ struct Texts {
 }
 
 /// What is written of the lines: the report, and the list if all columns that it is to name are in the schema.
-fn written<H: Threads + Sync>(rt: &H, alloc: Global, plan: &Plan) -> Result<Texts, AllocError> {
+fn write_texts<H: Threads + Sync>(rt: &H, alloc: Global, plan: &Plan) -> Result<Texts, AllocError> {
     let partial = Partial::fold_piece(alloc, plan, 0, LINES)?;
     let groups = partial.finish(plan)?;
     let report = report_on(alloc, &groups, plan)?;
