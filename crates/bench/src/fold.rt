@@ -9,7 +9,7 @@ ghost use Rattle.std.specs.Prelude.{◌≤◌, ◌<◌, ◌^◌, IfSome, length}
 ghost use Rattle.tables.specs.Planned.{IsPartialUnder};
 
 use crate::hands_of;
-use lines::cut_into_pieces;
+use lines::cut;
 use pool::{Outcome, fan_out};
 use query::{Plan, check, parse};
 use std::alloc::Global;
@@ -52,7 +52,7 @@ fn result_of<R: Threads + Wait + Sync>(
     requires hands { (1 ≤ hands) × (hands ≤ 64) }
     ensures of_plan { IfSome result (IsPartialUnder plan.now) }
 {
-    let Ok(pieces) = cut_into_pieces(alloc, input, PIECE) else {
+    let Ok(pieces) = cut(alloc, input, PIECE) else {
         return None;
     };
     if pieces.len() > MAX_PIECES {

@@ -4,7 +4,7 @@ ghost use Rattle.semantics.specs.Lines.{lines};
 ghost use Rattle.tables.specs.Pieces.{IsCutInto, all_lines};
 ghost use Rattle.tables.specs.Denotations.{indexed_pieces};
 
-use lines::{Piece, cut_into_pieces};
+use lines::{Piece, cut};
 use std::alloc::{AllocError, Global};
 
 /// The most pieces that an input is cut into.
@@ -24,5 +24,5 @@ pub(crate) fn pieces_of(alloc: Global, input: &[u8], piece: usize) -> Result<Vec
     ensures lines { IfOk result (λ pieces.
         all_lines (indexed_pieces input.now pieces.items) ≡ lines input.now) }
 {
-    cut_into_pieces(alloc, input, piece.max(input.len() / MAX_PIECES + 1))
+    cut(alloc, input, piece.max(input.len() / MAX_PIECES + 1))
 }

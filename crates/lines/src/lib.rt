@@ -14,7 +14,7 @@ mod splitting;
 mod tokens;
 mod tree;
 
-pub use cutting::cut_into_pieces;
+pub use cutting::cut;
 pub use fault::ReadFault;
 pub use laws::{clip_law, front_law};
 pub use pieces::Piece;

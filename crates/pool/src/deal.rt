@@ -316,7 +316,7 @@ fn are_all_spent(hands: &[Hand]) -> bool
 /// whatever it answers, no piece is in two hands. It takes no memory, and leaves the hands as they were. It asks for all hands of one deal, from hand 0 on.
 ///
 /// Example: of a new deal it answers `false`; of one without a piece it answers `true` once each hand was asked.
-pub fn are_settled(hands: &mut [Hand]) -> bool
+pub fn settled(hands: &mut [Hand]) -> bool
     requires deal { AreAll hands.old }
     ensures same { hands.new ≡ hands.old }
     ensures answer { IsTrue result ↔ AllSpent hands.old }

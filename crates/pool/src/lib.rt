@@ -29,7 +29,7 @@ mod view;
 mod worker;
 
 pub use book::{Book, Share};
-pub use deal::{Hand, Next, are_settled};
+pub use deal::{Hand, Next, settled};
 pub use dealing::{Deal, dealing_law};
 pub use laws::{Outcome, PoolFault, Work};
 pub use single::alone;

@@ -36,9 +36,9 @@ impl<'a> Job<'a> {
     /// memory; the results take theirs from `alloc`.
     ///
     /// The input has fewer than 2^63 bytes. No piece starts behind its stop, and none stops behind the end of the
-    /// input; so it is with the pieces that `cut_into_pieces` gives.
+    /// input; so it is with the pieces that `cut` gives.
     ///
-    /// Example: where `pieces` are those of `cut_into_pieces(alloc, input, 1_048_576)?`,
+    /// Example: where `pieces` are those of `cut(alloc, input, 1_048_576)?`,
     /// `Job::new(alloc, &plan, input, pieces.as_slice())` is the job over the whole input.
     pub fn new(alloc: Global, plan: &'a Plan, input: &'a [u8], pieces: &'a [Piece]) -> Job<'a>
         requires short { length input.now < 2 ^ 63 }

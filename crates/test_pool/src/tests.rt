@@ -4,8 +4,8 @@ ghost use Rattle.pool.specs.Reduction.{load_below};
 ghost use Rattle.pool.specs.Settled.{AreAll};
 
 use pool::{
-    Book, Deal, Hand, Next, Outcome, PoolFault, Share, Work, alone, are_settled, fan_deal_onto,
-    fan_on, fan_out,
+    Book, Deal, Hand, Next, Outcome, PoolFault, Share, Work, alone, fan_deal_onto, fan_on, fan_out,
+    settled,
 };
 use std::alloc::{AllocError, Global};
 use std::marker::{Brand, Send, Sync};
@@ -260,11 +260,7 @@ fn on_deal<L: Ledger + Send + Sync, W: Work + Sync, R: Threads + Wait + Sync>(
         stop,
         shares,
     )?;
-    Ok((
-        outcome,
-        are_settled(hands.as_mut_slice()),
-        book.close(shares),
-    ))
+    Ok((outcome, settled(hands.as_mut_slice()), book.close(shares)))
 }
 
 /// Whether four pieces, which together weigh this much, are decided rightly.
@@ -468,7 +464,7 @@ fn is_spent_late(hands: &mut Vec<Hand>, k: usize) -> bool
     ensures deal { AreAll hands.new.items }
     ensures count { vec_len hands.new ≡ vec_len hands.old }
 {
-    let late = !are_settled(hands.as_mut_slice());
+    let late = !settled(hands.as_mut_slice());
     let hand = &mut hands[k];
     hand.next() == Next::Spent && late
 }
@@ -479,7 +475,7 @@ fn nothing_to_deal(rt: HostRuntime) -> Result<(), Fail> {
     assert!(rt; is_spent_late(&mut hands, 0));
     assert!(rt; is_spent_late(&mut hands, 1));
     assert!(rt; is_spent_late(&mut hands, 2));
-    assert!(rt; are_settled(hands.as_mut_slice()));
+    assert!(rt; settled(hands.as_mut_slice()));
     Ok(())
 }
 

@@ -1,8 +1,7 @@
 //! Pieces, lines and records, to the byte: each call over a table.
 
 use lines::{
-    LineFault, LineRefusal, Piece, RecordReader, cut_into_pieces, lines_of, read_by_tree,
-    read_record,
+    LineFault, LineRefusal, Piece, RecordReader, cut, lines_of, read_by_tree, read_record,
 };
 use std::alloc::Global;
 use std::process::Abort;
@@ -134,7 +133,7 @@ fn cuts_of_bytes(rt: HostRuntime) -> Result<(), Fail> {
     ];
     for (input, target, stops) in rows {
         assert!(rt; target >= 1);
-        let pieces = cut_into_pieces(rt.alloc(), input, target)?;
+        let pieces = cut(rt.alloc(), input, target)?;
         assert_eq!(rt; pieces.len(), stops.len());
         let mut start = 0;
         for (piece, stop) in pieces.iter().zip(stops) {
@@ -227,7 +226,7 @@ fn long_lines(rt: HostRuntime) -> Result<(), Fail> {
 /// For the loop that refuses each allocation in turn: all pieces, or want of memory.
 #[test]
 fn refusal_of_cut(rt: HostRuntime) {
-    match cut_into_pieces(rt.alloc(), FOUR_LINES, 1) {
+    match cut(rt.alloc(), FOUR_LINES, 1) {
         Ok(pieces) => assert_eq!(rt; pieces.len(), 4),
         Err(_) => {}
     }

@@ -4,7 +4,7 @@ ghost use Rattle.std.proofs.Props.{props};
 ghost use Rattle.tables.specs.Partials.{IsPartialOf};
 
 use super::reference::{Findings, Row, cell_of, findings_of};
-use lines::{LineFault, Piece, cut_into_pieces};
+use lines::{LineFault, Piece, cut};
 use query::{ColumnFunction, Plan, Query, QueryFault, check, parse};
 use std::alloc::{AllocError, Global};
 use std::marker::Sync;
@@ -211,7 +211,7 @@ fn assert_found(rt: &impl Abort, alloc: Global, plan: &Plan, input: &[u8], wante
         Parting::BeforeTheLast,
     ];
     for target in [1, 7, 1_000_000] {
-        let pieces = cut_into_pieces(alloc, input, target).expect(rt, "memory");
+        let pieces = cut(alloc, input, target).expect(rt, "memory");
         for parting in partings {
             let partial = merge_pieces(rt, alloc, plan, input, pieces.as_slice(), 0, parting);
             assert_eq!(rt; partial.lines(), wanted.lines);

@@ -28,5 +28,5 @@ fan_on-requires-clause-room g c κs within = λ i s at.
     let l = c.requires.loads in
     subst (λ k. load_below (g.W.Work.reduction c.args.work.now) k + s.sum < 2 ^ 63) (sym p) (omega (arith, z, l))
 
-pub are_settled-requires : goal.are_settled-requires
-are_settled-requires g c = record { deal = subst AreAll (sym c.as_mut_slice.ensures.value) c.in_ok-outcome.ensures.deal.0 }
+pub settled-requires : goal.settled-requires
+settled-requires g c = record { deal = subst AreAll (sym c.as_mut_slice.ensures.value) c.in_ok-outcome.ensures.deal.0 }
