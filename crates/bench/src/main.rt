@@ -3,7 +3,7 @@
 //!
 //! - `fold COLUMNS QUERY FILE HANDS` times the work of threads over a file that is held whole,
 //! - `deal WAY HANDS` times the dealing of pieces,
-//! - `compare COLUMNS FILE` holds the two ways to read a line to one another,
+//! - `compare COLUMNS FILE` holds the three ways to read a line to one another,
 //! - `floor FILE..` reads each line as JSON, and drops it.
 //!
 //! HANDS are 1 to 64, and 1 where the word is no number. Where the first word is another one, or a word is missing, it

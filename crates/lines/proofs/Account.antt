@@ -1,7 +1,10 @@
 -- What is read in several reads.
-use Rattle.std.proofs.Common.{◌≡◌, ◌≤◌, ◌+◌, ℕ, List, [], ◌++◌, length, take, drop, Option, None, Some, sym, arith, length-append, length-take, length-drop}
+use Rattle.std.proofs.Common.{◌≡◌, ◌≤◌, ◌+◌, ℕ, List, [], ◌++◌, length, take, drop, Option, None, Some, Result, Ok, IsErr, sym, ◌∙◌, arith, length-append, length-take, length-drop}
 use Rattle.std.proofs.KnownBytes.{Consumes-nil, Consumes-trans}
 use Rattle.std.specs.Io.KnownBytes.{Consumes, Keeps}
+use Rattle.lines.specs.declared.fault.ReadFault.{ReadFault}
+use Rattle.lines.specs.declared.input.Input.{Input}
+use Rattle.lines.specs.Input.{HasAccount}
 use Rattle.lines.specs.Rounds.{HasRead}
 
 -- nothing is read
@@ -28,4 +31,13 @@ HasRead-trans a b c k m n p q = record {
   bytes = p.bytes ++ q.bytes;
   lost = Consumes-trans a b c p.bytes q.bytes p.lost q.lost;
   count = omega (arith, p.count, q.count, length-append p.bytes q.bytes);
+}
+
+-- a call behind one that succeeded
+pub HasAccount-trans : {R T U V : Type 0} (remaining : R → Option (List ℕ)) (a b c : Input R) (x : T) (y : Result U ReadFault) (z : Result V ReadFault) → (IsErr z → IsErr y)
+    → HasAccount remaining a (Ok x) b → HasAccount remaining b y c → HasAccount remaining a z c
+HasAccount-trans remaining a b c x y z failed p q = record {
+  size = q.size ∙ p.size;
+  read = HasRead-trans (remaining a.source.reader) (remaining b.source.reader) (remaining c.source.reader) a.source.taken b.source.taken c.source.taken p.read q.read;
+  cause = λ h. q.cause (failed h);
 }

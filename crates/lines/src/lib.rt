@@ -2,24 +2,30 @@
 //! read as records.
 #![tactic(auto)]
 
+mod bytes;
+mod columns;
 mod cutting;
+mod demand;
 mod fault;
+mod input;
 mod laws;
 mod line_buffer;
 mod pieces;
 mod reading;
 mod rounds;
 mod source;
+mod spare;
 mod splitting;
 mod tokens;
 mod tree;
 
 pub use cutting::cut;
+pub use demand::Demand;
 pub use fault::ReadFault;
 pub use laws::{clip_law, front_law};
 pub use pieces::Piece;
 pub use reading::{RecordReader, read_record};
-pub use rounds::{Demand, Round, Rounds};
+pub use rounds::{Round, Rounds};
 pub use semantics::{LineFault, LineRefusal};
 pub use splitting::{Lines, lines_of};
 pub use tree::read_by_tree;

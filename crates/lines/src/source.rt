@@ -1,6 +1,6 @@
 //! A reader, and the account of what it answered.
-ghost use Rattle.std.specs.Prelude.{◌≡◌, ◌+◌, ◌<◌, ◌≤◌, ◌^◌, false, IsErr, IfOk, OnOk, length, take, drop};
-ghost use Rattle.std.specs.Io.KnownBytes.{Consumes, IsAtEnd};
+ghost use Rattle.std.specs.Prelude.{◌≡◌, ◌<◌, ◌^◌, false, IsErr, IfOk, length, take};
+ghost use Rattle.lines.specs.Input.{HasGot};
 ghost use Rattle.lines.specs.Rounds.{HasCause, HasRead};
 
 use crate::fault::ReadFault;
@@ -42,12 +42,8 @@ impl<R: Read + Drop> Source<R> {
         requires limit { self.old.taken < 2 ^ 63 }
         ensures length { length buffer.new ≡ length buffer.old }
         ensures front { take at buffer.new ≡ take at buffer.old }
-        ensures fits { IfOk result (λ n. at + n ≤ length buffer.new) }
-        ensures bytes { IfOk result (λ n. Consumes (R.remaining self.old.reader)
-            (R.remaining self.new.reader) (take n (drop at buffer.new))) }
-        ensures end { IfOk result (λ n. n ≡ 0 → IsAtEnd (R.remaining self.new.reader)) }
-        ensures taken { IfOk result (λ n. self.new.taken ≡ self.old.taken + n) }
-        ensures below { OnOk result (self.new.taken < 2 ^ 63) }
+        ensures got { IfOk result (λ count.
+            HasGot R.remaining self.old count self.new buffer.new at) }
         ensures read { HasRead (R.remaining self.old.reader) (R.remaining self.new.reader)
             self.old.taken self.new.taken }
         ensures cause { IsErr result → HasCause self.new.erred self.new.taken }

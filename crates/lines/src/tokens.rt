@@ -2,13 +2,11 @@
 ghost use Rattle.std.specs.Prelude.{◌≡◌, ◌≤◌, Ok, IfSome, length};
 ghost use Rattle.semantics.specs.Records.{Fits, max_line_len, decode_line};
 
-mod numerals;
 mod skipping;
-mod spare;
 mod taking;
 
+use crate::spare::Spare;
 use json::{Reader, Scratch, Token};
-pub(crate) use spare::Spare;
 use taking::take_members;
 use values::{Record, Schema};
 

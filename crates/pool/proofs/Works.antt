@@ -5,7 +5,7 @@ use Rattle.std.proofs.lemmas.Bool.{cases_eq, cases_lt}
 use mathlib.Core.Option.{some, some-injective, some-ne-none}
 use lib.ListN.{get_elem?}
 use Rattle.pool.specs.Reduction.{Reduction}
-use Rattle.pool.specs.Dealing.{dealt, times}
+use Rattle.pool.specs.Dealing.{residue_class, times}
 use Rattle.pool.specs.Inside.Totals.{reduction_from}
 use Rattle.pool.specs.Totals.{sum_below, sum_list, once_below}
 use Rattle.pool.specs.Lawful.{Lawful}
@@ -36,7 +36,7 @@ round_within number hands pieces z r [] round fits = (omega arith, λ _. refl)
 round_within number hands pieces z r (s ∷ ss) round fits =
     let rest = round_within number hands pieces z (r + 1) ss round.3 (omega arith) in
     let both = times-append z s.list (lists_of ss) in
-    let most : times z s.list ≤ times z (dealt hands ((number + r) % hands) pieces) = subst (λ l. times z s.list ≤ times z l) round.1 (round.2.0 z) in
+    let most : times z s.list ≤ times z (residue_class hands ((number + r) % hands) pieces) = subst (λ l. times z s.list ≤ times z l) round.1 (round.2.0 z) in
     let its = dealt_times hands ((number + r) % hands) pieces z in (
       ⊎_elim (λ (e : z % hands ≡ (number + r) % hands).
           let none = rest.1 (λ j low high same. mod_apart (number + r) (let d : ℕ = j - r in d) hands (omega arith) (omega arith) (ap (λ n. n % hands) (let s : number + r + (j - r) ≡ number + j = omega arith in s) ∙ same ∙ e)) in
@@ -52,7 +52,7 @@ mod_small a k h = rw add-zero (mod-eq_of_lt h)
 
 pub holding_within : (h : Holding) (z : ℕ) → IsHolding h → times z (numbers_of h) ≤ once_below z h.pieces
 holding_within h z is =
-    let s : h.own.seen.numbers ≡ dealt h.hands ((h.number + 0) % h.hands) h.pieces = is.2 ∙ ap (λ n. dealt h.hands n h.pieces) (sym (mod_small h.number h.hands is.0)) in
+    let s : h.own.seen.numbers ≡ residue_class h.hands ((h.number + 0) % h.hands) h.pieces = is.2 ∙ ap (λ n. residue_class h.hands n h.pieces) (sym (mod_small h.number h.hands is.0)) in
     (round_within h.number h.hands h.pieces z 0 (h.own.seen ∷ h.others) (is.1, s, is.5, is.4) (omega (arith, is.3))).0
 
 -- x joined the list

@@ -166,7 +166,13 @@ fn make_hands(
         let Some(round) = rest.next() else {
             unreachable!();
         };
-        let hand = first_hand(made.len(), hands, pieces, source.own(), round.into_seats());
+        let hand = first_hand(
+            made.len(),
+            hands,
+            pieces,
+            source.into_local(),
+            round.into_seats(),
+        );
         put_last(&mut made, hand)?;
     }
     Ok(made)

@@ -1,6 +1,6 @@
 //! A deque that is filled, and then gives out its seats.
 ghost use Rattle.std.specs.Prelude.{◌≡◌, ℕ, ◌+◌, ◌-◌, ◌<◌, ◌≤◌, ◌^◌, true, false, [], ◌∷◌, ◌++◌, IfOk, OnOk};
-ghost use Rattle.pool.specs.Dealing.{dealt};
+ghost use Rattle.pool.specs.Dealing.{residue_class};
 ghost use Rattle.pool.specs.Seen.{Seen, Owned};
 ghost use Rattle.pool.specs.Inside.Views.{Offer, next_seat, offer_with, owned_first};
 
@@ -119,7 +119,7 @@ impl Source {
     }
 
     /// The owner's own end, once each other hand has its seat.
-    pub fn own(self) -> LocalQueue
+    pub fn into_local(self) -> LocalQueue
         requires { self.made ≡ self.hands }
         ensures { result ≡ owned_first self }
     {

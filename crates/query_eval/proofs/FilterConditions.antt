@@ -8,7 +8,8 @@ use Rattle.semantics.specs.Columns.{Field}
 use Rattle.semantics.specs.Syntax.{PredicateForm}
 use Rattle.query_eval.specs.declared.condition.Condition.{Condition}
 use Rattle.query_eval.specs.Meaning.{condition_truth, is_safe}
-use Rattle.query_eval.specs.Binding.{AreConditionsOf, GivesPredicate, IsConditionOf, IsSafeWhereTyped}
+use Rattle.query_eval.specs.Binding.{AreConditionsOf, GivesPredicate, IsConditionOf, IsSafeWhereTyped, record_scope}
+use Rattle.query_eval.proofs.Safety.{record-values}
 
 first_holds : (a b : Bool) → (a && b) ≡ true → a ≡ true
 first_holds true b h = refl
@@ -19,8 +20,8 @@ second_holds true b h = h
 second_holds false b h = absurd cc
 
 -- A condition that is worth what a predicate is, and can be evaluated where that is typed, is its condition.
-pub filter_condition : (fields : List Field) (p : PredicateForm) (c : Condition) → GivesPredicate fields p c → IsSafeWhereTyped fields p c → IsConditionOf fields (Some p) (Some c)
-filter_condition fields p c gives safe = record { worth = λ values. gives values; safe = λ grouped typed. safe grouped typed }
+pub filter_condition : (fields : List Field) (p : PredicateForm) (c : Condition) → GivesPredicate (record_scope fields) p c → IsSafeWhereTyped (record_scope fields) p c → IsConditionOf fields (Some p) (Some c)
+filter_condition fields p c gives safe = record { worth = λ values. gives values; safe = λ grouped typed values fits. safe grouped typed values (record-values fields values fits) }
 
 -- One filter more, and its condition.
 pub conditions_push : (fields : List Field) (ps : List PredicateForm) (cs : List Condition) (p : PredicateForm) (c : Condition) → AreConditionsOf fields ps cs → IsConditionOf fields (Some p) (Some c) → AreConditionsOf fields (ps ++ p ∷ []) (cs ++ c ∷ [])

@@ -5,37 +5,35 @@ use Rattle.std.proofs.lemmas.List.Folds.{list_all-append}
 use Rattle.std.specs.List.{list_all}
 use Rattle.semantics.specs.declared.truth.Truth.{Truth}
 use Rattle.semantics.specs.Values.{Datum}
-use Rattle.semantics.specs.Columns.{Field}
 use Rattle.query_ast.specs.declared.expression.Predicate.{Predicate}
 use Rattle.query_ast.specs.Syntax.{predicate_form}
 use Rattle.semantics.specs.Syntax.{predicate_forms}
-use Rattle.query_typecheck.specs.declared.scope.Clause.TheVariants as clause
 use Rattle.query_typecheck.specs.Typing.{AreTypedParts}
 use Rattle.query_eval.specs.declared.condition.Condition.{Condition}
-use Rattle.semantics.specs.Conditions.{truths, record_value}
+use Rattle.semantics.specs.Conditions.{truths}
 use Rattle.query_eval.specs.Meaning.{condition_truth, is_safe}
-use Rattle.query_eval.specs.Binding.{ForEachRecord, GivesPredicate, IsSafeWhereTyped}
+use Rattle.query_eval.specs.Binding.{AreValuesOf, GivesPredicate, IsSafeWhereTyped, ScopeForm}
 
 -- some conditions are made, and with those of the parts that are left they are those of all parts
-pub record AreBound (fields : List Field) (made : List Condition) (left all : List Predicate) : Type 0 where
+pub record AreBound (scope : ScopeForm) (made : List Condition) (left all : List Predicate) : Type 0 where
   pub worth : (values : List Datum)
-      → map (λ truth. truth values) (map condition_truth made) ++ truths (record_value fields values) (predicate_forms (map predicate_form left))
-      ≡ truths (record_value fields values) (predicate_forms (map predicate_form all))
-  pub safe : (grouped : List ℕ) → AreTypedParts fields grouped clause.Where (predicate_forms (map predicate_form all))
-      → AreTypedParts fields grouped clause.Where (predicate_forms (map predicate_form left))
-      × ForEachRecord fields (λ values. list_all (λ safe. safe values) (map is_safe made) ≡ true)
+      → map (λ truth. truth values) (map condition_truth made) ++ truths (scope.value values) (predicate_forms (map predicate_form left))
+      ≡ truths (scope.value values) (predicate_forms (map predicate_form all))
+  pub safe : (grouped : List ℕ) → AreTypedParts scope.fields grouped scope.clause (predicate_forms (map predicate_form all))
+      → AreTypedParts scope.fields grouped scope.clause (predicate_forms (map predicate_form left))
+      × ((values : List Datum) → AreValuesOf scope values → list_all (λ safe. safe values) (map is_safe made) ≡ true)
 
 both-true : (a b : Bool) → a ≡ true → b ≡ true → (a && (b && true)) ≡ true
 both-true true true e f = refl
 both-true true false e f = absurd cc
 both-true false b e f = absurd cc
 
-more : (fields : List Field) (made : List Condition) (c : Condition) (p : Predicate) (rest all : List Predicate)
-    → GivesPredicate fields (predicate_form p) c → IsSafeWhereTyped fields (predicate_form p) c → AreBound fields made (p ∷ rest) all → AreBound fields (made ++ c ∷ []) rest all
-more fields made c p rest all gives safe b = record {
+more : (scope : ScopeForm) (made : List Condition) (c : Condition) (p : Predicate) (rest all : List Predicate)
+    → GivesPredicate scope (predicate_form p) c → IsSafeWhereTyped scope (predicate_form p) c → AreBound scope made (p ∷ rest) all → AreBound scope (made ++ c ∷ []) rest all
+more scope made c p rest all gives safe b = record {
   worth = λ values.
       let at = λ (truth : List Datum → Truth). truth values in
-      let left = truths (record_value fields values) (predicate_forms (map predicate_form rest)) in
+      let left = truths (scope.value values) (predicate_forms (map predicate_form rest)) in
       ap (λ ts. map at ts ++ left) (map-append condition_truth made (c ∷ []))
       ∙ ap (λ ts. ts ++ left) (map-append at (map condition_truth made) (condition_truth c ∷ []))
       ∙ append_assoc (map at (map condition_truth made)) (condition_truth c values ∷ []) left
@@ -44,18 +42,18 @@ more fields made c p rest all gives safe b = record {
   safe = λ grouped typed.
       let before = b.safe grouped typed in (
         before.0.1,
-        λ values fits.
+        λ values are.
             let at = λ (safe : List Datum → Bool). safe values in
             ap (list_all at) (map-append is_safe made (c ∷ []))
             ∙ list_all-append at (map is_safe made) (is_safe c ∷ [])
-            ∙ both-true _ _ (before.1 values fits) (safe grouped before.0.0 values fits),
+            ∙ both-true _ _ (before.1 values are) (safe grouped before.0.0 values are),
       );
 }
 
 -- one more condition
-pub bound-more : (fields : List Field) (made : List Condition) (c : Condition) (p : Predicate) (all : List Predicate) (i : ℕ) → i < length all → p ≡ get_or all i p
-    → GivesPredicate fields (predicate_form p) c → IsSafeWhereTyped fields (predicate_form p) c
-    → AreBound fields made (drop i all) all → AreBound fields (made ++ c ∷ []) (drop (i + 1) all) all
-bound-more fields made c p all i lt is gives safe b =
-    more fields made c p (drop (i + 1) all) all gives safe
-    (subst (λ (left : List Predicate). AreBound fields made left all) (drop_more all i p lt ∙ ap (λ (q : Predicate). q ∷ drop (i + 1) all) (sym is)) b)
+pub bound-more : (scope : ScopeForm) (made : List Condition) (c : Condition) (p : Predicate) (all : List Predicate) (i : ℕ) → i < length all → p ≡ get_or all i p
+    → GivesPredicate scope (predicate_form p) c → IsSafeWhereTyped scope (predicate_form p) c
+    → AreBound scope made (drop i all) all → AreBound scope (made ++ c ∷ []) (drop (i + 1) all) all
+bound-more scope made c p all i lt is gives safe b =
+    more scope made c p (drop (i + 1) all) all gives safe
+    (subst (λ (left : List Predicate). AreBound scope made left all) (drop_more all i p lt ∙ ap (λ (q : Predicate). q ∷ drop (i + 1) all) (sym is)) b)

@@ -1,4 +1,4 @@
--- Operands that are typed in WHERE have values that are there, and that can be compared where their types agree.
+-- Operands that are typed have values that are there, and that can be compared where their types agree.
 use Rattle.std.proofs.Common.{◌≡◌, ◌∙◌, ◌<◌, ◌⊎◌, inl, inr, ℕ, zero, suc, Bool, true, false, ◌&&◌, Option, Some, None, List, [], ◌∷◌, get_or, map, length, nat_lt, refl, sym, ap, subst, arith}
 use Rattle.std.proofs.lemmas.List.{length-map}
 use Rattle.std.proofs.lemmas.Bool.Decides.{nat_tests}
@@ -16,23 +16,15 @@ use Rattle.semantics.specs.Records.{Fits, Holds}
 use Rattle.semantics.specs.Columns.{Field, names_of}
 use Rattle.semantics.specs.declared.literal.Literal.{Literal}
 use Rattle.semantics.specs.declared.literal.Literal.TheVariants as constant
-use Rattle.semantics.specs.Syntax.{OperandForm, name, grouping, function, over_all, over_filtered, expression, literal}
+use Rattle.semantics.specs.Syntax.{ExpressionForm, OperandForm, name, grouping, function, over_all, over_filtered, expression, literal}
 use Rattle.query_typecheck.specs.declared.scope.Clause.TheVariants as clause
 use Rattle.semantics.specs.Names.{column_kind, kind_at, place_of}
-use Rattle.query_typecheck.specs.Typing.{IsOfOneKind, IsTypedOperand}
-use Rattle.semantics.specs.Types.{literal_kind, operand_kind}
+use Rattle.query_typecheck.specs.Typing.{IsOfOneKind, IsTypedExpression, IsTypedName, IsTypedOperand}
+use Rattle.semantics.specs.Types.{expression_kind, literal_kind, operand_kind}
 use Rattle.semantics.specs.Conditions.{column_value, record_value, literal_value, operand_value}
 use Rattle.query_eval.specs.declared.condition.Source.{Source}
-use Rattle.query_eval.specs.Binding.{GivesColumn, GivesOperand}
-use Rattle.query_eval.specs.Meaning.{comparable, is_truth_value, source_value}
-
--- whether a value is of a type, or NULL
-abbrev pub is_of : Kind → Datum → Bool
-is_of k null = true
-is_of kind.Int (whole n) = true
-is_of kind.Text (text s) = true
-is_of kind.Bool (boolean b) = true
-is_of k d = false
+use Rattle.query_eval.specs.Binding.{AreValuesOf, GivesOperand, ScopeForm, record_scope}
+use Rattle.query_eval.specs.Meaning.{comparable, is_of, is_there, is_truth_value, source_value}
 
 pub comparable-of : (k : Kind) (a b : Datum) → is_of k a ≡ true → is_of k b ≡ true → comparable a b ≡ true
 comparable-of k null b e f = refl
@@ -143,55 +135,75 @@ column-of fields n k values has fits =
     none-has : None ≡ Some k → ⊥
     none-has h = cc
 
--- ---- operands
+-- the value of an expression of WHERE
+expression-of : (fields : List Field) (grouped : List ℕ) (e : ExpressionForm) (k : Kind) (values : List Datum)
+    → IsTypedExpression fields grouped clause.Where e → expression_kind fields e ≡ Some k → Fits fields values → is_of k (record_value fields values e) ≡ true
+expression-of fields grouped (name n) k values typed has fits = column-of fields n k values has fits
+expression-of fields grouped (grouping ns) k values typed has fits = absurd typed
+expression-of fields grouped (function (over_all a)) k values typed has fits = let may = typed.0 in absurd cc
+expression-of fields grouped (function (over_filtered a p)) k values typed has fits = let may = typed.0 in absurd cc
 
-operand-of : (fields : List Field) (grouped : List ℕ) (x : OperandForm) (k : Kind) (values : List Datum)
-    → IsTypedOperand fields grouped clause.Where x → operand_kind fields x ≡ Some k → Fits fields values → is_of k (operand_value (record_value fields values) x) ≡ true
-operand-of fields grouped (expression (name n)) k values typed has fits = column-of fields n k values has fits
-operand-of fields grouped (expression (grouping ns)) k values typed has fits = absurd typed
-operand-of fields grouped (expression (function (over_all a))) k values typed has fits = let may = typed.0 in absurd cc
-operand-of fields grouped (expression (function (over_filtered a p))) k values typed has fits = let may = typed.0 in absurd cc
-operand-of fields grouped (literal a) k values typed has fits = subst (λ l. is_of l (literal_value a) ≡ true) (some-is (literal_kind a) k has) (is_of-literal a)
+-- the values of a record that fits are those of WHERE
+pub record-values : (fields : List Field) (values : List Datum) → Fits fields values → AreValuesOf (record_scope fields) values
+record-values fields values fits = record {
+  count = sym (fits-length fields values fits);
+  kinds = λ grouped e k typed has. expression-of fields grouped e k values typed has fits;
+}
+
+-- ---- operands under a scope
+
+operand-of : (scope : ScopeForm) (grouped : List ℕ) (x : OperandForm) (k : Kind) (values : List Datum)
+    → AreValuesOf scope values → IsTypedOperand scope.fields grouped scope.clause x → operand_kind scope.fields x ≡ Some k → is_of k (operand_value (scope.value values) x) ≡ true
+operand-of scope grouped (expression e) k values are typed has = are.kinds grouped e k typed has
+operand-of scope grouped (literal a) k values are typed has = subst (λ l. is_of l (literal_value a) ≡ true) (some-is (literal_kind a) k has) (is_of-literal a)
   where
     some-is : (x y : Kind) → Some x ≡ Some y → x ≡ y
     some-is x y h = cc
 
 -- the values of two operands of one type can be compared
-pub comparable-typed : (fields : List Field) (grouped : List ℕ) (x y : OperandForm) (values : List Datum)
-    → IsTypedOperand fields grouped clause.Where x → IsTypedOperand fields grouped clause.Where y → IsOfOneKind (operand_kind fields x) (operand_kind fields y) → Fits fields values
-    → comparable (operand_value (record_value fields values) x) (operand_value (record_value fields values) y) ≡ true
-comparable-typed fields grouped x y values xt yt one fits =
-    comparable-of one.0 _ _ (operand-of fields grouped x one.0 values xt one.1 fits) (operand-of fields grouped y one.0 values yt one.2 fits)
+comparable-typed : (scope : ScopeForm) (grouped : List ℕ) (x y : OperandForm) (values : List Datum)
+    → AreValuesOf scope values → IsTypedOperand scope.fields grouped scope.clause x → IsTypedOperand scope.fields grouped scope.clause y
+    → IsOfOneKind (operand_kind scope.fields x) (operand_kind scope.fields y)
+    → comparable (operand_value (scope.value values) x) (operand_value (scope.value values) y) ≡ true
+comparable-typed scope grouped x y values are xt yt one =
+    comparable-of one.0 _ _ (operand-of scope grouped x one.0 values are xt one.1) (operand-of scope grouped y one.0 values are yt one.2)
 
 -- the value of an operand can be compared with those of literals of its type
-pub comparable-literals : (fields : List Field) (grouped : List ℕ) (x : OperandForm) (ls : List Literal) (values : List Datum)
-    → IsTypedOperand fields grouped clause.Where x → All (λ a. IsOfOneKind (operand_kind fields x) (Some (literal_kind a))) ls → Fits fields values
-    → list_all (comparable (operand_value (record_value fields values) x)) (map literal_value ls) ≡ true
-comparable-literals fields grouped x ls values xt same fits = go ls (recursion_from_All (λ a. IsOfOneKind (operand_kind fields x) (Some (literal_kind a))) ls same)
+comparable-literals : (scope : ScopeForm) (grouped : List ℕ) (x : OperandForm) (ls : List Literal) (values : List Datum)
+    → AreValuesOf scope values → IsTypedOperand scope.fields grouped scope.clause x → All (λ a. IsOfOneKind (operand_kind scope.fields x) (Some (literal_kind a))) ls
+    → list_all (comparable (operand_value (scope.value values) x)) (map literal_value ls) ≡ true
+comparable-literals scope grouped x ls values are xt same = go ls (recursion_from_All (λ a. IsOfOneKind (operand_kind scope.fields x) (Some (literal_kind a))) ls same)
   where
-    go : (ls : List Literal) → AllByRecursion (λ a. IsOfOneKind (operand_kind fields x) (Some (literal_kind a))) ls → list_all (comparable (operand_value (record_value fields values) x)) (map literal_value ls) ≡ true
+    go : (ls : List Literal) → AllByRecursion (λ a. IsOfOneKind (operand_kind scope.fields x) (Some (literal_kind a))) ls
+        → list_all (comparable (operand_value (scope.value values) x)) (map literal_value ls) ≡ true
     go [] h = refl
-    go (a ∷ ls) h = both-true _ _ (comparable-typed fields grouped x (literal a) values xt tt h.0 fits) (go ls h.1)
+    go (a ∷ ls) h = both-true _ _ (comparable-typed scope grouped x (literal a) values are xt tt h.0) (go ls h.1)
 
--- ---- sources
+-- ---- their sources
 
-both-at : (fields : List Field) (values : List Datum) (x y : OperandForm) (s t : Source) → GivesOperand fields x s → GivesOperand fields y t
-    → comparable (source_value values s) (source_value values t) ≡ comparable (operand_value (record_value fields values) x) (operand_value (record_value fields values) y)
-both-at fields values x y s t gives other =
-    ap (λ a. comparable a (source_value values t)) (gives values) ∙ ap (comparable (operand_value (record_value fields values) x)) (other values)
+-- the value of a source is there
+pub there : (scope : ScopeForm) (values : List Datum) (x : OperandForm) (s : Source) → GivesOperand scope x s → AreValuesOf scope values → is_there values s ≡ true
+there scope values x s gives are = gives.there values are.count
 
-pub compared : (fields : List Field) (grouped : List ℕ) (values : List Datum) (x y : OperandForm) (s t : Source)
-    → GivesOperand fields x s → GivesOperand fields y t → IsTypedOperand fields grouped clause.Where x → IsTypedOperand fields grouped clause.Where y
-    → IsOfOneKind (operand_kind fields x) (operand_kind fields y) → Fits fields values → comparable (source_value values s) (source_value values t) ≡ true
-compared fields grouped values x y s t gives other xt yt one fits = both-at fields values x y s t gives other ∙ comparable-typed fields grouped x y values xt yt one fits
+-- those of operands of one type can be compared
+pub compared : (scope : ScopeForm) (grouped : List ℕ) (values : List Datum) (x y : OperandForm) (s t : Source)
+    → GivesOperand scope x s → GivesOperand scope y t → AreValuesOf scope values
+    → IsTypedOperand scope.fields grouped scope.clause x → IsTypedOperand scope.fields grouped scope.clause y
+    → IsOfOneKind (operand_kind scope.fields x) (operand_kind scope.fields y) → comparable (source_value values s) (source_value values t) ≡ true
+compared scope grouped values x y s t gives other are xt yt one =
+    ap (λ a. comparable a (source_value values t)) (gives.value values) ∙ ap (comparable (operand_value (scope.value values) x)) (other.value values)
+    ∙ comparable-typed scope grouped x y values are xt yt one
 
-pub compared-all : (fields : List Field) (grouped : List ℕ) (values : List Datum) (x : OperandForm) (s : Source) (ls : List Literal) (ds : List Datum)
-    → GivesOperand fields x s → ds ≡ map literal_value ls → IsTypedOperand fields grouped clause.Where x
-    → All (λ a. IsOfOneKind (operand_kind fields x) (Some (literal_kind a))) ls → Fits fields values → list_all (comparable (source_value values s)) ds ≡ true
-compared-all fields grouped values x s ls ds gives same xt one fits =
-    ap (λ a. list_all (comparable a) ds) (gives values) ∙ ap (list_all (comparable (operand_value (record_value fields values) x))) same
-    ∙ comparable-literals fields grouped x ls values xt one fits
+pub compared-all : (scope : ScopeForm) (grouped : List ℕ) (values : List Datum) (x : OperandForm) (s : Source) (ls : List Literal) (ds : List Datum)
+    → GivesOperand scope x s → ds ≡ map literal_value ls → AreValuesOf scope values → IsTypedOperand scope.fields grouped scope.clause x
+    → All (λ a. IsOfOneKind (operand_kind scope.fields x) (Some (literal_kind a))) ls → list_all (comparable (source_value values s)) ds ≡ true
+compared-all scope grouped values x s ls ds gives same are xt one =
+    ap (λ a. list_all (comparable a) ds) (gives.value values) ∙ ap (list_all (comparable (operand_value (scope.value values) x))) same
+    ∙ comparable-literals scope grouped x ls values are xt one
 
-pub told : (fields : List Field) (values : List Datum) (n : List ℕ) (s : Source)
-    → GivesColumn fields n s → column_kind fields n ≡ Some kind.Bool → Fits fields values → is_truth_value (source_value values s) ≡ true
-told fields values n s gives has fits = ap is_truth_value (gives values) ∙ truth-of (column_value fields values n) (column-of fields n kind.Bool values has fits)
+-- that of a bare name is a truth value, or NULL
+pub told : (scope : ScopeForm) (grouped : List ℕ) (values : List Datum) (n : List ℕ) (s : Source)
+    → GivesOperand scope (expression (name n)) s → AreValuesOf scope values → IsTypedName scope.fields grouped scope.clause n → column_kind scope.fields n ≡ Some kind.Bool
+    → is_truth_value (source_value values s) ≡ true
+told scope grouped values n s gives are typed has =
+    ap is_truth_value (gives.value values) ∙ truth-of (scope.value values (name n)) (are.kinds grouped (name n) kind.Bool typed has)

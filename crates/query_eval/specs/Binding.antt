@@ -1,53 +1,76 @@
--- What is made of a predicate whose names are resolved under the columns of a schema. Contracts within the language's
--- crates alone speak of it.
-use Rattle.std.specs.Prelude.{◌≡◌, ℕ, ⊤, Bool, true, Option, Some, None, List, [], ◌∷◌, map}
+-- What is made of a predicate whose names are resolved. Contracts within the language's crates, and private ones of
+-- report_rows, speak of it.
+use Rattle.std.specs.Prelude.{◌≡◌, ℕ, ⊤, Bool, true, Option, Some, None, List, [], ◌∷◌, length, map}
 use Rattle.std.specs.List.{list_all}
+use Rattle.semantics.specs.declared.kind.Kind.{Kind}
 use Rattle.semantics.specs.declared.truth.Truth.{Truth}
 use Rattle.semantics.specs.declared.truth.Truth.TheVariants.{True}
 use Rattle.semantics.specs.Values.{Datum}
 use Rattle.semantics.specs.Records.{Fits}
 use Rattle.semantics.specs.Columns.{Field}
-use Rattle.semantics.specs.Syntax.{OperandForm, PredicateForm, PredicateForms}
+use Rattle.semantics.specs.Syntax.{ExpressionForm, OperandForm, PredicateForm, PredicateForms, expression}
+use Rattle.semantics.specs.Types.{expression_kind}
+use Rattle.query_typecheck.specs.declared.scope.Clause.{Clause}
 use Rattle.query_typecheck.specs.declared.scope.Clause.TheVariants as clause
-use Rattle.query_typecheck.specs.Typing.{IsTypedOperand, IsTypedPredicate, AreTypedParts, IsTypedClause}
+use Rattle.query_typecheck.specs.Typing.{IsTypedExpression, IsTypedPredicate, AreTypedParts, IsTypedClause}
 use Rattle.query_eval.specs.declared.condition.Source.{Source}
 use Rattle.query_eval.specs.declared.condition.Condition.{Condition}
-use Rattle.semantics.specs.Conditions.{operand_value, truth, truths, column_value, record_value, where_truth}
-use Rattle.query_eval.specs.Meaning.{condition_truth, is_safe, is_there, source_value}
+use Rattle.semantics.specs.Conditions.{Valuation, operand_value, truth, truths, record_value, where_truth}
+use Rattle.query_eval.specs.Meaning.{condition_truth, is_of, is_safe, is_there, source_value}
+
+-- ---- under a scope
+
+-- What the expressions of a clause stand for: the columns under which they are typed, the clause, how many values there
+-- are, and the value of each expression where these are the values.
+pub record ScopeForm : Type 0 where
+  pub fields : List Field
+  pub clause : Clause
+  pub count : ℕ
+  pub value : List Datum → Valuation
+
+-- In WHERE and in FILTER the values are those of a record.
+abbrev pub record_scope : List Field → ScopeForm
+record_scope fields = record { fields = fields; clause = clause.Where; count = length fields; value = record_value fields }
+
+-- Values are those of a scope where there are as many as it has, and each expression that is typed in its clause has a
+-- value of its type, or NULL.
+pub record AreValuesOf (scope : ScopeForm) (values : List Datum) : Type 0 where
+  pub count : length values ≡ scope.count
+  pub kinds : (grouped : List ℕ) (e : ExpressionForm) (k : Kind) → IsTypedExpression scope.fields grouped scope.clause e → expression_kind scope.fields e ≡ Some k
+      → is_of k (scope.value values e) ≡ true
+
+-- a source has the value of an operand, and it is there
+pub record GivesOperand (scope : ScopeForm) (x : OperandForm) (s : Source) : Type 0 where
+  pub value : (values : List Datum) → source_value values s ≡ operand_value (scope.value values) x
+  pub there : (values : List Datum) → length values ≡ scope.count → is_there values s ≡ true
+
+-- a source has the value of an expression, and it is there
+abbrev pub GivesExpression : ScopeForm → ExpressionForm → Source → Type 0
+GivesExpression scope e s = GivesOperand scope (expression e) s
+
+-- a condition is worth what the predicate is worth
+abbrev pub GivesPredicate : ScopeForm → PredicateForm → Condition → Type 0
+GivesPredicate scope p c = (values : List Datum) → condition_truth c values ≡ truth (scope.value values) p
+
+-- where a predicate is typed in the clause, its condition can be evaluated
+abbrev pub IsSafeWhereTyped : ScopeForm → PredicateForm → Condition → Type 0
+IsSafeWhereTyped scope p c =
+    (grouped : List ℕ) → IsTypedPredicate scope.fields grouped scope.clause p → (values : List Datum) → AreValuesOf scope values → is_safe c values ≡ true
+
+-- the same of the parts of an OR or an AND
+abbrev pub GivesParts : ScopeForm → PredicateForms → List Condition → Type 0
+GivesParts scope ps cs = (values : List Datum) → map (λ truth. truth values) (map condition_truth cs) ≡ truths (scope.value values) ps
+
+abbrev pub AreSafeWhereTyped : ScopeForm → PredicateForms → List Condition → Type 0
+AreSafeWhereTyped scope ps cs =
+    (grouped : List ℕ) → AreTypedParts scope.fields grouped scope.clause ps → (values : List Datum) → AreValuesOf scope values
+    → list_all (λ safe. safe values) (map is_safe cs) ≡ true
+
+-- ---- WHERE and FILTER
 
 -- for each record that fits the columns
 abbrev pub ForEachRecord : List Field → (List Datum → Type 0) → Type 0
 ForEachRecord fields P = (values : List Datum) → Fits fields values → P values
-
--- a source has the value of a column's name
-abbrev pub GivesColumn : List Field → List ℕ → Source → Type 0
-GivesColumn fields n s = (values : List Datum) → source_value values s ≡ column_value fields values n
-
--- a source has the value of an operand
-abbrev pub GivesOperand : List Field → OperandForm → Source → Type 0
-GivesOperand fields x s = (values : List Datum) → source_value values s ≡ operand_value (record_value fields values) x
-
--- where an operand is typed in WHERE, the value of its source is there
-abbrev pub IsThereWhereTyped : List Field → OperandForm → Source → Type 0
-IsThereWhereTyped fields x s =
-    (grouped : List ℕ) → IsTypedOperand fields grouped clause.Where x → ForEachRecord fields (λ values. is_there values s ≡ true)
-
--- a condition is worth what the predicate is worth
-abbrev pub GivesPredicate : List Field → PredicateForm → Condition → Type 0
-GivesPredicate fields p c = (values : List Datum) → condition_truth c values ≡ truth (record_value fields values) p
-
--- where a predicate is typed in WHERE, its condition can be evaluated
-abbrev pub IsSafeWhereTyped : List Field → PredicateForm → Condition → Type 0
-IsSafeWhereTyped fields p c =
-    (grouped : List ℕ) → IsTypedPredicate fields grouped clause.Where p → ForEachRecord fields (λ values. is_safe c values ≡ true)
-
--- the same of the parts of an OR or an AND
-abbrev pub GivesParts : List Field → PredicateForms → List Condition → Type 0
-GivesParts fields ps cs = (values : List Datum) → map (λ truth. truth values) (map condition_truth cs) ≡ truths (record_value fields values) ps
-
-abbrev pub AreSafeWhereTyped : List Field → PredicateForms → List Condition → Type 0
-AreSafeWhereTyped fields ps cs =
-    (grouped : List ℕ) → AreTypedParts fields grouped clause.Where ps → ForEachRecord fields (λ values. list_all (λ safe. safe values) (map is_safe cs) ≡ true)
 
 -- what the condition of a WHERE is worth, and whether it can be evaluated; without WHERE there is none, and it is True
 abbrev pub bound_truth : Option Condition → List Datum → Truth

@@ -2,6 +2,8 @@
 -- alone speak of it: what a predicate is worth is said in Truth.
 use Rattle.std.specs.Prelude.{Bool, true, ◌&&◌, List, map, length, nat_lt, slice_get, unwrap_or}
 use Rattle.std.specs.List.{list_all}
+use Rattle.semantics.specs.declared.kind.Kind.{Kind}
+use Rattle.semantics.specs.declared.kind.Kind.TheVariants as kind
 use Rattle.semantics.specs.declared.truth.Truth.{Truth}
 use Rattle.semantics.specs.Values.{Datum, boolean, whole, text, null, comparison, is_null}
 use Rattle.values.specs.Datum.{datum_of}
@@ -23,6 +25,14 @@ source_value values (source.Literal a) = datum_of a
 abbrev pub is_there : List Datum → Source → Bool
 is_there values (source.Value place) = nat_lt place (length values)
 is_there values (source.Literal a) = true
+
+-- whether a value is of a type, or NULL
+abbrev pub is_of : Kind → Datum → Bool
+is_of k null = true
+is_of kind.Int (whole n) = true
+is_of kind.Text (text s) = true
+is_of kind.Bool (boolean b) = true
+is_of k d = Bool.false
 
 -- whether two values can be compared: they are of one type, or one of them is NULL
 abbrev pub comparable : Datum → Datum → Bool

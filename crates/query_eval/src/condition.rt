@@ -100,18 +100,14 @@ impl Source {
 }
 
 /// A truth value, or with NOT its negation.
-///
-/// Example: `marked(true, Truth::False)` is True, and `marked(true, Truth::Unknown)` is Unknown.
-pub fn marked(not: bool, truth: Truth) -> Truth
+fn apply_not(not: bool, truth: Truth) -> Truth
     ensures { result ≡ with_not not truth }
 {
     if not { truth.not() } else { truth }
 }
 
 /// The truth value of `value IS NULL`, which is never Unknown, ISO/IEC 9075-2 `<null predicate>`.
-///
-/// Example: `null_truth(&Value::Null)` is True, and `null_truth(&Value::Int(0))` is False.
-pub fn null_truth(value: &Value) -> Truth
+fn null_truth(value: &Value) -> Truth
     ensures { result ≡ known_truth (is_null (datum_of value.now)) }
 {
     Truth::from(matches!(value, Value::Null))
@@ -120,10 +116,7 @@ pub fn null_truth(value: &Value) -> Truth
 /// The truth value of `value BETWEEN low AND high`, which is that of
 /// `value >= low AND value <= high`, ISO/IEC 9075-2 `<between predicate>`. It asks that the value and
 /// each end are of one type, or one of the two is NULL.
-///
-/// Example: `2 BETWEEN 1 AND 3` is True, and with NULL in place of 3 Unknown; `0 BETWEEN 1 AND 3` is
-/// False, also with NULL in place of 3.
-pub fn between_truth(value: &Value, low: &Value, high: &Value) -> Truth
+fn between_truth(value: &Value, low: &Value, high: &Value) -> Truth
     requires low { comparable (datum_of value.now) (datum_of low.now) ≡ true }
     requires high { comparable (datum_of value.now) (datum_of high.now) ≡ true }
     ensures { result ≡ between_truth (datum_of value.now) (datum_of low.now) (datum_of high.now) }
@@ -134,9 +127,7 @@ pub fn between_truth(value: &Value, low: &Value, high: &Value) -> Truth
 /// The truth value of `value IN (..)`: True where one of the values is equal to it, else Unknown
 /// where a comparison with one is, else False, ISO/IEC 9075-2 `<in predicate>`. It asks that the
 /// value and each of the others are of one type, or one of the two is NULL.
-///
-/// Example: `2 IN (1, 2)` is True, `3 IN (1, 2)` is False, and with NULL in place of 3 it is Unknown.
-pub fn member_truth(value: &Value, values: &[Value]) -> Truth
+fn member_truth(value: &Value, values: &[Value]) -> Truth
     requires { list_all (comparable (datum_of value.now)) (map datum_of values.now) ≡ true }
     ensures { result ≡ member_truth (datum_of value.now) (map datum_of values.now) }
 {
@@ -151,10 +142,8 @@ pub fn member_truth(value: &Value, values: &[Value]) -> Truth
 }
 
 /// The truth value that a value is; NULL is Unknown. It asks that the value is a truth value or NULL.
-///
-/// Example: `value_truth(&Value::Bool(false))` is False, and `value_truth(&Value::Null)` is Unknown.
 #[tactic(auto, using(crate::proofs::Truths::value_truth_is))]
-pub fn value_truth(value: &Value) -> Truth
+fn value_truth(value: &Value) -> Truth
     requires { is_truth_value (datum_of value.now) ≡ true }
     ensures { result ≡ value_truth (datum_of value.now) }
 {
@@ -186,7 +175,7 @@ impl Condition {
             Condition::And(parts) => all_truth(parts, values),
             Condition::Not(part) => part.truth(values).not(),
             Condition::Is { part, not, truth } => {
-                marked(*not, Truth::from(part.truth(values).is(*truth)))
+                apply_not(*not, Truth::from(part.truth(values).is(*truth)))
             }
             Condition::Compare { left, op, right } => {
                 compare(*op, left.value(values), right.value(values))
@@ -196,7 +185,7 @@ impl Condition {
                 not,
                 low,
                 high,
-            } => marked(
+            } => apply_not(
                 *not,
                 between_truth(operand.value(values), low.value(values), high.value(values)),
             ),
@@ -204,8 +193,11 @@ impl Condition {
                 operand,
                 not,
                 values: others,
-            } => marked(*not, member_truth(operand.value(values), others)),
-            Condition::IsNull { operand, not } => marked(*not, null_truth(operand.value(values))),
+            } => apply_not(*not, member_truth(operand.value(values), others)),
+            Condition::IsNull { operand, not } => apply_not(
+                *not,
+                null_truth(operand.value(values)),
+            ),
             Condition::Holds(operand) => value_truth(operand.value(values)),
         }
     }

@@ -12,6 +12,7 @@ ghost use Rattle.semantics.specs.Conditions.{same_truth};
 
 use crate::binding::bind;
 use crate::condition::Condition;
+use crate::scope::RecordScope;
 use query_ast::Predicate;
 use std::alloc::{AllocError, Global};
 use values::{Column, Truth, Value};
@@ -32,9 +33,10 @@ pub fn bind_filters(
     ensures { IfOk result (λ conditions.
         AreConditionsOf (fields_of columns.now) (filter_forms filters.now) conditions.items) }
 {
+    let scope = RecordScope { columns };
     let mut conditions = Vec::with_capacity(alloc, filters.len())?;
     for filter in filters {
-        conditions.push(bind(alloc, columns, filter)?)?;
+        conditions.push(bind(alloc, &scope, filter)?)?;
     }
     Ok(conditions)
 }

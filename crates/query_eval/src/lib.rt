@@ -4,11 +4,11 @@
 mod binding;
 mod condition;
 mod filter_clause;
+mod scope;
 mod where_clause;
 
-pub use binding::{literal_value, literal_values};
-pub use condition::{
-    Condition, Source, between_truth, marked, member_truth, null_truth, value_truth,
-};
+pub use binding::bind;
+pub use condition::{Condition, Source};
 pub use filter_clause::{bind_filters, condition_truth_at, mark_conditions};
+pub use scope::Scope;
 pub use where_clause::{bind_where, bound_truth};

@@ -9,6 +9,7 @@ ghost use Rattle.query_eval.specs.Binding.{IsConditionOf, bound_safe, bound_trut
 
 use crate::binding::bind;
 use crate::condition::Condition;
+use crate::scope::RecordScope;
 use query_ast::Predicate;
 use std::alloc::{AllocError, Global};
 use values::{Column, Truth, Value};
@@ -31,7 +32,7 @@ pub fn bind_where(
         (IsConditionOf (fields_of columns.now) (option_map predicate_form where_condition.now)) }
 {
     match where_condition {
-        Some(predicate) => Ok(Some(bind(alloc, columns, predicate)?)),
+        Some(predicate) => Ok(Some(bind(alloc, &RecordScope { columns }, predicate)?)),
         None => Ok(None),
     }
 }

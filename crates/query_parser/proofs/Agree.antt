@@ -8,7 +8,7 @@ use Rattle.semantics.specs.Leaves.{Limits}
 use Rattle.query_parser.specs.declared.fault.GrammarFault.{GrammarFault}
 use Rattle.query_parser.specs.declared.fault.GrammarFault.TheVariants as faults
 use Rattle.query_parser.specs.Fronts.{is_sign, after}
-use Rattle.query_parser.specs.Steps.{◌>>=◌, Reader, stuck, found_or_stuck, excess, with_front, more, listed_at, name_at, begins_name}
+use Rattle.query_parser.specs.Steps.{◌>>=◌, Reader, unexpected_at, found_or_unexpected, excess, with_front, more, listed_at, name_at, begins_name}
 use Rattle.query_parser.specs.LeafSteps.{arguments_at, literal_at, begins_literal, literals_at}
 
 -- ---- limits
@@ -50,14 +50,14 @@ agrees_front : {A : Type 0} (front : List A) {o p : Result (List A × List Token
 agrees_front front h = agrees_bind h (λ x. Agrees.same)
 
 -- Where a part is too many, the reader of wider limits stops too unless a part begins.
-agrees_excess : {A B : Type 0} (begins : List Token → Bool) (wide_part : Reader A) (next : A × List Token → Result B GrammarFault) (ts : List Token) → (begins ts ≡ false → wide_part ts ≡ stuck ts) → Agrees (Err (excess begins ts)) (wide_part ts >>= next)
+agrees_excess : {A B : Type 0} (begins : List Token → Bool) (wide_part : Reader A) (next : A × List Token → Result B GrammarFault) (ts : List Token) → (begins ts ≡ false → wide_part ts ≡ unexpected_at ts) → Agrees (Err (excess begins ts)) (wide_part ts >>= next)
 agrees_excess {A} {B} begins wide_part next ts stops = of_test (begins ts) stops where
-  of_test : (b : Bool) → (b ≡ false → wide_part ts ≡ stuck ts) → Agrees (Err (cond b (faults.OverLimit (length ts)) (faults.Unexpected (length ts)))) (wide_part ts >>= next)
+  of_test : (b : Bool) → (b ≡ false → wide_part ts ≡ unexpected_at ts) → Agrees (Err (cond b (faults.OverLimit (length ts)) (faults.Unexpected (length ts)))) (wide_part ts >>= next)
   of_test true h = Agrees.over
   of_test false h = rw (h refl) Agrees.same
 
 -- Parts behind their separators, with at most n on one side and at most m on the other.
-pub agrees_more : {A : Type 0} (sep : Token → Bool) (begins : List Token → Bool) (part wide_part : Reader A) (n m : ℕ) → n ≤ m → ((ts : List Token) → Agrees (part ts) (wide_part ts)) → ((ts : List Token) → begins ts ≡ false → wide_part ts ≡ stuck ts)
+pub agrees_more : {A : Type 0} (sep : Token → Bool) (begins : List Token → Bool) (part wide_part : Reader A) (n m : ℕ) → n ≤ m → ((ts : List Token) → Agrees (part ts) (wide_part ts)) → ((ts : List Token) → begins ts ≡ false → wide_part ts ≡ unexpected_at ts)
     → (ts : List Token) → Agrees (more sep begins part n ts) (more sep begins wide_part m ts)
 unfolding more
 agrees_more sep begins part wide_part zero zero few h stops ts = Agrees.same
@@ -74,26 +74,26 @@ agrees_all sep begins part wide_part h (suc n) ts =
     agrees_choose (after sep ts) Agrees.same (λ rest. agrees_bind (h rest) (λ first. agrees_front (first.0 ∷ []) (agrees_all sep begins part wide_part h n first.1)))
 
 -- A part and those behind it.
-pub agrees_listed : {A : Type 0} (begins : List Token → Bool) (part wide_part : Reader A) (n m : ℕ) → n ≤ m → ((ts : List Token) → Agrees (part ts) (wide_part ts)) → ((ts : List Token) → begins ts ≡ false → wide_part ts ≡ stuck ts)
+pub agrees_listed : {A : Type 0} (begins : List Token → Bool) (part wide_part : Reader A) (n m : ℕ) → n ≤ m → ((ts : List Token) → Agrees (part ts) (wide_part ts)) → ((ts : List Token) → begins ts ≡ false → wide_part ts ≡ unexpected_at ts)
     → (ts : List Token) → Agrees (listed_at begins part n ts) (listed_at begins wide_part m ts)
 agrees_listed begins part wide_part n m few h stops ts = agrees_bind (h ts) (λ first. agrees_front (first.0 ∷ []) (agrees_more (is_sign s.Comma) begins part wide_part n m few h stops first.1))
 
 -- What has to stand in front does not stand there.
-stuck_where_none : {A : Type 0} (front : List Token → Option A) (ts : List Token) → is_some (front ts) ≡ false → found_or_stuck front ts ≡ stuck ts
+stuck_where_none : {A : Type 0} (front : List Token → Option A) (ts : List Token) → is_some (front ts) ≡ false → found_or_unexpected front ts ≡ unexpected_at ts
 stuck_where_none {A} front ts e = of_front (front ts) e where
-  of_front : (o : Option A) → is_some o ≡ false → choose o (stuck ts) (λ x. Ok x) ≡ stuck ts
+  of_front : (o : Option A) → is_some o ≡ false → choose o (unexpected_at ts) (λ x. Ok x) ≡ unexpected_at ts
   of_front None h = refl
   of_front (Some x) h = absurd cc
 
 -- The bracketed names behind GROUPING.
 pub arguments_agree : (n m : ℕ) → n ≤ m → (ts : List Token) → Agrees (arguments_at n ts) (arguments_at m ts)
 unfolding arguments_at
-arguments_agree n m few ts = agrees_bind Agrees.same (λ a. agrees_bind (agrees_listed begins_name (found_or_stuck name_at) (found_or_stuck name_at) (n - 1) (m - 1) (omega arith) (λ us. Agrees.same) (stuck_where_none name_at) a) (λ all. Agrees.same))
+arguments_agree n m few ts = agrees_bind Agrees.same (λ a. agrees_bind (agrees_listed begins_name (found_or_unexpected name_at) (found_or_unexpected name_at) (n - 1) (m - 1) (omega arith) (λ us. Agrees.same) (stuck_where_none name_at) a) (λ all. Agrees.same))
 
 -- The bracketed literals behind IN.
 pub literals_agree : (n m : ℕ) → n ≤ m → (ts : List Token) → Agrees (literals_at n ts) (literals_at m ts)
 unfolding literals_at
-literals_agree n m few ts = agrees_bind Agrees.same (λ a. agrees_bind (agrees_listed begins_literal (found_or_stuck literal_at) (found_or_stuck literal_at) (n - 1) (m - 1) (omega arith) (λ us. Agrees.same) (stuck_where_none literal_at) a) (λ all. Agrees.same))
+literals_agree n m few ts = agrees_bind Agrees.same (λ a. agrees_bind (agrees_listed begins_literal (found_or_unexpected literal_at) (found_or_unexpected literal_at) (n - 1) (m - 1) (omega arith) (λ us. Agrees.same) (stuck_where_none literal_at) a) (λ all. Agrees.same))
 
 -- ---- wider limits
 

@@ -8,7 +8,7 @@ use Rattle.semantics.specs.Syntax.{OperandForm}
 use Rattle.semantics.specs.Leaves.{Limits}
 use Rattle.query_parser.specs.declared.fault.GrammarFault.{GrammarFault}
 use Rattle.query_parser.specs.Fronts.{is_word, is_sign, after}
-use Rattle.query_parser.specs.Steps.{stuck, over, name_at}
+use Rattle.query_parser.specs.Steps.{unexpected_at, over, name_at}
 use Rattle.query_parser.specs.LeafSteps.{aggregate_at, literal_at, op_at}
 use Rattle.query_parser.specs.ExpressionSteps.{Inside, filter_at, function_at, expression_at, begins_expression}
 use Rattle.query_parser.specs.AtomSteps.{operand_at, member_after, between_after, negated_after, atom_after, tested_atom_at}
@@ -113,7 +113,7 @@ pub inside_agrees : (narrow wide : Limits) → Wider narrow wide → (n m : ℕ)
 inside_agrees narrow wide wider n m few ts = expression_agrees (inside_of narrow n) (inside_of wide m) wider (level_agrees n m few) (λ us. predicate_agrees narrow wide wider n m few us) ts
 
 -- Where no expression begins, the first token is not expected.
-pub expression_stuck : (inside : Inside) (ts : List Token) → begins_expression ts ≡ false → expression_at inside ts ≡ stuck ts
+pub expression_stuck : (inside : Inside) (ts : List Token) → begins_expression ts ≡ false → expression_at inside ts ≡ unexpected_at ts
 unfolding begins_expression expression_at function_at aggregate_at name_at
 expression_stuck inside [] e = refl
 expression_stuck inside (tokens.Name n ∷ ts) e = absurd cc

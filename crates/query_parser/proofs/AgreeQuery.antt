@@ -7,7 +7,7 @@ use Rattle.semantics.specs.declared.token.Sign.TheVariants as s
 use Rattle.semantics.specs.Syntax.{ElementForm}
 use Rattle.semantics.specs.Leaves.{Limits}
 use Rattle.query_parser.specs.Fronts.{is_word, is_sign, after}
-use Rattle.query_parser.specs.Steps.{Reader, stuck, found_or_stuck}
+use Rattle.query_parser.specs.Steps.{Reader, unexpected_at, found_or_unexpected}
 use Rattle.query_parser.specs.ExpressionSteps.{begins_expression}
 use Rattle.query_parser.specs.PredicateSteps.{inside_of, any_front}
 use Rattle.query_parser.specs.GroupSteps.{all_at, enclosed_at, element_at, sets_at, group_at}
@@ -28,7 +28,7 @@ enclosed_agree : {A : Type 0} (begins : List Token → Bool) (part wide_part : R
     → ((ts : List Token) → Agrees (part ts) (wide_part ts)) → (ts : List Token)
     → Agrees (enclosed_at begins part ts) (enclosed_at begins wide_part ts)
 enclosed_agree begins part wide_part h ts =
-    agrees_bind {o = found_or_stuck (after (is_sign s.Open)) ts} Agrees.same (λ a. agrees_bind (all_agree begins part wide_part h a) (λ all. Agrees.same))
+    agrees_bind {o = found_or_unexpected (after (is_sign s.Open)) ts} Agrees.same (λ a. agrees_bind (all_agree begins part wide_part h a) (λ all. Agrees.same))
 
 -- ---- groups
 
@@ -47,14 +47,14 @@ sets_agree zero m few ts = Agrees.over
 sets_agree (suc n) zero few ts = absurd (omega arith)
 sets_agree (suc n) (suc m) few ts =
     let fewer : n ≤ m = omega arith in
-    agrees_bind {o = found_or_stuck (after (is_word w.Sets)) ts} Agrees.same (λ a.
+    agrees_bind {o = found_or_unexpected (after (is_word w.Sets)) ts} Agrees.same (λ a.
     agrees_bind (enclosed_agree any_front (element_at (sets_at n)) (element_at (sets_at m)) (element_agrees (sets_at n) (sets_at m) (λ us. sets_agree n m fewer us)) a) (λ gs. Agrees.same))
 
 group_agrees : (n m : ℕ) → n ≤ m → (ts : List Token) → Agrees (group_at n ts) (group_at m ts)
 group_agrees n m few ts = element_agrees (sets_at n) (sets_at m) (sets_agree n m few) ts
 
 -- Where no expression begins, no item does.
-item_stuck : (limits : Limits) (ts : List Token) → begins_expression ts ≡ false → item_at limits ts ≡ stuck ts
+item_stuck : (limits : Limits) (ts : List Token) → begins_expression ts ≡ false → item_at limits ts ≡ unexpected_at ts
 unfolding item_at
 item_stuck limits ts e = rw (expression_stuck (inside_of limits limits.levels) ts e) refl
 
@@ -86,7 +86,7 @@ module _ (narrow wide : Limits) (wider : Wider narrow wide) where
   groups_agree : (ts : List Token) → Agrees (groups_at narrow ts) (groups_at wide ts)
   unfolding groups_at
   groups_agree ts =
-      agrees_choose (after (is_word w.Group) ts) Agrees.same (λ a. agrees_bind {o = found_or_stuck (after (is_word w.By)) a} Agrees.same (λ b. elements_agree b))
+      agrees_choose (after (is_word w.Group) ts) Agrees.same (λ a. agrees_bind {o = found_or_unexpected (after (is_word w.By)) a} Agrees.same (λ b. elements_agree b))
 
   key_agrees : (ts : List Token) → Agrees (key_at narrow ts) (key_at wide ts)
   unfolding key_at
@@ -96,14 +96,14 @@ module _ (narrow wide : Limits) (wider : Wider narrow wide) where
   keys_agree : (ts : List Token) → Agrees (keys_at narrow ts) (keys_at wide ts)
   unfolding keys_at
   keys_agree ts =
-      agrees_choose (after (is_word w.Order) ts) Agrees.same (λ a. agrees_bind {o = found_or_stuck (after (is_word w.By)) a} Agrees.same (λ b. all_agree begins_expression (key_at narrow) (key_at wide) key_agrees b))
+      agrees_choose (after (is_word w.Order) ts) Agrees.same (λ a. agrees_bind {o = found_or_unexpected (after (is_word w.By)) a} Agrees.same (λ b. all_agree begins_expression (key_at narrow) (key_at wide) key_agrees b))
 
   -- ---- queries
 
   select_agrees : (ts : List Token) → Agrees (select_at narrow ts) (select_at wide ts)
   unfolding select_at
   select_agrees ts =
-      agrees_bind {o = found_or_stuck (after (is_word w.Select)) ts} Agrees.same (λ a. agrees_bind (items_agree a) (λ is. Agrees.same))
+      agrees_bind {o = found_or_unexpected (after (is_word w.Select)) ts} Agrees.same (λ a. agrees_bind (items_agree a) (λ is. Agrees.same))
 
   records_agree : (ts : List Token) → Agrees (records_at narrow ts) (records_at wide ts)
   unfolding records_at

@@ -6,7 +6,7 @@ use Rattle.semantics.specs.declared.token.Word.TheVariants as w
 use Rattle.semantics.specs.declared.token.Sign.TheVariants as s
 use Rattle.semantics.specs.Syntax.{ElementForm, sets, element_forms}
 use Rattle.query_parser.specs.Fronts.{is_word, is_sign, after}
-use Rattle.query_parser.specs.Steps.{Reader, found_or_stuck, name_at, begins_name}
+use Rattle.query_parser.specs.Steps.{Reader, found_or_unexpected, name_at, begins_name}
 use Rattle.query_parser.specs.PredicateSteps.{any_front}
 use Rattle.semantics.specs.Leaves.{Derivation, IsRepeated, IsName}
 use Rattle.query_parser.proofs.CompleteLists.{Shrinks, repeated_short, unlimited_c}
@@ -35,7 +35,7 @@ unit_c : (ts r : List Token) (ns : List (List ℕ)) → IsUnit ts ns r → unit_
 unfolding unit_at
 unit_c _ _ _ (IsUnit.column {n} {r}) = rw (name_front n r) refl
 unit_c _ _ _ (IsUnit.columns {mid} {r} {n} {ns} b) =
-    rw (no_name (tokens.Name n ∷ mid), enclosed_c begins_name IsName (found_or_stuck name_at) name_c name_short (IsName.name {n = n} {r = mid}) b) refl
+    rw (no_name (tokens.Name n ∷ mid), enclosed_c begins_name IsName (found_or_unexpected name_at) name_c name_short (IsName.name {n = n} {r = mid}) b) refl
 
 unit_short : Shrinks IsUnit
 unit_short _ _ _ IsUnit.column = omega arith

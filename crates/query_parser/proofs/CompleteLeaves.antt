@@ -10,20 +10,20 @@ use Rattle.semantics.specs.declared.aggregate.Aggregate.{Aggregate}
 use Rattle.semantics.specs.declared.literal.Literal.{Literal}
 use Rattle.query_parser.specs.Fronts.{is_word, after}
 use Rattle.semantics.specs.Leaves.{IsRepeated, IsName, IsAggregate, IsLiteral, IsOp, IsTruthValue, IsOptional}
-use Rattle.query_parser.specs.Steps.{found_or_stuck, name_at, begins_name}
+use Rattle.query_parser.specs.Steps.{found_or_unexpected, name_at, begins_name}
 use Rattle.query_parser.specs.LeafSteps.{closed_name_at, argument_at, counted_name_at, count_at, aggregate_at, arguments_at, literal_at, begins_literal, literals_at, op_at, truth_at, mark_at}
 use Rattle.query_parser.proofs.CompleteLists.{Shrinks, bracketed_c}
 
 -- ---- names and set functions
 
-pub name_c : (ts r : List Token) (n : List ℕ) → IsName ts n r → found_or_stuck name_at ts ≡ Ok (n, r)
+pub name_c : (ts r : List Token) (n : List ℕ) → IsName ts n r → found_or_unexpected name_at ts ≡ Ok (n, r)
 unfolding name_at
 name_c _ _ _ IsName.name = refl
 
 pub arguments_c : {most : ℕ} {n : List ℕ} {mid r : List Token} {ns : List (List ℕ)} → IsRepeated (tokens.Sign s.Comma) IsName mid ns (tokens.Sign s.Close ∷ r) → length ns < most
     → arguments_at most (tokens.Sign s.Open ∷ tokens.Name n ∷ mid) ≡ Ok (n ∷ ns, r)
 unfolding arguments_at
-arguments_c {most} {n} {mid} b few = bracketed_c begins_name IsName (found_or_stuck name_at) name_c (most - 1) (IsName.name {n = n} {r = mid}) b (omega arith)
+arguments_c {most} {n} {mid} b few = bracketed_c begins_name IsName (found_or_unexpected name_at) name_c (most - 1) (IsName.name {n = n} {r = mid}) b (omega arith)
 
 pub aggregate_c : {ts r : List Token} {f : Aggregate} → IsAggregate ts f r → aggregate_at ts ≡ Ok (f, r)
 unfolding aggregate_at count_at counted_name_at argument_at closed_name_at name_at
@@ -72,13 +72,13 @@ literal_c _ _ _ IsLiteral.yes = refl
 literal_c _ _ _ IsLiteral.no = refl
 
 -- The literals of a list.
-listed_literal_c : (ts r : List Token) (a : Literal) → IsLiteral ts a r → found_or_stuck literal_at ts ≡ Ok (a, r)
+listed_literal_c : (ts r : List Token) (a : Literal) → IsLiteral ts a r → found_or_unexpected literal_at ts ≡ Ok (a, r)
 listed_literal_c ts r a p = rw (literal_c ts r a p) refl
 
 pub literals_c : {most : ℕ} {ts mid r : List Token} {a : Literal} {ls : List Literal} → IsLiteral ts a mid → IsRepeated (tokens.Sign s.Comma) IsLiteral mid ls (tokens.Sign s.Close ∷ r) → length ls < most
     → literals_at most (tokens.Sign s.Open ∷ ts) ≡ Ok (a ∷ ls, r)
 unfolding literals_at
-literals_c {most} a b few = bracketed_c begins_literal IsLiteral (found_or_stuck literal_at) listed_literal_c (most - 1) a b (omega arith)
+literals_c {most} a b few = bracketed_c begins_literal IsLiteral (found_or_unexpected literal_at) listed_literal_c (most - 1) a b (omega arith)
 
 pub op_c : {ts r : List Token} {o : Op} → IsOp ts o r → op_at ts ≡ Some (o, r)
 unfolding op_at

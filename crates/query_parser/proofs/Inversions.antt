@@ -3,7 +3,7 @@ use Rattle.std.proofs.Common.{Bool, true, false, cond, List, ◌≡◌, ◌⊎�
 use Rattle.semantics.specs.declared.token.Token.{Token}
 use Rattle.query_lexer.specs.Options.{choose}
 use Rattle.query_parser.specs.declared.fault.GrammarFault.{GrammarFault}
-use Rattle.query_parser.specs.Steps.{◌>>=◌, found_or_stuck}
+use Rattle.query_parser.specs.Steps.{◌>>=◌, found_or_unexpected}
 
 -- Two steps that give a value: the first gave one.
 pub bind_ok : {A B : Type 0} (o : Result A GrammarFault) (f : A → Result B GrammarFault) (y : B) → (o >>= f) ≡ Ok y → (x : A) × (o ≡ Ok x) × (f x ≡ Ok y)
@@ -28,12 +28,12 @@ choice_is (Some x) n y e = let h = ok_is x y e in cc
 choice_is None n y e = absurd cc
 
 -- What was expected stood there.
-pub found_or_stuck_is : {A : Type 0} (front : List Token → Option A) (ts : List Token) (x : A) → found_or_stuck front ts ≡ Ok x → front ts ≡ Some x
+pub found_or_stuck_is : {A : Type 0} (front : List Token → Option A) (ts : List Token) (x : A) → found_or_unexpected front ts ≡ Ok x → front ts ≡ Some x
 found_or_stuck_is front ts x e = choice_is (front ts) _ x e
 
 -- What was expected stood there, and the next step gave a value.
-pub only_ok : {A B : Type 0} (front : List Token → Option A) (ts : List Token) (f : A → Result B GrammarFault) (y : B) → (found_or_stuck front ts >>= f) ≡ Ok y → (x : A) × (front ts ≡ Some x) × (f x ≡ Ok y)
-only_ok front ts f y e = let a = bind_ok (found_or_stuck front ts) f y e in (a.0, found_or_stuck_is front ts a.0 a.1, a.2)
+pub only_ok : {A B : Type 0} (front : List Token → Option A) (ts : List Token) (f : A → Result B GrammarFault) (y : B) → (found_or_unexpected front ts >>= f) ≡ Ok y → (x : A) × (front ts ≡ Some x) × (f x ≡ Ok y)
+only_ok front ts f y e = let a = bind_ok (found_or_unexpected front ts) f y e in (a.0, found_or_stuck_is front ts a.0 a.1, a.2)
 
 -- A test that gives a value held.
 pub test_ok : {A : Type 0} (t : Bool) (x y : A) (n : GrammarFault) → cond t (Ok x) (Err n) ≡ given y → (t ≡ true) × (x ≡ y)

@@ -5,7 +5,7 @@ use Rattle.query_lexer.specs.Options.{choose}
 use Rattle.query_parser.specs.declared.fault.GrammarFault.{GrammarFault}
 use Rattle.query_parser.specs.declared.fault.GrammarFault.TheVariants as faults
 use Rattle.query_parser.specs.Fronts.{after}
-use Rattle.query_parser.specs.Steps.{◌>>=◌, Reader, stuck, over, found_or_stuck, excess, with_front, more}
+use Rattle.query_parser.specs.Steps.{◌>>=◌, Reader, unexpected_at, over, found_or_unexpected, excess, with_front, more}
 use Rattle.query_parser.proofs.Inversions.{bind_ok, ok_is}
 
 -- ---- lists of tokens with the same front
@@ -275,8 +275,8 @@ local_stop {A} c f kind behind left move is ts = record {
   over = λ us rest other d s. record { fault = kind (length us); is = is us };
 }
 
-pub local_stuck : {A : Type 0} → Local {A = A} true stuck
-local_stuck {A} = local_stop true stuck (λ n. faults.Unexpected n) (λ n m h e. absurd cc) (λ n. refl) (λ n m. refl) (λ ts. refl)
+pub local_stuck : {A : Type 0} → Local {A = A} true unexpected_at
+local_stuck {A} = local_stop true unexpected_at (λ n. faults.Unexpected n) (λ n m h e. absurd cc) (λ n. refl) (λ n m. refl) (λ ts. refl)
 
 pub local_over : {A : Type 0} → Local {A = A} false over
 local_over {A} = local_stop false over (λ n. faults.OverLimit n) (λ n m h e. absurd cc) (λ n. refl) (λ n m. refl) (λ ts. refl)
@@ -390,14 +390,14 @@ found_or_stuck_choice None n g = refl
 found_or_stuck_choice (Some x) n g = refl
 
 -- What has to stand in front, and what is read behind it.
-pub local_found_or_stuck : {A : Type 0} {c : Bool} (test : Token → Bool) (g : Reader A) → Local c g → Local true (λ ts. found_or_stuck (after test) ts >>= λ a. g a)
+pub local_found_or_stuck : {A : Type 0} {c : Bool} (test : Token → Bool) (g : Reader A) → Local c g → Local true (λ ts. found_or_unexpected (after test) ts >>= λ a. g a)
 local_found_or_stuck {A} {c} test g lg =
-    local_as (λ ts. found_or_stuck (after test) ts >>= λ a. g a) (λ ts. choose (after test ts) (stuck ts) (λ a. g a))
-    (λ ts. found_or_stuck_choice (after test ts) (faults.Unexpected (length ts)) g) (local_choose test stuck g local_stuck lg)
+    local_as (λ ts. found_or_unexpected (after test) ts >>= λ a. g a) (λ ts. choose (after test ts) (unexpected_at ts) (λ a. g a))
+    (λ ts. found_or_stuck_choice (after test ts) (faults.Unexpected (length ts)) g) (local_choose test unexpected_at g local_stuck lg)
 
 -- A value that has to stand in front.
-pub local_found_or_stuck_front : {X : Type 0} (h : List Token → Option (X × List Token)) → IsFront h → Local true (found_or_stuck h)
-local_found_or_stuck_front h front = local_front h stuck (λ x us. Ok (x, us)) front local_stuck (λ x. local_ok x)
+pub local_found_or_stuck_front : {X : Type 0} (h : List Token → Option (X × List Token)) → IsFront h → Local true (found_or_unexpected h)
+local_found_or_stuck_front h front = local_front h unexpected_at (λ x us. Ok (x, us)) front local_stuck (λ x. local_ok x)
 
 -- A separator and parts, at most n.
 pub local_more : {A : Type 0} (sep : Token → Bool) (b : List Token → Bool) (f : Reader A) → ((t : Token) (us vs : List Token) → b (t ∷ us) ≡ b (t ∷ vs)) → Local true f → (n : ℕ) → Local true (more sep b f n)

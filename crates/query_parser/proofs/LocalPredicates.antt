@@ -9,7 +9,7 @@ use Rattle.semantics.specs.Syntax.{ExpressionForm, OperandForm, PredicateForm, o
 use Rattle.semantics.specs.Productions.{conjunction_of, disjunction_of}
 use Rattle.semantics.specs.Leaves.{Limits}
 use Rattle.query_parser.specs.Fronts.{is_word, is_sign, after}
-use Rattle.query_parser.specs.Steps.{◌>>=◌, Reader, over, found_or_stuck, more, name_at}
+use Rattle.query_parser.specs.Steps.{◌>>=◌, Reader, over, found_or_unexpected, more, name_at}
 use Rattle.query_parser.specs.LeafSteps.{aggregate_at, arguments_at, literal_at, literals_at, op_at, truth_at, mark_at}
 use Rattle.query_parser.specs.ExpressionSteps.{Inside, filter_at, function_at, expression_at, begins_expression}
 use Rattle.query_parser.specs.AtomSteps.{operand_at, member_after, between_after, negated_after, column_of, atom_after, test_after, is_after, tested_atom_at}
@@ -78,14 +78,14 @@ module _ (inside : Inside) (inside_l : Local false inside.read) where
   -- ---- expressions
 
   -- What stands in the brackets of a FILTER, where a level is left and where none is.
-  within_l : (left : Bool) → Local false (λ a. cond left (found_or_stuck (after (is_word w.Where)) a >>= λ b. inside.read b >>= λ p. found_or_stuck (after (is_sign s.Close)) p.1 >>= λ rest. Ok (p.0, rest)) (over a))
-  within_l true = local_loose (λ a. found_or_stuck (after (is_word w.Where)) a >>= λ b. inside.read b >>= λ p. found_or_stuck (after (is_sign s.Close)) p.1 >>= λ rest. Ok (p.0, rest)) (local_found_or_stuck (is_word w.Where) (λ b. inside.read b >>= λ p. found_or_stuck (after (is_sign s.Close)) p.1 >>= λ rest. Ok (p.0, rest))
-      (local_bind inside.read (λ p us. found_or_stuck (after (is_sign s.Close)) us >>= λ rest. Ok (p, rest)) inside_l local_closed))
+  within_l : (left : Bool) → Local false (λ a. cond left (found_or_unexpected (after (is_word w.Where)) a >>= λ b. inside.read b >>= λ p. found_or_unexpected (after (is_sign s.Close)) p.1 >>= λ rest. Ok (p.0, rest)) (over a))
+  within_l true = local_loose (λ a. found_or_unexpected (after (is_word w.Where)) a >>= λ b. inside.read b >>= λ p. found_or_unexpected (after (is_sign s.Close)) p.1 >>= λ rest. Ok (p.0, rest)) (local_found_or_stuck (is_word w.Where) (λ b. inside.read b >>= λ p. found_or_unexpected (after (is_sign s.Close)) p.1 >>= λ rest. Ok (p.0, rest))
+      (local_bind inside.read (λ p us. found_or_unexpected (after (is_sign s.Close)) us >>= λ rest. Ok (p, rest)) inside_l local_closed))
   within_l false = local_over
 
   filter_l : Local true (filter_at inside)
   unfolding filter_at
-  filter_l = local_found_or_stuck (is_sign s.Open) (λ a. cond inside.has_level (found_or_stuck (after (is_word w.Where)) a >>= λ b. inside.read b >>= λ p. found_or_stuck (after (is_sign s.Close)) p.1 >>= λ rest. Ok (p.0, rest)) (over a)) (within_l inside.has_level)
+  filter_l = local_found_or_stuck (is_sign s.Open) (λ a. cond inside.has_level (found_or_unexpected (after (is_word w.Where)) a >>= λ b. inside.read b >>= λ p. found_or_unexpected (after (is_sign s.Close)) p.1 >>= λ rest. Ok (p.0, rest)) (over a)) (within_l inside.has_level)
 
   function_l : Local true (function_at inside)
   unfolding function_at
@@ -109,12 +109,12 @@ module _ (inside : Inside) (inside_l : Local false inside.read) where
 
   between_l : (x : OperandForm) (n : Bool) → Local true (between_after inside x n)
   unfolding between_after
-  between_l x n = local_bind (operand_at inside) (λ y us. found_or_stuck (after (is_word w.And)) us >>= λ a. operand_at inside a >>= λ z. Ok (between x n y z.0, z.1)) operand_l
+  between_l x n = local_bind (operand_at inside) (λ y us. found_or_unexpected (after (is_word w.And)) us >>= λ a. operand_at inside a >>= λ z. Ok (between x n y z.0, z.1)) operand_l
       (λ y. local_found_or_stuck (is_word w.And) (λ a. operand_at inside a >>= λ z. Ok (between x n y z.0, z.1)) (local_made (operand_at inside) (λ z. between x n y z) operand_l))
 
   negated_l : (x : OperandForm) → Local true (negated_after inside x)
   unfolding negated_after
-  negated_l x = local_choose (is_word w.In) (λ ts. found_or_stuck (after (is_word w.Between)) ts >>= λ a. between_after inside x true a) (λ a. member_after inside.limits.literals x true a)
+  negated_l x = local_choose (is_word w.In) (λ ts. found_or_unexpected (after (is_word w.Between)) ts >>= λ a. between_after inside x true a) (λ a. member_after inside.limits.literals x true a)
       (local_found_or_stuck (is_word w.Between) (λ a. between_after inside x true a) (between_l x true)) (member_l inside.limits.literals x true)
 
   atom_l : (x : OperandForm) → Local true (atom_after inside x)
@@ -136,8 +136,8 @@ module _ (inside : Inside) (inside_l : Local false inside.read) where
 
   test_l : Local true (test_at inside)
   unfolding test_at
-  test_l = local_choose (is_sign s.Open) (tested_atom_at inside) (λ a. inside.read a >>= λ p. found_or_stuck (after (is_sign s.Close)) p.1 >>= λ b. test_after p.0 b) tested_atom_l
-      (local_bind inside.read (λ p us. found_or_stuck (after (is_sign s.Close)) us >>= λ b. test_after p b) inside_l (λ p. local_found_or_stuck (is_sign s.Close) (λ b. test_after p b) (test_after_l p)))
+  test_l = local_choose (is_sign s.Open) (tested_atom_at inside) (λ a. inside.read a >>= λ p. found_or_unexpected (after (is_sign s.Close)) p.1 >>= λ b. test_after p.0 b) tested_atom_l
+      (local_bind inside.read (λ p us. found_or_unexpected (after (is_sign s.Close)) us >>= λ b. test_after p b) inside_l (λ p. local_found_or_stuck (is_sign s.Close) (λ b. test_after p b) (test_after_l p)))
 
   negation_l : Local true (negation_at inside)
   unfolding negation_at

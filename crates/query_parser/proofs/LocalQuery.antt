@@ -12,7 +12,7 @@ use Rattle.semantics.specs.Syntax.{ExpressionForm, PredicateForm, ElementForm, I
 use Rattle.query_parser.specs.declared.fault.GrammarFault.{GrammarFault}
 use Rattle.query_parser.specs.declared.fault.GrammarFault.TheVariants as faults
 use Rattle.query_parser.specs.Fronts.{is_word, is_sign, after}
-use Rattle.query_parser.specs.Steps.{◌>>=◌, Reader, stuck, found_or_stuck, with_front, more, name_at, begins_name}
+use Rattle.query_parser.specs.Steps.{◌>>=◌, Reader, unexpected_at, found_or_unexpected, with_front, more, name_at, begins_name}
 use Rattle.query_parser.specs.ExpressionSteps.{expression_at, begins_expression}
 use Rattle.query_parser.specs.PredicateSteps.{predicate_at, inside_of, any_front}
 use Rattle.query_parser.specs.GroupSteps.{all_at, enclosed_at, begins_unit, unit_at, units_at, nothing_at, set_at, element_at, sets_at, group_at}
@@ -35,17 +35,17 @@ all_l b f front lf = local_bind f (λ x us. with_front (x ∷ []) (more (is_sign
     (λ x. local_bind (λ us. more (is_sign s.Comma) b f (length us) us) (λ xs us. Ok ((x ∷ []) ++ xs, us)) (local_all (is_sign s.Comma) b f front lf) (λ xs. local_ok ((x ∷ []) ++ xs)))
 
 enclosed_l : {A : Type 0} (b : List Token → Bool) (f : Reader A) → TellsByFront b → Local true f → Local true (enclosed_at b f)
-enclosed_l b f front lf = local_found_or_stuck (is_sign s.Open) (λ a. all_at b f a >>= λ all. found_or_stuck (after (is_sign s.Close)) all.1 >>= λ rest. Ok (all.0, rest))
-    (local_bind (all_at b f) (λ xs us. found_or_stuck (after (is_sign s.Close)) us >>= λ rest. Ok (xs, rest)) (all_l b f front lf) local_closed)
+enclosed_l b f front lf = local_found_or_stuck (is_sign s.Open) (λ a. all_at b f a >>= λ all. found_or_unexpected (after (is_sign s.Close)) all.1 >>= λ rest. Ok (all.0, rest))
+    (local_bind (all_at b f) (λ xs us. found_or_unexpected (after (is_sign s.Close)) us >>= λ rest. Ok (xs, rest)) (all_l b f front lf) local_closed)
 
 -- ---- units, sets and groups
 
-names_l : Local true (enclosed_at begins_name (found_or_stuck name_at))
-names_l = enclosed_l begins_name (found_or_stuck name_at) name_told (local_found_or_stuck_front name_at name_front)
+names_l : Local true (enclosed_at begins_name (found_or_unexpected name_at))
+names_l = enclosed_l begins_name (found_or_unexpected name_at) name_told (local_found_or_stuck_front name_at name_front)
 
 unit_l : Local true unit_at
 unfolding unit_at
-unit_l = local_front name_at (λ ts. enclosed_at begins_name (found_or_stuck name_at) ts) (λ n us. Ok (n ∷ [], us)) name_front names_l (λ n. local_ok (n ∷ []))
+unit_l = local_front name_at (λ ts. enclosed_at begins_name (found_or_unexpected name_at) ts) (λ n us. Ok (n ∷ [], us)) name_front names_l (λ n. local_ok (n ∷ []))
 
 unit_told : TellsByFront begins_unit
 unfolding begins_unit
@@ -59,13 +59,13 @@ units_l = enclosed_l begins_unit unit_at unit_told unit_l
 
 -- A unit or brackets round nothing, where the bracket is looked at first.
 opened_at : Reader (List (List ℕ))
-opened_at ts = choose (after (is_sign s.Open) ts) (unit_at ts) (λ a. choose (after (is_sign s.Close) a) (all_at begins_name (found_or_stuck name_at) a >>= λ all. found_or_stuck (after (is_sign s.Close)) all.1 >>= λ rest. Ok (all.0, rest)) (λ rest. Ok ([], rest)))
+opened_at ts = choose (after (is_sign s.Open) ts) (unit_at ts) (λ a. choose (after (is_sign s.Close) a) (all_at begins_name (found_or_unexpected name_at) a >>= λ all. found_or_unexpected (after (is_sign s.Close)) all.1 >>= λ rest. Ok (all.0, rest)) (λ rest. Ok ([], rest)))
 
 opened_l : Local true opened_at
 unfolding opened_at
-opened_l = local_choose (is_sign s.Open) unit_at (λ a. choose (after (is_sign s.Close) a) (all_at begins_name (found_or_stuck name_at) a >>= λ all. found_or_stuck (after (is_sign s.Close)) all.1 >>= λ rest. Ok (all.0, rest)) (λ rest. Ok ([], rest))) unit_l
-    (local_choose (is_sign s.Close) (λ a. all_at begins_name (found_or_stuck name_at) a >>= λ all. found_or_stuck (after (is_sign s.Close)) all.1 >>= λ rest. Ok (all.0, rest)) (λ rest. Ok ([], rest))
-    (local_bind (all_at begins_name (found_or_stuck name_at)) (λ xs us. found_or_stuck (after (is_sign s.Close)) us >>= λ rest. Ok (xs, rest)) (all_l begins_name (found_or_stuck name_at) name_told (local_found_or_stuck_front name_at name_front)) local_closed)
+opened_l = local_choose (is_sign s.Open) unit_at (λ a. choose (after (is_sign s.Close) a) (all_at begins_name (found_or_unexpected name_at) a >>= λ all. found_or_unexpected (after (is_sign s.Close)) all.1 >>= λ rest. Ok (all.0, rest)) (λ rest. Ok ([], rest))) unit_l
+    (local_choose (is_sign s.Close) (λ a. all_at begins_name (found_or_unexpected name_at) a >>= λ all. found_or_unexpected (after (is_sign s.Close)) all.1 >>= λ rest. Ok (all.0, rest)) (λ rest. Ok ([], rest))
+    (local_bind (all_at begins_name (found_or_unexpected name_at)) (λ xs us. found_or_unexpected (after (is_sign s.Close)) us >>= λ rest. Ok (xs, rest)) (all_l begins_name (found_or_unexpected name_at) name_told (local_found_or_stuck_front name_at name_front)) local_closed)
     (local_ok []))
 
 set_opened : (ts : List Token) → set_at ts ≡ opened_at ts
@@ -88,7 +88,7 @@ element_l nested ln =
 sets_l : (n : ℕ) → Local false (sets_at n)
 unfolding sets_at
 sets_l zero = local_over
-sets_l (suc n) = local_loose (λ ts. found_or_stuck (after (is_word w.Sets)) ts >>= λ a. enclosed_at any_front (element_at (sets_at n)) a >>= λ gs. Ok (sets (element_forms gs.0), gs.1)) (local_found_or_stuck (is_word w.Sets) (λ a. enclosed_at any_front (element_at (sets_at n)) a >>= λ gs. Ok (sets (element_forms gs.0), gs.1))
+sets_l (suc n) = local_loose (λ ts. found_or_unexpected (after (is_word w.Sets)) ts >>= λ a. enclosed_at any_front (element_at (sets_at n)) a >>= λ gs. Ok (sets (element_forms gs.0), gs.1)) (local_found_or_stuck (is_word w.Sets) (λ a. enclosed_at any_front (element_at (sets_at n)) a >>= λ gs. Ok (sets (element_forms gs.0), gs.1))
     (local_made (enclosed_at any_front (element_at (sets_at n))) (λ gs. sets (element_forms gs)) (enclosed_l any_front (element_at (sets_at n)) any_told (element_l (sets_at n) (sets_l n)))))
 
 group_l : (n : ℕ) → Local true (group_at n)
@@ -98,7 +98,7 @@ group_l n = element_l (sets_at n) (sets_l n)
 
 alias_l : Local true alias_at
 unfolding alias_at
-alias_l = local_choose (is_word w.As) (λ ts. Ok (None, ts)) (λ a. found_or_stuck name_at a >>= λ n. Ok (Some n.0, n.1)) (local_ok None) (local_made (found_or_stuck name_at) (λ n. Some n) (local_found_or_stuck_front name_at name_front))
+alias_l = local_choose (is_word w.As) (λ ts. Ok (None, ts)) (λ a. found_or_unexpected name_at a >>= λ n. Ok (Some n.0, n.1)) (local_ok None) (local_made (found_or_unexpected name_at) (λ n. Some n) (local_found_or_stuck_front name_at name_front))
 
 item_l : (limits : Limits) → Local true (item_at limits)
 unfolding item_at
@@ -134,25 +134,25 @@ abbrev beside : {A : Type 0} → A → Reader A
 beside x ts = Ok (x, ts)
 
 -- What is read behind FROM and `lines`.
-from_way : {A : Type 0} (x : A) (ts : List Token) → (from_at ts >>= λ rest. beside x rest) ≡ (found_or_stuck (after (is_word w.From)) ts >>= λ a. choose (lines_at a) (stuck a) (λ l. beside x l.1))
+from_way : {A : Type 0} (x : A) (ts : List Token) → (from_at ts >>= λ rest. beside x rest) ≡ (found_or_unexpected (after (is_word w.From)) ts >>= λ a. choose (lines_at a) (unexpected_at a) (λ l. beside x l.1))
 unfolding from_at lines_at name_at
-from_way {A} x ts = of_from (found_or_stuck (after (is_word w.From)) ts) where
-  of_test : (b : Bool) (a us : List Token) → (cond b (Ok us) (stuck a) >>= λ rest. beside x rest) ≡ choose (cond {A = Option (Unit {0} × List Token)} b (Some (tt, us)) None) (stuck a) (λ l. beside x l.1)
+from_way {A} x ts = of_from (found_or_unexpected (after (is_word w.From)) ts) where
+  of_test : (b : Bool) (a us : List Token) → (cond b (Ok us) (unexpected_at a) >>= λ rest. beside x rest) ≡ choose (cond {A = Option (Unit {0} × List Token)} b (Some (tt, us)) None) (unexpected_at a) (λ l. beside x l.1)
   of_test true a us = refl
   of_test false a us = refl
 
-  of_name : (a : List Token) → ((found_or_stuck name_at a >>= λ n. cond (bytes_eq n.0 (codes "lines")) (Ok n.1) (stuck a)) >>= λ rest. beside x rest) ≡ choose (lines_at a) (stuck a) (λ l. beside x l.1)
+  of_name : (a : List Token) → ((found_or_unexpected name_at a >>= λ n. cond (bytes_eq n.0 (codes "lines")) (Ok n.1) (unexpected_at a)) >>= λ rest. beside x rest) ≡ choose (lines_at a) (unexpected_at a) (λ l. beside x l.1)
   of_name [] = refl
   of_name (tokens.Name n ∷ us) = of_test (bytes_eq n (codes "lines")) (tokens.Name n ∷ us) us
   of_name (t ∷ us) = refl
 
-  of_from : (o : Result (List Token) GrammarFault) → ((o >>= λ a. found_or_stuck name_at a >>= λ n. cond (bytes_eq n.0 (codes "lines")) (Ok n.1) (stuck a)) >>= λ rest. beside x rest) ≡ (o >>= λ a. choose (lines_at a) (stuck a) (λ l. beside x l.1))
+  of_from : (o : Result (List Token) GrammarFault) → ((o >>= λ a. found_or_unexpected name_at a >>= λ n. cond (bytes_eq n.0 (codes "lines")) (Ok n.1) (unexpected_at a)) >>= λ rest. beside x rest) ≡ (o >>= λ a. choose (lines_at a) (unexpected_at a) (λ l. beside x l.1))
   of_from (Ok a) = of_name a
   of_from (Err e) = refl
 
 from_l : {A : Type 0} (x : A) → Local true (λ ts. from_at ts >>= λ rest. beside x rest)
-from_l x = local_as (λ ts. from_at ts >>= λ rest. beside x rest) (λ ts. found_or_stuck (after (is_word w.From)) ts >>= λ a. choose (lines_at a) (stuck a) (λ l. beside x l.1)) (from_way x)
-    (local_found_or_stuck (is_word w.From) (λ a. choose (lines_at a) (stuck a) (λ l. beside x l.1)) (local_front lines_at stuck (λ _. beside x) lines_front local_stuck (λ _. local_ok x)))
+from_l x = local_as (λ ts. from_at ts >>= λ rest. beside x rest) (λ ts. found_or_unexpected (after (is_word w.From)) ts >>= λ a. choose (lines_at a) (unexpected_at a) (λ l. beside x l.1)) (from_way x)
+    (local_found_or_stuck (is_word w.From) (λ a. choose (lines_at a) (unexpected_at a) (λ l. beside x l.1)) (local_front lines_at unexpected_at (λ _. beside x) lines_front local_stuck (λ _. local_ok x)))
 
 clause_l : (limits : Limits) (word : Word) → Local true (clause_at limits word)
 unfolding clause_at
@@ -178,7 +178,7 @@ elements_l limits = local_as (elements_at limits) (λ ts. choose (after (is_word
 
 groups_l : (limits : Limits) → Local true (groups_at limits)
 unfolding groups_at
-groups_l limits = local_choose (is_word w.Group) (λ ts. Ok ((false, []), ts)) (λ a. found_or_stuck (after (is_word w.By)) a >>= λ b. elements_at limits b) (local_ok (false, [])) (local_found_or_stuck (is_word w.By) (elements_at limits) (elements_l limits))
+groups_l limits = local_choose (is_word w.Group) (λ ts. Ok ((false, []), ts)) (λ a. found_or_unexpected (after (is_word w.By)) a >>= λ b. elements_at limits b) (local_ok (false, [])) (local_found_or_stuck (is_word w.By) (elements_at limits) (elements_l limits))
 
 select_l : (limits : Limits) → Local true (select_at limits)
 unfolding select_at
@@ -201,8 +201,8 @@ direction_way {A} g ts = of_way (after (is_word w.Desc) ts) (after (is_word w.As
 
 null_ordering_l : (d : Bool) → Local true (null_ordering_at d)
 unfolding null_ordering_at
-null_ordering_l d = local_choose (is_word w.Nulls) (λ ts. Ok (d, ts)) (λ a. choose (after (is_word w.First) a) (found_or_stuck (after (is_word w.Last)) a >>= λ r. Ok (false, r)) (λ r. Ok (true, r))) (local_ok d)
-    (local_choose (is_word w.First) (λ a. found_or_stuck (after (is_word w.Last)) a >>= λ r. Ok (false, r)) (λ r. Ok (true, r)) (local_found_or_stuck (is_word w.Last) (λ r. Ok (false, r)) (local_ok false)) (local_ok true))
+null_ordering_l d = local_choose (is_word w.Nulls) (λ ts. Ok (d, ts)) (λ a. choose (after (is_word w.First) a) (found_or_unexpected (after (is_word w.Last)) a >>= λ r. Ok (false, r)) (λ r. Ok (true, r))) (local_ok d)
+    (local_choose (is_word w.First) (λ a. found_or_unexpected (after (is_word w.Last)) a >>= λ r. Ok (false, r)) (λ r. Ok (true, r)) (local_found_or_stuck (is_word w.Last) (λ r. Ok (false, r)) (local_ok false)) (local_ok true))
 
 key_l : (limits : Limits) → Local true (key_at limits)
 unfolding key_at
@@ -217,7 +217,7 @@ key_l limits = local_bind (expression_at (inside_of limits limits.levels)) (λ e
 
 keys_l : (limits : Limits) → Local true (keys_at limits)
 unfolding keys_at
-keys_l limits = local_choose (is_word w.Order) (λ ts. Ok ([], ts)) (λ a. found_or_stuck (after (is_word w.By)) a >>= λ b. all_at begins_expression (key_at limits) b) (local_ok [])
+keys_l limits = local_choose (is_word w.Order) (λ ts. Ok ([], ts)) (λ a. found_or_unexpected (after (is_word w.By)) a >>= λ b. all_at begins_expression (key_at limits) b) (local_ok [])
     (local_found_or_stuck (is_word w.By) (all_at begins_expression (key_at limits)) (all_l begins_expression (key_at limits) expression_told (key_l limits)))
 
 rows_l : (limits : Limits) → Local true (rows_at limits)
@@ -236,12 +236,12 @@ query_l limits = local_bind (select_at limits) (λ is us. records_at limits us >
 -- The whole, as a reader that leaves nothing.
 ended_at : TreeForm → Reader TreeForm
 ended_at q [] = Ok (q, [])
-ended_at q (t ∷ ts) = stuck (t ∷ ts)
+ended_at q (t ∷ ts) = unexpected_at (t ∷ ts)
 
 ended_l : (q : TreeForm) → Local true (ended_at q)
 unfolding ended_at
 ended_l q [] = local_end (ended_at q) (λ us. Ok (q, us)) refl (local_ok q [])
-ended_l q (t ∷ ts) = local_head (ended_at q) stuck t ts (λ us. refl) (local_stuck (t ∷ ts))
+ended_l q (t ∷ ts) = local_head (ended_at q) unexpected_at t ts (λ us. refl) (local_stuck (t ∷ ts))
 
 pub all_read_at : Limits → Reader TreeForm
 all_read_at limits ts = query_at limits ts >>= λ x. ended_at x.0 x.1

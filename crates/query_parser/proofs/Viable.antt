@@ -10,7 +10,7 @@ use Rattle.query_lexer.specs.Options.{choose}
 use Rattle.query_parser.specs.declared.fault.GrammarFault.{GrammarFault}
 use Rattle.query_parser.specs.declared.fault.GrammarFault.TheVariants as faults
 use Rattle.query_parser.specs.Fronts.{is_sign, after}
-use Rattle.query_parser.specs.Steps.{◌>>=◌, Reader, stuck, over, found_or_stuck, excess, with_front, more}
+use Rattle.query_parser.specs.Steps.{◌>>=◌, Reader, unexpected_at, over, found_or_unexpected, excess, with_front, more}
 use Rattle.semantics.specs.Leaves.{Derivation, IsRepeated}
 use Rattle.query_parser.proofs.Inversions.{bind_ok, choose_ok, ok_is}
 use Rattle.query_parser.proofs.Heads.{after_sign_is}
@@ -177,7 +177,7 @@ viable_ok {A} {wide} {P} x derived = record {
 }
 
 -- A reader that stops at once, at a token that is not expected.
-pub viable_stuck : {A : Type 0} {strict wide : Bool} {P : Derivation A} → Phrase P → Viable strict wide P stuck
+pub viable_stuck : {A : Type 0} {strict wide : Bool} {P : Derivation A} → Phrase P → Viable strict wide P unexpected_at
 viable_stuck {A} {strict} {wide} {P} phrase = record {
   goes = λ ts x rest d. absurd cc;
   stops = λ ts e d c. (let k : faults.Unexpected (length ts) ≡ e = cc in
@@ -305,10 +305,10 @@ found_or_stuck_choice (Some x) n g = refl
 
 -- What has to stand in front, and what is read behind it.
 pub viable_found_or_stuck : {A : Type 0} {strict wide : Bool} {Q R : Derivation A} (test : Token → Bool) (t : Token) → Only test t → (strict ≡ false → counted t ≡ true) → Behind t Q R → (g : Reader A)
-    → Phrase Q → Viable strict wide Q g → Viable true wide R (λ ts. found_or_stuck (after test) ts >>= λ a. g a)
+    → Phrase Q → Viable strict wide Q g → Viable true wide R (λ ts. found_or_unexpected (after test) ts >>= λ a. g a)
 viable_found_or_stuck {wide = wide} {Q} {R} test t only counts join g phrase vg =
-    viable_same (λ ts. found_or_stuck (after test) ts >>= λ a. g a) (λ ts. choose (after test ts) (stuck ts) (λ a. g a)) (λ ts. found_or_stuck_choice (after test ts) (faults.Unexpected (length ts)) g)
-    (viable_choose test t only counts join stuck g (viable_stuck (phrase_behind t join phrase)) vg)
+    viable_same (λ ts. found_or_unexpected (after test) ts >>= λ a. g a) (λ ts. choose (after test ts) (unexpected_at ts) (λ a. g a)) (λ ts. found_or_stuck_choice (after test ts) (faults.Unexpected (length ts)) g)
+    (viable_choose test t only counts join unexpected_at g (viable_stuck (phrase_behind t join phrase)) vg)
 
 -- What looks at the token in front alone finds what derives from it.
 pub record Finds {X : Type 0} (P : Derivation X) (h : List Token → Option (X × List Token)) : Type 0 where
@@ -347,8 +347,8 @@ viable_front {A} {X} {strict} {wide} {P} {Q} {R} h finds join n g vn vg = record
   sure_at (t ∷ ts) d = elim (finds.at_token t) [ inl i ↦ vn.sure (t ∷ ts) (sym (chooses (t ∷ ts) (i ts)) ∙ d) | inr i ↦ (vg i.0).sure ts (sym (chooses (t ∷ ts) (i.1 ts)) ∙ d) ]
 
 -- A value that has to stand in front.
-pub viable_found_or_stuck_front : {X : Type 0} {wide : Bool} {P : Derivation X} (h : List Token → Option (X × List Token)) → Finds P h → Phrase P → Viable true wide P (found_or_stuck h)
-viable_found_or_stuck_front {P = P} h finds phrase = viable_front {Q = λ x us y vs. (us ≡ vs) × (x ≡ y)} h finds (λ us vs ws x y p q. subst (λ z. P us z ws) q.1 (subst (λ zs. P us x zs) q.0 p)) stuck (λ x us. Ok (x, us)) (viable_stuck phrase) (λ x. viable_ok x (λ ts. (refl, refl)))
+pub viable_found_or_stuck_front : {X : Type 0} {wide : Bool} {P : Derivation X} (h : List Token → Option (X × List Token)) → Finds P h → Phrase P → Viable true wide P (found_or_unexpected h)
+viable_found_or_stuck_front {P = P} h finds phrase = viable_front {Q = λ x us y vs. (us ≡ vs) × (x ≡ y)} h finds (λ us vs ws x y p q. subst (λ z. P us z ws) q.1 (subst (λ zs. P us x zs) q.0 p)) unexpected_at (λ x us. Ok (x, us)) (viable_stuck phrase) (λ x. viable_ok x (λ ts. (refl, refl)))
 
 -- ---- lists
 
@@ -434,11 +434,11 @@ abbrev pub Closed : {A : Type 0} → Derivation A → Derivation A
 Closed P ts x rest = P ts x (tokens.Sign s.Close ∷ rest)
 
 -- What is read before a closing bracket.
-pub viable_closed : {A : Type 0} {strict wide : Bool} (P : Derivation A) (f : Reader A) → Viable strict wide P f → Viable strict wide (Closed P) (λ ts. f ts >>= λ x. found_or_stuck (after (is_sign s.Close)) x.1 >>= λ rest. Ok (x.0, rest))
+pub viable_closed : {A : Type 0} {strict wide : Bool} (P : Derivation A) (f : Reader A) → Viable strict wide P f → Viable strict wide (Closed P) (λ ts. f ts >>= λ x. found_or_unexpected (after (is_sign s.Close)) x.1 >>= λ rest. Ok (x.0, rest))
 viable_closed {A} {strict} {wide} P f vf =
-    viable_bind (λ x us y ws. (vs : List Token) → P vs x us → Closed P vs y ws) f (λ x us. found_or_stuck (after (is_sign s.Close)) us >>= λ rest. Ok (x, rest)) (λ us vs ws x y p q. q us p)
+    viable_bind (λ x us y ws. (vs : List Token) → P vs x us → Closed P vs y ws) f (λ x us. found_or_unexpected (after (is_sign s.Close)) us >>= λ rest. Ok (x, rest)) (λ us vs ws x y p q. q us p)
     (λ x. record { tokens = tokens.Sign s.Close ∷ []; value = x; derived = λ other vs p. p }) vf closing where
-      closing : (x : A) → Viable true wide (λ us y ws. (vs : List Token) → P vs x us → Closed P vs y ws) (λ us. found_or_stuck (after (is_sign s.Close)) us >>= λ rest. Ok (x, rest))
+      closing : (x : A) → Viable true wide (λ us y ws. (vs : List Token) → P vs x us → Closed P vs y ws) (λ us. found_or_unexpected (after (is_sign s.Close)) us >>= λ rest. Ok (x, rest))
       closing x = viable_found_or_stuck {Q = Exactly x} (is_sign s.Close) (tokens.Sign s.Close) (after_sign_is s.Close) (λ i. refl) (λ us ws y q vs p. subst (λ z. P vs z (tokens.Sign s.Close ∷ ws)) q.1 (subst (λ zs. P vs x (tokens.Sign s.Close ∷ zs)) q.0 p))
           (λ us. Ok (x, us)) record { tokens = []; value = x; derived = λ other. (refl, refl) } (exactly x)
 
@@ -449,9 +449,9 @@ phrase_closed {P = P} p = record { tokens = p.tokens ++ tokens.Sign s.Close ∷ 
 pub data Enclosed {A : Type 0} (P : Derivation A) : List Token → A → List Token → Type 0 where
   brackets : {ts rest : List Token} {x : A} → P ts x (tokens.Sign s.Close ∷ rest) → Enclosed P (tokens.Sign s.Open ∷ ts) x rest
 
-pub viable_enclosed : {A : Type 0} {wide : Bool} {P : Derivation A} (f : Reader A) → Phrase P → Viable true wide P f → Viable true wide (Enclosed P) (λ ts. found_or_stuck (after (is_sign s.Open)) ts >>= λ a. f a >>= λ x. found_or_stuck (after (is_sign s.Close)) x.1 >>= λ rest. Ok (x.0, rest))
+pub viable_enclosed : {A : Type 0} {wide : Bool} {P : Derivation A} (f : Reader A) → Phrase P → Viable true wide P f → Viable true wide (Enclosed P) (λ ts. found_or_unexpected (after (is_sign s.Open)) ts >>= λ a. f a >>= λ x. found_or_unexpected (after (is_sign s.Close)) x.1 >>= λ rest. Ok (x.0, rest))
 viable_enclosed {P = P} f phrase vf =
-    viable_found_or_stuck {Q = Closed P} (is_sign s.Open) (tokens.Sign s.Open) (after_sign_is s.Open) (λ i. refl) (λ us ws x q. Enclosed.brackets q) (λ a. f a >>= λ x. found_or_stuck (after (is_sign s.Close)) x.1 >>= λ rest. Ok (x.0, rest))
+    viable_found_or_stuck {Q = Closed P} (is_sign s.Open) (tokens.Sign s.Open) (after_sign_is s.Open) (λ i. refl) (λ us ws x q. Enclosed.brackets q) (λ a. f a >>= λ x. found_or_unexpected (after (is_sign s.Close)) x.1 >>= λ rest. Ok (x.0, rest))
     (phrase_closed phrase) (viable_closed P f vf)
 
 -- Parts, each behind its separator, as many as there are.

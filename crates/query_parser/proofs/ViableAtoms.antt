@@ -10,7 +10,7 @@ use Rattle.query_lexer.specs.Options.{choose}
 use Rattle.semantics.specs.declared.literal.Literal.{Literal}
 use Rattle.semantics.specs.Syntax.{ExpressionForm, OperandForm, PredicateForm, truth_test, compare, between, member, null_test, column}
 use Rattle.query_parser.specs.Fronts.{is_word, after}
-use Rattle.query_parser.specs.Steps.{◌>>=◌, Reader, found_or_stuck}
+use Rattle.query_parser.specs.Steps.{◌>>=◌, Reader, found_or_unexpected}
 use Rattle.query_parser.specs.LeafSteps.{literal_at, literals_at, op_at, truth_at, mark_at}
 use Rattle.query_parser.specs.ExpressionSteps.{Inside, expression_at}
 use Rattle.query_parser.specs.AtomSteps.{operand_at, member_after, between_after, negated_after, column_of, atom_after, test_after, is_after, tested_atom_at}
@@ -184,7 +184,7 @@ module _ (wide : Bool) (IsInner : Derivation PredicateForm) (inside : Inside) (i
 
   -- What is read behind the lower end of a BETWEEN.
   abbrev and_high_at : OperandForm → Bool → OperandForm → Reader PredicateForm
-  and_high_at x n y ts = found_or_stuck (after (is_word w.And)) ts >>= λ a. high_at x n y a
+  and_high_at x n y ts = found_or_unexpected (after (is_word w.And)) ts >>= λ a. high_at x n y a
 
   -- That is viable.
   high_v : (x : OperandForm) (n : Bool) (y : OperandForm) → Viable true wide (AfterLow x n y) (λ ts. and_high_at x n y ts)
@@ -204,7 +204,7 @@ module _ (wide : Bool) (IsInner : Derivation PredicateForm) (inside : Inside) (i
   negated_v : (x : OperandForm) → Viable true wide (AfterNot x) (negated_after inside x)
   unfolding negated_after
   negated_v x =
-      viable_word w.In (λ ts. found_or_stuck (after (is_word w.Between)) ts >>= λ a. between_after inside x true a)
+      viable_word w.In (λ ts. found_or_unexpected (after (is_word w.Between)) ts >>= λ a. between_after inside x true a)
       (λ a. member_after inside.limits.literals x true a)
       (found_or_stuck_word w.Between (λ a. between_after inside x true a) (not_between x)
       (viable_as (λ us ws p q vs i. q vs (tokens.Word w.Not ∷ tokens.Word w.Between ∷ us) i IsOptional.written) (between_v x true)))

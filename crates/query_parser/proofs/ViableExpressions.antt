@@ -12,7 +12,7 @@ use Rattle.semantics.specs.Syntax.{ExpressionForm, FunctionForm, PredicateForm, 
 use Rattle.query_parser.specs.declared.fault.GrammarFault.{GrammarFault}
 use Rattle.query_parser.specs.declared.fault.GrammarFault.TheVariants as faults
 use Rattle.query_parser.specs.Fronts.{is_word, is_sign, after}
-use Rattle.query_parser.specs.Steps.{◌>>=◌, Reader, stuck, over, found_or_stuck, name_at}
+use Rattle.query_parser.specs.Steps.{◌>>=◌, Reader, unexpected_at, over, found_or_unexpected, name_at}
 use Rattle.query_parser.specs.LeafSteps.{aggregate_at, arguments_at}
 use Rattle.query_parser.specs.ExpressionSteps.{Inside, filter_at, function_at, expression_at, begins_expression}
 use Rattle.semantics.specs.Leaves.{standard, Derivation, IsRepeated, IsName, IsAggregate}
@@ -48,15 +48,15 @@ InBrackets IsInner ts p rest = IsFilter IsInner (tokens.Sign s.Open ∷ ts) p re
 
 -- What is read before the closing bracket of a FILTER.
 abbrev closed_at : Reader PredicateForm → Reader PredicateForm
-closed_at read ts = read ts >>= λ p. found_or_stuck (after (is_sign s.Close)) p.1 >>= λ rest. Ok (p.0, rest)
+closed_at read ts = read ts >>= λ p. found_or_unexpected (after (is_sign s.Close)) p.1 >>= λ rest. Ok (p.0, rest)
 
 -- What is read behind the opening bracket of a FILTER, where a level of brackets is left or not.
 abbrev in_brackets : Bool → Reader PredicateForm → Reader PredicateForm
-in_brackets left read ts = cond left (found_or_stuck (after (is_word w.Where)) ts >>= λ a. closed_at read a) (over ts)
+in_brackets left read ts = cond left (found_or_unexpected (after (is_word w.Where)) ts >>= λ a. closed_at read a) (over ts)
 
 -- What is read behind the word FILTER.
 abbrev filter_with : Bool → Reader PredicateForm → Reader PredicateForm
-filter_with left read ts = found_or_stuck (after (is_sign s.Open)) ts >>= λ a. in_brackets left read a
+filter_with left read ts = found_or_unexpected (after (is_sign s.Open)) ts >>= λ a. in_brackets left read a
 
 -- What stands in the brackets of a FILTER, where something can stand there.
 phrase_in_brackets : {IsInner : Derivation PredicateForm} → Phrase IsInner → Phrase (InBrackets IsInner)
@@ -123,7 +123,7 @@ no_filter : (read : Reader PredicateForm) (f : Aggregate) (ts : List Token)
     ⊎ ((n : ℕ) × (filtered_at false read f ts ≡ failed (faults.OverLimit n)))
 no_filter read f ts = of_bracket (after (is_sign s.Open) ts) where
   bracket : Option (List Token) → Result (PredicateForm × List Token) GrammarFault
-  bracket o = choose o (stuck ts) (λ x. Ok x) >>= λ a. over a
+  bracket o = choose o (unexpected_at ts) (λ x. Ok x) >>= λ a. over a
 
   read_of : Option (List Token) → Result (FunctionForm × List Token) GrammarFault
   read_of o = bracket o >>= λ p. Ok (over_filtered f p.0, p.1)

@@ -8,7 +8,7 @@ use Rattle.semantics.specs.declared.token.Sign.TheVariants as s
 use Rattle.query_lexer.specs.Options.{choose}
 use Rattle.semantics.specs.Syntax.{ElementForm, set, rollup, cube, sets, element_forms}
 use Rattle.query_parser.specs.Fronts.{is_word, is_sign, after}
-use Rattle.query_parser.specs.Steps.{◌>>=◌, Reader, found_or_stuck, more, name_at, begins_name}
+use Rattle.query_parser.specs.Steps.{◌>>=◌, Reader, found_or_unexpected, more, name_at, begins_name}
 use Rattle.semantics.specs.Leaves.{Derivation, IsRepeated, IsName}
 use Rattle.semantics.specs.Grammar.{IsUnit, IsSet, IsElement, IsGroup}
 use Rattle.query_parser.specs.PredicateSteps.{any_front}
@@ -42,10 +42,10 @@ enclosed_v b f phrase vf = viable_enclosed (all_at b f) (all_phrase phrase) (all
 
 -- Names.
 abbrev names_at : Reader (List (List ℕ))
-names_at ts = all_at begins_name (found_or_stuck name_at) ts
+names_at ts = all_at begins_name (found_or_unexpected name_at) ts
 
 names_v : {wide : Bool} → Viable true wide (All IsName) names_at
-names_v = all_v begins_name (found_or_stuck name_at) name_v
+names_v = all_v begins_name (found_or_unexpected name_at) name_v
 
 -- A name is a unit.
 abbrev unit_phrase : Phrase IsUnit
@@ -56,8 +56,8 @@ unit_v : {wide : Bool} → Viable true wide IsUnit unit_at
 unfolding unit_at
 unit_v =
     viable_front {Q = λ n. Exactly (n ∷ [])} name_at name_finds one
-    (λ ts. enclosed_at begins_name (found_or_stuck name_at) ts) (λ n us. Ok (n ∷ [], us))
-    (viable_as columns (enclosed_v begins_name (found_or_stuck name_at) name_phrase name_v)) (λ n. exactly (n ∷ [])) where
+    (λ ts. enclosed_at begins_name (found_or_unexpected name_at) ts) (λ n us. Ok (n ∷ [], us))
+    (viable_as columns (enclosed_v begins_name (found_or_unexpected name_at) name_phrase name_v)) (λ n. exactly (n ∷ [])) where
       column : {us vs : List Token} {n : List ℕ} → IsName us n vs → IsUnit us (n ∷ []) vs
       column IsName.name = IsUnit.column
 
@@ -76,7 +76,7 @@ units_v = enclosed_v begins_unit unit_at unit_phrase unit_v
 
 -- Names and their closing bracket.
 abbrev closed_names_at : Reader (List (List ℕ))
-closed_names_at ts = names_at ts >>= λ all. found_or_stuck (after (is_sign s.Close)) all.1 >>= λ rest. Ok (all.0, rest)
+closed_names_at ts = names_at ts >>= λ all. found_or_unexpected (after (is_sign s.Close)) all.1 >>= λ rest. Ok (all.0, rest)
 
 -- A set of no names.
 abbrev no_names : Reader (List (List ℕ))

@@ -10,7 +10,7 @@ use Rattle.semantics.specs.Leaves.{Limits, standard, Derivation}
 use Rattle.semantics.specs.Productions.{IsExpression, IsPredicate}
 use Rattle.semantics.specs.Grammar.{IsDirection, IsNullOrdering, IsKey, IsOrderBy}
 use Rattle.query_parser.specs.Fronts.{is_word, after}
-use Rattle.query_parser.specs.Steps.{◌>>=◌, Reader, found_or_stuck}
+use Rattle.query_parser.specs.Steps.{◌>>=◌, Reader, found_or_unexpected}
 use Rattle.query_parser.specs.ExpressionSteps.{expression_at, begins_expression}
 use Rattle.query_parser.specs.PredicateSteps.{inside_of}
 use Rattle.query_parser.specs.GroupSteps.{all_at}
@@ -51,7 +51,7 @@ direction_way {A} g ts = of_way (after (is_word w.Desc) ts) (after (is_word w.As
 
 -- LAST, which puts NULL last.
 abbrev last_at : Reader Bool
-last_at ts = found_or_stuck (after (is_word w.Last)) ts >>= λ r. Ok (false, r)
+last_at ts = found_or_unexpected (after (is_word w.Last)) ts >>= λ r. Ok (false, r)
 
 -- FIRST or LAST behind NULLS.
 abbrev first_or_last_at : Reader Bool
@@ -138,7 +138,7 @@ listed_keys_at ts = all_at begins_expression (key_at standard) ts
 pub keys_v : (wide : Bool) → Viable true wide (IsOrderBy (limits_of wide)) (keys_at standard)
 unfolding keys_at
 keys_v wide =
-    viable_word w.Order (λ ts. Ok ([], ts)) (λ a. found_or_stuck (after (is_word w.By)) a >>= λ b. listed_keys_at b)
+    viable_word w.Order (λ ts. Ok ([], ts)) (λ a. found_or_unexpected (after (is_word w.By)) a >>= λ b. listed_keys_at b)
     (viable_ok [] (λ ts. IsOrderBy.none)) (found_or_stuck_word w.By listed_keys_at one
     (viable_as keys_of (all_v begins_expression (key_at standard) (key_v wide)))) where
       -- What derives keys behind ORDER BY.

@@ -16,7 +16,7 @@ use Rattle.semantics.specs.declared.aggregate.Aggregate.TheVariants as aggregate
 use Rattle.semantics.specs.declared.literal.Literal.{Literal}
 use Rattle.semantics.specs.declared.literal.Literal.TheVariants as literals
 use Rattle.query_parser.specs.Fronts.{is_word, is_sign, after}
-use Rattle.query_parser.specs.Steps.{◌>>=◌, Reader, stuck, found_or_stuck, more, listed_at, name_at, begins_name}
+use Rattle.query_parser.specs.Steps.{◌>>=◌, Reader, unexpected_at, found_or_unexpected, more, listed_at, name_at, begins_name}
 use Rattle.query_parser.specs.LeafSteps.{closed_name_at, argument_at, counted_name_at, count_at, aggregate_at, arguments_at, literal_at, begins_literal, literals_at, op_at, truth_at, mark_at}
 use Rattle.semantics.specs.Leaves.{Limits, standard, Derivation, IsName, IsAggregate, IsLiteral, IsOp, IsTruthValue, IsRepeated, IsOptional}
 use Rattle.query_parser.proofs.Heads.{after_word_is, after_sign_is}
@@ -36,7 +36,7 @@ viable_word word n g vn vg = viable_choose (is_word word) (tokens.Word word) (af
 
 -- What has to stand behind a word that has to stand in front.
 pub found_or_stuck_word : {A : Type 0} {wide : Bool} {R : Derivation A} (word : Word) (g : Reader A) → Phrase (λ us x ws. R (tokens.Word word ∷ us) x ws) → Viable true wide (λ us x ws. R (tokens.Word word ∷ us) x ws) g
-    → Viable true wide R (λ ts. found_or_stuck (after (is_word word)) ts >>= λ a. g a)
+    → Viable true wide R (λ ts. found_or_unexpected (after (is_word word)) ts >>= λ a. g a)
 found_or_stuck_word word g phrase vg = viable_found_or_stuck (is_word word) (tokens.Word word) (after_word_is word) (λ i. absurd cc) (λ us vs x q. q) g phrase vg
 
 -- A word, or none, and what is read behind it.
@@ -74,7 +74,7 @@ name_part = record { at_end = refl; at_token = at_token } where
   at_token (tokens.Name n) us e = record { counts = refl; behind = []; value = n; derived = λ other. IsName.name }
   at_token t us e = absurd cc
 
-pub name_v : {wide : Bool} → Viable true wide IsName (found_or_stuck name_at)
+pub name_v : {wide : Bool} → Viable true wide IsName (found_or_unexpected name_at)
 name_v = viable_found_or_stuck_front name_at name_finds name_phrase
 
 -- The names in brackets behind GROUPING.
@@ -83,23 +83,23 @@ Arguments wide = Enclosed (Listed IsName (AtMost (tokens.Sign s.Comma) IsName ((
 
 pub arguments_v : (wide : Bool) → Viable true wide (Arguments wide) (arguments_at standard.arguments)
 unfolding arguments_at
-arguments_v wide = viable_enclosed (listed_at begins_name (found_or_stuck name_at) 7) (phrase_listed none name_phrase) (viable_listed (found_or_stuck name_at) (more (is_sign s.Comma) begins_name (found_or_stuck name_at) 7) none name_v (names wide)) where
+arguments_v wide = viable_enclosed (listed_at begins_name (found_or_unexpected name_at) 7) (phrase_listed none name_phrase) (viable_listed (found_or_unexpected name_at) (more (is_sign s.Comma) begins_name (found_or_unexpected name_at) 7) none name_v (names wide)) where
   none : (ts : List Token) → AtMost (tokens.Sign s.Comma) IsName ((limits_of wide).arguments - 1) ts [] ts
   none ts = (IsRepeated.none, omega arith)
 
-  names : (wide : Bool) → Viable true wide (AtMost (tokens.Sign s.Comma) IsName ((limits_of wide).arguments - 1)) (more (is_sign s.Comma) begins_name (found_or_stuck name_at) 7)
-  names true = viable_more (is_sign s.Comma) (tokens.Sign s.Comma) begins_name (found_or_stuck name_at) (after_sign_is s.Comma) refl name_part name_phrase name_v 7 8 (omega arith) (λ i. omega arith)
-  names false = viable_more (is_sign s.Comma) (tokens.Sign s.Comma) begins_name (found_or_stuck name_at) (after_sign_is s.Comma) refl name_part name_phrase name_v 7 7 (omega arith) (λ i. absurd cc)
+  names : (wide : Bool) → Viable true wide (AtMost (tokens.Sign s.Comma) IsName ((limits_of wide).arguments - 1)) (more (is_sign s.Comma) begins_name (found_or_unexpected name_at) 7)
+  names true = viable_more (is_sign s.Comma) (tokens.Sign s.Comma) begins_name (found_or_unexpected name_at) (after_sign_is s.Comma) refl name_part name_phrase name_v 7 8 (omega arith) (λ i. omega arith)
+  names false = viable_more (is_sign s.Comma) (tokens.Sign s.Comma) begins_name (found_or_unexpected name_at) (after_sign_is s.Comma) refl name_part name_phrase name_v 7 7 (omega arith) (λ i. absurd cc)
 
 -- ---- set functions
 
 closed_name_v : {wide : Bool} → Viable true wide (Closed IsName) closed_name_at
 unfolding closed_name_at
-closed_name_v = viable_closed IsName (found_or_stuck name_at) name_v
+closed_name_v = viable_closed IsName (found_or_unexpected name_at) name_v
 
 argument_v : {wide : Bool} → Viable true wide (Enclosed IsName) argument_at
 unfolding argument_at closed_name_at
-argument_v = viable_enclosed (found_or_stuck name_at) name_phrase name_v
+argument_v = viable_enclosed (found_or_unexpected name_at) name_phrase name_v
 
 -- A set function behind its word.
 abbrev Of : Word → Derivation Aggregate
@@ -123,9 +123,9 @@ counted_v = viable_word w.Distinct (λ ts. closed_name_at ts >>= λ n. Ok (aggre
 
 count_v : {wide : Bool} → Viable true wide (Of w.Count) count_at
 unfolding count_at
-count_v = viable_found_or_stuck {Q = Counted} (is_sign s.Open) (tokens.Sign s.Open) (after_sign_is s.Open) (λ i. refl) (λ us vs x q. q) (λ a. choose (after (is_sign s.Star) a) (counted_name_at a) (λ b. found_or_stuck (after (is_sign s.Close)) b >>= λ rest. Ok (aggregates.CountRows, rest)))
+count_v = viable_found_or_stuck {Q = Counted} (is_sign s.Open) (tokens.Sign s.Open) (after_sign_is s.Open) (λ i. refl) (λ us vs x q. q) (λ a. choose (after (is_sign s.Star) a) (counted_name_at a) (λ b. found_or_unexpected (after (is_sign s.Close)) b >>= λ rest. Ok (aggregates.CountRows, rest)))
     record { tokens = tokens.Sign s.Star ∷ tokens.Sign s.Close ∷ []; value = aggregates.CountRows; derived = λ other. IsAggregate.count_rows }
-    (viable_choose {Q = λ us f ws. Counted (tokens.Sign s.Star ∷ us) f ws} (is_sign s.Star) (tokens.Sign s.Star) (after_sign_is s.Star) (λ i. refl) (λ us vs x q. q) counted_name_at (λ b. found_or_stuck (after (is_sign s.Close)) b >>= λ rest. Ok (aggregates.CountRows, rest)) counted_v
+    (viable_choose {Q = λ us f ws. Counted (tokens.Sign s.Star ∷ us) f ws} (is_sign s.Star) (tokens.Sign s.Star) (after_sign_is s.Star) (λ i. refl) (λ us vs x q. q) counted_name_at (λ b. found_or_unexpected (after (is_sign s.Close)) b >>= λ rest. Ok (aggregates.CountRows, rest)) counted_v
     (viable_found_or_stuck {Q = λ us f ws. Counted (tokens.Sign s.Star ∷ tokens.Sign s.Close ∷ us) f ws} (is_sign s.Close) (tokens.Sign s.Close) (after_sign_is s.Close) (λ i. refl) (λ us vs x q. q) (λ rest. Ok (aggregates.CountRows, rest)) record { tokens = []; value = aggregates.CountRows; derived = λ other. IsAggregate.count_rows } (viable_ok aggregates.CountRows (λ ts. IsAggregate.count_rows))))
 
 sum_v : {wide : Bool} → Viable true wide (Of w.Sum) (λ ts. argument_at ts >>= λ n. Ok (aggregates.Sum n.0, n.1))
@@ -153,7 +153,7 @@ aggregate_phrase = record { tokens = tokens.Word w.Count ∷ tokens.Sign s.Open 
 
 -- A set function, whose word is looked at first.
 worded_at : Reader Aggregate
-worded_at ts = choose (after (is_word w.Count) ts) (choose (after (is_word w.Sum) ts) (choose (after (is_word w.Min) ts) (choose (after (is_word w.Max) ts) (choose (after (is_word w.Avg) ts) (stuck ts)
+worded_at ts = choose (after (is_word w.Count) ts) (choose (after (is_word w.Sum) ts) (choose (after (is_word w.Min) ts) (choose (after (is_word w.Max) ts) (choose (after (is_word w.Avg) ts) (unexpected_at ts)
     (λ a. argument_at a >>= λ n. Ok (aggregates.Avg n.0, n.1)))
     (λ a. argument_at a >>= λ n. Ok (aggregates.Max n.0, n.1)))
     (λ a. argument_at a >>= λ n. Ok (aggregates.Min n.0, n.1)))
@@ -172,7 +172,7 @@ aggregate_worded (x ∷ ts) = refl
 
 pub aggregate_v : {wide : Bool} → Viable true wide IsAggregate aggregate_at
 unfolding worded_at
-aggregate_v = viable_same aggregate_at worded_at aggregate_worded (viable_word w.Count _ (λ a. count_at a) (viable_word w.Sum _ (λ a. argument_at a >>= λ n. Ok (aggregates.Sum n.0, n.1)) (viable_word w.Min _ (λ a. argument_at a >>= λ n. Ok (aggregates.Min n.0, n.1)) (viable_word w.Max _ (λ a. argument_at a >>= λ n. Ok (aggregates.Max n.0, n.1)) (viable_word w.Avg stuck (λ a. argument_at a >>= λ n. Ok (aggregates.Avg n.0, n.1)) (viable_stuck aggregate_phrase) avg_v) max_v) min_v) sum_v) count_v)
+aggregate_v = viable_same aggregate_at worded_at aggregate_worded (viable_word w.Count _ (λ a. count_at a) (viable_word w.Sum _ (λ a. argument_at a >>= λ n. Ok (aggregates.Sum n.0, n.1)) (viable_word w.Min _ (λ a. argument_at a >>= λ n. Ok (aggregates.Min n.0, n.1)) (viable_word w.Max _ (λ a. argument_at a >>= λ n. Ok (aggregates.Max n.0, n.1)) (viable_word w.Avg unexpected_at (λ a. argument_at a >>= λ n. Ok (aggregates.Avg n.0, n.1)) (viable_stuck aggregate_phrase) avg_v) max_v) min_v) sum_v) count_v)
 
 -- ---- literals, operators and truth values
 
@@ -199,7 +199,7 @@ literal_part = record { at_end = refl; at_token = at_token } where
   at_token (tokens.Word w.False) us e = record { counts = refl; behind = []; value = literals.Truth false; derived = λ other. IsLiteral.no }
   at_token t us e = absurd cc
 
-literal_v : {wide : Bool} → Viable true wide IsLiteral (found_or_stuck literal_at)
+literal_v : {wide : Bool} → Viable true wide IsLiteral (found_or_unexpected literal_at)
 literal_v = viable_found_or_stuck_front literal_at literal_finds literal_phrase
 
 -- The literals in brackets behind IN.
@@ -211,13 +211,13 @@ literals_phrase wide = record { tokens = tokens.Sign s.Open ∷ tokens.Word w.Tr
 
 pub literals_v : (wide : Bool) → Viable true wide (Literals wide) (literals_at standard.literals)
 unfolding literals_at
-literals_v wide = viable_enclosed (listed_at begins_literal (found_or_stuck literal_at) 63) (phrase_listed none literal_phrase) (viable_listed (found_or_stuck literal_at) (more (is_sign s.Comma) begins_literal (found_or_stuck literal_at) 63) none literal_v (others wide)) where
+literals_v wide = viable_enclosed (listed_at begins_literal (found_or_unexpected literal_at) 63) (phrase_listed none literal_phrase) (viable_listed (found_or_unexpected literal_at) (more (is_sign s.Comma) begins_literal (found_or_unexpected literal_at) 63) none literal_v (others wide)) where
   none : (ts : List Token) → AtMost (tokens.Sign s.Comma) IsLiteral ((limits_of wide).literals - 1) ts [] ts
   none ts = (IsRepeated.none, omega arith)
 
-  others : (wide : Bool) → Viable true wide (AtMost (tokens.Sign s.Comma) IsLiteral ((limits_of wide).literals - 1)) (more (is_sign s.Comma) begins_literal (found_or_stuck literal_at) 63)
-  others true = viable_more (is_sign s.Comma) (tokens.Sign s.Comma) begins_literal (found_or_stuck literal_at) (after_sign_is s.Comma) refl literal_part literal_phrase literal_v 63 64 (omega arith) (λ i. omega arith)
-  others false = viable_more (is_sign s.Comma) (tokens.Sign s.Comma) begins_literal (found_or_stuck literal_at) (after_sign_is s.Comma) refl literal_part literal_phrase literal_v 63 63 (omega arith) (λ i. absurd cc)
+  others : (wide : Bool) → Viable true wide (AtMost (tokens.Sign s.Comma) IsLiteral ((limits_of wide).literals - 1)) (more (is_sign s.Comma) begins_literal (found_or_unexpected literal_at) 63)
+  others true = viable_more (is_sign s.Comma) (tokens.Sign s.Comma) begins_literal (found_or_unexpected literal_at) (after_sign_is s.Comma) refl literal_part literal_phrase literal_v 63 64 (omega arith) (λ i. omega arith)
+  others false = viable_more (is_sign s.Comma) (tokens.Sign s.Comma) begins_literal (found_or_unexpected literal_at) (after_sign_is s.Comma) refl literal_part literal_phrase literal_v 63 63 (omega arith) (λ i. absurd cc)
 
 pub op_finds : Finds IsOp op_at
 unfolding op_at
@@ -236,7 +236,7 @@ truth_phrase = record { tokens = tokens.Word w.True ∷ []; value = truth.True; 
 
 -- A truth value, whose word is looked at first.
 truth_worded_at : Reader Truth
-truth_worded_at ts = choose (after (is_word w.True) ts) (choose (after (is_word w.False) ts) (choose (after (is_word w.Unknown) ts) (stuck ts) (λ r. Ok (truth.Unknown, r))) (λ r. Ok (truth.False, r))) (λ r. Ok (truth.True, r))
+truth_worded_at ts = choose (after (is_word w.True) ts) (choose (after (is_word w.False) ts) (choose (after (is_word w.Unknown) ts) (unexpected_at ts) (λ r. Ok (truth.Unknown, r))) (λ r. Ok (truth.False, r))) (λ r. Ok (truth.True, r))
 
 truth_worded : (ts : List Token) → truth_at ts ≡ truth_worded_at ts
 unfolding truth_at truth_worded_at
@@ -248,4 +248,4 @@ truth_worded (x ∷ ts) = refl
 
 pub truth_v : {wide : Bool} → Viable true wide IsTruthValue truth_at
 unfolding truth_worded_at
-truth_v = viable_same truth_at truth_worded_at truth_worded (viable_word w.True _ (λ r. Ok (truth.True, r)) (viable_word w.False _ (λ r. Ok (truth.False, r)) (viable_word w.Unknown stuck (λ r. Ok (truth.Unknown, r)) (viable_stuck truth_phrase) (viable_ok truth.Unknown (λ ts. IsTruthValue.unknown))) (viable_ok truth.False (λ ts. IsTruthValue.no))) (viable_ok truth.True (λ ts. IsTruthValue.yes)))
+truth_v = viable_same truth_at truth_worded_at truth_worded (viable_word w.True _ (λ r. Ok (truth.True, r)) (viable_word w.False _ (λ r. Ok (truth.False, r)) (viable_word w.Unknown unexpected_at (λ r. Ok (truth.Unknown, r)) (viable_stuck truth_phrase) (viable_ok truth.Unknown (λ ts. IsTruthValue.unknown))) (viable_ok truth.False (λ ts. IsTruthValue.no))) (viable_ok truth.True (λ ts. IsTruthValue.yes)))

@@ -6,7 +6,7 @@ use Rattle.semantics.specs.declared.token.Word.TheVariants as w
 use Rattle.semantics.specs.declared.token.Sign.TheVariants as s
 use Rattle.semantics.specs.Syntax.{PredicateForm, not_of, column}
 use Rattle.query_parser.specs.Fronts.{is_word, is_sign, after}
-use Rattle.query_parser.specs.Steps.{◌>>=◌, Reader, found_or_stuck, more}
+use Rattle.query_parser.specs.Steps.{◌>>=◌, Reader, found_or_unexpected, more}
 use Rattle.query_parser.specs.AtomSteps.{test_after, tested_atom_at}
 use Rattle.query_parser.specs.ExpressionSteps.{Inside}
 use Rattle.query_parser.specs.PredicateSteps.{test_at, negation_at, conjunction_at, disjunction_at, has_level, predicate_at, any_front, inside_of}
@@ -53,7 +53,7 @@ module _ (wide : Bool) (IsInner : Derivation PredicateForm) (inside : Inside) (i
 
   -- What is read behind a predicate in brackets.
   abbrev closed_at : PredicateForm → Reader PredicateForm
-  closed_at p ts = found_or_stuck (after (is_sign s.Close)) ts >>= λ b. test_after p b
+  closed_at p ts = found_or_unexpected (after (is_sign s.Close)) ts >>= λ b. test_after p b
 
   -- That is viable.
   closed_v : (p : PredicateForm) → Viable true wide (AfterInner p) (closed_at p)

@@ -16,7 +16,7 @@ use Rattle.semantics.specs.Productions.{IsExpression, IsPredicate}
 use Rattle.semantics.specs.Grammar.{IsItem, IsGroup, IsGroupBy, IsOrderBy, IsQuery, IsClause}
 use Rattle.query_parser.specs.declared.fault.GrammarFault.{GrammarFault}
 use Rattle.query_parser.specs.Fronts.{is_word, is_sign, after}
-use Rattle.query_parser.specs.Steps.{◌>>=◌, Reader, stuck, found_or_stuck, more, name_at}
+use Rattle.query_parser.specs.Steps.{◌>>=◌, Reader, unexpected_at, found_or_unexpected, more, name_at}
 use Rattle.query_parser.specs.ExpressionSteps.{begins_expression}
 use Rattle.query_parser.specs.PredicateSteps.{predicate_at, any_front}
 use Rattle.query_parser.specs.GroupSteps.{all_at, group_at}
@@ -48,8 +48,8 @@ ItemBehind limits e us i ws = (vs : List Token) → Plain limits vs e us → IsI
 alias_v : (wide : Bool) (e : ExpressionForm) → Viable true wide (AliasBehind (limits_of wide) e) alias_at
 unfolding alias_at
 alias_v wide e =
-    viable_word w.As (λ ts. Ok (None, ts)) (λ a. found_or_stuck name_at a >>= λ n. Ok (Some n.0, n.1))
-    (viable_ok None (λ ts vs p. IsItem.plain p)) (viable_made (found_or_stuck name_at) (λ n. Some n) named name_v) where
+    viable_word w.As (λ ts. Ok (None, ts)) (λ a. found_or_unexpected name_at a >>= λ n. Ok (Some n.0, n.1))
+    (viable_ok None (λ ts vs p. IsItem.plain p)) (viable_made (found_or_unexpected name_at) (λ n. Some n) named name_v) where
       named : (us vs : List Token) (n : List ℕ) → IsName us n vs
           → AliasBehind (limits_of wide) e (tokens.Word w.As ∷ us) (Some n) vs
       named _ _ _ IsName.name zs p = IsItem.named p
@@ -159,17 +159,17 @@ from_beside x ts = from_at ts >>= λ rest. beside x rest
 
 -- The same behind FROM, where its name is found, and where it is read.
 abbrev lines_beside : {A : Type 0} → A → Reader A
-lines_beside x a = choose (lines_at a) (stuck a) (λ l. beside x l.1)
+lines_beside x a = choose (lines_at a) (unexpected_at a) (λ l. beside x l.1)
 
 abbrev named_lines : List Token → Result (List Token) GrammarFault
-named_lines a = found_or_stuck name_at a >>= λ n. cond (bytes_eq n.0 (codes "lines")) (Ok n.1) (stuck a)
+named_lines a = found_or_unexpected name_at a >>= λ n. cond (bytes_eq n.0 (codes "lines")) (Ok n.1) (unexpected_at a)
 
 from_way : {A : Type 0} (x : A) (ts : List Token)
-    → from_beside x ts ≡ (found_or_stuck (after (is_word w.From)) ts >>= λ a. lines_beside x a)
+    → from_beside x ts ≡ (found_or_unexpected (after (is_word w.From)) ts >>= λ a. lines_beside x a)
 unfolding from_at lines_at name_at
-from_way {A} x ts = of_from (found_or_stuck (after (is_word w.From)) ts) where
-  of_test : (b : Bool) (a us : List Token) → (cond b (Ok us) (stuck a) >>= λ rest. beside x rest)
-      ≡ choose (where_named b us) (stuck a) (λ l. beside x l.1)
+from_way {A} x ts = of_from (found_or_unexpected (after (is_word w.From)) ts) where
+  of_test : (b : Bool) (a us : List Token) → (cond b (Ok us) (unexpected_at a) >>= λ rest. beside x rest)
+      ≡ choose (where_named b us) (unexpected_at a) (λ l. beside x l.1)
   of_test true a us = refl
   of_test false a us = refl
 
@@ -200,9 +200,9 @@ LinesBehind limits is us js ws = NameBehind limits is (tokens.Name (codes "lines
 
 from_v : (wide : Bool) (is : List ItemForm) → Viable true wide (FromBehind (limits_of wide) is) (from_beside is)
 from_v wide is =
-    viable_same (from_beside is) (λ ts. found_or_stuck (after (is_word w.From)) ts >>= λ a. lines_beside is a) (from_way is)
+    viable_same (from_beside is) (λ ts. found_or_unexpected (after (is_word w.From)) ts >>= λ a. lines_beside is a) (from_way is)
     (found_or_stuck_word w.From (lines_beside is) lines
-    (viable_front {Q = λ _. LinesBehind (limits_of wide) is} lines_at lines_finds joined stuck (λ _. beside is)
+    (viable_front {Q = λ _. LinesBehind (limits_of wide) is} lines_at lines_finds joined unexpected_at (λ _. beside is)
     (viable_stuck lines) (λ _. viable_ok is (λ ts vs p. p)))) where
       lines : Phrase (NameBehind (limits_of wide) is)
       lines = record { tokens = tokens.Name (codes "lines") ∷ []; value = is; derived = λ other vs p. p }
@@ -309,7 +309,7 @@ elements_v wide =
 
 -- BY and the elements.
 abbrev by_at : Reader (Bool × List ElementForm)
-by_at ts = found_or_stuck (after (is_word w.By)) ts >>= λ b. elements_at standard b
+by_at ts = found_or_unexpected (after (is_word w.By)) ts >>= λ b. elements_at standard b
 
 groups_v : (wide : Bool) → Viable true wide (Groups (limits_of wide)) (groups_at standard)
 unfolding groups_at

@@ -7,7 +7,7 @@ use Rattle.semantics.specs.declared.token.Word.TheVariants as w
 use Rattle.query_lexer.specs.Options.{choose}
 use Rattle.semantics.specs.Syntax.{ExpressionForm, OperandForm, PredicateForm, truth_test, compare, between, member, null_test, column}
 use Rattle.query_parser.specs.Fronts.{is_word, after}
-use Rattle.query_parser.specs.Steps.{◌>>=◌, Reader, stuck, found_or_stuck}
+use Rattle.query_parser.specs.Steps.{◌>>=◌, Reader, unexpected_at, found_or_unexpected}
 use Rattle.query_parser.specs.LeafSteps.{literal_at, literals_at, op_at, truth_at, mark_at}
 use Rattle.query_parser.specs.ExpressionSteps.{Inside, expression_at}
 
@@ -23,20 +23,20 @@ member_after most x n ts = literals_at most ts >>= λ ls. Ok (member x n ls.0, l
 
 -- The atom of an operand and the two ends behind its BETWEEN.
 unfoldable pub between_after : Inside → OperandForm → Bool → Reader PredicateForm
-between_after inside x n ts = operand_at inside ts >>= λ y. found_or_stuck (after (is_word w.And)) y.1 >>= λ a. operand_at inside a >>= λ z. Ok (between x n y.0 z.0, z.1)
+between_after inside x n ts = operand_at inside ts >>= λ y. found_or_unexpected (after (is_word w.And)) y.1 >>= λ a. operand_at inside a >>= λ z. Ok (between x n y.0 z.0, z.1)
 
 -- The atom of an operand and what stands behind its NOT.
 unfoldable pub negated_after : Inside → OperandForm → Reader PredicateForm
 negated_after inside x ts = choose (after (is_word w.In) ts)
-    (found_or_stuck (after (is_word w.Between)) ts >>= λ a. between_after inside x true a)
+    (found_or_unexpected (after (is_word w.Between)) ts >>= λ a. between_after inside x true a)
     (λ a. member_after inside.limits.literals x true a)
 
 -- The atom that an operand alone is: a bare name. Anything else asks for more than these tokens.
 unfoldable pub column_of : OperandForm → List Token → Result PredicateForm GrammarFault
 column_of (OperandForm.expression (ExpressionForm.name n)) ts = Ok (column n)
-column_of (OperandForm.expression (ExpressionForm.grouping ns)) ts = stuck ts
-column_of (OperandForm.expression (ExpressionForm.function f)) ts = stuck ts
-column_of (OperandForm.literal a) ts = stuck ts
+column_of (OperandForm.expression (ExpressionForm.grouping ns)) ts = unexpected_at ts
+column_of (OperandForm.expression (ExpressionForm.function f)) ts = unexpected_at ts
+column_of (OperandForm.literal a) ts = unexpected_at ts
 
 -- The atom of an operand and what stands behind it, unless that is IS.
 unfoldable pub atom_after : Inside → OperandForm → Reader PredicateForm

@@ -9,7 +9,7 @@ use Rattle.query_lexer.specs.Options.{choose}
 use Rattle.semantics.specs.Syntax.{ExpressionForm, FunctionForm, PredicateForm, over_all, over_filtered}
 use Rattle.semantics.specs.Leaves.{Limits}
 use Rattle.query_parser.specs.Fronts.{is_word, is_sign, after}
-use Rattle.query_parser.specs.Steps.{◌>>=◌, Reader, over, found_or_stuck, name_at}
+use Rattle.query_parser.specs.Steps.{◌>>=◌, Reader, over, found_or_unexpected, name_at}
 use Rattle.query_parser.specs.LeafSteps.{aggregate_at, arguments_at}
 
 -- What may stand in brackets: within which limits, whether a level of them is left, and what reads the predicate there.
@@ -20,8 +20,8 @@ pub record Inside : Type 0 where
 
 -- The bracketed predicate behind FILTER. The levels are counted at the bracket.
 unfoldable pub filter_at : Inside → Reader PredicateForm
-filter_at inside ts = found_or_stuck (after (is_sign s.Open)) ts >>= λ a. cond inside.has_level
-    (found_or_stuck (after (is_word w.Where)) a >>= λ b. inside.read b >>= λ p. found_or_stuck (after (is_sign s.Close)) p.1 >>= λ rest. Ok (p.0, rest))
+filter_at inside ts = found_or_unexpected (after (is_sign s.Open)) ts >>= λ a. cond inside.has_level
+    (found_or_unexpected (after (is_word w.Where)) a >>= λ b. inside.read b >>= λ p. found_or_unexpected (after (is_sign s.Close)) p.1 >>= λ rest. Ok (p.0, rest))
     (over a)
 
 -- A set function, and the FILTER behind it, where there is one.

@@ -9,7 +9,7 @@ use Rattle.query_lexer.specs.Options.{choose}
 use Rattle.semantics.specs.Syntax.{ElementForm, set, rollup, cube, sets, element_forms}
 use Rattle.query_parser.specs.PredicateSteps.{any_front}
 use Rattle.query_parser.specs.Fronts.{is_word, is_sign, after}
-use Rattle.query_parser.specs.Steps.{◌>>=◌, Reader, over, found_or_stuck, with_front, more, name_at, begins_name}
+use Rattle.query_parser.specs.Steps.{◌>>=◌, Reader, over, found_or_unexpected, with_front, more, name_at, begins_name}
 
 -- A part and those behind it, each behind its comma.
 abbrev pub all_at : {A : Type 0} → (List Token → Bool) → Reader A → Reader (List A)
@@ -17,11 +17,11 @@ all_at begins part ts = part ts >>= λ first. with_front (first.0 ∷ []) (more 
 
 -- The same in brackets.
 abbrev pub enclosed_at : {A : Type 0} → (List Token → Bool) → Reader A → Reader (List A)
-enclosed_at begins part ts = found_or_stuck (after (is_sign s.Open)) ts >>= λ a. all_at begins part a >>= λ all. found_or_stuck (after (is_sign s.Close)) all.1 >>= λ rest. Ok (all.0, rest)
+enclosed_at begins part ts = found_or_unexpected (after (is_sign s.Open)) ts >>= λ a. all_at begins part a >>= λ all. found_or_unexpected (after (is_sign s.Close)) all.1 >>= λ rest. Ok (all.0, rest)
 
 -- A unit.
 unfoldable pub unit_at : Reader (List (List ℕ))
-unit_at ts = choose (name_at ts) (enclosed_at begins_name (found_or_stuck name_at) ts) (λ n. Ok (n.0 ∷ [], n.1))
+unit_at ts = choose (name_at ts) (enclosed_at begins_name (found_or_unexpected name_at) ts) (λ n. Ok (n.0 ∷ [], n.1))
 
 -- Whether a unit begins in front of tokens.
 unfoldable pub begins_unit : List Token → Bool
@@ -55,7 +55,7 @@ element_at nested ts = choose (after (is_word w.Rollup) ts)
 -- What stands behind GROUPING: SETS and its bracketed elements, with at most n levels of GROUPING SETS in all.
 unfoldable pub sets_at : ℕ → Reader ElementForm
 sets_at zero ts = over ts
-sets_at (suc n) ts = found_or_stuck (after (is_word w.Sets)) ts >>= λ a. enclosed_at any_front (element_at (sets_at n)) a >>= λ gs. Ok (sets (element_forms gs.0), gs.1)
+sets_at (suc n) ts = found_or_unexpected (after (is_word w.Sets)) ts >>= λ a. enclosed_at any_front (element_at (sets_at n)) a >>= λ gs. Ok (sets (element_forms gs.0), gs.1)
 
 -- An element of GROUP BY, with at most n levels of GROUPING SETS in one another.
 abbrev pub group_at : ℕ → Reader ElementForm

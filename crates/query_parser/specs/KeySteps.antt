@@ -7,7 +7,7 @@ use Rattle.query_lexer.specs.Options.{choose}
 use Rattle.semantics.specs.Syntax.{KeyForm}
 use Rattle.semantics.specs.Leaves.{Limits}
 use Rattle.query_parser.specs.Fronts.{is_word, after}
-use Rattle.query_parser.specs.Steps.{◌>>=◌, Reader, found_or_stuck}
+use Rattle.query_parser.specs.Steps.{◌>>=◌, Reader, found_or_unexpected}
 use Rattle.query_parser.specs.ExpressionSteps.{expression_at, begins_expression}
 use Rattle.query_parser.specs.PredicateSteps.{inside_of}
 use Rattle.query_parser.specs.GroupSteps.{all_at}
@@ -19,7 +19,7 @@ direction_at ts = choose (after (is_word w.Desc) ts) (choose (after (is_word w.A
 -- Whether NULL is first: as it is written, else exactly under DESC.
 unfoldable pub null_ordering_at : Bool → Reader Bool
 null_ordering_at descending ts = choose (after (is_word w.Nulls) ts) (Ok (descending, ts)) (λ a.
-    choose (after (is_word w.First) a) (found_or_stuck (after (is_word w.Last)) a >>= λ r. Ok (false, r)) (λ r. Ok (true, r)))
+    choose (after (is_word w.First) a) (found_or_unexpected (after (is_word w.Last)) a >>= λ r. Ok (false, r)) (λ r. Ok (true, r)))
 
 -- A key.
 unfoldable pub key_at : Limits → Reader KeyForm
@@ -28,4 +28,4 @@ key_at limits ts = expression_at (inside_of limits limits.levels) ts >>= λ e. n
 
 -- The keys of ORDER BY, or none.
 unfoldable pub keys_at : Limits → Reader (List KeyForm)
-keys_at limits ts = choose (after (is_word w.Order) ts) (Ok ([], ts)) (λ a. found_or_stuck (after (is_word w.By)) a >>= λ b. all_at begins_expression (key_at limits) b)
+keys_at limits ts = choose (after (is_word w.Order) ts) (Ok ([], ts)) (λ a. found_or_unexpected (after (is_word w.By)) a >>= λ b. all_at begins_expression (key_at limits) b)

@@ -9,7 +9,7 @@ use Rattle.semantics.specs.Syntax.{PredicateForm, not_of}
 use Rattle.query_parser.specs.Fronts.{is_word, is_sign, after}
 use Rattle.semantics.specs.Leaves.{Limits}
 use Rattle.semantics.specs.Productions.{conjunction_of, disjunction_of}
-use Rattle.query_parser.specs.Steps.{◌>>=◌, Reader, over, found_or_stuck, more}
+use Rattle.query_parser.specs.Steps.{◌>>=◌, Reader, over, found_or_unexpected, more}
 use Rattle.query_parser.specs.AtomSteps.{test_after, tested_atom_at}
 use Rattle.query_parser.specs.ExpressionSteps.{Inside}
 
@@ -17,7 +17,7 @@ use Rattle.query_parser.specs.ExpressionSteps.{Inside}
 unfoldable pub test_at : Inside → Reader PredicateForm
 test_at inside ts = choose (after (is_sign s.Open) ts)
     (tested_atom_at inside ts)
-    (λ a. inside.read a >>= λ p. found_or_stuck (after (is_sign s.Close)) p.1 >>= λ b. test_after p.0 b)
+    (λ a. inside.read a >>= λ p. found_or_unexpected (after (is_sign s.Close)) p.1 >>= λ b. test_after p.0 b)
 
 -- A test with NOT or without.
 unfoldable pub negation_at : Inside → Reader PredicateForm

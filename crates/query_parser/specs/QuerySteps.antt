@@ -9,7 +9,7 @@ use Rattle.query_lexer.specs.Options.{choose}
 use Rattle.semantics.specs.Syntax.{PredicateForm, ElementForm, ItemForm, KeyForm, TreeForm}
 use Rattle.semantics.specs.Leaves.{Limits}
 use Rattle.query_parser.specs.Fronts.{is_word, after}
-use Rattle.query_parser.specs.Steps.{◌>>=◌, Reader, stuck, found_or_stuck, listed_at, name_at}
+use Rattle.query_parser.specs.Steps.{◌>>=◌, Reader, unexpected_at, found_or_unexpected, listed_at, name_at}
 use Rattle.query_parser.specs.declared.fault.GrammarFault.{GrammarFault}
 use Rattle.query_parser.specs.ExpressionSteps.{expression_at, begins_expression}
 use Rattle.query_parser.specs.PredicateSteps.{predicate_at, inside_of, any_front}
@@ -18,7 +18,7 @@ use Rattle.query_parser.specs.KeySteps.{keys_at}
 
 -- An alias, or none.
 unfoldable pub alias_at : Reader (Option (List ℕ))
-alias_at ts = choose (after (is_word w.As) ts) (Ok (None, ts)) (λ a. found_or_stuck name_at a >>= λ n. Ok (Some n.0, n.1))
+alias_at ts = choose (after (is_word w.As) ts) (Ok (None, ts)) (λ a. found_or_unexpected name_at a >>= λ n. Ok (Some n.0, n.1))
 
 -- An item.
 unfoldable pub item_at : Limits → Reader ItemForm
@@ -30,7 +30,7 @@ items_at limits ts = listed_at begins_expression (item_at limits) (limits.items 
 
 -- What stands behind FROM and the name `lines`.
 unfoldable pub from_at : List Token → Result (List Token) GrammarFault
-from_at ts = found_or_stuck (after (is_word w.From)) ts >>= λ a. found_or_stuck name_at a >>= λ n. cond (bytes_eq n.0 (codes "lines")) (Ok n.1) (stuck a)
+from_at ts = found_or_unexpected (after (is_word w.From)) ts >>= λ a. found_or_unexpected name_at a >>= λ n. cond (bytes_eq n.0 (codes "lines")) (Ok n.1) (unexpected_at a)
 
 -- The predicate of WHERE or HAVING behind its word, or none.
 unfoldable pub clause_at : Limits → Word → Reader (Option PredicateForm)
@@ -46,11 +46,11 @@ elements_at limits ts = all_at any_front (group_at limits.sets) (set_quantifier_
 
 -- Whether GROUP BY DISTINCT is written, and the elements of GROUP BY, or none.
 unfoldable pub groups_at : Limits → Reader (Bool × List ElementForm)
-groups_at limits ts = choose (after (is_word w.Group) ts) (Ok ((false, []), ts)) (λ a. found_or_stuck (after (is_word w.By)) a >>= λ b. elements_at limits b)
+groups_at limits ts = choose (after (is_word w.Group) ts) (Ok ((false, []), ts)) (λ a. found_or_unexpected (after (is_word w.By)) a >>= λ b. elements_at limits b)
 
 -- The items of SELECT, and what stands behind FROM.
 unfoldable pub select_at : Limits → Reader (List ItemForm)
-select_at limits ts = found_or_stuck (after (is_word w.Select)) ts >>= λ a. items_at limits a >>= λ is. from_at is.1 >>= λ rest. Ok (is.0, rest)
+select_at limits ts = found_or_unexpected (after (is_word w.Select)) ts >>= λ a. items_at limits a >>= λ is. from_at is.1 >>= λ rest. Ok (is.0, rest)
 
 -- WHERE and GROUP BY, which say of the records.
 unfoldable pub records_at : Limits → Reader (Option PredicateForm × Bool × List ElementForm)
@@ -68,7 +68,7 @@ query_at limits ts = select_at limits ts >>= λ is. records_at limits is.1 >>= �
 -- What was read, where nothing is left.
 abbrev pub at_end : List Token → TreeForm → Result TreeForm GrammarFault
 at_end [] q = Ok q
-at_end (x ∷ ts) q = stuck (x ∷ ts)
+at_end (x ∷ ts) q = unexpected_at (x ∷ ts)
 
 -- A query that all of the tokens are.
 unfoldable pub whole_at : Limits → List Token → Result TreeForm GrammarFault

@@ -31,16 +31,16 @@ abbrev pub ◌>>=◌ : {A B : Type 0} → Result A GrammarFault → (A → Resul
 (Err e) >>= f = Err e
 
 -- The first of these tokens, or the end, is not expected.
-abbrev pub stuck : {A : Type 0} → List Token → Result A GrammarFault
-stuck ts = Err (faults.Unexpected (length ts))
+abbrev pub unexpected_at : {A : Type 0} → List Token → Result A GrammarFault
+unexpected_at ts = Err (faults.Unexpected (length ts))
 
 -- What stands before these tokens is too much.
 abbrev pub over : {A : Type 0} → List Token → Result A GrammarFault
 over ts = Err (faults.OverLimit (length ts))
 
 -- What stands in front, or the fault that it does not.
-abbrev pub found_or_stuck : {A : Type 0} → (List Token → Option A) → List Token → Result A GrammarFault
-found_or_stuck front ts = choose (front ts) (stuck ts) (λ x. Ok x)
+abbrev pub found_or_unexpected : {A : Type 0} → (List Token → Option A) → List Token → Result A GrammarFault
+found_or_unexpected front ts = choose (front ts) (unexpected_at ts) (λ x. Ok x)
 
 -- What was read before, and what is still read.
 abbrev pub with_front : {A : Type 0} → List A → Result (List A × List Token) GrammarFault → Result (List A × List Token) GrammarFault
@@ -61,7 +61,7 @@ listed_at begins part n ts = part ts >>= λ first. with_front (first.0 ∷ []) (
 
 -- The same in brackets.
 abbrev pub bracketed_at : {A : Type 0} → (List Token → Bool) → Reader A → ℕ → Reader (List A)
-bracketed_at begins part n ts = found_or_stuck (after (is_sign s.Open)) ts >>= λ a. listed_at begins part n a >>= λ all. found_or_stuck (after (is_sign s.Close)) all.1 >>= λ rest. Ok (all.0, rest)
+bracketed_at begins part n ts = found_or_unexpected (after (is_sign s.Open)) ts >>= λ a. listed_at begins part n a >>= λ all. found_or_unexpected (after (is_sign s.Close)) all.1 >>= λ rest. Ok (all.0, rest)
 
 -- A name, where one stands in front.
 unfoldable pub name_at : List Token → Option (List ℕ × List Token)

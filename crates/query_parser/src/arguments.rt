@@ -23,7 +23,7 @@ pub(crate) struct Names;
 
 impl Listed for Names {
     ghost use Rattle.std.specs.Prelude.{List, ℕ};
-    ghost use Rattle.query_parser.specs.Steps.{found_or_stuck, name_at, begins_name};
+    ghost use Rattle.query_parser.specs.Steps.{found_or_unexpected, name_at, begins_name};
 
     type Part = Text;
 
@@ -31,7 +31,7 @@ impl Listed for Names {
 
     ghost form = { λ n. n };
 
-    ghost reader = { found_or_stuck name_at };
+    ghost reader = { found_or_unexpected name_at };
 
     ghost front = { begins_name };
 

@@ -4,7 +4,7 @@ ghost use Rattle.std.specs.Prelude.{◌≡◌, ◌<◌, length, IfOk, IfSome};
 ghost use Rattle.query_lexer.specs.Options.{Tells};
 ghost use Rattle.query_parser.specs.declared.fault.GrammarFault.TheVariants.{OverLimit, Unexpected};
 ghost use Rattle.query_parser.specs.Fronts.{is_word, is_sign, after};
-ghost use Rattle.query_parser.specs.Steps.{Gives, found_or_stuck, name_at};
+ghost use Rattle.query_parser.specs.Steps.{Gives, found_or_unexpected, name_at};
 
 use crate::fault::GrammarFault;
 use query_ast::Text;
@@ -82,7 +82,7 @@ pub(crate) fn over_limit_fault(tokens: &[Token]) -> GrammarFault
 ///
 /// `Unexpected` with the number of the tokens, where another token or none stands in front.
 pub(crate) fn expect_word(tokens: &[Token], word: Word) -> Result<&[Token], GrammarFault>
-    ensures exact { Gives (λ x. x.now) result (found_or_stuck (after (is_word word)) tokens.now) }
+    ensures exact { Gives (λ x. x.now) result (found_or_unexpected (after (is_word word)) tokens.now) }
     ensures shorter { IfOk result (λ x. length x.now < length tokens.now) }
 {
     match after_word(tokens, word) {
@@ -100,7 +100,7 @@ pub(crate) fn expect_word(tokens: &[Token], word: Word) -> Result<&[Token], Gram
 ///
 /// `Unexpected` with the number of the tokens, where another token or none stands in front.
 pub(crate) fn expect_sign(tokens: &[Token], sign: Sign) -> Result<&[Token], GrammarFault>
-    ensures exact { Gives (λ x. x.now) result (found_or_stuck (after (is_sign sign)) tokens.now) }
+    ensures exact { Gives (λ x. x.now) result (found_or_unexpected (after (is_sign sign)) tokens.now) }
     ensures shorter { IfOk result (λ x. length x.now < length tokens.now) }
 {
     match after_sign(tokens, sign) {
@@ -118,7 +118,7 @@ pub(crate) fn expect_sign(tokens: &[Token], sign: Sign) -> Result<&[Token], Gram
 ///
 /// `Unexpected` with the number of the tokens, where another token or none stands in front.
 pub(crate) fn expect_name(tokens: &[Token]) -> Result<(&Text, &[Token]), GrammarFault>
-    ensures exact { Gives (λ x. (x.0.now, x.1.now)) result (found_or_stuck name_at tokens.now) }
+    ensures exact { Gives (λ x. (x.0.now, x.1.now)) result (found_or_unexpected name_at tokens.now) }
     ensures shorter { IfOk result (λ x. length x.1.now < length tokens.now) }
 {
     match name(tokens) {

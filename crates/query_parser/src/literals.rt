@@ -48,7 +48,7 @@ pub(crate) struct Literals;
 
 impl Listed for Literals {
     ghost use Rattle.semantics.specs.declared.literal.Literal.{Literal};
-    ghost use Rattle.query_parser.specs.Steps.{found_or_stuck};
+    ghost use Rattle.query_parser.specs.Steps.{found_or_unexpected};
     ghost use Rattle.query_parser.specs.LeafSteps.{literal_at, begins_literal};
 
     type Part = Literal;
@@ -57,7 +57,7 @@ impl Listed for Literals {
 
     ghost form = { λ a. a };
 
-    ghost reader = { found_or_stuck literal_at };
+    ghost reader = { found_or_unexpected literal_at };
 
     ghost front = { begins_literal };
 

@@ -1,5 +1,5 @@
 -- The definitions at some values.
-use Rattle.std.proofs.Common.{◌≡◌, ◌+◌, ◌*◌, ◌^◌, ℕ, pos, negsuc, true, false, List, [], ◌∷◌, codes, refl, None, Some}
+use Rattle.std.proofs.Common.{◌≡◌, ℕ, pos, negsuc, true, false, List, [], ◌∷◌, codes, refl, None, Some}
 use Rattle.std.specs.declared.cmp.Ordering.TheVariants.{Greater}
 use Rattle.std.specs.Fmt.{digits}
 use Rattle.csv.specs.Writing.{fields_text, is_blank}
@@ -16,7 +16,6 @@ use Rattle.semantics.specs.Aggregates.{Summary, plain, ratio}
 use Rattle.semantics.specs.Found.{Found}
 use Rattle.semantics.specs.Conditions.{truth}
 use Rattle.semantics.specs.Rows.{number_of_digits, row_value, rows_having_true}
-use Rattle.report_rows.specs.Inside.KeyPrefixes.{key_prefix, second_key_prefix, with_digits}
 use Rattle.semantics.specs.Order.{rows_in_order, under_key, rows_shown}
 use Rattle.report.specs.Report.{refusals_of, report_of}
 use Rattle.semantics.specs.Texts.{cell_field, escaped_text, report_bytes}
@@ -27,23 +26,6 @@ six-is-110 = refl
 -- the text \N is not NULL
 a-backslash-is-marked : escaped_text (codes "\\N") ≡ codes "\\\\N"
 a-backslash-is-marked = refl
-
--- the seventeenth byte is the first one of the second prefix
-a-prefix : key_prefix (text (codes "A") ∷ []) ≡ 65 * 2 ^ 120
-unfolding with_digits
-a-prefix = refl
-
-the-prefix-of-a-longer-text-is-that-of-its-start : key_prefix (text (codes "of sixteen bytesB") ∷ []) ≡ key_prefix (text (codes "of sixteen bytes") ∷ [])
-unfolding with_digits
-the-prefix-of-a-longer-text-is-that-of-its-start = refl
-
-a-second-prefix : second_key_prefix (text (codes "of sixteen bytesBC") ∷ []) ≡ 66 * 2 ^ 120 + 67 * 2 ^ 112
-unfolding with_digits
-a-second-prefix = refl
-
-the-second-prefix-of-a-short-text-is-nothing : second_key_prefix (text (codes "of sixteen bytes") ∷ []) ≡ 0
-unfolding with_digits
-the-second-prefix-of-a-short-text-is-nothing = refl
 
 an-average : cell_field (ratio (negsuc 6) 2) ≡ codes "-7/2"
 unfolding digits

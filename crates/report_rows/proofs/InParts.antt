@@ -12,7 +12,10 @@ use Rattle.std.proofs.lemmas.List.{drop-drop, length-drop, map-append, take-appe
 use Rattle.std.proofs.lemmas.List.Sorted.{IsPermutation-append, IsPermutation-refl}
 use Rattle.semantics.specs.Found.{Found}
 use Rattle.report_rows.specs.Parts.{AreMade, AreOfParts, items_of}
-use Rattle.report_rows.specs.Inside.SortEntries.{AreEntriesOf, AreEntriesOfParts, EntryForm, entry_form}
+use Rattle.report_rows.specs.Inside.SortEntries.{AreEntriesOf, AreEntriesOfParts, EntryForm, IsCodableAt, entry_at, entry_form}
+use Rattle.semantics.specs.Syntax.{KeyForm}
+use Rattle.report_rows.specs.declared.source.Source.{Source}
+use Rattle.std.specs.List.{AllByRecursion}
 use Rattle.report_rows.specs.declared.sort_entry.SortEntry.{SortEntry}
 
 none-left : {X : Type 0} (xs : List X) → length xs ≤ 0 → xs ≡ []
@@ -45,14 +48,23 @@ module _ {X Y : Type 0} (IsOf : List X → List Y → Type 0) where
       (both (take size list) (drop size list) part.items (flat_map items_of parts) of-parts.0 (parts-joined none both size (drop size list) parts of-parts.1 made))
   parts-joined none both size list (Err e ∷ parts) of-parts made = absurd made
 
+pub all-both : (P : Found → Type 0) (xs us : List Found) → AllByRecursion P xs → AllByRecursion P us → AllByRecursion P (xs ++ us)
+all-both P [] us a b = b
+all-both P (x ∷ xs) us a b = (a.0, all-both P xs us a.1 b)
+
 -- entries that are made in parts are those of all rows
-pub ranks-joined : (rank : Found → EntryForm) (size : ℕ) (rows : List Found) (parts : List (Result (Vec SortEntry) AllocError)) → AreEntriesOfParts rank size rows parts → AreMade parts → AreEntriesOf rank rows (flat_map items_of parts)
-ranks-joined rank = parts-joined (AreEntriesOf rank) (IsPermutation-refl []) both
+pub ranks-joined : (ks : List KeyForm) (sources : List (Vec Source)) (size : ℕ) (rows : List Found) (parts : List (Result (Vec SortEntry) AllocError)) → AreEntriesOfParts ks sources size rows parts → AreMade parts
+    → AreEntriesOf ks sources rows (flat_map items_of parts)
+ranks-joined ks sources = parts-joined (AreEntriesOf ks sources) (record { codable = tt; entries = IsPermutation-refl [] }) both
   where
-    both : (xs us : List Found) (ys vs : List SortEntry) → AreEntriesOf rank xs ys → AreEntriesOf rank us vs → AreEntriesOf rank (xs ++ us) (ys ++ vs)
-    both xs us ys vs p q =
-        subst (λ (rs : List EntryForm). IsPermutation rs (map entry_form (ys ++ vs))) (sym (map-append rank xs us))
-        (subst (IsPermutation (map rank xs ++ map rank us)) (sym (map-append entry_form ys vs)) (IsPermutation-append (map rank xs) (map entry_form ys) (map rank us) (map entry_form vs) p q))
+    both : (xs us : List Found) (ys vs : List SortEntry) → AreEntriesOf ks sources xs ys → AreEntriesOf ks sources us vs → AreEntriesOf ks sources (xs ++ us) (ys ++ vs)
+    both xs us ys vs p q = record {
+      codable = all-both (IsCodableAt ks sources) xs us p.codable q.codable;
+      entries =
+          subst (λ (rs : List EntryForm). IsPermutation rs (map entry_form (ys ++ vs))) (sym (map-append (entry_at ks sources) xs us))
+          (subst (IsPermutation (map (entry_at ks sources) xs ++ map (entry_at ks sources) us)) (sym (map-append entry_form ys vs))
+          (IsPermutation-append (map (entry_at ks sources) xs) (map entry_form ys) (map (entry_at ks sources) us) (map entry_form vs) p.entries q.entries));
+    }
 
 -- parts of so many rows are all rows, where there are as many as whole parts, and one more where rows are left
 pub parts-cover : (rows size parts : ℕ) → 0 < size → parts ≡ rows / size + min 1 (rows % size) → rows ≤ parts * size

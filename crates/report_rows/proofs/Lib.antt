@@ -3,12 +3,13 @@ pub mod Sameness
 pub mod Places
 pub mod Totals
 pub mod Rows
-mod Digits
-pub mod KeyOrder
+pub mod RowCodes
+mod Placed
 pub mod Maps
 pub mod Wide
 pub mod Filtering
 pub mod RowValues
+mod RowScope
 pub mod Keeping
 mod Arranged
 pub mod Sources

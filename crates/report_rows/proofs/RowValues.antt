@@ -1,40 +1,29 @@
 -- The value that a row shows for an expression that is typed in HAVING is of the type of the expression, or NULL.
-use Rattle.std.proofs.Common.{◌≡◌, ◌∙◌, ◌<◌, inl, inr, ℕ, zero, suc, pos, negsuc, ◌==◌, ◌&&◌, Bool, true, false, cond, Option, Some, None, List, [], ◌∷◌, get_or, length, map, nat_lt, position, refl, sym, ap, subst, arith, All}
+use Rattle.std.proofs.Common.{◌≡◌, ◌∙◌, ◌<◌, inl, inr, ℕ, zero, suc, pos, negsuc, ◌==◌, ◌&&◌, Bool, true, false, cond, Option, Some, None, List, [], ◌∷◌, get_or, length, nat_lt, position, refl, sym, ap, subst, arith}
 use Rattle.std.proofs.lemmas.Bool.Decides.{nat_tests}
 use Rattle.std.proofs.lemmas.List.Elements.{recursion_from_All}
 use Rattle.std.proofs.lemmas.List.Quantifiers.{position-Some}
-use Rattle.std.specs.Global.{Vec}
-use Rattle.std.specs.List.{AllByRecursion, AllZip, list_all}
+use Rattle.std.specs.List.{AllZip}
 use Rattle.std.specs.Option.{option_and_then, option_map, option_map_or}
-use Rattle.std.specs.Prelude.{slice_get, unwrap_or}
+use Rattle.std.specs.Prelude.{IfSome, slice_get, unwrap_or}
 use Rattle.semantics.specs.declared.kind.Kind.{Kind}
 use Rattle.semantics.specs.declared.kind.Kind.TheVariants as kind
-use Rattle.values.specs.Comparison.{AreComparable}
 use Rattle.semantics.specs.Values.{Datum, boolean, whole, text, null}
 use Rattle.semantics.specs.Columns.{Field}
 use Rattle.semantics.specs.declared.aggregate.Aggregate.{Aggregate}
 use Rattle.semantics.specs.declared.aggregate.Aggregate.TheVariants as aggregate
-use Rattle.semantics.specs.declared.literal.Literal.{Literal}
-use Rattle.query_ast.specs.declared.expression.Operand.{Operand}
-use Rattle.query_ast.specs.declared.expression.Predicate.TheVariants as predicate
-use Rattle.query_ast.specs.declared.expression.Expression.TheOpen as layer
-use Rattle.query_ast.specs.declared.expression.Expression.TheFolds.{fold-roll-Predicate}
-use Rattle.query_ast.specs.declared.expression.Expression.TheViews.{roll-Predicate}
-use Rattle.semantics.specs.Syntax.{ExpressionForm, FunctionForm, OperandForm, PredicateForm, TreeForm, column, member, name, grouping, function, over_all, over_filtered, expression, literal}
-use Rattle.query_ast.specs.Syntax.{expression_step, function_step, operand_form, operand_step, predicate_form, predicate_step}
+use Rattle.semantics.specs.Syntax.{ExpressionForm, FunctionForm, PredicateForm, TreeForm, name, grouping, function, over_all, over_filtered}
 use Rattle.semantics.specs.declared.function.ColumnFunction.{ColumnFunction}
 use Rattle.semantics.specs.declared.function.ColumnFunction.TheVariants as at
 use Rattle.query_typecheck.specs.declared.scope.Clause.TheVariants as clause
-use Rattle.semantics.specs.Names.{column_kind, kind_at, place_of, PlannedFunction, column_function}
-use Rattle.semantics.specs.SetFunctions.{functions_of}
+use Rattle.semantics.specs.Names.{column_kind, kind_at, place_of, PlannedFunction, column_function, planned_function}
+use Rattle.semantics.specs.SetFunctions.{functions_of, place_among}
 use Rattle.semantics.specs.Inside.Same.{same_function, same_planned}
 use Rattle.semantics.specs.Sets.{sets_of}
-use Rattle.query_typecheck.specs.Typing.{IsOfOneKind, IsTypedExpression, IsTypedOperand, IsTypedPredicate, may_stand}
-use Rattle.semantics.specs.Types.{aggregate_kind, expression_kind, literal_kind, operand_kind}
-use Rattle.query_eval.specs.Meaning.{comparable, is_truth_value}
-use Rattle.semantics.specs.Conditions.{literal_value, operand_value}
-use Rattle.query_eval.proofs.Safety.{both-true, cases, comparable-of, is_of, is_of-held, is_of-literal, truth-of}
-use Rattle.query_eval.proofs.Truths.{comparable-is}
+use Rattle.query_typecheck.specs.Typing.{IsTypedExpression, may_stand}
+use Rattle.semantics.specs.Types.{aggregate_kind, expression_kind}
+use Rattle.query_eval.specs.Meaning.{is_of}
+use Rattle.query_eval.proofs.Safety.{cases, is_of-held}
 use Rattle.semantics.specs.Aggregates.{Summary, plain, ratio}
 use Rattle.semantics.specs.Groups.{Key}
 use Rattle.tables_groups.specs.Fitting.{AreFitting, HasType, IsHeld}
@@ -45,6 +34,23 @@ use Rattle.report_rows.proofs.Places.{value_in-first, value_in-missing, value_in
 -- the index of a row that fits is that of a grouping set
 pub within : (fields : List Field) (t : TreeForm) (row : Found) → AreFitting fields t (row ∷ []) → row.0 < length (sets_of fields t)
 within fields t row fit = (recursion_from_All (λ (r : Found). r.0 < length (sets_of fields t)) (row ∷ []) fit.indexes).0
+
+-- ---- places
+
+-- the place that is found is one of the list's
+pub position-within : {X : Type 0} (p : X → Bool) (xs : List X) (o : Option ℕ) → o ≡ position p xs → IfSome o (λ at. at < length xs)
+position-within p [] None e = tt
+position-within p xs None e = tt
+position-within p (x ∷ xs) (Some i) e = (position-Some p (x ∷ xs) i x (sym e)).0
+position-within p [] (Some i) e = absurd cc
+
+-- that of a set function is one of the query's functions
+pub place-within : (fields : List Field) (t : TreeForm) (g : FunctionForm) (place : ℕ) → Some place ≡ place_among fields t g → place < length (functions_of fields t)
+place-within fields t g place e =
+    elim (planned_function fields g) as (λ (o : Option PlannedFunction). Some place ≡ option_and_then (λ f. position (same_planned f) (functions_of fields t)) o → place < length (functions_of fields t)) [
+      | None ↦ λ h. absurd cc
+      | Some f ↦ λ h. (position-Some (same_planned f) (functions_of fields t) place f (sym h)).0
+    ] e
 
 -- ---- NULL and what a column holds
 
@@ -202,9 +208,9 @@ function-of fields t k cells (aggregate.Max x) filter h may has =
     column-of fields k at.Max filter (functions_of fields t) cells (place_of fields x) h (λ p e. sym (ap (option_and_then (kind_at fields)) e) ∙ has)
 function-of fields t k cells (aggregate.Avg x) filter h may has = absurd cc
 
--- ---- operands
+-- ---- expressions
 
-shown-of : (fields : List Field) (t : TreeForm) (row : Found) (grouped : List ℕ) (k : Kind) (e : ExpressionForm) → AreFitting fields t (row ∷ [])
+pub shown-of : (fields : List Field) (t : TreeForm) (row : Found) (grouped : List ℕ) (k : Kind) (e : ExpressionForm) → AreFitting fields t (row ∷ [])
     → IsTypedExpression fields grouped clause.Having e → expression_kind fields e ≡ Some k → is_of k (row_value fields t row e) ≡ true
 shown-of fields t row grouped k (name n) fit typed has =
     name-of fields k (set_of fields t row) row.1.key n (recursion_from_All (λ (r : Found). AllZip (λ place d. IsHeld (kind_at fields place) d) (set_of fields t r) r.1.key) (row ∷ []) fit.key_types).0 has
@@ -213,56 +219,3 @@ shown-of fields t row grouped k (function (over_all a)) fit typed has =
     function-of fields t k row.1.cells a None (recursion_from_All (λ (r : Found). AllZip (HasTypeOf fields) (functions_of fields t) r.1.cells) (row ∷ []) fit.cell_types).0 typed.0 has
 shown-of fields t row grouped k (function (over_filtered a p)) fit typed has =
     function-of fields t k row.1.cells a (Some p) (recursion_from_All (λ (r : Found). AllZip (HasTypeOf fields) (functions_of fields t) r.1.cells) (row ∷ []) fit.cell_types).0 typed.0 has
-
-operand-of : (fields : List Field) (t : TreeForm) (row : Found) (grouped : List ℕ) (k : Kind) (x : OperandForm) → AreFitting fields t (row ∷ [])
-    → IsTypedOperand fields grouped clause.Having x → operand_kind fields x ≡ Some k → is_of k (operand_value (row_value fields t row) x) ≡ true
-operand-of fields t row grouped k (expression e) fit typed has = shown-of fields t row grouped k e fit typed has
-operand-of fields t row grouped k (literal a) fit typed has = subst (λ (l : Kind). is_of l (literal_value a) ≡ true) (some-is (literal_kind a) k has) (is_of-literal a)
-
--- the values of two operands of one type can be compared
-comparable-typed : (fields : List Field) (t : TreeForm) (row : Found) (grouped : List ℕ) (x y : OperandForm) → AreFitting fields t (row ∷ [])
-    → IsTypedOperand fields grouped clause.Having x → IsTypedOperand fields grouped clause.Having y → IsOfOneKind (operand_kind fields x) (operand_kind fields y)
-    → comparable (operand_value (row_value fields t row) x) (operand_value (row_value fields t row) y) ≡ true
-comparable-typed fields t row grouped x y fit xt yt one =
-    comparable-of one.0 _ _ (operand-of fields t row grouped one.0 x fit xt one.1) (operand-of fields t row grouped one.0 y fit yt one.2)
-
--- so can values that are theirs
-pub comparable-values : (fields : List Field) (t : TreeForm) (row : Found) (grouped : List ℕ) (x y : OperandForm) (d e : Datum)
-    → d ≡ operand_value (row_value fields t row) x → e ≡ operand_value (row_value fields t row) y → AreFitting fields t (row ∷ [])
-    → IsTypedOperand fields grouped clause.Having x → IsTypedOperand fields grouped clause.Having y → IsOfOneKind (operand_kind fields x) (operand_kind fields y)
-    → comparable d e ≡ true
-comparable-values fields t row grouped x y d e is_x is_y fit xt yt one =
-    ap (λ (v : Datum). comparable v e) is_x ∙ ap (comparable (operand_value (row_value fields t row) x)) is_y ∙ comparable-typed fields t row grouped x y fit xt yt one
-
-pub are-comparable : (fields : List Field) (t : TreeForm) (row : Found) (grouped : List ℕ) (x y : OperandForm) (d e : Datum)
-    → d ≡ operand_value (row_value fields t row) x → e ≡ operand_value (row_value fields t row) y → AreFitting fields t (row ∷ [])
-    → IsTypedOperand fields grouped clause.Having x → IsTypedOperand fields grouped clause.Having y → IsOfOneKind (operand_kind fields x) (operand_kind fields y)
-    → AreComparable d e
-are-comparable fields t row grouped x y d e is_x is_y fit xt yt one = comparable-is _ _ (comparable-values fields t row grouped x y d e is_x is_y fit xt yt one)
-
--- the value of an operand can be compared with those of literals of its type
-pub comparable-literals : (fields : List Field) (t : TreeForm) (row : Found) (grouped : List ℕ) (x : OperandForm) (ls : List Literal) → AreFitting fields t (row ∷ [])
-    → IsTypedOperand fields grouped clause.Having x → All (λ a. IsOfOneKind (operand_kind fields x) (Some (literal_kind a))) ls
-    → list_all (comparable (operand_value (row_value fields t row) x)) (map literal_value ls) ≡ true
-comparable-literals fields t row grouped x ls fit xt same = go ls (recursion_from_All (λ a. IsOfOneKind (operand_kind fields x) (Some (literal_kind a))) ls same)
-  where
-    go : (ls : List Literal) → AllByRecursion (λ a. IsOfOneKind (operand_kind fields x) (Some (literal_kind a))) ls → list_all (comparable (operand_value (row_value fields t row) x)) (map literal_value ls) ≡ true
-    go [] h = refl
-    go (a ∷ ls) h = both-true _ _ (comparable-typed fields t row grouped x (literal a) fit xt tt h.0) (go ls h.1)
-
--- ---- the form of an IN
-
-pub member_form : (x : Operand) (n : Bool) (v : Vec Literal) → predicate_form (predicate.In x n v) ≡ member (operand_form x) n v.items
-unfolding roll-Predicate denote.Hole.Carrier.roll
-member_form x n v = fold-roll-Predicate ExpressionForm OperandForm PredicateForm FunctionForm expression_step operand_step predicate_step function_step (layer.In x n v)
-
--- ---- a bare name
-
-pub column_form : (n : List ℕ) → predicate_form (predicate.Column n) ≡ column n
-unfolding roll-Predicate denote.Hole.Carrier.roll
-column_form n = fold-roll-Predicate ExpressionForm OperandForm PredicateForm FunctionForm expression_step operand_step predicate_step function_step (layer.Column n)
-
--- the value of a name that stands alone is a truth value, or NULL
-pub truth-shown : (fields : List Field) (t : TreeForm) (row : Found) (grouped n : List ℕ) → AreFitting fields t (row ∷ [])
-    → IsTypedPredicate fields grouped clause.Having (column n) → is_truth_value (row_value fields t row (name n)) ≡ true
-truth-shown fields t row grouped n fit typed = truth-of (row_value fields t row (name n)) (shown-of fields t row grouped kind.Bool (name n) fit typed.0 typed.1)

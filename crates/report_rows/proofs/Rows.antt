@@ -26,11 +26,13 @@ use Rattle.tables_groups.specs.Found.{row_of}
 use Rattle.semantics.specs.Rows.{rows_having_true}
 use Rattle.semantics.specs.Order.{grouping_values, key_value, under_key, under_keys, before, in_order, rows_in_order}
 use Rattle.report_rows.specs.Order.{NoneBefore, Ascends}
-use Rattle.report_rows.specs.Inside.SortEntries.{EntryForm, by_key, by_values, key_values, entry_of, under_values}
+use Rattle.report_rows.specs.Inside.SortEntries.{EntryForm, IsCodableRow, by_code, entry_of, key_values}
 use Rattle.tables_groups.specs.Fitting.{AreFitting}
 use Rattle.report_rows.specs.Laws.{IsTheOrder, IsBlind}
 use Rattle.report_rows.proofs.Filtering.{bag-having_true, fit-having_true}
-use Rattle.report_rows.proofs.Totals.{before-total, by_values-total}
+use Rattle.report_rows.proofs.Totals.{before-total, by_code-total}
+use Rattle.report_rows.proofs.RowCodes.{by_key, codes-tell, under_values}
+use Rattle.sort_keys.specs.SortKeys.{parts_order}
 use Rattle.report_rows.proofs.Sorting.{Apart, apart-in_order, ascends-in_order, ascends-sorted, bag-permutation, one-list, weigh-in_order}
 use Rattle.report_rows.proofs.Sameness.{both-tied, found-tells, same_found}
 use Rattle.query_plan.specs.Planned.{PlannedQuery}
@@ -81,26 +83,35 @@ same-values fields t x y (k ∷ ks) =
     ap (ordering_then (under_key k (key_value fields t x k) (key_value fields t y k)))
     (same-values fields t x y ks ∙ sym (later 0 ks (key_value fields t x k) (key_value fields t y k) (map (key_value fields t x) ks) (map (key_value fields t y) ks)))
 
--- the values beside the row are those of the keys, and the row fits
-abbrev IsRight : List Field → TreeForm → EntryForm → Type 0
-IsRight fields t r = (r.0 ≡ key_values fields t r.1) × IsFit fields t r.1
+-- the code beside the row is its own, which tells it from others, and the row fits
+record IsRight (fields : List Field) (t : TreeForm) (r : EntryForm) : Type 0 where
+  code : r.0 ≡ (entry_of fields t r.1).0
+  fits : IsFit fields t r.1
+  codable : IsCodableRow t.keys (key_values fields t r.1) r.1
 
--- rows that fit stand as the values beside them have them
-same-rank : (fields : List Field) (t : TreeForm) (r s : EntryForm) → IsRight fields t r → IsRight fields t s → before fields t r.1 s.1 ≡ by_values t.keys r s
+-- the keys of one set are equally long
+same-length : (fields : List Field) (t : TreeForm) (x y : Found) → IsFit fields t x → IsFit fields t y → x.0 ≡ y.0 → length x.1.key ≡ length y.1.key
+same-length fields t x y fx fy same = fx.1 ∙ ap (λ (i : ℕ). length (get_or (sets_of fields t) i [])) same ∙ sym fy.1
+
+-- rows that fit stand as the codes beside them have them
+same-rank : (fields : List Field) (t : TreeForm) (r s : EntryForm) → IsRight fields t r → IsRight fields t s → before fields t r.1 s.1 ≡ by_code r s
 same-rank fields t r s p q =
-    ap (λ (o : Ordering). ordering_then o (by_columns fields t r.1 s.1)) (same-values fields t r.1 s.1 t.keys ∙ (λ i. under_values 0 t.keys (sym p.0 i) (sym q.0 i)))
-    ∙ ap (ordering_then (under_values 0 t.keys r.0 s.0)) (same-order fields t r.1 s.1 p.1 q.1)
+    let xs = key_values fields t r.1 in
+    let ys = key_values fields t s.1 in
+    (λ i. ordering_then (same-values fields t r.1 s.1 t.keys i) (same-order fields t r.1 s.1 p.fits q.fits i))
+    ∙ sym (codes-tell t.keys xs ys r.1 s.1 p.codable q.codable (same-length fields t r.1 s.1 p.fits q.fits))
+    ∙ (λ i. parts_order (sym p.code i) (sym q.code i))
 
 -- ---- lists of rows
 
 abbrev row_beside : EntryForm → Found
 row_beside r = r.1
 
-none-same : (fields : List Field) (t : TreeForm) (r : EntryForm) (rs : List EntryForm) → IsRight fields t r → AllByRecursion (IsRight fields t) rs → NoneBefore (by_values t.keys) r rs → NoneBefore (before fields t) r.1 (map row_beside rs)
+none-same : (fields : List Field) (t : TreeForm) (r : EntryForm) (rs : List EntryForm) → IsRight fields t r → AllByRecursion (IsRight fields t) rs → NoneBefore by_code r rs → NoneBefore (before fields t) r.1 (map row_beside rs)
 none-same fields t r [] p all n = tt
 none-same fields t r (s ∷ rs) p all n = (ap is_gt (same-rank fields t r s p all.0) ∙ n.0, none-same fields t r rs p all.1 n.1)
 
-ascends-same : (fields : List Field) (t : TreeForm) (rs : List EntryForm) → AllByRecursion (IsRight fields t) rs → Ascends (by_values t.keys) rs → Ascends (before fields t) (map row_beside rs)
+ascends-same : (fields : List Field) (t : TreeForm) (rs : List EntryForm) → AllByRecursion (IsRight fields t) rs → Ascends by_code rs → Ascends (before fields t) (map row_beside rs)
 ascends-same fields t [] all a = tt
 ascends-same fields t (r ∷ rs) all a = (none-same fields t r rs all.0 all.1 a.0, ascends-same fields t rs all.1 a.1)
 
@@ -160,9 +171,10 @@ is-blind fields t found fit others bag =
 abbrev pub row_at : Bor (ℕ × Group) → Found
 row_at r = row_of r.now
 
-each-right : (fields : List Field) (t : TreeForm) (found : List Found) → AllByRecursion (IsFit fields t) found → AllByRecursion (IsRight fields t) (map (entry_of fields t) found)
-each-right fields t [] all = tt
-each-right fields t (x ∷ found) all = ((refl, all.0), each-right fields t found all.1)
+each-right : (fields : List Field) (t : TreeForm) (found : List Found) → AllByRecursion (IsFit fields t) found → AllByRecursion (λ x. IsCodableRow t.keys (key_values fields t x) x) found
+    → AllByRecursion (IsRight fields t) (map (entry_of fields t) found)
+each-right fields t [] all codable = tt
+each-right fields t (x ∷ found) all codable = (record { code = refl; fits = all.0; codable = codable.0 }, each-right fields t found all.1 codable.1)
 
 rows-beside : (fields : List Field) (t : TreeForm) (found : List Found) → map row_beside (map (entry_of fields t) found) ≡ found
 rows-beside fields t [] = refl
@@ -173,18 +185,18 @@ pub ranks-moved : {Y : Type 0} (rank : Y → EntryForm) (beside : Found → Entr
     → IsPermutation (map beside found) (map rank sorted)
 ranks-moved rank beside found gathered sorted are moved = subst (λ (rs : List EntryForm). IsPermutation rs (map rank sorted)) are (IsPermutation-map rank gathered sorted moved)
 
--- what is sorted by values that are those of the keys, by index and by key has the rows in their order
+-- what is sorted by the codes of the rows has the rows in their order
 pub sorted-ranks : {Y : Type 0} (rank : Y → EntryForm) (fields : List Field) (t : TreeForm) (found : List Found) (sorted : List Y) → IsPermutation (map (entry_of fields t) found) (map rank sorted)
-    → IsSortedBy (λ a b. is_lt (by_values t.keys (rank a) (rank b))) sorted → AreFitting fields t found → map (λ y. (rank y).1) sorted ≡ in_order (before fields t) found
-sorted-ranks {Y} rank fields t found sorted there up fit =
-    let fits : AllByRecursion (IsRight fields t) (map (entry_of fields t) found) = each-right fields t found (recursion_from_All (IsFit fields t) found (all-fit fields t found fit)) in
+    → IsSortedBy (λ a b. is_lt (by_code (rank a) (rank b))) sorted → AllByRecursion (λ x. IsCodableRow t.keys (key_values fields t x) x) found → AreFitting fields t found → map (λ y. (rank y).1) sorted ≡ in_order (before fields t) found
+sorted-ranks {Y} rank fields t found sorted there up codable fit =
+    let fits : AllByRecursion (IsRight fields t) (map (entry_of fields t) found) = each-right fields t found (recursion_from_All (IsFit fields t) found (all-fit fields t found fit)) codable in
     let right : AllByRecursion (IsRight fields t) (map rank sorted) =
     recursion_from_All (IsRight fields t) (map rank sorted) (All-permutation (IsRight fields t) (map (entry_of fields t) found) (map rank sorted) there (All-from_recursion (IsRight fields t) (map (entry_of fields t) found) fits)) in
     let rows : IsPermutation found (map row_beside (map rank sorted)) =
     subst (λ (xs : List Found). IsPermutation xs (map row_beside (map rank sorted))) (rows-beside fields t found) (IsPermutation-map row_beside (map (entry_of fields t) found) (map rank sorted) there) in
     sym (map-twice row_beside rank sorted)
     ∙ only-order fields t found (map row_beside (map rank sorted)) fit (bag-permutation found (map row_beside (map rank sorted)) rows)
-    (ascends-same fields t (map rank sorted) right (ascends-sorted (by_values-total t.keys) rank sorted up))
+    (ascends-same fields t (map rank sorted) right (ascends-sorted by_code-total rank sorted up))
 
 -- rows that fit have indexes of sets
 pub sets-fitting : (plan : PlannedQuery) (groups : List (Bor (ℕ × Group))) → AreFitting plan.fields plan.query (map row_at groups) → All (λ r. HasSetUnder plan (row_at r)) groups

@@ -5,6 +5,7 @@ use Rattle.std.specs.List.{AllByRecursion}
 use Rattle.std.proofs.lemmas.List.Elements.{recursion_from_All}
 use Rattle.semantics.specs.Syntax.{ExpressionForm, ItemForm, KeyForm}
 use Rattle.semantics.specs.Types.{key_expression}
+use Rattle.semantics.specs.Values.{Datum}
 use Rattle.semantics.specs.Sets.{sets_of}
 use Rattle.semantics.specs.Found.{Found, set_of}
 use Rattle.tables_groups.specs.declared.group.Group.{Group}
@@ -12,7 +13,8 @@ use Rattle.tables_groups.specs.Fitting.{AreFitting}
 use Rattle.semantics.specs.Rows.{cell_value, expression_shown, row_value}
 use Rattle.query_plan.specs.Planned.{PlannedQuery}
 use Rattle.report_rows.specs.declared.source.Source.{Source}
-use Rattle.report_rows.specs.Inside.SortEntries.{entry_at, entry_of, key_values}
+use Rattle.report_rows.specs.Inside.SortEntries.{IsCodableAt, IsCodableRow, entry_at, entry_of, key_values, row_code}
+use Rattle.sort_keys.specs.SortKeys.{parts_of}
 use Rattle.report_rows.specs.Sources.{AreKeySources, AreSourcesFor, AreSourcesOf, AreSourcesOfEach, ForEachSet, key_expressions, shown_at, sources_at, values_at}
 use Rattle.report_rows.proofs.Maps.{map-twice}
 use Rattle.report_rows.proofs.Rows.{row_at, sets-fitting}
@@ -89,16 +91,30 @@ values-keys plan all row each within =
 
 -- so rows have the same entries
 pub entries-same : (plan : PlannedQuery) (all : List (Vec Source)) (found : List Found) → AreKeySources plan all → AllByRecursion (λ row. row.0 < length (sets_of plan.fields plan.query)) found
-    → map (entry_at all) found ≡ map (entry_of plan.fields plan.query) found
+    → map (entry_at plan.query.keys all) found ≡ map (entry_of plan.fields plan.query) found
 entries-same plan all [] each within = refl
 entries-same plan all (row ∷ found) each within =
-    let here : entry_at all row ≡ entry_of plan.fields plan.query row = λ i. (values-keys plan all row each within.0 i, row) in
+    let here : entry_at plan.query.keys all row ≡ entry_of plan.fields plan.query row = λ i. (parts_of (row_code plan.query.keys (values-keys plan all row each within.0 i) row), row) in
     let rest = entries-same plan all found each within.1 in
     λ i. here i ∷ rest i
 
 -- rows that fit do
-pub entries-fitting : (plan : PlannedQuery) (all : List (Vec Source)) (found : List Found) → AreKeySources plan all → AreFitting plan.fields plan.query found → map (entry_at all) found ≡ map (entry_of plan.fields plan.query) found
+pub entries-fitting : (plan : PlannedQuery) (all : List (Vec Source)) (found : List Found) → AreKeySources plan all → AreFitting plan.fields plan.query found
+    → map (entry_at plan.query.keys all) found ≡ map (entry_of plan.fields plan.query) found
 entries-fitting plan all found each fit = entries-same plan all found each (recursion_from_All (λ (row : Found). row.0 < length (sets_of plan.fields plan.query)) found fit.indexes)
+
+codable-same : (plan : PlannedQuery) (all : List (Vec Source)) (found : List Found) → AreKeySources plan all → AllByRecursion (λ row. row.0 < length (sets_of plan.fields plan.query)) found
+    → AllByRecursion (IsCodableAt plan.query.keys all) found → AllByRecursion (λ row. IsCodableRow plan.query.keys (key_values plan.fields plan.query row) row) found
+codable-same plan all [] each within codable = tt
+codable-same plan all (row ∷ found) each within codable = (
+  subst (λ (values : List Datum). IsCodableRow plan.query.keys values row) (values-keys plan all row each within.0) codable.0,
+  codable-same plan all found each within.1 codable.1,
+)
+
+-- and all that their codes are of has a code of its own
+pub codable-fitting : (plan : PlannedQuery) (all : List (Vec Source)) (found : List Found) → AreKeySources plan all → AreFitting plan.fields plan.query found
+    → AllByRecursion (IsCodableAt plan.query.keys all) found → AllByRecursion (λ row. IsCodableRow plan.query.keys (key_values plan.fields plan.query row) row) found
+codable-fitting plan all found each fit = codable-same plan all found each (recursion_from_All (λ (row : Found). row.0 < length (sets_of plan.fields plan.query)) found fit.indexes)
 
 -- the index of each row that fits is below the number of the lists, which a call is handed as a slice, as it is the rows
 pub within-sources : (plan : PlannedQuery) (all sources : List (Vec Source)) (rows slice : List (Bor (ℕ × Group))) → AreKeySources plan all → sources ≡ all → slice ≡ rows → AreFitting plan.fields plan.query (map row_at rows)

@@ -1,5 +1,5 @@
--- The orders of values, of rows, and of rows beside values are total.
-use Rattle.std.proofs.Common.{◌≡◌, ℕ, suc, Bool, true, false, cond, if◌then◌else◌, List, [], ◌∷◌, refl, subst, slice_index_or}
+-- The orders of values, of rows, and of rows beside sort keys are total.
+use Rattle.std.proofs.Common.{◌≡◌, ℕ, Bool, true, false, cond, if◌then◌else◌, List, [], ◌∷◌, refl, subst}
 use Rattle.std.specs.declared.cmp.Ordering.{Ordering}
 use Rattle.std.specs.declared.cmp.Ordering.TheVariants.{Equal}
 use Rattle.std.specs.Ordering.{nat_cmp, ordering_reverse, ordering_then}
@@ -9,10 +9,11 @@ use Rattle.std.specs.Cmp.Lexicographic.{lists_total}
 use Rattle.semantics.specs.Values.{Datum, boolean, whole, text, null, is_null, value_order}
 use Rattle.semantics.specs.Columns.{Field}
 use Rattle.semantics.specs.Syntax.{KeyForm, TreeForm}
-use Rattle.tables_groups.proofs.Order.{value_total, key_total}
+use Rattle.tables_groups.proofs.Order.{value_total}
 use Rattle.semantics.specs.Found.{Found}
 use Rattle.semantics.specs.Order.{before, grouping_values, key_value, null_order, under_key, under_keys}
-use Rattle.report_rows.specs.Inside.SortEntries.{EntryForm, by_key, by_values, under_values}
+use Rattle.report_rows.specs.Inside.SortEntries.{EntryForm, by_code}
+use Rattle.sort_keys.proofs.Totals.{parts-total}
 
 -- ---- values under a key
 
@@ -72,14 +73,7 @@ pub before-total : (fields : List Field) (t : TreeForm) → IsTotalOrder (before
 before-total fields t =
     then_total (under_keys-total fields t t.keys) (then_total (on_total (λ (x : Found). x.0) nat_cmp_total) (on_total (grouping_values fields t) (lists_total value_total)))
 
--- ---- rows beside values
+-- ---- rows beside sort keys
 
-under_values-total : (place : ℕ) (ks : List KeyForm) → IsTotalOrder (under_values place ks)
-under_values-total place [] = point_total
-under_values-total place (k ∷ ks) = then_total (on_total (λ (ds : List Datum). slice_index_or ds place null) (under_key-total k)) (under_values-total (suc place) ks)
-
-pub by_key-total : IsTotalOrder by_key
-by_key-total = then_total (on_total (λ (x : Found). x.0) nat_cmp_total) (on_total (λ (x : Found). x.1.key) key_total)
-
-pub by_values-total : (ks : List KeyForm) → IsTotalOrder (by_values ks)
-by_values-total ks = then_total (on_total (λ (r : EntryForm). r.0) (under_values-total 0 ks)) (on_total (λ (r : EntryForm). r.1) by_key-total)
+pub by_code-total : IsTotalOrder by_code
+by_code-total = on_total (λ (r : EntryForm). r.0) parts-total

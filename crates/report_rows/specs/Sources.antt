@@ -1,5 +1,5 @@
 -- Where the rows of a grouping set have what they show.
-use Rattle.std.specs.Prelude.{◌≡◌, ℕ, ⊤, List, [], ◌∷◌, map, slice_get, slice_index_or, unwrap_or}
+use Rattle.std.specs.Prelude.{◌≡◌, ◌<◌, ℕ, ⊤, List, [], ◌∷◌, map, slice_get, slice_index_or, unwrap_or}
 use Rattle.std.specs.Borrow.{Bor}
 use Rattle.std.specs.Global.{Vec}
 use Rattle.values.specs.Datum.{datum_of}
@@ -26,6 +26,12 @@ shown_at key cells (Always value) = plain (datum_of value)
 -- each row of the grouping set has there what it shows for the expression
 abbrev pub IsSourceOf : PlannedQuery → List ℕ → ExpressionForm → Source → Type 0
 IsSourceOf plan set e source = (key : Key) (cells : List Summary) → shown_at key cells source ≡ expression_shown plan.fields plan.query set key cells e
+
+-- a place is one of the values of a key of so many columns, or one of so many cells
+abbrev pub IsWithin : ℕ → ℕ → Source → Type 0
+IsWithin columns functions (KeyAt place) = place < columns
+IsWithin columns functions (CellAt place) = place < functions
+IsWithin columns functions (Always value) = ⊤
 
 -- each row of the grouping set has there what it shows for the items of SELECT
 abbrev pub AreSourcesOf : PlannedQuery → List ℕ → List Source → Type 0

@@ -1,18 +1,16 @@
 //! What a row shows for the items of SELECT.
-ghost use Rattle.std.specs.Prelude.{◌≡◌, ◌≤◌, IfOk, map, length, slice_get, slice_index_or, unwrap_or};
+ghost use Rattle.std.specs.Prelude.{◌≡◌, ◌≤◌, ◌++◌, IfOk, OnOk, map, length, slice_get, slice_index_or, unwrap_or};
 ghost use Rattle.values.specs.Datum.{data_of, datum_of};
 ghost use Rattle.semantics.specs.Values.{null};
 ghost use Rattle.values.specs.Schema.{fields_of};
-ghost use Rattle.query_ast.specs.Syntax.{expression_form};
 ghost use Rattle.semantics.specs.Aggregates.{plain};
 ghost use Rattle.tables_groups.specs.Cells.{summary_of};
-ghost use Rattle.semantics.specs.Rows.{cell_value, grouping_number, grouping_shown, is_rolled_up, name_shown};
-ghost use Rattle.report_rows.specs.Planned.{shown_under};
+ghost use Rattle.semantics.specs.Rows.{cell_value, grouping_number, grouping_shown, is_rolled_up};
+ghost use Rattle.report_rows.specs.Having.{row_values};
 ghost use Rattle.report_rows.specs.Sources.{shown_at};
 
-use crate::source::{Source, key_place, source_of};
-use crate::view::PlanView;
-use query_plan::{Expression, Text};
+use crate::source::Source;
+use query_plan::Text;
 use query_resolve::place_of;
 use std::alloc::AllocError;
 use tables_groups::{Cell, Group};
@@ -45,17 +43,49 @@ pub(crate) fn value_from(source: &Source, group: &Group) -> Result<Value, AllocE
     }
 }
 
-/// The value that a group of a grouping set shows for an expression. An average is no single value.
-pub(crate) fn expression_value(
-    plan: &PlanView<'_>,
-    set: &[usize],
-    group: &Group,
-    expression: &Expression,
-) -> Result<Value, AllocError>
-    ensures { IfOk result (λ value. datum_of value
-        ≡ cell_value (shown_under plan.now set.now group.now (expression_form expression.now))) }
+// ---- the values of a row
+
+/// Puts the values of the row of a group in place of others: those of its key, and behind them those of its cells. The
+/// memory of the others is used again.
+pub(crate) fn put_row(group: &Group, values: &mut Vec<Value>) -> Result<(), AllocError>
+    ensures { OnOk result (data_of values.new.items ≡ row_values
+        (data_of group.now.key.items) (map summary_of group.now.cells.items)) }
 {
-    value_from(&source_of(plan, set, expression), group)
+    values.clear();
+    push_key(group.key.as_slice(), values)?;
+    push_cells(group.cells.as_slice(), values)
+}
+
+/// Adds the values of a key.
+fn push_key(key: &[Value], values: &mut Vec<Value>) -> Result<(), AllocError>
+    ensures { OnOk result
+        (data_of values.new.items ≡ data_of values.old.items ++ data_of key.now) }
+{
+    for value in key {
+        values.push(value.clone()?)?;
+    }
+    Ok(())
+}
+
+/// Adds the values of cells.
+fn push_cells(cells: &[Cell], values: &mut Vec<Value>) -> Result<(), AllocError>
+    ensures { OnOk result (data_of values.new.items
+        ≡ data_of values.old.items ++ map cell_value (map summary_of cells.now)) }
+{
+    for cell in cells {
+        values.push(value_of(cell)?)?;
+    }
+    Ok(())
+}
+
+/// A copy of the value of a cell. An average is no single value.
+fn value_of(cell: &Cell) -> Result<Value, AllocError>
+    ensures { IfOk result (λ value. datum_of value ≡ cell_value (summary_of cell.now)) }
+{
+    match cell {
+        Cell::Plain(value) => value.clone(),
+        Cell::Ratio(..) => Ok(Value::Null),
+    }
 }
 
 // ---- columns
@@ -66,22 +96,6 @@ fn value_at(key: &[Value], place: usize) -> Result<Value, AllocError>
 {
     match key.get(place) {
         Some(value) => value.clone(),
-        None => Ok(Value::Null),
-    }
-}
-
-/// What a key of a grouping set shows for the column of a name.
-pub(crate) fn name_value(
-    columns: &[Column],
-    set: &[usize],
-    key: &[Value],
-    name: &Text,
-) -> Result<Value, AllocError>
-    ensures { IfOk result (λ value.
-        datum_of value ≡ name_shown (fields_of columns.now) set.now (data_of key.now) name.now) }
-{
-    match key_place(columns, set, name) {
-        Some(at) => value_at(key, at),
         None => Ok(Value::Null),
     }
 }

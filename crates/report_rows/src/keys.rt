@@ -1,85 +1,105 @@
-//! The keys of ORDER BY: their values for a row, and how such values stand to each other.
-ghost use Rattle.std.specs.Prelude.{◌≡◌, ◌<◌, IfOk, length, map};
-ghost use Rattle.values.specs.Datum.{data_of, datum_of};
+//! The codes of rows, by which they are put in order.
+ghost use Rattle.std.specs.Prelude.{◌≡◌, ◌++◌, ◌<◌, [], IfOk, MatchOption, OnOk, length, map};
+ghost use Rattle.values.specs.Datum.{datum_of};
+ghost use Rattle.semantics.specs.Values.{null};
+ghost use Rattle.semantics.specs.Aggregates.{plain};
+ghost use Rattle.semantics.specs.Rows.{cell_value};
 ghost use Rattle.query_ast.specs.Syntax.{key_form};
+ghost use Rattle.sort_keys.specs.Codes.{IsCodable, key_code};
+ghost use Rattle.sort_keys.specs.SortKeys.{key_parts};
+ghost use Rattle.tables_groups.specs.Cells.{summary_of};
 ghost use Rattle.tables_groups.specs.Found.{row_of};
-ghost use Rattle.semantics.specs.Order.{null_order, under_key};
-ghost use Rattle.report_rows.specs.Sources.{values_at};
-ghost use Rattle.report_rows.specs.Inside.SortEntries.{under_values};
+ghost use Rattle.report_rows.specs.declared.source.Source.TheVariants.{CellAt};
+ghost use Rattle.report_rows.specs.Sources.{shown_at};
+ghost use Rattle.report_rows.specs.Inside.SortEntries.{AreCodable, IsCodableAt, entry_at, keys_code, value_at_source, values_at_sources};
 
-use crate::cells::value_from;
 use crate::source::{Source, sources_at};
 use query_plan::Key;
+use sort_keys::{SortKey, put_index, put_key_value, put_values};
 use std::alloc::{AllocError, Global};
-use std::cmp::Ordering;
-use tables_groups::Group;
+use tables_groups::{Cell, Group};
 use values::Value;
 
-// ---- the values of keys
+/// The value of the cell at a place. There is `None` where the cell is an average, which is no single value.
+fn plain_value(cells: &[Cell], place: usize) -> Option<&Value>
+    ensures { let shown = cell_value (shown_at [] (map summary_of cells.now) (CellAt place)) in
+        MatchOption result (shown ≡ null) (λ value. shown ≡ datum_of value.now) }
+{
+    match cells.get(place) {
+        Some(Cell::Plain(value)) => Some(value),
+        Some(Cell::Ratio(..)) | None => None,
+    }
+}
 
-/// The values of the keys for a group, which stands beside the index of its grouping set, from where the rows of each set
-/// have them.
-pub(crate) fn key_values(
+/// The value of what a group has where the rows of its grouping set have what they show; `None` for NULL.
+fn value_at_source<'a>(source: &'a Source, group: &'a Group) -> Option<&'a Value>
+    ensures { let shown = value_at_source group.now source.now in
+        MatchOption result (shown ≡ null) (λ value. shown ≡ datum_of value.now) }
+{
+    match source {
+        Source::KeyAt(place) => group.key.get(*place),
+        Source::CellAt(place) => plain_value(group.cells.as_slice(), *place),
+        Source::Always(value) => Some(value),
+    }
+}
+
+/// Puts the code of what a group has at a source, under a key of ORDER BY, behind other bytes.
+fn put_source(
+    code: &mut Vec<u8>,
+    key: &Key,
+    source: &Source,
+    group: &Group,
+) -> Result<(), AllocError>
+    ensures code { OnOk result (code.new.items
+        ≡ code.old.items ++ key_code (key_form key.now) (value_at_source group.now source.now)) }
+    ensures codable { IsCodable (value_at_source group.now source.now) }
+{
+    match value_at_source(source, group) {
+        Some(value) => put_key_value(code, key, value),
+        None => put_key_value(code, key, &Value::Null),
+    }
+}
+
+/// Puts the codes of what a group has at sources behind other bytes, where each source is that of the key of ORDER BY at its
+/// place.
+fn put_sources(
+    code: &mut Vec<u8>,
+    keys: &[Key],
+    sources: &[Source],
+    group: &Group,
+) -> Result<(), AllocError>
+    ensures code { OnOk result (code.new.items ≡ code.old.items
+        ++ keys_code 0 (map key_form keys.now) (values_at_sources group.now sources.now)) }
+    ensures codable { OnOk result
+        (AreCodable 0 (map key_form keys.now) (values_at_sources group.now sources.now)) }
+{
+    let absent = Source::Always(Value::Null);
+    for (place, key) in keys.iter().enumerate() {
+        let source = sources.get(place).unwrap_or(&absent);
+        put_source(code, key, source, group)?;
+    }
+    Ok(())
+}
+
+/// The sort key of the row of a group, which stands beside the index of its grouping set, from where the rows of each set have
+/// the values of the keys of ORDER BY. The code is written into `code`, in place of what is there.
+pub(crate) fn row_key(
     alloc: Global,
+    code: &mut Vec<u8>,
+    keys: &[Key],
     sources: &[Vec<Source>],
     found: &(usize, Group),
-) -> Result<Vec<Value>, AllocError>
+) -> Result<SortKey, AllocError>
     requires { (row_of found.now).0 < length sources.now }
-    ensures { IfOk result (λ values.
-        data_of values.items ≡ values_at sources.now (row_of found.now)) }
+    ensures key { IfOk result (λ key. key_parts key
+        ≡ (entry_at (map key_form keys.now) sources.now (row_of found.now)).0) }
+    ensures codable { OnOk result
+        (IsCodableAt (map key_form keys.now) sources.now (row_of found.now)) }
 {
     let (index, group) = found;
-    let set_sources = sources_at(sources, *index);
-    let mut values = Vec::with_capacity(alloc, set_sources.len())?;
-    for source in set_sources {
-        values.push(value_from(source, group)?)?;
-    }
-    Ok(values)
-}
-
-// ---- values under keys
-
-/// How NULL stands to a value that is not NULL.
-fn null_order(nulls_first: bool) -> Ordering
-    ensures { result ≡ null_order nulls_first }
-{
-    if nulls_first {
-        Ordering::Less
-    } else {
-        Ordering::Greater
-    }
-}
-
-/// How two values stand to each other under a key.
-fn under_key(key: &Key, a: &Value, b: &Value) -> Ordering
-    ensures { result ≡ under_key (key_form key.now) (datum_of a.now) (datum_of b.now) }
-{
-    match (a, b) {
-        (Value::Null, Value::Null) => Ordering::Equal,
-        (Value::Null, _) => null_order(key.nulls_first),
-        (Value::Bool(_) | Value::Int(_) | Value::Text(_), Value::Null) => {
-            null_order(key.nulls_first).reverse()
-        }
-        (Value::Bool(_) | Value::Int(_) | Value::Text(_), _) if key.descending => {
-            a.order(b).reverse()
-        }
-        (Value::Bool(_) | Value::Int(_) | Value::Text(_), _) => a.order(b),
-    }
-}
-
-/// How two rows with these values of the keys stand to each other: as under the first key that tells them apart.
-/// There is NULL behind the end of a list.
-pub(crate) fn under_values(keys: &[Key], a: &[Value], b: &[Value]) -> Ordering
-    ensures { result ≡ under_values 0 (map key_form keys.now) (data_of a.now) (data_of b.now) }
-{
-    let null = Value::Null;
-    for (place, key) in keys.iter().enumerate() {
-        let left = a.get(place).unwrap_or(&null);
-        let right = b.get(place).unwrap_or(&null);
-        match under_key(key, left, right) {
-            Ordering::Equal => {}
-            other => return other,
-        }
-    }
-    Ordering::Equal
+    code.clear();
+    put_sources(code, keys, sources_at(sources, *index), group)?;
+    put_index(code, *index)?;
+    put_values(code, group.key.as_slice())?;
+    SortKey::new(alloc, code.as_slice())
 }

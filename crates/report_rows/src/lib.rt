@@ -12,6 +12,7 @@ mod laws;
 mod ordering;
 mod parts;
 mod row;
+mod row_scope;
 mod sort_entry;
 mod source;
 mod view;

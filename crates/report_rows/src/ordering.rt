@@ -1,6 +1,6 @@
 //! The order of rows.
 ghost use Rattle.std.specs.Prelude.{◌≡◌, ◌<◌, ◌++◌, All, IfOk, OnOk, length, map};
-ghost use Rattle.std.specs.List.{flat_map};
+ghost use Rattle.std.specs.List.{AllByRecursion, flat_map};
 ghost use Rattle.std.specs.List.Sorted.{IsPermutation, IsSortedBy};
 ghost use Rattle.std.specs.Ordering.{is_lt};
 ghost use Rattle.query_ast.specs.Syntax.{key_form};
@@ -8,38 +8,24 @@ ghost use Rattle.tables_groups.specs.Found.{row_of};
 ghost use Rattle.tables_groups.specs.Fitting.{AreFitting};
 ghost use Rattle.semantics.specs.Order.{before, in_order};
 ghost use Rattle.report_rows.specs.Parts.{AreMade, items_of};
-ghost use Rattle.report_rows.specs.Inside.SortEntries.{AreEntriesOf, AreEntriesOfParts, by_key, by_values, entry_at, entry_form};
+ghost use Rattle.report_rows.specs.Inside.SortEntries.{AreEntriesOf, AreEntriesOfParts, IsCodableAt, by_code, entry_at, entry_form};
 
-use crate::keys::{key_values, under_values};
-use crate::sort_entry::{SortEntry, compare_keys, first_text, key_prefix, second_key_prefix};
+use crate::keys::row_key;
+use crate::sort_entry::SortEntry;
 use crate::source::{Source, key_sources};
 use crate::view::PlanView;
 use query_plan::Key;
 use std::alloc::{AllocError, Global};
-use std::cmp::Ordering;
 use std::marker::Sync;
 use std::thread;
 use std::thread::Threads;
 use tables_groups::Group;
 
-/// How two groups stand to each other: by the index of their grouping set, and in one set by their keys.
-fn compare(a: &SortEntry, b: &SortEntry) -> Ordering
-    ensures { result ≡ by_key (row_of a.now.found.now) (row_of b.now.found.now) }
+/// The keys of ORDER BY.
+fn keys_of<'p>(plan: &'p PlanView<'_>) -> &'p [Key]
+    ensures { map key_form result.now ≡ plan.now.query.keys }
 {
-    match a.set.cmp(&b.set) {
-        Ordering::Equal => compare_keys(a, b),
-        other => other,
-    }
-}
-
-/// How two groups stand to each other by the values of these keys for them, and else by their sets and keys.
-fn compare_entries(keys: &[Key], a: &SortEntry, b: &SortEntry) -> Ordering
-    ensures { result ≡ by_values (map key_form keys.now) (entry_form a.now) (entry_form b.now) }
-{
-    match under_values(keys, a.values.as_slice(), b.values.as_slice()) {
-        Ordering::Equal => compare(a, b),
-        other => other,
-    }
+    plan.query().tree().keys.as_slice()
 }
 
 /// The groups in the order of their rows: by the keys of ORDER BY, where there are some, and else by their sets and keys.
@@ -54,8 +40,8 @@ pub(crate) fn in_order<'a>(
         (map (λ r. row_of r.now) rows.entry.items)) }
 {
     let sources = key_sources(alloc, plan)?;
-    let entries = make_entries(alloc, &sources, rows.as_slice())?;
-    let ordered = sort_entries(plan, entries);
+    let entries = make_entries(alloc, keys_of(plan), &sources, rows.as_slice())?;
+    let ordered = sort_entries(entries);
     groups_in(alloc, ordered)
 }
 
@@ -80,7 +66,7 @@ pub(crate) fn in_order_among<'a, H: Threads + Sync>(
     let sources = key_sources(alloc, plan)?;
     let parts = parts_in_order(rt, alloc, plan, &sources, rows.as_slice(), size)?;
     let entries = rows_of_parts(alloc, parts.as_slice(), rows.len())?;
-    let ordered = merge_entries(plan, entries)?;
+    let ordered = merge_entries(entries)?;
     groups_at(alloc, ordered)
 }
 
@@ -95,7 +81,7 @@ fn parts_in_order<'a, H: Threads + Sync>(
 ) -> Result<Vec<Result<Vec<SortEntry<'a>>, AllocError>>, AllocError>
     requires size { 0 < size }
     requires within { All (λ r. (row_of r.now).0 < length sources.now) rows.now }
-    ensures { IfOk result (λ parts. AreEntriesOfParts (entry_at sources.now) size
+    ensures { IfOk result (λ parts. AreEntriesOfParts plan.now.query.keys sources.now size
         (map (λ r. row_of r.now) rows.now) parts.items) }
 {
     let parts = thread::map_chunks(
@@ -105,7 +91,7 @@ fn parts_in_order<'a, H: Threads + Sync>(
         size,
         &|_, part: &[&(usize, Group)]| -> Result<Vec<SortEntry<'_>>, AllocError>
             requires { All (λ r. (row_of r.now).0 < length sources.now) part.now }
-            ensures { IfOk result (λ v. AreEntriesOf (entry_at sources.entry.now)
+            ensures { IfOk result (λ v. AreEntriesOf plan.entry.now.query.keys sources.entry.now
                 (map (λ r. row_of r.now) part.entry.now) v.items) }
         { part_in_order(alloc, plan, sources, part) },
     )?;
@@ -120,49 +106,45 @@ fn part_in_order<'a>(
     rows: &[&'a (usize, Group)],
 ) -> Result<Vec<SortEntry<'a>>, AllocError>
     requires { All (λ r. (row_of r.now).0 < length sources.now) rows.now }
-    ensures { IfOk result (λ v. AreEntriesOf (entry_at sources.now)
+    ensures { IfOk result (λ v. AreEntriesOf plan.now.query.keys sources.now
         (map (λ r. row_of r.now) rows.now) v.items) }
 {
-    let entries = make_entries(alloc, sources, rows)?;
-    Ok(sort_entries(plan, entries))
+    let entries = make_entries(alloc, keys_of(plan), sources, rows)?;
+    Ok(sort_entries(entries))
 }
 
 /// The groups beside what their rows are put in order by, where the rows of each grouping set have the values of the keys at
-/// these sources.
+/// these sources. Each code is written into the same memory.
 fn make_entries<'a>(
     alloc: Global,
+    keys: &[Key],
     sources: &[Vec<Source>],
     rows: &[&'a (usize, Group)],
 ) -> Result<Vec<SortEntry<'a>>, AllocError>
     requires { All (λ r. (row_of r.now).0 < length sources.now) rows.now }
-    ensures { IfOk result (λ v. map entry_form v.items
-        ≡ map (entry_at sources.now) (map (λ r. row_of r.now) rows.now)) }
+    ensures entries { IfOk result (λ v. map entry_form v.items
+        ≡ map (entry_at (map key_form keys.now) sources.now) (map (λ r. row_of r.now) rows.now)) }
+    ensures codable { OnOk result
+        (AllByRecursion (IsCodableAt (map key_form keys.now) sources.now)
+        (map (λ r. row_of r.now) rows.now)) }
 {
+    let mut code = Vec::new(alloc);
     let mut entries = Vec::with_capacity(alloc, rows.len())?;
     for found in rows {
-        let values = key_values(alloc, sources, found)?;
-        entries.push(SortEntry {
-            values,
-            set: found.0,
-            prefix: key_prefix(found.1.key.as_slice()),
-            second_prefix: second_key_prefix(found.1.key.as_slice()),
-            text: first_text(found.1.key.as_slice()),
-            found: *found,
-        })?;
+        let key = row_key(alloc, &mut code, keys, sources, found)?;
+        entries.push(SortEntry { key, found: *found })?;
     }
     Ok(entries)
 }
 
 /// The groups in the order of what stands beside them, in which no two are equal.
-fn sort_entries<'a>(plan: &PlanView<'_>, entries: Vec<SortEntry<'a>>) -> Vec<SortEntry<'a>>
+fn sort_entries<'a>(entries: Vec<SortEntry<'a>>) -> Vec<SortEntry<'a>>
     ensures permutation { IsPermutation entries.entry.items result.items }
     ensures sorted { IsSortedBy
-        (λ a b. is_lt (by_values plan.now.query.keys (entry_form a) (entry_form b)))
-        result.items }
+        (λ a b. is_lt (by_code (entry_form a) (entry_form b))) result.items }
 {
-    let keys = plan.query().tree().keys.as_slice();
     let mut entries = entries;
-    entries.sort_unstable_by(|a, b| compare_entries(keys, a, b));
+    entries.sort_unstable_by(|a, b| a.key.compare(&b.key));
     entries
 }
 
@@ -218,18 +200,13 @@ fn put_rows<'r, 'a>(
 
 /// Rows that stand in order part by part, in the order of what stands beside them. The parts are put together by moving
 /// what leads to the rows, not the rows.
-fn merge_entries<'r, 'a>(
-    plan: &PlanView<'_>,
-    rows: Vec<&'r SortEntry<'a>>,
-) -> Result<Vec<&'r SortEntry<'a>>, AllocError>
+fn merge_entries<'r, 'a>(rows: Vec<&'r SortEntry<'a>>) -> Result<Vec<&'r SortEntry<'a>>, AllocError>
     ensures permutation { IfOk result (λ v. IsPermutation rows.entry.items v.items) }
     ensures sorted { IfOk result (λ v. IsSortedBy
-        (λ a b. is_lt (by_values plan.now.query.keys (entry_form a.now) (entry_form b.now)))
-        v.items) }
+        (λ a b. is_lt (by_code (entry_form a.now) (entry_form b.now))) v.items) }
 {
-    let keys = plan.query().tree().keys.as_slice();
     let mut rows = rows;
-    rows.sort_by(|a, b| compare_entries(keys, *a, *b))?;
+    rows.sort_by(|a, b| a.key.compare(&b.key))?;
     Ok(rows)
 }
 

@@ -1,14 +1,15 @@
 //! Where the rows of a grouping set have what they show, which is looked up once for all of them.
-ghost use Rattle.std.specs.Prelude.{◌≡◌, ◌<◌, IfOk, List, length, map, slice_index_or};
+ghost use Rattle.std.specs.Prelude.{◌≡◌, ◌<◌, ℕ, IfOk, IfSome, List, length, map, slice_index_or};
 ghost use Rattle.std.specs.Option.{option_map_or};
 ghost use Rattle.semantics.specs.Values.{null};
 ghost use Rattle.values.specs.Schema.{fields_of};
 ghost use Rattle.query_ast.specs.Syntax.{expression_form};
 ghost use Rattle.semantics.specs.Sets.{sets_of};
+ghost use Rattle.semantics.specs.SetFunctions.{functions_of};
 ghost use Rattle.semantics.specs.Aggregates.{Summary, plain};
 ghost use Rattle.semantics.specs.Groups.{Key};
 ghost use Rattle.semantics.specs.Rows.{name_shown};
-ghost use Rattle.report_rows.specs.Sources.{AreKeySources, AreSourcesFor, AreSourcesOfEach, ForEachSet, IsSourceOf, expression_forms, key_expressions, shown_at, sources_at};
+ghost use Rattle.report_rows.specs.Sources.{AreKeySources, AreSourcesFor, AreSourcesOfEach, ForEachSet, IsSourceOf, IsWithin, expression_forms, key_expressions, shown_at, sources_at};
 
 use crate::cells::grouping_value;
 use crate::view::PlanView;
@@ -34,9 +35,10 @@ pub enum Source {
 /// The place in the keys of a grouping set of the value for the column of a name; `None` where the set has no such
 /// column.
 pub(crate) fn key_place(columns: &[Column], set: &[usize], name: &Text) -> Option<usize>
-    ensures { (key : Key)
+    ensures shown { (key : Key)
         → option_map_or (λ at. slice_index_or key at null) result null
         ≡ name_shown (fields_of columns.now) set.now key name.now }
+    ensures within { IfSome result (λ at. at < length set.now) }
 {
     match place_of(columns, name.as_str()) {
         Some(place) => set.iter().position(|column| *column == place),
@@ -45,10 +47,11 @@ pub(crate) fn key_place(columns: &[Column], set: &[usize], name: &Text) -> Optio
 }
 
 /// Where the rows of a grouping set have what they show for the column of a name.
-fn name_source(columns: &[Column], set: &[usize], name: &Text) -> Source
-    ensures { (key : Key) (cells : List Summary)
+pub(crate) fn name_source(columns: &[Column], set: &[usize], name: &Text) -> Source
+    ensures shown { (key : Key) (cells : List Summary)
         → shown_at key cells result
         ≡ plain (name_shown (fields_of columns.now) set.now key name.now) }
+    ensures within { (functions : ℕ) → IsWithin (length set.now) functions result }
 {
     match key_place(columns, set, name) {
         Some(at) => Source::KeyAt(at),
@@ -58,7 +61,9 @@ fn name_source(columns: &[Column], set: &[usize], name: &Text) -> Source
 
 /// Where the rows of a grouping set have what they show for an expression.
 pub(crate) fn source_of(plan: &PlanView<'_>, set: &[usize], expression: &Expression) -> Source
-    ensures { IsSourceOf plan.now set.now (expression_form expression.now) result }
+    ensures shown { IsSourceOf plan.now set.now (expression_form expression.now) result }
+    ensures within { IsWithin (length set.now)
+        (length (functions_of plan.now.fields plan.now.query)) result }
 {
     let columns = plan.schema().columns();
     match expression {

@@ -11,7 +11,7 @@ use Rattle.semantics.specs.SetFunctions.{functions_of}
 use Rattle.semantics.specs.Inside.Same.{same_predicate}
 use Rattle.query_typecheck.proofs.FilterLemmas.{indexes_lead_back}
 use Rattle.semantics.specs.Conditions.{passes}
-use Rattle.tables_groups.specs.Functions.{bound, filter_at}
+use Rattle.tables_groups.specs.Functions.{aggregate_of, filter_at}
 use Rattle.semantics.specs.Groups.{Row}
 use Rattle.semantics.specs.Found.{aggregate_function, aggregate_functions}
 use Rattle.tables.specs.Functions.{filter_tests}
@@ -41,7 +41,7 @@ rest : {X : Type 0} (x y : X) (xs ys : List X) → x ∷ xs ≡ y ∷ ys → xs 
 rest x y xs ys e = cc
 
 each-bound : (fields : List Field) (filters : List PredicateForm) (fs : List PlannedFunction) → filters_at filters (map (indexed_function filters) fs) ≡ map (λ f. f.filter) fs
-    → map (bound (map (passes fields) filters)) (map (indexed_function filters) fs) ≡ map (aggregate_function fields) fs
+    → map (aggregate_of (map (passes fields) filters)) (map (indexed_function filters) fs) ≡ map (aggregate_function fields) fs
 each-bound fields filters [] e = refl
 each-bound fields filters (f ∷ fs) e =
     let this = filter-bound fields filters f.filter (first _ _ _ _ e) in
@@ -49,7 +49,7 @@ each-bound fields filters (f ∷ fs) e =
     λ i. record { function = f.function; filter = this i } ∷ more i
 
 -- where the index of each function leads to its filter, the functions by their indexes are those of the query
-pub bound-functions : (fields : List Field) (q : TreeForm) → map (bound (filter_tests fields q)) (indexed_functions fields q) ≡ aggregate_functions fields q
+pub bound-functions : (fields : List Field) (q : TreeForm) → map (aggregate_of (filter_tests fields q)) (indexed_functions fields q) ≡ aggregate_functions fields q
 bound-functions fields q = each-bound fields (filters_of fields q) (functions_of fields q) (indexes_lead_back fields q)
 
 -- as many

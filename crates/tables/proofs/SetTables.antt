@@ -11,7 +11,7 @@ use Rattle.std.specs.Result.{result_ok}
 use Rattle.semantics.specs.Columns.{Field}
 use Rattle.semantics.specs.Syntax.{TreeForm}
 use Rattle.semantics.specs.Aggregates.{AggregateFunction}
-use Rattle.tables_groups.specs.Functions.{bound}
+use Rattle.tables_groups.specs.Functions.{aggregate_of}
 use Rattle.semantics.specs.Names.{places_of}
 use Rattle.query_resolve.specs.Resolution.{contents}
 use Rattle.semantics.specs.Sets.{grouping_places, sets_of}
@@ -212,7 +212,7 @@ first-made set tables table is same none = (subst (λ (ts : List SetTable). All 
 -- what is to become of a roll: where it has a table, that is the table of its set over the records whose tables the others are
 abbrev pub IsRolledOutOf : List FilteredFunction → List SetTable → Roll → Type 0
 IsRolledOutOf functions tables roll = IfSome roll.table (λ table. (filters : List (Row → Bool)) (rows : List Row)
-    → AreTablesOf (map (bound filters) functions) tables rows → IsTableOf roll.set.items (map (bound filters) functions) table rows)
+    → AreTablesOf (map (aggregate_of filters) functions) tables rows → IsTableOf roll.set.items (map (aggregate_of filters) functions) table rows)
 
 abbrev IsOther : List ℕ → Roll → Type 0
 IsOther set roll = roll.set.items ≢ set
@@ -258,12 +258,12 @@ made-at set (table ∷ tables) place lt at none = none place table lt (at table)
 
 -- the table of a roll is that of the records
 pub rolled-table : (functions : List FilteredFunction) (tables : List SetTable) (roll : Roll) (made : SetTable) → made.set.items ≡ roll.set.items → roll.table ≡ Some made.table
-    → IsRolledOutOf functions tables roll → (filters : List (Row → Bool)) (rows : List Row) → AreTablesOf (map (bound filters) functions) tables rows
-    → IsTableOf made.set.items (map (bound filters) functions) made.table rows
+    → IsRolledOutOf functions tables roll → (filters : List (Row → Bool)) (rows : List Row) → AreTablesOf (map (aggregate_of filters) functions) tables rows
+    → IsTableOf made.set.items (map (aggregate_of filters) functions) made.table rows
 rolled-table functions tables roll made set table is filters rows h =
-    subst (λ (s : List ℕ). IsTableOf s (map (bound filters) functions) made.table rows) (sym set)
+    subst (λ (s : List ℕ). IsTableOf s (map (aggregate_of filters) functions) made.table rows) (sym set)
     (subst (λ (o : Option Contents). IfSome o (λ table. (filters : List (Row → Bool)) (rows : List Row)
-    → AreTablesOf (map (bound filters) functions) tables rows → IsTableOf roll.set.items (map (bound filters) functions) table rows)) table is filters rows h)
+    → AreTablesOf (map (aggregate_of filters) functions) tables rows → IsTableOf roll.set.items (map (aggregate_of filters) functions) table rows)) table is filters rows h)
 
 -- what holds of a value that may not have been made holds where it is kept
 pub some-of_ok : {A E : Type 0} (P : A → Type 0) (r : Result A E) → IfOk r P → IfSome (result_ok r) P
@@ -288,4 +288,4 @@ pub rolled-each : (functions : List FilteredFunction) (tables : List SetTable) (
 rolled-each functions tables olds news n each = λ i d l.
     let roll = each i d (omega (arith, l, n)) in
     subst (λ (s : List ℕ). IfSome (slice_index_or news i d).table (λ table. (filters : List (Row → Bool)) (rows : List Row)
-    → AreTablesOf (map (bound filters) functions) tables rows → IsTableOf s (map (bound filters) functions) table rows)) (sym roll.0) roll.1
+    → AreTablesOf (map (aggregate_of filters) functions) tables rows → IsTableOf s (map (aggregate_of filters) functions) table rows)) (sym roll.0) roll.1

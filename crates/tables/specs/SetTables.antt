@@ -4,7 +4,7 @@ use Rattle.std.specs.declared.alloc.Global.{Global}
 use Rattle.std.specs.declared.vec.Vec.{Vec}
 use Rattle.query_resolve.specs.declared.function.FilteredFunction.{FilteredFunction}
 use Rattle.semantics.specs.Aggregates.{AggregateFunction}
-use Rattle.tables_groups.specs.Functions.{bound_functions}
+use Rattle.tables_groups.specs.Functions.{aggregates_of}
 use Rattle.tables_groups.specs.declared.group.Group.{Group}
 use Rattle.tables_groups.specs.Rolled.{AreAmong}
 use Rattle.semantics.specs.Groups.{Row}
@@ -19,7 +19,7 @@ AreTablesOf functions tables rows = All (λ (table : SetTable). IsTableOf table.
 
 -- so it is for set functions whose FILTERs are given by their indexes, where the filters keep this
 abbrev pub AreTablesUnder : List FilteredFunction → List (Row → Bool) → List SetTable → List Row → Type 0
-AreTablesUnder functions filters tables rows = AreTablesOf (bound_functions filters functions) tables rows
+AreTablesUnder functions filters tables rows = AreTablesOf (aggregates_of filters functions) tables rows
 
 -- the tables are those of some list of fewer than 2^63 records, whatever the filters keep
 pub record AreOfFew (functions : List FilteredFunction) (tables : List SetTable) : Type 0 where
@@ -74,9 +74,9 @@ IsMadeOrRolled set tables rolls = All (λ (table : SetTable). table.set.items �
 -- for each set of a list there are its groups of the records that tables are of
 abbrev pub AreGroupsOfSets : List FilteredFunction → List SetTable → List (List ℕ) → List (Vec Group Global) → Type 0
 AreGroupsOfSets functions tables sets groups =
-    (filters : List (Row → Bool)) (rows : List Row) → AreTablesUnder functions filters tables rows → AreGroupsOf sets (bound_functions filters functions) groups rows
+    (filters : List (Row → Bool)) (rows : List Row) → AreTablesUnder functions filters tables rows → AreGroupsOf sets (aggregates_of filters functions) groups rows
 
 -- for each set of a list there are its groups of the records that one table is of, which is under a finer set
 abbrev pub AreGroupsOfRolls : List ℕ → List FilteredFunction → Contents → List (List ℕ) → List (Vec Group Global) → Type 0
 AreGroupsOfRolls finer functions table sets groups =
-    (filters : List (Row → Bool)) (rows : List Row) → IsTableUnder finer functions filters table rows → AreGroupsOf sets (bound_functions filters functions) groups rows
+    (filters : List (Row → Bool)) (rows : List Row) → IsTableUnder finer functions filters table rows → AreGroupsOf sets (aggregates_of filters functions) groups rows

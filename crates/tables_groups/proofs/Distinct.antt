@@ -1,17 +1,17 @@
 -- Entries of which no two have one key.
-use Rattle.std.proofs.Common.{◌≡◌, false, [], ◌∷◌, map, Vec, Global, sym, ◌∙◌}
+use Rattle.tables_groups.specs.declared.packed_key.PackedKey.{PackedKey}
+use Rattle.tables_groups.specs.Inside.Keys.{key_in}
+use Rattle.std.proofs.Common.{◌≡◌, false, [], ◌∷◌, map, sym, ◌∙◌}
 use Rattle.std.specs.List.{IsDistinct, AllByRecursion}
 use Rattle.std.specs.Map.{keys_of}
-use Rattle.values.specs.declared.value.Value.{Value}
-use Rattle.values.specs.Datum.{data_of}
 use Rattle.semantics.specs.Groups.{same_key}
 use Rattle.tables_groups.specs.Inside.Table.{entries_by_key}
 use Rattle.tables_groups.proofs.Order.{key_eq-ties}
 use Rattle.tables_groups.proofs.Entries.{Entries, key_eq}
 
-all-shown : (k : Vec Value Global) (es : Entries) → AllByRecursion (λ y. key_eq k y ≡ false) (keys_of es) → AllByRecursion (λ y. same_key (data_of k.items) y ≡ false) (map (λ e. e.0) (entries_by_key es))
+all-shown : (k : PackedKey) (es : Entries) → AllByRecursion (λ y. key_eq k y ≡ false) (keys_of es) → AllByRecursion (λ y. same_key (key_in k) y ≡ false) (map (λ e. e.0) (entries_by_key es))
 all-shown k [] h = tt
-all-shown k (e ∷ es) h = (sym (key_eq-ties k.items e.0.items) ∙ h.0, all-shown k es h.1)
+all-shown k (e ∷ es) h = (sym (key_eq-ties k e.0) ∙ h.0, all-shown k es h.1)
 
 pub distinct-shown : (es : Entries) → IsDistinct key_eq (keys_of es) → IsDistinct same_key (map (λ e. e.0) (entries_by_key es))
 unfolding IsDistinct

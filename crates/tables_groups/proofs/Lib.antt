@@ -6,7 +6,6 @@ pub mod Bags
 pub mod Firsts
 pub mod Sets
 pub mod Entries
-pub mod Keys
 pub mod Meaning
 pub mod Distinct
 pub mod GroupsLaw
@@ -19,3 +18,4 @@ pub mod Shards
 pub mod InPairs
 pub mod Walks
 pub mod InParts
+pub mod Packing

@@ -15,7 +15,7 @@ use Rattle.semantics.specs.declared.function.ColumnFunction.TheVariants as funct
 use Rattle.query_resolve.specs.declared.function.FilteredFunction.{FilteredFunction}
 use Rattle.semantics.specs.Groups.{Row, value_at, Key, project, key_order, same_key, keys, members}
 use Rattle.semantics.specs.Aggregates.{is_present, number_of, column_values, column_numbers, AggregateFunction, total, least, greatest}
-use Rattle.tables_groups.specs.Functions.{bound, filter_at}
+use Rattle.tables_groups.specs.Functions.{aggregate_of, filter_at}
 use Rattle.tables_groups.specs.Inside.Values.{falling_order, first_by, set_of}
 use Rattle.tables_groups.specs.Inside.Accumulator.{AccumulatorState, counted, summed, averaged, collected, lowest, highest, accumulator_state, state_over, state_counted, state_by, no_state, is_marked, with_member, with_record, joint_state}
 use Rattle.tables_groups.specs.Inside.Group.{GroupState, group_state, no_group, all_with_row, joint_states, with_row, joint_group}
@@ -124,8 +124,8 @@ parts-append [] l m = refl
 parts-append (f ∷ fs) l m = λ i. state_by-append f.filter f.function l m i ∷ parts-append fs l m i
 
 parts-with_row : (filters : List (Row → Bool)) (fs : List FilteredFunction) (l : List Row) (row : Row)
-    → all_with_row fs (map (λ keeps. keeps row) filters) (map (λ f. accumulator_state f l) (map (bound filters) fs)) row
-    ≡ map (λ f. accumulator_state f (l ++ row ∷ [])) (map (bound filters) fs)
+    → all_with_row fs (map (λ keeps. keeps row) filters) (map (λ f. accumulator_state f l) (map (aggregate_of filters) fs)) row
+    ≡ map (λ f. accumulator_state f (l ++ row ∷ [])) (map (aggregate_of filters) fs)
 parts-with_row filters [] l row = refl
 parts-with_row filters (f ∷ fs) l row = λ i. state_by-with_member filters f.filter f.function l row i ∷ parts-with_row filters fs l row i
 
@@ -133,21 +133,21 @@ parts-none : (filters : List (Row → Bool)) (t : Option ℕ) (f : ColumnFunctio
 parts-none filters None f = refl
 parts-none filters (Some index) f = refl
 
-all_parts-none : (filters : List (Row → Bool)) (fs : List FilteredFunction) → map (λ f. no_state f.filter f.function) fs ≡ map (λ f. accumulator_state f []) (map (bound filters) fs)
+all_parts-none : (filters : List (Row → Bool)) (fs : List FilteredFunction) → map (λ f. no_state f.filter f.function) fs ≡ map (λ f. accumulator_state f []) (map (aggregate_of filters) fs)
 all_parts-none filters [] = refl
 all_parts-none filters (f ∷ fs) = λ i. parts-none filters f.filter f.function i ∷ all_parts-none filters fs i
 
 -- a group without members is the same whatever the filters keep
-pub no_group-is : (filters : List (Row → Bool)) (fs : List FilteredFunction) → no_group fs ≡ group_state (map (bound filters) fs) []
+pub no_group-is : (filters : List (Row → Bool)) (fs : List FilteredFunction) → no_group fs ≡ group_state (map (aggregate_of filters) fs) []
 no_group-is filters fs = λ i. record { lines = 0; parts = all_parts-none filters fs i }
 
 pub group_state-append : (fs : List AggregateFunction) (l m : List Row) → group_state fs (l ++ m) ≡ joint_group (group_state fs l) (group_state fs m)
 group_state-append fs l m = same_state (group_state fs (l ++ m)) (joint_group (group_state fs l) (group_state fs m)) (length-append l m) (parts-append fs l m)
 
 group_state-with_row : (filters : List (Row → Bool)) (fs : List FilteredFunction) (l : List Row) (row : Row)
-    → with_row fs (map (λ keeps. keeps row) filters) (group_state (map (bound filters) fs) l) row ≡ group_state (map (bound filters) fs) (l ++ row ∷ [])
+    → with_row fs (map (λ keeps. keeps row) filters) (group_state (map (aggregate_of filters) fs) l) row ≡ group_state (map (aggregate_of filters) fs) (l ++ row ∷ [])
 group_state-with_row filters fs l row =
-    same_state (with_row fs (map (λ keeps. keeps row) filters) (group_state (map (bound filters) fs) l) row) (group_state (map (bound filters) fs) (l ++ row ∷ []))
+    same_state (with_row fs (map (λ keeps. keeps row) filters) (group_state (map (aggregate_of filters) fs) l) row) (group_state (map (aggregate_of filters) fs) (l ++ row ∷ []))
     (let h = length-append l (row ∷ []) in omega (arith, h)) (parts-with_row filters fs l row)
 
 -- ---- whether a key is one of a list of records
@@ -229,20 +229,20 @@ group_state-at fs true x p = refl
 group_state-at fs false x p = ap (group_state fs) (sym (p refl))
 
 group_with_record-at : (filters : List (Row → Bool)) (fs : List FilteredFunction) (row : Row) (a c : Bool) (x : List Row) → (a ≡ false → x ≡ [])
-    → cond c (Some (group_with_record fs (map (λ keeps. keeps row) filters) (cond a (Some (group_state (map (bound filters) fs) x)) None) row)) (cond a (Some (group_state (map (bound filters) fs) x)) None)
-    ≡ cond (a || (c || false)) (Some (group_state (map (bound filters) fs) (x ++ cond c (row ∷ []) []))) None
+    → cond c (Some (group_with_record fs (map (λ keeps. keeps row) filters) (cond a (Some (group_state (map (aggregate_of filters) fs) x)) None) row)) (cond a (Some (group_state (map (aggregate_of filters) fs) x)) None)
+    ≡ cond (a || (c || false)) (Some (group_state (map (aggregate_of filters) fs) (x ++ cond c (row ∷ []) []))) None
 group_with_record-at filters fs row true true x p = ap Some (group_state-with_row filters fs x row)
 group_with_record-at filters fs row false true x p =
-    ap (λ h. Some (with_row fs (map (λ keeps. keeps row) filters) h row)) (no_group-is filters fs ∙ ap (group_state (map (bound filters) fs)) (sym (p refl)))
+    ap (λ h. Some (with_row fs (map (λ keeps. keeps row) filters) h row)) (no_group-is filters fs ∙ ap (group_state (map (aggregate_of filters) fs)) (sym (p refl)))
     ∙ ap Some (group_state-with_row filters fs x row)
-group_with_record-at filters fs row true false x p = ap (λ z. Some (group_state (map (bound filters) fs) z)) (sym (append-nil x))
+group_with_record-at filters fs row true false x p = ap (λ z. Some (group_state (map (aggregate_of filters) fs) z)) (sym (append-nil x))
 group_with_record-at filters fs row false false x p = refl
 
 -- a table with one more record
-table-added-marked : (set : List ℕ) (filters : List (Row → Bool)) (functions : List FilteredFunction) (t v : Contents) (l : List Row) (row : Row) → IsTableOf set (map (bound filters) functions) t l
-    → ((k : Key) → IsAdded functions (map (λ keeps. keeps row) filters) t v (project set row) row k) → IsTableOf set (map (bound filters) functions) v (l ++ row ∷ [])
+table-added-marked : (set : List ℕ) (filters : List (Row → Bool)) (functions : List FilteredFunction) (t v : Contents) (l : List Row) (row : Row) → IsTableOf set (map (aggregate_of filters) functions) t l
+    → ((k : Key) → IsAdded functions (map (λ keeps. keeps row) filters) t v (project set row) row k) → IsTableOf set (map (aggregate_of filters) functions) v (l ++ row ∷ [])
 table-added-marked set filters functions t v l row a j k =
-    let fs = map (bound filters) functions in
+    let fs = map (aggregate_of filters) functions in
     j k
     ∙ ap (λ o. cond (same_key k (project set row)) (Some (group_with_record functions (map (λ keeps. keeps row) filters) o row)) o) (a k)
     ∙ group_with_record-at filters functions row (has_key set k l) (same_key k (project set row)) (members set k l) (no_members set k l)
@@ -252,17 +252,17 @@ table-added-marked set filters functions t v l row a j k =
 
 pub table-added : (set : List ℕ) (functions : List FilteredFunction) (marks : List Bool) (t v : Contents) (row : Row) → ((k : Key) → IsAdded functions marks t v (project set row) row k)
     → (filters : List (Row → Bool)) (l : List Row) → marks ≡ map (λ keeps. keeps row) filters
-    → IsTableOf set (map (bound filters) functions) t l → IsTableOf set (map (bound filters) functions) v (l ++ row ∷ [])
+    → IsTableOf set (map (aggregate_of filters) functions) t l → IsTableOf set (map (aggregate_of filters) functions) v (l ++ row ∷ [])
 table-added set functions marks t v row j filters l m a =
     table-added-marked set filters functions t v l row a (subst (λ (ms : List Bool). (k : Key) → IsAdded functions ms t v (project set row) row k) m j)
 
 -- the empty set has its one group from the start
 pub table-empty_set : (set : List ℕ) (functions : List FilteredFunction) (t : Contents) → length set ≡ 0 → ((k : Key) → IsPut fin.empty t [] (no_group functions) k)
-    → (filters : List (Row → Bool)) → IsTableOf set (map (bound filters) functions) t []
+    → (filters : List (Row → Bool)) → IsTableOf set (map (aggregate_of filters) functions) t []
 table-empty_set [] functions t z h filters k = h k
     ∙ ap (λ (g : GroupState). cond (same_key k []) (joint_option (fin.get (fin.empty {X = GroupState} {R = key_order}) k) (Some g)) (fin.get (fin.empty {X = GroupState} {R = key_order}) k)) (no_group-is filters functions)
-    ∙ ap (λ o. cond (same_key k []) (joint_option o (Some (group_state (map (bound filters) functions) []))) o) (fin.get-empty key_order k)
-    ∙ ap (λ b. cond b (Some (group_state (map (bound filters) functions) [])) None) (or-false (same_key k []))
+    ∙ ap (λ o. cond (same_key k []) (joint_option o (Some (group_state (map (aggregate_of filters) functions) []))) o) (fin.get-empty key_order k)
+    ∙ ap (λ b. cond b (Some (group_state (map (aggregate_of filters) functions) [])) None) (or-false (same_key k []))
 table-empty_set (place ∷ places) functions t z h filters k = absurd (omega (arith, z))
 
 -- another set has no group without records
@@ -286,10 +286,10 @@ place-at functions fs true x e h = (h, map-length (λ f. accumulator_state f x) 
 place-at functions fs false x e h = tt
 
 -- a table of few records takes one more
-table-place : (set : List ℕ) (functions : List FilteredFunction) (filters : List (Row → Bool)) (t : Contents) (l : List Row) → IsTableOf set (map (bound filters) functions) t l
+table-place : (set : List ℕ) (functions : List FilteredFunction) (filters : List (Row → Bool)) (t : Contents) (l : List Row) → IsTableOf set (map (aggregate_of filters) functions) t l
     → length l + 1 < 2 ^ 63 → (k : Key) → HasPlace functions (fin.get t k)
 table-place set functions filters t l a few k = subst (λ (o : Option GroupState). HasPlace functions o) (sym (a k))
-    (place-at functions (map (bound filters) functions) (has_key set k l) (members set k l) (map-length (bound filters) functions)
+    (place-at functions (map (aggregate_of filters) functions) (has_key set k l) (members set k l) (map-length (aggregate_of filters) functions)
     (omega (arith, few, filter-le (λ r. same_key k (project set r)) l)))
 
 place-prop : (functions : List FilteredFunction) (o : Option GroupState) → IsProp (HasPlace functions o)

@@ -1,20 +1,24 @@
 -- The order of values and keys, and the equality of the code's keys.
-use Rattle.std.proofs.Common.{◌≡◌, Bool, true, false, List, [], ◌∷◌, refl, sym, ap, subst, ◌∙◌, string_bytes}
+use Rattle.std.proofs.Common.{◌≡◌, Bool, true, false, refl, sym, ap, subst, ◌∙◌, string_bytes}
 use Rattle.std.specs.declared.cmp.Ordering.{Ordering}
 use Rattle.std.specs.declared.cmp.Ordering.TheVariants.{Less, Equal, Greater}
 use Rattle.std.specs.Bool.{Decides}
 use Rattle.std.specs.Ordering.{eq_by_cmp, nat_cmp, int_cmp, is_eq, ordering_then}
 use Rattle.std.specs.Cmp.{IsTotalOrder, Equal-is, tied_itself, nat_cmp_total, int_cmp_total, on_total, then_total}
-use Rattle.std.specs.Cmp.Lexicographic.{slice_cmp, pointwise, lists_total, lists_ties, texts_ties, nat_list_cmp_total}
+use Rattle.std.specs.Cmp.Lexicographic.{bytes_decides, slice_cmp, lists_total, texts_ties, nat_list_cmp_total}
 use Rattle.std.specs.FinMap.{IsAntisymmetric, slice_cmp-IsAntisymmetric}
 use Rattle.std.proofs.lemmas.Map.Lookups.{exact_pairs, exact_unsigned, exact_signed, exact_bytes}
 use Rattle.semantics.specs.Values.{Datum, boolean, whole, text, null, value_order}
-use Rattle.values.specs.Datum.{datum_of, data_of}
+use Rattle.values.specs.Datum.{datum_of}
 use Rattle.values.specs.declared.value.Value.{Value}
 use Rattle.values.specs.declared.value.Value.TheVariants as v
 use Rattle.values.specs.contracts.value.ValuePartialEq.TheImpl.{eq-value}
 use Rattle.tables_groups.specs.Inside.Coding.{parts, datum_of_parts, datum_of_parts-parts}
 use Rattle.semantics.specs.Groups.{Key, key_order, same_key}
+use Rattle.sort_keys.specs.Codes.{values_code}
+use Rattle.sort_keys.proofs.Decoding.{keys-one}
+use Rattle.tables_groups.specs.Inside.Keys.{key_eq, key_in}
+use Rattle.tables_groups.specs.declared.packed_key.PackedKey.{PackedKey}
 
 abbrev order_of_parts : Datum → Datum → Ordering
 order_of_parts a b = ordering_then (nat_cmp (parts a).0 (parts b).0) (ordering_then (int_cmp (parts a).1.0 (parts b).1.0) (slice_cmp nat_cmp (parts a).1.1 (parts b).1.1))
@@ -102,12 +106,21 @@ value_eq-ties v.Null (v.Int n) = refl
 value_eq-ties v.Null (v.Text s) = refl
 value_eq-ties v.Null v.Null = refl
 
-order-map : (xs ys : List Value) → slice_cmp (λ a b. value_order (datum_of a) (datum_of b)) xs ys ≡ key_order (data_of xs) (data_of ys)
-order-map [] [] = refl
-order-map [] (y ∷ ys) = refl
-order-map (x ∷ xs) [] = refl
-order-map (x ∷ xs) (y ∷ ys) = ap (ordering_then (value_order (datum_of x) (datum_of y))) (order-map xs ys)
+-- two tests that pass together are the same
+same-test : (a b : Bool) → (a ≡ true → b ≡ true) → (b ≡ true → a ≡ true) → a ≡ b
+same-test true true f g = refl
+same-test true false f g = sym (f refl)
+same-test false true f g = g refl
+same-test false false f g = refl
+
+same-code : (x y : PackedKey) → key_in x ≡ key_in y → x.code.items ≡ y.code.items
+same-code x y e = x.of_key.1.1 ∙ ap values_code e ∙ sym y.of_key.1.1
 
 -- the code's keys are equal exactly where they are the same
-pub key_eq-ties : (xs ys : List Value) → pointwise value_eq xs ys ≡ same_key (data_of xs) (data_of ys)
-key_eq-ties xs ys = lists_ties (λ a b. value_order (datum_of a) (datum_of b)) value_eq-ties xs ys ∙ ap is_eq (order-map xs ys)
+pub key_eq-ties : (x y : PackedKey) → key_eq x y ≡ same_key (key_in x) (key_in y)
+key_eq-ties x y =
+    let bytes = bytes_decides x.code.items y.code.items in
+    let keys = same_key-Decides (key_in x) (key_in y) in
+    same-test (key_eq x y) (same_key (key_in x) (key_in y))
+    (λ h. keys.1 (keys-one (key_in x) (key_in y) x.of_key.1.0 y.of_key.1.0 (sym x.of_key.1.1 ∙ bytes.0 h ∙ y.of_key.1.1)))
+    (λ h. bytes.1 (same-code x y (keys.0 h)))

@@ -1,16 +1,16 @@
 -- A table of another set, made of the groups of a finer table.
-use Rattle.std.proofs.Common.{◌≡◌, ◌+◌, ◌<◌, ◌^◌, ℕ, Bool, filter, true, false, ◌||◌, ◌&&◌, cond, List, [], ◌∷◌, ◌++◌, map, length, Option, Some, None, unwrap_or, Vec, Global, refl, sym, ap, subst, ◌∙◌, arith, append_assoc, length-append}
+use Rattle.tables_groups.specs.declared.packed_key.PackedKey.{PackedKey}
+use Rattle.tables_groups.specs.Inside.Keys.{key_in}
+use Rattle.std.proofs.Common.{◌≡◌, ◌+◌, ◌<◌, ◌^◌, ℕ, Bool, filter, true, false, ◌||◌, ◌&&◌, cond, List, [], ◌∷◌, ◌++◌, map, length, Option, Some, None, unwrap_or, refl, sym, ap, subst, ◌∙◌, arith, append_assoc, length-append}
 use Rattle.std.proofs.Props.{props}
 use Rattle.std.proofs.lemmas.List.{length-map}
 use Rattle.std.specs.List.{list_any, IsDistinct, AllByRecursion}
 use Rattle.std.specs.Map.{keys_of}
 use Rattle.std.specs.FinMap as fin
-use Rattle.values.specs.Datum.{data_of}
-use Rattle.values.specs.declared.value.Value.{Value}
 use Rattle.query_resolve.specs.declared.function.FilteredFunction.{FilteredFunction}
 use Rattle.semantics.specs.Groups.{Row, Key, project, key_order, same_key, members}
 use Rattle.semantics.specs.Aggregates.{AggregateFunction}
-use Rattle.tables_groups.specs.Functions.{bound}
+use Rattle.tables_groups.specs.Functions.{aggregate_of}
 use Rattle.tables_groups.specs.Inside.Accumulator.{accumulator_state}
 use Rattle.tables_groups.specs.Inside.Group.{GroupState, group_state, no_group, joint_group}
 use Rattle.tables_groups.specs.Bags.{SameBag}
@@ -92,10 +92,10 @@ group_with_members-at functions fs false None m e = refl
 group_with_members-at functions fs false (Some g) m e = refl
 
 pub table-group_with_members : (finer set : List ℕ) (functions : List FilteredFunction) (filters : List (Row → Bool)) (t old new : Contents) (rows done : List Row) (q : Key) (h : GroupState)
-    → AreAmong set finer → IsTableOf finer (map (bound filters) functions) t rows → fin.get t q ≡ Some h → IsTableOf set (map (bound filters) functions) old done
-    → ((k : Key) → IsEnlarged functions old new (rolled_key finer set q) h k) → IsTableOf set (map (bound filters) functions) new (done ++ members finer q rows)
+    → AreAmong set finer → IsTableOf finer (map (aggregate_of filters) functions) t rows → fin.get t q ≡ Some h → IsTableOf set (map (aggregate_of filters) functions) old done
+    → ((k : Key) → IsEnlarged functions old new (rolled_key finer set q) h k) → IsTableOf set (map (aggregate_of filters) functions) new (done ++ members finer q rows)
 table-group_with_members finer set functions filters t old new rows done q h a is e b j k =
-    let fs = map (bound filters) functions in
+    let fs = map (aggregate_of filters) functions in
     let g = group-of finer fs t rows q h is e in
     let m = members finer q rows in
     let c = same_key k (rolled_key finer set q) in
@@ -116,14 +116,14 @@ fitting-prop fs part g = Prim.hlevel props
 
 -- it fits, since all records are few
 pub table-fitting : (finer set : List ℕ) (functions : List FilteredFunction) (filters : List (Row → Bool)) (t old : Contents) (rows done : List Row) (q p : Key) (h : GroupState)
-    → IsTableOf finer (map (bound filters) functions) t rows → fin.get t q ≡ Some h → IsTableOf set (map (bound filters) functions) old done
+    → IsTableOf finer (map (aggregate_of filters) functions) t rows → fin.get t q ≡ Some h → IsTableOf set (map (aggregate_of filters) functions) old done
     → length done + length (members finer q rows) < 2 ^ 63 → IsFittingNew functions h (fin.get old p)
 table-fitting finer set functions filters t old rows done q p h is e b few =
-    let fs = map (bound filters) functions in
+    let fs = map (aggregate_of filters) functions in
     let g = group-of finer fs t rows q h is e in
     subst (λ (x : GroupState). IsFittingNew functions x (fin.get old p)) g.1
     (subst (λ (o : Option GroupState). IsFittingNew functions (group_state fs (members finer q rows)) o) (sym (b p))
-    (fitting-at functions fs (has_key set p done) (members set p done) (members finer q rows) (length-map functions (bound filters))
+    (fitting-at functions fs (has_key set p done) (members set p done) (members finer q rows) (length-map functions (aggregate_of filters))
     (omega (arith, few, filter-le (λ r. same_key p (project set r)) done))))
 
 -- ---- the entries of the finer table
@@ -134,7 +134,7 @@ firsts es = map (λ e. e.0) (entries_by_key es)
 find-any : (q : Key) (es : Entries) (h : GroupState) → fin.find key_order q (entries_by_key es) ≡ Some h → list_any (same_key q) (firsts es) ≡ true
 find-any q [] h e = cc
 find-any q (x ∷ es) h e =
-    elim (same_key q (data_of x.0.items)) as (λ b. cond b (Some x.1) (fin.find key_order q (entries_by_key es)) ≡ Some h → (b || list_any (same_key q) (firsts es)) ≡ true) [
+    elim (same_key q (key_in x.0)) as (λ b. cond b (Some x.1) (fin.find key_order q (entries_by_key es)) ≡ Some h → (b || list_any (same_key q) (firsts es)) ≡ true) [
       | true ↦ λ i. refl
       | false ↦ λ i. find-any q es h i
     ] e
@@ -152,34 +152,34 @@ pub spread-entries : (set : List ℕ) (fs : List AggregateFunction) (es : Entrie
 spread-entries set fs es t rows v d is = spread-bag set (firsts es) (distinct-shown es d) rows (entries-cover set fs es t rows v is)
 
 -- each entry is found by its key
-still-found : (e : Vec Value Global × GroupState) (es xs : Entries) → AllByRecursion (λ y. key_eq e.0 y ≡ false) (keys_of xs)
-    → AllByRecursion (λ x. fin.find key_order (data_of x.0.items) (entries_by_key es) ≡ Some x.1) xs
-    → AllByRecursion (λ x. fin.find key_order (data_of x.0.items) (entries_by_key (e ∷ es)) ≡ Some x.1) xs
+still-found : (e : PackedKey × GroupState) (es xs : Entries) → AllByRecursion (λ y. key_eq e.0 y ≡ false) (keys_of xs)
+    → AllByRecursion (λ x. fin.find key_order (key_in x.0) (entries_by_key es) ≡ Some x.1) xs
+    → AllByRecursion (λ x. fin.find key_order (key_in x.0) (entries_by_key (e ∷ es)) ≡ Some x.1) xs
 still-found e es [] d h = tt
 still-found e es (x ∷ xs) d h = (
-  elim (same_key (data_of x.0.items) (data_of e.0.items)) as (λ b. same_key (data_of x.0.items) (data_of e.0.items) ≡ b
-      → cond b (Some e.1) (fin.find key_order (data_of x.0.items) (entries_by_key es)) ≡ Some x.1) [
+  elim (same_key (key_in x.0) (key_in e.0)) as (λ b. same_key (key_in x.0) (key_in e.0) ≡ b
+      → cond b (Some e.1) (fin.find key_order (key_in x.0) (entries_by_key es)) ≡ Some x.1) [
         | true ↦ λ i.
-            let same : same_key (data_of e.0.items) (data_of x.0.items) ≡ true = (same_key-Decides (data_of e.0.items) (data_of x.0.items)).1 (sym ((same_key-Decides (data_of x.0.items) (data_of e.0.items)).0 i)) in
-            let other : same_key (data_of e.0.items) (data_of x.0.items) ≡ false = sym (key_eq-ties e.0.items x.0.items) ∙ d.0 in
+            let same : same_key (key_in e.0) (key_in x.0) ≡ true = (same_key-Decides (key_in e.0) (key_in x.0)).1 (sym ((same_key-Decides (key_in x.0) (key_in e.0)).0 i)) in
+            let other : same_key (key_in e.0) (key_in x.0) ≡ false = sym (key_eq-ties e.0 x.0) ∙ d.0 in
             cc
         | false ↦ λ i. h.0
       ] refl,
   still-found e es xs d.1 h.1,
 )
 
-find-each : (es : Entries) → IsDistinct key_eq (keys_of es) → AllByRecursion (λ x. fin.find key_order (data_of x.0.items) (entries_by_key es) ≡ Some x.1) es
+find-each : (es : Entries) → IsDistinct key_eq (keys_of es) → AllByRecursion (λ x. fin.find key_order (key_in x.0) (entries_by_key es) ≡ Some x.1) es
 unfolding IsDistinct
 find-each [] d = tt
 find-each (e ∷ es) d = (find-first e es, still-found e es es d.0 (find-each es d.1))
 
 all-got : (es xs : Entries) (t : Contents) → contents_of es ≡ t
-    → AllByRecursion (λ x. fin.find key_order (data_of x.0.items) (entries_by_key es) ≡ Some x.1) xs
-    → AllByRecursion (λ x. fin.get t (data_of x.0.items) ≡ Some x.1) xs
+    → AllByRecursion (λ x. fin.find key_order (key_in x.0) (entries_by_key es) ≡ Some x.1) xs
+    → AllByRecursion (λ x. fin.get t (key_in x.0) ≡ Some x.1) xs
 all-got es [] t v h = tt
-all-got es (x ∷ xs) t v h = (ap (λ m. fin.get m (data_of x.0.items)) (sym v) ∙ fin.get-from_entries key_total (entries_by_key es) (data_of x.0.items) ∙ h.0, all-got es xs t v h.1)
+all-got es (x ∷ xs) t v h = (ap (λ m. fin.get m (key_in x.0)) (sym v) ∙ fin.get-from_entries key_total (entries_by_key es) (key_in x.0) ∙ h.0, all-got es xs t v h.1)
 
-pub get-each : (es : Entries) (t : Contents) → contents_of es ≡ t → IsDistinct key_eq (keys_of es) → AllByRecursion (λ x. fin.get t (data_of x.0.items) ≡ Some x.1) es
+pub get-each : (es : Entries) (t : Contents) → contents_of es ≡ t → IsDistinct key_eq (keys_of es) → AllByRecursion (λ x. fin.get t (key_in x.0) ≡ Some x.1) es
 get-each es t v d = all-got es es t v (find-each es d)
 
 -- ---- the walk over them
@@ -190,24 +190,24 @@ pub record IsRolled (finer set : List ℕ) (fs : List AggregateFunction) (table 
   pub is_table : IsTableOf set fs table done
   pub whole : done ++ spread finer rows (firsts left) ≡ spread finer rows (firsts all)
 
-pub rolled-step : (finer set : List ℕ) (functions : List FilteredFunction) (filters : List (Row → Bool)) (t old new : Contents) (e : Vec Value Global × GroupState) (left all : Entries) (rows : List Row)
-    → AreAmong set finer → IsTableOf finer (map (bound filters) functions) t rows → fin.get t (data_of e.0.items) ≡ Some e.1
-    → ((k : Key) → IsEnlarged functions old new (rolled_key finer set (data_of e.0.items)) e.1 k)
-    → IsRolled finer set (map (bound filters) functions) old (e ∷ left) all rows → IsRolled finer set (map (bound filters) functions) new left all rows
+pub rolled-step : (finer set : List ℕ) (functions : List FilteredFunction) (filters : List (Row → Bool)) (t old new : Contents) (e : PackedKey × GroupState) (left all : Entries) (rows : List Row)
+    → AreAmong set finer → IsTableOf finer (map (aggregate_of filters) functions) t rows → fin.get t (key_in e.0) ≡ Some e.1
+    → ((k : Key) → IsEnlarged functions old new (rolled_key finer set (key_in e.0)) e.1 k)
+    → IsRolled finer set (map (aggregate_of filters) functions) old (e ∷ left) all rows → IsRolled finer set (map (aggregate_of filters) functions) new left all rows
 rolled-step finer set functions filters t old new e left all rows a is g j r = record {
-  done = r.done ++ members finer (data_of e.0.items) rows;
-  is_table = table-group_with_members finer set functions filters t old new rows r.done (data_of e.0.items) e.1 a is g r.is_table j;
-  whole = append_assoc r.done (members finer (data_of e.0.items) rows) (spread finer rows (firsts left)) ∙ r.whole;
+  done = r.done ++ members finer (key_in e.0) rows;
+  is_table = table-group_with_members finer set functions filters t old new rows r.done (key_in e.0) e.1 a is g r.is_table j;
+  whole = append_assoc r.done (members finer (key_in e.0) rows) (spread finer rows (firsts left)) ∙ r.whole;
 }
 
-pub rolled-fitting : (finer set : List ℕ) (functions : List FilteredFunction) (filters : List (Row → Bool)) (t old : Contents) (e : Vec Value Global × GroupState) (left all : Entries) (rows : List Row) (p : Key)
-    → contents_of all ≡ t → IsDistinct key_eq (keys_of all) → length rows < 2 ^ 63 → IsTableOf finer (map (bound filters) functions) t rows
-    → fin.get t (data_of e.0.items) ≡ Some e.1 → IsRolled finer set (map (bound filters) functions) old (e ∷ left) all rows → IsFittingNew functions e.1 (fin.get old p)
+pub rolled-fitting : (finer set : List ℕ) (functions : List FilteredFunction) (filters : List (Row → Bool)) (t old : Contents) (e : PackedKey × GroupState) (left all : Entries) (rows : List Row) (p : Key)
+    → contents_of all ≡ t → IsDistinct key_eq (keys_of all) → length rows < 2 ^ 63 → IsTableOf finer (map (aggregate_of filters) functions) t rows
+    → fin.get t (key_in e.0) ≡ Some e.1 → IsRolled finer set (map (aggregate_of filters) functions) old (e ∷ left) all rows → IsFittingNew functions e.1 (fin.get old p)
 rolled-fitting finer set functions filters t old e left all rows p v d few is g r =
-    let m = members finer (data_of e.0.items) rows in
+    let m = members finer (key_in e.0) rows in
     let rest = spread finer rows (firsts left) in
-    let whole : length (r.done ++ (m ++ rest)) ≡ length rows = ap length r.whole ∙ length-bag (spread finer rows (firsts all)) rows (spread-entries finer (map (bound filters) functions) all t rows v d is) in
-    table-fitting finer set functions filters t old rows r.done (data_of e.0.items) p e.1 is g r.is_table
+    let whole : length (r.done ++ (m ++ rest)) ≡ length rows = ap length r.whole ∙ length-bag (spread finer rows (firsts all)) rows (spread-entries finer (map (aggregate_of filters) functions) all t rows v d is) in
+    table-fitting finer set functions filters t old rows r.done (key_in e.0) p e.1 is g r.is_table
     (omega (arith, few, whole, length-append r.done (m ++ rest), length-append m rest))
 
 pub rolled-all : (finer set : List ℕ) (fs : List AggregateFunction) (t table : Contents) (left all : Entries) (rows : List Row) → contents_of all ≡ t → IsDistinct key_eq (keys_of all) → left ≡ []
@@ -230,25 +230,25 @@ group_state-bag fs l m s =
     ∙ ap (group_state fs) (members-all m)
 
 joined-spread : (finer : List ℕ) (fs : List AggregateFunction) (t : Contents) (rows done : List Row) (es : Entries) → IsTableOf finer fs t rows
-    → AllByRecursion (λ e. fin.get t (data_of e.0.items) ≡ Some e.1) es → group_with_entries (group_state fs done) es ≡ group_state fs (done ++ spread finer rows (firsts es))
+    → AllByRecursion (λ e. fin.get t (key_in e.0) ≡ Some e.1) es → group_with_entries (group_state fs done) es ≡ group_state fs (done ++ spread finer rows (firsts es))
 joined-spread finer fs t rows done [] is each = ap (group_state fs) (sym (append-nil done))
 joined-spread finer fs t rows done (e ∷ es) is each =
-    let m = members finer (data_of e.0.items) rows in
-    let g = group-of finer fs t rows (data_of e.0.items) e.1 is each.0 in
+    let m = members finer (key_in e.0) rows in
+    let g = group-of finer fs t rows (key_in e.0) e.1 is each.0 in
     ap (λ (h : GroupState). group_with_entries (joint_group (group_state fs done) h) es) (sym g.1)
     ∙ ap (λ (h : GroupState). group_with_entries h es) (sym (group_state-append fs done m))
     ∙ joined-spread finer fs t rows (done ++ m) es is each.1
     ∙ ap (group_state fs) (append_assoc done m (spread finer rows (firsts es)))
 
 takes-spread : (finer : List ℕ) (fs : List AggregateFunction) (t : Contents) (rows done : List Row) (es : Entries) → IsTableOf finer fs t rows
-    → AllByRecursion (λ e. fin.get t (data_of e.0.items) ≡ Some e.1) es → length done + length (spread finer rows (firsts es)) < 2 ^ 63 → TakesEach (group_state fs done) es
+    → AllByRecursion (λ e. fin.get t (key_in e.0) ≡ Some e.1) es → length done + length (spread finer rows (firsts es)) < 2 ^ 63 → TakesEach (group_state fs done) es
 takes-spread finer fs t rows done [] is each few = tt
 takes-spread finer fs t rows done (e ∷ es) is each few =
-    let m = members finer (data_of e.0.items) rows in
+    let m = members finer (key_in e.0) rows in
     let rest = spread finer rows (firsts es) in
     let a = length-append m rest in
     let b = length-append done m in
-    let g = group-of finer fs t rows (data_of e.0.items) e.1 is each.0 in
+    let g = group-of finer fs t rows (key_in e.0) e.1 is each.0 in
     subst (λ (h : GroupState). (length done + h.lines < 2 ^ 63) × (length h.parts ≡ length (map (λ f. accumulator_state f done) fs)) × TakesEach (joint_group (group_state fs done) h) es) g.1 (
       omega (arith, few, a),
       length-map fs (λ f. accumulator_state f m) ∙ sym (length-map fs (λ f. accumulator_state f done)),
@@ -261,9 +261,9 @@ takes-prop g (e ∷ es) = let p = takes-prop (joint_group g e.1) es in Prim.hlev
 
 -- a group without members takes the groups of a table of few records
 pub takes-all : (finer : List ℕ) (functions : List FilteredFunction) (filters : List (Row → Bool)) (t : Contents) (es : Entries) (rows : List Row) → contents_of es ≡ t → IsDistinct key_eq (keys_of es)
-    → length rows < 2 ^ 63 → IsTableOf finer (map (bound filters) functions) t rows → TakesEach (no_group functions) es
+    → length rows < 2 ^ 63 → IsTableOf finer (map (aggregate_of filters) functions) t rows → TakesEach (no_group functions) es
 takes-all finer functions filters t es rows v d few is =
-    let fs = map (bound filters) functions in
+    let fs = map (aggregate_of filters) functions in
     let whole = length-bag (spread finer rows (firsts es)) rows (spread-entries finer fs es t rows v d is) in
     subst (λ (g : GroupState). TakesEach g es) (sym (no_group-is filters functions)) (takes-spread finer fs t rows [] es is (get-each es t v d) (omega (arith, few, whole)))
 
@@ -293,9 +293,9 @@ table-of_one fs t group rows is h k =
 
 -- what all groups of a table come to is the one group of the empty set
 pub rolled-to_one : (finer : List ℕ) (functions : List FilteredFunction) (filters : List (Row → Bool)) (t table : Contents) (es : Entries) (rows : List Row) → contents_of es ≡ t → IsDistinct key_eq (keys_of es)
-    → IsTableOf finer (map (bound filters) functions) t rows → ((k : Key) → IsPut fin.empty table [] (group_with_entries (no_group functions) es) k) → IsTableOf [] (map (bound filters) functions) table rows
+    → IsTableOf finer (map (aggregate_of filters) functions) t rows → ((k : Key) → IsPut fin.empty table [] (group_with_entries (no_group functions) es) k) → IsTableOf [] (map (aggregate_of filters) functions) table rows
 rolled-to_one finer functions filters t table es rows v d is h =
-    let fs = map (bound filters) functions in
+    let fs = map (aggregate_of filters) functions in
     let group = ap (λ (g : GroupState). group_with_entries g es) (no_group-is filters functions) ∙ joined-spread finer fs t rows [] es is (get-each es t v d)
     ∙ group_state-bag fs (spread finer rows (firsts es)) rows (spread-entries finer fs es t rows v d is) in
     table-of_one fs table (group_with_entries (no_group functions) es) rows group h

@@ -1,4 +1,6 @@
 -- Shards of a table: what is found in all of them is what is found in the one of the key's place.
+use Rattle.tables_groups.specs.declared.packed_key.PackedKey.{PackedKey}
+use Rattle.tables_groups.specs.Inside.Keys.{key_in}
 use Rattle.std.proofs.Common.{vec_len, inl, inr, ◌≡◌, ◌≢◌, ◌+◌, ◌*◌, ◌<◌, ℕ, zero, suc, true, false, cond, IfSome, Option, Some, None, List, [], ◌∷◌, ◌++◌, set, length, get_or, drop, Vec, Global, refl, sym, ap, subst, ◌∙◌, arith, mul-lt-mul_of_pos_right}
 use Rattle.std.proofs.lemmas.List.{get_or-set_same, get_or-set_other, length-set}
 use Rattle.std.proofs.lemmas.Bool.{cases_eq}
@@ -6,8 +8,6 @@ use Rattle.std.proofs.lemmas.Nat.{div_below}
 use Rattle.std.specs.FinMap.{find, get, get-from_entries}
 use Rattle.std.specs.List.{IsDistinct, AllByRecursion}
 use Rattle.std.specs.Map.{keys_of}
-use Rattle.values.specs.Datum.{data_of}
-use Rattle.values.specs.declared.value.Value.{Value}
 use Rattle.semantics.specs.Groups.{Key, key_order, same_key}
 use Rattle.tables_groups.specs.Inside.Group.{GroupState}
 use Rattle.tables_groups.specs.Inside.Table.{CanJoin, Contents, IsFitting, IsJoined, joint_option, entries_by_key}
@@ -29,7 +29,7 @@ or_else-none (Some a) = refl
 find-append : (k : Key) (es fs : Entries) → find key_order k (entries_by_key (es ++ fs)) ≡ or_else (find key_order k (entries_by_key es)) (find key_order k (entries_by_key fs))
 find-append k [] fs = refl
 find-append k (e ∷ es) fs =
-    elim (same_key k (data_of e.0.items)) as (λ b. cond b (Some e.1) (find key_order k (entries_by_key (es ++ fs))) ≡ or_else (cond b (Some e.1) (find key_order k (entries_by_key es))) (find key_order k (entries_by_key fs))) [
+    elim (same_key k (key_in e.0)) as (λ b. cond b (Some e.1) (find key_order k (entries_by_key (es ++ fs))) ≡ or_else (cond b (Some e.1) (find key_order k (entries_by_key es))) (find key_order k (entries_by_key fs))) [
       | true ↦ refl
       | false ↦ find-append k es fs
     ]
@@ -240,23 +240,23 @@ each-can_join ss ts a b m within h = λ i d l k.
 
 -- ---- all entries are of different keys
 
-found-places : (m n : ℕ) (es : Entries) → ((k : Key) → IfSome (find key_order k (entries_by_key es)) (λ _. shard_index m k ≡ n)) → AllByRecursion (λ e. shard_index m (data_of e.0.items) ≡ n) es
+found-places : (m n : ℕ) (es : Entries) → ((k : Key) → IfSome (find key_order k (entries_by_key es)) (λ _. shard_index m k ≡ n)) → AllByRecursion (λ e. shard_index m (key_in e.0) ≡ n) es
 found-places m n [] h = tt
 found-places m n (e ∷ es) h = (
-  subst (λ (o : Option GroupState). IfSome o (λ _. shard_index m (data_of e.0.items) ≡ n)) (find-first e es) (h (data_of e.0.items)),
-  found-places m n es (λ k. elim (same_key k (data_of e.0.items)) as (λ b. IfSome (cond b (Some e.1) (find key_order k (entries_by_key es))) (λ _. shard_index m k ≡ n) → IfSome (find key_order k (entries_by_key es)) (λ _. shard_index m k ≡ n)) [
+  subst (λ (o : Option GroupState). IfSome o (λ _. shard_index m (key_in e.0) ≡ n)) (find-first e es) (h (key_in e.0)),
+  found-places m n es (λ k. elim (same_key k (key_in e.0)) as (λ b. IfSome (cond b (Some e.1) (find key_order k (entries_by_key es))) (λ _. shard_index m k ≡ n) → IfSome (find key_order k (entries_by_key es)) (λ _. shard_index m k ≡ n)) [
     | true ↦ λ p. some-any (find key_order k (entries_by_key es)) (shard_index m k ≡ n) p
     | false ↦ λ p. p
   ] (h k)),
 )
 
 -- a key that is not found is that of no entry
-not-found : (q : Vec Value Global) (es : Entries) → find key_order (data_of q.items) (entries_by_key es) ≡ None → AllByRecursion (λ y. key_eq q y ≡ false) (keys_of es)
+not-found : (q : PackedKey) (es : Entries) → find key_order (key_in q) (entries_by_key es) ≡ None → AllByRecursion (λ y. key_eq q y ≡ false) (keys_of es)
 not-found q [] h = tt
 not-found q (e ∷ es) h =
-    elim (same_key (data_of q.items) (data_of e.0.items)) as (λ b. same_key (data_of q.items) (data_of e.0.items) ≡ b → cond b (Some e.1) (find key_order (data_of q.items) (entries_by_key es)) ≡ None → AllByRecursion (λ y. key_eq q y ≡ false) (keys_of (e ∷ es))) [
+    elim (same_key (key_in q) (key_in e.0)) as (λ b. same_key (key_in q) (key_in e.0) ≡ b → cond b (Some e.1) (find key_order (key_in q) (entries_by_key es)) ≡ None → AllByRecursion (λ y. key_eq q y ≡ false) (keys_of (e ∷ es))) [
       | true ↦ λ i f. cc
-      | false ↦ λ i f. (key_eq-ties q.items e.0.items ∙ i, not-found q es f)
+      | false ↦ λ i f. (key_eq-ties q e.0 ∙ i, not-found q es f)
     ] refl h
 
 all-append : {X : Type 0} (P : X → Type 0) (xs ys : List X) → AllByRecursion P xs → AllByRecursion P ys → AllByRecursion P (xs ++ ys)
@@ -267,7 +267,7 @@ keys-append : (es fs : Entries) → keys_of (es ++ fs) ≡ keys_of es ++ keys_of
 keys-append [] fs = refl
 keys-append (e ∷ es) fs = ap (λ ks. e.0 ∷ ks) (keys-append es fs)
 
-distinct-append : (es fs : Entries) → IsDistinct key_eq (keys_of es) → IsDistinct key_eq (keys_of fs) → AllByRecursion (λ e. find key_order (data_of e.0.items) (entries_by_key fs) ≡ None) es → IsDistinct key_eq (keys_of (es ++ fs))
+distinct-append : (es fs : Entries) → IsDistinct key_eq (keys_of es) → IsDistinct key_eq (keys_of fs) → AllByRecursion (λ e. find key_order (key_in e.0) (entries_by_key fs) ≡ None) es → IsDistinct key_eq (keys_of (es ++ fs))
 unfolding IsDistinct
 distinct-append [] fs d f h = f
 distinct-append (e ∷ es) fs d f h = (
@@ -284,8 +284,8 @@ unfolding IsDistinct
 distinct-from m n [] a = tt
 distinct-from m n (s ∷ ss) a =
     distinct-append (entries_in s) (all_entries ss) s.distinct (distinct-from m (suc n) ss a.1)
-    (all-weaker (λ e. shard_index m (data_of e.0.items) ≡ n) (λ e. find key_order (data_of e.0.items) (entries_by_key (all_entries ss)) ≡ None)
-    (λ e p. find-before m (suc n) ss (data_of e.0.items) a.1 (omega (arith, p))) (entries_in s)
+    (all-weaker (λ e. shard_index m (key_in e.0) ≡ n) (λ e. find key_order (key_in e.0) (entries_by_key (all_entries ss)) ≡ None)
+    (λ e p. find-before m (suc n) ss (key_in e.0) a.1 (omega (arith, p))) (entries_in s)
     (found-places m n (entries_in s) (λ k. subst (λ (o : Option GroupState). IfSome o (λ _. shard_index m k ≡ n)) (get-from_entries key_total (entries_by_key (entries_in s)) k) (a.0 k))))
 
 pub distinct-all : (ss : List Shard) → AreApart ss → IsDistinct key_eq (keys_of (all_entries ss))
@@ -311,7 +311,7 @@ none-behind : (k : Key) (es fs : Entries) → IsDistinct key_eq (keys_of (es ++ 
 unfolding IsDistinct
 none-behind k [] fs d g h = cc
 none-behind k (e ∷ es) fs d g h =
-    elim (same_key k (data_of e.0.items)) as (λ b. same_key k (data_of e.0.items) ≡ b → cond b (Some e.1) (find key_order k (entries_by_key es)) ≡ Some g → find key_order k (entries_by_key fs) ≡ None) [
+    elim (same_key k (key_in e.0)) as (λ b. same_key k (key_in e.0) ≡ b → cond b (Some e.1) (find key_order k (entries_by_key es)) ≡ Some g → find key_order k (entries_by_key fs) ≡ None) [
       | true ↦ λ i _. or_else-nothing (find key_order k (entries_by_key es)) (find key_order k (entries_by_key fs)) (sym (find-append k es fs) ∙ none_after k e (es ++ fs) d i)
       | false ↦ λ i f. none-behind k es fs d.1 g f
     ] refl h

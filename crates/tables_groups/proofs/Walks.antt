@@ -1,6 +1,6 @@
 -- Walks over the groups of shards: what groups and walks have together, whichever walk gives the next group.
-use Rattle.std.proofs.Common.{◌≡◌, ◌+◌, ◌<◌, ℕ, zero, suc, List, [], ◌∷◌, ◌++◌, set, length, get_or, map, refl, sym, ap, ◌∙◌, append-nil, append_assoc, arith}
-use Rattle.values.specs.Datum.{data_of}
+use Rattle.tables_groups.specs.Inside.Keys.{key_in}
+use Rattle.std.proofs.Common.{◌≡◌, ◌+◌, ◌<◌, ℕ, zero, suc, List, [], ◌∷◌, ◌++◌, set, length, get_or, refl, sym, ap, ◌∙◌, append-nil, append_assoc, arith}
 use Rattle.tables_groups.specs.Bags.{SameBag, weigh}
 use Rattle.semantics.specs.Found.{GroupSummary}
 use Rattle.tables_groups.specs.declared.walk.Walk.{Walk}
@@ -12,7 +12,7 @@ use Rattle.tables_groups.proofs.Entries.{Entries}
 
 pub entry_summaries-append : (es fs : Entries) → entry_summaries (es ++ fs) ≡ entry_summaries es ++ entry_summaries fs
 entry_summaries-append [] fs = refl
-entry_summaries-append (e ∷ es) fs = ap (λ rs. state_summary (data_of e.0.items, e.1) ∷ rs) (entry_summaries-append es fs)
+entry_summaries-append (e ∷ es) fs = ap (λ rs. state_summary (key_in e.0, e.1) ∷ rs) (entry_summaries-append es fs)
 
 weigh-both : (f : GroupSummary → ℕ) (es fs : Entries) → weigh f (entry_summaries (es ++ fs)) ≡ weigh f (entry_summaries es) + weigh f (entry_summaries fs)
 weigh-both f es fs = ap (weigh f) (entry_summaries-append es fs) ∙ weigh-append f (entry_summaries es) (entry_summaries fs)

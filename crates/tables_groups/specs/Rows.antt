@@ -1,5 +1,5 @@
 -- Records whose whole numbers are of 64 bits.
-use Rattle.std.specs.Prelude.{◌^◌, ℤ, pos, ◌-ℤ◌, ◌≤ℤ◌, IfSome}
+use Rattle.std.specs.Prelude.{◌^◌, pos, ◌-ℤ◌, ◌≤ℤ◌, IfSome}
 use Rattle.std.specs.List.{AllByRecursion}
 use Rattle.semantics.specs.Values.{Datum}
 use Rattle.semantics.specs.Groups.{Row}

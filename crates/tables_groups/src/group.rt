@@ -1,12 +1,13 @@
 //! The groups that a table gives.
 ghost use Rattle.std.specs.Prelude.{◌≡◌, ◌++◌, ◌∷◌, [], OnOk, map};
-ghost use Rattle.values.specs.Datum.{data_of};
+ghost use Rattle.tables_groups.specs.Inside.Keys.{key_in};
 ghost use Rattle.tables_groups.specs.GroupSummaries.{group_summary_in};
 ghost use Rattle.tables_groups.specs.Inside.Group.{state_summary};
 ghost use Rattle.tables_groups.specs.Inside.Summaries.{summaries_with};
 
 use crate::accumulators::Accumulators;
 use crate::cell::Cell;
+use crate::packed_key::PackedKey;
 use crate::walk::Walk;
 use std::alloc::{AllocError, Global};
 use values::Value;
@@ -43,16 +44,21 @@ pub(crate) fn put_groups(
     Ok(())
 }
 
-/// Puts a group behind others.
+/// Puts a group behind others, whose keys have as many values.
 pub(crate) fn put_group(
     alloc: Global,
     groups: &mut Vec<Group>,
-    key: Vec<Value>,
+    key: PackedKey,
     group: Accumulators,
 ) -> Result<(), AllocError>
     ensures { OnOk result (map group_summary_in groups.new.items
-        ≡ map group_summary_in groups.old.items ++ state_summary (data_of key.items, group) ∷ []) }
+        ≡ map group_summary_in groups.old.items ++ state_summary (key_in key, group) ∷ []) }
 {
+    let room = match groups.last() {
+        Some(group) => group.key.len(),
+        None => 0,
+    };
+    let key = key.values(alloc, room)?;
     let (lines, cells) = group.finish(alloc)?;
     groups.push(Group { key, lines, cells })?;
     Ok(())

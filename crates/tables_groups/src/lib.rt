@@ -15,6 +15,7 @@ mod finishing;
 mod group;
 mod key;
 mod laws;
+mod packed_key;
 mod pairs;
 mod part;
 mod place;

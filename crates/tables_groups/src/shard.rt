@@ -7,12 +7,11 @@ ghost use Rattle.std.specs.Map.{keys_of};
 ghost use Rattle.tables_groups.specs.Inside.Keys.{key_eq};
 
 use crate::accumulators::Accumulators;
-use crate::key::key_of;
+use crate::packed_key::PackedKey;
 use crate::part::Part;
 use query_resolve::FilteredFunction;
 use std::alloc::{AllocError, Global};
 use std::collections::HashMap;
-use values::Value;
 
 /// The most groups of a shard. No memory has room for as many, so that their number is always one of 64 bits.
 const MOST: usize = 576_460_752_303_423_488;
@@ -20,7 +19,7 @@ const MOST: usize = 576_460_752_303_423_488;
 /// Some groups of a table, each by its key.
 #[derive(Drop)]
 pub(crate) struct Shard {
-    pub(crate) groups: HashMap<Vec<Value>, Accumulators>,
+    pub(crate) groups: HashMap<PackedKey, Accumulators>,
     ghost few: { hash_map_len groups ≤ 2 ^ 59 },
     ghost distinct: { IsDistinct key_eq (keys_of groups.entries) } by { Prim.hlevel props },
 }
@@ -28,8 +27,8 @@ pub(crate) struct Shard {
 impl Shard {
     ghost use Rattle.std.specs.Prelude.{◌≡◌, ◌≤◌, ◌^◌, Bool, false, [], OnOk, length};
     ghost use Rattle.std.specs.FinMap as fin;
-    ghost use Rattle.values.specs.Datum.{data_of};
-    ghost use Rattle.semantics.specs.Groups.{Key, project, same_key};
+    ghost use Rattle.semantics.specs.Groups.{Key, same_key};
+    ghost use Rattle.tables_groups.specs.Inside.Keys.{key_in};
     ghost use Rattle.tables_groups.specs.Inside.Shards.{contents_in, entries_in};
     ghost use Rattle.tables_groups.specs.Inside.Table.{CanJoin, IsFitting, IsJoined, IsPut, IsTaken, IsWithPart, TakesEach, group_with_entries};
 
@@ -50,23 +49,20 @@ impl Shard {
         self.groups.len()
     }
 
-    /// Puts one more part to the group of a record's key. At each other key there is afterwards what was there, also
+    /// Puts one more part to the group of a key. At each other key there is afterwards what was there, also
     /// after an error.
     pub(crate) fn put(
         &mut self,
         alloc: Global,
-        key: &Vec<Value>,
-        set: &[usize],
+        key: &PackedKey,
         functions: &[FilteredFunction],
-        row: &[Value],
         part: Part<'_>,
     ) -> Result<(), AllocError>
-        requires key { data_of key.now.items ≡ project set.now (data_of row.now) }
-        requires taken { IsTaken functions.now
-            (fin.get (contents_in self.old) (project set.now (data_of row.now))) part }
+        requires { IsTaken functions.now
+            (fin.get (contents_in self.old) (key_in key.now)) part }
         ensures put { OnOk result ((k : Key) → IsWithPart functions.now (contents_in self.old)
-            (contents_in self.new) (project set.now (data_of row.now)) part.entry k) }
-        ensures others { (k : Key) → same_key k (project set.now (data_of row.now)) ≡ false
+            (contents_in self.new) (key_in key.now) part.entry k) }
+        ensures others { (k : Key) → same_key k (key_in key.now) ≡ false
             → fin.get (contents_in self.new) k ≡ fin.get (contents_in self.old) k }
     {
         if let Some(group) = self.groups.get_mut(key) {
@@ -77,22 +73,18 @@ impl Shard {
         }
         let mut group = Accumulators::new(alloc, functions)?;
         part.put_to(&mut group, functions)?;
-        let key = key_of(alloc, set, row)?;
+        let key = key.copy(alloc)?;
         self.groups.insert(key, group)?;
         Ok(())
     }
 
     /// Moves one more part to the group of a key. At each other key there is afterwards what was there, also after an
     /// error.
-    pub(crate) fn put_group(
-        &mut self,
-        key: Vec<Value>,
-        part: Accumulators,
-    ) -> Result<(), AllocError>
-        requires { IsFitting part (fin.get (contents_in self.old) (data_of key.items)) }
+    pub(crate) fn put_group(&mut self, key: PackedKey, part: Accumulators) -> Result<(), AllocError>
+        requires { IsFitting part (fin.get (contents_in self.old) (key_in key)) }
         ensures put { OnOk result ((k : Key)
-            → IsPut (contents_in self.old) (contents_in self.new) (data_of key.items) part k) }
-        ensures others { (k : Key) → same_key k (data_of key.items) ≡ false
+            → IsPut (contents_in self.old) (contents_in self.new) (key_in key) part k) }
+        ensures others { (k : Key) → same_key k (key_in key) ≡ false
             → fin.get (contents_in self.new) k ≡ fin.get (contents_in self.old) k }
     {
         if let Some(group) = self.groups.get_mut(&key) {

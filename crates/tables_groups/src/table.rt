@@ -6,7 +6,8 @@ ghost use Rattle.tables_groups.specs.Inside.Shards.{AreApart, AreJoined, CanJoin
 use crate::accumulators::Accumulators;
 use crate::finishing::groups_among;
 use crate::group::Group;
-use crate::key::{indices_in, write_key};
+use crate::key::indices_in;
+use crate::packed_key::PackedKey;
 use crate::pairs::join_shards_among;
 use crate::part::Part;
 use crate::place::{SHARDS, place_of};
@@ -37,9 +38,9 @@ pub struct Table {
     /// came.
     shards: Vec<Shard>,
     /// The key by which a group was last searched. It is written over the one before, so that no memory is taken for a
-    /// record whose group is there. A new group gets a key of its own, with room for its own texts and no more; this
-    /// one keeps room for the longest text of each column so far, which is no longer than a line may be.
-    scratch: Vec<Value>,
+    /// record whose group is there. A new group gets a key of its own, with room for its own code and no more; this
+    /// one keeps room for the longest code so far.
+    scratch: PackedKey,
     ghost some: { 0 < vec_len shards },
     ghost few: { vec_len shards ≤ 4 },
     ghost apart: { AreApart shards.items } by { Prim.hlevel props },
@@ -76,6 +77,7 @@ impl Table {
     ghost use Rattle.std.specs.FinMap as fin;
     ghost use Rattle.values.specs.Datum.{data_of};
     ghost use Rattle.tables_groups.specs.Inside.Group.{no_group};
+    ghost use Rattle.tables_groups.specs.Inside.Keys.{key_in};
     ghost use Rattle.tables_groups.specs.Inside.Shards.{contents_in};
     ghost use Rattle.tables_groups.specs.Inside.Table.{AreGroupsOfTable, CanJoin, HasGroupsOfBoth, HasOneMore, IsFitting, IsOfFew, IsOfNone, IsPut, IsRollOf, IsTaken, IsUnionOf, IsWithPart, TakesOne};
     ghost use Rattle.tables_groups.specs.Rolled.{AreAmong};
@@ -134,7 +136,7 @@ impl Table {
         Ok(Table {
             alloc,
             shards,
-            scratch: Vec::new(alloc),
+            scratch: PackedKey::empty(alloc),
         })
     }
 
@@ -151,7 +153,7 @@ impl Table {
     {
         let mut table = Table::without_groups(alloc, count)?;
         let group = Accumulators::new(alloc, functions)?;
-        table.put_to_group(Vec::new(alloc), group)?;
+        table.put_to_group(PackedKey::empty(alloc), group)?;
         Ok(table)
     }
 
@@ -265,10 +267,11 @@ impl Table {
         let mut rolled = Table::new(self.alloc, set, functions)?;
         for shard in &self.shards {
             for (key, part) in &shard.groups {
+                let values = key.values(self.alloc, finer.len())?;
                 rolled.put(
                     indices.as_slice(),
                     functions,
-                    key.as_slice(),
+                    values.as_slice(),
                     Part::Copies(part),
                 )?;
             }
@@ -287,7 +290,7 @@ impl Table {
             shard.put_copies_to(&mut group)?;
         }
         let mut one = Table::without_groups(self.alloc, 1)?;
-        one.put_to_group(Vec::new(self.alloc), group)?;
+        one.put_to_group(PackedKey::empty(self.alloc), group)?;
         Ok(one)
     }
 
@@ -371,17 +374,19 @@ impl Table {
         ensures { OnOk result ((k : Key) → IsWithPart functions.now self.old self.new
             (project set.now (data_of row.now)) part.entry k) }
     {
-        write_key(&mut self.scratch, set, row)?;
-        let place = place_of(self.scratch.as_slice(), self.shards.len());
-        self.shards[place].put(self.alloc, &self.scratch, set, functions, row, part)
+        let scratch = mem::replace(&mut self.scratch, PackedKey::empty(self.alloc));
+        let key = scratch.rewrite(set, row)?;
+        self.scratch = key;
+        let place = place_of(&self.scratch, self.shards.len());
+        self.shards[place].put(self.alloc, &self.scratch, functions, part)
     }
 
     /// Moves one more part to the group of a key.
-    fn put_to_group(&mut self, key: Vec<Value>, part: Accumulators) -> Result<(), AllocError>
-        requires { IsFitting part (fin.get self.old (data_of key.items)) }
-        ensures { OnOk result ((k : Key) → IsPut self.old self.new (data_of key.items) part k) }
+    fn put_to_group(&mut self, key: PackedKey, part: Accumulators) -> Result<(), AllocError>
+        requires { IsFitting part (fin.get self.old (key_in key)) }
+        ensures { OnOk result ((k : Key) → IsPut self.old self.new (key_in key) part k) }
     {
-        let place = place_of(key.as_slice(), self.shards.len());
+        let place = place_of(&key, self.shards.len());
         self.shards[place].put_group(key, part)
     }
 

@@ -8,16 +8,16 @@ ghost use Rattle.tables_groups.specs.Inside.Walks.{entries_left};
 
 use crate::accumulators::Accumulators;
 use crate::group::{Group, put_group, put_groups};
+use crate::packed_key::PackedKey;
 use crate::shard::Shard;
 use std::alloc::{AllocError, Global};
 use std::collections::hash_map::IntoIter;
-use values::Value;
 
 /// A walk over the groups of a shard, in the order in which they came there.
 #[derive(Drop)]
 pub(crate) struct Walk {
     /// Those that it has not come to.
-    pub(crate) entries: IntoIter<Vec<Value>, Accumulators>,
+    pub(crate) entries: IntoIter<PackedKey, Accumulators>,
 }
 
 /// A walk over each shard.

@@ -1,10 +1,10 @@
 //! Skipping a JSON value that no column takes.
 ghost use Rattle.std.specs.Prelude.{◌<◌, length, IfSome};
 ghost use Rattle.serde_json.specs.Data.{Data, Items, Members};
-ghost use Rattle.lines.specs.Meant.{AreItems, AreMembers, IsValue};
+ghost use Rattle.lines_json.specs.Meant.{AreItems, AreMembers, IsValue};
 
-use crate::tokens::numerals::has_value;
 use json::{Reader, Token};
+use lines_json::has_value;
 
 /// Skips a JSON value that nests at most `depth` deep; `None` says nothing of the tokens.
 #[cycle(skip_value)]
@@ -14,7 +14,7 @@ pub(crate) fn skip_value(reader: &mut Reader<'_>, depth: usize) -> Option<()>
 {
     match reader.next()? {
         Token::String(_) | Token::Bool(_) | Token::Null => Some(()),
-        Token::Number(text) if has_value(text) => Some(()),
+        Token::Number(text) if has_value(text.as_bytes()) => Some(()),
         Token::BeginArray if depth > 0 => skip_items(reader, depth - 1),
         Token::BeginObject if depth > 0 => skip_members(reader, depth - 1),
         _ => None,

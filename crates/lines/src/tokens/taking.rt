@@ -1,20 +1,18 @@
 //! Taking the columns' values out of the members of an object, token by token.
-ghost use Rattle.std.specs.Prelude.{◌≡◌, ◌≢◌, ◌<◌, ◌≤◌, Some, All, length, map, set, string_bytes, IfSome, MatchOption};
-ghost use Rattle.serde_json.specs.Data.{Data, Members, no_members};
-ghost use Rattle.values.specs.Datum.{datum_of, data_of};
+ghost use Rattle.std.specs.Prelude.{◌≡◌, ◌<◌, Some, length, IfSome};
+ghost use Rattle.serde_json.specs.Data.{Data, Members};
+ghost use Rattle.values.specs.Datum.{datum_of};
 ghost use Rattle.values.specs.Schema.{IsSchema, fields_of};
-ghost use Rattle.lines.specs.Meant.{AreMembers, IsValue};
-ghost use Rattle.lines.specs.Naming.{IsPlaceOf, NoneHasName};
-ghost use Rattle.semantics.specs.Records.{data_taken, datum_taken};
+ghost use Rattle.lines_json.specs.Meant.{AreMembers, IsValue};
+ghost use Rattle.lines.specs.Members.{AreTaken};
+ghost use Rattle.semantics.specs.Records.{datum_taken};
 
-use crate::tokens::numerals::whole_number;
+use crate::columns::{MEMBER_DEPTH, missing_values, place_found_from, put_at};
+use crate::spare::Spare;
 use crate::tokens::skipping::skip_value;
-use crate::tokens::spare::Spare;
 use json::{Reader, Token};
+use lines_json::whole_number;
 use values::{Column, Kind, Value};
-
-/// How deep the members of an object may nest.
-const MEMBER_DEPTH: usize = 126;
 
 /// Takes the columns' values out of an object's members, up to its closing brace.
 pub(crate) fn take_members(
@@ -25,13 +23,13 @@ pub(crate) fn take_members(
     requires { IsSchema (fields_of columns.now) }
     ensures taken { IfSome result (λ v. (found : Members)
         × AreMembers 126 reader.old found reader.new
-        × (map (λ d. Some d) (data_of v.items) ≡ data_taken (fields_of columns.now) found)) }
+        × AreTaken columns.now v.items found) }
 {
     let mut values = missing_values(columns, spare)?;
     // Members mostly come in the order of the columns.
     let mut next = 0;
     'members: while let Some(name) = reader.next_key().ok()? {
-        match place_found_from(columns, name, next) {
+        match place_found_from(columns, name.as_bytes(), next) {
             Some(place) => {
                 let value = take_value(columns[place].kind, reader, spare)?;
                 put_at(&mut values, place, value);
@@ -43,55 +41,6 @@ pub(crate) fn take_members(
     Some(values)
 }
 
-/// Puts a value at a place.
-fn put_at(values: &mut Vec<Value>, place: usize, value: Value)
-    requires { place < length values.old.items }
-    ensures { values.new.items ≡ set values.old.items place value }
-{
-    values[place] = value;
-}
-
-/// What the columns take where no member is: NULL for each.
-fn missing_values(columns: &[Column], spare: &mut Spare) -> Option<Vec<Value>>
-    requires { IsSchema (fields_of columns.now) }
-    ensures { IfSome result (λ v.
-        map (λ d. Some d) (data_of v.items) ≡ data_taken (fields_of columns.now) no_members) }
-{
-    let mut values = spare.list();
-    values.reserve(columns.len()).ok()?;
-    for _ in columns {
-        values.push(Value::Null).ok()?;
-    }
-    Some(values)
-}
-
-/// The place of the column of a name, which is looked for from `first` on, and then before `first`.
-fn place_found_from(columns: &[Column], name: &str, first: usize) -> Option<usize>
-    requires { first ≤ length columns.now }
-    ensures { MatchOption result (All (λ f. f.name ≢ name.now) (fields_of columns.now))
-        (IsPlaceOf columns.now name.now) }
-{
-    match place_between(columns, name, first, columns.len()) {
-        Some(place) => Some(place),
-        None => place_between(columns, name, 0, first),
-    }
-}
-
-/// The place of the column of a name among the places from `low` up to, but not at, `high`.
-#[inline(always)]
-fn place_between(columns: &[Column], name: &str, low: usize, high: usize) -> Option<usize>
-    requires { high ≤ length columns.now }
-    ensures { MatchOption result (NoneHasName columns.now name.now low high)
-        (IsPlaceOf columns.now name.now) }
-{
-    for place in low..high {
-        if columns[place].name.as_str() == name {
-            return Some(place);
-        }
-    }
-    None
-}
-
 /// Takes the value of a member as a column of this type takes it; `None` says nothing of the member.
 fn take_value(kind: Kind, reader: &mut Reader<'_>, spare: &mut Spare) -> Option<Value>
     ensures taken { IfSome result (λ v. (d : Data)
@@ -101,7 +50,10 @@ fn take_value(kind: Kind, reader: &mut Reader<'_>, spare: &mut Spare) -> Option<
 {
     match (kind, reader.next()?) {
         (_, Token::Null) => Some(Value::Null),
-        (Kind::Int, Token::Number(text)) => Some(Value::Int(i128::from(whole_number(text)?))),
+        (Kind::Int, Token::Number(text)) => {
+            let number = whole_number(text.as_bytes())?;
+            Some(Value::Int(i128::from(number)))
+        }
         (Kind::Text, Token::String(text)) => Some(Value::Text(spare.copy(text)?)),
         (Kind::Bool, Token::Bool(truth)) => Some(Value::Bool(truth)),
         _ => None,

@@ -3,7 +3,7 @@ use Rattle.std.specs.Prelude.{◌≡◌, ℕ, ◌+◌, ◌-◌, ◌%◌, ◌<◌
 use mathlib.Core.Option.{some}
 use lib.ListN.{get_elem?}
 use Rattle.std.specs.declared.alloc.Global.{Global}
-use Rattle.pool.specs.Dealing.{dealt}
+use Rattle.pool.specs.Dealing.{residue_class}
 use Rattle.pool.specs.Holding.{IsRound}
 use Rattle.pool.specs.Inside.Views.{Offer}
 use Rattle.pool.specs.Seen.{Seen}
@@ -11,11 +11,11 @@ use Rattle.pool.specs.Settled.{RoundOf}
 
 -- the deque d of `hands` has what is dealt to it of the numbers below n
 abbrev pub AreFilled : ℕ → ℕ → List (List ℕ) → Type 0
-AreFilled hands n fs = (d : ℕ) (f : List ℕ) → get_elem? fs d ≡ some f → f ≡ dealt hands d n
+AreFilled hands n fs = (d : ℕ) (f : List ℕ) → get_elem? fs d ≡ some f → f ≡ residue_class hands d n
 
 -- the deques of a deal, each with what is dealt to it, which have given this many seats
 abbrev pub AreOffers : ℕ → ℕ → ℕ → List Offer → Type 0
-AreOffers hands pieces made os = (e : ℕ) (o : Offer) → get_elem? os e ≡ some o → (o.numbers ≡ dealt hands e pieces) × (o.made ≡ made) × (o.hands ≡ hands)
+AreOffers hands pieces made os = (e : ℕ) (o : Offer) → get_elem? os e ≡ some o → (o.numbers ≡ residue_class hands e pieces) × (o.made ≡ made) × (o.hands ≡ hands)
 
 -- nothing was taken
 abbrev pub AllBlank : List Seen → Type 0
@@ -24,7 +24,7 @@ AllBlank (s ∷ ss) = (s.list ≡ []) × AllBlank ss
 
 -- while the seats at the place r are given: the deque e of a deal with these names. The deques below `next` have given theirs
 abbrev pub Gives : (ℕ → (ℕ × ℕ) × Global) → ℕ → ℕ → ℕ → ℕ → ℕ → Offer → Type 0
-Gives names hands pieces r next e o = (o.numbers ≡ dealt hands e pieces) × (o.hands ≡ hands) × (o.deque ≡ names e) × (e < next → o.made ≡ r + 1) × (next ≤ e → o.made ≡ r)
+Gives names hands pieces r next e o = (o.numbers ≡ residue_class hands e pieces) × (o.hands ≡ hands) × (o.deque ≡ names e) × (e < next → o.made ≡ r + 1) × (next ≤ e → o.made ≡ r)
 
 -- and what the hand k got: its seats at the places 1 to r, or to r - 1 where the deque at its place r has not given yet
 abbrev pub Gets : (ℕ → (ℕ × ℕ) × Global) → ℕ → ℕ → ℕ → ℕ → ℕ → List Seen → Type 0

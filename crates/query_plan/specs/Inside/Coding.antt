@@ -28,17 +28,17 @@ coded_words : Coded Words
 coded_words = coded× coded_ℕ (coded× (coded_list (coded_list (coded_list coded_ℕ))) (coded× (coded_list literal_contract.the_row.coded) (coded× coded_bool (coded× aggregate.the_row.coded (coded× op.the_row.coded truth.the_row.coded)))))
 
 -- The words of a node that has names and no more, and so on.
-abbrev named : ℕ → List (List (List ℕ)) → Words
-named k names = (k, (names, ([], (false, (CountRows, (Eq, Unknown))))))
+abbrev words_of_names : ℕ → List (List (List ℕ)) → Words
+words_of_names k names = (k, (names, ([], (false, (CountRows, (Eq, Unknown))))))
 
-abbrev worded : ℕ → List Literal → Bool → Aggregate → Op → Truth → Words
-worded k ls b f o t = (k, ([], (ls, (b, (f, (o, t))))))
+abbrev words_of : ℕ → List Literal → Bool → Aggregate → Op → Truth → Words
+words_of k ls b f o t = (k, ([], (ls, (b, (f, (o, t))))))
 
 abbrev plain : ℕ → Words
-plain k = named k []
+plain k = words_of_names k []
 
-abbrev marked : ℕ → Bool → Words
-marked k b = worded k [] b CountRows Eq Unknown
+abbrev words_of_mark : ℕ → Bool → Words
+words_of_mark k b = words_of k [] b CountRows Eq Unknown
 
 -- A form as a tree of three branches at each node.
 data Spelled : Type 0 where
@@ -77,28 +77,28 @@ coded_spelled = record { code = spelled_code; inj = spelled_one }
 
 mutual
   spell_expression : ExpressionForm → Spelled
-  spell_expression (name n) = node (named 0 ((n ∷ []) ∷ [])) leaf leaf leaf
-  spell_expression (grouping ns) = node (named 1 (ns ∷ [])) leaf leaf leaf
+  spell_expression (name n) = node (words_of_names 0 ((n ∷ []) ∷ [])) leaf leaf leaf
+  spell_expression (grouping ns) = node (words_of_names 1 (ns ∷ [])) leaf leaf leaf
   spell_expression (function f) = node (plain 2) (spell_function f) leaf leaf
 
   spell_function : FunctionForm → Spelled
-  spell_function (over_all f) = node (worded 0 [] false f Eq Unknown) leaf leaf leaf
-  spell_function (over_filtered f p) = node (worded 1 [] false f Eq Unknown) (spell_predicate p) leaf leaf
+  spell_function (over_all f) = node (words_of 0 [] false f Eq Unknown) leaf leaf leaf
+  spell_function (over_filtered f p) = node (words_of 1 [] false f Eq Unknown) (spell_predicate p) leaf leaf
 
   spell_operand : OperandForm → Spelled
   spell_operand (OperandForm.expression e) = node (plain 0) (spell_expression e) leaf leaf
-  spell_operand (literal a) = node (worded 1 (a ∷ []) false CountRows Eq Unknown) leaf leaf leaf
+  spell_operand (literal a) = node (words_of 1 (a ∷ []) false CountRows Eq Unknown) leaf leaf leaf
 
   spell_predicate : PredicateForm → Spelled
   spell_predicate (or_of ps) = node (plain 0) (spell_predicates ps) leaf leaf
   spell_predicate (and_of ps) = node (plain 1) (spell_predicates ps) leaf leaf
   spell_predicate (not_of p) = node (plain 2) (spell_predicate p) leaf leaf
-  spell_predicate (truth_test p b t) = node (worded 3 [] b CountRows Eq t) (spell_predicate p) leaf leaf
-  spell_predicate (compare x o y) = node (worded 4 [] false CountRows o Unknown) (spell_operand x) (spell_operand y) leaf
-  spell_predicate (between x b y z) = node (marked 5 b) (spell_operand x) (spell_operand y) (spell_operand z)
-  spell_predicate (member x b ls) = node (worded 6 ls b CountRows Eq Unknown) (spell_operand x) leaf leaf
-  spell_predicate (null_test x b) = node (marked 7 b) (spell_operand x) leaf leaf
-  spell_predicate (column n) = node (named 8 ((n ∷ []) ∷ [])) leaf leaf leaf
+  spell_predicate (truth_test p b t) = node (words_of 3 [] b CountRows Eq t) (spell_predicate p) leaf leaf
+  spell_predicate (compare x o y) = node (words_of 4 [] false CountRows o Unknown) (spell_operand x) (spell_operand y) leaf
+  spell_predicate (between x b y z) = node (words_of_mark 5 b) (spell_operand x) (spell_operand y) (spell_operand z)
+  spell_predicate (member x b ls) = node (words_of 6 ls b CountRows Eq Unknown) (spell_operand x) leaf leaf
+  spell_predicate (null_test x b) = node (words_of_mark 7 b) (spell_operand x) leaf leaf
+  spell_predicate (column n) = node (words_of_names 8 ((n ∷ []) ∷ [])) leaf leaf leaf
 
   spell_predicates : PredicateForms → Spelled
   spell_predicates no_parts = leaf
@@ -106,9 +106,9 @@ mutual
 
 mutual
   spell_element : ElementForm → Spelled
-  spell_element (set ns) = node (named 0 (ns ∷ [])) leaf leaf leaf
-  spell_element (rollup us) = node (named 1 us) leaf leaf leaf
-  spell_element (cube us) = node (named 2 us) leaf leaf leaf
+  spell_element (set ns) = node (words_of_names 0 (ns ∷ [])) leaf leaf leaf
+  spell_element (rollup us) = node (words_of_names 1 us) leaf leaf leaf
+  spell_element (cube us) = node (words_of_names 2 us) leaf leaf leaf
   spell_element (sets gs) = node (plain 3) (spell_elements gs) leaf leaf
 
   spell_elements : ElementForms → Spelled

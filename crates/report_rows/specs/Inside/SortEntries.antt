@@ -1,62 +1,95 @@
--- Rows beside the values of the keys of ORDER BY for them.
-use Rattle.std.specs.Prelude.{ℕ, suc, List, [], ◌∷◌, map, slice_index_or}
+-- Rows beside the sort keys by which they are put in order.
+use Rattle.std.specs.Prelude.{ℕ, suc, ⊤, ◌^◌, ◌<◌, List, [], ◌∷◌, ◌++◌, map, slice_index_or}
 use Rattle.std.specs.declared.cmp.Ordering.{Ordering}
-use Rattle.std.specs.declared.cmp.Ordering.TheVariants.{Equal}
-use Rattle.std.specs.Ordering.{nat_cmp, ordering_then}
 use Rattle.std.specs.Global.{Vec}
+use Rattle.std.specs.List.{AllByRecursion}
 use Rattle.std.specs.List.Sorted.{IsPermutation}
 use Rattle.std.specs.declared.alloc.AllocError.{AllocError}
 use Rattle.std.specs.declared.result.Result.{Result}
 use Rattle.semantics.specs.Values.{Datum, null}
-use Rattle.values.specs.Datum.{data_of}
 use Rattle.semantics.specs.Columns.{Field}
 use Rattle.semantics.specs.Syntax.{KeyForm, TreeForm}
-use Rattle.semantics.specs.Groups.{key_order}
 use Rattle.semantics.specs.Found.{Found}
+use Rattle.semantics.specs.Rows.{cell_value}
+use Rattle.values.specs.Datum.{data_of}
+use Rattle.sort_keys.specs.Codes.{IsCodable, index_code, key_code, values_code}
+use Rattle.sort_keys.specs.SortKeys.{SortParts, key_parts, parts_of, parts_order}
+use Rattle.tables_groups.specs.declared.group.Group.{Group}
+use Rattle.tables_groups.specs.Cells.{summary_of}
 use Rattle.tables_groups.specs.Found.{row_of}
 use Rattle.report_rows.specs.declared.sort_entry.SortEntry.{SortEntry}
-use Rattle.semantics.specs.Order.{key_value, under_key}
+use Rattle.semantics.specs.Order.{key_value}
 use Rattle.report_rows.specs.declared.source.Source.{Source}
-use Rattle.report_rows.specs.Sources.{values_at}
+use Rattle.report_rows.specs.Sources.{shown_at, values_at}
 use Rattle.report_rows.specs.Parts.{AreOfParts}
 
--- an entry apart from where it lies in memory: the values that a row is put in order by, and the row
-abbrev pub EntryForm : Type 0
-EntryForm = List Datum × Found
+-- ---- values
 
--- the values of the keys for a row
+-- the value that the row of a group has at a source; an average is no single value, and is NULL
+abbrev pub value_at_source : Group → Source → Datum
+value_at_source group source = cell_value (shown_at (data_of group.key.items) (map summary_of group.cells.items) source)
+
+-- the values that it has at sources
+abbrev pub values_at_sources : Group → List Source → List Datum
+values_at_sources group sources = map cell_value (map (shown_at (data_of group.key.items) (map summary_of group.cells.items)) sources)
+
+-- ---- the code of a row
+
+-- the values of the keys of ORDER BY for a row
 abbrev pub key_values : List Field → TreeForm → Found → List Datum
 key_values fields t row = map (key_value fields t row) t.keys
 
--- the entry of a row, which has the values of the keys for it
+-- the codes of values under keys, where the first key is for the value at a place and each other one for that at the next; there is NULL behind the end of a list
+abbrev pub keys_code : ℕ → List KeyForm → List Datum → List ℕ
+keys_code place [] values = []
+keys_code place (k ∷ ks) values = key_code k (slice_index_or values place null) ++ keys_code (suc place) ks values
+
+-- the code by which a row is put in order, where the keys of ORDER BY have these values for it: their codes, then that of the index of its grouping set, and then those of the values of its key
+abbrev pub row_code : List KeyForm → List Datum → Found → List ℕ
+row_code ks values row = keys_code 0 ks values ++ (index_code row.0 ++ values_code row.1.key)
+
+-- the values under keys have codes of their own
+abbrev pub AreCodable : ℕ → List KeyForm → List Datum → Type 0
+AreCodable place [] values = ⊤
+AreCodable place (k ∷ ks) values = IsCodable (slice_index_or values place null) × AreCodable (suc place) ks values
+
+-- so have all that the code of a row is of
+pub record IsCodableRow (ks : List KeyForm) (there : List Datum) (row : Found) : Type 0 where
+  pub values : AreCodable 0 ks there
+  pub index : row.0 < 2 ^ 64
+  pub key : AllByRecursion IsCodable row.1.key
+
+-- ---- entries
+
+-- an entry apart from where it lies in memory: the code of a row in parts, and the row
+abbrev pub EntryForm : Type 0
+EntryForm = SortParts × Found
+
+-- the entry of a row
 abbrev pub entry_of : List Field → TreeForm → Found → EntryForm
-entry_of fields t row = (key_values fields t row, row)
+entry_of fields t row = (parts_of (row_code t.keys (key_values fields t row) row), row)
 
--- the entry of a row which has the values of the keys at these sources
-abbrev pub entry_at : List (Vec Source) → Found → EntryForm
-entry_at sources row = (values_at sources row, row)
+-- the entry of a row for which the keys have the values at these sources
+abbrev pub entry_at : List KeyForm → List (Vec Source) → Found → EntryForm
+entry_at ks sources row = (parts_of (row_code ks (values_at sources row) row), row)
 
--- how two lists of values stand to each other, where the first key is for the values at a place and each other one for those at the next: as under the first key that tells its values apart; there is NULL behind the end of a list
-abbrev pub under_values : ℕ → List KeyForm → List Datum → List Datum → Ordering
-under_values place [] xs ys = Equal
-under_values place (k ∷ ks) xs ys = ordering_then (under_key k (slice_index_or xs place null) (slice_index_or ys place null)) (under_values (suc place) ks xs ys)
+-- all that its code is of has a code of its own
+abbrev pub IsCodableAt : List KeyForm → List (Vec Source) → Found → Type 0
+IsCodableAt ks sources row = IsCodableRow ks (values_at sources row) row
 
--- how two rows stand to each other by the index of their grouping set, and in one set by their keys
-abbrev pub by_key : Found → Found → Ordering
-by_key x y = ordering_then (nat_cmp x.0 y.0) (key_order x.1.key y.1.key)
-
--- how two entries stand to each other by their values, then by the index of their grouping set, and in one set by their keys
-abbrev pub by_values : List KeyForm → EntryForm → EntryForm → Ordering
-by_values keys x y = ordering_then (under_values 0 keys x.0 y.0) (by_key x.1 y.1)
+-- how two entries stand to each other: as their codes do
+abbrev pub by_code : EntryForm → EntryForm → Ordering
+by_code x y = parts_order x.0 y.0
 
 -- the form of an entry of the code
 abbrev pub entry_form : SortEntry → EntryForm
-entry_form entry = (data_of entry.values.items, row_of entry.found.now)
+entry_form entry = (key_parts entry.key, row_of entry.found.now)
 
--- entries are those of rows, in whatever order
-abbrev pub AreEntriesOf : (Found → EntryForm) → List Found → List SortEntry → Type 0
-AreEntriesOf beside rows entries = IsPermutation (map beside rows) (map entry_form entries)
+-- entries are those of rows, in whatever order, for which the keys have the values at these sources
+pub record AreEntriesOf (ks : List KeyForm) (sources : List (Vec Source)) (rows : List Found) (made : List SortEntry) : Type 0 where
+  pub codable : AllByRecursion (IsCodableAt ks sources) rows
+  pub entries : IsPermutation (map (entry_at ks sources) rows) (map entry_form made)
 
 -- each list that was made has those of its part of the rows
-abbrev pub AreEntriesOfParts : (Found → EntryForm) → ℕ → List Found → List (Result (Vec SortEntry) AllocError) → Type 0
-AreEntriesOfParts beside size rows parts = AreOfParts (AreEntriesOf beside) size rows parts
+abbrev pub AreEntriesOfParts : List KeyForm → List (Vec Source) → ℕ → List Found → List (Result (Vec SortEntry) AllocError) → Type 0
+AreEntriesOfParts ks sources size rows parts = AreOfParts (AreEntriesOf ks sources) size rows parts

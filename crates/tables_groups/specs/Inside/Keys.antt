@@ -1,11 +1,13 @@
 -- The keys of the code's hashed maps.
-use Rattle.std.specs.Prelude.{Bool}
+use Rattle.std.specs.Prelude.{Bool, nat_eq}
 use Rattle.std.specs.Cmp.Lexicographic.{pointwise}
-use Rattle.std.specs.declared.alloc.Global.{Global}
-use Rattle.std.specs.declared.vec.Vec.{Vec}
-use Rattle.values.specs.declared.value.Value.{Value}
-use Rattle.values.specs.contracts.value.ValuePartialEq.TheImpl.{eq-value}
+use Rattle.semantics.specs.Groups.{Key}
+use Rattle.tables_groups.specs.declared.packed_key.PackedKey.{PackedKey}
 
--- whether two keys of a hashed map are equal: they are as long, and their values are equal
-abbrev pub key_eq : Vec Value Global → Vec Value Global → Bool
-key_eq x y = pointwise eq-value.it x.items y.items
+-- the key of which a packed key has the code
+abbrev pub key_in : PackedKey → Key
+key_in key = key.of_key.0
+
+-- whether two keys of a hashed map are equal: they have the same bytes
+abbrev pub key_eq : PackedKey → PackedKey → Bool
+key_eq x y = pointwise nat_eq x.code.items y.code.items

@@ -1,12 +1,10 @@
--- The shards of a table. Each keeps the groups of some keys, and which these are is told by a hash of a key's values.
-use Rattle.std.specs.Prelude.{◌≡◌, ◌+◌, ◌-◌, ◌*◌, ◌/◌, ◌%◌, ◌<◌, ℕ, cond, List, IfSome, length, drop, get_or, unsigned_abs}
+-- The shards of a table. Each keeps the groups of some keys, and which these are is told by a hash of a key's code.
+use Rattle.tables_groups.specs.declared.packed_key.PackedKey.{PackedKey}
+use Rattle.std.specs.Prelude.{◌≡◌, ◌+◌, ◌-◌, ◌*◌, ◌/◌, ◌%◌, ◌<◌, ℕ, List, IfSome, length, drop, get_or}
 use Rattle.std.specs.List.{fold, flat_map}
 use Rattle.std.specs.FinMap as fin
-use Rattle.std.specs.declared.alloc.Global.{Global}
-use Rattle.std.specs.declared.vec.Vec.{Vec}
-use Rattle.values.specs.declared.value.Value.{Value}
-use Rattle.semantics.specs.Values.{Datum, boolean, whole, text, null}
 use Rattle.semantics.specs.Groups.{Key}
+use Rattle.sort_keys.specs.Codes.{values_code}
 use Rattle.tables_groups.specs.Inside.Group.{GroupState}
 use Rattle.tables_groups.specs.Inside.Table.{CanJoin, Contents, IsJoined, contents_of}
 use Rattle.tables_groups.specs.declared.shard.Shard.{Shard}
@@ -17,20 +15,13 @@ use Rattle.tables_groups.specs.declared.shard.Shard.{Shard}
 abbrev pub hash_step : ℕ → ℕ → ℕ
 hash_step digest n = (digest * 2654435761 + n) % 4294967296
 
--- the last four bytes of a text, or all of a shorter one
+-- the last sixteen bytes of a code, or all of a shorter one
 abbrev pub last_bytes : List ℕ → List ℕ
-last_bytes bytes = drop (length bytes - 4) bytes
+last_bytes code = drop (length code - 16) code
 
--- the hash with a value hashed into it: of a text its last bytes, of a whole number its last 32 bits
-abbrev pub with_value : ℕ → Datum → ℕ
-with_value digest (boolean b) = hash_step digest (cond b 1 0)
-with_value digest (whole n) = hash_step digest (unsigned_abs n % 4294967296)
-with_value digest (text bytes) = fold hash_step digest (last_bytes bytes)
-with_value digest null = hash_step digest 2
-
--- the hash of all values of a key, of 32 bits
+-- the hash of the last bytes of a key's code, of 32 bits
 abbrev pub digest : Key → ℕ
-digest key = hash_step (fold with_value 0 key) 0
+digest key = hash_step (fold hash_step 0 (last_bytes (values_code key))) 0
 
 -- the index of the shard that keeps a key among n of them, below n: as far along them as its digest lies along the numbers of 32 bits
 abbrev pub shard_index : ℕ → Key → ℕ
@@ -39,7 +30,7 @@ shard_index n key = digest key * n / 4294967296
 -- ---- what shards have
 
 -- the entries of a shard
-abbrev pub entries_in : Shard → List (Vec Value Global × GroupState)
+abbrev pub entries_in : Shard → List (PackedKey × GroupState)
 entries_in shard = shard.groups.entries
 
 -- what a shard has
@@ -47,7 +38,7 @@ abbrev pub contents_in : Shard → Contents
 contents_in shard = contents_of (entries_in shard)
 
 -- the entries of all shards, one shard after the other
-abbrev pub all_entries : List Shard → List (Vec Value Global × GroupState)
+abbrev pub all_entries : List Shard → List (PackedKey × GroupState)
 all_entries shards = flat_map entries_in shards
 
 -- what all shards have

@@ -1,8 +1,6 @@
 -- What is shown of the groups of entries.
+use Rattle.tables_groups.specs.declared.packed_key.PackedKey.{PackedKey}
 use Rattle.std.specs.Prelude.{List, ◌++◌, map}
-use Rattle.std.specs.declared.alloc.Global.{Global}
-use Rattle.std.specs.declared.vec.Vec.{Vec}
-use Rattle.values.specs.declared.value.Value.{Value}
 use Rattle.semantics.specs.Found.{GroupSummary}
 use Rattle.tables_groups.specs.declared.group.Group.{Group}
 use Rattle.tables_groups.specs.GroupSummaries.{group_summary_in}
@@ -10,9 +8,9 @@ use Rattle.tables_groups.specs.Inside.Group.{GroupState, state_summary}
 use Rattle.tables_groups.specs.Inside.Table.{entries_by_key}
 
 -- the summaries of the groups of entries
-abbrev pub entry_summaries : List (Vec Value Global × GroupState) → List GroupSummary
+abbrev pub entry_summaries : List (PackedKey × GroupState) → List GroupSummary
 entry_summaries entries = map state_summary (entries_by_key entries)
 
 -- the summaries of groups, and behind them those of entries
-abbrev pub summaries_with : List Group → List (Vec Value Global × GroupState) → List GroupSummary
+abbrev pub summaries_with : List Group → List (PackedKey × GroupState) → List GroupSummary
 summaries_with groups entries = map group_summary_in groups ++ entry_summaries entries

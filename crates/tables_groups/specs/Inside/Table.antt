@@ -1,11 +1,10 @@
 -- A table of groups, apart from where it lies in memory, and what it is for a table to be that of a list of records.
+use Rattle.tables_groups.specs.declared.packed_key.PackedKey.{PackedKey}
+use Rattle.tables_groups.specs.Inside.Keys.{key_in}
 use Rattle.std.specs.Prelude.{⊤, ◌≡◌, ◌+◌, ◌<◌, ◌≤◌, ◌^◌, ℕ, Bool, cond, List, map, length, [], ◌∷◌, ◌++◌, Option, Some, None, IfSome, unwrap_or, if◌then◌else◌}
-use Rattle.std.specs.declared.alloc.Global.{Global}
-use Rattle.std.specs.declared.vec.Vec.{Vec}
 use Rattle.std.specs.Coded.{Coded}
 use Rattle.std.specs.FinMap as fin
 use Rattle.std.specs.List.{list_any}
-use Rattle.values.specs.declared.value.Value.{Value}
 use Rattle.values.specs.Datum.{data_of}
 use Rattle.query_resolve.specs.declared.function.FilteredFunction.{FilteredFunction}
 use Rattle.tables_groups.specs.Inside.Coding.{coded_key}
@@ -13,7 +12,7 @@ use Rattle.semantics.specs.Groups.{Row, Key, key_order, same_key, keys, members}
 use Rattle.tables_groups.specs.Rows.{IsNarrowRow}
 use Rattle.tables_groups.specs.Rolled.{finer_keys}
 use Rattle.semantics.specs.Aggregates.{AggregateFunction}
-use Rattle.tables_groups.specs.Functions.{bound_functions}
+use Rattle.tables_groups.specs.Functions.{aggregates_of}
 use Rattle.tables_groups.specs.Inside.Group.{GroupState, coded_group, group_state, no_group, with_row, joint_group}
 use Rattle.tables_groups.specs.Bags.{SameBag}
 use Rattle.tables_groups.specs.GroupSummaries.{group_summaries, group_summary_in}
@@ -28,11 +27,11 @@ Contents = fin.FinMap key_order GroupState
 abbrev pub coded_contents : Coded Contents
 coded_contents = fin.code coded_key coded_group
 
-abbrev pub entries_by_key : List (Vec Value Global × GroupState) → List (Key × GroupState)
-entries_by_key entries = map (λ e. (data_of e.0.items, e.1)) entries
+abbrev pub entries_by_key : List (PackedKey × GroupState) → List (Key × GroupState)
+entries_by_key entries = map (λ e. (key_in e.0, e.1)) entries
 
 -- the contents of a hashed map of the code
-abbrev pub contents_of : List (Vec Value Global × GroupState) → Contents
+abbrev pub contents_of : List (PackedKey × GroupState) → Contents
 contents_of entries = fin.from_entries (entries_by_key entries)
 
 -- a table is that of a list of records under a grouping set: at each of their keys it has what is kept of the members, and at no other key anything
@@ -41,7 +40,7 @@ IsTableOf set functions table rows = (key : Key) → fin.get table key ≡ (if l
 
 -- a table is that of a list of records under a grouping set, for set functions whose FILTERs are given by their indexes, where the filters keep this
 abbrev pub IsTableUnder : List ℕ → List FilteredFunction → List (Row → Bool) → Contents → List Row → Type 0
-IsTableUnder set functions filters table rows = IsTableOf set (bound_functions filters functions) table rows
+IsTableUnder set functions filters table rows = IsTableOf set (aggregates_of filters functions) table rows
 
 -- a table is that of no records under a grouping set, whatever the filters keep
 abbrev pub IsOfNone : List ℕ → List FilteredFunction → Contents → Type 0
@@ -159,12 +158,12 @@ abbrev pub IsWithPart : List FilteredFunction → Contents → Contents → Key 
 IsWithPart functions old new key part k = fin.get new k ≡ cond (same_key k key) (Some (group_with_part functions (fin.get old k) part)) (fin.get old k)
 
 -- what is kept of a group after the parts of all entries
-abbrev pub group_with_entries : GroupState → List (Vec Value Global × GroupState) → GroupState
+abbrev pub group_with_entries : GroupState → List (PackedKey × GroupState) → GroupState
 group_with_entries group [] = group
 group_with_entries group (e ∷ entries) = group_with_entries (joint_group group e.1) entries
 
 -- a group takes the parts of all entries, one after the other
-abbrev pub TakesEach : GroupState → List (Vec Value Global × GroupState) → Type 0
+abbrev pub TakesEach : GroupState → List (PackedKey × GroupState) → Type 0
 TakesEach group [] = ⊤
 TakesEach group (e ∷ entries) = (group.lines + e.1.lines < 2 ^ 63) × (length e.1.parts ≡ length group.parts) × TakesEach (joint_group group e.1) entries
 

@@ -1,7 +1,7 @@
 //! Records are grouped in two parts, and the parts are put together; groups are rolled up. Two set functions have a FILTER.
 ghost use Rattle.std.specs.Prelude.{◌≡◌, ◌<◌, ◌^◌, ◌∷◌, [], IfOk, length, List, map};
 ghost use Rattle.values.specs.Datum.{data_of, datum_of};
-ghost use Rattle.tables_groups.specs.Functions.{bound};
+ghost use Rattle.tables_groups.specs.Functions.{aggregate_of};
 ghost use Rattle.semantics.specs.Groups.{Row, value_at};
 ghost use Rattle.tables_groups.specs.Rows.{IsNarrow, IsNarrowRow};
 ghost use Rattle.semantics.specs.Aggregates.{is_present};
@@ -60,7 +60,7 @@ fn table_of(
 ) -> Result<Table, AllocError>
     requires { length records.now < 2 ^ 62 }
     ensures { IfOk result (λ table. (rows : List Row) × (IsTableOf set.now
-        (map (bound ((λ row. is_present (value_at 1 row)) ∷ [])) functions.now) table rows
+        (map (aggregate_of ((λ row. is_present (value_at 1 row)) ∷ [])) functions.now) table rows
         × (length rows < 2 ^ 62))) }
 {
     let mut table = Table::new(alloc, set, functions)?;

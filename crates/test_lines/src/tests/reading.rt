@@ -72,7 +72,7 @@ fn check_refusable(
 }
 
 /// Checks what comes of a line by every way to read it; the tokens alone answer exactly where there is a
-/// record.
+/// record, and the bytes alone where moreover nothing is escaped.
 fn check_line(
     rt: &impl Abort,
     alloc: Global,
@@ -88,6 +88,10 @@ fn check_line(
     match reader.read_by_tokens(&schema, line) {
         Some(record) => check_reading(rt, Ok(record), expected),
         None => assert!(rt; expected.is_err(), "{expected:?}"),
+    }
+    match reader.read_by_bytes(&schema, line) {
+        Some(record) => check_reading(rt, Ok(record), expected),
+        None => assert!(rt; expected.is_err() || line.contains(&b'\\'), "{expected:?}"),
     }
     Ok(())
 }
@@ -149,7 +153,7 @@ fn cuts_of_bytes(rt: HostRuntime) -> Result<(), Fail> {
 #[test]
 fn lines_as_records(rt: HostRuntime) -> Result<(), Fail> {
     let columns = "d:text,q:int,v:bool";
-    let rows: [(&[u8], Result<&[Expected], LineFault>); 18] = [
+    let rows: [(&[u8], Result<&[Expected], LineFault>); 20] = [
         (
             b"{\"d\":\"a\",\"q\":7,\"v\":true}",
             Ok(&[Expected::Text("a"), Expected::Int(7), Expected::Bool(true)]),
@@ -190,6 +194,8 @@ fn lines_as_records(rt: HostRuntime) -> Result<(), Fail> {
         (b"", Err(LineFault::NoJson)),
         (b"{\"q\":1", Err(LineFault::NoJson)),
         (b"{\"q\":1}}", Err(LineFault::NoJson)),
+        (b"{\"q\":1,}", Err(LineFault::NoJson)),
+        (b"{\"q\":1 \"v\":true}", Err(LineFault::NoJson)),
         (b"{\"x\":1e400}", Err(LineFault::NoJson)),
         (b"{\"d\":\"\xff\"}", Err(LineFault::NoJson)),
         (b"{\"x\":\"\xff\"}", Err(LineFault::NoJson)),

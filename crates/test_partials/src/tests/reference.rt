@@ -222,20 +222,29 @@ pub fn cell_of(
 ) -> Cell {
     match function {
         ColumnFunction::CountRows => count(members.len()),
-        ColumnFunction::Count(place) => count(present(rt, alloc, place, members).len()),
+        ColumnFunction::Count(place) => count(present_values(rt, alloc, place, members).len()),
         ColumnFunction::CountDistinct(place) => {
-            let values = present(rt, alloc, place, members);
-            count(different(rt, alloc, values).len())
+            let values = present_values(rt, alloc, place, members);
+            count(different_values(rt, alloc, values).len())
         }
-        ColumnFunction::Sum(place) => sum(rt, present(rt, alloc, place, members).as_slice()),
-        ColumnFunction::Min(place) => least(rt, present(rt, alloc, place, members).as_slice()),
-        ColumnFunction::Max(place) => greatest(rt, present(rt, alloc, place, members).as_slice()),
-        ColumnFunction::Avg(place) => average(rt, present(rt, alloc, place, members).as_slice()),
+        ColumnFunction::Sum(place) => sum(rt, present_values(rt, alloc, place, members).as_slice()),
+        ColumnFunction::Min(place) => least(
+            rt,
+            present_values(rt, alloc, place, members).as_slice(),
+        ),
+        ColumnFunction::Max(place) => greatest(
+            rt,
+            present_values(rt, alloc, place, members).as_slice(),
+        ),
+        ColumnFunction::Avg(place) => average(
+            rt,
+            present_values(rt, alloc, place, members).as_slice(),
+        ),
     }
 }
 
 /// The values in a column that are not NULL.
-fn present(rt: &impl Abort, alloc: Global, place: usize, members: &[&Record]) -> Vec<Value> {
+fn present_values(rt: &impl Abort, alloc: Global, place: usize, members: &[&Record]) -> Vec<Value> {
     let mut values = Vec::new(alloc);
     for line in members {
         match line.values().get(place).expect(rt, "a column") {
@@ -250,7 +259,7 @@ fn present(rt: &impl Abort, alloc: Global, place: usize, members: &[&Record]) ->
 }
 
 /// The values, each once.
-fn different(rt: &impl Abort, alloc: Global, values: Vec<Value>) -> Vec<Value> {
+fn different_values(rt: &impl Abort, alloc: Global, values: Vec<Value>) -> Vec<Value> {
     let mut different = Vec::new(alloc);
     for value in values {
         if !different.contains(&value) {

@@ -7,12 +7,10 @@ use Rattle.serde_json.specs.Data.{object}
 use Rattle.serde_json.specs.Read.{read}
 use Rattle.values.specs.Datum.{data_of}
 use Rattle.values.specs.Schema.{fields_of}
-use Rattle.semantics.specs.Records.{all_taken, data_taken, record_of}
-use Rattle.lines.specs.Meant.{AreMembers}
-use Rattle.lines.proofs.Meaning.{first-object, read-one}
+use Rattle.lines_json.specs.Meant.{AreMembers}
+use Rattle.lines_json.proofs.Meaning.{first-object, read-one}
 use Rattle.lines.proofs.Fitting.{fits-taken}
-use Rattle.lines.proofs.Readings.{decoded-utf8}
-use Rattle.lines.proofs.Taking.{all_taken-somes}
+use Rattle.lines.proofs.Readings.{decoded-taken}
 use Rattle.lines.proofs.tokens.record_by_tokens.Goals as goal
 
 pub returns-in-None-clause-ok : goal.returns-in-None-clause-ok
@@ -26,12 +24,7 @@ returns-in-None-clause-ok c =
     let last : AreMembers 126 r found.0 [] = rw (← c.in-None.ensures.value.0) found.1 in
     let is : read c.args.line.now ≡ Some (object found.0) = read-one c.args.line.now (object found.0) (rw all (first-object 127 r [] found.0 (omega arith) last)) in
     let utf8 : IsUtf8 c.args.line.now = search rules in
-    decoded-utf8 c.args.schema.now c.args.line.now c.requires utf8
-    ∙ ap (record_of c.args.schema.now) is
-    ∙ ap (λ fields. all_taken (data_taken fields found.0)) (sym c.columns.ensures.columns)
-    ∙ ap all_taken (sym found.2)
-    ∙ all_taken-somes (data_of c.in_ok-values.values.items)
-    ∙ ap (λ d. Ok d) (sym c.new-in-None.ensures.values)
+    decoded-taken c.args.schema.now c.args.line.now c.columns.result.now c.in_ok-values.values.items found.0 c.requires utf8 is c.columns.ensures.columns found.2 ∙ ap (λ d. Ok d) (sym c.new-in-None.ensures.values)
 
 pub returns-in-None-clause-fits : goal.returns-in-None-clause-fits
 returns-in-None-clause-fits c =

@@ -31,8 +31,8 @@ loop-source-init c =
       ),
     )
 
-pub own-requires : goal.own-requires
-own-requires c =
+pub into_local-requires : goal.into_local-requires
+into_local-requires c =
     let inv = c.loop-source.invariant in
     let g = inv.2.1 0 c.in-Some.source (ap (λ l. get_elem? l 0) c.in-Some.ensures.steps.0) in
     g.4 (omega arith) ∙ sym g.1
@@ -47,7 +47,7 @@ first_hand-hand-requires c =
     let low : vec_len c.loop-source.made < vec_len c.args.sources = omega (arith, inv.0, steps.1) in
     let g = subst (λ k. Gives inv.2.0 n c.args.pieces n 0 k c.in-Some.source) z (inv.2.1 0 c.in-Some.source (ap (λ l. get_elem? l 0) steps.0)) in
     let q = subst (λ k. Gets inv.2.0 n c.args.pieces n 0 k c.in-Some-next.round) z (inv.2.2 0 c.in-Some-next.round (ap (λ l. get_elem? l 0) c.in-Some-next.ensures.items)) in
-    rw (c.len.ensures, c.len-hands.ensures, c.own.ensures, c.into_seats.ensures) (fresh_holding inv.2.0 n c.args.pieces done c.in-Some.source c.in-Some-next.round low g q)
+    rw (c.len.ensures, c.len-hands.ensures, c.into_local.ensures, c.into_seats.ensures) (fresh_holding inv.2.0 n c.args.pieces done c.in-Some.source c.in-Some-next.round low g q)
 
 pub loop-source-preserved : goal.loop-source-preserved
 loop-source-preserved c =
@@ -66,7 +66,7 @@ loop-source-preserved c =
     let g = subst (λ k. Gives inv.2.0 n c.args.pieces n 0 k c.in-Some.source) z (inv.2.1 0 c.in-Some.source (ap (λ l. get_elem? l 0) steps.0)) in
     let q = subst (λ k. Gets inv.2.0 n c.args.pieces n 0 k c.in-Some-next.round) z (inv.2.2 0 c.in-Some-next.round (ap (λ l. get_elem? l 0) next.items)) in
     let hand : c.first_hand-hand.result ≡ new_holding done n c.args.pieces (owned_first c.in-Some.source) c.in-Some-next.round =
-    c.first_hand-hand.ensures.is ∙ rw (c.len.ensures, c.len-hands.ensures, c.own.ensures, c.into_seats.ensures) refl in
+    c.first_hand-hand.ensures.is ∙ rw (c.len.ensures, c.len-hands.ensures, c.into_local.ensures, c.into_seats.ensures) refl in
     let belongs = subst (λ h. Belongs inv.2.0 c.args.pieces n done h × IsFresh c.args.pieces h) (sym hand) (fresh_belongs inv.2.0 n c.args.pieces done c.in-Some.source c.in-Some-next.round low g q, fresh_is inv.2.0 n c.args.pieces done c.in-Some.source c.in-Some-next.round low g q) in (
       omega (arith, inv.0, steps.1, len),
       omega (arith, inv.1, nl, len),

@@ -1,11 +1,13 @@
 use Rattle.std.proofs.Common.{◌∙◌}
-use Rattle.values.specs.Schema.{fields_of}
+use Rattle.semantics.specs.Syntax.{expression, name}
 use Rattle.query_eval.proofs.Forms.{name-safe}
-use Rattle.query_eval.proofs.Safety.{both-true, told}
+use Rattle.query_eval.proofs.Safety.{both-true, there, told}
 use Rattle.query_eval.proofs.binding.bind_column.Goals as goal
 
 pub returns-clause-safe : goal.returns-clause-safe
-returns-clause-safe c = λ grouped typed values fits.
-    name-safe c.column_source.result values
-    ∙ both-true _ _ (c.column_source.ensures.there typed.0 values fits)
-    (told (fields_of c.args.columns.now) values c.args.name.now c.column_source.result c.column_source.ensures.value typed.1 fits)
+returns-clause-safe g c = λ grouped typed values are.
+    let scope = g.S.Scope.form c.args.scope.now in
+    let column = c.args.name.now in
+    let given = c.name_source.ensures in
+    name-safe c.name_source.result values
+    ∙ both-true _ _ (there scope values (expression (name column)) _ given are) (told scope grouped values column _ given are typed.0 typed.1)

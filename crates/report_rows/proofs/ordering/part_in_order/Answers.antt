@@ -1,8 +1,18 @@
-use Rattle.std.proofs.Common.{map}
-use Rattle.report_rows.specs.Inside.SortEntries.{entry_at, entry_form}
+use Rattle.std.proofs.Common.{◌≡◌, ◌∙◌, List, ap, map, subst}
+use Rattle.std.specs.List.{AllByRecursion}
+use Rattle.semantics.specs.Syntax.{KeyForm}
+use Rattle.report_rows.specs.Inside.SortEntries.{IsCodableAt, entry_at, entry_form}
 use Rattle.report_rows.proofs.Rows.{ranks-moved, row_at}
 use Rattle.report_rows.proofs.ordering.part_in_order.Goals as goal
 
 pub returns : goal.returns
 returns c =
-    ranks-moved entry_form (entry_at c.args.sources.now) (map row_at c.args.rows.now) c.in_ok-entries.entries.items c.sort_entries.result.items c.in_ok-entries.ensures c.sort_entries.ensures.permutation
+    let sources = c.args.sources.now in
+    let rows = map row_at c.args.rows.now in
+    let entries = c.in_ok-entries.entries.items in
+    let are : map entry_form entries ≡ map (entry_at c.args.plan.now.query.keys sources) rows =
+    c.in_ok-entries.ensures.entries ∙ ap (λ (ks : List KeyForm). map (entry_at ks sources) rows) c.keys_of.ensures in
+    record {
+      codable = subst (λ (ks : List KeyForm). AllByRecursion (IsCodableAt ks sources) rows) c.keys_of.ensures c.in_ok-entries.ensures.codable;
+      entries = ranks-moved entry_form (entry_at c.args.plan.now.query.keys sources) rows entries c.sort_entries.result.items are c.sort_entries.ensures.permutation;
+    }

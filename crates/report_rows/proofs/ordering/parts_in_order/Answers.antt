@@ -3,7 +3,7 @@ use denote.Param.Send.{sendable}
 use Rattle.std.proofs.Crossing as std
 use Rattle.std.proofs.lemmas.List.{drop-map, length-map, take-map}
 use Rattle.semantics.specs.Found.{Found}
-use Rattle.report_rows.specs.Inside.SortEntries.{AreEntriesOf, entry_at}
+use Rattle.report_rows.specs.Inside.SortEntries.{AreEntriesOf}
 use Rattle.report_rows.proofs.InParts.{parts-cover, parts-made}
 use Rattle.report_rows.proofs.Rows.{row_at}
 use Rattle.report_rows.proofs.Sharing.{view_sync}
@@ -16,16 +16,16 @@ pub returns : goal.returns
 returns g c =
     let size = c.args.size in
     let groups = c.args.rows.now in
-    let rank = entry_at c.args.sources.now in
+    let are = AreEntriesOf c.args.plan.now.query.keys c.args.sources.now in
     let parts = c.in_ok-parts.parts.items in
     let count = length-map groups row_at in
     let ok = c.in_ok-parts.parts.ok in
     let made : length parts ≡ c.in_ok-parts.parts.len = omega (arith, ok) in
     let cover = parts-cover (length groups) size (length parts) c.requires.size (made ∙ c.in_ok-parts.ensures.len) in
-    parts-made (AreEntriesOf rank) size (map row_at groups) parts
+    parts-made are size (map row_at groups) parts
     (λ n d low.
     let k = (c.in_ok-parts.ensures.each n d low).1 in
     let part : map row_at k.argument.now ≡ take size (drop (n * size) (map row_at groups)) =
     ap (map row_at) k.argument_is.value ∙ sym (take-map row_at size (drop (n * size) groups)) ∙ ap (take size) (sym (drop-map row_at (n * size) groups)) in
-    subst (λ (rows : List Found). IfOk (get_or parts n d) (λ made. AreEntriesOf rank rows made.items)) part k.call)
+    subst (λ (rows : List Found). IfOk (get_or parts n d) (λ made. are rows made.items)) part k.call)
     (omega (arith, count, cover))

@@ -1,20 +1,11 @@
-use Rattle.std.proofs.Common.{◌≡◌, ◌∙◌, rules, List, map, ap, subst, IsSortedBy}
+use Rattle.std.proofs.Common.{rules}
 use Rattle.std.specs.Ordering.{is_lt}
 use Rattle.std.proofs.lemmas.Fn.{always_returns_same}
 use Rattle.std.proofs.lemmas.List.Sorted.{ranks_by}
-use Rattle.semantics.specs.Syntax.{KeyForm, TreeForm}
-use Rattle.query_ast.specs.Syntax.{key_form}
-use Rattle.report_rows.specs.Inside.SortEntries.{by_values, entry_form}
-use Rattle.report_rows.proofs.Totals.{by_values-total}
+use Rattle.report_rows.specs.Inside.SortEntries.{by_code, entry_form}
+use Rattle.report_rows.proofs.Totals.{by_code-total}
 use Rattle.report_rows.proofs.ordering.sort_entries.Goals as goal
 
 pub returns-clause-sorted : goal.returns-clause-sorted
 returns-clause-sorted c =
-    let t = c.args.plan.now.query in
-    let sorted = c.sort_unstable_by.new.self.items in
-    let code = map key_form c.as_slice-keys.result.now in
-    let keys : code ≡ t.keys = ap (map key_form) c.as_slice-keys.ensures.value ∙ ap (λ (f : TreeForm). f.keys) (c.tree.ensures.form ∙ c.query.ensures.query) in
-    let by : List KeyForm → Type 0 = λ ks. IsSortedBy (λ a b. is_lt (by_values ks (entry_form a) (entry_form b))) sorted in
-    let up : by code =
-    c.sort_unstable_by.ensures.sorted (λ a b. is_lt (by_values code (entry_form a) (entry_form b))) (ranks_by (by_values-total code) entry_form) (always_returns_same _ _ _ (λ a r f k. search rules)) in
-    subst by keys up
+    c.sort_unstable_by.ensures.sorted (λ a b. is_lt (by_code (entry_form a) (entry_form b))) (ranks_by by_code-total entry_form) (always_returns_same _ _ _ (λ a r f k. search rules))

@@ -18,7 +18,7 @@ loop-expression-preserved c = λ key cells.
     ∙ map-append form (take i all) (one ∷ []) in
     ap (map (shown_at key cells)) c.in_ok-push.ensures.items
     ∙ map-append (shown_at key cells) c.loop-expression.sources.items (c.source_of.result ∷ [])
-    ∙ (λ k. c.loop-expression.invariant key cells k ++ (c.source_of.ensures key cells k ∷ []))
+    ∙ (λ k. c.loop-expression.invariant key cells k ++ (c.source_of.ensures.shown key cells k ∷ []))
     ∙ sym (map-append shown (expression_forms (take i all)) (form one ∷ []))
     ∙ ap (map shown) (sym more)
 

@@ -3,7 +3,7 @@ use Rattle.std.proofs.Math.Logic.{∥∥₁_map}
 use Rattle.std.proofs.lemmas.List.{drop_more, length-drop, map-append, take_all, take_more}
 use Rattle.std.proofs.lemmas.List.Elements.{All-head, All-tail}
 use Rattle.tables_groups.specs.declared.group.Group.{Group}
-use Rattle.tables_groups.specs.Functions.{bound}
+use Rattle.tables_groups.specs.Functions.{aggregate_of}
 use Rattle.tables_groups.specs.Inside.Table.{IsTableOf}
 use Rattle.query_resolve.specs.Resolution.{contents}
 use Rattle.tables.specs.Sets.{AreGroupsOf}
@@ -41,7 +41,7 @@ loop-index-preserved g c =
     record {
       tables = λ filters rows h. c.in_ok-table.ensures.tables filters rows (c.loop-index.invariant.tables filters rows h);
       groups = λ filters rows h.
-          let fs = map (bound filters) c.args.functions.now in
+          let fs = map (aggregate_of filters) c.args.functions.now in
           let table = c.in_ok-table.ensures.table filters rows (c.loop-index.invariant.tables filters rows h) in
           subst (λ sets. AreGroupsOf sets fs c.push.new.self.items rows) (sym seen)
           (subst (λ (gs : List (Vec Group Global)). AreGroupsOf (contents (take i sets) ++ item.items ∷ []) fs gs rows) (sym c.in_ok-push.ensures.items)
@@ -55,5 +55,5 @@ loop-index-preserved g c =
 
 pub returns : goal.returns
 returns g c = λ filters rows h.
-    subst (λ (sets : List (Vec ℕ Global)). AreGroupsOf (contents sets) (map (bound filters) c.args.functions.now) c.loop-index.groups.items rows)
+    subst (λ (sets : List (Vec ℕ Global)). AreGroupsOf (contents sets) (map (aggregate_of filters) c.args.functions.now) c.loop-index.groups.items rows)
     (take_all c.loop-index.index c.args.sets.now (omega (arith, c.loop-index-test.false))) (c.loop-index.invariant.groups filters rows h)

@@ -1,7 +1,7 @@
 use Rattle.std.proofs.Common.{ℕ, List, map, sym, subst}
 use Rattle.std.proofs.Math.Logic.{∥∥₁_map}
 use Rattle.std.proofs.lemmas.Result.{IfOk-weaker}
-use Rattle.tables_groups.specs.Functions.{bound}
+use Rattle.tables_groups.specs.Functions.{aggregate_of}
 use Rattle.tables_groups.specs.Inside.Table.{IsTableOf}
 use Rattle.tables_groups.specs.Rolled.{AreAmong}
 use Rattle.tables.specs.declared.rolling.SetTable.{SetTable}
@@ -20,8 +20,8 @@ roll-requires-clause-few c =
     ∥∥₁_map c.requires.few (λ p. record {
       filters = p.filters;
       rows = p.rows;
-      is_table = subst (λ (s : List ℕ). IsTableOf s (map (bound p.filters) c.args.functions.now) finer.result.table p.rows) (sym c.as_slice.ensures.value)
-          (table-at (map (bound p.filters) c.args.functions.now) c.args.tables.now c.place_of_finer.result finer.result p.rows c.place_of_finer.ensures.within finer.is p.are_tables);
+      is_table = subst (λ (s : List ℕ). IsTableOf s (map (aggregate_of p.filters) c.args.functions.now) finer.result.table p.rows) (sym c.as_slice.ensures.value)
+          (table-at (map (aggregate_of p.filters) c.args.functions.now) c.args.tables.now c.place_of_finer.result finer.result p.rows c.place_of_finer.ensures.within finer.is p.are_tables);
       few = p.few;
     })
 
@@ -30,6 +30,6 @@ returns c =
     let finer = c.index-tables-place_of_finer in
     record {
       rolled = IfOk-weaker c.roll.result _ _ (λ table rolled filters rows h.
-          rolled filters rows (subst (λ (s : List ℕ). IsTableOf s (map (bound filters) c.args.functions.now) finer.result.table rows) (sym c.as_slice.ensures.value)
-          (table-at (map (bound filters) c.args.functions.now) c.args.tables.now c.place_of_finer.result finer.result rows c.place_of_finer.ensures.within finer.is h))) c.roll.ensures.rolled;
+          rolled filters rows (subst (λ (s : List ℕ). IsTableOf s (map (aggregate_of filters) c.args.functions.now) finer.result.table rows) (sym c.as_slice.ensures.value)
+          (table-at (map (aggregate_of filters) c.args.functions.now) c.args.tables.now c.place_of_finer.result finer.result rows c.place_of_finer.ensures.within finer.is h))) c.roll.ensures.rolled;
     }

@@ -1,7 +1,7 @@
 use Rattle.std.proofs.Common.{◌≡◌, ◌∙◌, ◌∷◌, [], All, List, slice_index_or, drop, length, map, ap, sym, subst, arith}
 use Rattle.std.proofs.lemmas.List.{nil_from_length}
 use Rattle.std.proofs.lemmas.List.Elements.{All-head, All-push, All-tail}
-use Rattle.tables_groups.specs.Functions.{bound}
+use Rattle.tables_groups.specs.Functions.{aggregate_of}
 use Rattle.tables_groups.specs.Inside.Table.{IsTableOf}
 use Rattle.tables.specs.declared.rolling.Roll.{Roll}
 use Rattle.tables.specs.declared.rolling.SetTable.{SetTable}
@@ -47,7 +47,7 @@ loop-roll-preserved g c =
     let left = subst (All (IsRolledOutOf fs c.args.tables.now.items)) is c.loop-roll.invariant.left in
     record {
       tables = λ filters rows h.
-          let functions = map (bound filters) fs in
+          let functions = map (aggregate_of filters) fs in
           subst (λ (ts : List SetTable). AreTablesOf functions ts rows) (sym made.3)
           (All-push (λ (table : SetTable). IsTableOf table.set.items functions table.table rows) before made.0 (c.loop-roll.invariant.tables filters rows h)
           (rolled-table fs c.args.tables.now.items roll made.0 made.1 made.2 (All-head (IsRolledOutOf fs c.args.tables.now.items) roll rest left) filters rows h));

@@ -1,7 +1,7 @@
 use Rattle.std.proofs.Common.{Vec, Global, ℕ, map, take, slice_index_or, sym, subst}
 use Rattle.std.proofs.Math.Logic.{∥∥₁_map}
 use Rattle.std.proofs.lemmas.List.Elements.{All-take}
-use Rattle.tables_groups.specs.Functions.{bound}
+use Rattle.tables_groups.specs.Functions.{aggregate_of}
 use Rattle.tables_groups.specs.Rolled.{AreAmong}
 use Rattle.tables.specs.declared.rolling.SetTable.{SetTable}
 use Rattle.tables.specs.SetTables.{AreTablesOf, IsMade}
@@ -24,12 +24,12 @@ loop-place-preserved g c =
     let before = c.loop-place.invariant in
     elim c.if-len.branch [
       | then-len+in_ok-roll_sets w ↦ record {
-        tables = λ filters rows table. subst (λ (ts : Vec SetTable Global). AreTablesOf (map (bound filters) fs) ts.items rows) (sym w.tables-is)
+        tables = λ filters rows table. subst (λ (ts : Vec SetTable Global). AreTablesOf (map (aggregate_of filters) fs) ts.items rows) (sym w.tables-is)
             (w.in_ok-roll_sets.ensures.tables filters rows (before.tables filters rows table));
         finest = subst (λ (ts : Vec SetTable Global). IsMade c.args.grouping.now ts.items) (sym w.tables-is) (w.in_ok-roll_sets.ensures.others c.args.grouping.now before.finest);
       }
       | else-len w ↦ record {
-        tables = λ filters rows table. subst (λ (ts : Vec SetTable Global). AreTablesOf (map (bound filters) fs) ts.items rows) (sym w.tables-is) (before.tables filters rows table);
+        tables = λ filters rows table. subst (λ (ts : Vec SetTable Global). AreTablesOf (map (aggregate_of filters) fs) ts.items rows) (sym w.tables-is) (before.tables filters rows table);
         finest = subst (λ (ts : Vec SetTable Global). IsMade c.args.grouping.now ts.items) (sym w.tables-is) before.finest;
       }
     ]

@@ -1,5 +1,5 @@
 use Rattle.std.proofs.Common.{Bool, List, map}
-use Rattle.tables_groups.specs.Functions.{bound}
+use Rattle.tables_groups.specs.Functions.{aggregate_of}
 use Rattle.semantics.specs.Groups.{Row}
 use Rattle.tables_groups.specs.Inside.Table.{IsTableOf}
 use Rattle.tables.specs.SetTables.{AreTablesOf, IsMade}
@@ -8,7 +8,7 @@ use Rattle.tables.proofs.rolling.tables_of_sets.Given as goal
 -- the tables are of the records, and that of all grouping columns is there
 abbrev pub invariant-loop-place : goal.invariant-loop-place
 invariant-loop-place g l = record {
-  tables : (filters : List (Row → Bool)) (rows : List Row) → IsTableOf l.grouping (map (bound filters) l.functions) l.fn.finest rows
-      → AreTablesOf (map (bound filters) l.functions) l.tables.items rows;
+  tables : (filters : List (Row → Bool)) (rows : List Row) → IsTableOf l.grouping (map (aggregate_of filters) l.functions) l.fn.finest rows
+      → AreTablesOf (map (aggregate_of filters) l.functions) l.tables.items rows;
   finest : IsMade l.grouping l.tables.items;
 }

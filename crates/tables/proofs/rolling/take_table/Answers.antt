@@ -1,7 +1,7 @@
 use Rattle.std.proofs.Common.{List, map, sym, subst}
 use Rattle.std.proofs.Math.Logic.{∥∥₁_map}
 use Rattle.std.proofs.lemmas.Result.{IfOk-weaker}
-use Rattle.tables_groups.specs.Functions.{bound}
+use Rattle.tables_groups.specs.Functions.{aggregate_of}
 use Rattle.tables.specs.declared.rolling.SetTable.{SetTable}
 use Rattle.tables.specs.SetTables.{AreTablesOf, IsMade}
 use Rattle.tables.proofs.SetTables.{among-self, made-left, placed-at, table-of, tables-left}
@@ -9,7 +9,7 @@ use Rattle.tables.proofs.rolling.take_table.Goals as goal
 
 pub returns-then-is_last-clause-tables : goal.returns-then-is_last-clause-tables
 returns-then-is_last-clause-tables c = λ filters rows h.
-    let fs = map (bound filters) c.args.functions.now in
+    let fs = map (aggregate_of filters) c.args.functions.now in
     subst (λ (tables : List SetTable). AreTablesOf fs tables rows) (sym c.remove-table.ensures.items)
     (tables-left fs c.args.tables.now.items c.place_of_table-place.result rows h)
 
@@ -30,7 +30,7 @@ roll-requires-clause-few c =
     ∥∥₁_map c.requires.few (λ p. record {
       filters = p.filters;
       rows = p.rows;
-      is_table = table-of (map (bound p.filters) c.args.functions.now) c.args.tables.now.items c.place_of_table-place.result c.index-copied.result.now c.args.set.now p.rows at.0 c.index-copied.ensures at.1 p.are_tables;
+      is_table = table-of (map (aggregate_of p.filters) c.args.functions.now) c.args.tables.now.items c.place_of_table-place.result c.index-copied.result.now c.args.set.now p.rows at.0 c.index-copied.ensures at.1 p.are_tables;
       few = p.few;
     })
 
@@ -39,10 +39,10 @@ returns-clause-table c =
     let e = c.place_of_table-place.ensures in
     let at = placed-at c.args.set.now c.args.tables.now.items c.as_slice.result.now c.place_of_table-place.result c.as_slice.ensures.value e.within e.there e.none c.requires.made in
     IfOk-weaker c.roll.result _ _ (λ table rolled filters rows h.
-    rolled filters rows (table-of (map (bound filters) c.args.functions.now) c.args.tables.now.items c.place_of_table-place.result c.index-copied.result.now c.args.set.now rows at.0 c.index-copied.ensures at.1 h)) c.roll.ensures.rolled
+    rolled filters rows (table-of (map (aggregate_of filters) c.args.functions.now) c.args.tables.now.items c.place_of_table-place.result c.index-copied.result.now c.args.set.now rows at.0 c.index-copied.ensures at.1 h)) c.roll.ensures.rolled
 
 pub returns-then-is_last-clause-table : goal.returns-then-is_last-clause-table
 returns-then-is_last-clause-table c = λ filters rows h.
     let e = c.place_of_table-place.ensures in
     let at = placed-at c.args.set.now c.args.tables.now.items c.as_slice.result.now c.place_of_table-place.result c.as_slice.ensures.value e.within e.there e.none c.requires.made in
-    table-of (map (bound filters) c.args.functions.now) c.args.tables.now.items c.place_of_table-place.result c.remove-table.result c.args.set.now rows at.0 c.remove-table.ensures.value at.1 h
+    table-of (map (aggregate_of filters) c.args.functions.now) c.args.tables.now.items c.place_of_table-place.result c.remove-table.result c.args.set.now rows at.0 c.remove-table.ensures.value at.1 h

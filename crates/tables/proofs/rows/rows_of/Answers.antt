@@ -7,7 +7,7 @@ use Rattle.semantics.specs.Sets.{grouping_places, sets_of}
 use Rattle.semantics.specs.Conditions.{kept_records}
 use Rattle.tables_groups.specs.Bags.{SameBag}
 use Rattle.semantics.specs.Aggregates.{AggregateFunction}
-use Rattle.tables_groups.specs.Functions.{bound}
+use Rattle.tables_groups.specs.Functions.{aggregate_of}
 use Rattle.tables_groups.specs.Inside.Table.{IsOfFew, IsTableOf}
 use Rattle.tables_groups.specs.Rolled.{AreAmong}
 use Rattle.semantics.specs.Found.{aggregate_functions, query_found}
@@ -39,10 +39,10 @@ returns g c = IfOk-weaker c.flatten_groups.result _ _ (λ rows is records table.
     let filters = filter_tests fields q in
     let members = kept_records fields q records in
     let groups = c.in_ok-groups.groups.items in
-    let bound_are : map (bound filters) c.set_functions.result.now ≡ fs = ap (map (bound filters)) c.set_functions.ensures.functions ∙ bound-functions fields q in
-    let finest = subst (λ grouping. IsTableOf grouping (map (bound filters) c.set_functions.result.now) c.args.finest members) (sym c.grouping.ensures.grouping)
+    let bound_are : map (aggregate_of filters) c.set_functions.result.now ≡ fs = ap (map (aggregate_of filters)) c.set_functions.ensures.functions ∙ bound-functions fields q in
+    let finest = subst (λ grouping. IsTableOf grouping (map (aggregate_of filters) c.set_functions.result.now) c.args.finest members) (sym c.grouping.ensures.grouping)
     (subst (λ (gs : List AggregateFunction). IsTableOf (grouping_places fields q) gs c.args.finest members) (sym bound_are) table) in
     let of_sets : AreGroupsOf (sets_of fields q) fs groups members =
     subst (λ (gs : List AggregateFunction). AreGroupsOf (sets_of fields q) gs groups members) bound_are
-    (subst (λ sets. AreGroupsOf sets (map (bound filters) c.set_functions.result.now) groups members) c.sets.ensures.sets (c.in_ok-groups.ensures filters members finest)) in
+    (subst (λ sets. AreGroupsOf sets (map (aggregate_of filters) c.set_functions.result.now) groups members) c.sets.ensures.sets (c.in_ok-groups.ensures filters members finest)) in
     subst (λ found. SameBag found (query_found fields q records)) (sym is) (all-found (sets_of fields q) fs groups members of_sets)) c.flatten_groups.ensures

@@ -7,8 +7,8 @@ use Rattle.json.specs.declared.token.Token.TheVariants as variant
 use Rattle.json.proofs.Grammar.{read_key-shorter}
 use Rattle.serde_json.specs.Data.{Data, Num, null, boolean, number, string, array, object, item, no_items, no_members, put}
 use Rattle.serde_json.specs.Read.{number_of, of_items, of_members}
-use Rattle.lines.specs.Meant.{IsValue}
-use Rattle.lines.proofs.Meaning.{begins, first-array, first-boolean, first-null, first-number, first-object, first-string, item-next, items-closed, member-next, members-closed}
+use Rattle.lines_json.specs.Meant.{IsValue}
+use Rattle.lines_json.proofs.Meaning.{begins, first-array, first-boolean, first-null, first-number, first-object, first-string, item-next, items-closed, member-next, members-closed}
 use Rattle.lines.proofs.tokens.skipping.+skip_value.Goals as goal
 
 -- a value stands first, and these tokens are behind it
@@ -35,7 +35,7 @@ skip_value-returns-in-String-clause-passed t c = rw (c.in_ok-next.ensures.value)
 
 pub skip_value-returns-in-Number-clause-passed : goal.skip_value-returns-in-Number-clause-passed
 skip_value-returns-in-Number-clause-passed t c =
-    rw (c.in_ok-next.ensures.value, c.in-Number.is) (passed-number c.args.depth c.in-Number.text.now c.next.new.self (number_of c.in-Number.text.now) refl (c.if-has_value.ensures refl))
+    rw (c.in_ok-next.ensures.value, c.in-Number.is) (passed-number c.args.depth c.in-Number.text.now c.next.new.self (number_of c.in-Number.text.now) refl (rw (← c.as_bytes.ensures.value) (c.if-has_value.ensures refl)))
 
 pub skip_value-returns-in-BeginArray-clause-passed : goal.skip_value-returns-in-BeginArray-clause-passed
 skip_value-returns-in-BeginArray-clause-passed t c =

@@ -2,7 +2,7 @@ use Rattle.std.proofs.Common.{◌+◌, ◌*◌, ◌≤◌, length}
 use Rattle.json.specs.Json.{items, members, value}
 use Rattle.serde_json.specs.Data.{Items, Members, no_members}
 use Rattle.serde_json.specs.Read.{of_items, of_members}
-use Rattle.lines.proofs.Meaning.{IsAt}
+use Rattle.lines_json.proofs.Meaning.{IsAt}
 use Rattle.lines.proofs.tokens.skipping.+skip_value.Given as goal
 
 abbrev pub decreases-skip_value : goal.decreases-skip_value

@@ -1,13 +1,14 @@
-use Rattle.std.proofs.Common.{◌≡◌, length, Some, None, ap, ◌∙◌, arith}
+use Rattle.std.proofs.Common.{◌≡◌, get_or, length, Some, None, ap, ◌∙◌, arith}
 use Rattle.std.proofs.lemmas.List.{length-map}
 use Rattle.json.specs.Json.{members, read_key, value}
 use Rattle.serde_json.specs.Data.{no_members, put}
 use Rattle.serde_json.specs.Read.{of_members}
+use Rattle.semantics.specs.Columns.{Field}
 use Rattle.values.specs.Datum.{datum_of, data_of}
 use Rattle.values.specs.Schema.{field_of, fields_of}
 use Rattle.semantics.specs.Records.{data_taken, datum_taken, member_of}
 use Rattle.lines.proofs.Taking.{somes}
-use Rattle.lines.proofs.Meaning.{begins, member-next, members-closed}
+use Rattle.lines_json.proofs.Meaning.{begins, member-next, members-closed}
 use Rattle.lines.proofs.Placing.{taken-other, taken-place}
 use Rattle.lines.proofs.tokens.taking.take_members.Goals as goal
 
@@ -38,10 +39,11 @@ members-preserved-in-Some-place_found_from c =
     let d = value_taken.taken.0 in
     let place = c.in-Some-place_found_from.ensures in
     let column = c.index-columns-place.is in
+    let named : (x : Field) → (get_or (fields_of c.args.columns.now) c.in-Some-place_found_from.place x).name ≡ name = λ x. place.1 x ∙ c.as_bytes.ensures.value in
     record {
       found = put name d found;
       at = member-next (value 126) c.args.reader.now loop.reader found name behind c.take_value.new.reader d loop.invariant.at key value_taken.taken.1 value_taken.shorter;
-      taken = rw (c.put_at.ensures) (taken-place c.args.columns.now loop.values.items found name d loop.invariant.taken c.in-Some-place_found_from.place c.index-columns-place.result c.in_ok-value-in-Some-place_found_from.value c.requires.names_differ place.0 column place.1 (ap (λ column. datum_taken column.kind d) column ∙ value_taken.taken.2));
+      taken = rw (c.put_at.ensures) (taken-place c.args.columns.now loop.values.items found name d loop.invariant.taken c.in-Some-place_found_from.place c.index-columns-place.result c.in_ok-value-in-Some-place_found_from.value c.requires.names_differ place.0 column named (ap (λ column. datum_taken column.kind d) column ∙ value_taken.taken.2));
       next_within = omega (arith, place.0);
     }
 
@@ -56,7 +58,7 @@ members-preserved c =
     record {
       found = put name passed.passed.0 found;
       at = member-next (value 126) c.args.reader.now loop.reader found name behind c.skip_value.new.reader passed.passed.0 loop.invariant.at key passed.passed.1 passed.shorter;
-      taken = taken-other c.args.columns.now loop.values.items found name passed.passed.0 loop.invariant.taken c.in-None.ensures;
+      taken = taken-other c.args.columns.now loop.values.items found name passed.passed.0 loop.invariant.taken (rw (← c.as_bytes.ensures.value) c.in-None.ensures);
       next_within = loop.invariant.next_within;
     }
 

@@ -2,8 +2,8 @@ use Rattle.std.proofs.Common.{◌≤◌, length}
 use Rattle.json.specs.Json.{members, value}
 use Rattle.serde_json.specs.Data.{Members, no_members}
 use Rattle.serde_json.specs.Read.{of_members}
-use Rattle.lines.proofs.Meaning.{IsAt}
-use Rattle.lines.proofs.Placing.{AreTaken}
+use Rattle.lines_json.proofs.Meaning.{IsAt}
+use Rattle.lines.specs.Members.{AreTaken}
 use Rattle.lines.proofs.tokens.taking.take_members.Given as goal
 
 -- the members so far are `found`, and the values are what the columns take of them

@@ -1,6 +1,6 @@
 use Rattle.std.proofs.Common.{◌≡◌, ◌++◌, ◌∷◌, [], true, List, cond, map, rules, sym, ap, subst, ◌∙◌}
 use Rattle.semantics.specs.Aggregates.{AggregateFunction}
-use Rattle.tables_groups.specs.Functions.{bound}
+use Rattle.tables_groups.specs.Functions.{aggregate_of}
 use Rattle.tables_groups.specs.Rows.{IsNarrowRow}
 use Rattle.semantics.specs.Groups.{Row}
 use Rattle.tables_groups.specs.Inside.Table.{IsTableOf}
@@ -33,12 +33,12 @@ returns-in_ok-add-clause-table c = λ rows given.
     let marks : c.as_slice.result.now ≡ map (λ keeps. keeps (data_of c.values.result.now)) filters =
     c.as_slice.ensures.value ∙ c.in_ok-mark_filters.ensures.marks ∙ marks-kept fields (filters_of fields q) row
     ∙ ap (λ (r : Row). map (λ keeps. keeps r) filters) (sym c.values.ensures.values) in
-    let bound_are : map (bound filters) c.set_functions.result.now ≡ fs = ap (map (bound filters)) c.set_functions.ensures.functions ∙ bound-functions fields q in
-    let old : IsTableOf c.grouping.result.now (map (bound filters) c.set_functions.result.now) c.args.self.now.table before =
-    subst (λ set. IsTableOf set (map (bound filters) c.set_functions.result.now) c.args.self.now.table before) (sym c.grouping.ensures.grouping)
+    let bound_are : map (aggregate_of filters) c.set_functions.result.now ≡ fs = ap (map (aggregate_of filters)) c.set_functions.ensures.functions ∙ bound-functions fields q in
+    let old : IsTableOf c.grouping.result.now (map (aggregate_of filters) c.set_functions.result.now) c.args.self.now.table before =
+    subst (λ set. IsTableOf set (map (aggregate_of filters) c.set_functions.result.now) c.args.self.now.table before) (sym c.grouping.ensures.grouping)
     (subst (λ (gs : List AggregateFunction). IsTableOf grouping gs c.args.self.now.table before) (sym bound_are) given) in
     let added = c.in_ok-add.ensures.added filters before marks old in
     subst (λ (rs : List Row). IsTableOf grouping fs new rs) (sym all)
     (subst (λ r. IsTableOf grouping fs new (before ++ r ∷ [])) c.values.ensures.values
     (subst (λ (gs : List AggregateFunction). IsTableOf grouping gs new (before ++ data_of c.values.result.now ∷ [])) bound_are
-    (subst (λ set. IsTableOf set (map (bound filters) c.set_functions.result.now) new (before ++ data_of c.values.result.now ∷ [])) c.grouping.ensures.grouping added)))
+    (subst (λ set. IsTableOf set (map (aggregate_of filters) c.set_functions.result.now) new (before ++ data_of c.values.result.now ∷ [])) c.grouping.ensures.grouping added)))

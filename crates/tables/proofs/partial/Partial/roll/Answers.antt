@@ -2,7 +2,7 @@ use Rattle.std.proofs.Common.{◌≡◌, List, map, ap, sym, subst, ◌∙◌}
 use Rattle.std.proofs.Math.Logic.{∥∥₁_map}
 use Rattle.std.proofs.lemmas.Result.{IfOk-weaker}
 use Rattle.semantics.specs.Aggregates.{AggregateFunction}
-use Rattle.tables_groups.specs.Functions.{bound}
+use Rattle.tables_groups.specs.Functions.{aggregate_of}
 use Rattle.tables_groups.specs.Inside.Table.{IsOfFew, IsTableOf}
 use Rattle.query_resolve.specs.declared.function.FilteredFunction.{FilteredFunction}
 use Rattle.query_resolve.specs.Functions.{indexed_functions}
@@ -42,8 +42,8 @@ returns-clause-groups c = IfOk-weaker c.finish.result _ _ (λ (groups : _) given
     let filters = filter_tests fields q in
     let rows = kept_records fields q (records_of fields pieces) in
     let p = subst (λ (v : PartialState). StandsFor fields q v pieces) (sym c.self.view_is) s in
-    let bound_are : map (bound filters) c.set_functions.result.now ≡ aggregate_functions fields q = ap (map (bound filters)) c.set_functions.ensures.functions ∙ bound-functions fields q in
-    let finest = subst (λ grouping. IsTableOf grouping (map (bound filters) c.set_functions.result.now) self.table rows) (sym c.grouping.ensures.grouping)
+    let bound_are : map (aggregate_of filters) c.set_functions.result.now ≡ aggregate_functions fields q = ap (map (aggregate_of filters)) c.set_functions.ensures.functions ∙ bound-functions fields q in
+    let finest = subst (λ grouping. IsTableOf grouping (map (aggregate_of filters) c.set_functions.result.now) self.table rows) (sym c.grouping.ensures.grouping)
     (subst (λ (fs : List AggregateFunction). IsTableOf (grouping_places fields q) fs self.table rows) (sym bound_are) p.table) in
     subst (λ (fs : List AggregateFunction). AreGroupsOfSet c.args.set.now fs groups.items rows) bound_are
-    (given c.args.set.now (map (bound filters) c.set_functions.result.now) rows (c.in_ok-table.ensures.rolled filters rows finest))) c.finish.ensures.groups
+    (given c.args.set.now (map (aggregate_of filters) c.set_functions.result.now) rows (c.in_ok-table.ensures.rolled filters rows finest))) c.finish.ensures.groups

@@ -1,6 +1,6 @@
 use Rattle.std.proofs.Common.{IfSome, List, ℕ, Bool, Option, map, refl, sym, subst}
 use Rattle.std.proofs.lemmas.Result.{IfOk-weaker}
-use Rattle.tables_groups.specs.Functions.{bound}
+use Rattle.tables_groups.specs.Functions.{aggregate_of}
 use Rattle.tables_groups.specs.Inside.Table.{Contents, IsTableOf}
 use Rattle.semantics.specs.Groups.{Row}
 use Rattle.tables.specs.SetTables.{AreTablesOf, HasFiner}
@@ -19,9 +19,9 @@ returns c =
       rolled = (
         refl,
         subst (λ (o : Option Contents). IfSome o (λ table. (filters : List (Row → Bool)) (rows : List Row)
-            → AreTablesOf (map (bound filters) fs) tables rows → IsTableOf set (map (bound filters) fs) table rows)) (sym c.ok.ensures.value)
+            → AreTablesOf (map (aggregate_of filters) fs) tables rows → IsTableOf set (map (aggregate_of filters) fs) table rows)) (sym c.ok.ensures.value)
             (some-of_ok _ c.roll_from_finer.result
             (IfOk-weaker c.roll_from_finer.result _ _ (λ table rolled filters rows h.
-            subst (λ (s : List ℕ). IsTableOf s (map (bound filters) fs) table rows) c.as_slice.ensures.value (rolled filters rows h)) c.roll_from_finer.ensures.rolled)),
+            subst (λ (s : List ℕ). IsTableOf s (map (aggregate_of filters) fs) table rows) c.as_slice.ensures.value (rolled filters rows h)) c.roll_from_finer.ensures.rolled)),
       );
     }

@@ -1,11 +1,11 @@
-use Rattle.std.proofs.Common.{◌≡◌, ◌∷◌, Option, IfSome, Vec, Global, ap, sym, subst, ◌∙◌}
+use Rattle.std.proofs.Common.{◌≡◌, ◌∷◌, Option, IfSome, ap, sym, subst, ◌∙◌}
+use Rattle.tables_groups.specs.declared.packed_key.PackedKey.{PackedKey}
+use Rattle.tables_groups.specs.Inside.Keys.{key_in}
 use Rattle.std.proofs.lemmas.Map.Iter.{rest_more}
 use Rattle.std.proofs.lemmas.Map.Keys.{IsDistinct-tail}
 use Rattle.std.specs.FinMap.{get, find, get-from_entries}
 use Rattle.std.specs.List.{IsDistinct}
 use Rattle.std.specs.Map.{keys_of}
-use Rattle.values.specs.Datum.{data_of}
-use Rattle.values.specs.declared.value.Value.{Value}
 use Rattle.semantics.specs.Groups.{Key, key_order}
 use Rattle.tables_groups.specs.Inside.Group.{GroupState}
 use Rattle.tables_groups.specs.Inside.Shards.{contents_in}
@@ -27,12 +27,12 @@ loop-key-init c =
 
 -- the rest begins with this turn's entry
 more : (c : goal.After-put_group-arg-1) → c.loop-key.key-iterator ≡ (c.in-Some.key, c.in-Some.part) ∷ c.next.new.self
-more c = rest_more (λ (x : Vec Value Global × GroupState). x) c.loop-key.key-iterator c.next.new.self c.next.result (c.in-Some.key, c.in-Some.part) c.in-Some.is c.next.ensures.steps
+more c = rest_more (λ (x : PackedKey × GroupState). x) c.loop-key.key-iterator c.next.new.self c.next.result (c.in-Some.key, c.in-Some.part) c.in-Some.is c.next.ensures.steps
 
 pub put_group-requires : goal.put_group-requires
 put_group-requires c =
-    let k = data_of c.in-Some.key.items in
-    let e : Vec Value Global × GroupState = (c.in-Some.key, c.in-Some.part) in
+    let k = key_in c.in-Some.key in
+    let e : PackedKey × GroupState = (c.in-Some.key, c.in-Some.part) in
     subst (λ (o : Option GroupState). IfSome o (λ p. IsFitting p (get (contents_in c.loop-key.self) k)))
     (ap (λ es. find key_order k (entries_by_key es)) (more c) ∙ find-first e c.next.new.self)
     (c.loop-key.invariant.fits k)
@@ -40,8 +40,8 @@ put_group-requires c =
 pub loop-key-preserved : goal.loop-key-preserved
 loop-key-preserved c =
     let rest = c.next.new.self in
-    let e : Vec Value Global × GroupState = (c.in-Some.key, c.in-Some.part) in
-    let is : c.loop-key.key-iterator ≡ e ∷ rest = rest_more (λ (x : Vec Value Global × GroupState). x) c.loop-key.key-iterator rest c.next.result e c.in-Some.is c.next.ensures.steps in
+    let e : PackedKey × GroupState = (c.in-Some.key, c.in-Some.part) in
+    let is : c.loop-key.key-iterator ≡ e ∷ rest = rest_more (λ (x : PackedKey × GroupState). x) c.loop-key.key-iterator rest c.next.result e c.in-Some.is c.next.ensures.steps in
     let d : IsDistinct key_eq (keys_of (e ∷ rest)) = subst (λ es. IsDistinct key_eq (keys_of es)) is c.loop-key.invariant.distinct in
     let old = contents_in c.loop-key.self in
     let new = contents_in c.put_group.new.self in

@@ -1,7 +1,7 @@
-use Rattle.std.proofs.Common.{◌≡◌, ◌∷◌, [], Vec, Global, ap, sym, subst, ◌∙◌}
+use Rattle.std.proofs.Common.{◌≡◌, ◌∷◌, [], ap, sym, subst, ◌∙◌}
+use Rattle.tables_groups.specs.declared.packed_key.PackedKey.{PackedKey}
 use Rattle.std.proofs.lemmas.Map.Iter.{rest_more, rest_all}
 use Rattle.std.specs.Map.Iter.{deref_pair}
-use Rattle.values.specs.declared.value.Value.{Value}
 use Rattle.tables_groups.specs.Inside.Group.{GroupState}
 use Rattle.tables_groups.specs.Inside.Shards.{entries_in}
 use Rattle.tables_groups.specs.Inside.Table.{TakesEach, group_with_entries}
@@ -18,24 +18,24 @@ loop-key-init c =
 
 pub absorb_copies-requires-clause-room : goal.absorb_copies-requires-clause-room
 absorb_copies-requires-clause-room c =
-    let e : Vec Value Global × GroupState = (c.in-Some._key.now, c.in-Some.part.now) in
+    let e : PackedKey × GroupState = (c.in-Some._key.now, c.in-Some.part.now) in
     let more : c.loop-key._key-iterator ≡ e ∷ c.next.new.self =
-    rest_more (deref_pair {K = Vec Value Global} {X = GroupState}) c.loop-key._key-iterator c.next.new.self c.next.result (c.in-Some._key, c.in-Some.part) c.in-Some.is c.next.ensures.steps in
+    rest_more (deref_pair {K = PackedKey} {X = GroupState}) c.loop-key._key-iterator c.next.new.self c.next.result (c.in-Some._key, c.in-Some.part) c.in-Some.is c.next.ensures.steps in
     (subst (λ (es : Entries). TakesEach c.loop-key.group es) more c.loop-key.invariant.takes).0
 
 pub absorb_copies-requires-clause-one_each : goal.absorb_copies-requires-clause-one_each
 absorb_copies-requires-clause-one_each c =
-    let e : Vec Value Global × GroupState = (c.in-Some._key.now, c.in-Some.part.now) in
+    let e : PackedKey × GroupState = (c.in-Some._key.now, c.in-Some.part.now) in
     let more : c.loop-key._key-iterator ≡ e ∷ c.next.new.self =
-    rest_more (deref_pair {K = Vec Value Global} {X = GroupState}) c.loop-key._key-iterator c.next.new.self c.next.result (c.in-Some._key, c.in-Some.part) c.in-Some.is c.next.ensures.steps in
+    rest_more (deref_pair {K = PackedKey} {X = GroupState}) c.loop-key._key-iterator c.next.new.self c.next.result (c.in-Some._key, c.in-Some.part) c.in-Some.is c.next.ensures.steps in
     (subst (λ (es : Entries). TakesEach c.loop-key.group es) more c.loop-key.invariant.takes).1
 
 pub loop-key-preserved : goal.loop-key-preserved
 loop-key-preserved c =
-    let e : Vec Value Global × GroupState = (c.in-Some._key.now, c.in-Some.part.now) in
+    let e : PackedKey × GroupState = (c.in-Some._key.now, c.in-Some.part.now) in
     let rest : Entries = c.next.new.self in
     let more : c.loop-key._key-iterator ≡ e ∷ rest =
-    rest_more (deref_pair {K = Vec Value Global} {X = GroupState}) c.loop-key._key-iterator rest c.next.result (c.in-Some._key, c.in-Some.part) c.in-Some.is c.next.ensures.steps in
+    rest_more (deref_pair {K = PackedKey} {X = GroupState}) c.loop-key._key-iterator rest c.next.result (c.in-Some._key, c.in-Some.part) c.in-Some.is c.next.ensures.steps in
     let takes = subst (λ (es : Entries). TakesEach c.loop-key.group es) more c.loop-key.invariant.takes in
     record {
       takes = subst (λ (g : GroupState). TakesEach g rest) (sym c.in_ok-absorb_copies.ensures) takes.2;
@@ -44,5 +44,5 @@ loop-key-preserved c =
 
 pub returns : goal.returns
 returns c =
-    let none : c.loop-key._key-iterator ≡ [] = rest_all (deref_pair {K = Vec Value Global} {X = GroupState}) c.loop-key._key-iterator c.next.new.self c.next.result c.in-None.is c.next.ensures.steps in
+    let none : c.loop-key._key-iterator ≡ [] = rest_all (deref_pair {K = PackedKey} {X = GroupState}) c.loop-key._key-iterator c.next.new.self c.next.result c.in-None.is c.next.ensures.steps in
     ap (group_with_entries c.loop-key.group) (sym none) ∙ c.loop-key.invariant.joined

@@ -1,20 +1,18 @@
 use Rattle.std.proofs.Common.{◌≡◌, ◌∙◌, ap, sym, Some, None, IsSome}
+use Rattle.tables_groups.specs.Inside.Keys.{key_eq, key_in}
 use Rattle.std.proofs.lemmas.Result.{on_ok_weaker}
 use Rattle.std.specs.FinMap as fin
 use Rattle.std.specs.Option.{option_copied_mut, is_some}
 use Rattle.std.specs.Map.{lookup}
-use Rattle.std.specs.Cmp.Lexicographic.{pointwise}
-use Rattle.values.specs.Datum.{data_of}
 use Rattle.tables_groups.specs.Inside.Group.{joint_group}
 use Rattle.tables_groups.specs.Inside.Shards.{contents_in}
 use Rattle.tables_groups.specs.Inside.Table.{joint_option, contents_of}
-use Rattle.tables_groups.proofs.Order.{value_eq}
 use Rattle.tables_groups.proofs.Entries.{get-updated, get-shown, put_is, updated-elsewhere, elsewhere-after}
 use Rattle.tables_groups.proofs.shard.Shard.put_group.Goals as goal
 
 -- what the shard has at the key
-found : (c : goal.In-Some) → fin.get (contents_in c.args.self.now) (data_of c.args.key.items) ≡ Some c.in-Some.group.now
-found c = get-shown c.args.key.items c.args.self.now.groups.entries ∙ sym c.get_mut.ensures.value ∙ ap option_copied_mut c.in-Some.is
+found : (c : goal.In-Some) → fin.get (contents_in c.args.self.now) (key_in c.args.key) ≡ Some c.in-Some.group.now
+found c = get-shown c.args.key c.args.self.now.groups.entries ∙ sym c.get_mut.ensures.value ∙ ap option_copied_mut c.in-Some.is
 
 pub absorb-requires-clause-room : goal.absorb-requires-clause-room
 absorb-requires-clause-room c = let h = rw (found c) at c.requires in h.0
@@ -22,10 +20,10 @@ absorb-requires-clause-room c = let h = rw (found c) at c.requires in h.0
 pub absorb-requires-clause-one_each : goal.absorb-requires-clause-one_each
 absorb-requires-clause-one_each c = let h = rw (found c) at c.requires in h.1
 
-found_then : (c : goal.After-drop-key) → fin.get (contents_in c.args.self.now) (data_of c.args.key.items) ≡ Some c.in-Some.group.now
-found_then c = get-shown c.args.key.items c.args.self.now.groups.entries ∙ sym c.get_mut.ensures.value ∙ ap option_copied_mut c.in-Some.is
+found_then : (c : goal.After-drop-key) → fin.get (contents_in c.args.self.now) (key_in c.args.key) ≡ Some c.in-Some.group.now
+found_then c = get-shown c.args.key c.args.self.now.groups.entries ∙ sym c.get_mut.ensures.value ∙ ap option_copied_mut c.in-Some.is
 
-there : (c : goal.After-drop-key) → IsSome (lookup (λ k. pointwise value_eq c.args.key.items k.items) c.args.self.now.groups.entries)
+there : (c : goal.After-drop-key) → IsSome (lookup (λ k. key_eq c.args.key k) c.args.self.now.groups.entries)
 there c = ap is_some (sym c.get_mut.ensures.value ∙ ap option_copied_mut c.in-Some.is)
 
 pub returns-in-Some-clause-put : goal.returns-in-Some-clause-put
@@ -35,8 +33,8 @@ returns-in-Some-clause-put c =
     let u = (c.get_mut.follows.holds c.absorb.new.self).3 (there c) in
     on_ok_weaker c.absorb.result
     (λ (h : c.absorb.new.self ≡ joint_group c.in-Some.group.now c.args.part).
-    put_is (contents_of es) (contents_of n.entries) (data_of c.args.key.items) c.args.part (Some c.absorb.new.self)
-    (λ q. get-updated es n.entries c.args.key.items (Some c.absorb.new.self) u.1 u.3 q)
+    put_is (contents_of es) (contents_of n.entries) (key_in c.args.key) c.args.part (Some c.absorb.new.self)
+    (λ q. get-updated es n.entries c.args.key (Some c.absorb.new.self) u.1 u.3 q)
     (ap Some h ∙ ap (λ o. joint_option o (Some c.args.part)) (sym (found_then c))))
     c.absorb.ensures
 
@@ -45,22 +43,22 @@ returns-in-Some-clause-others c =
     let es = c.args.self.now.groups.entries in
     let n = c.get_mut.follows.lender c.absorb.new.self in
     let u = (c.get_mut.follows.holds c.absorb.new.self).3 (there c) in
-    updated-elsewhere es n.entries c.args.key.items (Some c.absorb.new.self) u.1 u.3
+    updated-elsewhere es n.entries c.args.key (Some c.absorb.new.self) u.1 u.3
 
 pub returns-clause-put : goal.returns-clause-put
 returns-clause-put c =
     let es = c.args.self.now.groups.entries in
-    let key = data_of c.args.key.items in
+    let key = key_in c.args.key in
     let u = c.in_ok-insert.ensures.updates in
     let others = rw (c.get_mut.follows.holds-at-none) at u.3 in
-    let absent : fin.get (contents_of es) key ≡ None = get-shown c.args.key.items es ∙ sym c.get_mut.ensures.value ∙ ap option_copied_mut c.in_default.is in
+    let absent : fin.get (contents_of es) key ≡ None = get-shown c.args.key es ∙ sym c.get_mut.ensures.value ∙ ap option_copied_mut c.in_default.is in
     put_is (contents_of es) (contents_of c.insert.new.self.entries) key c.args.part (Some c.args.part)
-    (λ q. get-updated es c.insert.new.self.entries c.args.key.items (Some c.args.part) u.1 others q)
+    (λ q. get-updated es c.insert.new.self.entries c.args.key (Some c.args.part) u.1 others q)
     (ap (λ o. joint_option o (Some c.args.part)) (sym absent))
 
 pub returns-clause-others : goal.returns-clause-others
 returns-clause-others c =
-    elsewhere-after c.insert.result c.args.self.now.groups.entries _ c.insert.new.self.entries c.args.key.items (Some c.args.part)
+    elsewhere-after c.insert.result c.args.self.now.groups.entries _ c.insert.new.self.entries c.args.key (Some c.args.part)
     (ap (λ n. n.entries) c.get_mut.follows.holds-at-none)
     (on_ok_weaker c.insert.result (λ u. (u.1, u.3)) c.insert.ensures.updates)
     c.insert.ensures.err

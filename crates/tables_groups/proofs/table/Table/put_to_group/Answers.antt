@@ -1,7 +1,7 @@
 use Rattle.std.proofs.Common.{◌≡◌, ◌∙◌, ap, sym, subst, arith, length, get_or, set, Option, Some}
+use Rattle.tables_groups.specs.Inside.Keys.{key_in}
 use Rattle.std.proofs.lemmas.Result.{on_ok_weaker}
 use Rattle.std.specs.FinMap as fin
-use Rattle.values.specs.Datum.{data_of}
 use Rattle.semantics.specs.Groups.{Key}
 use Rattle.tables_groups.specs.Inside.Group.{GroupState}
 use Rattle.tables_groups.specs.Inside.Shards.{AreApart, contents_in, contents_of_shards, shard_index}
@@ -12,11 +12,11 @@ use Rattle.tables_groups.proofs.table.Table.put_to_group.Goals as goal
 
 pub put_group-requires : goal.put_group-requires
 put_group-requires c =
-    let key = data_of c.args.key.items in
+    let key = key_in c.args.key in
     let ss = c.self.inside.shards.items in
     let s = c.index_mut.result.now in
     let count : c.len.result ≡ length ss = let l = c.self.inside.shards.ok in omega (arith, l, c.len.ensures) in
-    let p : c.place_of-place.result ≡ shard_index (length ss) key = c.place_of-place.ensures.place ∙ ap (λ xs. shard_index c.len.result (data_of xs)) c.as_slice.ensures.value ∙ ap (λ n. shard_index n key) count in
+    let p : c.place_of-place.result ≡ shard_index (length ss) key = c.place_of-place.ensures.place ∙ ap (λ n. shard_index n key) count in
     let is : s ≡ get_or ss (shard_index (length ss) key) s = c.index_mut.ensures.value ∙ ap (λ n. get_or ss n s) p in
     subst (λ (o : Option GroupState). IsFitting c.args.part o)
     (ap (λ m. fin.get m key) (sym c.self.view_is)
@@ -26,11 +26,11 @@ put_group-requires c =
 
 pub invariant_of-self-inside : goal.invariant_of-self-inside
 invariant_of-self-inside c =
-    let key = data_of c.args.key.items in
+    let key = key_in c.args.key in
     let ss = c.self.inside.shards.items in
     let s = c.index_mut.result.now in
     let count : c.len.result ≡ length ss = let l = c.self.inside.shards.ok in omega (arith, l, c.len.ensures) in
-    let p : c.place_of-place.result ≡ shard_index (length ss) key = c.place_of-place.ensures.place ∙ ap (λ xs. shard_index c.len.result (data_of xs)) c.as_slice.ensures.value ∙ ap (λ n. shard_index n key) count in
+    let p : c.place_of-place.result ≡ shard_index (length ss) key = c.place_of-place.ensures.place ∙ ap (λ n. shard_index n key) count in
     let is : s ≡ get_or ss (shard_index (length ss) key) s = c.index_mut.ensures.value ∙ ap (λ n. get_or ss n s) p in (
       c.self.inside.some,
       (
@@ -46,12 +46,12 @@ invariant_of-self-inside c =
 pub returns : goal.returns
 returns c =
     let part = c.args.part in
-    let key = data_of c.args.key.items in
+    let key = key_in c.args.key in
     let ss = c.self.inside.shards.items in
     let s = c.index_mut.result.now in
     let new = c.put_group.new.self in
     let count : c.len.result ≡ length ss = let l = c.self.inside.shards.ok in omega (arith, l, c.len.ensures) in
-    let p : c.place_of-place.result ≡ shard_index (length ss) key = c.place_of-place.ensures.place ∙ ap (λ xs. shard_index c.len.result (data_of xs)) c.as_slice.ensures.value ∙ ap (λ n. shard_index n key) count in
+    let p : c.place_of-place.result ≡ shard_index (length ss) key = c.place_of-place.ensures.place ∙ ap (λ n. shard_index n key) count in
     let is : s ≡ get_or ss (shard_index (length ss) key) s = c.index_mut.ensures.value ∙ ap (λ n. get_or ss n s) p in
     on_ok_weaker c.put_group.result
     (λ (h : (k : Key) → IsPut (contents_in s) (contents_in new) key part k). λ (k : Key).

@@ -1,4 +1,6 @@
-use Rattle.std.proofs.Common.{◌≡◌, ◌+◌, ◌++◌, [], ◌∷◌, ℕ, arith, List, Some, Vec, Global, drop, map, refl, sym, ap, subst, ◌∙◌}
+use Rattle.std.proofs.Common.{◌≡◌, ◌+◌, ◌++◌, [], ◌∷◌, ℕ, arith, List, Some, drop, map, refl, sym, ap, subst, ◌∙◌}
+use Rattle.tables_groups.specs.declared.packed_key.PackedKey.{PackedKey}
+use Rattle.tables_groups.specs.Inside.Keys.{key_in}
 use Rattle.std.proofs.Math.Logic.{∥∥₁_elim, ∥∥₁_map}
 use Rattle.std.proofs.lemmas.Result.{IfOk-weaker}
 use Rattle.std.proofs.lemmas.List.{drop_more, drop_all}
@@ -7,10 +9,9 @@ use Rattle.std.specs.List.{IsDistinct, AllByRecursion}
 use Rattle.std.specs.Map.{keys_of}
 use Rattle.std.specs.Map.Iter.{deref_pair}
 use Rattle.std.specs.FinMap as fin
-use Rattle.values.specs.declared.value.Value.{Value}
 use Rattle.values.specs.Datum.{data_of}
 use Rattle.semantics.specs.Groups.{Key, project}
-use Rattle.tables_groups.specs.Functions.{bound}
+use Rattle.tables_groups.specs.Functions.{aggregate_of}
 use Rattle.tables_groups.specs.Inside.Group.{GroupState}
 use Rattle.tables_groups.specs.Inside.Shards.{AreApart, all_entries, contents_of_shards, entries_in}
 use Rattle.tables_groups.specs.Rolled.{rolled_key}
@@ -33,7 +34,7 @@ returns-then-is_empty c =
     let none : c.args.set.now ≡ [] = none_left c.args.set.now (let f = c.if-is_empty.ensures in grind (arith, f)) in
     record {
       rolled = IfOk-weaker c.roll_to_one.result _ _
-          (λ table h filters rows is. subst (λ (set : List ℕ). IsTableOf set (map (bound filters) c.args.functions.now) table rows) (sym none) (h c.args.finer.now filters rows is))
+          (λ table h filters rows is. subst (λ (set : List ℕ). IsTableOf set (map (aggregate_of filters) c.args.functions.now) table rows) (sym none) (h c.args.finer.now filters rows is))
           c.roll_to_one.ensures.rolled;
     }
 
@@ -59,8 +60,8 @@ loop-key-init c =
     ap all_entries (drop_more shards index c.shard-item.result c.loop-shard-test.true)
     ∙ ap (λ (es : Entries). es ++ all_entries (drop (index + 1) shards)) (ap entries_in (sym c.shard-item.is) ∙ sym is) in
     record {
-      rolled = λ filters rows is. subst (λ (es : Entries). IsRolled c.args.finer.now c.args.set.now (map (bound filters) c.args.functions.now) c.loop-shard.rolled es all rows) left (i.rolled filters rows is);
-      each = subst (λ (es : Entries). AllByRecursion (λ e. fin.get t (data_of e.0.items) ≡ Some e.1) es) left i.each;
+      rolled = λ filters rows is. subst (λ (es : Entries). IsRolled c.args.finer.now c.args.set.now (map (aggregate_of filters) c.args.functions.now) c.loop-shard.rolled es all rows) left (i.rolled filters rows is);
+      each = subst (λ (es : Entries). AllByRecursion (λ e. fin.get t (key_in e.0) ≡ Some e.1) es) left i.each;
     }
 
 pub put-requires : goal.put-requires
@@ -74,14 +75,14 @@ put-requires c =
     let i = c.loop-key.invariant in
     let rest : Entries = c.next.new.self in
     let others : Entries = all_entries (drop (c.loop-shard.shard-index + 1) shards) in
-    let e : Vec Value Global × GroupState = (c.in-Some.key.now, c.in-Some.part.now) in
-    let more : c.loop-key.key-iterator ≡ e ∷ rest = rest_more (deref_pair {K = Vec Value Global} {X = GroupState}) c.loop-key.key-iterator rest c.next.result (c.in-Some.key, c.in-Some.part) c.in-Some.is c.next.ensures.steps in
-    let each = subst (λ (es : Entries). AllByRecursion (λ e. fin.get t (data_of e.0.items) ≡ Some e.1) (es ++ others)) more i.each in
+    let e : PackedKey × GroupState = (c.in-Some.key.now, c.in-Some.part.now) in
+    let more : c.loop-key.key-iterator ≡ e ∷ rest = rest_more (deref_pair {K = PackedKey} {X = GroupState}) c.loop-key.key-iterator rest c.next.result (c.in-Some.key, c.in-Some.part) c.in-Some.is c.next.ensures.steps in
+    let each = subst (λ (es : Entries). AllByRecursion (λ e. fin.get t (key_in e.0) ≡ Some e.1) (es ++ others)) more i.each in
     let key = project c.as_slice.result.now (data_of c.as_slice-in-loop-key.result.now) in
     ∥∥₁_elim c.requires.few (fitting-prop fs e.1 (fin.get c.loop-key.rolled key)) (λ few.
     rolled-fitting finer set fs few.filters t c.loop-key.rolled e (rest ++ others) (all_entries shards) few.rows key
     (ap contents_of_shards same ∙ c.self.view_is) (distinct-read shards c.self.inside.shards.items same c.self.inside.apart) few.few few.is_table each.0
-    (subst (λ (es : Entries). IsRolled finer set (map (bound few.filters) fs) c.loop-key.rolled (es ++ others) (all_entries shards) few.rows) more (i.rolled few.filters few.rows few.is_table)))
+    (subst (λ (es : Entries). IsRolled finer set (map (aggregate_of few.filters) fs) c.loop-key.rolled (es ++ others) (all_entries shards) few.rows) more (i.rolled few.filters few.rows few.is_table)))
 
 pub loop-key-preserved : goal.loop-key-preserved
 loop-key-preserved c =
@@ -96,15 +97,15 @@ loop-key-preserved c =
     let i = c.loop-key.invariant in
     let rest : Entries = c.next.new.self in
     let others : Entries = all_entries (drop (c.loop-shard.shard-index + 1) shards) in
-    let e : Vec Value Global × GroupState = (c.in-Some.key.now, c.in-Some.part.now) in
-    let more : c.loop-key.key-iterator ≡ e ∷ rest = rest_more (deref_pair {K = Vec Value Global} {X = GroupState}) c.loop-key.key-iterator rest c.next.result (c.in-Some.key, c.in-Some.part) c.in-Some.is c.next.ensures.steps in
-    let each = subst (λ (es : Entries). AllByRecursion (λ e. fin.get t (data_of e.0.items) ≡ Some e.1) (es ++ others)) more i.each in
-    let key : project c.as_slice.result.now (data_of c.as_slice-in-loop-key.result.now) ≡ rolled_key finer set (data_of e.0.items) =
-    (λ j. project (c.as_slice.ensures.value j) (data_of (c.as_slice-in-loop-key.ensures.value j))) ∙ ap (λ xs. project xs (data_of e.0.items)) c.in_ok-indices.ensures in
+    let e : PackedKey × GroupState = (c.in-Some.key.now, c.in-Some.part.now) in
+    let more : c.loop-key.key-iterator ≡ e ∷ rest = rest_more (deref_pair {K = PackedKey} {X = GroupState}) c.loop-key.key-iterator rest c.next.result (c.in-Some.key, c.in-Some.part) c.in-Some.is c.next.ensures.steps in
+    let each = subst (λ (es : Entries). AllByRecursion (λ e. fin.get t (key_in e.0) ≡ Some e.1) (es ++ others)) more i.each in
+    let key : project c.as_slice.result.now (data_of c.as_slice-in-loop-key.result.now) ≡ rolled_key finer set (key_in e.0) =
+    (λ j. project (c.as_slice.ensures.value j) (data_of (c.as_slice-in-loop-key.ensures.value j))) ∙ ap (project c.in_ok-indices.indices.items) c.in_ok-values.ensures ∙ ap (λ xs. project xs (key_in e.0)) c.in_ok-indices.ensures in
     record {
       rolled = λ filters rows is. rolled-step finer set fs filters t old new e (rest ++ others) all rows c.requires.among is each.0
           (λ k. subst (λ (q : Key). IsEnlarged fs old new q e.1 k) key (c.in_ok-put.ensures k))
-          (subst (λ (es : Entries). IsRolled finer set (map (bound filters) fs) old (es ++ others) all rows) more (i.rolled filters rows is));
+          (subst (λ (es : Entries). IsRolled finer set (map (aggregate_of filters) fs) old (es ++ others) all rows) more (i.rolled filters rows is));
       each = each.1;
     }
 
@@ -114,10 +115,10 @@ loop-shard-preserved c =
     let i = c.loop-key.invariant in
     let shards : List Shard = c.deref-shard-items.result.now in
     let others : Entries = all_entries (drop (c.loop-shard.shard-index + 1) shards) in
-    let none = rest_all (deref_pair {K = Vec Value Global} {X = GroupState}) c.loop-key.key-iterator c.next.new.self c.next.result c.in-None.is c.next.ensures.steps in
+    let none = rest_all (deref_pair {K = PackedKey} {X = GroupState}) c.loop-key.key-iterator c.next.new.self c.next.result c.in-None.is c.next.ensures.steps in
     record {
-      rolled = λ filters rows is. subst (λ (es : Entries). IsRolled c.args.finer.now c.args.set.now (map (bound filters) c.args.functions.now) c.loop-key.rolled (es ++ others) (all_entries shards) rows) none (i.rolled filters rows is);
-      each = subst (λ (es : Entries). AllByRecursion (λ e. fin.get t (data_of e.0.items) ≡ Some e.1) (es ++ others)) none i.each;
+      rolled = λ filters rows is. subst (λ (es : Entries). IsRolled c.args.finer.now c.args.set.now (map (aggregate_of filters) c.args.functions.now) c.loop-key.rolled (es ++ others) (all_entries shards) rows) none (i.rolled filters rows is);
+      each = subst (λ (es : Entries). AllByRecursion (λ e. fin.get t (key_in e.0) ≡ Some e.1) (es ++ others)) none i.each;
     }
 
 pub returns : goal.returns
@@ -126,7 +127,7 @@ returns c =
     let same : shards ≡ c.self.inside.shards.items = c.deref-shard-items.ensures.value in
     let index = c.loop-shard.shard-index in
     record {
-      rolled = λ filters rows is. rolled-all c.args.finer.now c.args.set.now (map (bound filters) c.args.functions.now) c.args.self.now c.loop-shard.rolled (all_entries (drop index shards)) (all_entries shards) rows
+      rolled = λ filters rows is. rolled-all c.args.finer.now c.args.set.now (map (aggregate_of filters) c.args.functions.now) c.args.self.now c.loop-shard.rolled (all_entries (drop index shards)) (all_entries shards) rows
           (ap contents_of_shards same ∙ c.self.view_is) (distinct-read shards c.self.inside.shards.items same c.self.inside.apart)
           (ap all_entries (drop_all index shards c.loop-shard-test.false)) is (c.loop-shard.invariant.rolled filters rows is);
     }

@@ -4,7 +4,7 @@ use Rattle.std.proofs.lemmas.List.{drop_more, drop_all}
 use Rattle.std.specs.List.{IsDistinct}
 use Rattle.std.specs.Map.{keys_of}
 use Rattle.std.specs.FinMap as fin
-use Rattle.values.specs.Datum.{data_of}
+use Rattle.tables_groups.specs.Inside.Keys.{key_in}
 use Rattle.semantics.specs.Groups.{Key, key_order}
 use Rattle.tables_groups.specs.Inside.Group.{GroupState, no_group}
 use Rattle.tables_groups.specs.Inside.Shards.{AreApart, all_entries, contents_of_shards, entries_in}
@@ -60,7 +60,7 @@ loop-shard-preserved c =
 
 pub put_to_group-requires : goal.put_to_group-requires
 put_to_group-requires c =
-    let k = data_of c.new-2.result.items in
+    let k = key_in c.empty.result in
     let part = c.loop-shard.group in
     subst (λ (t : Contents). IsFitting part (fin.get t k)) (sym c.in_ok-one.ensures)
     (subst (λ (o : Option GroupState). IsFitting part o) (sym (fin.get-empty key_order k)) tt)
@@ -74,13 +74,12 @@ returns c =
     let group = c.loop-shard.group in
     let old = c.in_ok-one.one in
     let new = c.put_to_group.new.self in
-    let items = c.new-2.result.items in
     let none : all_entries (drop c.loop-shard.shard-index shards) ≡ [] = ap all_entries (drop_all c.loop-shard.shard-index shards c.loop-shard-test.false) in
     let whole : group ≡ group_with_entries (no_group fs) es = ap (group_with_entries group) (sym none) ∙ c.loop-shard.invariant.joined in
     let put : (k : Key) → IsPut fin.empty new [] (group_with_entries (no_group fs) es) k =
     λ k. subst (λ (t : Contents). IsPut t new [] (group_with_entries (no_group fs) es) k) c.in_ok-one.ensures
-    (subst (λ (key : Key). IsPut old new key (group_with_entries (no_group fs) es) k) (ap data_of c.new-2.ensures.items)
-    (subst (λ (g : GroupState). IsPut old new (data_of items) g k) whole (c.in_ok-put_to_group.ensures k))) in
+    (subst (λ (key : Key). IsPut old new key (group_with_entries (no_group fs) es) k) c.empty.ensures
+    (subst (λ (g : GroupState). IsPut old new (key_in c.empty.result) g k) whole (c.in_ok-put_to_group.ensures k))) in
     record {
       rolled = λ finer filters rows table. rolled-to_one finer fs filters c.args.self.now new es rows
           (ap contents_of_shards is ∙ c.self.view_is) (distinct-read shards c.self.inside.shards.items is c.self.inside.apart) table put;

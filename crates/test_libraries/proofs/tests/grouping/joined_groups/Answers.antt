@@ -1,6 +1,6 @@
 use Rattle.std.proofs.Common.{Bool, List, [], ◌∷◌, length, arith}
 use Rattle.std.proofs.lemmas.List.{length-map}
-use Rattle.tables_groups.specs.Functions.{bound}
+use Rattle.tables_groups.specs.Functions.{aggregate_of}
 use Rattle.semantics.specs.Groups.{Row, value_at}
 use Rattle.semantics.specs.Aggregates.{is_present}
 use Rattle.tables_groups.proofs.Meaning.{table-within, within-can_join}
@@ -16,4 +16,4 @@ absorb-requires c =
     let set = c.args.set.now in
     let fs = c.args.functions.now in
     within-can_join fs (length a.0) (length b.0) _ _ (omega (arith, a.1.1, b.1.1))
-    (table-within set fs _ _ a.0 (length a.0) (length-map fs (bound filters)) a.1.0 (omega arith)) (table-within set fs _ _ b.0 (length b.0) (length-map fs (bound filters)) b.1.0 (omega arith))
+    (table-within set fs _ _ a.0 (length a.0) (length-map fs (aggregate_of filters)) a.1.0 (omega arith)) (table-within set fs _ _ b.0 (length b.0) (length-map fs (aggregate_of filters)) b.1.0 (omega arith))

@@ -1,0 +1,13 @@
+mod Examples
+mod Fronts
+mod Lexemes
+mod Literals
+mod Marks
+pub mod Meaning
+mod Nested
+mod NumberExamples
+mod Parts
+mod PartsAt
+mod Passed
+mod Signs
+mod WholeNumbers

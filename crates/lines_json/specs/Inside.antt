@@ -1,0 +1,45 @@
+-- What stands inside a string, an array or an object of a JSON text. Private calls alone speak of it.
+use Rattle.std.specs.Prelude.{◌≡◌, ℕ, ◌+◌, ◌<◌, ◌≤◌, List, ◌∷◌, length, drop, get_or, Option}
+use Rattle.json.specs.Text.{Within, code_unit, content, plain, prepend}
+use Rattle.json.specs.Token.{string}
+use Rattle.json.specs.Lex.{token, colon, Mode, in_string, lex, fresh, after_value, punctuate}
+use Rattle.serde_json.specs.Data.{Items, Members}
+use Rattle.lines_json.specs.Meant.{AreItems, AreMembers}
+use Rattle.lines_json.specs.Standing.{lexemes}
+
+-- A part of a string stands in front of `rest`: it means these bytes, and the lexer passes over it.
+pub record IsPart (mode : Mode) (state : Within) (text bytes rest : List ℕ) : Type 0 where
+  pub means : content state text ≡ prepend bytes (content plain rest)
+  pub passes : lex mode text ≡ lex in_string rest
+
+-- Such a part stands at a place, and ends before another one.
+pub record IsPartAt (mode : Mode) (state : Within) (text : List ℕ) (at stop : ℕ) : Type 0 where
+  pub later : at < stop
+  pub within : stop ≤ length text
+  pub bytes : List ℕ
+  pub part : IsPart mode state (drop at text) bytes (drop stop text)
+
+-- the code unit that the four hexadecimal digits at a place spell
+abbrev pub code_unit_at : List ℕ → ℕ → Option ℕ
+code_unit_at text at = code_unit (get_or text at 0) (get_or text (at + 1) 0) (get_or text (at + 2) 0) (get_or text (at + 3) 0)
+
+-- A member's name stands at a place, with the colon behind it, and white space alone is between the colon and another place.
+pub record IsNameAt (text : List ℕ) (at start : ℕ) : Type 0 where
+  pub later : at < start
+  pub within : start ≤ length text
+  pub name : List ℕ
+  pub stands : lexemes text at ≡ token (string name) ∷ colon ∷ lexemes text start
+
+-- The items of an array stand at a place, behind the opening bracket, and the closing bracket ends before another place.
+pub record AreItemsAt (text : List ℕ) (depth at stop : ℕ) : Type 0 where
+  pub later : at < stop
+  pub within : stop ≤ length text
+  pub meant : Items
+  pub stand : AreItems depth (punctuate fresh (lexemes text at)) meant (punctuate after_value (lexemes text stop))
+
+-- The members of an object stand at a place, behind the opening brace, and the closing brace ends before another place.
+pub record AreMembersAt (text : List ℕ) (depth at stop : ℕ) : Type 0 where
+  pub later : at < stop
+  pub within : stop ≤ length text
+  pub meant : Members
+  pub stand : AreMembers depth (punctuate fresh (lexemes text at)) meant (punctuate after_value (lexemes text stop))

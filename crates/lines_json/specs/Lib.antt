@@ -1,0 +1,4 @@
+pub mod Inside
+pub mod Meant
+pub mod NumberParts
+pub mod Standing

@@ -1,0 +1,20 @@
+//! JSON by its bytes (RFC 8259): where a value ends that begins at a place of a text, without tokens and without memory.
+//!
+//! `None` says nothing of the text: whoever asks goes on by other means.
+#![tactic(auto)]
+
+mod bytes;
+mod escapes;
+mod numbers;
+mod numerals;
+mod plain;
+mod strings;
+mod value;
+mod words;
+
+pub use bytes::{byte_at, space_end};
+pub use numbers::{number_end, whole_number_at};
+pub use numerals::{has_value, whole_number};
+pub use strings::{plain_string_end, string_end};
+pub use value::value_end;
+pub use words::{bool_at, null_end};

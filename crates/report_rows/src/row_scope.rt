@@ -1,0 +1,54 @@
+//! What the names of HAVING stand for.
+ghost use Rattle.std.specs.Prelude.{◌≤◌, length};
+ghost use Rattle.semantics.specs.SetFunctions.{functions_of};
+
+use crate::source::{Source, name_source, source_of};
+use crate::view::PlanView;
+use query_eval::{Scope, Source as ValueSource};
+use query_plan::{Expression, Text};
+
+/// The scope of HAVING for the rows of a grouping set: the values of a row are those of its key, and behind them those of
+/// its cells.
+#[derive(Drop)]
+pub(crate) struct RowScope<'a, 'p> {
+    pub plan: &'a PlanView<'p>,
+    pub set: &'a [usize],
+    ghost few: { length (functions_of plan.now.fields plan.now.query) ≤ 64 },
+}
+
+impl RowScope<'_, '_> {
+    ghost use Rattle.semantics.specs.Syntax.{ExpressionForm};
+    ghost use Rattle.query_eval.specs.Binding.{GivesExpression};
+    ghost use Rattle.report_rows.specs.Having.{row_scope};
+    ghost use Rattle.report_rows.specs.Sources.{IsSourceOf, IsWithin};
+
+    /// Where the list of the values of a row has what is at a place of the row.
+    fn value_source(&self, source: Source) -> ValueSource
+        requires { IsWithin (length self.now.set.now)
+            (length (functions_of self.now.plan.now.fields self.now.plan.now.query)) source }
+        ensures { (e : ExpressionForm) → IsSourceOf self.now.plan.now self.now.set.now e source
+            → GivesExpression (row_scope self.now.plan.now self.now.set.now) e result }
+    {
+        match source {
+            Source::KeyAt(place) => ValueSource::Value(place),
+            Source::CellAt(place) => ValueSource::Value(self.set.len() + place),
+            Source::Always(value) => ValueSource::Literal(value),
+        }
+    }
+}
+
+impl Scope for RowScope<'_, '_> {
+    ghost use Rattle.report_rows.specs.Having.{row_scope};
+
+    ghost form = { λ scope. row_scope scope.plan.now scope.set.now };
+
+    /// Where the value that the rows show for the column of a name is.
+    fn name_source(&self, column: &Text) -> ValueSource {
+        self.value_source(name_source(self.plan.schema().columns(), self.set, column))
+    }
+
+    /// Where the value that the rows show for an expression is.
+    fn expression_source(&self, expression: &Expression) -> ValueSource {
+        self.value_source(source_of(self.plan, self.set, expression))
+    }
+}

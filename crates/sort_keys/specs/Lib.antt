@@ -1,0 +1,4 @@
+pub mod Codes
+pub mod SortKeys
+pub mod Laws
+pub mod Decoding

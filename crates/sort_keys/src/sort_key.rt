@@ -1,0 +1,89 @@
+//! Codes as a sort has them at hand.
+ghost use Rattle.std.specs.Prelude.{◌≡◌, drop};
+ghost use Rattle.sort_keys.specs.SortKeys.{digits_of};
+
+use std::alloc::{AllocError, Global};
+use std::cmp::Ordering;
+
+/// How many bytes of a code one number has.
+const NUMBER_BYTES: usize = 16;
+
+/// A code as a sort has it at hand: two numbers, which tell most codes apart, and the rest.
+///
+/// Example: the key of a code of 20 bytes has no rest, and takes no memory of its own.
+#[derive(Drop)]
+pub struct SortKey {
+    /// The first 16 bytes as one number, the first byte highest, with zeros behind a shorter code.
+    first: u128,
+    /// The 16 bytes behind them, in the same way.
+    second: u128,
+    /// The bytes behind these.
+    rest: Vec<u8>,
+}
+
+/// The first bytes of a code as the digits of one number, the first one highest, with zeros behind a shorter code.
+fn digits_of(code: &[u8]) -> u128
+    ensures { result ≡ digits_of code.now }
+{
+    let len = code.len().min(NUMBER_BYTES);
+    let mut digits = [0; NUMBER_BYTES];
+    digits[..len].copy_from_slice(&code[..len]);
+    u128::from_be_bytes(digits)
+}
+
+/// The bytes of a code behind the first ones.
+fn behind(code: &[u8]) -> &[u8]
+    ensures { result.now ≡ drop 16 code.now }
+{
+    code.get(NUMBER_BYTES..).unwrap_or(&[])
+}
+
+impl SortKey {
+    ghost use Rattle.std.specs.Prelude.{◌≡◌, IfOk};
+    ghost use Rattle.std.specs.Ordering.{nat_cmp, ordering_then};
+    ghost use Rattle.std.specs.Cmp.Lexicographic.{slice_cmp};
+    ghost use Rattle.sort_keys.specs.SortKeys.{key_parts, parts_of, parts_order};
+
+    /// The key of a code.
+    ///
+    /// Example: `SortKey::new(alloc, &[2, 255])?` is the key of True and NULL.
+    ///
+    /// # Errors
+    ///
+    /// `AllocError` where there is no memory for the bytes behind the first 32.
+    pub fn new(alloc: Global, code: &[u8]) -> Result<SortKey, AllocError>
+        ensures { IfOk result (λ key. key_parts key ≡ parts_of code.now) }
+    {
+        let next = behind(code);
+        let mut rest = Vec::new(alloc);
+        rest.extend_from_slice(behind(next))?;
+        Ok(SortKey {
+            first: digits_of(code),
+            second: digits_of(next),
+            rest,
+        })
+    }
+
+    /// How two keys stand to each other: as their codes do, byte by byte.
+    ///
+    /// Example: the key of the bytes 1 and 2 is before that of the byte 3.
+    pub fn compare(&self, other: &SortKey) -> Ordering
+        ensures { result ≡ parts_order (key_parts self.now) (key_parts other.now) }
+    {
+        match self.first.cmp(&other.first) {
+            Ordering::Equal => self.compare_behind(other),
+            order => order,
+        }
+    }
+
+    /// How two keys with the same first number stand to each other.
+    fn compare_behind(&self, other: &SortKey) -> Ordering
+        ensures { result ≡ ordering_then (nat_cmp self.now.second other.now.second)
+            (slice_cmp nat_cmp self.now.rest.items other.now.rest.items) }
+    {
+        match self.second.cmp(&other.second) {
+            Ordering::Equal => self.rest.as_slice().cmp(other.rest.as_slice()),
+            order => order,
+        }
+    }
+}

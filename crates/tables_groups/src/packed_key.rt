@@ -1,0 +1,99 @@
+//! Keys as strings of bytes.
+ghost use Rattle.std.specs.Prelude.{◌≡◌, ◌++◌, OnOk};
+ghost use Rattle.values.specs.Datum.{data_of};
+ghost use Rattle.semantics.specs.Groups.{value_at};
+ghost use Rattle.sort_keys.specs.Codes.{value_code};
+ghost use Rattle.sort_keys.specs.Decoding.{IsStorable, KeyOf};
+ghost use Rattle.sort_keys.proofs.Decoding.{KeyOf-prop};
+
+use sort_keys::{put_value, values_of};
+use std::alloc::{AllocError, Global};
+use std::hash::{Hash, Hasher};
+use values::Value;
+
+/// A key of a table: the codes of its values, one after the other. No two keys have one code, so that keys are hashed and
+/// compared as strings of bytes.
+#[derive(PartialEq, Eq, Drop)]
+pub(crate) struct PackedKey {
+    code: Vec<u8>,
+    ghost of_key: { KeyOf code.items } by { KeyOf-prop code.items },
+}
+
+// A derived one would hash byte by byte.
+impl Hash for PackedKey {
+    ghost use Rattle.std.specs.Prelude.{[], ◌∷◌};
+    ghost use Rattle.std.specs.Cmp.Lexicographic.{bytes_decides};
+    ghost use Rattle.std.proofs.Common.{ap};
+
+    ghost hash_input = { λ key. key.code.items ∷ [] };
+
+    ghost respects_eq = { λ x y h.
+        ap (λ s. s ∷ []) ((bytes_decides x.code.items y.code.items).0 h) };
+
+    fn hash<H: Hasher>(&self, state: &mut H) {
+        state.write(self.code.as_slice());
+    }
+}
+
+impl PackedKey {
+    ghost use Rattle.std.specs.Prelude.{◌≡◌, [], IfOk};
+    ghost use Rattle.values.specs.Datum.{data_of};
+    ghost use Rattle.semantics.specs.Groups.{project};
+    ghost use Rattle.sort_keys.specs.Codes.{values_code};
+    ghost use Rattle.tables_groups.specs.Inside.Keys.{key_in};
+
+    /// The key that has no value.
+    pub(crate) fn empty(alloc: Global) -> PackedKey
+        ensures { key_in result ≡ [] }
+    {
+        PackedKey {
+            code: Vec::new(alloc),
+        }
+    }
+
+    /// The values of a record in the columns of a grouping set, in the memory of this key.
+    pub(crate) fn rewrite(self, set: &[usize], row: &[Value]) -> Result<PackedKey, AllocError>
+        ensures { IfOk result (λ key. key_in key ≡ project set.now (data_of row.now)) }
+    {
+        let PackedKey { mut code } = self;
+        code.clear();
+        for place in set {
+            put_value_at(&mut code, row, *place)?;
+        }
+        Ok(PackedKey { code })
+    }
+
+    /// A copy of the key, with room for no more.
+    pub(crate) fn copy(&self, alloc: Global) -> Result<PackedKey, AllocError>
+        ensures { IfOk result (λ copy. key_in copy ≡ key_in self.now) }
+    {
+        let code = Vec::from_slice(alloc, self.code.as_slice())?;
+        Ok(PackedKey { code })
+    }
+
+    /// Its values, in a list with room for so many from the start.
+    pub(crate) fn values(&self, alloc: Global, room: usize) -> Result<Vec<Value>, AllocError>
+        ensures { IfOk result (λ values. data_of values.items ≡ key_in self.now) }
+    {
+        values_of(alloc, room, self.code.as_slice())
+    }
+
+    /// Its code.
+    pub(crate) fn code(&self) -> &[u8]
+        ensures { result.now ≡ values_code (key_in self.now) }
+    {
+        self.code.as_slice()
+    }
+}
+
+/// Puts the code of the value in the column at a place behind other bytes; where there is no such column it counts as NULL.
+fn put_value_at(code: &mut Vec<u8>, row: &[Value], place: usize) -> Result<(), AllocError>
+    ensures code { OnOk result (code.new.items
+        ≡ code.old.items ++ value_code (value_at place (data_of row.now))) }
+    ensures storable { IsStorable (value_at place (data_of row.now)) }
+{
+    match row.get(place) {
+        Some(value) => put_value(code, value),
+        None => put_value(code, &Value::Null),
+    }
+}
