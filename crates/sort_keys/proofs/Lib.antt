@@ -7,3 +7,4 @@ mod Loops
 mod Texts
 mod Examples
 pub mod Decoding
+mod Lengths

@@ -1,5 +1,5 @@
 -- The values that codes are of.
-use Rattle.std.specs.Prelude.{◌≡◌, ◌<◌, ◌^◌, ◌+ℤ◌, ◌-ℤ◌, ℕ, suc, ℤ, pos, ⊤, List, ◌∷◌, ◌++◌, map}
+use Rattle.std.specs.Prelude.{◌≡◌, ◌<◌, ◌^◌, ◌+ℤ◌, ◌-ℤ◌, ℕ, suc, ℤ, pos, ⊤, List, ◌∷◌, ◌++◌, length, map}
 use Rattle.std.specs.Int.{bytes_high_first}
 use Rattle.std.specs.List.{AllByRecursion}
 use Rattle.std.specs.Str.{IsUtf8}
@@ -16,6 +16,14 @@ IsStorable null = ⊤
 -- Where bytes begin with the code of a value, they do with that of this one, and the rest stands behind it.
 abbrev pub IsSplit : List ℕ → Datum → List ℕ → Type 0
 IsSplit code value rest = (d : Datum) (s : List ℕ) → IsStorable d → code ≡ value_code d ++ s → (value ≡ d) × (rest ≡ s)
+
+-- Where bytes begin with the code of a value, it has so many bytes.
+abbrev pub IsCodeLength : List ℕ → ℕ → Type 0
+IsCodeLength code len = (d : Datum) (s : List ℕ) → IsStorable d → code ≡ value_code d ++ s → len ≡ length (value_code d)
+
+-- Where bytes begin with the code of a value, the front is this code, and the rest is what stands behind it.
+abbrev pub IsCodeSplit : List ℕ → List ℕ → List ℕ → Type 0
+IsCodeSplit code front rest = (d : Datum) (s : List ℕ) → IsStorable d → code ≡ value_code d ++ s → (front ≡ value_code d) × (rest ≡ s)
 
 -- Where bytes are the codes of values, one after the other, these are the values.
 abbrev pub AreDecoded : List ℕ → List Datum → Type 0

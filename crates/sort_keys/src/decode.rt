@@ -1,9 +1,10 @@
 //! Values, read from their codes.
-ghost use Rattle.std.specs.Prelude.{◌≡◌, ◌-◌, ◌==◌, ◌<◌, ◌≤◌, ◌≤ℤ◌, pos, IfOk, length, map, position};
+ghost use Rattle.std.specs.Prelude.{◌≡◌, ◌-◌, ◌<◌, ◌≤◌, ◌≤ℤ◌, pos, IfOk, length, map};
 ghost use Rattle.values.specs.Datum.{data_of, datum_of};
 ghost use Rattle.sort_keys.specs.Decoding.{AreDecoded, IsNumberSplit, IsSplit, IsTextSplit, IsWideSplit};
 
-use crate::code::{FALSE, HALF, NUMBER, NUMBER_ABOVE, NUMBER_BELOW, TEXT, TEXT_END, TRUE};
+use crate::code::{FALSE, HALF, NUMBER, NUMBER_ABOVE, NUMBER_BELOW, TEXT, TRUE};
+use crate::split::text_len;
 use std::alloc::{AllocError, Global};
 use values::Value;
 
@@ -90,13 +91,6 @@ fn split_text(alloc: Global, code: &[u8]) -> Result<(Value, &[u8]), AllocError>
         Ok(text) => Ok((Value::Text(text), rest)),
         Err(_) => Ok((Value::Null, rest)),
     }
-}
-
-/// How many bytes stand in front of the end of a text.
-fn text_len(code: &[u8]) -> Option<usize>
-    ensures { result ≡ position (λ b. b == 0) code.now }
-{
-    code.iter().position(|byte| *byte == TEXT_END)
 }
 
 /// Bytes, each less by one than here.
