@@ -97,9 +97,16 @@ fn split_text(alloc: Global, code: &[u8]) -> Result<(Value, &[u8]), AllocError>
 fn lowered(alloc: Global, bytes: &[u8]) -> Result<Vec<u8>, AllocError>
     ensures { IfOk result (λ low. low.items ≡ map (λ b. b - 1) bytes.now) }
 {
-    let mut low = Vec::with_capacity(alloc, bytes.len())?;
-    for byte in bytes {
-        low.push(byte.saturating_sub(1))?;
-    }
+    let mut low = Vec::from_slice(alloc, bytes)?;
+    lower(low.as_mut_slice());
     Ok(low)
+}
+
+/// Makes each of these bytes less by one, but for those that are 0.
+fn lower(bytes: &mut [u8])
+    ensures { bytes.new ≡ map (λ b. b - 1) bytes.old }
+{
+    for byte in bytes.iter_mut() {
+        *byte = byte.saturating_sub(1);
+    }
 }
