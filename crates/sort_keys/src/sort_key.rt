@@ -25,6 +25,16 @@ pub struct SortKey {
 fn digits_of(code: &[u8]) -> u128
     ensures { result ≡ digits_of code.now }
 {
+    match code.first_chunk::<NUMBER_BYTES>() {
+        Some(digits) => u128::from_be_bytes(*digits),
+        None => padded_digits(code),
+    }
+}
+
+/// The same, by way of a copy with the zeros behind it.
+fn padded_digits(code: &[u8]) -> u128
+    ensures { result ≡ digits_of code.now }
+{
     let len = code.len().min(NUMBER_BYTES);
     let mut digits = [0; NUMBER_BYTES];
     digits[..len].copy_from_slice(&code[..len]);

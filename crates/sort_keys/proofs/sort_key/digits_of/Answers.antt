@@ -1,12 +1,11 @@
-use Rattle.std.proofs.Common.{◌≡◌, ◌∙◌, ◌++◌, ℕ, List, drop, replicate, slice_index, get_or, subst, sym}
-use Rattle.sort_keys.proofs.Digits.{number-digits, padded}
+use Rattle.std.proofs.Common.{◌≡◌, ◌∙◌, get_or, slice_index, List, ℕ, sym, subst}
+use Rattle.std.proofs.lemmas.List.{get_or-take}
+use Rattle.sort_keys.proofs.Digits.{number-digits}
 use Rattle.sort_keys.proofs.sort_key.digits_of.Goals as goal
 
-pub returns : goal.returns
-returns c =
+pub returns-in-Some : goal.returns-in-Some
+returns-in-Some c =
     let code = c.args.code.now in
-    let len = c.min-len.result in
-    let zeros : List ℕ = drop len (replicate 16 0) in
     c.from_be_bytes.ensures
-    ∙ number-digits code (c.copy_from_slice.new.self ++ zeros)
-    (λ i low. subst (λ (front : List ℕ). slice_index (front ++ zeros) i ≡ get_or code i 0) (sym c.copy_from_slice.ensures.after) (padded code len c.min-len.ensures i low))
+    ∙ number-digits code c.in-Some.digits.now
+    (λ i low. subst (λ (front : List ℕ). slice_index front i ≡ get_or code i 0) (sym c.in-Some.ensures.cases.same) (get_or-take 16 code i 0 low))
