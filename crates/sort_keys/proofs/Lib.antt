@@ -8,3 +8,4 @@ mod Texts
 mod Examples
 pub mod Decoding
 mod Lengths
+mod Ends

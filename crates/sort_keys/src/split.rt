@@ -1,14 +1,18 @@
 //! Codes, parted from the bytes behind them.
-ghost use Rattle.std.specs.Prelude.{◌≡◌, ◌==◌, ◌<◌, ◌++◌, length, position};
+ghost use Rattle.std.specs.Prelude.{◌≡◌, ◌==◌, ◌<◌, ◌++◌, Some, IfSome, length, position};
 ghost use Rattle.sort_keys.specs.Decoding.{IsCodeLength, IsCodeSplit};
 
 use crate::code::{NUMBER, NUMBER_ABOVE, NUMBER_BELOW, TEXT, TEXT_END};
+use memchr::memchr;
 
 /// How many bytes the code of a number of 64 bits has.
 const NUMBER_LEN: usize = 9;
 
 /// How many bytes the code of any other number has.
 const WIDE_LEN: usize = 17;
+
+/// Among how many bytes the end of a text is looked for first.
+const SHORT: usize = 16;
 
 /// The code of the value that stands in front of other bytes, and these. Bytes that begin with no code are parted somewhere
 /// behind the first one.
@@ -47,6 +51,27 @@ fn code_len(code: &[u8]) -> usize
 /// How many bytes stand in front of the end of a text.
 #[inline]
 pub(crate) fn text_len(code: &[u8]) -> Option<usize>
+    ensures { result ≡ position (λ b. b == 0) code.now }
+{
+    // Most texts are short.
+    match short_text_len(code) {
+        Some(len) => Some(len),
+        None => memchr(TEXT_END, code),
+    }
+}
+
+/// The same, where the end is among the first bytes. Their number is fixed, so that none is counted.
+#[inline]
+fn short_text_len(code: &[u8]) -> Option<usize>
+    ensures { IfSome result (λ len. position (λ b. b == 0) code.now ≡ Some len) }
+{
+    let front = code.first_chunk::<SHORT>()?;
+    place_of_end(front)
+}
+
+/// The place of the first byte that ends a text.
+#[inline]
+fn place_of_end(code: &[u8]) -> Option<usize>
     ensures { result ≡ position (λ b. b == 0) code.now }
 {
     code.iter().position(|byte| *byte == TEXT_END)
