@@ -14,6 +14,7 @@ pub mod Rolled
 pub mod AnyOrder
 pub mod SameRecords
 pub mod Rolling
+pub mod Hashes
 pub mod Shards
 pub mod InPairs
 pub mod Walks

@@ -13,6 +13,8 @@ use Rattle.tables_groups.specs.Inside.Group.{GroupState}
 use Rattle.tables_groups.specs.Inside.Table.{CanJoin, Contents, IsFitting, IsJoined, joint_option, entries_by_key}
 use Rattle.tables_groups.specs.Inside.Shards.{AreApart, AreJoined, CanJoinEach, all_entries, contents_in, contents_of_shards, digest, entries_in, shard_index}
 use Rattle.tables_groups.specs.declared.shard.Shard.{Shard}
+use Rattle.sort_keys.specs.Codes.{values_code}
+use Rattle.tables_groups.proofs.Hashes.{hash-below}
 use Rattle.tables_groups.proofs.Order.{key_total, same_key-Decides, key_eq-ties}
 use Rattle.tables_groups.proofs.Entries.{Entries, key_eq, find-first, none_after, options-none}
 
@@ -84,7 +86,7 @@ find-place m n (suc i) (s ∷ ss) d k a p l =
 -- the number of a place is below the number of shards
 pub place-below : (n : ℕ) (k : Key) → 0 < n → shard_index n k < n
 place-below n k some =
-    let d : digest k < 4294967296 = omega arith in
+    let d : digest k < 4294967296 = hash-below (values_code k) in
     let e : digest k * n < 4294967296 * n = mul-lt-mul_of_pos_right d some in
     div_below (digest k * n) 4294967296 n (omega arith) (omega (arith, e))
 

@@ -1,12 +1,13 @@
 //! Keys as strings of bytes.
-ghost use Rattle.std.specs.Prelude.{◌≡◌, ◌++◌, OnOk};
+ghost use Rattle.std.specs.Prelude.{◌≡◌, ◌++◌, OnOk, map, slice_index_or};
 ghost use Rattle.values.specs.Datum.{data_of};
 ghost use Rattle.semantics.specs.Groups.{value_at};
+ghost use Rattle.semantics.specs.Values.{null};
 ghost use Rattle.sort_keys.specs.Codes.{value_code};
 ghost use Rattle.sort_keys.specs.Decoding.{IsStorable, KeyOf};
 ghost use Rattle.sort_keys.proofs.Decoding.{KeyOf-prop};
 
-use sort_keys::{put_value, values_of};
+use sort_keys::{put_value, split_code, values_of};
 use std::alloc::{AllocError, Global};
 use std::hash::{Hash, Hasher};
 use values::Value;
@@ -36,10 +37,10 @@ impl Hash for PackedKey {
 }
 
 impl PackedKey {
-    ghost use Rattle.std.specs.Prelude.{◌≡◌, [], IfOk};
+    ghost use Rattle.std.specs.Prelude.{◌≡◌, [], IfOk, OnOk, map};
     ghost use Rattle.values.specs.Datum.{data_of};
     ghost use Rattle.semantics.specs.Groups.{project};
-    ghost use Rattle.sort_keys.specs.Codes.{values_code};
+    ghost use Rattle.sort_keys.specs.Codes.{value_code, values_code};
     ghost use Rattle.tables_groups.specs.Inside.Keys.{key_in};
 
     /// The key that has no value.
@@ -51,16 +52,58 @@ impl PackedKey {
         }
     }
 
+    /// Its memory, with no byte in it.
+    fn into_memory(self) -> Vec<u8>
+        ensures { result.items ≡ [] }
+    {
+        let PackedKey { mut code } = self;
+        code.clear();
+        code
+    }
+
     /// The values of a record in the columns of a grouping set, in the memory of this key.
     pub(crate) fn rewrite(self, set: &[usize], row: &[Value]) -> Result<PackedKey, AllocError>
         ensures { IfOk result (λ key. key_in key ≡ project set.now (data_of row.now)) }
     {
-        let PackedKey { mut code } = self;
-        code.clear();
+        let mut code = self.into_memory();
         for place in set {
             put_value_at(&mut code, row, *place)?;
         }
         Ok(PackedKey { code })
+    }
+
+    /// The values of another key at some places, in the memory of this key; where the other one has no such place it is NULL.
+    /// No value is made: the codes of the other key's values, which the list takes, are put one after the other.
+    pub(crate) fn rewrite_from<'a>(
+        self,
+        places: &[usize],
+        other: &'a PackedKey,
+        pieces: &mut Vec<&'a [u8]>,
+    ) -> Result<PackedKey, AllocError>
+        ensures { IfOk result (λ key. key_in key ≡ project places.now (key_in other.now)) }
+    {
+        other.split(pieces)?;
+        let pieces = pieces.as_slice();
+        let mut code = self.into_memory();
+        for place in places {
+            put_piece_at(&mut code, pieces, *place)?;
+        }
+        Ok(PackedKey { code })
+    }
+
+    /// The codes of its values, each by itself, in the memory of a list.
+    fn split<'a>(&'a self, pieces: &mut Vec<&'a [u8]>) -> Result<(), AllocError>
+        ensures { OnOk result (map (λ piece. piece.now) pieces.new.items
+            ≡ map value_code (key_in self.now)) }
+    {
+        pieces.clear();
+        let mut rest = self.code.as_slice();
+        while !rest.is_empty() {
+            let (piece, behind) = split_code(rest);
+            pieces.push(piece)?;
+            rest = behind;
+        }
+        Ok(())
     }
 
     /// A copy of the key, with room for no more.
@@ -94,6 +137,17 @@ fn put_value_at(code: &mut Vec<u8>, row: &[Value], place: usize) -> Result<(), A
 {
     match row.get(place) {
         Some(value) => put_value(code, value),
+        None => put_value(code, &Value::Null),
+    }
+}
+
+/// Puts the piece at a place behind other bytes; where there is no such piece the code of NULL.
+fn put_piece_at(code: &mut Vec<u8>, pieces: &[&[u8]], place: usize) -> Result<(), AllocError>
+    ensures { OnOk result (code.new.items ≡ code.old.items
+        ++ slice_index_or (map (λ piece. piece.now) pieces.now) place (value_code null)) }
+{
+    match pieces.get(place) {
+        Some(piece) => code.extend_from_slice(piece),
         None => put_value(code, &Value::Null),
     }
 }

@@ -1,8 +1,7 @@
 //! Which shard of a table keeps a key.
 ghost use Rattle.std.specs.Prelude.{◌≡◌, ◌<◌, ◌≤◌, ◌^◌};
-ghost use Rattle.std.specs.List.{fold};
 ghost use Rattle.tables_groups.specs.Inside.Keys.{key_in};
-ghost use Rattle.tables_groups.specs.Inside.Shards.{last_bytes, hash_step, shard_index};
+ghost use Rattle.tables_groups.specs.Inside.Shards.{code_hash, last_bytes, shard_index};
 
 use crate::packed_key::PackedKey;
 
@@ -11,6 +10,9 @@ pub(crate) const SHARDS: usize = 4;
 
 /// The length of the suffix of a key's code that is hashed.
 const HASHED_SUFFIX_LEN: usize = 16;
+
+/// The odd number that parts 2^128 in the golden ratio, by which multiplicative hashing multiplies.
+const MULTIPLIER: u128 = 210_306_068_529_402_873_165_736_369_884_012_333_109;
 
 /// The number of the shard that keeps a key among so many of them. Where there is one, the key is not looked at.
 pub(crate) fn place_of(key: &PackedKey, count: usize) -> usize
@@ -22,28 +24,26 @@ pub(crate) fn place_of(key: &PackedKey, count: usize) -> usize
     if count == 1 {
         return 0;
     }
-    let digest = hash_step(suffix_hash(key.code()), 0);
-    (digest * count as u64 / 4_294_967_296) as usize
+    (hash_of(key.code()) * count as u64 / 4_294_967_296) as usize
 }
 
-/// The hash of the suffix of a code.
-fn suffix_hash(code: &[u8]) -> u64
-    ensures value { result ≡ fold hash_step 0 (last_bytes code.now) }
+/// The hash of a code: of its suffix alone.
+fn hash_of(code: &[u8]) -> u64
+    ensures value { result ≡ code_hash code.now }
     ensures below { result < 2 ^ 32 }
 {
-    let mut digest = 0;
-    for byte in &code[code.len().saturating_sub(HASHED_SUFFIX_LEN)..] {
-        digest = hash_step(digest, u64::from(*byte));
+    let number = u128::from_be_bytes(last_bytes(code));
+    (number.wrapping_mul(MULTIPLIER) >> 96) as u64
+}
+
+/// The suffix of a code that is hashed, with zeros in front of a shorter code.
+fn last_bytes(code: &[u8]) -> [u8; HASHED_SUFFIX_LEN]
+    ensures { result ≡ last_bytes code.now }
+{
+    if let Some(bytes) = code.last_chunk::<HASHED_SUFFIX_LEN>() {
+        return *bytes;
     }
-    digest
-}
-
-/// One step of the hash: one more number is hashed into it.
-fn hash_step(digest: u64, number: u64) -> u64
-    requires digest { digest < 2 ^ 32 }
-    requires number { number < 2 ^ 32 }
-    ensures value { result ≡ hash_step digest number }
-    ensures below { result < 2 ^ 32 }
-{
-    (digest * 2_654_435_761 + number) % 4_294_967_296
+    let mut bytes = [0; HASHED_SUFFIX_LEN];
+    bytes[HASHED_SUFFIX_LEN - code.len()..].copy_from_slice(code);
+    bytes
 }

@@ -264,16 +264,14 @@ impl Table {
             return self.roll_to_one(functions);
         }
         let indices = indices_in(self.alloc, finer, set)?;
+        let indices = indices.as_slice();
+        let mut pieces = Vec::with_capacity(self.alloc, finer.len())?;
         let mut rolled = Table::new(self.alloc, set, functions)?;
         for shard in &self.shards {
             for (key, part) in &shard.groups {
-                let values = key.values(self.alloc, finer.len())?;
-                rolled.put(
-                    indices.as_slice(),
-                    functions,
-                    values.as_slice(),
-                    Part::Copies(part),
-                )?;
+                let scratch = rolled.take_scratch();
+                let coarser = scratch.rewrite_from(indices, key, &mut pieces)?;
+                rolled.put_by_key(coarser, functions, Part::Copies(part))?;
             }
         }
         Ok(rolled)
@@ -374,8 +372,28 @@ impl Table {
         ensures { OnOk result ((k : Key) → IsWithPart functions.now self.old self.new
             (project set.now (data_of row.now)) part.entry k) }
     {
-        let scratch = mem::replace(&mut self.scratch, PackedKey::empty(self.alloc));
-        let key = scratch.rewrite(set, row)?;
+        let key = self.take_scratch().rewrite(set, row)?;
+        self.put_by_key(key, functions, part)
+    }
+
+    /// Takes the key by which a group was last searched out of the table, for its memory.
+    fn take_scratch(&mut self) -> PackedKey
+        ensures { self.new ≡ self.old }
+    {
+        mem::replace(&mut self.scratch, PackedKey::empty(self.alloc))
+    }
+
+    /// Puts one more part to the group of a key, and keeps the key as the one by which a group was last searched.
+    fn put_by_key(
+        &mut self,
+        key: PackedKey,
+        functions: &[FilteredFunction],
+        part: Part<'_>,
+    ) -> Result<(), AllocError>
+        requires { IsTaken functions.now (fin.get self.old (key_in key)) part }
+        ensures { OnOk result ((k : Key) → IsWithPart functions.now self.old self.new
+            (key_in key) part.entry k) }
+    {
         self.scratch = key;
         let place = place_of(&self.scratch, self.shards.len());
         self.shards[place].put(self.alloc, &self.scratch, functions, part)

@@ -1,7 +1,8 @@
 -- The shards of a table. Each keeps the groups of some keys, and which these are is told by a hash of a key's code.
 use Rattle.tables_groups.specs.declared.packed_key.PackedKey.{PackedKey}
-use Rattle.std.specs.Prelude.{◌≡◌, ◌+◌, ◌-◌, ◌*◌, ◌/◌, ◌%◌, ◌<◌, ℕ, List, IfSome, length, drop, get_or}
-use Rattle.std.specs.List.{fold, flat_map}
+use Rattle.std.specs.Prelude.{◌≡◌, ◌++◌, ◌*◌, ◌/◌, ◌%◌, ◌^◌, ◌<◌, ℕ, List, IfSome, length, drop, get_or, replicate}
+use Rattle.std.specs.Int.{from_be_bytes, w128}
+use Rattle.std.specs.List.{flat_map}
 use Rattle.std.specs.FinMap as fin
 use Rattle.semantics.specs.Groups.{Key}
 use Rattle.sort_keys.specs.Codes.{values_code}
@@ -11,17 +12,17 @@ use Rattle.tables_groups.specs.declared.shard.Shard.{Shard}
 
 -- ---- which shard keeps a key
 
--- one step of the hash: a number of 32 bits with one more number hashed into it. It is multiplied by the one that parts 2^32 in the golden ratio, as multiplicative hashing does
-abbrev pub hash_step : ℕ → ℕ → ℕ
-hash_step digest n = (digest * 2654435761 + n) % 4294967296
-
--- the last sixteen bytes of a code, or all of a shorter one
+-- the last sixteen bytes of a code, with zeros in front of a shorter one
 abbrev pub last_bytes : List ℕ → List ℕ
-last_bytes code = drop (length code - 16) code
+last_bytes code = drop (length code) (replicate 16 0 ++ code)
 
--- the hash of the last bytes of a key's code, of 32 bits
+-- the hash of a code, of 32 bits: the number of 128 bits that its last bytes are, the first one highest, is multiplied by the odd one that parts 2^128 in the golden ratio, and the upper 32 of the lowest 128 bits are the hash, as multiplicative hashing has it
+unfoldable pub code_hash : List ℕ → ℕ
+code_hash code = (from_be_bytes w128 (last_bytes code) * 210306068529402873165736369884012333109) % 2 ^ 128 / 2 ^ 96
+
+-- the hash of a key: that of its code
 abbrev pub digest : Key → ℕ
-digest key = hash_step (fold hash_step 0 (last_bytes (values_code key))) 0
+digest key = code_hash (values_code key)
 
 -- the index of the shard that keeps a key among n of them, below n: as far along them as its digest lies along the numbers of 32 bits
 abbrev pub shard_index : ℕ → Key → ℕ

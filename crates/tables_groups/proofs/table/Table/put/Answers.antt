@@ -1,64 +1,25 @@
-use Rattle.std.proofs.Common.{◌≡◌, ◌∙◌, ap, sym, subst, arith, length, get_or, set, Option, Some}
+use Rattle.std.proofs.Common.{◌≡◌, ap, sym, subst, ◌∙◌, Option}
 use Rattle.std.proofs.lemmas.Result.{on_ok_weaker}
 use Rattle.std.specs.FinMap as fin
-use Rattle.semantics.specs.Groups.{Key}
+use Rattle.values.specs.Datum.{data_of}
+use Rattle.semantics.specs.Groups.{Key, project}
 use Rattle.tables_groups.specs.Inside.Keys.{key_in}
 use Rattle.tables_groups.specs.Inside.Group.{GroupState}
-use Rattle.tables_groups.specs.Inside.Shards.{AreApart, contents_in, contents_of_shards, shard_index}
-use Rattle.tables_groups.specs.Inside.Table.{Contents, IsTaken, IsWithPart, group_with_part}
-use Rattle.tables_groups.specs.declared.shard.Shard.{Shard}
-use Rattle.tables_groups.proofs.Shards.{all-changed, apart-changed, get-place, within-all}
+use Rattle.tables_groups.specs.Inside.Table.{Contents, IsTaken, IsWithPart}
 use Rattle.tables_groups.proofs.table.Table.put.Goals as goal
 
-pub put-requires : goal.put-requires
-put-requires c =
-    let key = key_in c.in_ok-key.key in
-    let ss = c.self.inside.shards.items in
-    let s = c.index_mut.result.now in
-    let count : c.len.result ≡ length ss = let l = c.self.inside.shards.ok in omega (arith, l, c.len.ensures) in
-    let p : c.place_of-place.result ≡ shard_index (length ss) key = c.place_of-place.ensures.place ∙ ap (λ n. shard_index n key) count in
-    let is : s ≡ get_or ss (shard_index (length ss) key) s = c.index_mut.ensures.value ∙ ap (λ n. get_or ss n s) p in
+pub put_by_key-requires : goal.put_by_key-requires
+put_by_key-requires c =
     subst (λ (o : Option GroupState). IsTaken c.args.functions.now o c.args.part)
-    (ap (fin.get c.args.self.now) (sym c.in_ok-key.ensures)
-    ∙ ap (λ m. fin.get m key) (sym c.self.view_is)
-    ∙ get-place ss s key c.self.inside.apart (within-all c.self.inside.shards c.self.inside.some key)
-    ∙ ap (λ (x : Shard). fin.get (contents_in x) key) (sym is))
+    ((λ i. fin.get (sym c.take_scratch.ensures i) (sym c.in_ok-key.ensures i)))
     c.requires
-
-pub invariant_of-self-inside-2 : goal.invariant_of-self-inside-2
-invariant_of-self-inside-2 c =
-    let key = key_in c.in_ok-key.key in
-    let ss = c.self.inside.shards.items in
-    let s = c.index_mut.result.now in
-    let count : c.len.result ≡ length ss = let l = c.self.inside.shards.ok in omega (arith, l, c.len.ensures) in
-    let p : c.place_of-place.result ≡ shard_index (length ss) key = c.place_of-place.ensures.place ∙ ap (λ n. shard_index n key) count in
-    let is : s ≡ get_or ss (shard_index (length ss) key) s = c.index_mut.ensures.value ∙ ap (λ n. get_or ss n s) p in (
-      c.self.inside.some,
-      (
-        c.self.inside.few,
-        (
-          subst (λ n. AreApart (set ss n c.put.new.self)) (sym p)
-              (apart-changed ss s c.put.new.self key c.self.inside.apart (within-all c.self.inside.shards c.self.inside.some key) is c.put.ensures.others),
-          tt,
-        ),
-      ),
-    )
 
 pub returns : goal.returns
 returns c =
     let fs = c.args.functions.now in
     let part = c.args.part in
-    let key = key_in c.in_ok-key.key in
-    let ss = c.self.inside.shards.items in
-    let s = c.index_mut.result.now in
-    let new = c.put.new.self in
-    let count : c.len.result ≡ length ss = let l = c.self.inside.shards.ok in omega (arith, l, c.len.ensures) in
-    let p : c.place_of-place.result ≡ shard_index (length ss) key = c.place_of-place.ensures.place ∙ ap (λ n. shard_index n key) count in
-    let is : s ≡ get_or ss (shard_index (length ss) key) s = c.index_mut.ensures.value ∙ ap (λ n. get_or ss n s) p in
-    on_ok_weaker c.put.result
-    (λ (h : (k : Key) → IsWithPart fs (contents_in s) (contents_in new) key part k). λ (k : Key).
-    subst (λ (q : Key). IsWithPart fs c.args.self.now (contents_of_shards (set ss c.place_of-place.result new)) q part k) c.in_ok-key.ensures
-    (subst (λ (t : Contents). IsWithPart fs t (contents_of_shards (set ss c.place_of-place.result new)) key part k) c.self.view_is
-    (subst (λ n. IsWithPart fs (contents_of_shards ss) (contents_of_shards (set ss n new)) key part k) (sym p)
-    (all-changed (λ o. Some (group_with_part fs o part)) ss s new key c.self.inside.apart (within-all c.self.inside.shards c.self.inside.some) is c.put.ensures.others h k))))
-    c.put.ensures.put
+    on_ok_weaker c.put_by_key.result
+    (λ (h : (k : Key) → IsWithPart fs c.take_scratch.new.self c.put_by_key.new.self (key_in c.in_ok-key.key) part k). λ (k : Key).
+    subst (λ (q : Key). IsWithPart fs c.args.self.now c.put_by_key.new.self q part k) c.in_ok-key.ensures
+    (subst (λ (t : Contents). IsWithPart fs t c.put_by_key.new.self (key_in c.in_ok-key.key) part k) c.take_scratch.ensures (h k)))
+    c.put_by_key.ensures

@@ -9,13 +9,12 @@ use Rattle.std.specs.List.{IsDistinct, AllByRecursion}
 use Rattle.std.specs.Map.{keys_of}
 use Rattle.std.specs.Map.Iter.{deref_pair}
 use Rattle.std.specs.FinMap as fin
-use Rattle.values.specs.Datum.{data_of}
 use Rattle.semantics.specs.Groups.{Key, project}
 use Rattle.tables_groups.specs.Functions.{aggregate_of}
 use Rattle.tables_groups.specs.Inside.Group.{GroupState}
 use Rattle.tables_groups.specs.Inside.Shards.{AreApart, all_entries, contents_of_shards, entries_in}
 use Rattle.tables_groups.specs.Rolled.{rolled_key}
-use Rattle.tables_groups.specs.Inside.Table.{IsEnlarged, IsTableOf}
+use Rattle.tables_groups.specs.Inside.Table.{Contents, IsEnlarged, IsFittingNew, IsTableOf}
 use Rattle.tables_groups.specs.declared.shard.Shard.{Shard}
 use Rattle.tables_groups.proofs.Entries.{Entries, key_eq}
 use Rattle.tables_groups.proofs.Rolling.{IsRolled, fitting-prop, get-each, rolled-step, rolled-fitting, rolled-all}
@@ -64,8 +63,8 @@ loop-key-init c =
       each = subst (λ (es : Entries). AllByRecursion (λ e. fin.get t (key_in e.0) ≡ Some e.1) es) left i.each;
     }
 
-pub put-requires : goal.put-requires
-put-requires c =
+pub put_by_key-requires : goal.put_by_key-requires
+put_by_key-requires c =
     let shards : List Shard = c.deref-shard-items.result.now in
     let same : shards ≡ c.self.inside.shards.items = c.deref-shard-items.ensures.value in
     let finer = c.args.finer.now in
@@ -78,11 +77,12 @@ put-requires c =
     let e : PackedKey × GroupState = (c.in-Some.key.now, c.in-Some.part.now) in
     let more : c.loop-key.key-iterator ≡ e ∷ rest = rest_more (deref_pair {K = PackedKey} {X = GroupState}) c.loop-key.key-iterator rest c.next.result (c.in-Some.key, c.in-Some.part) c.in-Some.is c.next.ensures.steps in
     let each = subst (λ (es : Entries). AllByRecursion (λ e. fin.get t (key_in e.0) ≡ Some e.1) (es ++ others)) more i.each in
-    let key = project c.as_slice.result.now (data_of c.as_slice-in-loop-key.result.now) in
-    ∥∥₁_elim c.requires.few (fitting-prop fs e.1 (fin.get c.loop-key.rolled key)) (λ few.
+    let key = key_in c.in_ok-coarser.coarser in
+    subst (λ (m : Contents). IsFittingNew fs e.1 (fin.get m key)) (sym c.take_scratch-scratch.ensures)
+    (∥∥₁_elim c.requires.few (fitting-prop fs e.1 (fin.get c.loop-key.rolled key)) (λ few.
     rolled-fitting finer set fs few.filters t c.loop-key.rolled e (rest ++ others) (all_entries shards) few.rows key
     (ap contents_of_shards same ∙ c.self.view_is) (distinct-read shards c.self.inside.shards.items same c.self.inside.apart) few.few few.is_table each.0
-    (subst (λ (es : Entries). IsRolled finer set (map (aggregate_of few.filters) fs) c.loop-key.rolled (es ++ others) (all_entries shards) few.rows) more (i.rolled few.filters few.rows few.is_table)))
+    (subst (λ (es : Entries). IsRolled finer set (map (aggregate_of few.filters) fs) c.loop-key.rolled (es ++ others) (all_entries shards) few.rows) more (i.rolled few.filters few.rows few.is_table))))
 
 pub loop-key-preserved : goal.loop-key-preserved
 loop-key-preserved c =
@@ -93,18 +93,18 @@ loop-key-preserved c =
     let fs = c.args.functions.now in
     let t = c.args.self.now in
     let old = c.loop-key.rolled in
-    let new = c.put.new.self in
+    let new = c.put_by_key.new.self in
     let i = c.loop-key.invariant in
     let rest : Entries = c.next.new.self in
     let others : Entries = all_entries (drop (c.loop-shard.shard-index + 1) shards) in
     let e : PackedKey × GroupState = (c.in-Some.key.now, c.in-Some.part.now) in
     let more : c.loop-key.key-iterator ≡ e ∷ rest = rest_more (deref_pair {K = PackedKey} {X = GroupState}) c.loop-key.key-iterator rest c.next.result (c.in-Some.key, c.in-Some.part) c.in-Some.is c.next.ensures.steps in
     let each = subst (λ (es : Entries). AllByRecursion (λ e. fin.get t (key_in e.0) ≡ Some e.1) (es ++ others)) more i.each in
-    let key : project c.as_slice.result.now (data_of c.as_slice-in-loop-key.result.now) ≡ rolled_key finer set (key_in e.0) =
-    (λ j. project (c.as_slice.ensures.value j) (data_of (c.as_slice-in-loop-key.ensures.value j))) ∙ ap (project c.in_ok-indices.indices.items) c.in_ok-values.ensures ∙ ap (λ xs. project xs (key_in e.0)) c.in_ok-indices.ensures in
+    let key : key_in c.in_ok-coarser.coarser ≡ rolled_key finer set (key_in e.0) =
+    c.in_ok-coarser.ensures ∙ ap (λ places. project places (key_in e.0)) (c.as_slice-indices.ensures.value ∙ c.in_ok-indices.ensures) in
     record {
       rolled = λ filters rows is. rolled-step finer set fs filters t old new e (rest ++ others) all rows c.requires.among is each.0
-          (λ k. subst (λ (q : Key). IsEnlarged fs old new q e.1 k) key (c.in_ok-put.ensures k))
+          (λ k. subst (λ (q : Key). IsEnlarged fs old new q e.1 k) key (subst (λ (m : Contents). IsEnlarged fs m new (key_in c.in_ok-coarser.coarser) e.1 k) c.take_scratch-scratch.ensures (c.in_ok-put_by_key.ensures k)))
           (subst (λ (es : Entries). IsRolled finer set (map (aggregate_of filters) fs) old (es ++ others) all rows) more (i.rolled filters rows is));
       each = each.1;
     }
