@@ -1,22 +1,28 @@
 -- An object by its bytes: its members, one after another, and what the columns take of them.
-use Rattle.std.proofs.Common.{◌≡◌, ℕ, ◌+◌, ◌<◌, ◌≤◌, true, false, List, [], ◌∷◌, length, get_or, Some, None, refl, sym, ap, ◌∙◌, arith}
+use Rattle.std.proofs.Common.{◌≡◌, ℕ, ◌+◌, ◌<◌, ◌≤◌, true, false, List, [], ◌∷◌, length, get_or, Some, None, String, Global, string_bytes, refl, sym, ap, ◌∙◌, arith}
+use Rattle.std.proofs.lemmas.List.{get_or_default}
+use Rattle.std.proofs.lemmas.Str.{IsCharBoundary-after_ascii}
+use Rattle.std.specs.Str.{IsCharBoundary, IsUtf8}
 use Rattle.json.specs.Token as token
 use Rattle.json.specs.Token.{Token}
 use Rattle.json.specs.Lex.{Place, fresh, after_value, after_comma, begins_colon, may_begin, punctuate, tokens}
 use Rattle.json.specs.Json.{members, read_key, value}
 use Rattle.json.proofs.Grammar.{left, skip_value-shorter}
-use Rattle.serde_json.specs.Data.{Data, Members, no_members, object, put}
+use Rattle.serde_json.specs.Data.{Data, Members, no_members, object, put, string}
 use Rattle.serde_json.specs.Read.{of_members, read}
 use Rattle.lines_json.specs.Meant.{AreMembers, IsValue}
-use Rattle.lines_json.specs.Standing.{IsTokenAt, lexemes}
-use Rattle.lines_json.proofs.Meaning.{IsAt, begins, first-object, member-next, members-closed, read-one}
+use Rattle.lines_json.specs.Standing.{IsStringOf, IsTokenAt, lexemes}
+use Rattle.lines_json.proofs.Meaning.{IsAt, begins, first-object, first-string, member-next, members-closed, read-one}
 use Rattle.values.specs.declared.schema.Column.{Column}
 use Rattle.values.specs.declared.value.Value.{Value}
+use Rattle.values.specs.declared.value.Value.TheVariants as value_of
 use Rattle.values.specs.Datum.{datum_of}
 use Rattle.semantics.specs.declared.kind.Kind.{Kind}
+use Rattle.semantics.specs.declared.kind.Kind.TheVariants as kind
+use Rattle.semantics.specs.Values as datum
 use Rattle.semantics.specs.Records.{datum_taken}
 use Rattle.lines.specs.Members.{AreMembersAt, AreTaken, IsMemberAt, IsTakenAt}
-use Rattle.lines.proofs.Lexing.{IsPlaced, byte_within, lexed-end, lexed-mark, lexed-whole, placed-closing, placed-comma, placed-empty, placed-end, placed-name, placed-opening}
+use Rattle.lines.proofs.Lexing.{IsPlaced, byte_within, lexed-end, lexed-mark, lexed-whole, placed-closing, placed-comma, placed-empty, placed-end, placed-name, placed-opening, placed-string, string-token}
 
 -- a column takes a value that is one token
 pub token-taken : (text : List ℕ) (kind : Kind) (at stop : ℕ) (v : Value) (t : Token) (d : Data) → IsTokenAt text at stop t → IsPlaced t → ((rest : List Token) → IsValue 126 (t ∷ rest) d rest) → datum_taken kind d ≡ Some (datum_of v)
@@ -30,6 +36,17 @@ token-taken text kind at stop v t d s placed first taken = record {
   };
   taken = taken;
 }
+
+-- behind a quote a text may be cut
+pub quote-boundary : (bytes : List ℕ) (at : ℕ) → IsUtf8 bytes → get_or bytes at 32 ≡ 34 → IsCharBoundary bytes (at + 1)
+quote-boundary bytes at utf8 opens =
+    let within : at < length bytes = byte_within bytes at 34 opens (λ e. (let never : ⊥ = omega (arith, e) in never)) in
+    IsCharBoundary-after_ascii bytes at utf8 within (omega (arith, opens, get_or_default bytes at 0 32 within))
+
+-- a column of texts takes a string
+pub text-taken : (bytes : List ℕ) (at quote : ℕ) (content : List ℕ) (s : String Global) → get_or bytes at 32 ≡ 34 → IsStringOf bytes (at + 1) quote content → string_bytes s ≡ content → IsTakenAt bytes kind.Text at (quote + 1) (value_of.Text s)
+text-taken bytes at quote content s opens stands is =
+    token-taken bytes kind.Text at (quote + 1) (value_of.Text s) (token.string content) (string content) (string-token bytes at quote content opens stands) (placed-string content) (λ rest. first-string 126 content rest) (ap (λ x. Some (datum.text x)) (sym is))
 
 -- a loop over the members of an object whose tokens begin at `first` is at `now`, and those so far are `found`
 abbrev pub IsAmong : (first now : List Token) → Members → Type 0

@@ -8,6 +8,7 @@ use Rattle.json.specs.Lex.{Place, fresh, after_value, after_comma, after_key, ma
 use Rattle.json.specs.Json as json
 use Rattle.json.specs.Json.{value}
 use Rattle.serde_json.specs.Data.{Data, array, object, number, unsigned, no_items, item, no_members, member}
+use Rattle.lines_json.specs.Inside.{IsEscapeAt}
 use Rattle.lines_json.specs.Meant.{IsValue}
 use Rattle.lines_json.specs.Standing.{IsStringOf, IsTokenAt, IsValueAt, lexemes}
 
@@ -23,6 +24,20 @@ a_truth_value = record { later = omega arith; within = omega arith; stands = ref
 a_string : IsStringOf (codes "\"a\\n\\u00e9\"") 1 10 (97 ∷ 10 ∷ 195 ∷ 169 ∷ [])
 unfolding serde_json_on_literals
 a_string = record { later = omega arith; within = omega arith; closing = refl; means = refl; rest = refl }
+
+each_short_escape : content plain (codes "\\\"\\\\\\/\\b\\f\\n\\r\\t\"") ≡ Some (34 ∷ 92 ∷ 47 ∷ 8 ∷ 12 ∷ 10 ∷ 13 ∷ 9 ∷ [])
+unfolding serde_json_on_literals
+each_short_escape = refl
+
+-- behind its backslash
+an_escape : IsEscapeAt (codes "\"\\u00e9\"") 2 7 233
+unfolding serde_json_on_literals
+an_escape = record {
+  later = omega arith;
+  within = omega arith;
+  last = omega arith;
+  part = record { means = refl; passes = refl };
+}
 
 a_pair_of_surrogates : content plain (codes "\\ud83d\\ude00\"") ≡ Some (240 ∷ 159 ∷ 152 ∷ 128 ∷ [])
 unfolding serde_json_on_literals

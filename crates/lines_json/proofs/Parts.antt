@@ -1,7 +1,7 @@
 -- The parts of a string: plain text and escapes.
-use Rattle.std.proofs.Common.{◌≡◌, ℕ, suc, ◌+◌, ◌*◌, ◌<◌, Bool, true, false, cond, ◌&&◌, ◌||◌, ◌==◌, nat_lt, List, [], ◌∷◌, ◌++◌, take, drop, Option, Some, None, option_and_then, refl, sym, ap, ◌∙◌, arith, append_assoc, subst}
-use Rattle.std.proofs.lemmas.Bool.{and_from, and_parts, eqb-true, not-true, or_parts, false_from_ne_true, ltb-true, lt-ltb, or_from, not_from_false, false≢true}
-use Rattle.std.proofs.lemmas.Option.{cond_some}
+use Rattle.std.proofs.Common.{◌≡◌, ℕ, suc, ◌+◌, ◌*◌, ◌<◌, Bool, true, false, cond, ◌&&◌, ◌||◌, ◌==◌, nat_lt, List, [], ◌∷◌, ◌++◌, take, drop, Option, Some, None, option_and_then, refl, sym, ap, ◌∙◌, arith, append_assoc, subst, lt_of_not-le, ◌≤◌}
+use Rattle.std.proofs.lemmas.Bool.{ne_eqb, le-ltb, and_from, and_parts, eqb-true, not-true, or_parts, false_from_ne_true, ltb-true, lt-ltb, or_from, not_from_false, false≢true}
+use Rattle.std.proofs.lemmas.Option.{cond_some, none-some}
 use Rattle.std.specs.List.{prefix_len}
 use Rattle.std.specs.Char.{digit_value, encode_utf8, is_digit}
 use Rattle.json.specs.Text.{Within, code_unit, short_escape, is_high_surrogate, is_low_surrogate, surrogate_pair, plain, after_backslash, after_u, after_high, prepend, content}
@@ -69,6 +69,18 @@ pub behind_backslash : (t bytes rest : List ℕ) → IsPart in_escape after_back
 unfolding content lex
 behind_backslash t bytes rest p = record { means = p.means; passes = p.passes }
 
+-- a byte of which no short escape is made is another one
+is_no_escape : (x y c : ℕ) → short_escape x ≡ Some c → short_escape y ≡ None → (x == y) ≡ false
+is_no_escape x y c some none = ne_eqb x y (λ e. none-some c (sym none ∙ ap short_escape (sym e) ∙ some))
+
+pub is_no_space : (x c : ℕ) → short_escape x ≡ Some c → (x == 32) ≡ false
+unfolding short_escape
+is_no_space x c is = is_no_escape x 32 c is refl
+
+pub is_no_u : (x c : ℕ) → short_escape x ≡ Some c → (x == 117) ≡ false
+unfolding short_escape
+is_no_u x c is = is_no_escape x 117 c is refl
+
 pub letter_part : (x c : ℕ) (t : List ℕ) → (x == 117) ≡ false → short_escape x ≡ Some c → IsPart in_escape after_backslash (x ∷ t) (c ∷ []) t
 unfolding content lex
 letter_part x c t other_letter e = record {
@@ -84,6 +96,9 @@ behind_u t bytes rest p = record { means = p.means; passes = p.passes }
 below_digits : (x : ℕ) → x < 48 → is_digit x 16 ≡ false
 below_digits x low = rw (lt-ltb x 48 low)
 
+above_digits : (x : ℕ) → 128 ≤ x → is_digit x 16 ≡ false
+above_digits x high = rw (le-ltb x 48 (omega arith), le-ltb x 58 (omega arith), le-ltb x 65 (omega arith), le-ltb x 91 (omega arith), le-ltb x 97 (omega arith), le-ltb x 123 (omega arith))
+
 -- a hexadecimal digit is plain text
 hex-plain : (x : ℕ) → is_digit x 16 ≡ true → is_plain x ≡ true
 hex-plain x h = not_from_false _ (or_from _ _ (or_from _ _ (is_no 34 refl) (is_no 92 refl)) (false_from_ne_true _ (λ e. false≢true (sym (below_digits x (omega (arith, ltb-true x 32 e))) ∙ h))))
@@ -94,14 +109,32 @@ hex-plain x h = not_from_false _ (or_from _ _ (or_from _ _ (is_no 34 refl) (is_n
 lex-digit : (x : ℕ) (t : List ℕ) → is_digit x 16 ≡ true → lex in_string (x ∷ t) ≡ lex in_string t
 lex-digit x t h = let p = plain_byte x t (hex-plain x h) in p.passes
 
-lex-digits : (a b c d : ℕ) (t : List ℕ) (unit : ℕ) → code_unit a b c d ≡ Some unit → lex in_string (a ∷ b ∷ c ∷ d ∷ t) ≡ lex in_string t
+hex-ascii : (x : ℕ) → is_digit x 16 ≡ true → x < 128
+hex-ascii x h = lt_of_not-le (λ high. false≢true (sym (above_digits x high) ∙ h))
+
+-- the bytes that spell a code unit are hexadecimal digits
+record AreHexDigits (a b c d : ℕ) : Type 0 where
+  first : is_digit a 16 ≡ true
+  second : is_digit b 16 ≡ true
+  third : is_digit c 16 ≡ true
+  fourth : is_digit d 16 ≡ true
+
+hex_digits : (a b c d unit : ℕ) → code_unit a b c d ≡ Some unit → AreHexDigits a b c d
 unfolding code_unit
-lex-digits a b c d t unit e =
+hex_digits a b c d unit e =
     let spelt = cond_some (is_digit a 16 && is_digit b 16 && is_digit c 16 && is_digit d 16) (digit_value a * 4096 + digit_value b * 256 + digit_value c * 16 + digit_value d) unit e in
     let all = and_parts (is_digit a 16 && is_digit b 16 && is_digit c 16) (is_digit d 16) spelt.0 in
     let three = and_parts (is_digit a 16 && is_digit b 16) (is_digit c 16) all.0 in
     let two = and_parts (is_digit a 16) (is_digit b 16) three.0 in
-    (lex-digit a (b ∷ c ∷ d ∷ t) two.0) ∙ (lex-digit b (c ∷ d ∷ t) two.1) ∙ (lex-digit c (d ∷ t) three.1) ∙ (lex-digit d t all.1)
+    record { first = two.0; second = two.1; third = three.1; fourth = all.1 }
+
+lex-digits : (a b c d : ℕ) (t : List ℕ) (unit : ℕ) → code_unit a b c d ≡ Some unit → lex in_string (a ∷ b ∷ c ∷ d ∷ t) ≡ lex in_string t
+lex-digits a b c d t unit e =
+    let digits = hex_digits a b c d unit e in
+    (lex-digit a (b ∷ c ∷ d ∷ t) digits.first) ∙ (lex-digit b (c ∷ d ∷ t) digits.second) ∙ (lex-digit c (d ∷ t) digits.third) ∙ (lex-digit d t digits.fourth)
+
+pub last_digit-ascii : (a b c d unit : ℕ) → code_unit a b c d ≡ Some unit → d < 128
+last_digit-ascii a b c d unit e = let digits = hex_digits a b c d unit e in hex-ascii d digits.fourth
 
 -- four digits by their values
 pub four_digits : (a b c d first second third fourth : ℕ) → is_digit a 16 ≡ true → is_digit b 16 ≡ true → is_digit c 16 ≡ true → is_digit d 16 ≡ true

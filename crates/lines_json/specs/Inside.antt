@@ -1,8 +1,9 @@
 -- What stands inside a string, an array or an object of a JSON text. Private calls alone speak of it.
-use Rattle.std.specs.Prelude.{◌≡◌, ℕ, ◌+◌, ◌<◌, ◌≤◌, List, ◌∷◌, length, drop, get_or, Option}
-use Rattle.json.specs.Text.{Within, code_unit, content, plain, prepend}
+use Rattle.std.specs.Prelude.{◌≡◌, ℕ, ◌+◌, ◌-◌, ◌<◌, ◌≤◌, List, ◌∷◌, length, drop, get_or, Option, Some}
+use Rattle.std.specs.Char.{encode_utf8}
+use Rattle.json.specs.Text.{Within, after_backslash, code_unit, content, plain, prepend, short_escape}
 use Rattle.json.specs.Token.{string}
-use Rattle.json.specs.Lex.{token, colon, Mode, in_string, lex, fresh, after_value, punctuate}
+use Rattle.json.specs.Lex.{token, colon, Mode, in_escape, in_string, lex, fresh, after_value, punctuate}
 use Rattle.serde_json.specs.Data.{Items, Members}
 use Rattle.lines_json.specs.Meant.{AreItems, AreMembers}
 use Rattle.lines_json.specs.Standing.{lexemes}
@@ -12,12 +13,22 @@ pub record IsPart (mode : Mode) (state : Within) (text bytes rest : List ℕ) : 
   pub means : content state text ≡ prepend bytes (content plain rest)
   pub passes : lex mode text ≡ lex in_string rest
 
--- Such a part stands at a place, and ends before another one.
-pub record IsPartAt (mode : Mode) (state : Within) (text : List ℕ) (at stop : ℕ) : Type 0 where
+-- Such a part stands at a place, ends with an ASCII byte before another place, and means these bytes.
+pub record IsPartAt (mode : Mode) (state : Within) (text : List ℕ) (at stop : ℕ) (bytes : List ℕ) : Type 0 where
   pub later : at < stop
   pub within : stop ≤ length text
-  pub bytes : List ℕ
+  pub last : get_or text (stop - 1) 0 < 128
   pub part : IsPart mode state (drop at text) bytes (drop stop text)
+
+-- The escape whose backslash stands before a place ends before another one, and means this character.
+abbrev pub IsEscapeAt : List ℕ → (at stop : ℕ) → (meant : ℕ) → Type 0
+IsEscapeAt text at stop meant = IsPartAt in_escape after_backslash text at stop (encode_utf8 meant)
+
+-- A backslash and this byte mean this character. Both are ASCII.
+pub record IsShortEscape (letter meant : ℕ) : Type 0 where
+  pub letter_ascii : letter < 128
+  pub meant_ascii : meant < 128
+  pub is : short_escape letter ≡ Some meant
 
 -- the code unit that the four hexadecimal digits at a place spell
 abbrev pub code_unit_at : List ℕ → ℕ → Option ℕ

@@ -1,60 +1,89 @@
 //! Escapes in strings, RFC 8259, section 7.
 ghost use Rattle.std.specs.Prelude.{◌≡◌, ◌+◌, ◌<◌, ◌≤◌, IfSome, Some, length, true};
-ghost use Rattle.std.specs.Char.{digit_value, is_digit};
-ghost use Rattle.json.specs.Lex.{in_escape, in_string};
-ghost use Rattle.json.specs.Text.{after_backslash, after_high, after_u, is_high_surrogate, is_low_surrogate};
-ghost use Rattle.lines_json.specs.Inside.{IsPartAt, code_unit_at};
+ghost use Rattle.std.specs.Char.{digit_value, encode_utf8, is_digit};
+ghost use Rattle.json.specs.Lex.{in_string};
+ghost use Rattle.json.specs.Text.{after_high, after_u, is_high_surrogate, is_low_surrogate, surrogate_pair};
+ghost use Rattle.lines_json.specs.Inside.{IsEscapeAt, IsPartAt, IsShortEscape, code_unit_at};
 
 use crate::bytes::byte_at;
 
-/// Where the escape ends whose backslash stands before a place; `None` says nothing of the text.
+/// The character that the escape means whose backslash stands before a place, and where the escape ends; `None` says
+/// nothing of the text.
 ///
-/// Example: of the text `"\\n"` it answers 3 at 2.
+/// Example: of the text `"\\n"` it answers a line feed and 3 at 2.
 #[inline(never)]
-pub(crate) fn escape_end(text: &[u8], at: usize) -> Option<usize>
+pub(crate) fn escape_at(text: &[u8], at: usize) -> Option<(char, usize)>
     requires { at ≤ length text.now }
-    ensures { IfSome result (IsPartAt in_escape after_backslash text.now at) }
+    ensures { IfSome result (λ r. IsEscapeAt text.now at r.1 r.0) }
 {
-    match byte_at(text, at) {
-        b'"' | b'\\' | b'/' | b'b' | b'f' | b'n' | b'r' | b't' => Some(at + 1),
-        b'u' => digits_end(text, at + 1),
+    let letter = byte_at(text, at);
+    if letter == b'u' {
+        return unit_at(text, at + 1);
+    }
+    let meant = short_escape(letter)?;
+    Some((meant, at + 1))
+}
+
+/// What a backslash and a byte mean together, but for `\u`; `None` says nothing of them.
+fn short_escape(letter: u8) -> Option<char>
+    ensures { IfSome result (IsShortEscape letter) }
+{
+    match letter {
+        b'"' => Some('"'),
+        b'\\' => Some('\\'),
+        b'/' => Some('/'),
+        b'b' => Some('\u{8}'),
+        b'f' => Some('\u{c}'),
+        b'n' => Some('\n'),
+        b'r' => Some('\r'),
+        b't' => Some('\t'),
         _ => None,
     }
 }
 
-/// The same of an escape by its code unit, whose first digit stands at a place.
-fn digits_end(text: &[u8], at: usize) -> Option<usize>
+/// As `escape_at`, of an escape by its code unit, whose first digit stands at a place.
+fn unit_at(text: &[u8], at: usize) -> Option<(char, usize)>
     requires { at ≤ length text.now }
-    ensures { IfSome result (IsPartAt in_string after_u text.now at) }
+    ensures { IfSome result (λ r. IsPartAt in_string after_u text.now at r.1 (encode_utf8 r.0)) }
 {
     if text.len() - at < 4 {
         return None;
     }
     let unit = code_unit(text, at)?;
     if is_high_surrogate(unit) {
-        return low_half_end(text, at + 4, unit);
+        return low_half_at(text, at + 4, unit);
     }
-    if is_low_surrogate(unit) {
-        None
-    } else {
-        Some(at + 4)
-    }
+    // The lower half of a pair alone is no character.
+    let meant = char::from_u32(unit)?;
+    Some((meant, at + 4))
 }
 
 /// The same of the lower half of a pair of surrogates, whose upper half ends before a place.
-fn low_half_end(text: &[u8], at: usize, high: u32) -> Option<usize>
-    requires { at ≤ length text.now }
-    ensures { IfSome result (IsPartAt in_string (after_high high) text.now at) }
+fn low_half_at(text: &[u8], at: usize, high: u32) -> Option<(char, usize)>
+    requires within { at ≤ length text.now }
+    requires half { is_high_surrogate high ≡ true }
+    ensures { IfSome result (λ r.
+        IsPartAt in_string (after_high high) text.now at r.1 (encode_utf8 r.0)) }
 {
     if text.len() - at < 6 || text[at] != b'\\' || text[at + 1] != b'u' {
         return None;
     }
     let low = code_unit(text, at + 2)?;
     if is_low_surrogate(low) {
-        Some(at + 6)
+        let meant = char::from_u32(surrogate_pair(high, low))?;
+        Some((meant, at + 6))
     } else {
         None
     }
+}
+
+/// The code of the character that a pair of surrogates means.
+fn surrogate_pair(high: u32, low: u32) -> u32
+    requires high { is_high_surrogate high ≡ true }
+    requires low { is_low_surrogate low ≡ true }
+    ensures { result ≡ surrogate_pair high low }
+{
+    0x1_0000 + (high - 0xd800) * 0x400 + (low - 0xdc00)
 }
 
 /// Whether a code unit is the upper half of a pair.

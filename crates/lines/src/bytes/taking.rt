@@ -1,10 +1,10 @@
 //! The value of a member, as a column of its name takes it.
-ghost use Rattle.std.specs.Prelude.{◌≤◌, IfSome, length};
+ghost use Rattle.std.specs.Prelude.{◌≡◌, ◌<◌, ◌≤◌, IfSome, get_or, length};
 ghost use Rattle.semantics.specs.declared.kind.Kind.{Kind};
 ghost use Rattle.lines.specs.Members.{IsTakenAt};
 
 use crate::spare::Spare;
-use lines_json::{bool_at, byte_at, null_end, plain_string_end, whole_number_at};
+use lines_json::{bool_at, byte_at, null_end, plain_string_end, push_content, whole_number_at};
 use values::{Kind, Value};
 
 /// What a column of this type takes of the value that stands at a place, and where the value ends; `None` says nothing of
@@ -68,9 +68,25 @@ fn text_at(text: &str, at: usize, spare: &mut Spare) -> Option<(Value, usize)>
     if byte_at(line, at) != b'"' {
         return None;
     }
-    let quote = plain_string_end(line, at + 1)?;
-    let copy = spare.copy(&text[at + 1..quote])?;
-    Some((Value::Text(copy), quote + 1))
+    match plain_string_end(line, at + 1) {
+        Some(quote) => {
+            let copy = spare.copy(&text[at + 1..quote])?;
+            Some((Value::Text(copy), quote + 1))
+        }
+        None => escaped_text_at(text, at, spare),
+    }
+}
+
+/// The same where an escape stands in the text; out of line, since few have one.
+#[inline(never)]
+fn escaped_text_at(text: &str, at: usize, spare: &mut Spare) -> Option<(Value, usize)>
+    requires within { at < length text.now }
+    requires opens { get_or text.now at 32 ≡ 34 }
+    ensures { IfSome result (λ r. IsTakenAt text.now Kind.Text at r.1 r.0) }
+{
+    let mut content = spare.copy("")?;
+    let quote = push_content(text, at + 1, &mut content)?;
+    Some((Value::Text(content), quote + 1))
 }
 
 /// The same of a column of truth values, but for NULL.

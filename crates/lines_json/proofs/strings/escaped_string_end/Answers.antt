@@ -1,9 +1,6 @@
 use Rattle.std.proofs.Common.{◌-◌, ◌++◌, drop, take, sym, ◌∙◌, arith}
-use Rattle.json.specs.Text.{plain}
-use Rattle.json.specs.Lex.{in_string}
-use Rattle.lines_json.specs.Inside.{IsPart}
-use Rattle.lines_json.proofs.Parts.{two_parts}
-use Rattle.lines_json.proofs.PartsAt.{closed-at, escape-at, plain-at}
+use Rattle.std.specs.Char.{encode_utf8}
+use Rattle.lines_json.proofs.PartsAt.{closed-at, escape_behind, plain_behind}
 use Rattle.lines_json.proofs.strings.escaped_string_end.Goals as goal
 
 pub returns-in-34 : goal.returns-in-34
@@ -13,9 +10,11 @@ returns-in-34 c =
     let at = c.escapes.at in
     let so_far = c.escapes.invariant in
     let stop = c.plain_end-stop in
-    let bytes = so_far.bytes ++ take (stop.result - at) (drop at text) in
-    let part : IsPart in_string plain (drop from text) bytes (drop stop.result text) = two_parts in_string plain (drop from text) so_far.bytes (drop at text) _ (drop stop.result text) so_far.part (plain-at text at stop.result stop.ensures.value) in
-    (bytes, closed-at text from stop.result bytes (omega (arith, so_far.later, stop.ensures.value)) (sym c.byte_at.ensures ∙ c.in-34.is) part)
+    let bytes = so_far.bytes ++ take (stop.result - at) (drop at text) in (
+      bytes,
+      closed-at text from stop.result bytes (omega (arith, so_far.later, stop.ensures.value)) (sym c.byte_at.ensures ∙ c.in-34.is)
+          (plain_behind text from at stop.result so_far.bytes so_far.part stop.ensures.value),
+    )
 
 pub escapes-preserved : goal.escapes-preserved
 escapes-preserved c =
@@ -25,12 +24,11 @@ escapes-preserved c =
     let so_far = c.escapes.invariant in
     let stop = c.plain_end-stop in
     let escape = c.in_ok-at-in-92.ensures in
-    let next = c.in_ok-at-in-92.at in
+    let next = c.in_ok-at-in-92.field-0 in
     let before = so_far.bytes ++ take (stop.result - at) (drop at text) in
-    let part : IsPart in_string plain (drop from text) before (drop stop.result text) = two_parts in_string plain (drop from text) so_far.bytes (drop at text) _ (drop stop.result text) so_far.part (plain-at text at stop.result stop.ensures.value) in
     record {
       later = omega (arith, so_far.later, stop.ensures.value, escape.later);
       within = escape.within;
-      bytes = before ++ escape.bytes;
-      part = two_parts in_string plain (drop from text) before (drop stop.result text) escape.bytes (drop next text) part (escape-at text stop.result next (sym c.byte_at.ensures ∙ c.in-92.is) escape);
+      bytes = before ++ encode_utf8 next.0;
+      part = escape_behind text from stop.result next.1 next.0 before (plain_behind text from at stop.result so_far.bytes so_far.part stop.ensures.value) (sym c.byte_at.ensures ∙ c.in-92.is) escape;
     }
