@@ -17,15 +17,14 @@ use members::take_members;
 use values::{Column, Record, Schema, Value};
 
 /// Reads a line as a record by its bytes; `None` says nothing of the line.
-pub(crate) fn record_by_bytes(schema: &Schema, line: &[u8], spare: &mut Spare) -> Option<Record>
+pub(crate) fn record_by_bytes(schema: &Schema, line: &str, spare: &mut Spare) -> Option<Record>
     requires { length line.now ≤ max_line_len }
     ensures ok { IfSome result (λ «record». decode_line schema.now line.now ≡ Ok «record») }
     ensures fits { IfSome result (λ «record». Fits schema.now «record») }
 {
-    let text = simdutf8::compat::from_utf8(line).ok()?;
     let columns = schema.columns();
     let mut values = missing_values(columns, spare)?;
-    match take_object(columns, text, &mut values, spare) {
+    match take_object(columns, line, &mut values, spare) {
         Some(()) => Some(Record::new(values)),
         None => {
             spare.keep(values);

@@ -3,6 +3,7 @@
 #![tactic(auto)]
 
 mod bytes;
+mod checking;
 mod columns;
 mod cutting;
 mod demand;
@@ -19,6 +20,7 @@ mod splitting;
 mod tokens;
 mod tree;
 
+pub use checking::{CheckedLines, Line, checked_lines_of};
 pub use cutting::cut;
 pub use demand::Demand;
 pub use fault::ReadFault;

@@ -13,7 +13,7 @@ use values::{Record, Schema};
 /// Reads a line as a record by its tokens; `None` says nothing of the line.
 pub(crate) fn record_by_tokens(
     schema: &Schema,
-    line: &[u8],
+    line: &str,
     scratch: &mut Scratch,
     spare: &mut Spare,
 ) -> Option<Record>
@@ -21,8 +21,7 @@ pub(crate) fn record_by_tokens(
     ensures ok { IfSome result (λ «record». decode_line schema.now line.now ≡ Ok «record») }
     ensures fits { IfSome result (λ «record». Fits schema.now «record») }
 {
-    let text = simdutf8::compat::from_utf8(line).ok()?;
-    let mut reader = Reader::new(text, scratch).ok()?;
+    let mut reader = Reader::new(line, scratch).ok()?;
     let Token::BeginObject = reader.next()? else {
         return None;
     };

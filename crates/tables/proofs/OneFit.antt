@@ -14,7 +14,7 @@ use Rattle.semantics.specs.Names.{kind_at, PlannedFunction}
 use Rattle.semantics.specs.Aggregates.{Summary, plain, ratio}
 use Rattle.tables_groups.specs.Fitting.{AreFitting, HasType, IsAverage, IsCount, IsHeld, IsOfColumn, IsSum}
 use Rattle.semantics.specs.Found.{Found}
-use Rattle.std.specs.Prelude.{pos, negsuc}
+use Rattle.std.specs.Prelude.{pos}
 
 zip-prop : {A B : Type 0} (R : A → B → Type 0) → ((x : A) (y : B) → IsProp (R x y)) → (xs : List A) (ys : List B) → IsProp (AllZip R xs ys)
 zip-prop R one [] [] = hlevel

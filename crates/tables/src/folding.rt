@@ -5,7 +5,7 @@ ghost use Rattle.semantics.specs.Groups.{Row};
 ghost use Rattle.tables.specs.Folding.{HasReadUnder, HasRoomUnder, IsTableOfKept, refused_lines_of};
 
 use crate::executor::Executor;
-use lines::{LineFault, LineRefusal, RecordReader, lines_of};
+use lines::{Line, LineFault, LineRefusal, RecordReader, checked_lines_of};
 use query_plan::{Plan, holds};
 use std::alloc::{AllocError, Global};
 use tables_groups::Table;
@@ -28,6 +28,7 @@ impl Folding {
     ghost use Rattle.std.specs.Prelude.{◌≡◌, [], ◌∷◌, ◌++◌, ℕ, List, OnOk};
     ghost use Rattle.semantics.specs.Records.{Fits};
     ghost use Rattle.semantics.specs.Groups.{Row};
+    ghost use Rattle.lines.specs.Checked.{line_bytes};
     ghost use Rattle.tables.specs.Folding.{HasReadUnder, IsTableOfKept, ReadsOneMoreUnder, TakesRecordUnder};
 
     /// No line has been read behind the records that a table has.
@@ -49,14 +50,14 @@ impl Folding {
         &mut self,
         reader: &mut RecordReader,
         plan: &Plan,
-        line: &[u8],
+        line: Line<'_>,
     ) -> Result<(), AllocError>
         requires { ReadsOneMoreUnder plan.now self.old }
         ensures { OnOk result ((before : List Row) (seen : List (List ℕ))
             → HasReadUnder plan.now before self.old seen
-            → HasReadUnder plan.now before self.new (seen ++ line.now ∷ [])) }
+            → HasReadUnder plan.now before self.new (seen ++ line_bytes line.entry ∷ [])) }
     {
-        match reader.read(plan.schema(), line) {
+        match reader.read_line(plan.schema(), line) {
             Ok(taken) => {
                 self.take(plan, &taken)?;
                 reader.give_back(taken);
@@ -120,7 +121,7 @@ pub(crate) fn read_onto(
 {
     let mut folding = Folding::begin(alloc, table);
     let mut reader = RecordReader::new(alloc);
-    for line in lines_of(piece) {
+    for line in checked_lines_of(piece) {
         folding.read(&mut reader, plan, line)?;
     }
     Ok(folding)

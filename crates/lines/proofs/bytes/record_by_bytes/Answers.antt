@@ -1,7 +1,4 @@
-use Rattle.std.proofs.Common.{rules, ◌≡◌, Some, Ok, sym, ap, ◌∙◌, arith}
-use Rattle.std.specs.Str.{IsUtf8}
-use Rattle.serde_json.specs.Data.{object}
-use Rattle.serde_json.specs.Read.{read}
+use Rattle.std.proofs.Common.{Ok, sym, ap, ◌∙◌}
 use Rattle.values.specs.Datum.{data_of}
 use Rattle.values.specs.Schema.{fields_of}
 use Rattle.lines.proofs.Fitting.{fits-taken}
@@ -12,10 +9,7 @@ pub returns-in-Some-clause-ok : goal.returns-in-Some-clause-ok
 returns-in-Some-clause-ok c =
     let line = c.args.line.now in
     let found = c.in-Some.ensures in
-    let text : c.in_ok-text.text.now ≡ line = grind arith in
-    let is : read line ≡ Some (object found.0) = rw (← text) found.1 in
-    let utf8 : IsUtf8 line = search rules in
-    decoded-taken c.args.schema.now line c.columns-columns.result.now c.take_object.new.values.items found.0 c.requires utf8 is c.columns-columns.ensures.columns found.2 ∙ ap (λ d. Ok d) (sym c.new.ensures.values)
+    decoded-taken c.args.schema.now line c.columns-columns.result.now c.take_object.new.values.items found.0 c.requires c.utf8.line found.1 c.columns-columns.ensures.columns found.2 ∙ ap (λ d. Ok d) (sym c.new.ensures.values)
 
 pub returns-in-Some-clause-fits : goal.returns-in-Some-clause-fits
 returns-in-Some-clause-fits c =

@@ -1,5 +1,4 @@
-use Rattle.std.proofs.Common.{rules, ◌≡◌, [], ◌∷◌, Some, Ok, sym, ap, ◌∙◌, arith}
-use Rattle.std.specs.Str.{IsUtf8}
+use Rattle.std.proofs.Common.{◌≡◌, [], ◌∷◌, Some, Ok, sym, ap, ◌∙◌, arith}
 use Rattle.json.specs.Token.{Token}
 use Rattle.json.specs.Lex.{tokens}
 use Rattle.json.specs.Reads.{token_of}
@@ -17,14 +16,12 @@ pub returns-in-None-clause-ok : goal.returns-in-None-clause-ok
 returns-in-None-clause-ok c =
     let found = c.in_ok-values.ensures.taken in
     let r = c.next.new.self in
-    let text : c.in_ok-text.text.now ≡ c.args.line.now = grind arith in
-    let whole : c.in_ok-reader.reader ≡ tokens c.in_ok-text.text.now = grind arith in
+    let whole : c.in_ok-reader.reader ≡ tokens c.args.line.now = grind arith in
     let first : c.in_ok-reader.reader ≡ Token.begin_object ∷ r = c.in_ok-next.ensures.value ∙ ap (λ k. token_of k ∷ r) c.in-BeginObject.is in
-    let all : tokens c.args.line.now ≡ Token.begin_object ∷ r = ap tokens (sym text) ∙ sym whole ∙ first in
+    let all : tokens c.args.line.now ≡ Token.begin_object ∷ r = sym whole ∙ first in
     let last : AreMembers 126 r found.0 [] = rw (← c.in-None.ensures.value.0) found.1 in
     let is : read c.args.line.now ≡ Some (object found.0) = read-one c.args.line.now (object found.0) (rw all (first-object 127 r [] found.0 (omega arith) last)) in
-    let utf8 : IsUtf8 c.args.line.now = search rules in
-    decoded-taken c.args.schema.now c.args.line.now c.columns.result.now c.in_ok-values.values.items found.0 c.requires utf8 is c.columns.ensures.columns found.2 ∙ ap (λ d. Ok d) (sym c.new-in-None.ensures.values)
+    decoded-taken c.args.schema.now c.args.line.now c.columns.result.now c.in_ok-values.values.items found.0 c.requires c.utf8.line is c.columns.ensures.columns found.2 ∙ ap (λ d. Ok d) (sym c.new-in-None.ensures.values)
 
 pub returns-in-None-clause-fits : goal.returns-in-None-clause-fits
 returns-in-None-clause-fits c =

@@ -3,6 +3,7 @@ use Rattle.std.proofs.Common.{◌≡◌, ◌+◌, ◌<◌, ◌^◌, ◌++◌, �
 use Rattle.std.proofs.Math.Logic.{∥∥₁_elim, ∥∥₁_map}
 use Rattle.std.proofs.Props.{props}
 use Rattle.semantics.specs.Lines.{lines}
+use Rattle.lines.specs.Checked.{line_bytes}
 use Rattle.tables.specs.Folding.{HasRead}
 use Rattle.tables.proofs.Reading.{nothing-read, well-numbered}
 use Rattle.tables.proofs.folding.read_onto.Goals as goal
@@ -18,29 +19,29 @@ pub loop-line-init : goal.loop-line-init
 loop-line-init c = λ before held. record {
   seen = [];
   has_read = nothing-read c.args.plan.now.fields c.args.plan.now.query before c.args.table c.begin-folding.result held c.begin-folding.ensures.table c.begin-folding.ensures.lines c.begin-folding.ensures.refused;
-  is = c.into_iter-line-iterator.ensures.into_iter_gives ∙ c.lines_of-line-items.ensures;
+  is = c.into_iter-line-iterator.ensures.into_iter_gives ∙ c.checked_lines_of-line-items.ensures;
 }
 
 pub read-requires : goal.read-requires
 read-requires c =
-    let left : c.loop-line.line-iterator ≡ c.in-Some.line.now ∷ c.next.new.self = search rules in
+    let left : c.loop-line.line-iterator ≡ line_bytes c.in-Some.line ∷ c.next.new.self = search rules in
     ∥∥₁_map c.requires (λ r.
     let v = c.loop-line.invariant r.before r.is_table in
     record {
       before = r.before;
       seen = v.seen;
       has_read = v.has_read;
-      few = few (length r.before) v.seen c.next.new.self (lines c.args.piece.now) c.in-Some.line.now (ap (λ ls. v.seen ++ ls) (sym left) ∙ v.is) r.few;
+      few = few (length r.before) v.seen c.next.new.self (lines c.args.piece.now) (line_bytes c.in-Some.line) (ap (λ ls. v.seen ++ ls) (sym left) ∙ v.is) r.few;
     })
 
 pub loop-line-preserved : goal.loop-line-preserved
 loop-line-preserved c = λ before held.
-    let left : c.loop-line.line-iterator ≡ c.in-Some.line.now ∷ c.next.new.self = search rules in
+    let left : c.loop-line.line-iterator ≡ line_bytes c.in-Some.line ∷ c.next.new.self = search rules in
     let v = c.loop-line.invariant before held in
     record {
-      seen = v.seen ++ c.in-Some.line.now ∷ [];
+      seen = v.seen ++ line_bytes c.in-Some.line ∷ [];
       has_read = c.in_ok-read.ensures before v.seen v.has_read;
-      is = append_assoc v.seen (c.in-Some.line.now ∷ []) c.next.new.self ∙ ap (λ ls. v.seen ++ ls) (sym left) ∙ v.is;
+      is = append_assoc v.seen (line_bytes c.in-Some.line ∷ []) c.next.new.self ∙ ap (λ ls. v.seen ++ ls) (sym left) ∙ v.is;
     }
 
 pub returns-clause-read : goal.returns-clause-read

@@ -1,6 +1,7 @@
 use mir.ValLaws.{Fits-prop}
 use Rattle.std.proofs.Common.{◌≡◌, ◌+◌, ◌++◌, ◌∷◌, [], List, sym, ap, subst, ◌∙◌, arith}
 use Rattle.std.proofs.Math.Logic.{∥∥₁_elim, ∥∥₁_map}
+use Rattle.lines.specs.Checked.{line_bytes}
 use Rattle.semantics.specs.declared.line_fault.LineRefusal.{LineRefusal}
 use Rattle.semantics.specs.Records.{IsRefusal, decode_line}
 use Rattle.tables.specs.declared.folding.Folding.{Folding}
@@ -31,7 +32,7 @@ overflow_add-self c = ∥∥₁_elim c.requires (Fits-prop _ _) (λ r. omega (ar
 
 pub overflow_add-self-2 : goal.overflow_add-self-2
 overflow_add-self-2 c =
-    let same : c.match-read.self.lines ≡ c.args.self.now.lines = elim c.match-read.branch [
+    let same : c.match-read_line.self.lines ≡ c.args.self.now.lines = elim c.match-read_line.branch [
       | in-Ok+in_ok-take-in-Ok w ↦ ap (λ (f : Folding). f.lines) w.self-is ∙ w.in_ok-take-in-Ok.ensures.lines
       | in-Err-Fault+in_ok-push-in-Err-Fault w ↦ ap (λ (f : Folding). f.lines) w.self-is
     ] in
@@ -41,15 +42,15 @@ pub returns : goal.returns
 returns c = λ before seen h.
     let fields = c.args.plan.now.fields in
     let q = c.args.plan.now.query in
-    let line = c.args.line.now in
-    elim c.match-read.branch [
+    let line = line_bytes c.args.line in
+    elim c.match-read_line.branch [
       | in-Ok+in_ok-take-in-Ok w ↦
           subst (λ (f : Folding). HasRead fields q before (record { table = f.table; lines = f.lines + 1; refused = f.refused; marks = f.marks }) (seen ++ line ∷ [])) (sym w.self-is)
           (read-ok fields q before c.args.self.now w.take.new.self seen line w.in-Ok.taken
           (ap (λ fs. decode_line fs line) (sym c.schema.ensures.schema) ∙ w.in-Ok.ensures.ok) h
           w.in_ok-take-in-Ok.ensures.table w.in_ok-take-in-Ok.ensures.lines w.in_ok-take-in-Ok.ensures.refused)
       | in-Err-Fault+in_ok-push-in-Err-Fault w ↦
-          read-err fields q before c.args.self.now c.match-read.self seen line w.in-Err-Fault.fault
+          read-err fields q before c.args.self.now c.match-read_line.self seen line w.in-Err-Fault.fault
           (ap (λ fs. decode_line fs line) (sym c.schema.ensures.schema) ∙ subst (λ (r : LineRefusal). IsRefusal r (decode_line c.schema.result.now line)) w.in-Err-Fault.field-0-is w.in-Err-Fault.ensures.refused) h
           (ap (λ (f : Folding). f.table) w.self-is) (ap (λ (f : Folding). f.lines) w.self-is)
           (ap (λ (f : Folding). f.refused.items) w.self-is ∙ w.in_ok-push-in-Err-Fault.ensures.items)

@@ -1,0 +1,18 @@
+-- Lines that come as texts or as bytes.
+use Rattle.std.specs.Prelude.{ℕ, List}
+use Rattle.lines.specs.declared.checking.Block.{Block}
+use Rattle.lines.specs.declared.checking.Block.TheVariants.{Texts}
+use Rattle.lines.specs.declared.checking.Line.{Line}
+use Rattle.lines.specs.declared.checking.Line.TheVariants.{Text}
+use Rattle.lines.specs.declared.checking.Block.TheVariants as block
+use Rattle.lines.specs.declared.checking.Line.TheVariants as line
+
+-- the bytes of a line
+abbrev pub line_bytes : Line → List ℕ
+line_bytes (Text text) = text.now
+line_bytes (line.Bytes bytes) = bytes.now
+
+-- the lines of a block that are left
+abbrev pub lines_left : Block → List (List ℕ)
+lines_left (Texts texts) = texts
+lines_left (block.Bytes others) = others
