@@ -1,0 +1,7 @@
+use Rattle.std.proofs.Common.{◌≡◌, ◌++◌, take}
+use Rattle.part_text.specs.Texts.{text_of}
+use Rattle.part_groups.specs.Groups.{entries_of, groups_values}
+use Rattle.part_groups.proofs.writing.push_groups.Given as goal
+
+abbrev pub invariant-loop-group : goal.invariant-loop-group
+invariant-loop-group l = l.text.items ≡ l.fn.text.items ++ text_of (groups_values (entries_of (take l.group-index l.groups)))

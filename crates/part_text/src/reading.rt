@@ -1,0 +1,111 @@
+//! Values, read from lines.
+ghost use Rattle.std.specs.Prelude.{◌≡◌, ◌≢◌, ℕ, List, IfOk, MatchOption};
+ghost use Rattle.std.specs.Str.{bytes_eq};
+ghost use Rattle.json.specs.Print.{quoted};
+ghost use Rattle.json.specs.Reads.{token_of};
+ghost use Rattle.json.specs.Token as json;
+ghost use Rattle.semantics.specs.Values.{whole, text};
+ghost use Rattle.values.specs.Datum.{datum_of};
+ghost use Rattle.part_text.specs.Reading.{IsNoLiteralName, IsTextOf, Tells, TellsAmong, line_value};
+
+use crate::fault::ValueFault;
+use crate::strings::json_string;
+use itoa::Buffer;
+use json::{Reader, Scratch, Token};
+use simdutf8::basic::from_utf8;
+use std::alloc::{AllocError, Global};
+use values::Value;
+
+/// The value of a line, without its line feed.
+///
+/// Example: of `-5` it is the whole number -5, and of ` -5`, `-5.0` or `-05` there is none.
+///
+/// # Errors
+///
+/// `NotAValue` where the line is the text of no value, `OutOfMemory` where there is no memory for the value.
+pub fn read_value(alloc: Global, scratch: &mut Scratch, line: &[u8]) -> Result<Value, ValueFault>
+    ensures { Tells result (line_value line.now) }
+{
+    let Ok(line) = from_utf8(line) else {
+        return Err(ValueFault::NotAValue);
+    };
+    if let Some(value) = literal_value(line) {
+        return Ok(value);
+    }
+    if line.starts_with('"') {
+        read_string(alloc, scratch, line)
+    } else {
+        read_number(line)
+    }
+}
+
+/// The value of a literal name of JSON (RFC 8259, section 3).
+fn literal_value(line: &str) -> Option<Value>
+    ensures { MatchOption result (IsNoLiteralName line.now)
+        (λ value. IsTextOf line.now (datum_of value)) }
+{
+    match line {
+        "true" => Some(Value::Bool(true)),
+        "false" => Some(Value::Bool(false)),
+        "null" => Some(Value::Null),
+        _ => None,
+    }
+}
+
+/// The whole number of a line, if it has 128 bits and is written as numbers are: without a plus, a zero in front, a fraction
+/// or an exponent.
+fn read_number(line: &str) -> Result<Value, ValueFault>
+    ensures { TellsAmong whole line.now result }
+{
+    let Ok(number) = line.parse::<i128>() else {
+        return Err(ValueFault::NotAValue);
+    };
+    if Buffer::new().format(number) == line {
+        Ok(Value::Int(number))
+    } else {
+        Err(ValueFault::NotAValue)
+    }
+}
+
+/// The text of a line, if it is a string of JSON with the shortest escapes.
+fn read_string(alloc: Global, scratch: &mut Scratch, line: &str) -> Result<Value, ValueFault>
+    ensures { TellsAmong text line.now result }
+{
+    let mut reader = Reader::new(line, scratch)?;
+    let Some(token) = reader.next() else {
+        return Err(ValueFault::NotAValue);
+    };
+    let Some(string) = string_in(token) else {
+        return Err(ValueFault::NotAValue);
+    };
+    if !is_string_of(alloc, string, line)? {
+        return Err(ValueFault::NotAValue);
+    }
+    Ok(Value::Text(String::from_str(alloc, string)?))
+}
+
+/// The text of a token, if it is a string.
+fn string_in<'a>(token: Token<'a>) -> Option<&'a str>
+    ensures { MatchOption result ((s : List ℕ) → token_of token.entry ≢ json.string s)
+        (λ s. token_of token.entry ≡ json.string s.now) }
+{
+    match token {
+        Token::String(text) => Some(text),
+        Token::BeginObject
+        | Token::EndObject
+        | Token::BeginArray
+        | Token::EndArray
+        | Token::Key(_)
+        | Token::Number(_)
+        | Token::Bool(_)
+        | Token::Null
+        | Token::Bad => None,
+    }
+}
+
+/// Whether a line is a text as a string of JSON.
+fn is_string_of(alloc: Global, text: &str, line: &str) -> Result<bool, AllocError>
+    ensures { IfOk result (λ same. same ≡ bytes_eq (quoted text.now) line.now) }
+{
+    Ok(json_string(alloc, text)?.as_slice() == line.as_bytes())
+}
