@@ -1,6 +1,6 @@
 mod Examples
 mod Fronts
-mod Lexemes
+pub mod Lexemes
 mod Literals
 mod Marks
 pub mod Meaning
@@ -11,3 +11,4 @@ mod PartsAt
 mod Passed
 mod Signs
 mod WholeNumbers
+mod WordEnds
