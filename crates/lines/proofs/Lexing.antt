@@ -1,37 +1,19 @@
 -- What the lexer of JSON answers at a place of a text, and what the rules of commas and colons make of it.
-use Rattle.std.proofs.Common.{◌≡◌, ℕ, ◌+◌, ◌<◌, Bool, true, false, List, [], ◌∷◌, length, drop, get_or, refl, sym, ap, ◌∙◌, arith, lt_of_not-le, true≢false}
-use Rattle.std.proofs.lemmas.List.{drop_all, drop_more, get_or_past}
+use Rattle.std.proofs.Common.{◌≡◌, ℕ, ◌+◌, Bool, true, false, List, [], ◌∷◌, length, get_or, refl, sym, ap, ◌∙◌, arith, true≢false}
+use Rattle.std.proofs.lemmas.List.{drop_all}
 use Rattle.json.specs.Token as json
 use Rattle.json.specs.Token.{Token}
-use Rattle.json.specs.Lex.{Lexeme, token, comma, colon, operator, class, operator_lexeme, string_token, between, in_string, lex, lex_byte, Place, fresh, after_value, after_comma, after_key, begins_colon, may_begin, place_token, punctuate}
+use Rattle.json.specs.Lex.{Lexeme, token, comma, colon, between, lex, Place, fresh, after_value, after_comma, after_key, begins_colon, may_begin, place_token, punctuate}
 use Rattle.lines_json.specs.Standing.{IsStringOf, IsTokenAt, lexemes}
+use Rattle.lines_json.proofs.Lexemes.{lexemes-string}
 
 -- ---- lexemes
-
-module _ (text : List ℕ) (at c : ℕ) (is : get_or text at 32 ≡ c) where
-  -- what is no space stands within the text
-  pub byte_within : (c ≡ 32 → ⊥) → at < length text
-  byte_within no_space = lt_of_not-le (λ past. no_space (sym is ∙ get_or_past text at 32 past))
-
-  lexed : (c ≡ 32 → ⊥) → lexemes text at ≡ lex_byte between (class c) c (drop (at + 1) text) (λ mode. lex mode (drop (at + 1) text))
-  unfolding lex
-  lexed no_space = ap (lex between) (drop_more text at 32 (byte_within no_space) ∙ ap (λ x. x ∷ drop (at + 1) text) is)
-
-  -- a brace, a comma or a colon
-  pub lexed-mark : (c ≡ 32 → ⊥) → class c ≡ operator → lexemes text at ≡ operator_lexeme c ∷ lexemes text (at + 1)
-  lexed-mark no_space mark = lexed no_space ∙ ap (λ k. lex_byte between k c (drop (at + 1) text) (λ mode. lex mode (drop (at + 1) text))) mark
-
--- a string
-lexed-string : (text : List ℕ) (at quote : ℕ) (bytes : List ℕ) → get_or text at 32 ≡ 34 → IsStringOf text (at + 1) quote bytes → lexemes text at ≡ token (json.string bytes) ∷ lexemes text (quote + 1)
-lexed-string text at quote bytes opens s =
-    lexed text at 34 opens (λ e. (let never : ⊥ = omega (arith, e) in never))
-    ∙ ap (λ o. token (string_token o) ∷ lex in_string (drop (at + 1) text)) s.means ∙ ap (λ ls. token (json.string bytes) ∷ ls) s.rest
 
 pub string-token : (text : List ℕ) (at quote : ℕ) (bytes : List ℕ) → get_or text at 32 ≡ 34 → IsStringOf text (at + 1) quote bytes → IsTokenAt text at (quote + 1) (json.string bytes)
 string-token text at quote bytes opens s = record {
   later = omega (arith, s.later);
   within = omega (arith, s.within);
-  stands = lexed-string text at quote bytes opens s;
+  stands = lexemes-string text at quote bytes opens s;
 }
 
 -- the end
