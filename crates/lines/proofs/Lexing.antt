@@ -1,11 +1,13 @@
 -- What the lexer of JSON answers at a place of a text, and what the rules of commas and colons make of it.
-use Rattle.std.proofs.Common.{◌≡◌, ℕ, ◌+◌, Bool, true, false, List, [], ◌∷◌, length, get_or, refl, sym, ap, ◌∙◌, arith, true≢false}
+use Rattle.std.proofs.Common.{◌≡◌, ℕ, ◌+◌, Bool, true, false, List, [], ◌∷◌, length, get_or, refl, ap, ◌∙◌, arith}
 use Rattle.std.proofs.lemmas.List.{drop_all}
 use Rattle.json.specs.Token as json
 use Rattle.json.specs.Token.{Token}
-use Rattle.json.specs.Lex.{Lexeme, token, comma, colon, between, lex, Place, fresh, after_value, after_comma, after_key, begins_colon, may_begin, place_token, punctuate}
+use Rattle.json.specs.Lex.{Lexeme, token, between, lex, Place, fresh, after_value, begins_colon, may_begin, punctuate}
 use Rattle.lines_json.specs.Standing.{IsStringOf, IsTokenAt, lexemes}
 use Rattle.lines_json.proofs.Lexemes.{lexemes-string}
+use Rattle.lines_json.proofs.Punctuation as punctuation
+use Rattle.lines_json.proofs.Punctuation.{let_through, punctuate-token}
 
 -- ---- lexemes
 
@@ -31,40 +33,16 @@ abbrev pub IsPlaced : Token → Type 0
 IsPlaced t = (place : Place) (ls : List Lexeme) → may_begin place ≡ true → begins_colon ls ≡ false → punctuate place (token t ∷ ls) ≡ t ∷ punctuate after_value ls
 
 pub placed-string : (s : List ℕ) → IsPlaced (json.string s)
-unfolding punctuate
-placed-string s fresh ls may apart = ap (λ b. place_token fresh (json.string s) b (λ next. punctuate next ls)) apart
-placed-string s after_value ls may apart = absurd (true≢false (sym may))
-placed-string s after_comma ls may apart = ap (λ b. place_token after_comma (json.string s) b (λ next. punctuate next ls)) apart
-placed-string s after_key ls may apart = absurd (true≢false (sym may))
+placed-string s place ls may apart = punctuation.placed-string place s ls apart may
 
 pub placed-number : (s : List ℕ) → IsPlaced (json.number s)
-unfolding punctuate
-placed-number s fresh ls may apart = refl
-placed-number s after_value ls may apart = absurd (true≢false (sym may))
-placed-number s after_comma ls may apart = refl
-placed-number s after_key ls may apart = absurd (true≢false (sym may))
+placed-number s place ls may apart = punctuate-token place (json.number s) ls ∙ let_through (may_begin place) (json.number s) after_value ls may
 
 pub placed-boolean : (b : Bool) → IsPlaced (json.boolean b)
-unfolding punctuate
-placed-boolean b fresh ls may apart = refl
-placed-boolean b after_value ls may apart = absurd (true≢false (sym may))
-placed-boolean b after_comma ls may apart = refl
-placed-boolean b after_key ls may apart = absurd (true≢false (sym may))
+placed-boolean b place ls may apart = punctuate-token place (json.boolean b) ls ∙ let_through (may_begin place) (json.boolean b) after_value ls may
 
 pub placed-null : IsPlaced json.null
-unfolding punctuate
-placed-null fresh ls may apart = refl
-placed-null after_value ls may apart = absurd (true≢false (sym may))
-placed-null after_comma ls may apart = refl
-placed-null after_key ls may apart = absurd (true≢false (sym may))
-
--- a name
-pub placed-name : (s : List ℕ) (place : Place) (ls : List Lexeme) → may_begin place ≡ true → punctuate place (token (json.string s) ∷ colon ∷ ls) ≡ json.key s ∷ punctuate fresh ls
-unfolding punctuate
-placed-name s fresh ls may = refl
-placed-name s after_value ls may = absurd (true≢false (sym may))
-placed-name s after_comma ls may = refl
-placed-name s after_key ls may = absurd (true≢false (sym may))
+placed-null place ls may apart = punctuate-token place json.null ls ∙ let_through (may_begin place) json.null after_value ls may
 
 -- the brace that opens an object
 pub placed-opening : (ls : List Lexeme) → punctuate fresh (token json.begin_object ∷ ls) ≡ json.begin_object ∷ punctuate fresh ls
@@ -79,10 +57,6 @@ placed-closing ls = refl
 pub placed-empty : (ls : List Lexeme) → punctuate fresh (token json.end_object ∷ ls) ≡ json.end_object ∷ punctuate after_value ls
 unfolding punctuate
 placed-empty ls = refl
-
-pub placed-comma : (ls : List Lexeme) → punctuate after_value (comma ∷ ls) ≡ punctuate after_comma ls
-unfolding punctuate
-placed-comma ls = refl
 
 pub placed-end : punctuate after_value [] ≡ []
 unfolding punctuate

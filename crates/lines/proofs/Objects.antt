@@ -13,6 +13,7 @@ use Rattle.serde_json.specs.Read.{of_members, read}
 use Rattle.lines_json.specs.Meant.{AreMembers, IsValue}
 use Rattle.lines_json.specs.Standing.{IsStringOf, IsTokenAt, lexemes}
 use Rattle.lines_json.proofs.Lexemes.{before_end, lexemes-operator}
+use Rattle.lines_json.proofs.Punctuation.{placed-comma, placed-name}
 use Rattle.lines_json.proofs.Meaning.{IsAt, begins, first-object, first-string, member-next, members-closed, read-one}
 use Rattle.values.specs.declared.schema.Column.{Column}
 use Rattle.values.specs.declared.value.Value.{Value}
@@ -23,7 +24,7 @@ use Rattle.semantics.specs.declared.kind.Kind.TheVariants as kind
 use Rattle.semantics.specs.Values as datum
 use Rattle.semantics.specs.Records.{datum_taken}
 use Rattle.lines.specs.Members.{AreMembersAt, AreTaken, IsMemberAt, IsTakenAt}
-use Rattle.lines.proofs.Lexing.{IsPlaced, lexed-end, lexed-whole, placed-closing, placed-comma, placed-empty, placed-end, placed-name, placed-opening, placed-string, string-token}
+use Rattle.lines.proofs.Lexing.{IsPlaced, lexed-end, lexed-whole, placed-closing, placed-empty, placed-end, placed-opening, placed-string, string-token}
 
 -- a column takes a value that is one token
 pub token-taken : (text : List ℕ) (kind : Kind) (at stop : ℕ) (v : Value) (t : Token) (d : Data) → IsTokenAt text at stop t → IsPlaced t → ((rest : List Token) → IsValue 126 (t ∷ rest) d rest) → datum_taken kind d ≡ Some (datum_of v)
@@ -105,7 +106,7 @@ module _ (text : List ℕ) (from : ℕ) (columns : List Column) where
         let now = punctuate so_far.place (lexemes text at) in
         let behind = punctuate fresh (lexemes text m.start) in
         let next = punctuate after_value (lexemes text stop) in
-        let first : now ≡ token.key m.name ∷ behind = ap (punctuate so_far.place) m.named.stands ∙ placed-name m.name so_far.place (lexemes text m.start) so_far.may in
+        let first : now ≡ token.key m.name ∷ behind = ap (punctuate so_far.place) m.named.stands ∙ placed-name so_far.place m.name (lexemes text m.start) so_far.may in
         let is : IsValue 126 behind m.value.meant next = m.value.stands (ap begins_colon (sym same) ∙ apart) fresh refl in
         record {
           found = put m.name m.value.meant so_far.found;

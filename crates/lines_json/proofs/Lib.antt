@@ -9,6 +9,7 @@ mod NumberExamples
 mod Parts
 mod PartsAt
 mod Passed
+pub mod Punctuation
 mod Signs
 mod WholeNumbers
 mod WordEnds
