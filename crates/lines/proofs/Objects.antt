@@ -12,6 +12,8 @@ use Rattle.serde_json.specs.Data.{Data, Members, no_members, object, put, string
 use Rattle.serde_json.specs.Read.{of_members, read}
 use Rattle.lines_json.specs.Meant.{AreMembers, IsValue}
 use Rattle.lines_json.specs.Standing.{IsStringOf, IsTokenAt, lexemes}
+use Rattle.lines_json.proofs.Lexemes.{before_end, lexemes-operator}
+use Rattle.lines_json.proofs.Punctuation.{placed-comma, placed-name}
 use Rattle.lines_json.proofs.Meaning.{IsAt, begins, first-object, first-string, member-next, members-closed, read-one}
 use Rattle.values.specs.declared.schema.Column.{Column}
 use Rattle.values.specs.declared.value.Value.{Value}
@@ -22,7 +24,7 @@ use Rattle.semantics.specs.declared.kind.Kind.TheVariants as kind
 use Rattle.semantics.specs.Values as datum
 use Rattle.semantics.specs.Records.{datum_taken}
 use Rattle.lines.specs.Members.{AreMembersAt, AreTaken, IsMemberAt, IsTakenAt}
-use Rattle.lines.proofs.Lexing.{IsPlaced, byte_within, lexed-end, lexed-mark, lexed-whole, placed-closing, placed-comma, placed-empty, placed-end, placed-name, placed-opening, placed-string, string-token}
+use Rattle.lines.proofs.Lexing.{IsPlaced, lexed-end, lexed-whole, placed-closing, placed-empty, placed-end, placed-opening, placed-string, string-token}
 
 -- a column takes a value that is one token
 pub token-taken : (text : List ℕ) (kind : Kind) (at stop : ℕ) (v : Value) (t : Token) (d : Data) → IsTokenAt text at stop t → IsPlaced t → ((rest : List Token) → IsValue 126 (t ∷ rest) d rest) → datum_taken kind d ≡ Some (datum_of v)
@@ -40,7 +42,7 @@ token-taken text kind at stop v t d s placed first taken = record {
 -- behind a quote a text may be cut
 pub quote-boundary : (bytes : List ℕ) (at : ℕ) → IsUtf8 bytes → get_or bytes at 32 ≡ 34 → IsCharBoundary bytes (at + 1)
 quote-boundary bytes at utf8 opens =
-    let within : at < length bytes = byte_within bytes at 34 opens (λ e. (let never : ⊥ = omega (arith, e) in never)) in
+    let within : at < length bytes = before_end bytes at 34 opens refl in
     IsCharBoundary-after_ascii bytes at utf8 within (omega (arith, opens, get_or_default bytes at 0 32 within))
 
 -- a column of texts takes a string
@@ -92,9 +94,9 @@ module _ (text : List ℕ) (from : ℕ) (columns : List Column) where
   -- an object without members
   pub members-none : (end : ℕ) (values : List Value) → lexemes text end ≡ lexemes text from → AreTaken columns values no_members → get_or text end 32 ≡ 125 → AreMembersAt text from (end + 1) columns values
   members-none end values same taken mark =
-      let brace = lexed-mark text end 125 mark (λ e. (let never : ⊥ = omega (arith, e) in never)) refl in
+      let brace = lexemes-operator text end 125 refl refl mark in
       closed from end values fresh no_members (begins (members (value 126)) (punctuate fresh (lexemes text from)) (λ ms. of_members ms no_members)) taken
-      (byte_within text end 125 mark (λ e. (let never : ⊥ = omega (arith, e) in never)))
+      (before_end text end 125 mark refl)
       (ap (λ ls. read_key (punctuate fresh ls)) (sym same ∙ brace) ∙ ap read_key (placed-empty (lexemes text (end + 1))))
 
   module _ (at stop end : ℕ) (old new : List Value) (so_far : AreMembersUpTo text from at columns old) (m : IsMemberAt text at stop columns old new) (same : lexemes text end ≡ lexemes text stop) where
@@ -104,7 +106,7 @@ module _ (text : List ℕ) (from : ℕ) (columns : List Column) where
         let now = punctuate so_far.place (lexemes text at) in
         let behind = punctuate fresh (lexemes text m.start) in
         let next = punctuate after_value (lexemes text stop) in
-        let first : now ≡ token.key m.name ∷ behind = ap (punctuate so_far.place) m.named.stands ∙ placed-name m.name so_far.place (lexemes text m.start) so_far.may in
+        let first : now ≡ token.key m.name ∷ behind = ap (punctuate so_far.place) m.named.stands ∙ placed-name so_far.place m.name (lexemes text m.start) so_far.may in
         let is : IsValue 126 behind m.value.meant next = m.value.stands (ap begins_colon (sym same) ∙ apart) fresh refl in
         record {
           found = put m.name m.value.meant so_far.found;
@@ -115,7 +117,7 @@ module _ (text : List ℕ) (from : ℕ) (columns : List Column) where
     -- a comma stands behind a member
     pub members-more : (j : ℕ) → get_or text end 32 ≡ 44 → j ≤ length text → lexemes text j ≡ lexemes text (end + 1) → AreMembersUpTo text from j columns new
     members-more j mark within again =
-        let comma_there = lexed-mark text end 44 mark (λ e. (let never : ⊥ = omega (arith, e) in never)) refl in
+        let comma_there = lexemes-operator text end 44 refl refl mark in
         let b = passed (ap begins_colon comma_there) in
         let on : punctuate after_value (lexemes text stop) ≡ punctuate after_comma (lexemes text j) =
         ap (punctuate after_value) (sym same ∙ comma_there) ∙ placed-comma (lexemes text (end + 1)) ∙ ap (punctuate after_comma) (sym again) in
@@ -131,9 +133,9 @@ module _ (text : List ℕ) (from : ℕ) (columns : List Column) where
     -- the brace that closes the object stands behind a member
     pub members-end : get_or text end 32 ≡ 125 → AreMembersAt text from (end + 1) columns new
     members-end mark =
-        let brace = lexed-mark text end 125 mark (λ e. (let never : ⊥ = omega (arith, e) in never)) refl in
+        let brace = lexemes-operator text end 125 refl refl mark in
         let b = passed (ap begins_colon brace) in
-        closed stop end new after_value b.found b.among b.taken (byte_within text end 125 mark (λ e. (let never : ⊥ = omega (arith, e) in never)))
+        closed stop end new after_value b.found b.among b.taken (before_end text end 125 mark refl)
         (ap (λ ls. read_key (punctuate after_value ls)) (sym same ∙ brace) ∙ ap read_key (placed-closing (lexemes text (end + 1))))
 
 -- a text that is one object
@@ -141,7 +143,7 @@ pub read-members : (text : List ℕ) (brace stop end : ℕ) (columns : List Colu
     → (all : AreMembersAt text (brace + 1) stop columns values) → lexemes text end ≡ lexemes text stop → length text ≤ end → end ≤ length text → read text ≡ Some (object all.found)
 read-members text brace stop end columns values same mark all again past within =
     let opens : tokens text ≡ token.begin_object ∷ punctuate fresh (lexemes text (brace + 1)) =
-    ap (punctuate fresh) (lexed-whole text ∙ sym same ∙ lexed-mark text brace 123 mark (λ e. (let never : ⊥ = omega (arith, e) in never)) refl) ∙ placed-opening (lexemes text (brace + 1)) in
+    ap (punctuate fresh) (lexed-whole text ∙ sym same ∙ lexemes-operator text brace 123 refl refl mark) ∙ placed-opening (lexemes text (brace + 1)) in
     let last : end ≡ length text = omega arith in
     let ends : punctuate after_value (lexemes text stop) ≡ [] = ap (punctuate after_value) (sym again ∙ ap (lexemes text) last ∙ lexed-end text) ∙ placed-end in
     let found : AreMembers 126 (punctuate fresh (lexemes text (brace + 1))) all.found [] = rw (← ends) all.stand in

@@ -1,6 +1,6 @@
 mod Examples
 mod Fronts
-mod Lexemes
+pub mod Lexemes
 mod Literals
 mod Marks
 pub mod Meaning
@@ -9,5 +9,7 @@ mod NumberExamples
 mod Parts
 mod PartsAt
 mod Passed
+pub mod Punctuation
 mod Signs
 mod WholeNumbers
+mod WordEnds

@@ -1,7 +1,7 @@
 -- Values, items and members by the places where they end.
 use Rattle.std.proofs.Common.{◌≡◌, ℕ, ◌+◌, ◌-◌, ◌<◌, ◌≤◌, Bool, true, false, List, ◌∷◌, length, get_or, Option, Some, None, is_some, refl, sym, ap, ◌∙◌, subst, arith}
 use Rattle.json.specs.Token.{Token}
-use Rattle.json.specs.Lex.{Lexeme, token, comma, colon, Place, fresh, after_value, after_comma, after_key, begins_colon, if_allowed, may_begin, may_close, place_token, punctuate}
+use Rattle.json.specs.Lex.{token, colon, Place, fresh, after_value, after_comma, begins_colon, may_begin, may_close, punctuate}
 use Rattle.json.specs.Json.{after_end_array, read_key, items, members, value}
 use Rattle.json.proofs.Grammar.{closed_array, left, skip_value-shorter, value_is}
 use Rattle.serde_json.specs.Data.{Num, Data, null, boolean, number, string, array, object, Items, no_items, item, Members, no_members, put}
@@ -10,34 +10,8 @@ use Rattle.lines_json.specs.Inside.{AreItemsAt, AreMembersAt, IsNameAt}
 use Rattle.lines_json.specs.Meant.{IsValue}
 use Rattle.lines_json.specs.Standing.{IsStringOf, IsTokenAt, IsValueAt, lexemes}
 use Rattle.lines_json.proofs.Lexemes.{before_end, lexemes-operator, lexemes-string}
+use Rattle.lines_json.proofs.Punctuation.{let_through, placed-comma, placed-name, placed-string, punctuate-token}
 use Rattle.lines_json.proofs.Meaning.{IsAt, begins, first-array, first-boolean, first-null, first-number, first-object, first-string, item-next, items-closed, member-next, members-closed}
-
--- ---- a token where it may stand
-
-punctuate-token : (place : Place) (t : Token) (ls : List Lexeme) → punctuate place (token t ∷ ls) ≡ place_token place t (begins_colon ls) (λ next. punctuate next ls)
-unfolding punctuate
-punctuate-token fresh t ls = refl
-punctuate-token after_value t ls = refl
-punctuate-token after_comma t ls = refl
-punctuate-token after_key t ls = refl
-
--- the token is let through
-let_through : (test : Bool) (t : Token) (next : Place) (ls : List Lexeme) → test ≡ true → if_allowed test t (λ p. punctuate p ls) next ≡ t ∷ punctuate next ls
-let_through test t next ls e = ap (λ b. if_allowed b t (λ p. punctuate p ls) next) e
-
--- a string that is no name
-placed-string : (place : Place) (bytes : List ℕ) (ls : List Lexeme) → begins_colon ls ≡ false → may_begin place ≡ true → punctuate place (token (Token.string bytes) ∷ ls) ≡ Token.string bytes ∷ punctuate after_value ls
-placed-string place bytes ls no_name may =
-    punctuate-token place (Token.string bytes) ls ∙ ap (λ b. place_token place (Token.string bytes) b (λ next. punctuate next ls)) no_name ∙ let_through (may_begin place) (Token.string bytes) after_value ls may
-
--- a name with its colon
-placed-name : (place : Place) (bytes : List ℕ) (ls : List Lexeme) → may_begin place ≡ true → punctuate place (token (Token.string bytes) ∷ colon ∷ ls) ≡ Token.key bytes ∷ punctuate fresh ls
-unfolding punctuate
-placed-name place bytes ls may = punctuate-token place (Token.string bytes) (colon ∷ ls) ∙ let_through (may_begin place) (Token.key bytes) after_key (colon ∷ ls) may
-
-placed-comma : (ls : List Lexeme) → punctuate after_value (comma ∷ ls) ≡ punctuate after_comma ls
-unfolding punctuate
-placed-comma ls = refl
 
 module _ (text : List ℕ) (depth : ℕ) where
   -- ---- values

@@ -9,8 +9,10 @@ use Rattle.std.specs.List.{prefix_len}
 use Rattle.json.specs.Lex.{between, class, in_word, lex, lex_byte, operator, other, space, token}
 use Rattle.json.specs.Token.{number}
 use Rattle.json.specs.Word.{after_digits, after_number, ends_word, head, is_operator, is_space, word}
+use Rattle.lines_json.specs.Inside.{is_word_end}
 use Rattle.lines_json.specs.NumberParts.{IsNumberPart}
 use Rattle.lines_json.specs.Standing.{IsTokenAt}
+use Rattle.lines_json.proofs.WordEnds.{class_ends, ends_word-at, goes_on, head-drop, word_ends}
 
 -- ---- a byte of a word
 
@@ -94,10 +96,6 @@ part-then {second = second} text at middle stop one two = record {
 part-none : (text : List ℕ) (at : ℕ) → at ≤ length text → IsNumberPart (λ rest. Some rest) text at at
 part-none text at within = record { later = omega arith; within = within; parsed = refl; passed = refl }
 
--- the byte at a place stands at the front of the rest
-pub head-drop : (text : List ℕ) (at : ℕ) → head (drop at text) ≡ get_or text at 32
-head-drop text at = get_or-drop at text 0 32 ∙ ap (λ k. get_or text k 32) (add-zero at)
-
 -- a part that begins with a byte of its own
 pub part-with_byte : (behind without : List ℕ → Option (List ℕ)) (test : ℕ → Bool) (text : List ℕ) (at stop : ℕ) (c : ℕ) → get_or text at 32 ≡ c → class c ≡ other → test c ≡ true
     → IsNumberPart behind text (at + 1) stop → IsNumberPart (λ rest. cond (test (head rest)) (behind (drop 1 rest)) (without rest)) text at stop
@@ -129,33 +127,6 @@ part-sign test text at c is of_word passes =
 
 -- ---- numbers
 
--- what ends a word is an operator or a space
-pub class_ends : (x : ℕ) → (is_operator x || is_space x) ≡ true → (class x ≡ operator) ⊎ (class x ≡ space)
-class_ends x h =
-    let no_quote : (x == 34) ≡ false = ne_eqb x 34 (λ e. false≢true (sym (ap (λ y. is_operator y || is_space y) e) ∙ h)) in
-    let no_backslash : (x == 92) ≡ false = ne_eqb x 92 (λ e. false≢true (sym (ap (λ y. is_operator y || is_space y) e) ∙ h)) in
-    rw (no_quote, no_backslash) (either (is_operator x) (is_space x) h)
-  where
-    either : (o s : Bool) → (o || s) ≡ true → (cond o operator (cond s space other) ≡ operator) ⊎ (cond o operator (cond s space other) ≡ space)
-    either true s h = inl refl
-    either false true h = inr refl
-    either false false h = absurd (false≢true h)
-
-pub goes_on : (x : ℕ) → class x ≡ other → (class x ≡ operator) ⊎ (class x ≡ space) → ⊥
-goes_on x e (inl ends) = cc
-goes_on x e (inr ends) = cc
-
-byte_ends : (x : ℕ) (xs : List ℕ) → (class x ≡ operator) ⊎ (class x ≡ space) → lex in_word (x ∷ xs) ≡ lex between (x ∷ xs)
-unfolding lex
-byte_ends x xs (inl e) = rw e refl
-byte_ends x xs (inr e) = rw e refl
-
--- where a byte ends the word, what follows is read as between words
-pub word_ends : (t : List ℕ) → ends_word t ≡ true → lex in_word t ≡ lex between t
-unfolding lex
-word_ends [] h = refl
-word_ends (x ∷ xs) h = byte_ends x xs (class_ends x h)
-
 number_word : (t rest : List ℕ) → head t < 58 → after_number t ≡ Some rest → ends_word rest ≡ true → word t ≡ number (take (length t - length rest) t)
 unfolding word
 number_word t rest small e h = rw (ne_eqb (head t) 116 (λ z. omega arith), ne_eqb (head t) 102 (λ z. omega arith), ne_eqb (head t) 110 (λ z. omega arith), e, h) refl
@@ -165,19 +136,19 @@ unfolding lex
 other_begins x xs e = rw e refl
 
 -- a number of which no byte ends the word, and then a byte that does
-pub number-token : (text : List ℕ) (at stop : ℕ) → 44 < get_or text at 32 → get_or text at 32 < 58 → IsNumberPart after_number text at stop → (is_operator (get_or text stop 32) || is_space (get_or text stop 32)) ≡ true
+pub number-token : (text : List ℕ) (at stop : ℕ) → 44 < get_or text at 32 → get_or text at 32 < 58 → IsNumberPart after_number text at stop → is_word_end (get_or text stop 32) ≡ true
     → IsTokenAt text at stop (number (take (stop - at) (drop at text)))
 number-token text at stop low high part h =
     let t = drop at text in
     let rest = drop stop text in
     let first = head-drop text at in
-    let ends : ends_word rest ≡ true = ap (λ x. is_operator x || is_space x) (head-drop text stop) ∙ h in
+    let ends : ends_word rest ≡ true = ends_word-at text stop h in
     let of_word = class-number (get_or text at 32) low high in
     let cut : t ≡ get_or text at 32 ∷ drop (at + 1) text = drop_more text at 32 (byte_within text at of_word) in
     let long : length t - length rest ≡ stop - at = omega (arith, length-drop at text, length-drop stop text) in
     let named : word t ≡ number (take (stop - at) t) = number_word t rest (omega arith) part.parsed ends ∙ ap (λ n. number (take n t)) long in
     record {
-      later = lt_of_le-ne part.later (λ e. goes_on (get_or text at 32) of_word (class_ends (get_or text at 32) (ap (λ k. is_operator (get_or text k 32) || is_space (get_or text k 32)) e ∙ h)));
+      later = lt_of_le-ne part.later (λ e. goes_on (get_or text at 32) of_word (class_ends (get_or text at 32) (ap (λ k. is_word_end (get_or text k 32)) e ∙ h)));
       within = part.within;
       stands = ap (lex between) cut ∙ other_begins (get_or text at 32) (drop (at + 1) text) of_word ∙ ap (λ s. token (word s) ∷ lex in_word s) (sym cut)
           ∙ ap (λ w. token w ∷ lex in_word t) named ∙ ap (λ ls. token (number (take (stop - at) t)) ∷ ls) (part.passed ∙ word_ends rest ends);

@@ -13,13 +13,15 @@ use Rattle.std.specs.List.{prefix_len}
 use Rattle.std.specs.Str.Parse.{AllDigits, digits_value}
 use Rattle.fast_float.specs.Text.{IsWellFormed, Parts, scan}
 use Rattle.json.specs.Lex.{class, in_word, lex, other}
-use Rattle.json.specs.Word.{after_digits, after_exponent, after_fraction, after_number, head, is_operator, is_space}
+use Rattle.json.specs.Word.{after_digits, after_exponent, after_fraction, after_number, head}
 use Rattle.serde_json.specs.Data.{negative, unsigned}
 use Rattle.serde_json.specs.Find.{as_integer}
 use Rattle.serde_json.specs.Read.{number_of}
 use Rattle.lines_json.specs.NumberParts.{AreDigitsAt, IsNumberPart, after_unsigned}
 use Rattle.lines_json.specs.Standing.{IsWholeNumberAt}
-use Rattle.lines_json.proofs.Passed.{class-number, class_ends, digits_passed, goes_on, head-drop, number-token, part-sign, part-then}
+use Rattle.lines_json.specs.Inside.{is_word_end}
+use Rattle.lines_json.proofs.WordEnds.{class_ends, goes_on, head-drop}
+use Rattle.lines_json.proofs.Passed.{class-number, digits_passed, number-token, part-sign, part-then}
 use Rattle.lines_json.proofs.Signs.{number-behind_minus, number-no_minus}
 
 -- ---- where the digits end
@@ -36,17 +38,17 @@ prefix_is (x ∷ xs) (suc n) within digits e =
     ap (λ b. cond b (1 + prefix_len is_ascii_digit xs) 0) (digit_is x digits.0) ∙ omega (arith, prefix_is xs n (omega arith) digits.1 e)
 
 -- what ends a word is no byte of a word
-ends_before : (x c : ℕ) → (is_operator x || is_space x) ≡ true → class c ≡ other → (x == c) ≡ false
+ends_before : (x c : ℕ) → is_word_end x ≡ true → class c ≡ other → (x == c) ≡ false
 ends_before x c ends of_word = ne_eqb x c (λ e. goes_on x (ap class e ∙ of_word) (class_ends x ends))
 
-no_digit : (x : ℕ) → (is_operator x || is_space x) ≡ true → is_ascii_digit x ≡ false
+no_digit : (x : ℕ) → is_word_end x ≡ true → is_ascii_digit x ≡ false
 no_digit x ends =
     elim (cases_Bool (is_ascii_digit x)) [
       | inl digit ↦ (let low : 44 < x = grind (arith, nat_tests) in let high : x < 58 = grind (arith, nat_tests) in absurd (goes_on x (class-number x low high) (class_ends x ends)))
       | inr none ↦ none
     ]
 
-module _ (t : List ℕ) (n : ℕ) (some : 0 < n) (within : n ≤ length t) (digits : AllDigits 10 (take n t)) (first : get_or t 0 32 ≡ 48 → n ≡ 1) (ends : (is_operator (get_or t n 32) || is_space (get_or t n 32)) ≡ true) where
+module _ (t : List ℕ) (n : ℕ) (some : 0 < n) (within : n ≤ length t) (digits : AllDigits 10 (take n t)) (first : get_or t 0 32 ≡ 48 → n ≡ 1) (ends : is_word_end (get_or t n 32) ≡ true) where
   count_is : prefix_len is_ascii_digit t ≡ n
   count_is = prefix_is t n within digits (no_digit (get_or t n 32) ends)
 
@@ -68,7 +70,7 @@ module _ (t : List ℕ) (n : ℕ) (some : 0 < n) (within : n ≤ length t) (digi
 
 -- digits at the front of what follows a place
 pub digits-at : (text rest : List ℕ) (from count n : ℕ) → rest ≡ drop from text → from ≤ length text → 0 < count → count ≤ 18 → count ≤ length rest → AllDigits 10 (take count rest)
-    → n ≡ digits_value 10 (take count rest) → (get_or rest 0 32 ≡ 48 → count ≡ 1) → (is_operator (get_or rest count 32) || is_space (get_or rest count 32)) ≡ true → AreDigitsAt text from (from + count) n
+    → n ≡ digits_value 10 (take count rest) → (get_or rest 0 32 ≡ 48 → count ≡ 1) → is_word_end (get_or rest count 32) ≡ true → AreDigitsAt text from (from + count) n
 digits-at text rest from count n same inside some short within digits value first ends =
     let long : from + count - from ≡ count = omega arith in
     let cut : take (from + count - from) (drop from text) ≡ take count rest = ap (λ k. take k (drop from text)) long ∙ ap (take count) (sym same) in
@@ -85,7 +87,7 @@ digits-at text rest from count n same inside some short within digits value firs
       short = omega arith;
       digits = subst (AllDigits 10) (sym cut) digits;
       value = value ∙ ap (digits_value 10) (sym cut);
-      ends = ap (λ x. is_operator x || is_space x) (sym behind) ∙ ends;
+      ends = ap is_word_end (sym behind) ∙ ends;
     }
 
 -- ---- their values

@@ -1,12 +1,24 @@
 -- What stands inside a string, an array or an object of a JSON text. Private calls alone speak of it.
-use Rattle.std.specs.Prelude.{◌≡◌, ℕ, ◌+◌, ◌-◌, ◌<◌, ◌≤◌, List, ◌∷◌, length, drop, get_or, Option, Some}
+use Rattle.std.specs.Prelude.{◌≡◌, ℕ, Bool, ◌||◌, ◌+◌, ◌-◌, ◌<◌, ◌≤◌, List, ◌∷◌, length, drop, get_or, Option, Some}
 use Rattle.std.specs.Char.{encode_utf8}
+use Rattle.std.specs.List.{prefix_len}
+use Rattle.json.specs.Run.{is_plain}
+use Rattle.json.specs.Word.{is_operator, is_space}
 use Rattle.json.specs.Text.{Within, after_backslash, code_unit, content, plain, prepend, short_escape}
 use Rattle.json.specs.Token.{string}
 use Rattle.json.specs.Lex.{token, colon, Mode, in_escape, in_string, lex, fresh, after_value, punctuate}
 use Rattle.serde_json.specs.Data.{Items, Members}
 use Rattle.lines_json.specs.Meant.{AreItems, AreMembers}
 use Rattle.lines_json.specs.Standing.{lexemes}
+
+-- this byte ends the word before it
+abbrev pub is_word_end : ℕ → Bool
+is_word_end x = is_operator x || is_space x
+
+-- The plain text from a place on ends here: before the first quote, backslash or control byte, or at the end of the text.
+pub record IsPlainEnd (text : List ℕ) (from stop : ℕ) : Type 0 where
+  pub value : stop ≡ from + prefix_len is_plain (drop from text)
+  pub within : stop ≤ length text
 
 -- A part of a string stands in front of `rest`: it means these bytes, and the lexer passes over it.
 pub record IsPart (mode : Mode) (state : Within) (text bytes rest : List ℕ) : Type 0 where

@@ -1,8 +1,9 @@
 -- The parts of a number, RFC 8259, section 6, at places of a text. Private calls alone speak of it.
-use Rattle.std.specs.Prelude.{◌≡◌, ℕ, ◌+◌, ◌-◌, ◌<◌, ◌≤◌, ◌||◌, List, length, drop, get_or, take, true, Option, Some, option_and_then}
+use Rattle.std.specs.Prelude.{◌≡◌, ℕ, ◌+◌, ◌-◌, ◌<◌, ◌≤◌, List, length, drop, get_or, take, true, Option, Some, option_and_then}
 use Rattle.std.specs.Str.Parse.{AllDigits, digits_value}
 use Rattle.json.specs.Lex.{in_word, lex}
-use Rattle.json.specs.Word.{after_exponent, after_fraction, after_whole, is_operator, is_space}
+use Rattle.json.specs.Word.{after_exponent, after_fraction, after_whole}
+use Rattle.lines_json.specs.Inside.{is_word_end}
 
 -- A part of a number stands at a place and ends before another, and no byte of it ends a word.
 pub record IsNumberPart (part : List ℕ → Option (List ℕ)) (text : List ℕ) (at stop : ℕ) : Type 0 where
@@ -22,4 +23,4 @@ pub record AreDigitsAt (text : List ℕ) (from stop n : ℕ) : Type 0 where
   pub short : stop ≤ from + 18
   pub digits : AllDigits 10 (take (stop - from) (drop from text))
   pub value : n ≡ digits_value 10 (take (stop - from) (drop from text))
-  pub ends : (is_operator (get_or text stop 32) || is_space (get_or text stop 32)) ≡ true
+  pub ends : is_word_end (get_or text stop 32) ≡ true

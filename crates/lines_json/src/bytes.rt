@@ -1,6 +1,7 @@
 //! Single bytes of a text, and white space.
 ghost use Rattle.std.specs.Prelude.{◌≡◌, ◌≤◌, get_or, length};
 ghost use Rattle.json.specs.Word.{is_space};
+ghost use Rattle.lines_json.specs.Inside.{is_word_end};
 ghost use Rattle.lines_json.specs.Standing.{lexemes};
 
 /// The byte at a place, and a space past the end.
@@ -43,6 +44,17 @@ fn behind_spaces(text: &[u8], from: usize) -> usize
         at += 1;
     }
     at
+}
+
+/// Whether a byte ends the word before it: an operator or white space.
+#[inline(always)]
+pub(crate) fn ends_word(byte: u8) -> bool
+    ensures { result ≡ is_word_end byte }
+{
+    matches!(
+        byte,
+        b'{' | b'}' | b'[' | b']' | b':' | b',' | b' ' | b'\t' | b'\n' | b'\r'
+    )
 }
 
 /// Whether a byte is white space.

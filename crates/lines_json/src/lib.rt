@@ -1,4 +1,5 @@
-//! JSON by its bytes (RFC 8259): where a value ends that begins at a place of a text, without tokens and without memory.
+//! JSON by its bytes (RFC 8259), without tokens: where a value ends that begins at a place of a text, and what a string
+//! means.
 //!
 //! `None` says nothing of the text: whoever asks goes on by other means.
 #![tactic(auto)]

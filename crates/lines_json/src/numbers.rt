@@ -1,16 +1,16 @@
 //! Numbers, RFC 8259, section 6.
-ghost use Rattle.std.specs.Prelude.{◌≡◌, ◌<◌, ◌≤◌, ◌+◌, ◌-◌, ◌||◌, ◌==◌, ℕ, IfSome, IsTrue, List, Some, drop, is_some, length, take, true};
+ghost use Rattle.std.specs.Prelude.{◌≡◌, ◌<◌, ◌≤◌, ◌+◌, ◌-◌, ◌==◌, ℕ, IfSome, IsTrue, List, Some, drop, is_some, length, take, true};
 ghost use Rattle.std.specs.Char.{is_ascii_digit};
 ghost use Rattle.std.specs.List.{prefix_len};
 ghost use Rattle.json.specs.Token.{number};
-ghost use Rattle.json.specs.Word.{after_digits, after_exponent, after_fraction, after_minus, after_number, after_sign, after_whole, is_operator, is_space};
+ghost use Rattle.json.specs.Word.{after_digits, after_exponent, after_fraction, after_minus, after_number, after_sign, after_whole};
 ghost use Rattle.serde_json.specs.Read.{number_of};
 ghost use Rattle.lines_json.specs.NumberParts.{IsNumberPart};
 ghost use Rattle.lines_json.specs.Standing.{IsTokenAt, IsWholeNumberAt};
 
 mod short;
 
-use crate::bytes::byte_at;
+use crate::bytes::{byte_at, ends_word};
 use crate::numerals::{has_value, whole_number};
 use short::short_number_at;
 
@@ -193,15 +193,4 @@ fn begins_number(byte: u8) -> bool
     ensures { IsTrue result → (44 < byte) × (byte < 58) }
 {
     byte == b'-' || byte.is_ascii_digit()
-}
-
-/// Whether a byte ends a word: an operator or white space.
-#[inline(always)]
-fn ends_word(byte: u8) -> bool
-    ensures { result ≡ (is_operator byte || is_space byte) }
-{
-    matches!(
-        byte,
-        b'{' | b'}' | b'[' | b']' | b':' | b',' | b' ' | b'\t' | b'\n' | b'\r'
-    )
 }

@@ -1,8 +1,8 @@
 //! The plain text of strings, which has no quote, no backslash and no control byte.
-ghost use Rattle.std.specs.Prelude.{◌≡◌, ◌+◌, ◌<◌, ◌≤◌, drop, length, map};
-ghost use Rattle.std.specs.List.{prefix_len};
+ghost use Rattle.std.specs.Prelude.{◌≡◌, ◌+◌, ◌<◌, ◌≤◌, length, map};
 ghost use Rattle.std.specs.Simd.Lanes.{mask_l};
-ghost use Rattle.json.specs.Run.{is_plain, is_stop};
+ghost use Rattle.json.specs.Run.{is_stop};
+ghost use Rattle.lines_json.specs.Inside.{IsPlainEnd};
 
 use std::simd::prelude::*;
 
@@ -12,8 +12,7 @@ use std::simd::prelude::*;
 #[inline(always)]
 pub(crate) fn plain_end(text: &[u8], from: usize) -> usize
     requires { from ≤ length text.now }
-    ensures value { result ≡ from + prefix_len is_plain (drop from text.now) }
-    ensures within { result ≤ length text.now }
+    ensures { IsPlainEnd text.now from result }
 {
     let mut at = from;
     'plain: while text.len() - at >= 16 {
@@ -31,8 +30,7 @@ pub(crate) fn plain_end(text: &[u8], from: usize) -> usize
 fn last_plain_end(text: &[u8], from: usize) -> usize
     requires within { from ≤ length text.now }
     requires few { length text.now < from + 16 }
-    ensures value { result ≡ from + prefix_len is_plain (drop from text.now) }
-    ensures within { result ≤ length text.now }
+    ensures { IsPlainEnd text.now from result }
 {
     if text.len() < 16 {
         return short_plain_end(text, from);
@@ -50,8 +48,7 @@ fn last_plain_end(text: &[u8], from: usize) -> usize
 #[inline(always)]
 fn short_plain_end(text: &[u8], from: usize) -> usize
     requires { from ≤ length text.now }
-    ensures value { result ≡ from + prefix_len is_plain (drop from text.now) }
-    ensures within { result ≤ length text.now }
+    ensures { IsPlainEnd text.now from result }
 {
     let mut at = from;
     'short: while at < text.len() && text[at] != b'"' && text[at] != b'\\' && text[at] >= b' ' {

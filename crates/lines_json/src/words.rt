@@ -1,10 +1,9 @@
 //! The literal names of RFC 8259, section 3: `true`, `false` and `null`.
-ghost use Rattle.std.specs.Prelude.{◌≡◌, ◌+◌, ◌≤◌, ◌||◌, IfSome, IsTrue, false, length, true};
+ghost use Rattle.std.specs.Prelude.{◌≡◌, ◌+◌, ◌≤◌, IfSome, IsTrue, false, length, true};
 ghost use Rattle.json.specs.Token.{boolean, null};
-ghost use Rattle.json.specs.Word.{is_operator, is_space};
 ghost use Rattle.lines_json.specs.Standing.{IsTokenAt};
 
-use crate::bytes::byte_at;
+use crate::bytes::{byte_at, ends_word};
 
 /// The truth value that stands at a place, and where it ends; `None` says nothing of the text.
 ///
@@ -91,19 +90,4 @@ fn has_null(text: &[u8], at: usize) -> bool
     } else {
         false
     }
-}
-
-/// Whether a byte ends the word before it.
-#[inline(always)]
-fn ends_word(byte: u8) -> bool
-    ensures { result ≡ (is_operator byte || is_space byte) }
-{
-    let operator = (byte == b'{')
-        | (byte == b'}')
-        | (byte == b'[')
-        | (byte == b']')
-        | (byte == b':')
-        | (byte == b',');
-    let space = (byte == b' ') | (byte == b'\t') | (byte == b'\n') | (byte == b'\r');
-    operator | space
 }

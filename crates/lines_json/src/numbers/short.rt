@@ -1,12 +1,11 @@
 //! Whole numbers of up to 18 digits, in one pass over their bytes.
-ghost use Rattle.std.specs.Prelude.{◌≡◌, ◌<◌, ◌≤◌, ◌-◌, ◌||◌, IfSome, IsTrue, drop, get_or, length, take, true};
+ghost use Rattle.std.specs.Prelude.{◌≡◌, ◌<◌, ◌≤◌, ◌-◌, IfSome, IsTrue, drop, get_or, length, take, true};
 ghost use Rattle.std.specs.Str.Parse.{AllDigits, digits_value};
-ghost use Rattle.json.specs.Word.{is_operator, is_space};
+ghost use Rattle.lines_json.specs.Inside.{is_word_end};
 ghost use Rattle.lines_json.specs.NumberParts.{AreDigitsAt};
 ghost use Rattle.lines_json.specs.Standing.{IsWholeNumberAt};
 
-use super::ends_word;
-use crate::bytes::byte_at;
+use crate::bytes::{byte_at, ends_word};
 
 /// The whole number of up to 18 digits that stands at a place, and where it ends; `None` says nothing of the text.
 ///
@@ -68,8 +67,7 @@ fn is_whole(text: &[u8], count: usize) -> bool
     requires { count ≤ length text.now }
     ensures some { IsTrue result → 0 < count }
     ensures first { IsTrue result → get_or text.now 0 32 ≡ 48 → count ≡ 1 }
-    ensures ends { IsTrue result
-        → (is_operator (get_or text.now count 32) || is_space (get_or text.now count 32)) ≡ true }
+    ensures ends { IsTrue result → is_word_end (get_or text.now count 32) ≡ true }
 {
     count > 0 && (count == 1 || text[0] != b'0') && ends_word(byte_at(text, count))
 }

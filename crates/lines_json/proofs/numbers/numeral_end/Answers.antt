@@ -1,5 +1,5 @@
 use Rattle.std.proofs.Common.{◌||◌, ◌<◌, ap, arith, get_or, refl, sym, ◌∙◌}
-use Rattle.json.specs.Word.{is_operator, is_space}
+use Rattle.lines_json.specs.Inside.{is_word_end}
 use Rattle.lines_json.proofs.Passed.{number-token}
 use Rattle.lines_json.proofs.numbers.numeral_end.Goals as goal
 
@@ -9,5 +9,5 @@ returns-then-ends_word c =
     let begins = c.if-not-begins_number.ensures refl in
     let low : 44 < get_or text c.args.at 32 = omega (arith, begins.0, c.byte_at.ensures) in
     let high : get_or text c.args.at 32 < 58 = omega (arith, begins.1, c.byte_at.ensures) in
-    let ends = ap (λ x. is_operator x || is_space x) (sym c.byte_at-2.ensures) ∙ sym c.ends_word.ensures ∙ c.if-ends_word.true in
+    let ends = ap is_word_end (sym c.byte_at-2.ensures) ∙ sym c.ends_word.ensures ∙ c.if-ends_word.true in
     number-token text c.args.at c.in_ok-stop.stop low high c.in_ok-stop.ensures ends

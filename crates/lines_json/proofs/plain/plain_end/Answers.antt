@@ -2,15 +2,13 @@ use Rattle.std.proofs.Common.{arith}
 use Rattle.lines_json.proofs.Marks.{plain-through, plain-to_mark, plain-within}
 use Rattle.lines_json.proofs.plain.plain_end.Goals as goal
 
-pub returns-then-marks-ne0-clause-value : goal.returns-then-marks-ne0-clause-value
-returns-then-marks-ne0-clause-value c =
+pub returns-then-marks-ne0 : goal.returns-then-marks-ne0
+returns-then-marks-ne0 c =
     let run = plain-to_mark c.args.text.now c.plain.at 16 c.marks-marks.result (omega arith) c.marks-marks.ensures (omega arith) c.if-marks-ne0.true in
-    omega (arith, run, c.plain.invariant.plain_left)
-
-pub returns-then-marks-ne0-clause-within : goal.returns-then-marks-ne0-clause-within
-returns-then-marks-ne0-clause-within c =
-    let run = plain-to_mark c.args.text.now c.plain.at 16 c.marks-marks.result (omega arith) c.marks-marks.ensures (omega arith) c.if-marks-ne0.true in
-    omega (arith, run, plain-within c.args.text.now c.plain.at c.plain.invariant.within)
+    record {
+      value = omega (arith, run, c.plain.invariant.plain_left);
+      within = omega (arith, run, plain-within c.args.text.now c.plain.at c.plain.invariant.within);
+    }
 
 pub plain-preserved : goal.plain-preserved
 plain-preserved c =

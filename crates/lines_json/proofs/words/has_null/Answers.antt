@@ -1,9 +1,9 @@
 use Rattle.std.proofs.Common.{◌||◌, sym, ap, ◌∙◌, arith}
-use Rattle.json.specs.Word.{is_operator, is_space}
+use Rattle.lines_json.specs.Inside.{is_word_end}
 use Rattle.lines_json.proofs.Literals.{has-null}
 use Rattle.lines_json.proofs.words.has_null.Goals as goal
 
 pub returns-then-text-at-eq108-2 : goal.returns-then-text-at-eq108-2
 returns-then-text-at-eq108-2 c ends =
     has-null c.args.text.now c.args.at (omega arith) (omega arith, omega arith, omega arith, omega arith)
-    (ap (λ x. is_operator x || is_space x) (sym c.byte_at.ensures) ∙ sym c.ends_word.ensures ∙ ends)
+    (ap is_word_end (sym c.byte_at.ensures) ∙ sym c.ends_word.ensures ∙ ends)

@@ -1,7 +1,8 @@
 use Rattle.std.proofs.Common.{◌≡◌, ◌+◌, ◌-◌, ◌∷◌, take, drop, get_or, refl, sym, ap, ◌∙◌, arith}
 use Rattle.json.specs.Token.{string}
 use Rattle.json.specs.Lex.{token, colon}
-use Rattle.lines.proofs.Lexing.{lexed-mark, string-token}
+use Rattle.lines_json.proofs.Lexemes.{lexemes-operator}
+use Rattle.lines.proofs.Lexing.{string-token}
 use Rattle.lines.proofs.bytes.naming.name_at.Goals as goal
 
 pub returns : goal.returns
@@ -19,5 +20,5 @@ returns c =
       within = c.space_end.ensures.within;
       stands =
           name.stands ∙ ap (λ ls. token (string s) ∷ ls)
-          (sym c.space_end-colon.ensures.same ∙ lexed-mark line mark_at 58 mark (λ e. (let never : ⊥ = omega (arith, e) in never)) refl ∙ ap (λ ls. colon ∷ ls) (sym c.space_end.ensures.same));
+          (sym c.space_end-colon.ensures.same ∙ lexemes-operator line mark_at 58 refl refl mark ∙ ap (λ ls. colon ∷ ls) (sym c.space_end.ensures.same));
     }
