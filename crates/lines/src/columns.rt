@@ -17,10 +17,9 @@ pub(crate) fn missing_values(columns: &[Column], spare: &mut Spare) -> Option<Ve
     requires { IsSchema (fields_of columns.now) }
     ensures { IfSome result (λ v. AreTaken columns.now v.items no_members) }
 {
-    let mut values = spare.list();
-    values.reserve(columns.len()).ok()?;
-    for _ in columns {
-        values.push(Value::Null).ok()?;
+    let mut values = spare.list(columns.len())?;
+    for place in 0..columns.len() {
+        spare.clear_at(&mut values, place);
     }
     Some(values)
 }

@@ -1,5 +1,5 @@
 //! Memory of records that are done with, for the values of records to come.
-ghost use Rattle.std.specs.Prelude.{◌≡◌, [], IfSome, string_bytes};
+ghost use Rattle.std.specs.Prelude.{◌≡◌, ◌<◌, IfSome, length, set, string_bytes};
 
 use std::alloc::Global;
 use std::mem;
@@ -17,7 +17,7 @@ pub(crate) struct Spare {
 }
 
 impl Spare {
-    ghost use Rattle.std.specs.Prelude.{◌≡◌, [], IfSome, string_bytes};
+    ghost use Rattle.std.specs.Prelude.{◌≡◌, ◌<◌, IfSome, length, set, string_bytes};
 
     /// No memory yet.
     pub(crate) fn new(alloc: Global) -> Spare {
@@ -28,14 +28,25 @@ impl Spare {
         }
     }
 
-    /// An empty list.
+    /// A list of so many values, which mean nothing; `None` where there is no memory.
     #[inline(always)]
-    pub(crate) fn list(&mut self) -> Vec<Value>
-        ensures { result.items ≡ [] }
+    pub(crate) fn list(&mut self, len: usize) -> Option<Vec<Value>>
+        ensures { IfSome result (λ v. length v.items ≡ len) }
     {
         let mut values = mem::replace(&mut self.values, Vec::new(self.alloc));
-        values.clear();
-        values
+        values.resize_with(len, || Value::Null).ok()?;
+        Some(values)
+    }
+
+    /// Puts NULL at a place, and keeps the memory of a text that stood there.
+    #[inline(always)]
+    pub(crate) fn clear_at(&mut self, values: &mut Vec<Value>, place: usize)
+        requires { place < length values.old.items }
+        ensures { values.new.items ≡ set values.old.items place Value.Null }
+    {
+        if let Value::Text(text) = mem::replace(&mut values[place], Value::Null) {
+            self.keep_text(text);
+        }
     }
 
     /// A copy of a text; `None` where there is no memory.
@@ -53,14 +64,9 @@ impl Spare {
         }
     }
 
-    /// Keeps the memory of these values. The first text will be the first that is used again.
+    /// Keeps the memory of these values.
+    #[inline(always)]
     pub(crate) fn keep(&mut self, values: Vec<Value>) {
-        let mut values = values;
-        while let Some(value) = values.pop() {
-            if let Value::Text(text) = value {
-                self.keep_text(text);
-            }
-        }
         self.values = values;
     }
 

@@ -1,8 +1,11 @@
-use Rattle.serde_json.specs.Data.{no_members}
-use Rattle.values.specs.Schema.{fields_of}
-use Rattle.semantics.specs.Records.{data_taken}
-use Rattle.lines.proofs.Taking.{IsSplit}
+use Rattle.std.proofs.Common.{◌≡◌, ◌<◌, ℕ, get_or, length}
+use Rattle.values.specs.declared.value.Value.{Value}
+use Rattle.values.specs.declared.value.Value.TheVariants as value
 use Rattle.lines.proofs.columns.missing_values.Given as goal
 
-abbrev pub invariant-loop : goal.invariant-loop
-invariant-loop l = IsSplit l.columns l.index l.values.items no_members (data_taken (fields_of l.columns) no_members)
+-- the values before the place are NULL
+abbrev pub invariant-loop-place : goal.invariant-loop-place
+invariant-loop-place l = record {
+  len : length l.values.items ≡ length l.columns;
+  nulls : (k : ℕ) (d : Value) → k < l.place → get_or l.values.items k d ≡ value.Null;
+}
