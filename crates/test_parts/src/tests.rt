@@ -1,3 +1,3 @@
 //! Values as lines.
 
-mod values;
+mod spellings;
