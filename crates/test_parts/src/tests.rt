@@ -1,0 +1,3 @@
+//! Values as lines.
+
+mod spellings;
