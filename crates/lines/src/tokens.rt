@@ -10,7 +10,8 @@ use json::{Reader, Scratch, Token};
 use taking::take_members;
 use values::{Record, Schema};
 
-/// Reads a line as a record by its tokens; `None` says nothing of the line.
+/// Reads a line as a record by its tokens; `None` says nothing of the line. Out of line, since few lines come here.
+#[inline(never)]
 pub(crate) fn record_by_tokens(
     schema: &Schema,
     line: &str,

@@ -20,6 +20,7 @@ use values::{Column, Kind, Record, Schema, Value};
 ///
 /// `Fault` with the first fault that the line has, or `Memory` where there was no memory to read it. A line that
 /// is too long is refused as `TooLong`, whatever memory there is.
+#[inline(never)]
 pub fn read_by_tree(alloc: Global, schema: &Schema, line: &[u8]) -> Result<Record, LineRefusal>
     ensures ok { IfOk result (λ «record». decode_line schema.now line.now ≡ Ok «record») }
     ensures refused { IfErr result (λ refusal.
