@@ -11,14 +11,15 @@ use values::{Column, Value};
 /// How deep the members of an object may nest.
 pub(crate) const MEMBER_DEPTH: usize = 126;
 
-/// What the columns take where no member is: NULL for each.
+/// What the columns take where no member is: NULL for each. The values of the record before are
+/// cleared from the last on, so the memory of its first text will be the first that is used again.
 #[inline(always)]
 pub(crate) fn missing_values(columns: &[Column], spare: &mut Spare) -> Option<Vec<Value>>
     requires { IsSchema (fields_of columns.now) }
     ensures { IfSome result (λ v. AreTaken columns.now v.items no_members) }
 {
     let mut values = spare.list(columns.len())?;
-    for place in 0..columns.len() {
+    for place in (0..columns.len()).rev() {
         spare.clear_at(&mut values, place);
     }
     Some(values)
