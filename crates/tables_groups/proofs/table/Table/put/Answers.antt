@@ -1,8 +1,7 @@
-use Rattle.std.proofs.Common.{◌≡◌, ap, sym, subst, ◌∙◌, Option}
+use Rattle.std.proofs.Common.{sym, subst, Option}
 use Rattle.std.proofs.lemmas.Result.{on_ok_weaker}
 use Rattle.std.specs.FinMap as fin
-use Rattle.values.specs.Datum.{data_of}
-use Rattle.semantics.specs.Groups.{Key, project}
+use Rattle.semantics.specs.Groups.{Key}
 use Rattle.tables_groups.specs.Inside.Keys.{key_in}
 use Rattle.tables_groups.specs.Inside.Group.{GroupState}
 use Rattle.tables_groups.specs.Inside.Table.{Contents, IsTaken, IsWithPart}
