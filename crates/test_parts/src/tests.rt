@@ -1,3 +1,4 @@
-//! Values as lines.
+//! Values as lines and groups as values, and back.
 
-mod spellings;
+mod groups;
+mod scalars;
