@@ -1,0 +1,45 @@
+-- What is kept of a group, apart from where it lies in memory.
+use Rattle.std.specs.Prelude.{ℕ, ℤ, List, map}
+use Rattle.semantics.specs.Groups.{Key}
+use Rattle.semantics.specs.Values.{Datum}
+use Rattle.values.specs.Datum.{data_of, datum_of}
+use Rattle.group_states.specs.declared.entry.GroupEntry.{GroupEntry}
+use Rattle.group_states.specs.declared.entry.State.{State}
+use Rattle.group_states.specs.declared.entry.State.TheVariants as state
+
+-- The state of a set function over the members of a group: nothing where it is their number, a count, a
+-- sum and how many numbers were added, the least or the greatest value, or the different values.
+pub data FunctionState : Type 0 where
+  rows : FunctionState
+  counted : ℕ → FunctionState
+  summed : ℤ → ℕ → FunctionState
+  extreme : Datum → FunctionState
+  collected : List Datum → FunctionState
+
+-- A group: its key, how many members it has, and the state of each set function over them.
+pub record EntryForm : Type 0 where
+  pub key : Key
+  pub members : ℕ
+  pub states : List FunctionState
+
+-- ---- in the code
+
+-- The state that a value of the code is.
+abbrev pub state_of : State → FunctionState
+state_of state.Rows = rows
+state_of (state.Count n) = counted n
+state_of (state.Sum s n) = summed s n
+state_of (state.Extreme value) = extreme (datum_of value)
+state_of (state.Distinct values) = collected (data_of values.items)
+
+-- The states of a list.
+abbrev pub states_of : List State → List FunctionState
+states_of states = map state_of states
+
+-- The group that a value of the code is.
+abbrev pub entry_of : GroupEntry → EntryForm
+entry_of entry = record { key = data_of entry.key.items; members = entry.members; states = states_of entry.states.items }
+
+-- The groups of a list.
+abbrev pub entries_of : List GroupEntry → List EntryForm
+entries_of entries = map entry_of entries
