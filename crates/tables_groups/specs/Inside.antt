@@ -11,6 +11,7 @@ pub mod Accumulator
 pub mod Group
 pub mod Keys
 pub mod Table
+pub mod Typed
 pub mod Shards
 pub mod Pairs
 pub mod Walks

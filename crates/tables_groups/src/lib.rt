@@ -26,5 +26,5 @@ mod walk;
 
 pub use cell::Cell;
 pub use group::Group;
-pub use laws::{members_law, order_law, records_law, roll_law};
+pub use laws::{counted_law, members_law, order_law, records_law, roll_law, typed_law};
 pub use table::Table;

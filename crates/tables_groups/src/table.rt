@@ -71,7 +71,7 @@ impl Model for Table {
 }
 
 impl Table {
-    ghost use Rattle.std.specs.Prelude.{◌≡◌, ◌<◌, ◌≤◌, ℕ, [], OnOk, IfOk, List};
+    ghost use Rattle.std.specs.Prelude.{◌≡◌, ◌<◌, ◌≤◌, ℕ, [], OnOk, IfOk, IsSome, List};
     ghost use Rattle.semantics.specs.Groups.{Key, project};
     ghost use Rattle.tables_groups.specs.Rows.{IsNarrowRow};
     ghost use Rattle.std.specs.FinMap as fin;
@@ -79,7 +79,8 @@ impl Table {
     ghost use Rattle.tables_groups.specs.Inside.Group.{no_group};
     ghost use Rattle.tables_groups.specs.Inside.Keys.{key_in};
     ghost use Rattle.tables_groups.specs.Inside.Shards.{contents_in};
-    ghost use Rattle.tables_groups.specs.Inside.Table.{AreGroupsOfTable, CanJoin, HasGroupsOfBoth, HasOneMore, IsFitting, IsOfFew, IsOfNone, IsPut, IsRollOf, IsTaken, IsUnionOf, IsWithPart, TakesOne};
+    ghost use Rattle.tables_groups.specs.Inside.Table.{AreGroupsOfTable, CanJoin, HasEmptyKey, HasFewRecords, HasGroupsOfBoth, HasOneMore, IsFitting, IsOfNone, IsPut, IsRollOf, IsTaken, IsUnionOf, IsWithPart, KeepsCount, TakesOne};
+    ghost use Rattle.tables_groups.specs.Inside.Typed.{HaveTypesOfTable, KeepsTypes};
     ghost use Rattle.tables_groups.specs.Rolled.{AreAmong};
 
     /// The table of no records under a grouping set, for these set functions, whatever their filters keep. The set has
@@ -241,8 +242,8 @@ impl Table {
     /// The table of the same records under another set, made of the groups of this one, which stays as it is. So it may
     /// be made of a table that was rolled before.
     ///
-    /// This is a table under the set `finer` for these functions, of fewer than 2^63 records, and each column of `set`
-    /// is one of `finer`, in whatever order.
+    /// The groups of this one have fewer than 2^63 records together, whatever these are, and what is kept for these
+    /// functions; and each column of `set` is one of `finer`, the set of this table, in whatever order.
     ///
     /// Example: a table with 2 members of the key `('Quay', 'sale')` and 1 of `('Quay', 'refund')` gives, rolled to its
     /// first column, one with 3 members of `'Quay'`.
@@ -257,8 +258,11 @@ impl Table {
         functions: &[FilteredFunction],
     ) -> Result<Table, AllocError>
         requires among { AreAmong set.now finer.now }
-        requires few { ∥ IsOfFew finer.now functions.now self.now ∥₁ }
+        requires few { HasFewRecords functions.now self.now }
         ensures rolled { IfOk result (IsRollOf finer.now functions.now self.now set.now) }
+        ensures counted { IfOk result (KeepsCount functions.now self.now) }
+        ensures typed { IfOk result (KeepsTypes finer.now functions.now self.now set.now) }
+        ensures whole { IfOk result (HasEmptyKey set.now) }
     {
         if set.is_empty() {
             return self.roll_to_one(functions);
@@ -279,9 +283,13 @@ impl Table {
 
     /// The table under the empty set. Its one group takes what is kept of each group, and no key is searched.
     fn roll_to_one(&self, functions: &[FilteredFunction]) -> Result<Table, AllocError>
-        requires few { ∥ ((finer : List ℕ) × IsOfFew finer functions.now self.now) ∥₁ }
+        requires few { HasFewRecords functions.now self.now }
         ensures rolled { IfOk result (λ table.
             (finer : List ℕ) → IsRollOf finer functions.now self.now [] table) }
+        ensures counted { IfOk result (KeepsCount functions.now self.now) }
+        ensures typed { IfOk result (λ table.
+            (finer : List ℕ) → KeepsTypes finer functions.now self.now [] table) }
+        ensures whole { IfOk result (λ table. IsSome (fin.get table [])) }
     {
         let mut group = Accumulators::new(self.alloc, functions)?;
         for shard in &self.shards {
@@ -314,6 +322,7 @@ impl Table {
     /// `AllocError` where there is no memory for the groups; the table is given up then.
     pub fn finish(self) -> Result<Vec<Group>, AllocError>
         ensures groups { IfOk result (λ groups. AreGroupsOfTable self groups.items) }
+        ensures typed { IfOk result (λ groups. HaveTypesOfTable self groups.items) }
     {
         let count = self.len();
         let Table {
@@ -345,6 +354,7 @@ impl Table {
         hands: usize,
     ) -> Result<Vec<Group>, AllocError>
         ensures groups { IfOk result (λ groups. AreGroupsOfTable self groups.items) }
+        ensures typed { IfOk result (λ groups. HaveTypesOfTable self groups.items) }
     {
         let count = self.len();
         if hands < self.shards.len() || count < PARALLEL_MIN_GROUPS {
