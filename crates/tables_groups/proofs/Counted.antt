@@ -18,7 +18,7 @@ use Rattle.tables_groups.proofs.Bags.{ones, weigh-append}
 use Rattle.tables_groups.proofs.Covering.{hit, missed, not_swapped, others, spread, spread-none}
 use Rattle.tables_groups.proofs.Distinct.{distinct-shown}
 use Rattle.tables_groups.proofs.Entries.{Entries, key_eq}
-use Rattle.tables_groups.proofs.Meaning.{filter-le, has_key, joint_states-length}
+use Rattle.tables_groups.proofs.Meaning.{has_key, joint_states-length}
 use Rattle.tables_groups.proofs.Rolling.{firsts, get-each}
 
 -- ---- the records of a table
