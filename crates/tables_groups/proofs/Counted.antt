@@ -53,8 +53,10 @@ pub parts-counted : (most : ℕ) (functions : List FilteredFunction) (t : Conten
     → fin.get t k ≡ Some group → IsCounted most functions t → length group.parts ≡ length functions
 parts-counted most functions t k group there counted = subst (HasParts functions) there (counted.parts k)
 
-pub all-parts : (most : ℕ) (functions : List FilteredFunction) (t : Contents) (es : Entries) → IsCounted most functions t
-    → AllByRecursion (λ e. fin.get t (key_in e.0) ≡ Some e.1) es → AllByRecursion (λ e. length e.1.parts ≡ length functions) es
+pub all-parts : (most : ℕ) (functions : List FilteredFunction) (t : Contents) (es : Entries)
+    → IsCounted most functions t
+    → AllByRecursion (λ e. fin.get t (key_in e.0) ≡ Some e.1) es
+    → AllByRecursion (λ e. length e.1.parts ≡ length functions) es
 all-parts most functions t [] counted h = tt
 all-parts most functions t (e ∷ es) counted h =
     (parts-counted most functions t (key_in e.0) e.1 h.0 counted, all-parts most functions t es counted h.1)
@@ -104,7 +106,8 @@ members-grow functions old new q part enlarged k =
 no_group-parts : (functions : List FilteredFunction) → length (no_group functions).parts ≡ length functions
 no_group-parts functions = length-map functions (λ f. no_state f.filter f.function)
 
-members-parts : (functions : List FilteredFunction) (b : Bool) (o : Option GroupState) (part : GroupState) → HasParts functions o
+members-parts : (functions : List FilteredFunction) (b : Bool) (o : Option GroupState) (part : GroupState)
+    → HasParts functions o
     → HasParts functions (cond b (Some (group_with_members functions o part)) o)
 members-parts functions true None part h = joint_states-length (no_group functions).parts part.parts ∙ no_group-parts functions
 members-parts functions true (Some group) part h = joint_states-length group.parts part.parts ∙ h
@@ -112,7 +115,8 @@ members-parts functions false o part h = h
 
 -- ---- a table that takes the parts of entries, one after the other
 
--- with the records of the entries that are left the groups of a table have no more than so many; and each group has one accumulator for each function
+-- with the records of the entries that are left the groups of a table have no more than so many, and each group has one
+-- accumulator for each function
 pub record IsCountedWith (most : ℕ) (functions : List FilteredFunction) (table : Contents) (left : Entries) : Type 0 where
   pub lines : (ks : List Key) → IsDistinct same_key ks → weigh (lines_at table) ks + entry_lines left ≤ most
   pub parts : (k : Key) → HasParts functions (fin.get table k)
@@ -128,7 +132,8 @@ no-groups [] fs t some is k = absurd (omega (arith, some))
 no-groups (p ∷ ps) fs t some is k = is k
 
 -- before the first entry, where there is no group yet
-pub counted-start : (most : ℕ) (functions : List FilteredFunction) (t : Contents) (es : Entries) → ((k : Key) → fin.get t k ≡ None)
+pub counted-start : (most : ℕ) (functions : List FilteredFunction) (t : Contents) (es : Entries)
+    → ((k : Key) → fin.get t k ≡ None)
     → entry_lines es ≤ most → IsCountedWith most functions t es
 counted-start most functions t es none few = record {
   lines = λ ks distinct. let a = none-lines t none ks in omega (arith, a, few);
@@ -136,7 +141,8 @@ counted-start most functions t es none few = record {
 }
 
 -- after the first of those that are left
-pub counted-step : (most : ℕ) (functions : List FilteredFunction) (old new : Contents) (q : Key) (e : PackedKey × GroupState)
+pub counted-step : (most : ℕ) (functions : List FilteredFunction) (old new : Contents) (q : Key)
+    (e : PackedKey × GroupState)
     (left : Entries) → ((k : Key) → IsEnlarged functions old new q e.1 k) → IsCountedWith most functions old (e ∷ left)
     → IsCountedWith most functions new left
 counted-step most functions old new q e left enlarged with = record {
@@ -144,7 +150,8 @@ counted-step most functions old new q e left enlarged with = record {
       let a = grown-lines old new q e.1.lines (members-grow functions old new q e.1 enlarged) ks distinct in
       let b = with.lines ks distinct in
       omega (arith, a, b);
-  parts = λ k. subst (HasParts functions) (sym (enlarged k)) (members-parts functions (same_key k q) (fin.get old k) e.1 (with.parts k));
+  parts = λ k. subst (HasParts functions) (sym (enlarged k))
+      (members-parts functions (same_key k q) (fin.get old k) e.1 (with.parts k));
 }
 
 -- behind the last entry
@@ -155,13 +162,15 @@ counted-end most functions t left none with = record {
   parts = with.parts;
 }
 
-fitting-one : (functions : List FilteredFunction) (o : Option GroupState) (part : GroupState) → lines_of o + part.lines < 2 ^ 63
+fitting-one : (functions : List FilteredFunction) (o : Option GroupState) (part : GroupState)
+    → lines_of o + part.lines < 2 ^ 63
     → HasParts functions o → length part.parts ≡ length functions → IsFittingNew functions part o
 fitting-one functions None part few h same = (tt, omega (arith, few), same)
 fitting-one functions (Some group) part few h same = ((few, same ∙ sym h), omega (arith, few), same)
 
 -- a group takes the part of the first entry, where the records are few
-pub counted-fitting : (most : ℕ) (functions : List FilteredFunction) (old : Contents) (k : Key) (e : PackedKey × GroupState)
+pub counted-fitting : (most : ℕ) (functions : List FilteredFunction) (old : Contents) (k : Key)
+    (e : PackedKey × GroupState)
     (left : Entries) → most < 2 ^ 63 → length e.1.parts ≡ length functions → IsCountedWith most functions old (e ∷ left)
     → IsFittingNew functions e.1 (fin.get old k)
 unfolding IsDistinct
@@ -170,7 +179,8 @@ counted-fitting most functions old k e left few same with =
 
 -- ---- all entries, put to one group
 
-pub takes-counted : (n : ℕ) (group : GroupState) (es : Entries) → group.lines + entry_lines es < 2 ^ 63 → length group.parts ≡ n
+pub takes-counted : (n : ℕ) (group : GroupState) (es : Entries) → group.lines + entry_lines es < 2 ^ 63
+    → length group.parts ≡ n
     → AllByRecursion (λ e. length e.1.parts ≡ n) es → TakesEach group es
 takes-counted n group [] few same h = tt
 takes-counted n group (e ∷ es) few same h = (
@@ -180,18 +190,21 @@ takes-counted n group (e ∷ es) few same h = (
 )
 
 -- a group without members takes those of a table of few records
-pub takes-few : (most : ℕ) (functions : List FilteredFunction) (t : Contents) (es : Entries) → most < 2 ^ 63 → contents_of es ≡ t
+pub takes-few : (most : ℕ) (functions : List FilteredFunction) (t : Contents) (es : Entries) → most < 2 ^ 63
+    → contents_of es ≡ t
     → IsDistinct key_eq (keys_of es) → IsCounted most functions t → TakesEach (no_group functions) es
 takes-few most functions t es few view distinct counted =
     let a = entries-counted most functions t es view distinct counted in
     takes-counted (length functions) (no_group functions) es (omega (arith, a, few)) (no_group-parts functions)
     (all-parts most functions t es counted (get-each es t view distinct))
 
-with_entries-lines : (group : GroupState) (es : Entries) → (group_with_entries group es).lines ≡ group.lines + entry_lines es
+with_entries-lines : (group : GroupState) (es : Entries)
+    → (group_with_entries group es).lines ≡ group.lines + entry_lines es
 with_entries-lines group [] = omega arith
 with_entries-lines group (e ∷ es) = let h = with_entries-lines (joint_group group e.1) es in omega (arith, h)
 
-with_entries-parts : (group : GroupState) (es : Entries) → length (group_with_entries group es).parts ≡ length group.parts
+with_entries-parts : (group : GroupState) (es : Entries)
+    → length (group_with_entries group es).parts ≡ length group.parts
 with_entries-parts group [] = refl
 with_entries-parts group (e ∷ es) = with_entries-parts (joint_group group e.1) es ∙ joint_states-length group.parts e.1.parts
 
@@ -233,7 +246,8 @@ counted-one functions t table es view distinct put most counted =
 not-any : (q : Key) (ks : List Key) → list_any (same_key q) ks ≡ false → AllByRecursion (λ k. same_key k q ≡ false) ks
 not-any q [] h = tt
 not-any q (k ∷ ks) h =
-    elim (same_key q k) as (λ b. same_key q k ≡ b → (b || list_any (same_key q) ks) ≡ false → AllByRecursion (λ k. same_key k q ≡ false) (k ∷ ks)) [
+    elim (same_key q k) as (λ b. same_key q k ≡ b → (b || list_any (same_key q) ks) ≡ false
+    → AllByRecursion (λ k. same_key k q ≡ false) (k ∷ ks)) [
       | true ↦ λ is n. absurd (cc)
       | false ↦ λ is n. (not_swapped q k is, not-any q ks n)
     ] refl h
@@ -245,12 +259,14 @@ spread-most set ks distinct [] = let a = spread-none (λ _. 1) set ks in omega (
 spread-most set ks distinct (row ∷ rows) =
     let q = project set row in
     let rest = spread-most set ks distinct rows in
-    elim (list_any (same_key q) ks) as (λ b. list_any (same_key q) ks ≡ b → weigh (λ _. 1) (spread set (row ∷ rows) ks) ≤ length (row ∷ rows)) [
+    elim (list_any (same_key q) ks) as (λ b. list_any (same_key q) ks ≡ b
+    → weigh (λ _. 1) (spread set (row ∷ rows) ks) ≤ length (row ∷ rows)) [
       | true ↦ λ is. let a = hit (λ _. 1) set row rows ks distinct is in omega (arith, a, rest)
       | false ↦ λ is. let a = missed (λ _. 1) set row rows ks (not-any q ks is) in omega (arith, a, rest)
     ] refl
 
-group-lines : (fs : List AggregateFunction) (b : Bool) (rows : List Row) → lines_of (cond b (Some (group_state fs rows)) None) ≤ length rows
+group-lines : (fs : List AggregateFunction) (b : Bool) (rows : List Row)
+    → lines_of (cond b (Some (group_state fs rows)) None) ≤ length rows
 group-lines fs true rows = omega arith
 group-lines fs false rows = omega arith
 
@@ -266,13 +282,15 @@ table-lines set fs t rows is (k ∷ ks) =
     let b = ones m in
     omega (arith, here, rest, a, b)
 
-group-parts : (functions : List FilteredFunction) (fs : List AggregateFunction) (b : Bool) (rows : List Row) → length fs ≡ length functions
+group-parts : (functions : List FilteredFunction) (fs : List AggregateFunction) (b : Bool) (rows : List Row)
+    → length fs ≡ length functions
     → HasParts functions (cond b (Some (group_state fs rows)) None)
 group-parts functions fs true rows same = length-map fs (λ f. accumulator_state f rows) ∙ same
 group-parts functions fs false rows same = tt
 
 -- the groups of a table have no more records than the table is of
-pub records-counted : (most : ℕ) (set : List ℕ) (functions : List FilteredFunction) (filters : List (Row → Bool)) (t : Contents)
+pub records-counted : (most : ℕ) (set : List ℕ) (functions : List FilteredFunction) (filters : List (Row → Bool))
+    (t : Contents)
     (rows : List Row) → IsTableUnder set functions filters t rows → length rows ≤ most → IsCounted most functions t
 records-counted most set functions filters t rows is few =
     let fs = map (aggregate_of filters) functions in
@@ -292,7 +310,8 @@ joint-lines None b = omega arith
 joint-lines (Some g) None = omega arith
 joint-lines (Some g) (Some h) = refl
 
-joint-parts : (functions : List FilteredFunction) (a b : Option GroupState) → HasParts functions a → HasParts functions b
+joint-parts : (functions : List FilteredFunction) (a b : Option GroupState) → HasParts functions a
+    → HasParts functions b
     → HasParts functions (joint_option a b)
 joint-parts functions None b p q = q
 joint-parts functions (Some g) None p q = p
@@ -307,7 +326,8 @@ both-lines a b c both (k ∷ ks) =
     omega (arith, here, rest)
 
 -- have no more records than both
-pub both-counted : (m n : ℕ) (functions : List FilteredFunction) (a b c : Contents) → IsCounted m functions a → IsCounted n functions b
+pub both-counted : (m n : ℕ) (functions : List FilteredFunction) (a b c : Contents) → IsCounted m functions a
+    → IsCounted n functions b
     → HasGroupsOfBoth a b c → IsCounted (m + n) functions c
 both-counted m n functions a b c p q both = record {
   lines = λ ks distinct.
@@ -315,12 +335,14 @@ both-counted m n functions a b c p q both = record {
       let y = p.lines ks distinct in
       let z = q.lines ks distinct in
       omega (arith, x, y, z);
-  parts = λ k. subst (HasParts functions) (sym (both k)) (joint-parts functions (fin.get a k) (fin.get b k) (p.parts k) (q.parts k));
+  parts = λ k. subst (HasParts functions) (sym (both k))
+      (joint-parts functions (fin.get a k) (fin.get b k) (p.parts k) (q.parts k));
 }
 
 -- ---- each group by itself
 
-lines-within : (most : ℕ) (functions : List FilteredFunction) (o : Option GroupState) → lines_of o ≤ most → HasParts functions o
+lines-within : (most : ℕ) (functions : List FilteredFunction) (o : Option GroupState) → lines_of o ≤ most
+    → HasParts functions o
     → IfSome o (IsGroupWithin most functions)
 lines-within most functions None few h = tt
 lines-within most functions (Some group) few h = (few, h)

@@ -1,4 +1,5 @@
--- Tables of which each group is of the types of columns and set functions: that of records that fit, those that are put together, and one that takes parts of others.
+-- Tables of which each group is of the types of columns and set functions: that of records that fit, two that are put
+-- together, and one that takes the parts of a finer one.
 use Rattle.std.proofs.Common.{◌≡◌, ◌<◌, ◌==◌, ℕ, zero, suc, Bool, true, false, ◌||◌, cond, List, [], ◌∷◌, map, filter, length, Option, Some, None, IfSome, unwrap_or, refl, sym, subst, ◌∙◌, arith}
 use Rattle.std.proofs.lemmas.Bool.{eqb-true}
 use Rattle.std.specs.List.{AllByRecursion, AllZip, IsDistinct, find, list_any}
@@ -50,13 +51,15 @@ type-counted fields function.CountRows lines (counted n) h = tt
 type-counted fields function.CountRows lines k h = elim h [ ]
 type-counted fields f lines k h = type-over fields f lines k h
 
-type-by : (fields : List Field) (t : Option ℕ) (f : ColumnFunction) (lines : ℕ) (k : AccumulatorState) → IsStateBy fields t f k
+type-by : (fields : List Field) (t : Option ℕ) (f : ColumnFunction) (lines : ℕ) (k : AccumulatorState)
+    → IsStateBy fields t f k
     → HasType fields f (summary lines k)
 type-by fields None f lines k h = type-over fields f lines k h
 type-by fields (Some index) f lines k h = type-counted fields f lines k h
 
 -- so do the cells of a group
-pub states-type : (fields : List Field) (fs : List FilteredFunction) (lines : ℕ) (ks : List AccumulatorState) → AreStatesOf fields fs ks
+pub states-type : (fields : List Field) (fs : List FilteredFunction) (lines : ℕ) (ks : List AccumulatorState)
+    → AreStatesOf fields fs ks
     → AllZip (λ f cell. HasType fields f.function cell) fs (map (summary lines) ks)
 states-type fields [] lines [] h = tt
 states-type fields (f ∷ fs) lines (k ∷ ks) h = (type-by fields f.filter f.function lines k h.0, states-type fields fs lines ks h.1)
@@ -68,7 +71,8 @@ first-held : (o : Option Kind) (b : Bool) (x y : Datum) → IsHeld o x → IsHel
 first-held o true x y p q = q
 first-held o false x y p q = p
 
-joint-over : (fields : List Field) (f : ColumnFunction) (k l : AccumulatorState) → IsStateOver fields f k → IsStateOver fields f l
+joint-over : (fields : List Field) (f : ColumnFunction) (k l : AccumulatorState) → IsStateOver fields f k
+    → IsStateOver fields f l
     → IsStateOver fields f (joint_state k l)
 joint-over fields function.CountRows nothing nothing p q = tt
 joint-over fields function.CountRows nothing l p q = elim q [ ]
@@ -78,15 +82,18 @@ joint-over fields (function.CountDistinct place) (collected s) (collected t) p q
 joint-over fields (function.CountDistinct place) (collected s) l p q = elim q [ ]
 joint-over fields (function.Sum place) (summed s m) (summed t n) p q = tt
 joint-over fields (function.Sum place) (summed s m) l p q = elim q [ ]
-joint-over fields (function.Min place) (lowest d) (lowest e) p q = first-held (kind_at fields place) (is_lt (value_order e d)) d e p q
+joint-over fields (function.Min place) (lowest d) (lowest e) p q =
+    first-held (kind_at fields place) (is_lt (value_order e d)) d e p q
 joint-over fields (function.Min place) (lowest d) l p q = elim q [ ]
-joint-over fields (function.Max place) (highest d) (highest e) p q = first-held (kind_at fields place) (is_lt (falling_order e d)) d e p q
+joint-over fields (function.Max place) (highest d) (highest e) p q =
+    first-held (kind_at fields place) (is_lt (falling_order e d)) d e p q
 joint-over fields (function.Max place) (highest d) l p q = elim q [ ]
 joint-over fields (function.Avg place) (averaged s m) (averaged t n) p q = tt
 joint-over fields (function.Avg place) (averaged s m) l p q = elim q [ ]
 joint-over fields f k l p q = elim p [ ]
 
-joint-counted : (fields : List Field) (f : ColumnFunction) (k l : AccumulatorState) → IsStateCounted fields f k → IsStateCounted fields f l
+joint-counted : (fields : List Field) (f : ColumnFunction) (k l : AccumulatorState) → IsStateCounted fields f k
+    → IsStateCounted fields f l
     → IsStateCounted fields f (joint_state k l)
 joint-counted fields function.CountRows (counted m) (counted n) p q = tt
 joint-counted fields function.CountRows (counted m) l p q = elim q [ ]
@@ -98,7 +105,8 @@ joint-by : (fields : List Field) (t : Option ℕ) (f : ColumnFunction) (k l : Ac
 joint-by fields None f k l p q = joint-over fields f k l p q
 joint-by fields (Some index) f k l p q = joint-counted fields f k l p q
 
-joint-states : (fields : List Field) (fs : List FilteredFunction) (ks ls : List AccumulatorState) → AreStatesOf fields fs ks
+joint-states : (fields : List Field) (fs : List FilteredFunction) (ks ls : List AccumulatorState)
+    → AreStatesOf fields fs ks
     → AreStatesOf fields fs ls → AreStatesOf fields fs (joint_states ks ls)
 joint-states fields [] [] [] p q = tt
 joint-states fields [] [] (l ∷ ls) p q = elim q [ ]
@@ -123,7 +131,8 @@ value-held (f ∷ fields) [] place h l = absurd h
 value-held (f ∷ fields) (d ∷ row) zero h l = h.0
 value-held (f ∷ fields) (d ∷ row) (suc place) h l = value-held fields row place h.1 (omega (arith, l))
 
-all-filter : {X : Type 0} (P : X → Type 0) (test : X → Bool) (xs : List X) → AllByRecursion P xs → AllByRecursion P (filter test xs)
+all-filter : {X : Type 0} (P : X → Type 0) (test : X → Bool) (xs : List X) → AllByRecursion P xs
+    → AllByRecursion P (filter test xs)
 all-filter P test [] h = tt
 all-filter P test (x ∷ xs) h = elim (test x) as (λ b. AllByRecursion P (cond b (x ∷ filter test xs) (filter test xs))) [
   | true ↦ (h.0, all-filter P test xs h.1)
@@ -150,10 +159,12 @@ column-held fields place rows h l =
     all-filter (IsHeld (kind_at fields place)) is_present (map (value_at place) rows) (values-held fields place rows h l)
 
 -- so it holds what is found among the values of records that fit, or else NULL
-found-held : (fields : List Field) (place : ℕ) (test : Datum → Bool) (rows : List Row) → AllFit fields rows → place < length fields
+found-held : (fields : List Field) (place : ℕ) (test : Datum → Bool) (rows : List Row) → AllFit fields rows
+    → place < length fields
     → IsHeld (kind_at fields place) (unwrap_or (find test (column_values place rows)) null)
 found-held fields place test rows h l =
-    find-such (IsHeld (kind_at fields place)) test (column_values place rows) null (null-held fields place l) (column-held fields place rows h l)
+    find-such (IsHeld (kind_at fields place)) test (column_values place rows) null (null-held fields place l)
+    (column-held fields place rows h l)
 
 -- ---- what is kept of records that fit
 
@@ -172,29 +183,35 @@ kept-counted : (fields : List Field) (f : ColumnFunction) (rows : List Row) → 
 kept-counted fields function.CountRows rows h l = tt
 kept-counted fields f rows h l = kept-over fields f rows h l
 
-state-of : (fields : List Field) (filters : List (Row → Bool)) (t : Option ℕ) (f : ColumnFunction) (rows : List Row) → AllFit fields rows
+state-of : (fields : List Field) (filters : List (Row → Bool)) (t : Option ℕ) (f : ColumnFunction) (rows : List Row)
+    → AllFit fields rows
     → HasColumn fields f → IsStateBy fields t f (accumulator_state (aggregate_of filters (record { function = f; filter = t })) rows)
 state-of fields filters None f rows h l = kept-over fields f rows h l
 state-of fields filters (Some index) f rows h l =
     kept-counted fields f (filter (filter_at filters index) rows) (all-filter (Fits fields) (filter_at filters index) rows h) l
 
-states-of : (fields : List Field) (filters : List (Row → Bool)) (fs : List FilteredFunction) (rows : List Row) → AllFit fields rows
+states-of : (fields : List Field) (filters : List (Row → Bool)) (fs : List FilteredFunction) (rows : List Row)
+    → AllFit fields rows
     → HaveColumns fields fs → AreStatesOf fields fs (group_state (map (aggregate_of filters) fs) rows).parts
 states-of fields filters [] rows h l = tt
-states-of fields filters (f ∷ fs) rows h l = (state-of fields filters f.filter f.function rows h l.0, states-of fields filters fs rows h l.1)
+states-of fields filters (f ∷ fs) rows h l =
+    (state-of fields filters f.filter f.function rows h l.0, states-of fields filters fs rows h l.1)
 
 -- of no record the same is kept, whatever the filters keep
-no_state-of : (fields : List Field) (t : Option ℕ) (f : ColumnFunction) → HasColumn fields f → IsStateBy fields t f (no_state t f)
+no_state-of : (fields : List Field) (t : Option ℕ) (f : ColumnFunction) → HasColumn fields f
+    → IsStateBy fields t f (no_state t f)
 no_state-of fields None f l = kept-over fields f [] tt l
 no_state-of fields (Some index) f l = kept-counted fields f [] tt l
 
-no_states-of : (fields : List Field) (fs : List FilteredFunction) → HaveColumns fields fs → AreStatesOf fields fs (no_group fs).parts
+no_states-of : (fields : List Field) (fs : List FilteredFunction) → HaveColumns fields fs
+    → AreStatesOf fields fs (no_group fs).parts
 no_states-of fields [] l = tt
 no_states-of fields (f ∷ fs) l = (no_state-of fields f.filter f.function l.0, no_states-of fields fs l.1)
 
 -- ---- keys
 
-projected-held : (fields : List Field) (set : List ℕ) (row : Row) → Fits fields row → AreColumns fields set → IsKeyOf fields set (project set row)
+projected-held : (fields : List Field) (set : List ℕ) (row : Row) → Fits fields row → AreColumns fields set
+    → IsKeyOf fields set (project set row)
 projected-held fields [] row h l = tt
 projected-held fields (p ∷ ps) row h l = (value-held fields row p h l.0, projected-held fields ps row h l.1)
 
@@ -202,8 +219,10 @@ any-held : (fields : List Field) (set : List ℕ) (k : Key) (rows : List Row) �
     → list_any (same_key k) (map (project set) rows) ≡ true → IsKeyOf fields set k
 any-held fields set k [] h l is = cc
 any-held fields set k (row ∷ rows) h l is =
-    elim (same_key k (project set row)) as (λ b. same_key k (project set row) ≡ b → (b || list_any (same_key k) (map (project set) rows)) ≡ true → IsKeyOf fields set k) [
-      | true ↦ λ e n. subst (IsKeyOf fields set) (sym ((same_key-Decides k (project set row)).0 e)) (projected-held fields set row h.0 l)
+    elim (same_key k (project set row)) as (λ b. same_key k (project set row) ≡ b
+    → (b || list_any (same_key k) (map (project set) rows)) ≡ true → IsKeyOf fields set k) [
+      | true ↦ λ e n.
+          subst (IsKeyOf fields set) (sym ((same_key-Decides k (project set row)).0 e)) (projected-held fields set row h.0 l)
       | false ↦ λ e n. any-held fields set k rows h.1 l n
     ] refl is
 
@@ -244,35 +263,42 @@ abbrev pub HasStates : List Field → List FilteredFunction → Option GroupStat
 HasStates fields functions o = IfSome o (λ group. AreStatesOf fields functions group.parts)
 
 -- what a typed table has at a key
-pub key-typed : (fields : List Field) (set : List ℕ) (fs : List FilteredFunction) (t : Contents) (k : Key) (group : GroupState)
+pub key-typed : (fields : List Field) (set : List ℕ) (fs : List FilteredFunction) (t : Contents) (k : Key)
+    (group : GroupState)
     → fin.get t k ≡ Some group → IsTypedTable fields set fs t → IsKeyOf fields set k
 key-typed fields set fs t k group there typed = subst (HasKey fields set k) there (typed.keys k)
 
-pub parts-typed : (fields : List Field) (set : List ℕ) (fs : List FilteredFunction) (t : Contents) (k : Key) (group : GroupState)
+pub parts-typed : (fields : List Field) (set : List ℕ) (fs : List FilteredFunction) (t : Contents) (k : Key)
+    (group : GroupState)
     → fin.get t k ≡ Some group → IsTypedTable fields set fs t → AreStatesOf fields fs group.parts
 parts-typed fields set fs t k group there typed = subst (HasStates fields fs) there (typed.parts k)
 
 -- a table without groups
-pub none-typed : (fields : List Field) (set : List ℕ) (fs : List FilteredFunction) (t : Contents) → ((k : Key) → fin.get t k ≡ None)
+pub none-typed : (fields : List Field) (set : List ℕ) (fs : List FilteredFunction) (t : Contents)
+    → ((k : Key) → fin.get t k ≡ None)
     → IsTypedTable fields set fs t
 none-typed fields set fs t none = record {
   keys = λ k. subst (HasKey fields set k) (sym (none k)) tt;
   parts = λ k. subst (HasStates fields fs) (sym (none k)) tt;
 }
 
-key-there : (fields : List Field) (set : List ℕ) (k : Key) (b : Bool) (group : GroupState) → (b ≡ true → IsKeyOf fields set k)
+key-there : (fields : List Field) (set : List ℕ) (k : Key) (b : Bool) (group : GroupState)
+    → (b ≡ true → IsKeyOf fields set k)
     → HasKey fields set k (cond b (Some group) None)
 key-there fields set k true group h = h refl
 key-there fields set k false group h = tt
 
-states-there : (fields : List Field) (fs : List FilteredFunction) (b : Bool) (group : GroupState) → AreStatesOf fields fs group.parts
+states-there : (fields : List Field) (fs : List FilteredFunction) (b : Bool) (group : GroupState)
+    → AreStatesOf fields fs group.parts
     → HasStates fields fs (cond b (Some group) None)
 states-there fields fs true group h = h
 states-there fields fs false group h = tt
 
 -- the table of records that fit
-pub records-typed : (fields : List Field) (set : List ℕ) (fs : List FilteredFunction) (filters : List (Row → Bool)) (t : Contents)
-    (rows : List Row) → IsTableUnder set fs filters t rows → AllFit fields rows → AreColumns fields set → HaveColumns fields fs
+pub records-typed : (fields : List Field) (set : List ℕ) (fs : List FilteredFunction) (filters : List (Row → Bool))
+    (t : Contents)
+    (rows : List Row) → IsTableUnder set fs filters t rows → AllFit fields rows → AreColumns fields set
+    → HaveColumns fields fs
     → IsTypedTable fields set fs t
 records-typed fields set fs filters t rows is fit columns have =
     let group : Key → GroupState = λ k. group_state (map (aggregate_of filters) fs) (members set k rows) in
@@ -281,43 +307,53 @@ records-typed fields set fs filters t rows is fit columns have =
           (key-there fields set k (has_key set k rows) (group k) (key-held fields set k rows fit columns));
       parts = λ k. subst (HasStates fields fs) (sym (is k))
           (states-there fields fs (has_key set k rows) (group k)
-          (states-of fields filters fs (members set k rows) (all-filter (Fits fields) (λ row. same_key k (project set row)) rows fit) have));
+          (states-of fields filters fs (members set k rows)
+          (all-filter (Fits fields) (λ row. same_key k (project set row)) rows fit) have));
     }
 
-both-keys : (fields : List Field) (set : List ℕ) (k : Key) (a b : Option GroupState) → HasKey fields set k a → HasKey fields set k b
+both-keys : (fields : List Field) (set : List ℕ) (k : Key) (a b : Option GroupState) → HasKey fields set k a
+    → HasKey fields set k b
     → HasKey fields set k (joint_option a b)
 both-keys fields set k None b p q = q
 both-keys fields set k (Some g) None p q = p
 both-keys fields set k (Some g) (Some h) p q = p
 
-both-states : (fields : List Field) (fs : List FilteredFunction) (a b : Option GroupState) → HasStates fields fs a → HasStates fields fs b
+both-states : (fields : List Field) (fs : List FilteredFunction) (a b : Option GroupState) → HasStates fields fs a
+    → HasStates fields fs b
     → HasStates fields fs (joint_option a b)
 both-states fields fs None b p q = q
 both-states fields fs (Some g) None p q = p
 both-states fields fs (Some g) (Some h) p q = joint-states fields fs g.parts h.parts p q
 
 -- two tables, put together
-pub both-typed : (fields : List Field) (set : List ℕ) (fs : List FilteredFunction) (a b c : Contents) → IsTypedTable fields set fs a
+pub both-typed : (fields : List Field) (set : List ℕ) (fs : List FilteredFunction) (a b c : Contents)
+    → IsTypedTable fields set fs a
     → IsTypedTable fields set fs b → HasGroupsOfBoth a b c → IsTypedTable fields set fs c
 both-typed fields set fs a b c p q both = record {
-  keys = λ k. subst (HasKey fields set k) (sym (both k)) (both-keys fields set k (fin.get a k) (fin.get b k) (p.keys k) (q.keys k));
-  parts = λ k. subst (HasStates fields fs) (sym (both k)) (both-states fields fs (fin.get a k) (fin.get b k) (p.parts k) (q.parts k));
+  keys = λ k. subst (HasKey fields set k) (sym (both k))
+      (both-keys fields set k (fin.get a k) (fin.get b k) (p.keys k) (q.keys k));
+  parts = λ k. subst (HasStates fields fs) (sym (both k))
+      (both-states fields fs (fin.get a k) (fin.get b k) (p.parts k) (q.parts k));
 }
 
 -- ---- one part more
 
-members-states : (fields : List Field) (fs : List FilteredFunction) (b : Bool) (o : Option GroupState) (part : GroupState)
+members-states : (fields : List Field) (fs : List FilteredFunction) (b : Bool) (o : Option GroupState)
+    (part : GroupState)
     → HaveColumns fields fs → HasStates fields fs o → AreStatesOf fields fs part.parts
     → HasStates fields fs (cond b (Some (group_with_members fs o part)) o)
-members-states fields fs true None part have p q = joint-states fields fs (no_group fs).parts part.parts (no_states-of fields fs have) q
+members-states fields fs true None part have p q =
+    joint-states fields fs (no_group fs).parts part.parts (no_states-of fields fs have) q
 members-states fields fs true (Some group) part have p q = joint-states fields fs group.parts part.parts p q
 members-states fields fs false o part have p q = p
 
-key-any : (fields : List Field) (set : List ℕ) (k : Key) (o : Option GroupState) → IsKeyOf fields set k → HasKey fields set k o
+key-any : (fields : List Field) (set : List ℕ) (k : Key) (o : Option GroupState) → IsKeyOf fields set k
+    → HasKey fields set k o
 key-any fields set k None h = tt
 key-any fields set k (Some group) h = h
 
-key-put : (fields : List Field) (set : List ℕ) (k q : Key) (o new : Option GroupState) → IsKeyOf fields set q → HasKey fields set k o
+key-put : (fields : List Field) (set : List ℕ) (k q : Key) (o new : Option GroupState) → IsKeyOf fields set q
+    → HasKey fields set k o
     → HasKey fields set k (cond (same_key k q) new o)
 key-put fields set k q o new p h = elim (same_key k q) as (λ b. same_key k q ≡ b → HasKey fields set k (cond b new o)) [
   | true ↦ λ e. key-any fields set k new (subst (IsKeyOf fields set) (sym ((same_key-Decides k q).0 e)) p)
@@ -325,8 +361,10 @@ key-put fields set k q o new p h = elim (same_key k q) as (λ b. same_key k q �
 ] refl
 
 -- a table that takes a part of a group of a finer table, under its key rolled
-pub rolled-typed : (fields : List Field) (finer set : List ℕ) (fs : List FilteredFunction) (old new : Contents) (key : Key)
-    (part : GroupState) → AreAmong set finer → HaveColumns fields fs → IsKeyOf fields finer key → AreStatesOf fields fs part.parts
+pub rolled-typed : (fields : List Field) (finer set : List ℕ) (fs : List FilteredFunction) (old new : Contents)
+    (key : Key)
+    (part : GroupState) → AreAmong set finer → HaveColumns fields fs → IsKeyOf fields finer key
+    → AreStatesOf fields fs part.parts
     → ((k : Key) → IsEnlarged fs old new (rolled_key finer set key) part k) → IsTypedTable fields set fs old
     → IsTypedTable fields set fs new
 rolled-typed fields finer set fs old new key part among have p q enlarged typed =
@@ -341,19 +379,24 @@ rolled-typed fields finer set fs old new key part among have p q enlarged typed 
 
 -- ---- all groups of a table, put to one
 
-entries-states : (fields : List Field) (set : List ℕ) (fs : List FilteredFunction) (t : Contents) (es : Entries) → IsTypedTable fields set fs t
-    → AllByRecursion (λ e. fin.get t (key_in e.0) ≡ Some e.1) es → AllByRecursion (λ e. AreStatesOf fields fs e.1.parts) es
+entries-states : (fields : List Field) (set : List ℕ) (fs : List FilteredFunction) (t : Contents) (es : Entries)
+    → IsTypedTable fields set fs t
+    → AllByRecursion (λ e. fin.get t (key_in e.0) ≡ Some e.1) es
+    → AllByRecursion (λ e. AreStatesOf fields fs e.1.parts) es
 entries-states fields set fs t [] typed h = tt
 entries-states fields set fs t (e ∷ es) typed h =
     (parts-typed fields set fs t (key_in e.0) e.1 h.0 typed, entries-states fields set fs t es typed h.1)
 
-with_entries-states : (fields : List Field) (fs : List FilteredFunction) (group : GroupState) (es : Entries) → AreStatesOf fields fs group.parts
-    → AllByRecursion (λ e. AreStatesOf fields fs e.1.parts) es → AreStatesOf fields fs (group_with_entries group es).parts
+with_entries-states : (fields : List Field) (fs : List FilteredFunction) (group : GroupState) (es : Entries)
+    → AreStatesOf fields fs group.parts
+    → AllByRecursion (λ e. AreStatesOf fields fs e.1.parts) es
+    → AreStatesOf fields fs (group_with_entries group es).parts
 with_entries-states fields fs group [] p h = p
 with_entries-states fields fs group (e ∷ es) p h =
     with_entries-states fields fs (joint_group group e.1) es (joint-states fields fs group.parts e.1.parts p h.0) h.1
 
-put-states : (fields : List Field) (fs : List FilteredFunction) (b : Bool) (o : Option GroupState) (part : GroupState) → o ≡ None
+put-states : (fields : List Field) (fs : List FilteredFunction) (b : Bool) (o : Option GroupState) (part : GroupState)
+    → o ≡ None
     → AreStatesOf fields fs part.parts → HasStates fields fs (cond b (joint_option o (Some part)) o)
 put-states fields fs true None part none h = h
 put-states fields fs true (Some group) part none h = cc

@@ -36,14 +36,18 @@ HasCellsOf fields fs g = AllZip (λ f cell. HasType fields f.function cell) fs g
 
 -- ---- what is shown of the entries
 
-entry-keys : (fields : List Field) (set : List ℕ) (fs : List FilteredFunction) (t : Contents) (es : Entries) → IsTypedTable fields set fs t
-    → AllByRecursion (λ e. fin.get t (key_in e.0) ≡ Some e.1) es → AllByRecursion (HasKeyOf fields set) (entry_summaries es)
+entry-keys : (fields : List Field) (set : List ℕ) (fs : List FilteredFunction) (t : Contents) (es : Entries)
+    → IsTypedTable fields set fs t
+    → AllByRecursion (λ e. fin.get t (key_in e.0) ≡ Some e.1) es → AllByRecursion (HasKeyOf fields set)
+    (entry_summaries es)
 entry-keys fields set fs t [] typed h = tt
 entry-keys fields set fs t (e ∷ es) typed h =
     (key-typed fields set fs t (key_in e.0) e.1 h.0 typed, entry-keys fields set fs t es typed h.1)
 
-entry-cells : (fields : List Field) (set : List ℕ) (fs : List FilteredFunction) (t : Contents) (es : Entries) → IsTypedTable fields set fs t
-    → AllByRecursion (λ e. fin.get t (key_in e.0) ≡ Some e.1) es → AllByRecursion (HasCellsOf fields fs) (entry_summaries es)
+entry-cells : (fields : List Field) (set : List ℕ) (fs : List FilteredFunction) (t : Contents) (es : Entries)
+    → IsTypedTable fields set fs t
+    → AllByRecursion (λ e. fin.get t (key_in e.0) ≡ Some e.1) es → AllByRecursion (HasCellsOf fields fs)
+    (entry_summaries es)
 entry-cells fields set fs t [] typed h = tt
 entry-cells fields set fs t (e ∷ es) typed h = (
   states-type fields fs e.1.lines e.1.parts (parts-typed fields set fs t (key_in e.0) e.1 h.0 typed),
@@ -56,17 +60,21 @@ shown-keys : (es : Entries) → firsts es ≡ map key_of (entry_summaries es)
 shown-keys [] = refl
 shown-keys (e ∷ es) = ap (λ ks. key_in e.0 ∷ ks) (shown-keys es)
 
-keys-apart : (groups : List GroupSummary) → IsDistinct same_key (map key_of groups) → AllPairs (λ x y. x.key ≢ y.key) groups
+keys-apart : (groups : List GroupSummary) → IsDistinct same_key (map key_of groups)
+    → AllPairs (λ x y. x.key ≢ y.key) groups
 keys-apart groups distinct = λ i j d below within same.
     let long = length-map groups key_of in
     AllPairs-from_IsDistinct same_key-Decides (map key_of groups) distinct i j (key_of d) below (omega (arith, within, long))
-    (get_or-map key_of groups i d (key_of d) (omega (arith, below, within)) ∙ same ∙ sym (get_or-map key_of groups j d (key_of d) within))
+    (get_or-map key_of groups i d (key_of d) (omega (arith, below, within)) ∙ same
+    ∙ sym (get_or-map key_of groups j d (key_of d) within))
 
 -- ---- the groups in any order
 
 -- groups that are the entries of a typed table, in whatever order, are of its types
-pub groups-typed : (fields : List Field) (set : List ℕ) (fs : List FilteredFunction) (t : Contents) (es : Entries) (groups : List GroupSummary)
-    → contents_of es ≡ t → IsDistinct key_eq (keys_of es) → IsPermutation (entry_summaries es) groups → IsTypedTable fields set fs t
+pub groups-typed : (fields : List Field) (set : List ℕ) (fs : List FilteredFunction) (t : Contents) (es : Entries)
+    (groups : List GroupSummary)
+    → contents_of es ≡ t → IsDistinct key_eq (keys_of es) → IsPermutation (entry_summaries es) groups
+    → IsTypedTable fields set fs t
     → AreOfTypes fields set fs groups
 groups-typed fields set fs t es groups view distinct moved typed =
     let shown = entry_summaries es in

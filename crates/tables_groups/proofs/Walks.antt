@@ -20,8 +20,10 @@ swapped-fronts xs ys zs =
     (subst (λ front. IsPermutation front ((ys ++ xs) ++ zs)) (append_assoc xs ys zs)
     (IsPermutation-append_left zs (xs ++ ys) (ys ++ xs) (IsPermutation-append_comm xs ys)))
 
--- Groups with those that are left of all walks are the same as before, in another order, where one walk alone has come further and with the groups that are left of it they are the same.
-pub put_next-permutes : (gs hs : List GroupSummary) (i : ℕ) (ws : List Walk) (old new : Walk) → old ≡ get_or ws i old → i < length ws
+-- Groups, with those that the walks have not come to, are those of before in some order, where one walk alone has come further: with
+-- what that one has not come to they are the same.
+pub put_next-permutes : (gs hs : List GroupSummary) (i : ℕ) (ws : List Walk) (old new : Walk) → old ≡ get_or ws i old
+    → i < length ws
     → hs ++ entry_summaries new.entries ≡ gs ++ entry_summaries old.entries
     → IsPermutation (gs ++ entry_summaries (entries_left ws)) (hs ++ entry_summaries (entries_left (set ws i new)))
 put_next-permutes gs hs i [] old new is l h = absurd (omega (arith, l))
@@ -42,7 +44,8 @@ put_next-permutes gs hs (suc i) (w ∷ ws) old new is l h =
     let rest = put_next-permutes gs hs i ws old new is (omega (arith, l)) h in
     let moved : IsPermutation (gs ++ (front ++ left)) (hs ++ (front ++ more)) =
     IsPermutation-trans _ (front ++ (gs ++ left)) _ (swapped-fronts gs front left)
-    (IsPermutation-trans _ (front ++ (hs ++ more)) _ (IsPermutation-append_right front (gs ++ left) (hs ++ more) rest) (swapped-fronts front hs more)) in
+    (IsPermutation-trans _ (front ++ (hs ++ more)) _ (IsPermutation-append_right front (gs ++ left) (hs ++ more) rest)
+    (swapped-fronts front hs more)) in
     subst (λ (rs : List GroupSummary). IsPermutation (gs ++ rs) (hs ++ entry_summaries (w.entries ++ entries_left (set ws i new))))
     (sym (entry_summaries-append w.entries (entries_left ws)))
     (subst (λ (rs : List GroupSummary). IsPermutation (gs ++ (front ++ left)) (hs ++ rs))
