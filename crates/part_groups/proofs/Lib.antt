@@ -1,0 +1,3 @@
+pub mod Keys
+pub mod Last
+pub mod Loop

@@ -212,11 +212,17 @@ state_at members (kind.Distinct k) s = collected_at k members s
 abbrev pub key_at : List Kind → Stream → Result (Key × Stream) GroupFault
 key_at columns s = each_at held_at columns s
 
+-- A key that is above the last one.
+unfoldable pub next_key_at : List Kind → Option Key → Stream → Result (Key × Stream) GroupFault
+next_key_at columns last s = do
+  key ← key_at columns s
+  above ← passed (is_above key_order last key.0) OutOfOrder key.1
+  Ok key
+
 -- A group of this shape, its key above the last one, of no more members than are left.
 unfoldable pub group_at : ShapeForm → Option Key → ℕ → Stream → Result (EntryForm × Stream) GroupFault
 group_at shape last left s = do
-  key ← key_at shape.columns s
-  above ← passed (is_above key_order last key.0) OutOfOrder key.1
+  key ← next_key_at shape.columns last s
   members ← count_within left key.1
   states ← each_at (state_at members.0) shape.states members.1
   Ok (record { key = key.0; members = members.0; states = states.0 }, states.1)

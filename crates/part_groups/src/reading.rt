@@ -4,7 +4,7 @@ ghost use Rattle.std.specs.Option.{option_copied};
 ghost use Rattle.values.specs.Datum.{data_of};
 ghost use Rattle.group_states.specs.States.{entry_of};
 ghost use Rattle.part_groups.specs.Groups.{shape_of};
-ghost use Rattle.part_groups.specs.Reading.{Gives, group_at, key_at};
+ghost use Rattle.part_groups.specs.Reading.{Gives, group_at, key_at, next_key_at};
 
 use crate::checks::{check, is_key_above};
 use crate::fault::{GroupFaultKind, GroupRefusal};
@@ -17,8 +17,8 @@ use semantics::Kind;
 use std::alloc::Global;
 use values::Value;
 
-/// The next key: a value for each of these columns.
-fn next_key<S: Source>(
+/// The values of the next key, one for each of these columns.
+fn next_values<S: Source>(
     alloc: Global,
     source: &mut S,
     columns: &[Kind],
@@ -26,7 +26,7 @@ fn next_key<S: Source>(
     ensures known { S.known source.old → OnOk result (S.known source.new) }
     ensures read { S.known source.old
         → Gives (λ values. (data_of values.items, S.stream source.new)) result
-        (key_at columns.now (S.stream source.old)) }
+            (key_at columns.now (S.stream source.old)) }
 {
     let mut values = Vec::new(alloc);
     for kind in columns {
@@ -34,6 +34,26 @@ fn next_key<S: Source>(
         values.push(value)?;
     }
     Ok(values)
+}
+
+/// The next key: a value for each of these columns, above the last key, where there is one.
+#[tactic(auto, unfolding(crate::specs::Reading::next_key_at))]
+fn next_key<S: Source>(
+    alloc: Global,
+    source: &mut S,
+    columns: &[Kind],
+    last: Option<&[Value]>,
+) -> Result<Vec<Value>, GroupRefusal>
+    ensures known { S.known source.old → OnOk result (S.known source.new) }
+    ensures read { S.known source.old
+        → Gives (λ key. (data_of key.items, S.stream source.new)) result
+            (next_key_at columns.now (option_map data_of (option_copied last.entry))
+                (S.stream source.old)) }
+{
+    let key = next_values(alloc, source, columns)?;
+    let above = is_key_above(last, key.as_slice());
+    check(source, above, GroupFaultKind::OutOfOrder)?;
+    Ok(key)
 }
 
 /// The next group, of this shape, its key above the last one, where there is one, and of no more members than are left.
@@ -57,12 +77,7 @@ pub fn next_group<S: Source>(
         result (group_at (shape_of shape.now) (option_map data_of (option_copied last.entry)) left
         (S.stream source.old)) }
 {
-    let key = next_key(alloc, source, shape.columns.as_slice())?;
-    check(
-        source,
-        is_key_above(last, key.as_slice()),
-        GroupFaultKind::OutOfOrder,
-    )?;
+    let key = next_key(alloc, source, shape.columns.as_slice(), last)?;
     let members = next_count_within(source, left)?;
     let states = next_states(alloc, source, shape.states.as_slice(), members)?;
     Ok(GroupEntry {
