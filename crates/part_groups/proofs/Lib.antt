@@ -1,3 +1,4 @@
 pub mod Keys
 pub mod Last
 pub mod Loop
+pub mod Again
