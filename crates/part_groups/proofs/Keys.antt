@@ -1,8 +1,10 @@
 -- The order of the code's keys.
-use Rattle.std.proofs.Common.{◌≡◌, List, [], ◌∷◌, map, refl}
+use Rattle.std.proofs.Common.{◌≡◌, List, [], ◌∷◌, true, refl}
+use Rattle.std.proofs.lemmas.Bool.{false≢true}
 use Rattle.std.specs.Cmp.Lexicographic.{slice_cmp}
-use Rattle.std.specs.Ordering.{ordering_then}
+use Rattle.std.specs.Ordering.{is_lt, ordering_then}
 use Rattle.std.specs.declared.cmp.Ordering.{Ordering}
+use Rattle.std.specs.declared.cmp.Ordering.TheVariants.{Less, Equal, Greater}
 use Rattle.semantics.specs.Groups.{key_order}
 use Rattle.semantics.specs.Values.{value_order}
 use Rattle.values.specs.Datum.{data_of, datum_of}
@@ -33,3 +35,8 @@ keys-order [] [] = refl
 keys-order [] (y ∷ l) = refl
 keys-order (x ∷ k) [] = refl
 keys-order (x ∷ k) (y ∷ l) = λ i. ordering_then (value-order x y i) (keys-order k l i)
+
+pub is_less : (o : Ordering) → is_lt o ≡ true → o ≡ Less
+is_less Less h = refl
+is_less Equal h = absurd (false≢true h)
+is_less Greater h = absurd (false≢true h)

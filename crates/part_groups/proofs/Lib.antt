@@ -1,5 +1,6 @@
 pub mod Keys
-pub mod Last
 pub mod Loop
-pub mod Again
 pub mod Facts
+pub mod Last
+pub mod ReadAs
+pub mod Again

@@ -1,9 +1,12 @@
 -- Reading things one after the other, as a loop does: what was read before, and what is still read, are what is read in all.
-use Rattle.std.proofs.Common.{◌≡◌, ℕ, suc, ◌-◌, ◌+◌, ◌≤◌, ◌<◌, List, [], ◌∷◌, ◌++◌, Result, Ok, Err, refl, sym, ap, ◌∙◌, append_assoc, append-nil, arith}
+use Rattle.std.proofs.Common.{◌≡◌, ℕ, suc, ◌-◌, ◌+◌, ◌≤◌, ◌<◌, List, [], ◌∷◌, ◌++◌, Option, Some, Result, Ok, Err, refl, sym, ap, ◌∙◌, append_assoc, append-nil, arith}
 use Rattle.part_groups.specs.declared.fault.GroupFault.{GroupFault}
 use Rattle.part_groups.specs.declared.fault.GroupRefusal.{GroupRefusal}
 use Rattle.part_groups.specs.declared.fault.GroupRefusal.TheVariants as refusal
-use Rattle.part_groups.specs.Reading.{◌>>=◌, Refuses, Stream, each_at, in_turn}
+use Rattle.semantics.specs.Groups.{Key}
+use Rattle.group_states.specs.States.{EntryForm}
+use Rattle.part_groups.specs.Groups.{ShapeForm}
+use Rattle.part_groups.specs.Reading.{◌>>=◌, Refuses, Stream, after, each_at, group_at, groups_at, in_turn}
 
 -- what was read before, and what is still read
 abbrev pub with_front : {A : Type 0} → List A → Result (List A × Stream) GroupFault → Result (List A × Stream) GroupFault
@@ -78,3 +81,22 @@ module _ {A B : Type 0} (one : A → Stream → Result (B × Stream) GroupFault)
   pub each_is_done : (front : List B) (all : List A) (s : Stream) (total : Result (List B × Stream) GroupFault) → all ≡ [] → with_front front (each_at one all s) ≡ total → total ≡ Ok (front, s)
   unfolding each_at
   each_is_done front all s total none so_far = sym so_far ∙ ap (λ l. with_front front (each_at one l s)) none ∙ ap (λ (xs : List B). Ok (xs, s)) (append-nil front)
+
+-- ---- groups
+
+-- Of the groups of a shape, of which some were read, one more was read.
+pub groups_go_on : (shape : ShapeForm) (front : List EntryForm) (count i : ℕ) (last : Option Key) (left : ℕ) (s : Stream) (g : EntryForm) (rest : Stream) (total : Result (List EntryForm × Stream) GroupFault)
+    → i < count → group_at shape last left s ≡ Ok (g, rest)
+    → with_front front (groups_at shape (count - i) last left s) ≡ total
+    → with_front (front ++ g ∷ []) (groups_at shape (count - (i + 1)) (Some g.key) (left - g.members) rest) ≡ total
+groups_go_on shape front count i last left s g rest total = goes_on (λ before. group_at shape before.last before.left) after front count i (record { last = last; left = left }) s g rest total
+
+-- None more was read.
+pub groups_end : (shape : ShapeForm) (e : GroupRefusal) (front : List EntryForm) (count i : ℕ) (last : Option Key) (left : ℕ) (s : Stream) (total : Result (List EntryForm × Stream) GroupFault)
+    → i < count → Refuses e (group_at shape last left s) → with_front front (groups_at shape (count - i) last left s) ≡ total → Refuses e total
+groups_end shape e front count i last left s total = ends (λ before. group_at shape before.last before.left) after e front count i (record { last = last; left = left }) s total
+
+-- All were read.
+pub groups_are_done : (shape : ShapeForm) (front : List EntryForm) (count i : ℕ) (last : Option Key) (left : ℕ) (s : Stream) (total : Result (List EntryForm × Stream) GroupFault)
+    → count ≤ i → with_front front (groups_at shape (count - i) last left s) ≡ total → total ≡ Ok (front, s)
+groups_are_done shape front count i last left s total = is_done (λ before. group_at shape before.last before.left) after front count i (record { last = last; left = left }) s total

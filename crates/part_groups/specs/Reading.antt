@@ -1,6 +1,8 @@
 -- Reading groups from the front, line by line, as far as the first fault.
+use Rattle.std.specs.Borrow.{Bor}
+use Rattle.std.specs.Option.{option_copied}
 use Rattle.std.specs.Ordering.{is_lt}
-use Rattle.std.specs.Prelude.{◌≡◌, ◌+◌, ◌-◌, ◌*◌, ◌^◌, ⊤, ℕ, zero, suc, ℤ, pos, negsuc, Bool, true, false, not, nat_le, nat_lt, List, [], ◌∷◌, ◌++◌, length, Option, Some, None, Result, Ok, Err, unsigned_abs, if◌then◌else◌}
+use Rattle.std.specs.Prelude.{◌≡◌, ◌+◌, ◌-◌, ◌*◌, ◌^◌, ⊤, ℕ, zero, suc, ℤ, pos, negsuc, Bool, true, false, not, nat_le, nat_lt, List, [], ◌∷◌, ◌++◌, length, map, Option, Some, None, option_map, Result, Ok, Err, IfOk, unsigned_abs, if◌then◌else◌}
 use Rattle.std.specs.declared.cmp.Ordering.{Ordering}
 use Rattle.semantics.specs.Groups.{Key, key_order}
 use Rattle.semantics.specs.Lines.{line_feed}
@@ -8,9 +10,11 @@ use Rattle.semantics.specs.Records.{is_int64}
 use Rattle.semantics.specs.Values.{Datum, boolean, whole, text, null, is_null, value_order}
 use Rattle.semantics.specs.declared.kind.Kind.{Kind}
 use Rattle.semantics.specs.declared.kind.Kind.TheVariants as type
+use Rattle.values.specs.Datum.{data_of, datum_of}
+use Rattle.values.specs.declared.value.Value.{Value}
 use Rattle.group_states.specs.States.{EntryForm, FunctionState, rows, counted, summed, extreme, collected}
 use Rattle.part_text.specs.Reading.{line_value}
-use Rattle.part_text.specs.Texts.{text_of}
+use Rattle.part_text.specs.Texts.{text_of, value_text}
 use Rattle.part_groups.specs.declared.fault.GroupFault.{GroupFault}
 use Rattle.part_groups.specs.declared.fault.GroupFaultKind.{GroupFaultKind}
 use Rattle.part_groups.specs.declared.fault.GroupFaultKind.TheVariants.{NotAValue, UnexpectedValue, OutOfOrder, OutOfRange, EndsTooEarly}
@@ -18,7 +22,7 @@ use Rattle.part_groups.specs.declared.fault.GroupRefusal.{GroupRefusal}
 use Rattle.part_groups.specs.declared.fault.GroupRefusal.TheVariants as refusal
 use Rattle.part_groups.specs.declared.shape.StateKind.{StateKind}
 use Rattle.part_groups.specs.declared.shape.StateKind.TheVariants as kind
-use Rattle.part_groups.specs.Groups.{ShapeForm}
+use Rattle.part_groups.specs.Groups.{ShapeForm, groups_values}
 
 -- One reading and then another one, which a fault of the first ends.
 infixl 10 ◌>>=◌
@@ -153,6 +157,13 @@ abbrev pub is_above : {X : Type 0} → (X → X → Ordering) → Option X → X
 is_above order None x = true
 is_above order (Some last) x = is_lt (order last x)
 
+-- The last value and the last key, as a call has them.
+abbrev pub last_value : Option (Bor Value) → Option Datum
+last_value last = option_map datum_of (option_copied last)
+
+abbrev pub last_key : Option (Bor (List Value)) → Option Key
+last_key last = option_map data_of (option_copied last)
+
 -- ---- states
 
 -- A count of members.
@@ -239,3 +250,11 @@ after before g = record { last = Some g.key; left = before.left - g.members }
 -- So many groups of this shape, keys ascending, of no more members together than are left.
 abbrev pub groups_at : ShapeForm → ℕ → Option Key → ℕ → Stream → Result (List EntryForm × Stream) GroupFault
 groups_at shape n last left s = in_turn (λ before. group_at shape before.last before.left) after n (record { last = last; left = left }) s
+
+-- Where the next lines are those of these groups, and so many groups are read, it is these, and the
+-- stream behind them.
+abbrev pub AreReadAgain : ShapeForm → List EntryForm → Type 0
+AreReadAgain shape gs =
+    (last : Option Key) (left : ℕ) (s : Stream) (rest : List (List ℕ))
+    → s.left ≡ map value_text (groups_values gs) ++ rest
+    → IfOk (groups_at shape (length gs) last left s) (λ read. read ≡ (gs, behind (groups_values gs) rest s))

@@ -1,10 +1,8 @@
 //! What the lines of groups come to, with no work to do.
-ghost use Rattle.std.specs.Prelude.{◌≡◌, ℕ, List, Option, Ok};
-ghost use Rattle.semantics.specs.Groups.{Key};
+ghost use Rattle.std.specs.Prelude.{List};
 ghost use Rattle.group_states.specs.States.{EntryForm};
 ghost use Rattle.part_groups.specs.Groups.{HaveShape, ShapeForm};
-ghost use Rattle.part_groups.specs.Known.{AreReadAgain, IsGroupFor};
-ghost use Rattle.part_groups.specs.Reading.{Stream, group_at};
+ghost use Rattle.part_groups.specs.Reading.{AreReadAgain};
 
 use part_text::text_law;
 
@@ -16,10 +14,3 @@ pub fn groups_law()
 {
     text_law();
 }
-
-/// A law: what is known of a group that was read.
-pub fn known_law()
-    ensures group { (shape : ShapeForm) (last : Option Key) (left : ℕ) (s : Stream)
-        (g : EntryForm) (rest : Stream) → group_at shape last left s ≡ Ok (g, rest)
-        → IsGroupFor shape last left g }
-{}
