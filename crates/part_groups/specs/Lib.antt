@@ -1,3 +1,3 @@
 pub mod Groups
 pub mod Reading
-pub mod Checked
+pub mod Known

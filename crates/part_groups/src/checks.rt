@@ -4,7 +4,7 @@ ghost use Rattle.semantics.specs.Groups.{key_order};
 ghost use Rattle.semantics.specs.Records.{Holds};
 ghost use Rattle.semantics.specs.Values.{is_null, null, value_order};
 ghost use Rattle.values.specs.Datum.{data_of, datum_of};
-ghost use Rattle.part_groups.specs.Checked.{IsAbove, IsSumOf};
+ghost use Rattle.part_groups.specs.Known.{IsAbove, IsSumOf};
 ghost use Rattle.part_groups.specs.Reading.{Gives, fault_at, is_above, is_held, is_sum_of, last_key, last_value, passed};
 
 use crate::fault::{GroupFault, GroupFaultKind, GroupRefusal};

@@ -3,7 +3,7 @@ ghost use Rattle.std.specs.Prelude.{IfOk, OnOk};
 ghost use Rattle.semantics.specs.Groups.{key_order};
 ghost use Rattle.values.specs.Datum.{data_of};
 ghost use Rattle.group_states.specs.States.{entry_of};
-ghost use Rattle.part_groups.specs.Checked.{IsAbove, IsGroupFor, IsKeyFor};
+ghost use Rattle.part_groups.specs.Known.{IsAbove, IsGroupFor, IsKeyFor};
 ghost use Rattle.part_groups.specs.Groups.{shape_of};
 ghost use Rattle.part_groups.specs.Reading.{Gives, group_at, key_at, last_key, next_key_at};
 
@@ -81,7 +81,7 @@ pub fn next_group<S: Source>(
     ensures read { S.known source.old → Gives (λ group. (entry_of group, S.stream source.new))
         result (group_at (shape_of shape.now) (last_key last.entry) left
         (S.stream source.old)) }
-    ensures group { IfOk result
+    ensures fits { IfOk result
         (λ group. IsGroupFor (shape_of shape.now) (last_key last.entry) left (entry_of group)) }
 {
     let key = next_key(alloc, source, shape.columns.as_slice(), last)?;

@@ -2,7 +2,7 @@
 ghost use Rattle.std.specs.Prelude.{◌≡◌, IfOk, OnOk, None, vec_len};
 ghost use Rattle.values.specs.Datum.{data_of, datum_of};
 ghost use Rattle.group_states.specs.States.{state_of, states_of};
-ghost use Rattle.part_groups.specs.Checked.{AreDifferentOf, AreStatesFor, IsDifferentOf, IsStateFor};
+ghost use Rattle.part_groups.specs.Known.{AreDifferentOf, AreStatesFor, IsDifferentOf, IsStateFor};
 ghost use Rattle.part_groups.specs.Reading.{Gives, ascending_at, collected_at, different_at, each_at, last_value, state_at, summed_at};
 
 use crate::checks::{check, is_known, is_sum_of, is_value_above};

@@ -4,7 +4,7 @@ use Rattle.std.proofs.lemmas.List.{map_push, drop_more, drop_all, take_all, take
 use Rattle.semantics.specs.declared.kind.Kind.TheVariants as type
 use Rattle.values.specs.Datum.{data_of, datum_of}
 use Rattle.semantics.specs.Records.{Holds}
-use Rattle.part_groups.specs.Checked.{IsKeyFor}
+use Rattle.part_groups.specs.Known.{IsKeyFor}
 use Rattle.part_groups.specs.Reading.{held_at, key_at}
 use Rattle.part_groups.proofs.Facts.{AllZip-both}
 use Rattle.part_groups.proofs.Loop.{each_goes_on, each_ends, each_is_done}

@@ -1,6 +1,6 @@
 use Rattle.std.proofs.Common.{◌≡◌, drop, take}
 use Rattle.values.specs.Datum.{data_of}
-use Rattle.part_groups.specs.Checked.{IsKeyFor}
+use Rattle.part_groups.specs.Known.{IsKeyFor}
 use Rattle.part_groups.specs.Reading.{key_at}
 use Rattle.part_groups.proofs.Loop.{with_front}
 use Rattle.part_groups.proofs.reading.next_values.Given as goal

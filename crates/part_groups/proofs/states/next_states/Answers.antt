@@ -3,7 +3,7 @@ use Rattle.std.proofs.lemmas.Result.{err_from_is_err_and}
 use Rattle.std.proofs.lemmas.List.{map_push, drop_more, drop_all, take_all, take_more}
 use Rattle.group_states.specs.States.{state_of, states_of}
 use Rattle.part_groups.specs.declared.shape.StateKind.TheVariants as kind
-use Rattle.part_groups.specs.Checked.{AreStatesFor, IsStateFor}
+use Rattle.part_groups.specs.Known.{AreStatesFor, IsStateFor}
 use Rattle.part_groups.specs.Reading.{each_at, state_at}
 use Rattle.part_groups.proofs.Facts.{AllZip-both}
 use Rattle.part_groups.proofs.Loop.{each_goes_on, each_ends, each_is_done}

@@ -1,6 +1,6 @@
 use Rattle.std.proofs.Common.{◌≡◌, drop, take}
 use Rattle.group_states.specs.States.{states_of}
-use Rattle.part_groups.specs.Checked.{AreStatesFor}
+use Rattle.part_groups.specs.Known.{AreStatesFor}
 use Rattle.part_groups.specs.Reading.{each_at, state_at}
 use Rattle.part_groups.proofs.Loop.{with_front}
 use Rattle.part_groups.proofs.states.next_states.Given as goal

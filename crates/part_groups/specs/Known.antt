@@ -1,6 +1,6 @@
 -- What is known of groups that were read, whoever wrote their lines.
 use Rattle.std.specs.List.{AllByRecursion, AllZip}
-use Rattle.std.specs.Prelude.{◌≡◌, ◌≢◌, ◌*◌, ◌^◌, ◌≤◌, ⊤, ℕ, ℤ, pos, ◌-ℤ◌, ◌≤ℤ◌, List, [], ◌∷◌, length, Option, IfSome}
+use Rattle.std.specs.Prelude.{◌≡◌, ◌≢◌, ◌*◌, ◌^◌, ◌≤◌, ⊤, ℕ, ℤ, pos, ◌-ℤ◌, ◌≤ℤ◌, List, [], ◌∷◌, ◌++◌, length, Option, IfOk, IfSome}
 use Rattle.std.specs.declared.cmp.Ordering.{Ordering}
 use Rattle.std.specs.declared.cmp.Ordering.TheVariants.{Less}
 use Rattle.semantics.specs.Groups.{Key, key_order}
@@ -10,7 +10,8 @@ use Rattle.semantics.specs.declared.kind.Kind.{Kind}
 use Rattle.group_states.specs.States.{EntryForm, FunctionState, rows, counted, summed, extreme, collected}
 use Rattle.part_groups.specs.declared.shape.StateKind.{StateKind}
 use Rattle.part_groups.specs.declared.shape.StateKind.TheVariants as kind
-use Rattle.part_groups.specs.Groups.{ShapeForm}
+use Rattle.part_groups.specs.Groups.{ShapeForm, groups_values}
+use Rattle.part_groups.specs.Reading.{Stream, groups_at, reading_of}
 
 -- The sum of so many numbers of 64 bits.
 abbrev pub IsSumOf : ℕ → ℤ → Type 0
@@ -62,3 +63,15 @@ pub record IsGroupFor (shape : ShapeForm) (last : Option Key) (left : ℕ) (g : 
   pub above : IsAbove key_order last g.key
   pub members : g.members ≤ left
   pub states : AreStatesFor g.members shape.states g.states
+
+-- Lines are read as these values, one of each, those that are read at all.
+abbrev pub AreReadAs : List (List ℕ) → List Datum → Type 0
+AreReadAs ls ds = AllZip (λ line d. IfSome (reading_of line) (λ e. e ≡ d)) ls ds
+
+-- Where the next lines are read as those of these groups, and so many groups are read, it is these, and
+-- the lines behind them are left.
+abbrev pub AreReadAgain : ShapeForm → List EntryForm → Type 0
+AreReadAgain shape gs =
+    (last : Option Key) (left : ℕ) (s : Stream) (ls rest : List (List ℕ)) → AreReadAs ls (groups_values gs)
+    → s.left ≡ ls ++ rest
+    → IfOk (groups_at shape (length gs) last left s) (λ read. (read.0 ≡ gs) × (read.1.left ≡ rest))
