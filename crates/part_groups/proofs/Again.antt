@@ -1,158 +1,170 @@
--- The lines of groups are read as these groups.
-use Rattle.std.proofs.Common.{◌≡◌, ◌+◌, ◌^◌, ℕ, zero, suc, ℤ, pos, List, [], ◌∷◌, ◌++◌, length, map, drop, Some, Ok, refl, sym, ap, subst, ◌∙◌, append_assoc, append-nil, length-append, arith}
-use Rattle.std.proofs.Math.Seq.{drop-append_seam, drop-nil}
-use Rattle.std.proofs.lemmas.Bool.Decides.{nat_tests}
-use Rattle.std.proofs.lemmas.List.{length-map, map-append}
+-- The lines of groups are read as these groups, if they are read at all.
+use Rattle.std.proofs.Common.{◌≡◌, ◌+◌, ◌^◌, ℕ, ℤ, pos, Bool, true, false, cond, not, List, [], ◌∷◌, length, map, Option, Some, None, Ok, Err, refl, sym, ap, subst, ◌∙◌, arith}
 use Rattle.std.proofs.lemmas.List.Concat.{flat_map-cons}
-use Rattle.std.specs.List.{AllByRecursion}
-use Rattle.std.specs.Prelude.{flat_map, nat_lt, true}
-use Rattle.semantics.specs.Values.{Datum, whole}
+use Rattle.std.specs.List.{AllByRecursion, AllZip}
+use Rattle.std.specs.Prelude.{IfOk, IfSome, flat_map, nat_le, nat_lt}
+use Rattle.semantics.specs.Groups.{Key, key_order}
+use Rattle.semantics.specs.Records.{max_line_len}
+use Rattle.semantics.specs.Values.{Datum, whole, is_null, value_order}
+use Rattle.semantics.specs.declared.kind.Kind.{Kind}
+use Rattle.group_states.specs.States.{EntryForm, FunctionState, rows, counted, summed, extreme, collected}
 use Rattle.part_text.specs.Reading.{line_value}
 use Rattle.part_text.specs.Texts.{value_text}
-use Rattle.part_groups.specs.declared.group.StateKind.{StateKind}
-use Rattle.part_groups.specs.declared.group.StateKind.TheVariants as kind
-use Rattle.part_groups.specs.Groups.{FunctionState, rows, counted, summed, extreme, collected, GroupEntry, HasKind, HaveKinds, IsCount, IsGroup, IsStorable, group_values, groups_values, state_values}
-use Rattle.part_groups.specs.Reading.{◌>>=◌, Stream, count_at, first_value, group_at, groups_at, moved, number_at, state_at, states_at, times, value_at, value_or_fault, values_at}
+use Rattle.part_groups.specs.declared.fault.GroupFaultKind.TheVariants.{OutOfOrder, OutOfRange, UnexpectedValue}
+use Rattle.part_groups.specs.declared.shape.StateKind.{StateKind}
+use Rattle.part_groups.specs.declared.shape.StateKind.TheVariants as kind
+use Rattle.part_groups.specs.Groups.{HasKind, HasShape, HaveShape, ShapeForm, count_values, group_values, groups_values, state_values}
+use Rattle.part_groups.specs.Known.{AreReadAgain, AreReadAs}
+use Rattle.part_groups.specs.Reading.{◌>>=◌, Before, Stream, after, ascending_at, collected_at, count_at, count_within, counted_at, different_at, each_at, extreme_at, fault_at, first_line, group_at, groups_at, held_at, is_above, is_held, is_sum_of, key_at, next_key_at, number_at, passed, reading_of, state_at, summed_at, value_at, value_or_fault}
+use Rattle.part_groups.proofs.ReadAs.{IsRead, ReadsBack, and_more, and_no_more, each-again, in_turn-again, nothing-read, then_passed}
 
--- ---- where a stream stands
+-- ---- values one by one
 
--- The next lines are the texts of these values, and then come others.
-abbrev pub Begins : Stream → List Datum → List (List ℕ) → Type 0
-Begins s ds rest = drop s.place s.lines ≡ map value_text ds ++ rest
+abbrev pub itself : Datum → List Datum
+itself d = d ∷ []
 
-drop-add : {X : Type 0} (m n : ℕ) (xs : List X) → drop (m + n) xs ≡ drop n (drop m xs)
-drop-add zero n xs = ap (λ k. drop k xs) (omega arith)
-drop-add (suc m) n [] = drop-nil (suc m + n) ∙ sym (drop-nil n)
-drop-add (suc m) n (x ∷ xs) = let e : suc m + n ≡ suc (m + n) = omega arith in ap (λ k. drop k (x ∷ xs)) e ∙ drop-add m n xs
+pub itself-all : (ds : List Datum) → flat_map itself ds ≡ ds
+itself-all [] = refl
+itself-all (d ∷ ds) = flat_map-cons itself d ds ∙ ap (λ es. d ∷ es) (itself-all ds)
 
-moved-at : (k : ℕ) (s : Stream) → k ≡ s.place → record { lines = s.lines; place = k; end = s.end } ≡ s
-moved-at k s e = ap (λ p. record { lines = s.lines; place = p; end = s.end }) e
+found-again : (o : Option Datum) (d : Datum) (s : Stream) → IfSome o (λ e. e ≡ d) → IfOk (value_or_fault o s >>= λ e. Ok (e, s)) (IsRead d s.left)
+found-again None d s h = tt
+found-again (Some e) d s h = (h, refl)
 
-moved-zero : (s : Stream) → moved 0 s ≡ s
-moved-zero s = moved-at (s.place + 0) s (omega arith)
+pub value-again : (d : Datum) → ReadsBack value_at (d ∷ []) d
+unfolding value_at
+value-again d s [] rest h stands = absurd h
+value-again d s (l ∷ []) rest h stands =
+    let next : Stream = record { left = rest; place = s.place + 1 } in
+    subst (λ ls. IfOk (first_line ls s.place >>= λ line. value_or_fault (reading_of line.0) line.1 >>= λ e. Ok (e, line.1)) (IsRead d rest)) (sym stands) (found-again (reading_of l) d next h.0)
+value-again d s (l ∷ m ∷ ls) rest h stands = absurd h.1
 
-moved-moved : (m n k : ℕ) (s : Stream) → m + n ≡ k → moved n (moved m s) ≡ moved k s
-moved-moved m n k s e = ap (λ p. record { lines = s.lines; place = p; end = s.end }) (omega (arith, e))
+pub held-again : (k : Kind) (d : Datum) → ReadsBack (held_at k) (d ∷ []) d
+unfolding held_at
+held-again k d = and_no_more value_at (d ∷ []) d _ d (value-again d) (λ s rest stands. then_passed (is_held k d) UnexpectedValue s _ (IsRead d rest) (refl, stands))
 
--- behind values come those that follow
-behind : (s : Stream) (ds more : List Datum) (rest : List (List ℕ)) → Begins s (ds ++ more) rest → Begins (moved (length ds) s) more rest
-behind s ds more rest h =
-    let split : map value_text (ds ++ more) ++ rest ≡ map value_text ds ++ (map value_text more ++ rest) = ap (λ (ls : List (List ℕ)). ls ++ rest) (map-append value_text ds more) ∙ append_assoc (map value_text ds) (map value_text more) rest in
-    drop-add s.place (length ds) s.lines
-    ∙ ap (drop (length ds)) (h ∙ split)
-    ∙ ap (λ n. drop n (map value_text ds ++ (map value_text more ++ rest))) (sym (length-map ds value_text))
-    ∙ drop-append_seam (map value_text ds) (map value_text more ++ rest)
+pub number-again : (z : ℤ) → ReadsBack number_at (whole z ∷ []) z
+unfolding number_at
+number-again z = and_no_more value_at (whole z ∷ []) (whole z) _ z (value-again (whole z)) (λ s rest stands. (refl, stands))
 
--- ---- things read again, where a line of a value has the value
+count_in-again : (n : ℕ) (s : Stream) (rest : List (List ℕ)) (within : Bool) → s.left ≡ rest → IfOk (cond within (Ok n) (Err (fault_at UnexpectedValue s)) >>= λ m. Ok (m, s)) (IsRead n rest)
+count_in-again n s rest true stands = (refl, stands)
+count_in-again n s rest false stands = tt
 
-is_count : (n : ℕ) → IsCount n → nat_lt n (2 ^ 64) ≡ true
-is_count n h = grind (arith, nat_tests, h)
+pub count-again : (n : ℕ) → ReadsBack count_at (count_values n) n
+unfolding count_at
+count-again n = and_no_more number_at (count_values n) (pos n) _ n (number-again (pos n)) (λ s rest stands. count_in-again n s rest (nat_lt n (2 ^ 64)) stands)
 
-count-storable : (n : ℕ) → IsCount n → IsStorable (whole (pos n))
-count-storable n h = grind (arith, nat_tests, h)
+pub within-again : (most n : ℕ) → ReadsBack (count_within most) (count_values n) n
+unfolding count_within
+within-again most n = and_no_more count_at (count_values n) n _ n (count-again n) (λ s rest stands. then_passed (nat_le n most) OutOfRange s _ (IsRead n rest) (refl, stands))
 
-module _ (again : (d : Datum) → IsStorable d → line_value (value_text d) ≡ Some d) where
-  value_again : (s : Stream) (d : Datum) (more : List Datum) (rest : List (List ℕ)) → IsStorable d → Begins s (d ∷ more) rest → value_at s ≡ Ok (d, moved 1 s)
-  unfolding value_at
-  value_again s d more rest h stands = ap (λ ls. first_value ls s.end >>= λ x. Ok (x, moved 1 s)) stands ∙ ap (λ o. value_or_fault o >>= λ x. Ok (x, moved 1 s)) (again d h)
+-- ---- states
 
-  number_again : (s : Stream) (z : ℤ) (more : List Datum) (rest : List (List ℕ)) → IsStorable (whole z) → Begins s (whole z ∷ more) rest → number_at s ≡ Ok (z, moved 1 s)
-  unfolding number_at
-  number_again s z more rest h stands = rw (value_again s (whole z) more rest h stands) refl
+counted-again : (members n : ℕ) → ReadsBack (counted_at members) (count_values n) (counted n)
+counted-again members n = and_no_more (count_within members) (count_values n) n _ (counted n) (within-again members n) (λ s rest stands. (refl, stands))
 
-  count_again : (s : Stream) (n : ℕ) (more : List Datum) (rest : List (List ℕ)) → IsCount n → Begins s (whole (pos n) ∷ more) rest → count_at s ≡ Ok (n, moved 1 s)
-  unfolding count_at
-  count_again s n more rest h stands = rw (number_again s (pos n) more rest (count-storable n h) stands, is_count n h) refl
+summed-again : (members : ℕ) (z : ℤ) (n : ℕ) → ReadsBack (summed_at members) (whole z ∷ count_values n) (summed z n)
+unfolding summed_at
+summed-again members z n =
+    and_more number_at (whole z ∷ []) z _ (count_values n) (summed z n) (number-again z)
+    (and_no_more (count_within members) (count_values n) n _ (summed z n) (within-again members n) (λ s rest stands. then_passed (is_sum_of n z) OutOfRange s _ (IsRead (summed z n) rest) (refl, stands)))
 
-  values_again : (s : Stream) (ds more : List Datum) (rest : List (List ℕ)) → AllByRecursion IsStorable ds → Begins s (ds ++ more) rest → values_at (length ds) s ≡ Ok (ds, moved (length ds) s)
-  unfolding times
-  values_again s [] more rest h stands = ap (λ t. Ok ([], t)) (sym (moved-zero s))
-  values_again s (d ∷ ds) more rest h stands =
-      let last = moved-moved 1 (length ds) (length (d ∷ ds)) s (omega arith) in
-      rw (value_again s d (ds ++ more) rest h.0 stands, values_again (moved 1 s) ds more rest h.1 (behind s (d ∷ []) (ds ++ more) rest stands)) (ap (λ t. Ok (d ∷ ds, t)) last)
+extreme-again : (k : Kind) (d : Datum) → ReadsBack (extreme_at k) (d ∷ []) (extreme d)
+extreme-again k d = and_no_more (held_at k) (d ∷ []) d _ (extreme d) (held-again k d) (λ s rest stands. (refl, stands))
 
-  state_again : (s : Stream) (k : StateKind) (x : FunctionState) (more : List Datum) (rest : List (List ℕ)) → HasKind k x → Begins s (state_values x ++ more) rest → state_at k s ≡ Ok (x, moved (length (state_values x)) s)
-  unfolding state_at
-  state_again s kind.Rows rows more rest h stands = ap (λ t. Ok (rows, t)) (sym (moved-zero s))
-  state_again s kind.Count (counted n) more rest h stands = rw (count_again s n more rest h stands) refl
-  state_again s kind.Sum (summed z n) more rest h stands =
-      rw (number_again s z (whole (pos n) ∷ more) rest h.0 stands, count_again (moved 1 s) n more rest h.1 (behind s (whole z ∷ []) (whole (pos n) ∷ more) rest stands))
-      (ap (λ t. Ok (summed z n, t)) (moved-moved 1 1 2 s refl))
-  state_again s kind.Extreme (extreme d) more rest h stands = rw (value_again s d more rest h stands) refl
-  state_again s kind.Distinct (collected ds) more rest h stands =
-      rw (count_again s (length ds) (ds ++ more) rest h.0 stands, values_again (moved 1 s) ds more rest h.1 (behind s (whole (pos (length ds)) ∷ []) (ds ++ more) rest stands))
-      (ap (λ t. Ok (collected ds, t)) (moved-moved 1 (length ds) (length (state_values (collected ds))) s (omega arith)))
-  state_again s kind.Rows (counted n) more rest h stands = elim h [ ]
-  state_again s kind.Rows (summed z n) more rest h stands = elim h [ ]
-  state_again s kind.Rows (extreme d) more rest h stands = elim h [ ]
-  state_again s kind.Rows (collected ds) more rest h stands = elim h [ ]
-  state_again s kind.Count rows more rest h stands = elim h [ ]
-  state_again s kind.Count (summed z n) more rest h stands = elim h [ ]
-  state_again s kind.Count (extreme d) more rest h stands = elim h [ ]
-  state_again s kind.Count (collected ds) more rest h stands = elim h [ ]
-  state_again s kind.Sum rows more rest h stands = elim h [ ]
-  state_again s kind.Sum (counted n) more rest h stands = elim h [ ]
-  state_again s kind.Sum (extreme d) more rest h stands = elim h [ ]
-  state_again s kind.Sum (collected ds) more rest h stands = elim h [ ]
-  state_again s kind.Extreme rows more rest h stands = elim h [ ]
-  state_again s kind.Extreme (counted n) more rest h stands = elim h [ ]
-  state_again s kind.Extreme (summed z n) more rest h stands = elim h [ ]
-  state_again s kind.Extreme (collected ds) more rest h stands = elim h [ ]
-  state_again s kind.Distinct rows more rest h stands = elim h [ ]
-  state_again s kind.Distinct (counted n) more rest h stands = elim h [ ]
-  state_again s kind.Distinct (summed z n) more rest h stands = elim h [ ]
-  state_again s kind.Distinct (extreme d) more rest h stands = elim h [ ]
+different-again : (k : Kind) (last : Option Datum) (d : Datum) → ReadsBack (different_at k last) (d ∷ []) d
+unfolding different_at
+different-again k last d = and_no_more (held_at k) (d ∷ []) d _ d (held-again k d) (λ s rest stands.
+    then_passed (not (is_null d)) UnexpectedValue s (λ _. passed (is_above value_order last d) OutOfOrder s >>= λ _. Ok (d, s)) (IsRead d rest)
+    (then_passed (is_above value_order last d) OutOfOrder s (λ _. Ok (d, s)) (IsRead d rest) (refl, stands)))
 
-  states_again : (s : Stream) (ks : List StateKind) (xs : List FunctionState) (more : List Datum) (rest : List (List ℕ)) → HaveKinds ks xs → Begins s (flat_map state_values xs ++ more) rest
-      → states_at ks s ≡ Ok (xs, moved (length (flat_map state_values xs)) s)
-  unfolding states_at
-  states_again s [] [] more rest h stands = ap (λ t. Ok ([], t)) (sym (moved-zero s))
-  states_again s [] (x ∷ xs) more rest h stands = absurd h
-  states_again s (k ∷ ks) [] more rest h stands = absurd h
-  states_again s (k ∷ ks) (x ∷ xs) more rest h stands =
-      let all : flat_map state_values (x ∷ xs) ≡ state_values x ++ flat_map state_values xs = flat_map-cons state_values x xs in
-      let regrouped : flat_map state_values (x ∷ xs) ++ more ≡ state_values x ++ (flat_map state_values xs ++ more) =
-      ap (λ (ds : List Datum). ds ++ more) all ∙ append_assoc (state_values x) (flat_map state_values xs) more in
-      let here = subst (λ ds. Begins s ds rest) regrouped stands in
-      let size : length (state_values x) + length (flat_map state_values xs) ≡ length (flat_map state_values (x ∷ xs)) = sym (length-append (state_values x) (flat_map state_values xs)) ∙ ap (λ (ds : List Datum). length ds) (sym all) in
-      rw (
-        state_again s k x (flat_map state_values xs ++ more) rest h.0 here,
-        states_again (moved (length (state_values x)) s) ks xs more rest h.1 (behind s (state_values x) (flat_map state_values xs ++ more) rest here),
-      )
-      (ap (λ t. Ok (x ∷ xs, t)) (moved-moved (length (state_values x)) (length (flat_map state_values xs)) (length (flat_map state_values (x ∷ xs))) s size))
+all-different : (k : Kind) (ds : List Datum) → AllByRecursion (λ d. (last : Option Datum) → ReadsBack (different_at k last) (itself d) d) ds
+all-different k [] = tt
+all-different k (d ∷ ds) = (λ last. different-again k last d, all-different k ds)
 
-  group_again : (s : Stream) (width : ℕ) (ks : List StateKind) (g : GroupEntry) (more : List Datum) (rest : List (List ℕ)) → IsGroup width ks g → Begins s (group_values g ++ more) rest
-      → group_at width ks s ≡ Ok (g, moved (length (group_values g)) s)
-  unfolding group_at
-  group_again s width ks g more rest h stands =
-      let states : List Datum = flat_map state_values g.states in
-      let members : Datum = whole (pos g.members) in
-      let regrouped : group_values g ++ more ≡ g.key ++ (members ∷ (states ++ more)) = append_assoc g.key (members ∷ states) more in
-      let here = subst (λ ds. Begins s ds rest) regrouped stands in
-      let key : values_at width s ≡ Ok (g.key, moved (length g.key) s) =
-      subst (λ n. values_at n s ≡ Ok (g.key, moved (length g.key) s)) h.wide (values_again s g.key (members ∷ (states ++ more)) rest h.key here) in
-      let next = behind s g.key (members ∷ (states ++ more)) rest here in
-      let last = behind (moved (length g.key) s) (members ∷ []) (states ++ more) rest next in
-      let size : (length g.key + 1) + length states ≡ length (group_values g) = omega (arith, length-append g.key (members ∷ states)) in
-      rw (key, count_again (moved (length g.key) s) g.members (states ++ more) rest h.members next, states_again (moved 1 (moved (length g.key) s)) ks g.states more rest h.states last)
-      (ap (λ t. Ok (g, t)) (ap (moved (length states)) (moved-moved (length g.key) 1 (length g.key + 1) s refl) ∙ moved-moved (length g.key + 1) (length states) (length (group_values g)) s size))
+ascending-again : (k : Kind) (last : Option Datum) (ds : List Datum) → ReadsBack (ascending_at k (length ds) last) ds ds
+ascending-again k last ds = subst (λ es. ReadsBack (ascending_at k (length ds) last) es ds) (itself-all ds) (in_turn-again (different_at k) (λ _ d. Some d) itself ds last (all-different k ds))
 
-  groups_from : (s : Stream) (width : ℕ) (ks : List StateKind) (gs : List GroupEntry) (more : List Datum) (rest : List (List ℕ)) → AllByRecursion (IsGroup width ks) gs → Begins s (groups_values gs ++ more) rest
-      → groups_at width ks (length gs) s ≡ Ok (gs, moved (length (groups_values gs)) s)
-  unfolding times
-  groups_from s width ks [] more rest h stands = ap (λ t. Ok ([], t)) (sym (moved-zero s))
-  groups_from s width ks (g ∷ gs) more rest h stands =
-      let all : groups_values (g ∷ gs) ≡ group_values g ++ groups_values gs = flat_map-cons group_values g gs in
-      let regrouped : groups_values (g ∷ gs) ++ more ≡ group_values g ++ (groups_values gs ++ more) =
-      ap (λ (ds : List Datum). ds ++ more) all ∙ append_assoc (group_values g) (groups_values gs) more in
-      let here = subst (λ ds. Begins s ds rest) regrouped stands in
-      let size : length (group_values g) + length (groups_values gs) ≡ length (groups_values (g ∷ gs)) = sym (length-append (group_values g) (groups_values gs)) ∙ ap (λ (ds : List Datum). length ds) (sym all) in
-      rw (
-        group_again s width ks g (groups_values gs ++ more) rest h.0 here,
-        groups_from (moved (length (group_values g)) s) width ks gs more rest h.1 (behind s (group_values g) (groups_values gs ++ more) rest here),
-      )
-      (ap (λ t. Ok (g ∷ gs, t)) (moved-moved (length (group_values g)) (length (groups_values gs)) (length (groups_values (g ∷ gs))) s size))
+collected-again : (k : Kind) (members : ℕ) (ds : List Datum) → ReadsBack (collected_at k members) (whole (pos (length ds)) ∷ ds) (collected ds)
+unfolding collected_at
+collected-again k members ds =
+    and_more (count_within members) (count_values (length ds)) (length ds) _ ds (collected ds) (within-again members (length ds))
+    (and_no_more (ascending_at k (length ds) None) ds ds _ (collected ds) (ascending-again k None ds) (λ s rest stands. (refl, stands)))
 
-  pub groups_again : (width : ℕ) (ks : List StateKind) (gs : List GroupEntry) (s : Stream) (rest : List (List ℕ)) → AllByRecursion (IsGroup width ks) gs → Begins s (groups_values gs) rest
-      → groups_at width ks (length gs) s ≡ Ok (gs, moved (length (groups_values gs)) s)
-  groups_again width ks gs s rest h stands = groups_from s width ks gs [] rest h (subst (λ ds. Begins s ds rest) (sym (append-nil (groups_values gs))) stands)
+state-again : (members : ℕ) (k : StateKind) (x : FunctionState) → HasKind k x → ReadsBack (state_at members k) (state_values x) x
+state-again members kind.Rows rows h = nothing-read rows
+state-again members kind.Count (counted n) h = counted-again members n
+state-again members kind.Sum (summed z n) h = summed-again members z n
+state-again members (kind.Extreme k) (extreme d) h = extreme-again k d
+state-again members (kind.Distinct k) (collected ds) h = collected-again k members ds
+state-again members kind.Rows (counted n) h = absurd h
+state-again members kind.Rows (summed z n) h = absurd h
+state-again members kind.Rows (extreme d) h = absurd h
+state-again members kind.Rows (collected ds) h = absurd h
+state-again members kind.Count rows h = absurd h
+state-again members kind.Count (summed z n) h = absurd h
+state-again members kind.Count (extreme d) h = absurd h
+state-again members kind.Count (collected ds) h = absurd h
+state-again members kind.Sum rows h = absurd h
+state-again members kind.Sum (counted n) h = absurd h
+state-again members kind.Sum (extreme d) h = absurd h
+state-again members kind.Sum (collected ds) h = absurd h
+state-again members (kind.Extreme k) rows h = absurd h
+state-again members (kind.Extreme k) (counted n) h = absurd h
+state-again members (kind.Extreme k) (summed z n) h = absurd h
+state-again members (kind.Extreme k) (collected ds) h = absurd h
+state-again members (kind.Distinct k) rows h = absurd h
+state-again members (kind.Distinct k) (counted n) h = absurd h
+state-again members (kind.Distinct k) (summed z n) h = absurd h
+state-again members (kind.Distinct k) (extreme d) h = absurd h
+
+states-again : (members : ℕ) (ks : List StateKind) (xs : List FunctionState) → AllZip HasKind ks xs → AllZip (λ k x. ReadsBack (state_at members k) (state_values x) x) ks xs
+states-again members [] [] h = tt
+states-again members [] (x ∷ xs) h = absurd h
+states-again members (k ∷ ks) [] h = absurd h
+states-again members (k ∷ ks) (x ∷ xs) h = (state-again members k x h.0, states-again members ks xs h.1)
+
+-- ---- groups
+
+key_values-again : (columns : List Kind) (key : Key) → length key ≡ length columns → AllZip (λ k d. ReadsBack (held_at k) (itself d) d) columns key
+key_values-again [] [] h = tt
+key_values-again [] (d ∷ key) h = absurd (omega (arith, h))
+key_values-again (k ∷ columns) [] h = absurd (omega (arith, h))
+key_values-again (k ∷ columns) (d ∷ key) h = (held-again k d, key_values-again columns key (omega (arith, h)))
+
+key-again : (columns : List Kind) (key : Key) → length key ≡ length columns → ReadsBack (key_at columns) key key
+key-again columns key h = subst (λ ds. ReadsBack (key_at columns) ds key) (itself-all key) (each-again held_at itself columns key (key_values-again columns key h))
+
+next_key-again : (columns : List Kind) (last : Option Key) (key : Key) → length key ≡ length columns → ReadsBack (next_key_at columns last) key key
+unfolding next_key_at
+next_key-again columns last key h = and_no_more (key_at columns) key key _ key (key-again columns key h) (λ s rest stands. then_passed (is_above key_order last key) OutOfOrder s _ (IsRead key rest) (refl, stands))
+
+pub group-again : (shape : ShapeForm) (last : Option Key) (left : ℕ) (g : EntryForm) → HasShape shape g → ReadsBack (group_at shape last left) (group_values g) g
+unfolding group_at
+group-again shape last left g h =
+    let states : List Datum = flat_map state_values g.states in
+    and_more (next_key_at shape.columns last) g.key g.key _ (whole (pos g.members) ∷ states) g (next_key-again shape.columns last g.key h.key)
+    (and_more (count_within left) (count_values g.members) g.members _ states g (within-again left g.members)
+    (and_no_more (each_at (state_at g.members) shape.states) states g.states _ g (each-again (state_at g.members) state_values shape.states g.states (states-again g.members shape.states g.states h.states)) (λ s rest stands. (refl, stands))))
+
+all-groups : (shape : ShapeForm) (gs : List EntryForm) → HaveShape shape gs → AllByRecursion (λ g. (before : Before) → ReadsBack (group_at shape before.last before.left) (group_values g) g) gs
+all-groups shape [] h = tt
+all-groups shape (g ∷ gs) h = (λ before. group-again shape before.last before.left g h.0, all-groups shape gs h.1)
+
+pub groups_at-again : (shape : ShapeForm) (gs : List EntryForm) (last : Option Key) (left : ℕ) → HaveShape shape gs → ReadsBack (groups_at shape (length gs) last left) (groups_values gs) gs
+groups_at-again shape gs last left h =
+    in_turn-again (λ before. group_at shape before.last before.left) after group_values gs (record { last = last; left = left }) (all-groups shape gs h)
+
+pub groups-again : (shape : ShapeForm) (gs : List EntryForm) → HaveShape shape gs → AreReadAgain shape gs
+groups-again shape gs h last left = groups_at-again shape gs last left h
+
+-- ---- the texts of values
+
+text-again : (d : Datum) (long : Bool) → IfSome (line_value (value_text d)) (λ e. e ≡ d) → IfSome (cond long None (line_value (value_text d))) (λ e. e ≡ d)
+text-again d true h = tt
+text-again d false h = h
+
+pub texts-again : ((d : Datum) → IfSome (line_value (value_text d)) (λ e. e ≡ d)) → (ds : List Datum) → AreReadAs (map value_text ds) ds
+texts-again same [] = tt
+texts-again same (d ∷ ds) = (text-again d (nat_lt max_line_len (length (value_text d))) (same d), texts-again same ds)

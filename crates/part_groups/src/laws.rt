@@ -1,19 +1,20 @@
 //! What the lines of groups come to, with no work to do.
-ghost use Rattle.std.specs.Prelude.{◌≡◌, ◌++◌, ℕ, List, Ok, drop, length, map};
-ghost use Rattle.std.specs.List.{AllByRecursion};
+ghost use Rattle.std.specs.Prelude.{List, map};
+ghost use Rattle.semantics.specs.Values.{Datum};
+ghost use Rattle.group_states.specs.States.{EntryForm};
+ghost use Rattle.part_groups.specs.Groups.{HaveShape, ShapeForm};
+ghost use Rattle.part_groups.specs.Known.{AreReadAgain, AreReadAs};
 ghost use Rattle.part_text.specs.Texts.{value_text};
-ghost use Rattle.part_groups.specs.Groups.{GroupEntry, IsGroup, groups_values};
-ghost use Rattle.part_groups.specs.Reading.{Stream, groups_at, moved};
-ghost use Rattle.part_groups.specs.declared.group.StateKind.{StateKind};
 
 use part_text::text_law;
 
-/// A law: where the next lines are those of groups that fit, these are read, and the stream behind them.
+/// A law: where the next lines are read as the values of groups of a shape, and so many groups are read, it is these, and the
+/// lines behind them are left. Nothing is said of whether they are read: a check that fails is an `Err`. The texts of values are
+/// lines that are read as these values.
 pub fn groups_law()
-    ensures { (width : ℕ) (kinds : List StateKind) (gs : List GroupEntry) (s : Stream)
-        (rest : List (List ℕ)) → AllByRecursion (IsGroup width kinds) gs
-        → drop s.place s.lines ≡ map value_text (groups_values gs) ++ rest
-        → groups_at width kinds (length gs) s ≡ Ok (gs, moved (length (groups_values gs)) s) }
+    ensures again { (shape : ShapeForm) (gs : List EntryForm) → HaveShape shape gs
+        → AreReadAgain shape gs }
+    ensures texts { (ds : List Datum) → AreReadAs (map value_text ds) ds }
 {
     text_law();
 }
