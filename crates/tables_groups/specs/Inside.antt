@@ -16,3 +16,4 @@ pub mod Pairs
 pub mod Walks
 pub mod Summaries
 pub mod GroupsOfShards
+pub mod Entries

@@ -7,6 +7,8 @@ ghost use Rattle.tables_groups.specs.GroupSummaries.{group_summaries};
 ghost use Rattle.tables_groups.specs.Bags.{SameBag, weigh};
 ghost use Rattle.semantics.specs.Aggregates.{AggregateFunction};
 ghost use Rattle.tables_groups.specs.Inside.Table.{Contents, HasGroupsOfFiner, IsTableOf};
+ghost use Rattle.tables_groups.specs.Inside.Entries.{table_entries};
+ghost use Rattle.group_states.specs.Entries.{entries_over};
 
 /// A table of records is that of the same records in any other order.
 pub fn order_law()
@@ -35,6 +37,15 @@ pub fn members_law()
         → SameBag (flat_map (λ key. members set key rows) (keys set rows)) rows }
     ensures lines { (set : List ℕ) (functions : List AggregateFunction) (rows : List Row)
         → weigh (λ group. group.lines) (group_summaries set functions rows) ≡ length rows }
+{}
+
+/// The list of the groups of a table of records (`Table::into_entries`) is that of the groups of these records, by ascending
+/// keys.
+pub fn entries_law()
+    ensures of_records { (set : List ℕ) (functions : List AggregateFunction)
+        (table : Contents) (rows : List Row)
+        → IsTableOf set functions table rows
+        → table_entries table ≡ entries_over set functions rows }
 {}
 
 /// The members of a key are those of the keys of a finer set that have its values in the columns of the set, joined,

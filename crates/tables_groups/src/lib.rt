@@ -10,6 +10,7 @@ mod accumulators;
 mod cell;
 mod copy;
 mod distinct_values;
+mod entries;
 mod extreme;
 mod finishing;
 mod group;
@@ -26,5 +27,5 @@ mod walk;
 
 pub use cell::Cell;
 pub use group::Group;
-pub use laws::{members_law, order_law, records_law, roll_law};
+pub use laws::{entries_law, members_law, order_law, records_law, roll_law};
 pub use table::Table;
