@@ -1,11 +1,7 @@
 //! Tables as lists of groups.
-ghost use Rattle.std.specs.Prelude.{◌≡◌, ◌++◌, IfOk, OnOk, List, map};
-ghost use Rattle.std.specs.FinMap as fin;
-ghost use Rattle.std.specs.List.Sorted.{IsPermutation, IsSortedBy};
-ghost use Rattle.group_states.specs.States.{entries_of, entry_of};
+ghost use Rattle.std.specs.Prelude.{◌≡◌, ◌++◌, IfOk, OnOk, map};
 ghost use Rattle.sort_keys.specs.SortKeys.{key_parts, parts_of};
-ghost use Rattle.tables_groups.specs.Inside.Entries.{entry_at};
-ghost use Rattle.tables_groups.specs.Inside.Keyed.{keyed_at, keyed_entry, sort_code};
+ghost use Rattle.tables_groups.specs.Inside.Keyed.{AreEntriesOf, keyed_at, keyed_entry, sort_code};
 ghost use Rattle.tables_groups.specs.Inside.Keys.{key_in};
 ghost use Rattle.tables_groups.specs.Inside.Shards.{all_entries, entries_in};
 
@@ -23,9 +19,7 @@ pub(crate) fn entries_of(
     count: usize,
     shards: Vec<Shard>,
 ) -> Result<Vec<GroupEntry>, AllocError>
-    ensures { IfOk result (λ entries. (sorted : List (PackedKey × GroupState))
-        × IsPermutation (all_entries shards.items) sorted × AreKeysAscending sorted
-        × (entries_of entries.items ≡ map entry_at (entries_by_key sorted))) }
+    ensures { IfOk result (λ entries. AreEntriesOf (all_entries shards.items) entries.items) }
 {
     let keyed = keyed_entries(alloc, count, shards)?;
     things_of(alloc, sort_keyed(keyed))

@@ -15,6 +15,7 @@ mod extreme;
 mod finishing;
 mod group;
 mod key;
+mod keyed;
 mod laws;
 mod packed_key;
 mod pairs;
@@ -27,5 +28,7 @@ mod walk;
 
 pub use cell::Cell;
 pub use group::Group;
-pub use laws::{entries_law, members_law, order_law, records_law, roll_law};
+pub use laws::{
+    counted_law, entries_law, members_law, order_law, records_law, roll_law, typed_law,
+};
 pub use table::Table;

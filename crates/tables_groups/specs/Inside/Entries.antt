@@ -1,11 +1,13 @@
 -- A table as the list of its groups, by ascending keys.
-use Rattle.std.specs.Prelude.{◌≡◌, ◌≤◌, ⊤, ℕ, ℤ, All, List, [], ◌∷◌, Option, Some, None, map}
+use Rattle.std.specs.Prelude.{◌≡◌, ◌+◌, ◌≤◌, ⊤, ℕ, ℤ, All, List, [], ◌∷◌, Option, Some, None, map}
 use Rattle.std.specs.declared.cmp.Ordering.{Ordering}
 use Rattle.std.specs.declared.cmp.Ordering.TheVariants.{Less, Equal, Greater}
 use Rattle.std.specs.FinMap as fin
 use Rattle.std.specs.FinSet as set
 use Rattle.std.specs.List.{AllZip}
+use Rattle.semantics.specs.Columns.{Field}
 use Rattle.semantics.specs.Groups.{Key, key_order}
+use Rattle.semantics.specs.Names.{kind_at}
 use Rattle.semantics.specs.Values.{Datum, value_order}
 use Rattle.semantics.specs.declared.function.ColumnFunction.{ColumnFunction}
 use Rattle.semantics.specs.declared.function.ColumnFunction.TheVariants as function
@@ -13,9 +15,11 @@ use Rattle.query_resolve.specs.declared.function.FilteredFunction.{FilteredFunct
 use Rattle.group_states.specs.Entries.{different_values}
 use Rattle.group_states.specs.States.{EntryForm, FunctionState}
 use Rattle.group_states.specs.States as state
+use Rattle.tables_groups.specs.Fitting.{IsHeld}
 use Rattle.tables_groups.specs.Inside.Accumulator.{AccumulatorState, nothing, counted, summed, averaged, collected, lowest, highest, IsSumOf}
 use Rattle.tables_groups.specs.Inside.Group.{GroupState}
-use Rattle.tables_groups.specs.Inside.Table.{Contents}
+use Rattle.tables_groups.specs.Inside.Table.{Contents, IsCounted}
+use Rattle.tables_groups.specs.Inside.Typed.{IsKeyOf, IsTypedTable}
 use Rattle.tables_groups.specs.Inside.Values.{Values, set_of}
 
 -- ---- what a table gives
@@ -94,13 +98,38 @@ HasFormBy filter f members s = HasFormOver f members s
 abbrev pub IsStateFor : FilteredFunction → ℕ → FunctionState → Type 0
 IsStateFor f members s = HasFormBy f.filter f.function members s
 
+-- so is a state for each set function
+abbrev pub AreStatesFor : List FilteredFunction → ℕ → List FunctionState → Type 0
+AreStatesFor functions members states = AllZip (λ f s. IsStateFor f members s) functions states
+
 -- a group has a state of its form for each set function
 abbrev pub IsEntryFor : List FilteredFunction → EntryForm → Type 0
-IsEntryFor functions entry = AllZip (λ f s. IsStateFor f entry.members s) functions entry.states
+IsEntryFor functions entry = AreStatesFor functions entry.members entry.states
+
+-- a value that the column of a MIN or a MAX holds; of the other set functions none is asked
+abbrev pub IsExtremeOf : List Field → ColumnFunction → FunctionState → Type 0
+IsExtremeOf fields (function.Min place) (state.extreme d) = IsHeld (kind_at fields place) d
+IsExtremeOf fields (function.Max place) (state.extreme d) = IsHeld (kind_at fields place) d
+IsExtremeOf fields f s = ⊤
+
+-- a group has a key of the columns of the set, and least and greatest values that their columns hold
+pub record IsTypedEntry (fields : List Field) (set : List ℕ) (functions : List FilteredFunction) (entry : EntryForm) : Type 0 where
+  pub key : IsKeyOf fields set entry.key
+  pub states : AllZip (λ f s. IsExtremeOf fields f.function s) functions entry.states
 
 -- the keys of all groups are before a key
 abbrev pub IsBehind : Key → List EntryForm → Type 0
 IsBehind key entries = All (λ entry. key_order entry.key key ≡ Less) entries
+
+-- what a table promises that has one group more, behind all that were there: with the members of this one it has no more records than it may have
+abbrev pub CountsEntry : List FilteredFunction → EntryForm → Contents → Contents → Type 0
+CountsEntry functions entry old new = (most : ℕ) → IsCounted most functions old → IsCounted (most + entry.members) functions new
+
+-- and it is of the types of columns and set functions where the group is
+abbrev pub TypesEntry : List FilteredFunction → EntryForm → Contents → Contents → Type 0
+TypesEntry functions entry old new =
+    (fields : List Field) (set : List ℕ)
+    → IsTypedTable fields set functions old → IsTypedEntry fields set functions entry → IsTypedTable fields set functions new
 
 -- ---- what is kept of plain values
 
