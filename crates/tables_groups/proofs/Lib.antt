@@ -20,3 +20,9 @@ pub mod InPairs
 pub mod Walks
 pub mod InParts
 pub mod Packing
+pub mod Ascending
+pub mod Moved
+pub mod Codes
+pub mod Listing
+pub mod Plain
+pub mod EntriesLaw
