@@ -1,6 +1,5 @@
 -- The codes by which groups and values are put in order.
 use Rattle.std.proofs.Common.{◌≡◌, ◌++◌, ◌<◌, ℕ, ℤ, true, false, List, [], ◌∷◌, append-nil, append_assoc, sym, subst, lit<}
-use Rattle.std.proofs.lemmas.Str.{IsUtf8-had}
 use Rattle.std.specs.declared.cmp.Ordering.{Ordering}
 use Rattle.std.specs.declared.cmp.Ordering.TheVariants.{Less, Equal, Greater}
 use Rattle.std.specs.List.{AllByRecursion}
@@ -10,7 +9,7 @@ use Rattle.semantics.specs.Values.{Datum, boolean, whole, text, null, value_orde
 use Rattle.sort_keys.specs.Codes.{IsCodable, number_code, value_code, values_code}
 use Rattle.sort_keys.specs.Decoding.{IsStorable}
 use Rattle.sort_keys.specs.SortKeys.{parts_of, parts_order}
-use Rattle.sort_keys.proofs.Texts.{text-below}
+use Rattle.sort_keys.proofs.Decoding.{codable}
 use Rattle.sort_keys.proofs.Told.{AreBytes, Told, alike, less, greater, parts-tell, told-then}
 use Rattle.sort_keys.proofs.Values.{Stands, stands, lower, under, over, upper, bytes-both, values-bytes, values-tell}
 use Rattle.tables_groups.specs.declared.packed_key.PackedKey.{PackedKey}
@@ -62,12 +61,6 @@ keys-told (x ∷ k) (y ∷ l) a b =
 
 sort-bytes : (k : Key) → AllByRecursion IsCodable k → AreBytes (sort_code k)
 sort-bytes k a = bytes-both (values_code k) (0 ∷ []) (values-bytes k a) (lit< tt, tt)
-
-codable : (d : Datum) → IsStorable d → IsCodable d
-codable (boolean b) h = tt
-codable (whole n) h = h
-codable (text s) h = text-below s (IsUtf8-had s h)
-codable null h = tt
 
 all-codable : (key : Key) → AllByRecursion IsStorable key → AllByRecursion IsCodable key
 all-codable [] a = tt

@@ -26,3 +26,6 @@ pub mod Codes
 pub mod Listing
 pub mod Plain
 pub mod EntriesLaw
+pub mod Appended
+pub mod SetListing
+pub mod TypedEntries

@@ -1,19 +1,16 @@
 -- The groups of a table as the list that a sort of its entries gives.
-use Rattle.std.proofs.Common.{◌≡◌, ℕ, Bool, true, false, cond, List, [], ◌∷◌, map, Option, Some, None, refl, sym, ap, subst, ◌∙◌, IsPermutation, IsSortedBy}
+use Rattle.std.proofs.Common.{◌≡◌, ℕ, Bool, true, false, ◌||◌, cond, List, [], ◌∷◌, map, Option, Some, None, refl, sym, ap, subst, ◌∙◌, IsPermutation, IsSortedBy}
 use Rattle.std.proofs.lemmas.List.Elements.{All-from_recursion, recursion_from_All}
 use Rattle.std.proofs.lemmas.List.Sorted.{All-permutation, IsPermutation-map, list_any-IsPermutation}
 use Rattle.std.proofs.lemmas.Map.Keys.{IsDistinct-IsPermutation}
-use Rattle.std.specs.Cmp.{IsTotalOrder, eq_by_cmp_equiv}
+use Rattle.std.proofs.lemmas.Simd.{map-map}
+use Rattle.std.specs.Cmp.{eq_by_cmp_equiv}
 use Rattle.std.specs.FinMap as fin
 use Rattle.std.specs.List.{AllByRecursion, IsDistinct, list_any}
 use Rattle.std.specs.List.Sorted.{IsStrictlySortedBy}
 use Rattle.std.specs.Map.{keys_of}
-use Rattle.std.specs.declared.cmp.Ordering.{Ordering}
-use Rattle.std.specs.declared.cmp.Ordering.TheVariants.{Less, Equal, Greater}
-use Rattle.std.specs.Ordering.{eq_by_cmp, is_eq, is_lt}
 use Rattle.semantics.specs.Groups.{Key, key_order, same_key}
-use Rattle.sort_keys.specs.SortKeys.{SortParts, key_parts, parts_of, parts_order}
-use Rattle.sort_keys.proofs.Totals.{parts-total}
+use Rattle.sort_keys.specs.SortKeys.{SortParts, parts_of}
 use Rattle.group_states.specs.States.{EntryForm, entries_of, entry_of}
 use Rattle.group_states.specs.declared.entry.GroupEntry.{GroupEntry}
 use Rattle.tables_groups.specs.declared.keyed.Keyed.{Keyed}
@@ -23,11 +20,11 @@ use Rattle.tables_groups.specs.Inside.Group.{GroupState}
 use Rattle.tables_groups.specs.Inside.Keyed.{is_before, keyed_at, keyed_entry, sort_code}
 use Rattle.tables_groups.specs.Inside.Keys.{key_in}
 use Rattle.tables_groups.specs.Inside.Table.{Contents, contents_of, entries_by_key}
-use Rattle.tables_groups.proofs.Ascending.{keys-sorted, map-sorted}
+use Rattle.tables_groups.proofs.Ascending.{map-sorted}
 use Rattle.tables_groups.proofs.Codes.{groups-told}
 use Rattle.tables_groups.proofs.Distinct.{distinct-shown}
 use Rattle.tables_groups.proofs.Entries.{Entries, key_eq}
-use Rattle.tables_groups.proofs.Moved.{moved}
+use Rattle.tables_groups.proofs.Moved.{all-of, ascend-beside, moved-beside}
 use Rattle.tables_groups.proofs.Order.{key_antisymmetric, key_eq-ties, key_total, same_key-Decides}
 use Rattle.tables_groups.proofs.Rolling.{get-each}
 
@@ -81,66 +78,25 @@ entries-moved es fs t v d p s =
     let moved_all = recursion_from_All P fs (All-permutation P es fs p (All-from_recursion P es all)) in
     in-order t (entries_by_key fs) (subst (λ (ks : List Key). IsStrictlySortedBy key_order ks) (sym (keys-shown fs)) s)
     (λ q. found-among t fs q moved_all
-      ∙ ap (λ b. cond b (fin.get t q) None) (list_any-IsPermutation (same_key q) (map shown_key es) (map shown_key fs) (IsPermutation-map shown_key es fs p))
+      ∙ ap (λ b. cond b (fin.get t q) None) (sym (list_any-IsPermutation (same_key q) (map shown_key es) (map shown_key fs) (IsPermutation-map shown_key es fs p)))
       ∙ sym (found-among t es q all) ∙ found-all es t v q)
 
 -- ---- the sort
 
-abbrev code_of : Key → SortParts
-code_of key = parts_of (sort_code key)
+abbrev code_of : PackedKey × GroupState → SortParts
+code_of e = parts_of (sort_code (shown_key e))
 
-distinct-codes : (es : Entries) → IsDistinct same_key (map shown_key es) → IsDistinct (eq_by_cmp parts_order) (map (λ e. code_of (shown_key e)) es)
-unfolding IsDistinct
-distinct-codes [] d = tt
-distinct-codes (e ∷ es) d = (apart es d.0, distinct-codes es d.1)
-  where
-    apart : (fs : Entries) → AllByRecursion (λ k. same_key (shown_key e) k ≡ false) (map shown_key fs) → AllByRecursion (λ c. eq_by_cmp parts_order (code_of (shown_key e)) c ≡ false) (map (λ f. code_of (shown_key f)) fs)
-    apart [] h = tt
-    apart (f ∷ fs) h = (ap is_eq (groups-told e.0 f.0) ∙ h.0, apart fs h.1)
-
-sorted-codes : (es : Entries) → IsStrictlySortedBy parts_order (map (λ e. code_of (shown_key e)) es) → IsStrictlySortedBy key_order (map shown_key es)
-unfolding IsStrictlySortedBy
-sorted-codes [] s = tt
-sorted-codes (e ∷ es) s = (below es s.0, sorted-codes es s.1)
-  where
-    below : (fs : Entries) → AllByRecursion (λ c. parts_order (code_of (shown_key e)) c ≡ Less) (map (λ f. code_of (shown_key f)) fs) → AllByRecursion (λ k. key_order (shown_key e) k ≡ Less) (map shown_key fs)
-    below [] h = tt
-    below (f ∷ fs) h = (sym (groups-told e.0 f.0) ∙ h.0, below fs h.1)
-
-abbrev parts_beside : Keyed GroupEntry → SortParts
-parts_beside k = key_parts k.key
-
-codes-beside : (ks : List (Keyed GroupEntry)) (es : Entries) → map keyed_entry ks ≡ map keyed_at es → map parts_beside ks ≡ map (λ e. code_of (shown_key e)) es
-codes-beside ks es e = first-of ks ∙ ap (map (λ p. p.0)) e ∙ sym (second-of es)
-  where
-    first-of : (ks : List (Keyed GroupEntry)) → map parts_beside ks ≡ map (λ p. p.0) (map keyed_entry ks)
-    first-of [] = refl
-    first-of (k ∷ ks) = ap (λ (ps : List SortParts). parts_beside k ∷ ps) (first-of ks)
-
-    second-of : (es : Entries) → map (λ e. code_of (shown_key e)) es ≡ map (λ p. p.0) (map keyed_at es)
-    second-of [] = refl
-    second-of (e ∷ es) = ap (λ (ps : List SortParts). code_of (shown_key e) ∷ ps) (second-of es)
-
-groups-beside : (ks : List (Keyed GroupEntry)) (es : Entries) → map keyed_entry ks ≡ map keyed_at es → entries_of (map (λ k. k.thing) ks) ≡ map entry_at (entries_by_key es)
-groups-beside ks es e = first-of ks ∙ ap (map (λ p. p.1)) e ∙ sym (second-of es)
-  where
-    first-of : (ks : List (Keyed GroupEntry)) → entries_of (map (λ k. k.thing) ks) ≡ map (λ p. p.1) (map keyed_entry ks)
-    first-of [] = refl
-    first-of (k ∷ ks) = ap (λ (gs : List EntryForm). entry_of k.thing ∷ gs) (first-of ks)
-
-    second-of : (es : Entries) → map entry_at (entries_by_key es) ≡ map (λ p. p.1) (map keyed_at es)
-    second-of [] = refl
-    second-of (e ∷ es) = ap (λ (gs : List EntryForm). entry_at (shown_key e, e.1) ∷ gs) (second-of es)
+abbrev entry_shown : PackedKey × GroupState → EntryForm
+entry_shown e = entry_at (shown_key e, e.1)
 
 -- the entries of a table, sorted by what stands beside them, give its list
 pub listed : (es : Entries) (t : Contents) (ks zs : List (Keyed GroupEntry)) → contents_of es ≡ t → IsDistinct key_eq (keys_of es)
     → map keyed_entry ks ≡ map keyed_at es → IsPermutation ks zs → IsSortedBy is_before zs → entries_of (map (λ k. k.thing) zs) ≡ table_entries t
 listed es t ks zs v d are p up =
-    let back = moved keyed_at es (map keyed_entry zs)
-    (subst (λ (xs : List (SortParts × EntryForm)). IsPermutation xs (map keyed_entry zs)) are (IsPermutation-map keyed_entry ks zs p)) in
-    let fs = back.0 in
-    let codes = codes-beside zs fs back.2 in
-    let apart = distinct-moved es fs d back.1 in
-    let sorted = sorted-codes fs (subst (λ (ps : List SortParts). IsStrictlySortedBy parts_order ps) codes
-    (keys-sorted parts-total parts_beside zs up (subst (λ (ps : List SortParts). IsDistinct (eq_by_cmp parts_order) ps) (sym codes) (distinct-codes fs apart)))) in
-    groups-beside zs fs back.2 ∙ ap (map entry_at) (entries-moved es fs t v d back.1 sorted)
+    let m = moved-beside entry_of code_of entry_shown es ks zs are p in
+    let fs = m.shown in
+    let sorted = ascend-beside key_order shown_key code_of (λ _. Unit {0}) (λ a b _ _. groups-told a.0 b.0) zs fs m.codes (all-of (λ _. Unit {0}) (λ _. tt) fs) (distinct-moved es fs d m.permutation) up in
+    map-map entry_of (λ (k : Keyed GroupEntry). k.thing) zs
+    ∙ m.things
+    ∙ sym (map-map entry_at (λ (e : PackedKey × GroupState). (shown_key e, e.1)) fs)
+    ∙ ap (map entry_at) (entries-moved es fs t v d m.permutation sorted)

@@ -1,0 +1,25 @@
+use Rattle.std.proofs.Common.{◌≡◌, ◌∙◌, List, [], ◌∷◌}
+use Rattle.std.specs.List.{AllByRecursion}
+use Rattle.values.specs.Datum.{data_of}
+use Rattle.values.specs.declared.value.Value.{Value}
+use Rattle.sort_keys.specs.Codes.{IsCodable}
+use Rattle.sort_keys.specs.Decoding.{IsStorable, KeyOf}
+use Rattle.sort_keys.proofs.Decoding.{storable}
+use Rattle.tables_groups.proofs.Packing.{key-told}
+use Rattle.tables_groups.proofs.packed_key.PackedKey.of_values.Goals as goal
+
+all-storable : (values : List Value) → AllByRecursion IsCodable (data_of values) → AllByRecursion IsStorable (data_of values)
+all-storable [] all = tt
+all-storable (x ∷ values) all = (storable x all.0, all-storable values all.1)
+
+pub invariant_of-result : goal.invariant_of-result
+invariant_of-result c =
+    let values = c.args.values.now in
+    (data_of values, (all-storable values c.in_ok-put_values.ensures.codable, c.in_ok-put_values.ensures.code))
+
+pub returns : goal.returns
+returns c =
+    let values = c.args.values.now in
+    let one : (of : KeyOf c.put_values.new.code.items) → of.0 ≡ data_of values =
+    λ of. key-told of (data_of values) (all-storable values c.in_ok-put_values.ensures.codable) c.in_ok-put_values.ensures.code in
+    search one
