@@ -1,7 +1,7 @@
 -- Things that a sort has moved, by what stands beside them.
-use Rattle.std.proofs.Common.{◌≡◌, ◌+◌, ◌<◌, ℕ, false, List, [], ◌∷◌, map, length, get_or, set, refl, sym, ap, subst, ◌∙◌, arith, IsPermutation, IsSortedBy}
+use Rattle.std.proofs.Common.{◌≡◌, ◌+◌, ◌++◌, ◌<◌, ℕ, false, List, [], ◌∷◌, append_assoc, map, length, get_or, set, refl, sym, ap, subst, ◌∙◌, arith, IsPermutation, IsSortedBy}
 use Rattle.std.proofs.Math.ListN.{get_or-map}
-use Rattle.std.proofs.lemmas.List.{length-map, map-set}
+use Rattle.std.proofs.lemmas.List.{length-map, map-append, map-set}
 use Rattle.std.proofs.lemmas.List.Sorted.{IsPermutation-keeps, IsPermutation-map, IsPermutation-refl, IsPermutation-swap, IsPermutation-trans}
 use Rattle.std.proofs.lemmas.Simd.{map-map}
 use Rattle.std.specs.declared.cmp.Ordering.{Ordering}
@@ -91,3 +91,12 @@ module _ {A K : Type 0} (order : K → K → Ordering) (key : A → K) (code : A
 pub all-of : {A : Type 0} (P : A → Type 0) → ((a : A) → P a) → (xs : List A) → AllByRecursion P xs
 all-of P h [] = tt
 all-of P h (x ∷ xs) = (h x, all-of P h xs)
+
+-- ---- loops over things
+
+-- one thing more, and the others that are left
+pub one-more : {A B C : Type 0} (f : A → C) (g : B → C) (xs : List A) (x : A) (y : B) (ys : List B) → f x ≡ g y → map f (xs ++ x ∷ []) ++ map g ys ≡ map f xs ++ map g (y ∷ ys)
+one-more {A} {B} {C} f g xs x y ys h =
+    ap (λ (zs : List C). zs ++ map g ys) (map-append f xs (x ∷ []))
+    ∙ append_assoc (map f xs) (f x ∷ []) (map g ys)
+    ∙ ap (λ (z : C). map f xs ++ z ∷ map g ys) h
