@@ -21,9 +21,8 @@ use Rattle.tables_groups.specs.Inside.Keyed.{is_before, keyed_datum, keyed_value
 use Rattle.tables_groups.specs.Inside.Values.{set_of, values_in}
 use Rattle.tables_groups.proofs.Codes.{values-told}
 use Rattle.tables_groups.proofs.Moved.{ascend-beside, moved-beside}
-use Rattle.tables_groups.proofs.Order.{value_antisymmetric, value_eq, value_total}
+use Rattle.tables_groups.proofs.Order.{value_antisymmetric, value_total}
 use Rattle.tables_groups.proofs.Plain.{ascending-list}
-use Rattle.tables_groups.proofs.Sets.{data-distinct}
 
 abbrev itself : Datum → Datum
 itself d = d
@@ -36,14 +35,14 @@ same-moved ds fs p = set.same_set value_total value_antisymmetric (set_of fs) (s
     set.contains-from_list value_total fs q ∙ sym (list_any-IsPermutation (same_value q) ds fs p) ∙ sym (set.contains-from_list value_total ds q))
 
 -- the values of a set of the code, sorted by what stands beside them, are its values, ascending
-pub values-listed : (vs : List Value) (ks zs : List (Keyed Value)) → IsDistinct value_eq vs → AllByRecursion IsCodable (data_of vs)
+pub values-listed : (vs : List Value) (ks zs : List (Keyed Value)) → IsDistinct same_value (data_of vs) → AllByRecursion IsCodable (data_of vs)
     → map keyed_value ks ≡ map keyed_datum (data_of vs) → IsPermutation ks zs → IsSortedBy is_before zs → data_of (map (λ k. k.thing) zs) ≡ ascending_values (values_in vs)
 values-listed vs ks zs d all are p up =
     let ds = data_of vs in
     let m = moved-beside datum_of code_of itself ds ks zs are p in
     let fs = m.shown in
     let codable = recursion_from_All IsCodable fs (All-permutation IsCodable ds fs m.permutation (All-from_recursion IsCodable ds all)) in
-    let apart : IsDistinct same_value fs = IsDistinct-IsPermutation same_value (eq_by_cmp_equiv value_total).symm ds fs m.permutation (data-distinct vs d) in
+    let apart : IsDistinct same_value fs = IsDistinct-IsPermutation same_value (eq_by_cmp_equiv value_total).symm ds fs m.permutation d in
     let sorted : IsStrictlySortedBy value_order fs =
     subst (λ (xs : List Datum). IsStrictlySortedBy value_order xs) (map-id fs)
     (ascend-beside value_order itself code_of IsCodable values-told zs fs m.codes codable (subst (λ (xs : List Datum). IsDistinct same_value xs) (sym (map-id fs)) apart) up) in

@@ -1,7 +1,8 @@
 //! The different values that `COUNT(DISTINCT x)` counts.
 ghost use Rattle.std.specs.Prelude.{◌≡◌, IfOk, OnOk, map};
 ghost use Rattle.std.specs.FinSet as set;
-ghost use Rattle.std.specs.List.{AllByRecursion};
+ghost use Rattle.std.specs.List.{AllByRecursion, IsDistinct};
+ghost use Rattle.semantics.specs.Aggregates.{same_value};
 ghost use Rattle.sort_keys.specs.Codes.{IsCodable};
 ghost use Rattle.values.specs.Datum.{data_of, datum_of};
 ghost use Rattle.tables_groups.specs.Inside.Keyed.{keyed_datum, keyed_value};
@@ -134,6 +135,7 @@ fn keyed_values(alloc: Global, values: HashSet<Value>) -> Result<Vec<Keyed<Value
     ensures values { IfOk result (λ keyed.
         map keyed_value keyed.items ≡ map keyed_datum (data_of values.keys)) }
     ensures codable { OnOk result (AllByRecursion IsCodable (data_of values.keys)) }
+    ensures distinct { OnOk result (IsDistinct same_value (data_of values.keys)) }
 {
     let mut code = Vec::new(alloc);
     let mut keyed = Vec::with_capacity(alloc, values.len())?;
