@@ -1,6 +1,7 @@
 -- What is kept of a group, and the plain states that it is.
-use Rattle.std.proofs.Common.{◌≡◌, ◌≤◌, ◌*◌, ◌^◌, ℕ, ℤ, pos, ◌-ℤ◌, ◌≤ℤ◌, Bool, List, [], ◌∷◌, map, filter, length, Option, Some, None, refl, sym, ap, ◌∙◌, arith}
+use Rattle.std.proofs.Common.{◌≡◌, ◌⊎◌, inl, inr, ◌++◌, append-nil, append_assoc, ◌≤◌, ◌*◌, ◌^◌, ℕ, ℤ, pos, ◌-ℤ◌, ◌≤ℤ◌, Bool, List, [], ◌∷◌, map, filter, length, Option, Some, None, refl, sym, ap, ◌∙◌, arith}
 use Rattle.std.proofs.lemmas.Int.{ints}
+use Rattle.std.proofs.lemmas.List.{map-append}
 use Rattle.std.specs.FinSet as set
 use Rattle.std.specs.List.{AllByRecursion, AllZip, list_any}
 use Rattle.std.specs.List.Sorted.{IsStrictlySortedBy}
@@ -14,10 +15,12 @@ use Rattle.semantics.specs.declared.function.ColumnFunction.TheVariants as funct
 use Rattle.query_resolve.specs.declared.function.FilteredFunction.{FilteredFunction}
 use Rattle.group_states.specs.Entries.{different_values, function_state}
 use Rattle.group_states.specs.Entries as over
-use Rattle.group_states.specs.States.{FunctionState}
+use Rattle.group_states.specs.States.{FunctionState, state_of, states_of}
+use Rattle.group_states.specs.declared.entry.State.{State}
 use Rattle.group_states.specs.States as state
+use Rattle.tables_groups.specs.declared.accumulator.Accumulator.{Accumulator}
 use Rattle.tables_groups.specs.Functions.{aggregate_of, aggregates_of}
-use Rattle.tables_groups.specs.Inside.Accumulator.{AccumulatorState, nothing, counted, summed, averaged, collected, lowest, highest, IsSumOf, IsWithin, accumulator_state, state_by}
+use Rattle.tables_groups.specs.Inside.Accumulator.{AccumulatorState, nothing, counted, summed, averaged, collected, lowest, highest, IsSumOf, IsWithin, accumulator_state, state_by, state_in}
 use Rattle.tables_groups.specs.Inside.Entries.{AreStatesFor, HasFormBy, IsAscending, IsStateFor, ascending_values, kept_state, kept_states, plain_state}
 use Rattle.tables_groups.specs.Inside.Typed.{AreStatesOf, IsStateOf}
 use Rattle.tables_groups.specs.Inside.Typed as typed
@@ -278,3 +281,25 @@ pub within-kept_states : (functions : List FilteredFunction) (members : ℕ) (st
 within-kept_states [] members ss h = tt
 within-kept_states (f ∷ fs) members [] h = tt
 within-kept_states (f ∷ fs) members (s ∷ ss) h = (within-kept f members s h.0, within-kept_states fs members ss h.1)
+
+-- ---- the loop over functions and states
+
+-- one accumulator more, and the states that are left
+pub kept-more : (done : List Accumulator) (a : Accumulator) (f : FilteredFunction) (s : State) (fs : List FilteredFunction) (ss : List State) → state_in a ≡ kept_state f.function (state_of s)
+    → map state_in (done ++ a ∷ []) ++ kept_states fs (states_of ss) ≡ map state_in done ++ kept_states (f ∷ fs) (states_of (s ∷ ss))
+kept-more done a f s fs ss h =
+    let rest = kept_states fs (states_of ss) in
+    ap (λ (ks : List AccumulatorState). ks ++ rest) (map-append state_in done (a ∷ []))
+    ∙ append_assoc (map state_in done) (state_in a ∷ []) rest
+    ∙ ap (λ (k : AccumulatorState). map state_in done ++ k ∷ rest) h
+
+none-kept : (fs : List FilteredFunction) (ss : List State) → (length fs ≡ 0) ⊎ (length ss ≡ 0) → kept_states fs (states_of ss) ≡ []
+none-kept [] ss e = refl
+none-kept (f ∷ fs) [] e = refl
+none-kept (f ∷ fs) (s ∷ ss) (inl e) = absurd (omega (arith, e))
+none-kept (f ∷ fs) (s ∷ ss) (inr e) = absurd (omega (arith, e))
+
+-- where no function or no state is left, all is done
+pub kept-end : (done : List Accumulator) (fs : List FilteredFunction) (ss : List State) (all : List AccumulatorState) → (length fs ≡ 0) ⊎ (length ss ≡ 0)
+    → map state_in done ++ kept_states fs (states_of ss) ≡ all → map state_in done ≡ all
+kept-end done fs ss all e h = sym (append-nil (map state_in done)) ∙ ap (λ (ks : List AccumulatorState). map state_in done ++ ks) (sym (none-kept fs ss e)) ∙ h
