@@ -13,10 +13,11 @@ use Rattle.std.specs.Ordering.{is_eq, is_lt, ordering_reverse}
 use lib.Dec.{T}
 use Rattle.semantics.specs.Groups.{Key, key_order, same_key}
 use Rattle.query_resolve.specs.declared.function.FilteredFunction.{FilteredFunction}
-use Rattle.group_states.specs.States.{EntryForm}
-use Rattle.tables_groups.specs.Inside.Entries.{IsBehind, IsEntryFor, entry_at, kept_group, table_entries}
+use Rattle.group_states.specs.States.{EntryForm, FunctionState}
+use Rattle.tables_groups.specs.Inside.Entries.{AreStatesFor, CountsEntry, IsBehind, IsEntryFor, entry_at, kept_group, kept_states, table_entries}
 use Rattle.tables_groups.specs.Inside.Group.{GroupState}
-use Rattle.tables_groups.specs.Inside.Table.{Contents, IsFitting, IsPut, joint_option}
+use Rattle.tables_groups.specs.Inside.Table.{Contents, IsCounted, IsFitting, IsPut, joint_option, lines_of}
+use Rattle.tables_groups.proofs.Counted.{Grows, grown-lines}
 use Rattle.tables_groups.proofs.GroupsLaw.{none-found}
 use Rattle.tables_groups.proofs.Listing.{in-order}
 use Rattle.tables_groups.proofs.Order.{key_total, same_key-Decides}
@@ -114,3 +115,48 @@ list-more functions entry old new g h form is put =
     ∙ map-append entry_at (fin.entries old) ((entry.key, g) ∷ [])
     ∙ ap (λ (x : GroupState). table_entries old ++ entry_at (entry.key, x) ∷ []) is
     ∙ (λ i. table_entries old ++ record { key = entry.key; members = entry.members; states = plain-kept_states functions entry.members entry.states form i } ∷ [])
+
+-- ---- its records
+
+-- there was no group of the key
+none-at : (key : Key) (t : Contents) → IsBehind key (table_entries t) → (k : Key) → same_key k key ≡ true → fin.get t k ≡ None
+none-at key t h k e = ap (fin.get t) ((same_key-Decides k key).0 e) ∙ none-behind key t h
+
+one-lines : (b : Bool) (o : Option GroupState) (g : GroupState) → (b ≡ true → o ≡ None) → lines_of (cond b (Some g) o) ≡ cond b (lines_of o + g.lines) (lines_of o)
+one-lines true o g h = let e = ap lines_of (h refl) in omega (arith, e)
+one-lines false o g h = refl
+
+kept-length : (functions : List FilteredFunction) (members : ℕ) (states : List FunctionState) → AreStatesFor functions members states → length (kept_states functions states) ≡ length functions
+kept-length [] members [] h = refl
+kept-length [] members (s ∷ ss) h = elim h [ ]
+kept-length (f ∷ fs) members [] h = elim h [ ]
+kept-length (f ∷ fs) members (s ∷ ss) h = let e = kept-length fs members ss h.1 in omega (arith, e)
+
+one-parts : (functions : List FilteredFunction) (b : Bool) (o : Option GroupState) (g : GroupState) → length g.parts ≡ length functions → IfSome o (λ h. length h.parts ≡ length functions)
+    → IfSome (cond b (Some g) o) (λ h. length h.parts ≡ length functions)
+one-parts functions true o g e p = e
+one-parts functions false o g e p = p
+
+-- with the members of the group the table has no more records than it may have
+pub counted-more : (functions : List FilteredFunction) (entry : EntryForm) (old new : Contents) → IsBehind entry.key (table_entries old) → IsEntryFor functions entry
+    → ((k : Key) → fin.get new k ≡ cond (same_key k entry.key) (Some (kept_group functions entry)) (fin.get old k)) → CountsEntry functions entry old new
+counted-more functions entry old new behind form got most counted =
+    let g = kept_group functions entry in
+    let grows : Grows old new entry.key entry.members =
+    λ k. ap lines_of (got k) ∙ one-lines (same_key k entry.key) (fin.get old k) g (none-at entry.key old behind k) in
+    record {
+      lines = λ ks different.
+          let a = grown-lines old new entry.key entry.members grows ks different in
+          let b = counted.lines ks different in
+          omega (arith, a, b);
+      parts = λ k. subst (λ (o : Option GroupState). IfSome o (λ h. length h.parts ≡ length functions)) (sym (got k))
+          (one-parts functions (same_key k entry.key) (fin.get old k) g (kept-length functions entry.members entry.states form) (counted.parts k));
+    }
+
+-- ---- what the code puts
+
+-- the group of a key that is behind all is there afterwards
+pub kept-there : (functions : List FilteredFunction) (entry : EntryForm) (old new : Contents) (g : GroupState) → IsBehind entry.key (table_entries old) → g ≡ kept_group functions entry
+    → ((k : Key) → IsPut old new entry.key g k) → (k : Key) → fin.get new k ≡ cond (same_key k entry.key) (Some (kept_group functions entry)) (fin.get old k)
+kept-there functions entry old new g behind is put k =
+    got-behind old new entry.key g behind put k ∙ ap (λ (x : GroupState). cond (same_key k entry.key) (Some x) (fin.get old k)) is
