@@ -1,10 +1,9 @@
 -- A table with one group more, behind all that were there.
-use Rattle.std.proofs.Common.{◌≡◌, ◌+◌, ◌≤◌, ℕ, Bool, true, false, ◌&&◌, cond, List, [], ◌∷◌, ◌++◌, map, length, Option, Some, None, IfSome, All, refl, sym, ap, subst, ◌∙◌, arith}
+use Rattle.std.proofs.Common.{◌≡◌, ◌+◌, ℕ, Bool, true, false, ◌&&◌, cond, List, [], ◌∷◌, ◌++◌, map, length, Option, Some, None, IfSome, refl, sym, ap, subst, ◌∙◌, arith}
 use Rattle.std.proofs.lemmas.List.{map-append}
 use Rattle.std.proofs.lemmas.List.Elements.{recursion_from_All}
 use Rattle.std.specs.declared.cmp.Ordering.{Ordering}
 use Rattle.std.specs.declared.cmp.Ordering.TheVariants.{Less, Equal, Greater}
-use Rattle.std.specs.Cmp.{IsTotalOrder}
 use Rattle.std.specs.FinMap as fin
 use Rattle.std.specs.FinMap.Entries.{below_all, find-append}
 use Rattle.std.specs.List.{AllByRecursion}
@@ -16,7 +15,7 @@ use Rattle.query_resolve.specs.declared.function.FilteredFunction.{FilteredFunct
 use Rattle.group_states.specs.States.{EntryForm, FunctionState}
 use Rattle.tables_groups.specs.Inside.Entries.{AreStatesFor, CountsEntry, IsBehind, IsEntryFor, entry_at, kept_group, kept_states, table_entries}
 use Rattle.tables_groups.specs.Inside.Group.{GroupState}
-use Rattle.tables_groups.specs.Inside.Table.{Contents, IsCounted, IsFitting, IsPut, joint_option, lines_of}
+use Rattle.tables_groups.specs.Inside.Table.{Contents, IsFitting, IsPut, joint_option, lines_of}
 use Rattle.tables_groups.proofs.Counted.{Grows, grown-lines}
 use Rattle.tables_groups.proofs.GroupsLaw.{none-found}
 use Rattle.tables_groups.proofs.Listing.{in-order}
@@ -102,10 +101,10 @@ entries-more old new key g h put =
     let more : map (λ e. e.0) (es ++ (key, g) ∷ []) ≡ map (λ e. e.0) es ++ key ∷ [] = map-append (λ e. e.0) es ((key, g) ∷ []) in
     in-order new (es ++ (key, g) ∷ [])
     (subst (λ (ks : List Key). IsStrictlySortedBy key_order ks) (sym more)
-      (sorted-more (map (λ e. e.0) es) key (keys-ascend es (fin.entries_sorted old)) (keys-behind key old h)))
+    (sorted-more (map (λ e. e.0) es) key (keys-ascend es (fin.entries_sorted old)) (keys-behind key old h)))
     (λ q. find-append key_order key_total es key g q (absent key old h)
-      ∙ ap (cond (same_key q key) (Some g)) (sym (fin.get-entries old q))
-      ∙ sym (got-behind old new key g h put q))
+    ∙ ap (cond (same_key q key) (Some g)) (sym (fin.get-entries old q))
+    ∙ sym (got-behind old new key g h put q))
 
 -- the list of the table has the group behind those that were there
 pub list-more : (functions : List FilteredFunction) (entry : EntryForm) (old new : Contents) (g : GroupState) → IsBehind entry.key (table_entries old) → IsEntryFor functions entry

@@ -1,12 +1,11 @@
 -- The codes by which groups and values are put in order.
-use Rattle.std.proofs.Common.{◌≡◌, ◌++◌, ◌<◌, ℕ, ℤ, true, false, List, [], ◌∷◌, append-nil, append_assoc, sym, subst, lit<}
-use Rattle.std.specs.declared.cmp.Ordering.{Ordering}
-use Rattle.std.specs.declared.cmp.Ordering.TheVariants.{Less, Equal, Greater}
+use Rattle.std.proofs.Common.{◌≡◌, ◌++◌, ℕ, ℤ, true, false, List, [], ◌∷◌, append-nil, append_assoc, sym, subst, lit<}
+use Rattle.std.specs.declared.cmp.Ordering.TheVariants.{Less, Greater}
 use Rattle.std.specs.List.{AllByRecursion}
 use Rattle.std.specs.Ordering.{ordering_then}
 use Rattle.semantics.specs.Groups.{Key, key_order}
 use Rattle.semantics.specs.Values.{Datum, boolean, whole, text, null, value_order}
-use Rattle.sort_keys.specs.Codes.{IsCodable, number_code, value_code, values_code}
+use Rattle.sort_keys.specs.Codes.{IsCodable, value_code, values_code}
 use Rattle.sort_keys.specs.Decoding.{IsStorable}
 use Rattle.sort_keys.specs.SortKeys.{parts_of, parts_order}
 use Rattle.sort_keys.proofs.Decoding.{codable}

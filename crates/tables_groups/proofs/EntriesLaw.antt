@@ -1,5 +1,5 @@
 -- The list of a table's groups is that of the groups of its records.
-use Rattle.std.proofs.Common.{◌≡◌, ℕ, Bool, true, false, ◌||◌, cond, List, [], ◌∷◌, map, Option, Some, None, IfSome, refl, sym, ap, subst, ◌∙◌}
+use Rattle.std.proofs.Common.{◌≡◌, ℕ, Bool, false, cond, List, [], ◌∷◌, map, Option, Some, None, IfSome, refl, sym, ap, subst, ◌∙◌}
 use Rattle.std.proofs.lemmas.Map.Keys.{IsDistinct-from_sorted}
 use Rattle.std.specs.Cmp.{eq_by_cmp_equiv}
 use Rattle.std.specs.FinMap as fin
@@ -20,7 +20,7 @@ use Rattle.tables_groups.specs.Inside.Typed.{AreStatesOf, IsTypedTable}
 use Rattle.tables_groups.proofs.Ascending.{any-in_order, in_order-sorted}
 use Rattle.tables_groups.proofs.GroupsLaw.{firsts, found, group, keys-distinct}
 use Rattle.tables_groups.proofs.Listing.{in-order}
-use Rattle.tables_groups.proofs.Order.{key_total, same_key-Decides}
+use Rattle.tables_groups.proofs.Order.{key_total}
 use Rattle.tables_groups.proofs.Plain.{plain-states, states-told}
 
 -- ---- of a table of records

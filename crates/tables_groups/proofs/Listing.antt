@@ -1,5 +1,5 @@
 -- The groups of a table as the list that a sort of its entries gives.
-use Rattle.std.proofs.Common.{◌≡◌, ℕ, Bool, true, false, ◌||◌, cond, List, [], ◌∷◌, map, Option, Some, None, refl, sym, ap, subst, ◌∙◌, IsPermutation, IsSortedBy}
+use Rattle.std.proofs.Common.{◌≡◌, true, false, ◌||◌, cond, List, [], ◌∷◌, map, Some, None, refl, sym, ap, subst, ◌∙◌, IsPermutation, IsSortedBy}
 use Rattle.std.proofs.lemmas.List.Elements.{All-from_recursion, recursion_from_All}
 use Rattle.std.proofs.lemmas.List.Sorted.{All-permutation, IsPermutation-map, list_any-IsPermutation}
 use Rattle.std.proofs.lemmas.Map.Keys.{IsDistinct-IsPermutation}
@@ -78,8 +78,8 @@ entries-moved es fs t v d p s =
     let moved_all = recursion_from_All P fs (All-permutation P es fs p (All-from_recursion P es all)) in
     in-order t (entries_by_key fs) (subst (λ (ks : List Key). IsStrictlySortedBy key_order ks) (sym (keys-shown fs)) s)
     (λ q. found-among t fs q moved_all
-      ∙ ap (λ b. cond b (fin.get t q) None) (sym (list_any-IsPermutation (same_key q) (map shown_key es) (map shown_key fs) (IsPermutation-map shown_key es fs p)))
-      ∙ sym (found-among t es q all) ∙ found-all es t v q)
+    ∙ ap (λ b. cond b (fin.get t q) None) (sym (list_any-IsPermutation (same_key q) (map shown_key es) (map shown_key fs) (IsPermutation-map shown_key es fs p)))
+    ∙ sym (found-among t es q all) ∙ found-all es t v q)
 
 -- ---- the sort
 

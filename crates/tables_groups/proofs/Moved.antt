@@ -1,5 +1,5 @@
 -- Things that a sort has moved, by what stands beside them.
-use Rattle.std.proofs.Common.{◌≡◌, ◌+◌, ◌++◌, ◌<◌, ℕ, false, List, [], ◌∷◌, append_assoc, map, length, get_or, set, refl, sym, ap, subst, ◌∙◌, arith, IsPermutation, IsSortedBy}
+use Rattle.std.proofs.Common.{◌≡◌, ◌++◌, ℕ, false, List, [], ◌∷◌, append_assoc, map, length, get_or, set, refl, sym, ap, subst, ◌∙◌, arith, IsPermutation, IsSortedBy}
 use Rattle.std.proofs.Math.ListN.{get_or-map}
 use Rattle.std.proofs.lemmas.List.{length-map, map-append, map-set}
 use Rattle.std.proofs.lemmas.List.Sorted.{IsPermutation-keeps, IsPermutation-map, IsPermutation-refl, IsPermutation-swap, IsPermutation-trans}
@@ -29,9 +29,11 @@ pub moved : {A B : Type 0} (f : A → B) (xs : List A) (zs : List B) → IsPermu
 moved {A} f xs zs p =
     IsPermutation-keeps (map f xs) (λ l. (ys : List A) × IsPermutation xs ys × (l ≡ map f ys)) (xs, IsPermutation-refl xs, refl)
     (λ l i j hi hj (ys, q, e).
-      let long : length l ≡ length ys = ap length e ∙ length-map ys f in
-      (swap ys i j, IsPermutation-trans xs ys (swap ys i j) q (IsPermutation-swap ys (swap ys i j) i j (omega (arith, hi, long)) (omega (arith, hj, long)) refl),
-        ap (λ m. swap m i j) e ∙ sym (map-swap f ys i j)))
+    let long : length l ≡ length ys = ap length e ∙ length-map ys f in (
+      swap ys i j,
+      IsPermutation-trans xs ys (swap ys i j) q (IsPermutation-swap ys (swap ys i j) i j (omega (arith, hi, long)) (omega (arith, hj, long)) refl),
+      ap (λ m. swap m i j) e ∙ sym (map-swap f ys i j),
+    ))
     zs p
 
 -- ---- things beside sort keys
@@ -86,7 +88,7 @@ module _ {A K : Type 0} (order : K → K → Ordering) (key : A → K) (code : A
   ascend-beside zs xs codes all d up =
       keys-in_order xs all
       (subst (λ (ps : List SortParts). IsStrictlySortedBy parts_order ps) codes
-        (keys-sorted parts-total key_beside zs up (subst (λ (ps : List SortParts). IsDistinct (eq_by_cmp parts_order) ps) (sym codes) (distinct-codes xs all d))))
+      (keys-sorted parts-total key_beside zs up (subst (λ (ps : List SortParts). IsDistinct (eq_by_cmp parts_order) ps) (sym codes) (distinct-codes xs all d))))
 
 pub all-of : {A : Type 0} (P : A → Type 0) → ((a : A) → P a) → (xs : List A) → AllByRecursion P xs
 all-of P h [] = tt

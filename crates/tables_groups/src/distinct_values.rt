@@ -54,10 +54,7 @@ impl DistinctValues {
     }
 
     /// These values.
-    pub(crate) fn of_values(
-        alloc: Global,
-        values: Vec<Value>,
-    ) -> Result<DistinctValues, AllocError>
+    pub(crate) fn of_values(alloc: Global, values: Vec<Value>) -> Result<DistinctValues, AllocError>
         ensures { IfOk result (λ set. set ≡ set_of (data_of values.items)) }
     {
         let mut set = HashSet::new(alloc);

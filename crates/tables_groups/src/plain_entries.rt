@@ -82,16 +82,16 @@ fn keyed_entry(
     let (members, states) = group.into_states(alloc)?;
     Ok(Keyed {
         key: sort_key,
-        thing: GroupEntry { key, members, states },
+        thing: GroupEntry {
+            key,
+            members,
+            states,
+        },
     })
 }
 
 /// The sort key of a key's code with a 0 behind it, so that no code is the beginning of another one.
-fn sort_key_of(
-    alloc: Global,
-    code: &mut Vec<u8>,
-    key: &PackedKey,
-) -> Result<SortKey, AllocError>
+fn sort_key_of(alloc: Global, code: &mut Vec<u8>, key: &PackedKey) -> Result<SortKey, AllocError>
     ensures { IfOk result (λ sort_key. key_parts sort_key ≡ parts_of (sort_code (key_in key.now))) }
 {
     code.clear();

@@ -1,5 +1,5 @@
 -- Things beside sort keys.
-use Rattle.std.specs.Prelude.{ℕ, Bool, List, [], ◌∷◌, ◌++◌, map}
+use Rattle.std.specs.Prelude.{ℕ, Bool, List, [], ◌∷◌, ◌++◌}
 use Rattle.std.specs.Ordering.{is_lt}
 use Rattle.semantics.specs.Groups.{Key}
 use Rattle.semantics.specs.Values.{Datum}

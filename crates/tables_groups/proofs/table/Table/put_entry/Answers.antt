@@ -1,11 +1,10 @@
-use Rattle.std.proofs.Common.{◌≡◌, ◌∙◌, ap, sym, subst, Option}
+use Rattle.std.proofs.Common.{◌≡◌, ◌∙◌, ap, sym, subst}
 use Rattle.std.proofs.lemmas.Result.{on_ok_weaker}
 use Rattle.std.specs.FinMap as fin
 use Rattle.semantics.specs.Groups.{Key}
 use Rattle.values.specs.Datum.{data_of}
-use Rattle.group_states.specs.States.{EntryForm, entry_of}
+use Rattle.group_states.specs.States.{entry_of}
 use Rattle.tables_groups.specs.Inside.Entries.{kept_group}
-use Rattle.tables_groups.specs.Inside.Group.{GroupState}
 use Rattle.tables_groups.specs.Inside.Keys.{key_in}
 use Rattle.tables_groups.specs.Inside.Table.{IsFitting, IsPut}
 use Rattle.tables_groups.proofs.Appended.{counted-more, fits-behind, kept-there, list-more}
