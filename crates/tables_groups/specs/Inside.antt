@@ -18,3 +18,5 @@ pub mod Pairs
 pub mod Walks
 pub mod Summaries
 pub mod GroupsOfShards
+pub mod Entries
+pub mod Keyed

@@ -8,6 +8,9 @@ ghost use Rattle.tables_groups.specs.Bags.{SameBag, weigh};
 ghost use Rattle.semantics.specs.Aggregates.{AggregateFunction};
 ghost use Rattle.query_resolve.specs.declared.function.FilteredFunction.{FilteredFunction};
 ghost use Rattle.semantics.specs.Columns.{Field};
+ghost use Rattle.group_states.specs.Entries.{entries_over};
+ghost use Rattle.tables_groups.specs.Functions.{aggregates_of};
+ghost use Rattle.tables_groups.specs.Inside.Entries.{table_entries};
 ghost use Rattle.tables_groups.specs.Inside.Table.{Contents, HasGroupsOfBoth, HasGroupsOfFiner, IsCounted, IsTableOf, IsTableUnder};
 ghost use Rattle.tables_groups.specs.Inside.Typed.{AllFit, AreColumns, HaveColumns, IsTypedTable};
 
@@ -74,4 +77,18 @@ pub fn typed_law()
         (a b c : Contents) → IsTypedTable fields set functions a
         → IsTypedTable fields set functions b → HasGroupsOfBoth a b c
         → IsTypedTable fields set functions c }
+{}
+
+/// The list of the groups of a table of records is that of the groups of these records, by ascending keys. And a table of
+/// the types of columns and set functions whose list this is, is that of these records.
+pub fn entries_law()
+    ensures of_records { (set : List ℕ) (functions : List AggregateFunction)
+        (table : Contents) (rows : List Row)
+        → IsTableOf set functions table rows
+        → table_entries table ≡ entries_over set functions rows }
+    ensures is_table { (fields : List Field) (set : List ℕ) (functions : List FilteredFunction)
+        (filters : List (Row → Bool)) (table : Contents) (rows : List Row)
+        → IsTypedTable fields set functions table
+        → table_entries table ≡ entries_over set (aggregates_of filters functions) rows
+        → IsTableUnder set functions filters table rows }
 {}

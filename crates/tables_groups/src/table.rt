@@ -11,8 +11,10 @@ use crate::packed_key::PackedKey;
 use crate::pairs::join_shards_among;
 use crate::part::Part;
 use crate::place::{SHARDS, place_of};
+use crate::plain_entries::entries_of;
 use crate::shard::Shard;
 use crate::walk::{put_next_of_each, put_rest, smallest_shard_len, walks_over};
+use group_states::GroupEntry;
 use query_resolve::FilteredFunction;
 use std::alloc::{AllocError, Global};
 use std::marker::{Model, Sync};
@@ -71,7 +73,7 @@ impl Model for Table {
 }
 
 impl Table {
-    ghost use Rattle.std.specs.Prelude.{◌≡◌, ◌<◌, ◌≤◌, ℕ, [], OnOk, IfOk, IsSome, List};
+    ghost use Rattle.std.specs.Prelude.{◌≡◌, ◌<◌, ◌≤◌, ◌∷◌, ◌++◌, ℕ, [], OnOk, IfOk, IsSome, List};
     ghost use Rattle.semantics.specs.Groups.{Key, project};
     ghost use Rattle.tables_groups.specs.Rows.{IsNarrowRow};
     ghost use Rattle.std.specs.FinMap as fin;
@@ -80,6 +82,8 @@ impl Table {
     ghost use Rattle.tables_groups.specs.Inside.Keys.{key_in};
     ghost use Rattle.tables_groups.specs.Inside.Shards.{contents_in};
     ghost use Rattle.tables_groups.specs.Inside.Table.{AreGroupsOfTable, CanJoin, HasEmptyKey, HasFewRecords, HasGroupsOfBoth, HasOneMore, IsFitting, IsOfNone, IsPut, IsRollOf, IsTaken, IsUnionOf, IsWithPart, KeepsCount, TakesOne};
+    ghost use Rattle.group_states.specs.States.{entries_of, entry_of};
+    ghost use Rattle.tables_groups.specs.Inside.Entries.{CountsEntry, IsBehind, IsEntryFor, TypesEntry, table_entries};
     ghost use Rattle.tables_groups.specs.Inside.Typed.{HaveTypesOfTable, KeepsTypes};
     ghost use Rattle.tables_groups.specs.Rolled.{AreAmong};
 
@@ -156,6 +160,19 @@ impl Table {
         let group = Accumulators::new(alloc, functions)?;
         table.put_to_group(PackedKey::empty(alloc), group)?;
         Ok(table)
+    }
+
+    /// The table without any group, kept as `for_hands` does. Groups may be put into it (`put_entry`).
+    ///
+    /// Example: `Table::for_entries(alloc, 4)` answers a table whose `len()` is 0.
+    ///
+    /// # Errors
+    ///
+    /// `AllocError` where there is no memory for it.
+    pub fn for_entries(alloc: Global, hands: usize) -> Result<Table, AllocError>
+        ensures { IfOk result (λ table. table ≡ fin.empty) }
+    {
+        Table::without_groups(alloc, hands.clamp(1, SHARDS))
     }
 
     /// Takes one more record into the group of its key. `row` has the values of the record, and `marks` says of each
@@ -367,6 +384,61 @@ impl Table {
         } = self;
         drop(scratch);
         groups_among(rt, alloc, count, shards)
+    }
+
+    /// Its groups as plain values, by ascending keys: of each the key, the number of its members, and the state of each set
+    /// function over them.
+    ///
+    /// Example: of the records `'y', 3`, `'x', 5` and `'x', 2`, grouped by their first column with SUM of the second one, it
+    /// gives the group of `'x'` with 2 members and the state `Sum(7, 2)`, and then that of `'y'`.
+    ///
+    /// # Errors
+    ///
+    /// `AllocError` where there is no memory for the groups; the table is given up then.
+    pub fn into_entries(self) -> Result<Vec<GroupEntry>, AllocError>
+        ensures { IfOk result (λ entries. entries_of entries.items ≡ table_entries self) }
+    {
+        let count = self.len();
+        let Table {
+            alloc,
+            shards,
+            scratch,
+        } = self;
+        drop(scratch);
+        entries_of(alloc, count, shards)
+    }
+
+    /// Puts a group behind all that are there. These are for the same functions.
+    ///
+    /// Its key is above all that are there (`key_order`: values as ORDER BY has them, NULL last), and it has a state of its
+    /// form for each set function, over its members.
+    ///
+    /// Example: a table that has the group of `'x'` and takes that of `'y'` gives these two with `into_entries`.
+    ///
+    /// # Errors
+    ///
+    /// `AllocError` where there is no memory for it; the table is of no use then.
+    pub fn put_entry(
+        &mut self,
+        functions: &[FilteredFunction],
+        entry: GroupEntry,
+    ) -> Result<(), AllocError>
+        requires behind { IsBehind (data_of entry.key.items) (table_entries self.old) }
+        requires states { IsEntryFor functions.now (entry_of entry) }
+        ensures entries { OnOk result
+            (table_entries self.new ≡ table_entries self.old ++ entry_of entry ∷ []) }
+        ensures counted { OnOk result
+            (CountsEntry functions.now (entry_of entry) self.old self.new) }
+        ensures typed { OnOk result (TypesEntry functions.now (entry_of entry) self.old self.new) }
+    {
+        let GroupEntry {
+            key,
+            members,
+            states,
+        } = entry;
+        let group = Accumulators::of_states(self.alloc, functions, members, states)?;
+        let key = PackedKey::of_values(self.alloc, key.as_slice())?;
+        self.put_to_group(key, group)
     }
 
     /// Puts one more part to the group of a record's key.
