@@ -49,11 +49,10 @@ fn next_key<S: Source>(
     ensures known { S.known source.old → OnOk result (S.known source.new) }
     ensures read { S.known source.old
         → Gives (λ key. (data_of key.items, S.stream source.new)) result
-        (next_key_at columns.now (last_key last.entry)
-        (S.stream source.old)) }
+        (next_key_at columns.now (last_key last.entry) (S.stream source.old)) }
     ensures held { IfOk result (λ key. IsKeyFor columns.now (data_of key.items)) }
-    ensures above { IfOk result (λ key. IsAbove key_order
-        (last_key last.entry) (data_of key.items)) }
+    ensures above { IfOk result
+        (λ key. IsAbove key_order (last_key last.entry) (data_of key.items)) }
 {
     let key = next_values(alloc, source, columns)?;
     let above = is_key_above(last, key.as_slice());
@@ -79,8 +78,7 @@ pub fn next_group<S: Source>(
 ) -> Result<GroupEntry, GroupRefusal>
     ensures known { S.known source.old → OnOk result (S.known source.new) }
     ensures read { S.known source.old → Gives (λ group. (entry_of group, S.stream source.new))
-        result (group_at (shape_of shape.now) (last_key last.entry) left
-        (S.stream source.old)) }
+        result (group_at (shape_of shape.now) (last_key last.entry) left (S.stream source.old)) }
     ensures fits { IfOk result
         (λ group. IsGroupFor (shape_of shape.now) (last_key last.entry) left (entry_of group)) }
 {
