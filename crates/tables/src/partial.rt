@@ -3,7 +3,7 @@ ghost use Rattle.std.specs.Prelude.{◌≡◌, ◌<◌, ◌≤◌, ◌^◌, ◌�
 ghost use Rattle.tables.specs.declared.piece_refusals.PieceRefusals.{PieceRefusals};
 ghost use Rattle.std.proofs.Props.{props};
 ghost use Rattle.tables.specs.Notes.{IsWellNumbered, line_count, notes_in};
-ghost use Rattle.tables_groups.specs.Inside.Table.{AreGroupsWithin};
+ghost use Rattle.tables_groups.specs.Inside.Table.{IsCounted};
 
 use crate::executor::{Executor, Serial};
 use crate::folding::{Folding, empty_table, read_onto};
@@ -27,15 +27,15 @@ use tables_groups::{Group, Table, roll_law};
 /// Example: an input is cut behind its third line, and a result made of each of the two pieces, with the indexes 0 and
 /// 1; merged either way round and finished, they give the groups and the refused lines of the input.
 pub struct Partial {
-    alloc: Global,
-    shape: Shape,
-    table: Table,
-    lines: u64,
-    refused: u64,
-    notes: Vec<PieceRefusals>,
+    pub(crate) alloc: Global,
+    pub(crate) shape: Shape,
+    pub(crate) table: Table,
+    pub(crate) lines: u64,
+    pub(crate) refused: u64,
+    pub(crate) notes: Vec<PieceRefusals>,
     ghost few: { lines < 2 ^ 63 },
     ghost fewer: { refused ≤ lines },
-    ghost within: { AreGroupsWithin lines shape.functions.items table } by { Prim.hlevel props },
+    ghost within: { IsCounted lines shape.functions.items table } by { Prim.hlevel props },
     ghost counted: { line_count (notes_in notes) ≡ lines },
     ghost numbered: { All IsWellNumbered (notes_in notes) } by { Prim.hlevel props },
 }
@@ -91,6 +91,7 @@ impl Partial {
     ghost use Rattle.semantics.specs.Groups.{Key, Row};
     ghost use Rattle.tables.specs.Partials.{HaveOneShape, IsConcatenationOf, IsInOnePiece, IsMergeOf, IsOfSharedQueries, StandsFor};
     ghost use Rattle.tables.specs.Planned.{AreGroupingColumns, GivesGroupsOfSet, HasMembersOfFiner, HasOneMorePiece, HasRestBehind, IsFinishOf, IsPartialUnder, StandsForNone, StandsForUnder};
+    ghost use Rattle.tables.specs.Sound.{IsSoundUnder, IsSoundWhere, IsSoundWhereBoth};
     ghost use Rattle.tables.specs.Pieces.{IndexedPiece, all_lines, records_of, refused_lines_within};
 
     /// The result over no pieces, so of no lines: merged with another one of the plan, it adds nothing to that.
@@ -272,6 +273,7 @@ impl Partial {
         requires few { self.lines + other.lines < 2 ^ 63 }
         ensures stands { IfOk result (IsMergeOf self other) }
         ensures of_plan { IfOk result (IsOfSharedQueries self other) }
+        ensures sound { IfOk result (IsSoundWhereBoth self other) }
     {
         self.merge_by(&Serial, other)
     }
@@ -290,6 +292,7 @@ impl Partial {
         requires few { self.lines + other.lines < 2 ^ 63 }
         ensures stands { IfOk result (IsMergeOf self other) }
         ensures of_plan { IfOk result (IsOfSharedQueries self other) }
+        ensures sound { IfOk result (IsSoundWhereBoth self other) }
     {
         let Partial {
             alloc,
@@ -336,6 +339,7 @@ impl Partial {
         requires one_shape { HaveOneShape self rest }
         requires few { self.lines + rest.lines < 2 ^ 63 }
         ensures stands { IfOk result (IsConcatenationOf self rest) }
+        ensures sound { IfOk result (IsSoundWhereBoth self rest) }
     {
         self.follow_by(&Serial, rest)
     }
@@ -353,6 +357,7 @@ impl Partial {
         requires one_shape { HaveOneShape self rest }
         requires few { self.lines + rest.lines < 2 ^ 63 }
         ensures stands { IfOk result (IsConcatenationOf self rest) }
+        ensures sound { IfOk result (IsSoundWhereBoth self rest) }
     {
         let Partial {
             alloc,
@@ -455,6 +460,7 @@ impl Partial {
         ensures lines { IfOk result (λ partial. partial.lines ≡ self.lines) }
         ensures refused { IfOk result (λ partial. partial.refused ≡ self.refused) }
         ensures fewer { IfOk result (λ partial. partial.refused ≤ partial.lines) }
+        ensures sound { IfOk result (IsSoundWhere self) }
     {
         let Partial {
             alloc,
@@ -482,7 +488,7 @@ impl Partial {
     /// have one index, each refused line is there once, by its number in the input, from 1: the lines of the pieces
     /// with a smaller index stand before its own.
     ///
-    /// This is a result of the plan, over some pieces.
+    /// This is a result that the plan can finish, as each one of the plan over some pieces is (`sound_law`).
     ///
     /// Example: of the lines `{"shop":"Quay","cents":250}` and `{"shop":"Quay","cents":50}`, the plan of
     /// `SELECT shop, SUM(cents) FROM lines GROUP BY shop` finds one group: the key `'Quay'`, 2 members and the cell
@@ -492,7 +498,7 @@ impl Partial {
     ///
     /// `AllocError` where there is no memory for them; the result is given up then.
     pub fn finish(self, plan: &Plan) -> Result<Groups, AllocError>
-        requires of_plan { IsPartialUnder plan.now self }
+        requires sound { IsSoundUnder plan.now self }
         ensures { IfOk result (IsFinishOf plan.now self) }
     {
         self.finish_by(&Serial, plan)
@@ -500,7 +506,7 @@ impl Partial {
 
     /// What `finish` gives, where the executor finishes the groups. It can do so.
     ///
-    /// This is a result of the plan, over some pieces.
+    /// This is a result that the plan can finish, as each one of the plan over some pieces is (`sound_law`).
     ///
     /// Example: `partial.finish_by(&Parallel { rt: &rt, workers: 4 }, &plan)?` gives the groups and the refused lines that
     /// `partial.finish(&plan)?` gives.
@@ -510,7 +516,7 @@ impl Partial {
     /// `AllocError` where there is no memory for them; the result is given up then.
     pub fn finish_by<E: Executor>(self, executor: &E, plan: &Plan) -> Result<Groups, AllocError>
         requires ready { E.ready executor.now }
-        requires of_plan { IsPartialUnder plan.now self }
+        requires sound { IsSoundUnder plan.now self }
         ensures { IfOk result (IsFinishOf plan.now self) }
     {
         let Partial {
@@ -532,8 +538,8 @@ impl Partial {
     /// each key of the records that WHERE keeps and no other, its values in the order of the set. They come in no order
     /// that is said, and this result stays as it is.
     ///
-    /// This is a result of the plan, over some pieces. The set has places of columns, from 0, all among those of
-    /// `Plan::grouping`.
+    /// This is a result that the plan can finish, as each one of the plan over some pieces is (`sound_law`). The set has places
+    /// of columns, from 0, all among those of `Plan::grouping`.
     ///
     /// Example: `partial.roll(&plan, &[])?` is one group with the empty key, whose members are all records that WHERE
     /// keeps, also where there are none.
@@ -542,7 +548,7 @@ impl Partial {
     ///
     /// `AllocError` where there is no memory for them.
     pub fn roll(&self, plan: &Plan, set: &[usize]) -> Result<Vec<Group>, AllocError>
-        requires of_plan { IsPartialUnder plan.now self.now }
+        requires sound { IsSoundUnder plan.now self.now }
         requires among { AreGroupingColumns plan.now set.now }
         ensures groups { IfOk result (λ groups. (pieces : List IndexedPiece)
             → StandsForUnder plan.now self.now pieces
@@ -558,7 +564,7 @@ impl Partial {
 }
 
 /// The notes of one piece.
-fn one_note(alloc: Global, note: PieceRefusals) -> Result<Vec<PieceRefusals>, AllocError>
+pub(crate) fn one_note(alloc: Global, note: PieceRefusals) -> Result<Vec<PieceRefusals>, AllocError>
     ensures { IfOk result (λ notes. notes.items ≡ note ∷ []) }
 {
     let mut notes = Vec::with_capacity(alloc, 1)?;
