@@ -11,8 +11,11 @@ pub mod Accumulator
 pub mod Group
 pub mod Keys
 pub mod Table
+pub mod Typed
 pub mod Shards
 pub mod Pairs
 pub mod Walks
 pub mod Summaries
 pub mod GroupsOfShards
+pub mod Entries
+pub mod Keyed

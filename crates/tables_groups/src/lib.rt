@@ -10,10 +10,12 @@ mod accumulators;
 mod cell;
 mod copy;
 mod distinct_values;
+mod entries;
 mod extreme;
 mod finishing;
 mod group;
 mod key;
+mod keyed;
 mod laws;
 mod packed_key;
 mod pairs;
@@ -26,5 +28,7 @@ mod walk;
 
 pub use cell::Cell;
 pub use group::Group;
-pub use laws::{members_law, order_law, records_law, roll_law};
+pub use laws::{
+    counted_law, entries_law, members_law, order_law, records_law, roll_law, typed_law,
+};
 pub use table::Table;
