@@ -53,12 +53,9 @@ pub fn meaning_law()
 pub fn sound_law()
     ensures { (plan : PlannedQuery) (partial : Partial)
         → IsPartialUnder plan partial → IsSoundUnder plan partial }
-{
-    tables_groups::typed_law();
-}
+{}
 
-/// A law, with no work to do: a result that a plan can finish, and that has the contents of an input as one piece, stands for
-/// the input.
+/// A law: a result that a plan can finish, and that has the contents of an input, as one piece, stands for the input.
 pub fn contents_law()
     ensures { (plan : PlannedQuery) (partial : Partial) (input : List ℕ)
         → IsSoundUnder plan partial
