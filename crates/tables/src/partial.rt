@@ -591,12 +591,12 @@ impl Partial {
             notes,
         } = self;
         drop(shape);
-        let refused = number(alloc, notes)?;
+        let refused_lines = number(alloc, notes)?;
         let groups = table.into_entries()?;
         entries_law();
         Ok(PartialContents {
             lines,
-            refused,
+            refused: refused_lines,
             groups,
         })
     }

@@ -25,7 +25,7 @@ returns c = λ fields q input given.
     let grouping = grouping_places fields q in
     let fs = aggregate_functions fields q in
     let lines = p.lines ∙ count-lines input given.pieces given.cut in
-    let refused = refused-in_order fields input given.pieces (notes_in self.notes) c.in_ok-refused.refused.items given.cut p.notes c.in_ok-refused.ensures in
+    let refused = refused-in_order fields input given.pieces (notes_in self.notes) c.in_ok-refused_lines.refused_lines.items given.cut p.notes c.in_ok-refused_lines.ensures in
     let groups = c.in_ok-groups.ensures
     ∙ c.entries_law.ensures.of_records grouping fs self.table (kept_records fields q (records_of fields given.pieces)) p.table
     ∙ ap (λ (rows : List Row). entries_over grouping fs (kept_records fields q rows)) (cut-records fields input given.pieces given.cut) in
