@@ -14,6 +14,9 @@ pub mod Rolled
 pub mod AnyOrder
 pub mod SameRecords
 pub mod Rolling
+pub mod Counted
+pub mod Typed
+pub mod TypedGroups
 pub mod Hashes
 pub mod Shards
 pub mod InPairs

@@ -89,10 +89,11 @@ pub record AreOfTypes (fields : List Field) (set : List ℕ) (functions : List F
   pub cells : All (λ g. AllZip (λ f cell. HasType fields f.function cell) functions g.cells) groups
   pub distinct : AllPairs (λ x y. x.key ≢ y.key) groups
 
--- a table under a set that is made of one under a finer set has groups of the types of the columns and set functions where that one has
+-- a table that is made of one under a finer set is of the types of columns and set functions where that one is
 abbrev pub KeepsTypes : List ℕ → List FilteredFunction → Contents → List ℕ → Contents → Type 0
 KeepsTypes finer functions table set rolled =
-    (fields : List Field) → HaveColumns fields functions → IsTypedTable fields finer functions table → IsTypedTable fields set functions rolled
+    (fields : List Field) → HaveColumns fields functions
+    → IsTypedTable fields finer functions table → IsTypedTable fields set functions rolled
 
 -- the groups that a table gives are of the types of columns and set functions where the table is
 abbrev pub HaveTypesOfTable : Contents → List Group → Type 0
