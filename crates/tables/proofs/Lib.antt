@@ -1,6 +1,7 @@
 mod Examples
 pub mod SetTables
 pub mod Telling
+pub mod Once
 pub mod Orders
 pub mod Reading
 pub mod Narrow

@@ -86,7 +86,7 @@ impl Model for Partial {
 }
 
 impl Partial {
-    ghost use Rattle.std.specs.Prelude.{[], ◌∷◌, ◌+◌, ◌↔◌, List, IfOk, OnOk, IsTrue};
+    ghost use Rattle.std.specs.Prelude.{[], ◌∷◌, ◌+◌, ◌↔◌, ℕ, List, IfOk, OnOk, IsTrue};
     ghost use Rattle.semantics.specs.Columns.{Field};
     ghost use Rattle.semantics.specs.Lines.{lines};
     ghost use Rattle.semantics.specs.Syntax.{TreeForm};

@@ -3,6 +3,7 @@ use Rattle.group_states.specs.Entries.{entries_over}
 use Rattle.query_resolve.specs.Functions.{indexed_functions}
 use Rattle.semantics.specs.Aggregates.{AggregateFunction}
 use Rattle.semantics.specs.Conditions.{kept_records}
+use Rattle.semantics.specs.Found.{aggregate_functions}
 use Rattle.semantics.specs.Groups.{Row}
 use Rattle.semantics.specs.Records.{refused_lines}
 use Rattle.semantics.specs.Sets.{grouping_places}
@@ -25,7 +26,7 @@ returns c = λ plan partial input sound has.
     let rows = kept_records fields q (records_of fields (whole_piece input)) in
     let piece = one-piece input in
     let groups = has.groups
-    ∙ ap (λ (rs : List Row). entries_over grouping _ (kept_records fields q rs)) (sym (cut-records fields input (whole_piece input) piece))
+    ∙ ap (λ (rs : List Row). entries_over grouping (aggregate_functions fields q) (kept_records fields q rs)) (sym (cut-records fields input (whole_piece input) piece))
     ∙ ap (λ (fs : List AggregateFunction). entries_over grouping fs rows) (sym (bound-functions fields q)) in
     record {
       pieces = whole_piece input;

@@ -15,7 +15,7 @@ invariant_of-result g c =
       (
         (let n = c.len-count.ensures in let fewer = c.requires.fewer in let ok = c.args.refused.ok in grind (arith, n, fewer, ok)),
         (
-          counted-more functions 0 c.args.lines table (omega arith) (empty-counted functions table c.in_ok-table.ensures),
+          counted-more functions 0 c.args.lines table (omega arith) (empty-counted functions table c.in_ok-table.ensures.none),
           (
             notes.0,
             (notes.1, tt),
@@ -32,18 +32,18 @@ returns-clause-sound g c =
       sets = c.in_ok-shape.ensures.sets;
       functions = c.in_ok-shape.ensures.functions;
       filters = c.in_ok-shape.ensures.filters;
-      typed = empty-typed fields (grouping_places fields q) (indexed_functions fields q) c.in_ok-table.table c.in_ok-table.ensures;
+      typed = empty-typed fields (grouping_places fields q) (indexed_functions fields q) c.in_ok-table.table c.in_ok-table.ensures.none;
     }
 
 pub returns-clause-refusals : goal.returns-clause-refusals
 returns-clause-refusals g c = record {
   lines = refl;
-  refused = c.len-count.ensures;
+  refused = (let n = c.len-count.ensures in let ok = c.args.refused.ok in omega (arith, n, ok));
   notes = ap (map note_in) c.in_ok-notes.ensures;
 }
 
 pub returns-clause-groups : goal.returns-clause-groups
-returns-clause-groups g c = empty-entries c.in_ok-table.table c.in_ok-table.ensures
+returns-clause-groups g c = empty-entries c.in_ok-table.table c.in_ok-table.ensures.none
 
 pub returns-clause-within : goal.returns-clause-within
-returns-clause-within g c = empty-counted c.in_ok-shape.shape.functions.items c.in_ok-table.table c.in_ok-table.ensures
+returns-clause-within g c = empty-counted c.in_ok-shape.shape.functions.items c.in_ok-table.table c.in_ok-table.ensures.none
