@@ -20,7 +20,9 @@ pub use contents::PartialContents;
 pub use executor::{Executor, Parallel, Serial};
 pub use grouped::Groups;
 pub use job::{Job, JobBy};
-pub use laws::{contents_law, job_law, meaning_law, members_law, order_law, records_law, sound_law};
+pub use laws::{
+    contents_law, job_law, meaning_law, members_law, order_law, records_law, sound_law,
+};
 pub use partial::Partial;
 pub use rolling::{Roll, SetTable};
 pub use tables_groups::{Cell, Group};
