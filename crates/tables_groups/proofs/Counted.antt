@@ -64,7 +64,7 @@ all-parts most functions t (e ∷ es) counted h =
 -- ---- one part more
 
 -- at the key q a table has so many records more than another one, and elsewhere as many
-abbrev Grows : Contents → Contents → Key → ℕ → Type 0
+abbrev pub Grows : Contents → Contents → Key → ℕ → Type 0
 Grows old new q n = (k : Key) → lines_at new k ≡ cond (same_key k q) (lines_at old k + n) (lines_at old k)
 
 elsewhere : (old new : Contents) (q : Key) (n : ℕ) → Grows old new q n → (ks : List Key)
@@ -76,7 +76,7 @@ elsewhere old new q n grows (k ∷ ks) h =
     omega (arith, here, rest)
 
 -- so the groups of different keys have together at most so many more
-grown-lines : (old new : Contents) (q : Key) (n : ℕ) → Grows old new q n → (ks : List Key) → IsDistinct same_key ks
+pub grown-lines : (old new : Contents) (q : Key) (n : ℕ) → Grows old new q n → (ks : List Key) → IsDistinct same_key ks
     → weigh (lines_at new) ks ≤ weigh (lines_at old) ks + n
 unfolding IsDistinct
 grown-lines old new q n grows [] distinct = omega arith

@@ -23,3 +23,12 @@ pub mod InPairs
 pub mod Walks
 pub mod InParts
 pub mod Packing
+pub mod Ascending
+pub mod Moved
+pub mod Codes
+pub mod Listing
+pub mod Plain
+pub mod EntriesLaw
+pub mod Appended
+pub mod SetListing
+pub mod TypedEntries

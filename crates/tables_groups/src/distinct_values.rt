@@ -1,6 +1,9 @@
 //! The different values that `COUNT(DISTINCT x)` counts.
 ghost use Rattle.std.specs.Prelude.{◌≡◌, IfOk, OnOk, map};
 ghost use Rattle.std.specs.FinSet as set;
+ghost use Rattle.std.specs.List.{AllByRecursion, IsDistinct};
+ghost use Rattle.semantics.specs.Aggregates.{same_value};
+ghost use Rattle.sort_keys.specs.Codes.{IsCodable};
 ghost use Rattle.values.specs.Datum.{data_of, datum_of};
 ghost use Rattle.tables_groups.specs.Inside.Keyed.{keyed_datum, keyed_value};
 ghost use Rattle.tables_groups.specs.Inside.Values.{values_in};
@@ -51,10 +54,7 @@ impl DistinctValues {
     }
 
     /// These values.
-    pub(crate) fn of_values(
-        alloc: Global,
-        values: Vec<Value>,
-    ) -> Result<DistinctValues, AllocError>
+    pub(crate) fn of_values(alloc: Global, values: Vec<Value>) -> Result<DistinctValues, AllocError>
         ensures { IfOk result (λ set. set ≡ set_of (data_of values.items)) }
     {
         let mut set = HashSet::new(alloc);
@@ -129,8 +129,10 @@ fn insert_copy(values: &mut HashSet<Value>, value: &Value) -> Result<(), AllocEr
 
 /// The values of a set, each beside its sort key.
 fn keyed_values(alloc: Global, values: HashSet<Value>) -> Result<Vec<Keyed<Value>>, AllocError>
-    ensures { IfOk result (λ keyed.
+    ensures values { IfOk result (λ keyed.
         map keyed_value keyed.items ≡ map keyed_datum (data_of values.keys)) }
+    ensures codable { OnOk result (AllByRecursion IsCodable (data_of values.keys)) }
+    ensures distinct { OnOk result (IsDistinct same_value (data_of values.keys)) }
 {
     let mut code = Vec::new(alloc);
     let mut keyed = Vec::with_capacity(alloc, values.len())?;

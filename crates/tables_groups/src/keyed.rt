@@ -24,10 +24,7 @@ pub(crate) fn sort_keyed<T: Drop>(keyed: Vec<Keyed<T>>) -> Vec<Keyed<T>>
 }
 
 /// The things alone, in the order in which they stand.
-pub(crate) fn things_of<T: Drop>(
-    alloc: Global,
-    keyed: Vec<Keyed<T>>,
-) -> Result<Vec<T>, AllocError>
+pub(crate) fn things_of<T: Drop>(alloc: Global, keyed: Vec<Keyed<T>>) -> Result<Vec<T>, AllocError>
     ensures { IfOk result (λ things. things.items ≡ map (λ k. k.thing) keyed.items) }
 {
     let mut things = Vec::with_capacity(alloc, keyed.len())?;

@@ -4,7 +4,6 @@ ghost use Rattle.std.proofs.Props.{props};
 ghost use Rattle.tables_groups.specs.Inside.Shards.{AreApart, AreJoined, CanJoinEach};
 
 use crate::accumulators::Accumulators;
-use crate::entries::entries_of;
 use crate::finishing::groups_among;
 use crate::group::Group;
 use crate::key::indices_in;
@@ -12,6 +11,7 @@ use crate::packed_key::PackedKey;
 use crate::pairs::join_shards_among;
 use crate::part::Part;
 use crate::place::{SHARDS, place_of};
+use crate::plain_entries::entries_of;
 use crate::shard::Shard;
 use crate::walk::{put_next_of_each, put_rest, smallest_shard_len, walks_over};
 use group_states::GroupEntry;

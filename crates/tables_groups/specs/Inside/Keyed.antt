@@ -1,10 +1,9 @@
 -- Things beside sort keys.
-use Rattle.std.specs.Prelude.{◌≡◌, ℕ, Bool, List, [], ◌∷◌, ◌++◌, map}
-use Rattle.std.specs.List.Sorted.{IsPermutation, IsSortedBy}
+use Rattle.std.specs.Prelude.{ℕ, Bool, List, [], ◌∷◌, ◌++◌}
 use Rattle.std.specs.Ordering.{is_lt}
-use Rattle.semantics.specs.Groups.{Key, key_order}
+use Rattle.semantics.specs.Groups.{Key}
 use Rattle.semantics.specs.Values.{Datum}
-use Rattle.group_states.specs.States.{EntryForm, entries_of, entry_of}
+use Rattle.group_states.specs.States.{EntryForm, entry_of}
 use Rattle.group_states.specs.declared.entry.GroupEntry.{GroupEntry}
 use Rattle.sort_keys.specs.Codes.{value_code, values_code}
 use Rattle.sort_keys.specs.SortKeys.{SortParts, key_parts, parts_of, parts_order}
@@ -15,7 +14,6 @@ use Rattle.tables_groups.specs.declared.packed_key.PackedKey.{PackedKey}
 use Rattle.tables_groups.specs.Inside.Entries.{entry_at}
 use Rattle.tables_groups.specs.Inside.Group.{GroupState}
 use Rattle.tables_groups.specs.Inside.Keys.{key_in}
-use Rattle.tables_groups.specs.Inside.Table.{entries_by_key}
 
 -- whether the key of one thing is before that of another one
 abbrev pub is_before : {T : Type 0} → Keyed T → Keyed T → Bool
@@ -40,10 +38,3 @@ keyed_value k = (key_parts k.key, datum_of k.thing)
 -- that of a value
 abbrev pub keyed_datum : Datum → SortParts × Datum
 keyed_datum d = (parts_of (value_code d), d)
-
--- groups are those of entries, in the order of their keys
-pub record AreEntriesOf (entries : List (PackedKey × GroupState)) (groups : List GroupEntry) : Type 0 where
-  pub sorted : List (PackedKey × GroupState)
-  pub permutation : IsPermutation entries sorted
-  pub ascending : IsSortedBy (λ a b. is_lt (key_order (key_in a.0) (key_in b.0))) sorted
-  pub groups_are : entries_of groups ≡ map entry_at (entries_by_key sorted)

@@ -1,9 +1,11 @@
 //! Tables as lists of groups.
 ghost use Rattle.std.specs.Prelude.{◌≡◌, ◌++◌, IfOk, OnOk, map};
+ghost use Rattle.group_states.specs.States.{entries_of};
 ghost use Rattle.sort_keys.specs.SortKeys.{key_parts, parts_of};
-ghost use Rattle.tables_groups.specs.Inside.Keyed.{AreEntriesOf, keyed_at, keyed_entry, sort_code};
+ghost use Rattle.tables_groups.specs.Inside.Entries.{table_entries};
+ghost use Rattle.tables_groups.specs.Inside.Keyed.{keyed_at, keyed_entry, sort_code};
 ghost use Rattle.tables_groups.specs.Inside.Keys.{key_in};
-ghost use Rattle.tables_groups.specs.Inside.Shards.{all_entries, entries_in};
+ghost use Rattle.tables_groups.specs.Inside.Shards.{AreApart, all_entries, contents_of_shards, entries_in};
 
 use crate::accumulators::Accumulators;
 use crate::keyed::{Keyed, sort_keyed, things_of};
@@ -19,7 +21,9 @@ pub(crate) fn entries_of(
     count: usize,
     shards: Vec<Shard>,
 ) -> Result<Vec<GroupEntry>, AllocError>
-    ensures { IfOk result (λ entries. AreEntriesOf (all_entries shards.items) entries.items) }
+    requires { AreApart shards.items }
+    ensures { IfOk result (λ entries.
+        entries_of entries.items ≡ table_entries (contents_of_shards shards.items)) }
 {
     let keyed = keyed_entries(alloc, count, shards)?;
     things_of(alloc, sort_keyed(keyed))
@@ -78,16 +82,16 @@ fn keyed_entry(
     let (members, states) = group.into_states(alloc)?;
     Ok(Keyed {
         key: sort_key,
-        thing: GroupEntry { key, members, states },
+        thing: GroupEntry {
+            key,
+            members,
+            states,
+        },
     })
 }
 
 /// The sort key of a key's code with a 0 behind it, so that no code is the beginning of another one.
-fn sort_key_of(
-    alloc: Global,
-    code: &mut Vec<u8>,
-    key: &PackedKey,
-) -> Result<SortKey, AllocError>
+fn sort_key_of(alloc: Global, code: &mut Vec<u8>, key: &PackedKey) -> Result<SortKey, AllocError>
     ensures { IfOk result (λ sort_key. key_parts sort_key ≡ parts_of (sort_code (key_in key.now))) }
 {
     code.clear();
