@@ -1,5 +1,5 @@
 -- Tables of grouping sets, rolled out of one another.
-use Rattle.std.proofs.Common.{◌≡◌, ◌≢◌, ◌==◌, ◌<◌, ◌≤◌, ◌-◌, ◌^◌, ℕ, zero, suc, IfOk, IfSome, Result, Ok, Err, Option, Some, map, take, Bool, true, false, ◌||◌, not, List, [], ◌∷◌, ◌++◌, All, Vec, Global, length, slice_index_or, get_or, nat_eq, nat_lt, refl, sym, ap, subst, ◌∙◌, arith, append_assoc}
+use Rattle.std.proofs.Common.{◌≡◌, ◌≢◌, ◌==◌, ◌<◌, ◌≤◌, ◌-◌, ◌^◌, ℕ, zero, suc, IfOk, IfSome, Result, Ok, Err, Option, Some, take, Bool, true, false, ◌||◌, not, List, [], ◌∷◌, ◌++◌, All, Vec, Global, length, slice_index_or, get_or, nat_eq, nat_lt, refl, sym, ap, subst, ◌∙◌, arith, append_assoc}
 use Rattle.std.proofs.lemmas.Bool.Decides.{Decides-eqb}
 use Rattle.std.proofs.lemmas.List.Elements.{All-cons, All-from_recursion, All-map, recursion_from_All}
 use Rattle.std.proofs.lemmas.Slice.Eq.{slice_eq-Decides}

@@ -15,7 +15,6 @@ use Rattle.query_resolve.specs.Functions.{indexed_functions}
 use Rattle.tables_groups.specs.Inside.Entries.{IsTypedEntry, table_entries}
 use Rattle.tables_groups.specs.Inside.Table.{IsCounted}
 use Rattle.tables.specs.declared.contents.PartialContents.{PartialContents}
-use Rattle.tables.specs.Notes.{Noted}
 use Rattle.tables.specs.Partials.{HaveOneShape}
 use Rattle.tables.specs.States.{PartialState}
 

@@ -74,8 +74,8 @@ pub trait Executor {
     /// Makes the tables of some rolls, each out of one of these tables, and leaves no table in a roll where there was no
     /// memory for it.
     ///
-    /// These are tables for these set functions, each of fewer than 2^63 records, and of each roll one of them has the columns
-    /// of its set.
+    /// These are tables for these set functions, each of fewer than 2^63 records, and of each roll one of them has the
+    /// columns of its set.
     ///
     /// Example: out of the table of the set of two columns come, by two rolls, those of the one and of the other.
     fn roll_each(&self, tables: &[SetTable], rolls: &mut [Roll], functions: &[FilteredFunction])

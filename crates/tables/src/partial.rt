@@ -545,8 +545,8 @@ impl Partial {
     /// each key of the records that WHERE keeps and no other, its values in the order of the set. They come in no order
     /// that is said, and this result stays as it is.
     ///
-    /// This is a result that the plan can finish, as each one of the plan over some pieces is (`sound_law`). The set has places
-    /// of columns, from 0, all among those of `Plan::grouping`.
+    /// This is a result that the plan can finish, as each one of the plan over some pieces is (`sound_law`). The set has
+    /// places of columns, from 0, all among those of `Plan::grouping`.
     ///
     /// Example: `partial.roll(&plan, &[])?` is one group with the empty key, whose members are all records that WHERE
     /// keeps, also where there are none.
@@ -569,8 +569,8 @@ impl Partial {
         table.finish()
     }
 
-    /// What the result contains. Of a result over the pieces of an input, its refused lines are numbered in the input, and its
-    /// groups are those of the good records that WHERE keeps, under all grouping columns.
+    /// What the result contains. Of a result over the pieces of an input, its refused lines are numbered in the input, and
+    /// its groups are those of the good records that WHERE keeps, under all grouping columns.
     ///
     /// Example: of a result over 3 good lines of one key there are 3 lines, no refused line, and one group with 3 members.
     ///
@@ -601,8 +601,9 @@ impl Partial {
         })
     }
 
-    /// The result of a plan with so many lines, fewer than 2^63, and these refused ones, by their numbers from 1, as one piece of
-    /// index 0, but without any group yet. It is laid out so that the executor is fast in merging other results into it.
+    /// The result of a plan with so many lines, fewer than 2^63, and these refused ones, by their numbers from 1, as one
+    /// piece of index 0, but without any group yet. It is laid out so that the executor is fast in merging other results
+    /// into it.
     ///
     /// There are at most as many refused lines as lines, and none has a number above theirs.
     ///
@@ -647,15 +648,15 @@ impl Partial {
         })
     }
 
-    /// The result with one more group, whose key is above those of all its groups. The lines and the refused ones stay as they
-    /// are.
+    /// The result with one more group, whose key is above those of all its groups. The lines and the refused ones stay as
+    /// they are.
     ///
     /// The states are of the forms that the set functions of the result keep, over at most as many members as the group has:
     /// counts and sums of no more, and different values ascending. With the group's members the groups have at most as many
     /// together as there are lines.
     ///
-    /// Example: groups that `into_contents` gives can be put, one after the other, to a result of the same plan and as many lines
-    /// that has none; it stands for the same input then (`contents_law`).
+    /// Example: groups that `into_contents` gives can be put, one after the other, to a result of the same plan and as many
+    /// lines that has none; it stands for the same input then (`contents_law`).
     ///
     /// # Errors
     ///

@@ -39,7 +39,8 @@ pub struct Roll {
 impl Roll {
     /// Makes the table, out of the one with the fewest groups that has the columns of the set.
     ///
-    /// These are tables for these set functions, each of fewer than 2^63 records, and one of them has the columns of the set.
+    /// These are tables for these set functions, each of fewer than 2^63 records, and one of them has the columns of the
+    /// set.
     ///
     /// Example: an executor that works alone calls it for one roll after the other.
     pub fn roll(&mut self, tables: &[SetTable], functions: &[FilteredFunction])
@@ -53,7 +54,8 @@ impl Roll {
 
 /// The groups of each grouping set of a list, in the order of the list; those of one set in no order that is said.
 ///
-/// They are made of the table of all grouping columns, among which the columns of each set are, and finished by the executor.
+/// They are made of the table of all grouping columns, among which the columns of each set are, and finished by the
+/// executor.
 pub(crate) fn groups_of_sets<E: Executor>(
     alloc: Global,
     executor: &E,

@@ -1,4 +1,4 @@
-use Rattle.std.proofs.Common.{All, ◌≡◌, ◌+◌, ◌++◌, ◌∷◌, [], drop, take, slice_index_or, length, map, ◌-◌, ◌≢◌, List, Vec, Global, ℕ, sym, ap, subst, ◌∙◌, arith}
+use Rattle.std.proofs.Common.{All, ◌≡◌, ◌+◌, ◌++◌, ◌∷◌, [], drop, take, slice_index_or, length, ◌-◌, ◌≢◌, List, Vec, Global, ℕ, sym, ap, subst, ◌∙◌, arith}
 use Rattle.std.proofs.lemmas.List.{drop_more, length-drop, map-append, take_all, take_more}
 use Rattle.std.proofs.lemmas.List.Elements.{All-head, All-tail}
 use Rattle.tables_groups.specs.declared.group.Group.{Group}
