@@ -8,9 +8,9 @@ ghost use Rattle.part_text.specs.Texts.{value_text};
 
 use part_text::text_law;
 
-/// A law: where the next lines are read as the values of groups of a shape, and so many groups are read, it is these, and the
-/// lines behind them are left. Nothing is said of whether they are read: a check that fails is an `Err`. The texts of values are
-/// lines that are read as these values.
+/// A law: where the next lines are read as the values of groups of a shape, and so many groups are read, it is these, and
+/// the lines behind them are left. Nothing is said of whether they are read: a check that fails is an `Err`. The texts of
+/// values are lines that are read as these values.
 pub fn groups_law()
     ensures again { (shape : ShapeForm) (gs : List EntryForm) → HaveShape shape gs
         → AreReadAgain shape gs }
