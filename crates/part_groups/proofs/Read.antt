@@ -1,12 +1,12 @@
 -- The lines of groups that fit are read, to the last one.
-use Rattle.std.proofs.Common.{◌≡◌, ◌≢◌, ◌+◌, ◌*◌, ◌^◌, ◌<◌, ◌≤◌, ℕ, zero, suc, ℤ, pos, negsuc, Bool, true, false, cond, not, List, [], ◌∷◌, ◌++◌, length, map, take, drop, Option, Some, None, Result, Ok, Err, refl, sym, ap, subst, ◌∙◌, append_assoc, length-append, arith}
+use Rattle.std.proofs.Common.{◌≡◌, ◌≢◌, ◌+◌, ◌*◌, ◌^◌, ◌<◌, ◌≤◌, ℕ, suc, ℤ, pos, negsuc, Bool, true, cond, not, List, [], ◌∷◌, ◌++◌, length, map, take, drop, Option, Some, None, Result, Ok, Err, refl, sym, ap, subst, ◌∙◌, append_assoc, length-append, arith}
 use Rattle.std.proofs.lemmas.Bool.{le-leb, le-ltb, lt-ltb}
 use Rattle.std.proofs.lemmas.Int.{ints}
 use Rattle.std.proofs.lemmas.List.Concat.{flat_map-cons}
 use Rattle.std.specs.Int.{w64}
 use Rattle.std.specs.List.{AllByRecursion, AllZip}
 use Rattle.std.specs.Ordering.{is_lt}
-use Rattle.std.specs.Prelude.{◌-ℤ◌, ◌≤ℤ◌, ⊤, FitsSigned, IfSome, IsTrue, flat_map, nat_le, nat_lt, unsigned_abs}
+use Rattle.std.specs.Prelude.{◌-ℤ◌, ◌≤ℤ◌, ⊤, FitsSigned, IsTrue, flat_map, nat_le, unsigned_abs}
 use Rattle.std.specs.declared.cmp.Ordering.{Ordering}
 use Rattle.semantics.specs.Groups.{Key, key_order}
 use Rattle.semantics.specs.Records.{Holds, is_int64, max_line_len}
@@ -21,9 +21,9 @@ use Rattle.part_groups.specs.declared.fault.GroupFaultKind.{GroupFaultKind}
 use Rattle.part_groups.specs.declared.fault.GroupFaultKind.TheVariants.{OutOfOrder, OutOfRange, UnexpectedValue}
 use Rattle.part_groups.specs.declared.shape.StateKind.{StateKind}
 use Rattle.part_groups.specs.declared.shape.StateKind.TheVariants as kind
-use Rattle.part_groups.specs.Groups.{ShapeForm, count_values, group_values, groups_values, state_values}
-use Rattle.part_groups.specs.Known.{AreDifferentOf, AreGroupsFor, AreRead, AreStatesFor, HaveValues, IsWritable, IsAbove, IsAscending, IsDifferentOf, IsGroupFor, IsKeyFor, IsStateFor, IsSumOf}
-use Rattle.part_groups.specs.Reading.{◌>>=◌, Before, Stream, after, ascending_at, behind, collected_at, count_at, count_within, counted_at, different_at, each_at, extreme_at, fault_at, first_line, group_at, groups_at, held_at, in_turn, is_above, is_held, is_sum_of, key_at, next_key_at, number_at, passed, reading_of, state_at, summed_at, value_at, value_or_fault}
+use Rattle.part_groups.specs.Groups.{ShapeForm, count_values, group_values, state_values}
+use Rattle.part_groups.specs.Known.{AreDifferentOf, AreGroupsFor, AreRead, AreStatesFor, HaveValues, IsWritable, IsAbove, IsDifferentOf, IsGroupFor, IsKeyFor, IsStateFor, IsSumOf}
+use Rattle.part_groups.specs.Reading.{◌>>=◌, Before, Stream, after, ascending_at, behind, collected_at, count_at, count_within, counted_at, different_at, each_at, extreme_at, fault_at, first_line, group_at, held_at, in_turn, is_above, is_held, is_sum_of, key_at, next_key_at, number_at, passed, reading_of, state_at, summed_at, value_at, value_or_fault}
 use Rattle.part_groups.proofs.Again.{itself, itself-all}
 use Rattle.part_groups.proofs.Facts.{AscendFrom}
 use Rattle.part_groups.proofs.ReadAs.{lines-first}
