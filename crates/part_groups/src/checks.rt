@@ -24,8 +24,8 @@ pub(crate) fn fault<S: Source>(source: &S, kind: GroupFaultKind) -> GroupFault
 
 /// Nothing where a test is passed, and else a fault of this kind at the line that was read last.
 ///
-/// Example: where the second line was read last, `check(&source, 3 <= 2, GroupFaultKind::OutOfRange)` answers the fault `OutOfRange`
-/// at the line 2.
+/// Example: where the second line was read last, `check(&source, 3 <= 2, GroupFaultKind::OutOfRange)` answers the fault
+/// `OutOfRange` at the line 2.
 ///
 /// # Errors
 ///

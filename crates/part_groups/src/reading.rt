@@ -62,12 +62,14 @@ fn next_key<S: Source>(
 
 /// The next group, of this shape, its key above the last one, where there is one, and of no more members than are left.
 ///
-/// Example: of the lines `"Harbour"`, `2`, `7` and `2` it is, for one column of texts and one sum, the group of `Harbour` with 2
-/// members and `State::Sum(7, 2)`. Behind the key `Quay` its key is out of order, and where 1 member is left `2` is out of range.
+/// Example: of the lines `"Harbour"`, `2`, `7` and `2` it is, for one column of texts and one sum, the group of `Harbour`
+/// with 2 members and `State::Sum(7, 2)`. Behind the key `Quay` its key is out of order, and where 1 member is left `2`
+/// is out of range.
 ///
 /// # Errors
 ///
-/// The first fault of the lines, a read that failed, or want of memory. A fault that is met at a value names that value's line.
+/// The first fault of the lines, a read that failed, or want of memory. A fault that is met at a value names that value's
+/// line.
 #[tactic(auto, unfolding(crate::specs::Reading::group_at))]
 pub fn next_group<S: Source>(
     alloc: Global,

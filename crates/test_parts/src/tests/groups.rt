@@ -297,8 +297,8 @@ fn check_shop_faults(rt: &impl Abort, alloc: Global) -> Result<(), GroupRefusal>
     Ok(())
 }
 
-/// Checks the faults of a group of no column, and that there are no two of them: the key of the second one, which no line stands
-/// for, is not above that of the first one.
+/// Checks the faults of a group of no column, and that there are no two of them: the key of the second one, which no line
+/// stands for, is not above that of the first one.
 fn check_whole_faults(rt: &impl Abort, alloc: Global) -> Result<(), GroupRefusal> {
     let shape = whole_shape(alloc)?;
     for (lines, line, kind) in WHOLE_FAULTS {
