@@ -1,2 +1,0 @@
-pub mod Again
-pub mod Loop

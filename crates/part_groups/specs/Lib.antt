@@ -1,2 +1,3 @@
 pub mod Groups
 pub mod Reading
+pub mod Known

@@ -1,131 +1,235 @@
 -- Reading groups from the front, line by line, as far as the first fault.
-use Rattle.std.specs.Prelude.{◌≡◌, ◌+◌, ◌^◌, ⊤, ℕ, zero, suc, ℤ, pos, negsuc, List, [], ◌∷◌, Option, Some, None, Result, Ok, Err, drop, nat_lt, if◌then◌else◌}
-use Rattle.semantics.specs.Values.{Datum, whole}
+use Rattle.std.specs.Ordering.{is_lt}
+use Rattle.std.specs.Prelude.{◌≡◌, ◌+◌, ◌-◌, ◌*◌, ◌^◌, ⊤, ℕ, zero, suc, ℤ, pos, negsuc, Bool, true, false, not, nat_le, nat_lt, List, [], ◌∷◌, ◌++◌, length, Option, Some, None, Result, Ok, Err, unsigned_abs, if◌then◌else◌}
+use Rattle.std.specs.declared.cmp.Ordering.{Ordering}
+use Rattle.semantics.specs.Groups.{Key, key_order}
+use Rattle.semantics.specs.Lines.{line_feed}
+use Rattle.semantics.specs.Records.{is_int64}
+use Rattle.semantics.specs.Values.{Datum, boolean, whole, text, null, is_null, value_order}
+use Rattle.semantics.specs.declared.kind.Kind.{Kind}
+use Rattle.semantics.specs.declared.kind.Kind.TheVariants as type
+use Rattle.group_states.specs.States.{EntryForm, FunctionState, rows, counted, summed, extreme, collected}
 use Rattle.part_text.specs.Reading.{line_value}
-use Rattle.part_groups.specs.declared.fault.PartFault.{PartFault}
-use Rattle.part_groups.specs.declared.fault.PartFault.TheVariants.{NotAValue, UnexpectedValue}
-use Rattle.part_groups.specs.declared.fault.PartRefusal.{PartRefusal}
-use Rattle.part_groups.specs.declared.fault.PartRefusal.TheVariants as refusal
-use Rattle.part_groups.specs.declared.group.StateKind.{StateKind}
-use Rattle.part_groups.specs.declared.group.StateKind.TheVariants as kind
-use Rattle.part_groups.specs.Groups.{FunctionState, rows, counted, summed, extreme, collected, GroupEntry}
+use Rattle.part_text.specs.Texts.{text_of}
+use Rattle.part_groups.specs.declared.fault.GroupFault.{GroupFault}
+use Rattle.part_groups.specs.declared.fault.GroupFaultKind.{GroupFaultKind}
+use Rattle.part_groups.specs.declared.fault.GroupFaultKind.TheVariants.{NotAValue, UnexpectedValue, OutOfOrder, OutOfRange, EndsTooEarly}
+use Rattle.part_groups.specs.declared.fault.GroupRefusal.{GroupRefusal}
+use Rattle.part_groups.specs.declared.fault.GroupRefusal.TheVariants as refusal
+use Rattle.part_groups.specs.declared.shape.StateKind.{StateKind}
+use Rattle.part_groups.specs.declared.shape.StateKind.TheVariants as kind
+use Rattle.part_groups.specs.Groups.{ShapeForm}
 
 -- One reading and then another one, which a fault of the first ends.
 infixl 10 ◌>>=◌
-abbrev pub ◌>>=◌ : {A B : Type 0} → Result A PartFault → (A → Result B PartFault) → Result B PartFault
+abbrev pub ◌>>=◌ : {A B : Type 0} → Result A GroupFault → (A → Result B GroupFault) → Result B GroupFault
 (Ok x) >>= f = f x
 (Err fault) >>= f = Err fault
 
--- Where a call is refused, the reading has that fault; without memory nothing is known of it.
-abbrev pub Refuses : {Y : Type 0} → PartRefusal → Result Y PartFault → Type 0
-Refuses refusal.OutOfMemory read = ⊤
+-- Where a call is refused, the reading has that fault; where a read failed, or without memory, nothing
+-- is known of it.
+abbrev pub Refuses : {Y : Type 0} → GroupRefusal → Result Y GroupFault → Type 0
 Refuses (refusal.Fault fault) read = read ≡ Err fault
+Refuses refusal.Reading read = ⊤
+Refuses refusal.OutOfMemory read = ⊤
 
 -- What a call answers, seen by `view`, is what the reading gives.
-abbrev pub Gives : {X Y : Type 0} → (X → Y) → Result X PartRefusal → Result Y PartFault → Type 0
+abbrev pub Gives : {X Y : Type 0} → (X → Y) → Result X GroupRefusal → Result Y GroupFault → Type 0
 Gives view (Ok x) read = read ≡ Ok (view x)
 Gives view (Err why) read = Refuses why read
 
 -- ---- the lines
 
--- The lines of an input, how many of them are read, and the fault behind the last.
+-- The lines that are to come, how many were read before, and the bytes of the lines of this part so
+-- far, each with its line feed.
 pub record Stream : Type 0 where
-  pub lines : List (List ℕ)
+  pub left : List (List ℕ)
   pub place : ℕ
-  pub end : PartFault
+  pub text : List ℕ
 
--- A stream with so many more lines read.
-abbrev pub moved : ℕ → Stream → Stream
-moved n s = record { lines = s.lines; place = s.place + n; end = s.end }
+-- The fault of this kind at the line that was read last. Lines have numbers from 1 on.
+abbrev pub fault_at : GroupFaultKind → Stream → GroupFault
+fault_at kind s = record { line = s.place; kind = kind }
 
--- A value that was found, or that a line has none.
-abbrev pub value_or_fault : Option Datum → Result Datum PartFault
-value_or_fault None = Err NotAValue
-value_or_fault (Some d) = Ok d
+-- The first of these lines, behind so many that were read, and with this text before it. Behind the
+-- last one it ends too early.
+abbrev pub first_line : List (List ℕ) → ℕ → List ℕ → Result (List ℕ × Stream) GroupFault
+first_line [] place before = Err (record { line = place + 1; kind = EndsTooEarly })
+first_line (line ∷ more) place before = Ok (line, record { left = more; place = place + 1; text = before ++ line ++ line_feed ∷ [] })
 
--- The value of the first of these lines, or the fault behind them where there is none.
-abbrev pub first_value : List (List ℕ) → PartFault → Result Datum PartFault
-first_value [] end = Err end
-first_value (line ∷ more) end = value_or_fault (line_value line)
+-- The next line.
+abbrev pub line_at : Stream → Result (List ℕ × Stream) GroupFault
+line_at s = first_line s.left s.place s.text
 
--- The next value, and the stream behind its line.
-unfoldable pub value_at : Stream → Result (Datum × Stream) PartFault
+-- The stream behind the lines of these values, where these lines are left.
+abbrev pub behind : List Datum → List (List ℕ) → Stream → Stream
+behind ds rest s = record { left = rest; place = s.place + length ds; text = s.text ++ text_of ds }
+
+-- ---- values
+
+-- Nothing where a test is passed, and else a fault of this kind at the line that was read last.
+abbrev pub passed : Bool → GroupFaultKind → Stream → Result (Unit {0}) GroupFault
+passed test kind s = if test then Ok tt else Err (fault_at kind s)
+
+-- The value of a line, if it has one.
+abbrev pub value_or_fault : Option Datum → Stream → Result Datum GroupFault
+value_or_fault None s = Err (fault_at NotAValue s)
+value_or_fault (Some d) s = Ok d
+
+-- The next value.
+unfoldable pub value_at : Stream → Result (Datum × Stream) GroupFault
 value_at s = do
-  d ← first_value (drop s.place s.lines) s.end
-  Ok (d, moved 1 s)
+  line ← line_at s
+  d ← value_or_fault (line_value line.0) line.1
+  Ok (d, line.1)
 
--- ---- numbers
+-- Whether a column of this type holds a value: NULL, or a value of the type, a whole number in 64 bits.
+abbrev pub is_held : Kind → Datum → Bool
+is_held k null = true
+is_held type.Int (whole n) = is_int64 n
+is_held type.Text (text s) = true
+is_held type.Bool (boolean b) = true
+is_held k d = false
 
-abbrev pub number_in : Datum → Result ℤ PartFault
-number_in (whole n) = Ok n
-number_in d = Err UnexpectedValue
+-- A value that a column of this type holds.
+unfoldable pub held_at : Kind → Stream → Result (Datum × Stream) GroupFault
+held_at k s = do
+  d ← value_at s
+  held ← passed (is_held k d.0) UnexpectedValue d.1
+  Ok d
+
+-- The number that a value is.
+abbrev pub number_in : Datum → Stream → Result ℤ GroupFault
+number_in (whole n) s = Ok n
+number_in d s = Err (fault_at UnexpectedValue s)
 
 -- A whole number.
-unfoldable pub number_at : Stream → Result (ℤ × Stream) PartFault
+unfoldable pub number_at : Stream → Result (ℤ × Stream) GroupFault
 number_at s = do
   d ← value_at s
-  n ← number_in d.0
+  n ← number_in d.0 d.1
   Ok (n, d.1)
 
-abbrev pub count_in : ℤ → Result ℕ PartFault
-count_in (pos n) = if nat_lt n (2 ^ 64) then Ok n else Err UnexpectedValue
-count_in (negsuc n) = Err UnexpectedValue
+-- The count that a number is: from 0 on, and of 64 bits.
+abbrev pub count_in : ℤ → Stream → Result ℕ GroupFault
+count_in (pos n) s = if nat_lt n (2 ^ 64) then Ok n else Err (fault_at UnexpectedValue s)
+count_in (negsuc n) s = Err (fault_at UnexpectedValue s)
 
 -- A count of 64 bits.
-unfoldable pub count_at : Stream → Result (ℕ × Stream) PartFault
+unfoldable pub count_at : Stream → Result (ℕ × Stream) GroupFault
 count_at s = do
   z ← number_at s
-  n ← count_in z.0
+  n ← count_in z.0 z.1
   Ok (n, z.1)
+
+-- A count that is not above `most`.
+unfoldable pub count_within : ℕ → Stream → Result (ℕ × Stream) GroupFault
+count_within most s = do
+  n ← count_at s
+  within ← passed (nat_le n.0 most) OutOfRange n.1
+  Ok n
+
+-- ---- one behind the other
+
+-- A thing for each of these, one behind the other.
+unfoldable pub each_at : {A B : Type 0} → (A → Stream → Result (B × Stream) GroupFault) → List A → Stream → Result (List B × Stream) GroupFault
+each_at one [] s = Ok ([], s)
+each_at one (a ∷ more) s = do
+  x ← one a s
+  xs ← each_at one more x.1
+  Ok (x.0 ∷ xs.0, xs.1)
+
+-- So many things, one behind the other, each read with what is known before it; `next` says what is
+-- known behind it.
+unfoldable pub in_turn : {A C : Type 0} → (C → Stream → Result (A × Stream) GroupFault) → (C → A → C) → ℕ → C → Stream → Result (List A × Stream) GroupFault
+in_turn one next zero known s = Ok ([], s)
+in_turn one next (suc n) known s = do
+  x ← one known s
+  xs ← in_turn one next n (next known x.0) x.1
+  Ok (x.0 ∷ xs.0, xs.1)
+
+-- Whether a thing is above the last one, where there is one.
+abbrev pub is_above : {X : Type 0} → (X → X → Ordering) → Option X → X → Bool
+is_above order None x = true
+is_above order (Some last) x = is_lt (order last x)
+
+-- ---- states
+
+-- A count of members.
+abbrev pub counted_at : ℕ → Stream → Result (FunctionState × Stream) GroupFault
+counted_at members s = do
+  n ← count_within members s
+  Ok (counted n.0, n.1)
+
+-- Whether so many whole numbers of 64 bits can have this sum.
+abbrev pub is_sum_of : ℕ → ℤ → Bool
+is_sum_of count sum = nat_le (unsigned_abs sum) (count * 2 ^ 63)
+
+-- A sum, and how many numbers were added.
+unfoldable pub summed_at : ℕ → Stream → Result (FunctionState × Stream) GroupFault
+summed_at members s = do
+  z ← number_at s
+  n ← count_within members z.1
+  bounded ← passed (is_sum_of n.0 z.0) OutOfRange n.1
+  Ok (summed z.0 n.0, n.1)
+
+-- The least or the greatest value of a column of this type, or NULL of none.
+abbrev pub extreme_at : Kind → Stream → Result (FunctionState × Stream) GroupFault
+extreme_at k s = do
+  d ← held_at k s
+  Ok (extreme d.0, d.1)
+
+-- One of the different values of a column of this type: it is not NULL, and above the last one.
+unfoldable pub different_at : Kind → Option Datum → Stream → Result (Datum × Stream) GroupFault
+different_at k last s = do
+  d ← held_at k s
+  known ← passed (not (is_null d.0)) UnexpectedValue d.1
+  above ← passed (is_above value_order last d.0) OutOfOrder d.1
+  Ok d
+
+-- So many different values, ascending from above the last one.
+abbrev pub ascending_at : Kind → ℕ → Option Datum → Stream → Result (List Datum × Stream) GroupFault
+ascending_at k n last s = in_turn (different_at k) (λ _ d. Some d) n last s
+
+-- How many different values there are, and these, ascending.
+unfoldable pub collected_at : Kind → ℕ → Stream → Result (FunctionState × Stream) GroupFault
+collected_at k members s = do
+  n ← count_within members s
+  ds ← ascending_at k n.0 None n.1
+  Ok (collected ds.0, ds.1)
+
+-- A state of this kind, of a group of so many members.
+abbrev pub state_at : ℕ → StateKind → Stream → Result (FunctionState × Stream) GroupFault
+state_at members kind.Rows s = Ok (rows, s)
+state_at members kind.Count s = counted_at members s
+state_at members kind.Sum s = summed_at members s
+state_at members (kind.Extreme k) s = extreme_at k s
+state_at members (kind.Distinct k) s = collected_at k members s
 
 -- ---- groups
 
--- So many things, one behind the other.
-unfoldable pub times : {A : Type 0} → (Stream → Result (A × Stream) PartFault) → ℕ → Stream → Result (List A × Stream) PartFault
-times one zero s = Ok ([], s)
-times one (suc n) s = do
-  x ← one s
-  xs ← times one n x.1
-  Ok (x.0 ∷ xs.0, xs.1)
+-- A key: a value for each grouping column, by its type.
+abbrev pub key_at : List Kind → Stream → Result (Key × Stream) GroupFault
+key_at columns s = each_at held_at columns s
 
--- So many values.
-abbrev pub values_at : ℕ → Stream → Result (List Datum × Stream) PartFault
-values_at n s = times value_at n s
-
--- A state of this kind.
-unfoldable pub state_at : StateKind → Stream → Result (FunctionState × Stream) PartFault
-state_at kind.Rows s = Ok (rows, s)
-state_at kind.Count s = do
-  n ← count_at s
-  Ok (counted n.0, n.1)
-state_at kind.Sum s = do
-  z ← number_at s
-  n ← count_at z.1
-  Ok (summed z.0 n.0, n.1)
-state_at kind.Extreme s = do
-  d ← value_at s
-  Ok (extreme d.0, d.1)
-state_at kind.Distinct s = do
-  n ← count_at s
-  ds ← values_at n.0 n.1
-  Ok (collected ds.0, ds.1)
-
--- A state of each of these kinds.
-unfoldable pub states_at : List StateKind → Stream → Result (List FunctionState × Stream) PartFault
-states_at [] s = Ok ([], s)
-states_at (k ∷ ks) s = do
-  x ← state_at k s
-  xs ← states_at ks x.1
-  Ok (x.0 ∷ xs.0, xs.1)
-
--- A group whose key has so many values and whose states are of these kinds.
-unfoldable pub group_at : ℕ → List StateKind → Stream → Result (GroupEntry × Stream) PartFault
-group_at width kinds s = do
-  key ← values_at width s
-  members ← count_at key.1
-  states ← states_at kinds members.1
+-- A group of this shape, its key above the last one, of no more members than are left.
+unfoldable pub group_at : ShapeForm → Option Key → ℕ → Stream → Result (EntryForm × Stream) GroupFault
+group_at shape last left s = do
+  key ← key_at shape.columns s
+  above ← passed (is_above key_order last key.0) OutOfOrder key.1
+  members ← count_within left key.1
+  states ← each_at (state_at members.0) shape.states members.1
   Ok (record { key = key.0; members = members.0; states = states.0 }, states.1)
 
--- So many groups.
-abbrev pub groups_at : ℕ → List StateKind → ℕ → Stream → Result (List GroupEntry × Stream) PartFault
-groups_at width kinds n s = times (group_at width kinds) n s
+-- What is known before a group: the last key, and how many members are left.
+pub record Before : Type 0 where
+  pub last : Option Key
+  pub left : ℕ
+
+-- What is known behind a group.
+abbrev pub after : Before → EntryForm → Before
+after before g = record { last = Some g.key; left = before.left - g.members }
+
+-- So many groups of this shape, keys ascending, of no more members together than are left.
+abbrev pub groups_at : ShapeForm → ℕ → Option Key → ℕ → Stream → Result (List EntryForm × Stream) GroupFault
+groups_at shape n last left s = in_turn (λ before. group_at shape before.last before.left) after n (record { last = last; left = left }) s

@@ -1,44 +1,61 @@
-//! Why a part is not read.
+//! Why groups are not read.
 
 ghost use Rattle.std.specs.Prelude.{◌≡◌};
-ghost use Rattle.part_groups.specs.declared.fault.PartRefusal.TheVariants.{OutOfMemory};
+ghost use Rattle.part_groups.specs.declared.fault.GroupRefusal.TheVariants.{OutOfMemory};
 
 use std::alloc::{AllocError, AllocFailed};
 
-/// What is wrong with a part: the first fault from the front.
+/// What is wrong with a line.
 ///
-/// Example: it is `UnexpectedValue` where a part has a text in the place of a count.
-#[derive(Clone, Copy, PartialEq, Eq)]
-pub enum PartFault {
-    /// A line is the text of no value.
+/// Example: of a text where a count should stand it is `UnexpectedValue`.
+#[derive(Clone, Copy, Debug, PartialEq, Eq)]
+pub enum GroupFaultKind {
+    /// The line is the text of no value.
     NotAValue,
-    /// A value is not of the type that stands in its place.
+    /// The value is not one of the type that stands in its place.
     UnexpectedValue,
-    /// The lines end before the part does.
+    /// A key, or one of some different values, is not above the one before.
+    OutOfOrder,
+    /// A count is above what it may be, or a sum is not one of so many numbers of 64 bits.
+    OutOfRange,
+    /// The lines end before what is read does.
     EndsTooEarly,
 }
 
-/// Why the reading of a part ended.
+/// The first fault of some lines, from the front.
+///
+/// Example: of the lines `"Harbour"`, `-2` and `7`, read as a key of one text and two counts, it is `UnexpectedValue` at the line 2.
+#[derive(Clone, Copy, Debug, PartialEq, Eq)]
+pub struct GroupFault {
+    /// The number of the line, from 1. Where the lines end too early it is the number that the next one would have.
+    pub line: u64,
+    /// What is wrong there.
+    pub kind: GroupFaultKind,
+}
+
+/// Why reading ended.
 #[derive(Drop)]
-pub enum PartRefusal {
-    /// The part has this fault.
-    Fault(PartFault),
-    /// Memory was refused. This says nothing of the part.
+pub enum GroupRefusal {
+    /// The lines have this fault.
+    Fault(GroupFault),
+    /// A read failed. This says nothing of the lines.
+    Reading,
+    /// Memory was refused. This says nothing of the lines.
     OutOfMemory,
 }
 
-impl From<AllocError> for PartRefusal {
+impl From<AllocError> for GroupRefusal {
     ghost from_gives = { λ _ refusal. refusal ≡ OutOfMemory };
 
-    fn from(_error: AllocError) -> PartRefusal {
-        PartRefusal::OutOfMemory
+    fn from(_error: AllocError) -> GroupRefusal {
+        GroupRefusal::OutOfMemory
     }
 }
 
-impl<T: Drop> From<AllocFailed<T>> for PartRefusal {
+impl<T: Drop> From<AllocFailed<T>> for GroupRefusal {
     ghost from_gives = { λ _ refusal. refusal ≡ OutOfMemory };
 
-    fn from(_error: AllocFailed<T>) -> PartRefusal {
-        PartRefusal::OutOfMemory
+    fn from(_error: AllocFailed<T>) -> GroupRefusal {
+        GroupRefusal::OutOfMemory
     }
 }

@@ -1,19 +1,25 @@
 //! What the lines of groups come to, with no work to do.
-ghost use Rattle.std.specs.Prelude.{◌≡◌, ◌++◌, ℕ, List, Ok, drop, length, map};
-ghost use Rattle.std.specs.List.{AllByRecursion};
-ghost use Rattle.part_text.specs.Texts.{value_text};
-ghost use Rattle.part_groups.specs.Groups.{GroupEntry, IsGroup, groups_values};
-ghost use Rattle.part_groups.specs.Reading.{Stream, groups_at, moved};
-ghost use Rattle.part_groups.specs.declared.group.StateKind.{StateKind};
+ghost use Rattle.std.specs.Prelude.{◌≡◌, ℕ, List, Option, Ok};
+ghost use Rattle.semantics.specs.Groups.{Key};
+ghost use Rattle.group_states.specs.States.{EntryForm};
+ghost use Rattle.part_groups.specs.Groups.{HaveShape, ShapeForm};
+ghost use Rattle.part_groups.specs.Known.{AreReadAgain, IsGroupFor};
+ghost use Rattle.part_groups.specs.Reading.{Stream, group_at};
 
 use part_text::text_law;
 
-/// A law: where the next lines are those of groups that fit, these are read, and the stream behind them.
+/// A law: where the next lines are those of groups of a shape, and so many groups are read, it is these, and the stream behind
+/// them. Nothing is said of which faults there are: a check that fails is an `Err`.
 pub fn groups_law()
-    ensures { (width : ℕ) (kinds : List StateKind) (gs : List GroupEntry) (s : Stream)
-        (rest : List (List ℕ)) → AllByRecursion (IsGroup width kinds) gs
-        → drop s.place s.lines ≡ map value_text (groups_values gs) ++ rest
-        → groups_at width kinds (length gs) s ≡ Ok (gs, moved (length (groups_values gs)) s) }
+    ensures again { (shape : ShapeForm) (gs : List EntryForm) → HaveShape shape gs
+        → AreReadAgain shape gs }
 {
     text_law();
 }
+
+/// A law: what is known of a group that was read.
+pub fn known_law()
+    ensures group { (shape : ShapeForm) (last : Option Key) (left : ℕ) (s : Stream)
+        (g : EntryForm) (rest : Stream) → group_at shape last left s ≡ Ok (g, rest)
+        → IsGroupFor shape last left g }
+{}

@@ -2,9 +2,10 @@
 ghost use Rattle.std.specs.Prelude.{◌≡◌, ◌++◌, OnOk};
 ghost use Rattle.values.specs.Datum.{data_of};
 ghost use Rattle.part_text.specs.Texts.{text_of};
-ghost use Rattle.part_groups.specs.Groups.{count_values, entries_of, entry_of, group_values, groups_values, state_of, state_values};
+ghost use Rattle.group_states.specs.States.{entries_of, entry_of, state_of};
+ghost use Rattle.part_groups.specs.Groups.{count_values, group_values, groups_values, state_values};
 
-use crate::group::{Group, State};
+use group_states::{GroupEntry, State};
 use part_text::push_value;
 use std::alloc::{AllocError, Global};
 use values::Value;
@@ -51,7 +52,7 @@ fn push_state(alloc: Global, text: &mut Vec<u8>, state: &State) -> Result<(), Al
 /// # Errors
 ///
 /// `AllocError` where there is no memory for them. A part of them may stand behind the text then.
-pub fn push_group(alloc: Global, text: &mut Vec<u8>, group: &Group) -> Result<(), AllocError>
+pub fn push_group(alloc: Global, text: &mut Vec<u8>, group: &GroupEntry) -> Result<(), AllocError>
     ensures { OnOk result (text.new.items
         ≡ text.old.items ++ text_of (group_values (entry_of group.now))) }
 {
@@ -68,7 +69,11 @@ pub fn push_group(alloc: Global, text: &mut Vec<u8>, group: &Group) -> Result<()
 /// # Errors
 ///
 /// `AllocError` where there is no memory for them. A part of them may stand behind the text then.
-pub fn push_groups(alloc: Global, text: &mut Vec<u8>, groups: &[Group]) -> Result<(), AllocError>
+pub fn push_groups(
+    alloc: Global,
+    text: &mut Vec<u8>,
+    groups: &[GroupEntry],
+) -> Result<(), AllocError>
     ensures { OnOk result (text.new.items
         ≡ text.old.items ++ text_of (groups_values (entries_of groups.now))) }
 {

@@ -1,5 +1,7 @@
 pub mod Numerals
+pub mod Decimals
 pub mod Escapes
 pub mod Spellings
+pub mod Same
 pub mod Rows
 mod Examples

@@ -49,10 +49,13 @@ pub print-one : (t : Token) → print (t ∷ []) ≡ token_text t
 unfolding print_from
 print-one t = append-nil (token_text t)
 
-pub tokens-text : (d : Datum) → IsTrue (is_storable d) → tokens (value_text d) ≡ token_of_datum d ∷ []
+pub tokens-printed : (d : Datum) → IsPrintable (token_of_datum d) → tokens (value_text d) ≡ token_of_datum d ∷ []
 unfolding ArePrintable
-tokens-text d h =
-    ap tokens (sym (print-one (token_of_datum d) ∙ token-text d)) ∙ tokens-print (token_of_datum d ∷ []) (printable d h, tt)
+tokens-printed d h =
+    ap tokens (sym (print-one (token_of_datum d) ∙ token-text d)) ∙ tokens-print (token_of_datum d ∷ []) (h, tt)
+
+pub tokens-text : (d : Datum) → IsTrue (is_storable d) → tokens (value_text d) ≡ token_of_datum d ∷ []
+tokens-text d h = tokens-printed d (printable d h)
 
 token-value : (d : Datum) → IsTrue (is_storable d) → token_value (token_of_datum d) ≡ Some d
 token-value (boolean b) h = refl

@@ -1,6 +1,7 @@
 use Rattle.std.proofs.Common.{◌≡◌, ◌++◌, take}
 use Rattle.part_text.specs.Texts.{text_of}
-use Rattle.part_groups.specs.Groups.{entries_of, groups_values}
+use Rattle.part_groups.specs.Groups.{groups_values}
+use Rattle.group_states.specs.States.{entries_of}
 use Rattle.part_groups.proofs.writing.push_groups.Given as goal
 
 abbrev pub invariant-loop-group : goal.invariant-loop-group

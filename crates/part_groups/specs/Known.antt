@@ -1,0 +1,56 @@
+-- What is known of groups that were read, whoever wrote them.
+use Rattle.std.specs.List.{AllByRecursion, AllZip}
+use Rattle.std.specs.Prelude.{◌≡◌, ◌≢◌, ◌*◌, ◌^◌, ◌≤◌, ⊤, ℕ, ℤ, pos, ◌-ℤ◌, ◌≤ℤ◌, List, [], ◌∷◌, ◌++◌, length, Option, IfOk, IfSome, map}
+use Rattle.std.specs.declared.cmp.Ordering.{Ordering}
+use Rattle.std.specs.declared.cmp.Ordering.TheVariants.{Less}
+use Rattle.semantics.specs.Groups.{Key, key_order}
+use Rattle.semantics.specs.Records.{Holds}
+use Rattle.semantics.specs.Values.{Datum, null, value_order}
+use Rattle.semantics.specs.declared.kind.Kind.{Kind}
+use Rattle.group_states.specs.States.{EntryForm, FunctionState, rows, counted, summed, extreme, collected}
+use Rattle.part_text.specs.Texts.{value_text}
+use Rattle.part_groups.specs.declared.shape.StateKind.{StateKind}
+use Rattle.part_groups.specs.declared.shape.StateKind.TheVariants as kind
+use Rattle.part_groups.specs.Groups.{ShapeForm, HaveShape, groups_values}
+use Rattle.part_groups.specs.Reading.{Stream, behind, groups_at}
+
+-- The sum of so many numbers of 64 bits.
+abbrev pub IsSumOf : ℕ → ℤ → Type 0
+IsSumOf n s = ((pos 0 -ℤ pos (n * 2 ^ 63)) ≤ℤ s) × (s ≤ℤ pos (n * 2 ^ 63))
+
+-- Each thing is before the next one.
+abbrev pub IsAscending : {X : Type 0} → (X → X → Ordering) → List X → Type 0
+IsAscending order [] = ⊤
+IsAscending order (x ∷ []) = ⊤
+IsAscending order (x ∷ y ∷ more) = (order x y ≡ Less) × IsAscending order (y ∷ more)
+
+-- The different values of a column of this type: not NULL, and each before the next one.
+pub record AreDifferentOf (k : Kind) (ds : List Datum) : Type 0 where
+  pub held : AllByRecursion (Holds k) ds
+  pub known : AllByRecursion (λ d. d ≢ null) ds
+  pub ascending : IsAscending value_order ds
+
+-- A state of this kind, of a group of so many members: no more were counted or added, a sum is one of
+-- numbers of 64 bits, and values are of their column.
+abbrev pub IsStateFor : ℕ → StateKind → FunctionState → Type 0
+IsStateFor members kind.Rows rows = ⊤
+IsStateFor members kind.Count (counted n) = n ≤ members
+IsStateFor members kind.Sum (summed s n) = (n ≤ members) × IsSumOf n s
+IsStateFor members (kind.Extreme k) (extreme d) = Holds k d
+IsStateFor members (kind.Distinct k) (collected ds) = (length ds ≤ members) × AreDifferentOf k ds
+IsStateFor members k s = ⊥
+
+-- A group of this shape behind the last one, of no more members than are left.
+pub record IsGroupFor (shape : ShapeForm) (last : Option Key) (left : ℕ) (g : EntryForm) : Type 0 where
+  pub key : AllZip Holds shape.columns g.key
+  pub above : IfSome last (λ k. key_order k g.key ≡ Less)
+  pub members : g.members ≤ left
+  pub states : AllZip (IsStateFor g.members) shape.states g.states
+
+-- Where the next lines are those of these groups, and so many groups are read, it is these, and the
+-- stream behind them.
+abbrev pub AreReadAgain : ShapeForm → List EntryForm → Type 0
+AreReadAgain shape gs =
+    (last : Option Key) (left : ℕ) (s : Stream) (rest : List (List ℕ))
+    → s.left ≡ map value_text (groups_values gs) ++ rest
+    → IfOk (groups_at shape (length gs) last left s) (λ read. read ≡ (gs, behind (groups_values gs) rest s))

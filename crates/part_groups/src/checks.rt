@@ -1,0 +1,83 @@
+//! What is checked of values where they come.
+ghost use Rattle.std.specs.Prelude.{◌≡◌, option_map};
+ghost use Rattle.std.specs.Option.{option_copied};
+ghost use Rattle.semantics.specs.Groups.{key_order};
+ghost use Rattle.semantics.specs.Values.{value_order};
+ghost use Rattle.values.specs.Datum.{data_of, datum_of};
+ghost use Rattle.part_groups.specs.Reading.{Gives, fault_at, is_above, is_held, is_sum_of, passed};
+
+use crate::fault::{GroupFault, GroupFaultKind, GroupRefusal};
+use crate::source::Source;
+use semantics::Kind;
+use values::Value;
+
+/// The fault of this kind at the line that was read last.
+pub(crate) fn fault<S: Source>(source: &S, kind: GroupFaultKind) -> GroupFault
+    ensures { S.known source.now → result ≡ fault_at kind (S.stream source.now) }
+{
+    GroupFault {
+        line: source.line(),
+        kind,
+    }
+}
+
+/// Nothing where a test is passed, and else a fault of this kind at the line that was read last.
+///
+/// Example: where the second line was read last, `check(&source, 3 <= 2, GroupFaultKind::OutOfRange)` answers the fault `OutOfRange`
+/// at the line 2.
+///
+/// # Errors
+///
+/// The fault, where the test is not passed.
+pub fn check<S: Source>(source: &S, test: bool, kind: GroupFaultKind) -> Result<(), GroupRefusal>
+    ensures { S.known source.now → Gives (λ _. tt) result (passed test kind (S.stream source.now)) }
+{
+    if test {
+        Ok(())
+    } else {
+        Err(GroupRefusal::Fault(fault(source, kind)))
+    }
+}
+
+/// Whether a column of this type holds a value: NULL, or a value of the type, a whole number in 64 bits.
+pub(crate) fn is_held(kind: Kind, value: &Value) -> bool
+    ensures { result ≡ is_held kind (datum_of value.now) }
+{
+    match (kind, value) {
+        (_, Value::Null) => true,
+        (Kind::Int, Value::Int(number)) => i64::try_from(*number).is_ok(),
+        (Kind::Text, Value::Text(_)) | (Kind::Bool, Value::Bool(_)) => true,
+        (Kind::Int, Value::Text(_) | Value::Bool(_))
+        | (Kind::Text, Value::Int(_) | Value::Bool(_))
+        | (Kind::Bool, Value::Int(_) | Value::Text(_)) => false,
+    }
+}
+
+/// Whether so many whole numbers of 64 bits can have this sum.
+pub(crate) fn is_sum_of(count: u64, sum: i128) -> bool
+    ensures { result ≡ is_sum_of count sum }
+{
+    sum.unsigned_abs() <= u128::from(count) << 63
+}
+
+/// Whether a value is above the last one, where there is one.
+pub(crate) fn is_value_above(last: Option<&Value>, value: &Value) -> bool
+    ensures { result ≡ is_above value_order (option_map datum_of (option_copied last.entry))
+        (datum_of value.now) }
+{
+    match last {
+        Some(last) => last.order(value).is_lt(),
+        None => true,
+    }
+}
+
+/// Whether a key is above the last one, where there is one.
+pub(crate) fn is_key_above(last: Option<&[Value]>, key: &[Value]) -> bool
+    ensures { result ≡ is_above key_order (option_map data_of (option_copied last.entry))
+        (data_of key.now) }
+{
+    match last {
+        Some(last) => last.cmp(key).is_lt(),
+        None => true,
+    }
+}

@@ -1,0 +1,80 @@
+//! Values of columns and numbers, read one by one.
+ghost use Rattle.std.specs.Prelude.{OnOk};
+ghost use Rattle.values.specs.Datum.{datum_of};
+ghost use Rattle.part_groups.specs.Reading.{Gives, count_at, count_within, held_at, number_at};
+
+use crate::checks::{check, fault, is_held};
+use crate::fault::{GroupFaultKind, GroupRefusal};
+use crate::source::Source;
+use semantics::Kind;
+use values::Value;
+
+/// The next value, which a column of this type holds.
+#[tactic(auto, unfolding(crate::specs::Reading::held_at))]
+pub(crate) fn next_held<S: Source>(source: &mut S, kind: Kind) -> Result<Value, GroupRefusal>
+    ensures known { S.known source.old → OnOk result (S.known source.new) }
+    ensures read { S.known source.old → Gives (λ value. (datum_of value, S.stream source.new))
+        result (held_at kind (S.stream source.old)) }
+{
+    let value = source.next()?;
+    check(
+        source,
+        is_held(kind, &value),
+        GroupFaultKind::UnexpectedValue,
+    )?;
+    Ok(value)
+}
+
+/// The next value, which is a whole number.
+#[tactic(auto, unfolding(crate::specs::Reading::number_at))]
+pub(crate) fn next_number<S: Source>(source: &mut S) -> Result<i128, GroupRefusal>
+    ensures known { S.known source.old → OnOk result (S.known source.new) }
+    ensures read { S.known source.old → Gives (λ n. (n, S.stream source.new)) result
+        (number_at (S.stream source.old)) }
+{
+    match source.next()? {
+        Value::Int(number) => Ok(number),
+        Value::Bool(_) | Value::Text(_) | Value::Null => Err(GroupRefusal::Fault(fault(
+            source,
+            GroupFaultKind::UnexpectedValue,
+        ))),
+    }
+}
+
+/// The next value, which is a count of 64 bits.
+///
+/// Example: of the lines `2` and `-1` the first call answers 2, and the second one that the value is unexpected, at the line 2.
+///
+/// # Errors
+///
+/// The fault of the next line, a read that failed, or want of memory.
+#[tactic(auto, unfolding(crate::specs::Reading::count_at))]
+pub fn next_count<S: Source>(source: &mut S) -> Result<u64, GroupRefusal>
+    ensures known { S.known source.old → OnOk result (S.known source.new) }
+    ensures read { S.known source.old → Gives (λ n. (n, S.stream source.new)) result
+        (count_at (S.stream source.old)) }
+{
+    let number = next_number(source)?;
+    match u64::try_from(number) {
+        Ok(count) => Ok(count),
+        Err(_) => Err(GroupRefusal::Fault(fault(source, GroupFaultKind::UnexpectedValue))),
+    }
+}
+
+/// The next value, which is a count that is not above `most`.
+///
+/// Example: where `most` is 2, the line `3` is out of range.
+///
+/// # Errors
+///
+/// The fault of the next line, a read that failed, or want of memory.
+#[tactic(auto, unfolding(crate::specs::Reading::count_within))]
+pub fn next_count_within<S: Source>(source: &mut S, most: u64) -> Result<u64, GroupRefusal>
+    ensures known { S.known source.old → OnOk result (S.known source.new) }
+    ensures read { S.known source.old → Gives (λ n. (n, S.stream source.new)) result
+        (count_within most (S.stream source.old)) }
+{
+    let count = next_count(source)?;
+    check(source, count <= most, GroupFaultKind::OutOfRange)?;
+    Ok(count)
+}

@@ -1,0 +1,132 @@
+//! States of set functions, read value by value.
+ghost use Rattle.std.specs.Prelude.{OnOk, Option, Some, None, option_map};
+ghost use Rattle.std.specs.Option.{option_copied};
+ghost use Rattle.values.specs.Datum.{data_of, datum_of};
+ghost use Rattle.group_states.specs.States.{state_of, states_of};
+ghost use Rattle.part_groups.specs.Reading.{Gives, ascending_at, collected_at, different_at, each_at, state_at, summed_at};
+
+use crate::checks::{check, is_sum_of, is_value_above};
+use crate::fault::{GroupFaultKind, GroupRefusal};
+use crate::numbers::{next_count_within, next_held, next_number};
+use crate::shape::StateKind;
+use crate::source::Source;
+use group_states::State;
+use semantics::Kind;
+use std::alloc::Global;
+use values::Value;
+
+/// The next sum, and how many numbers were added, of at most so many members.
+#[tactic(auto, unfolding(crate::specs::Reading::summed_at))]
+fn next_sum<S: Source>(source: &mut S, members: u64) -> Result<State, GroupRefusal>
+    ensures known { S.known source.old → OnOk result (S.known source.new) }
+    ensures read { S.known source.old → Gives (λ state. (state_of state, S.stream source.new))
+        result (summed_at members (S.stream source.old)) }
+{
+    let sum = next_number(source)?;
+    let count = next_count_within(source, members)?;
+    check(source, is_sum_of(count, sum), GroupFaultKind::OutOfRange)?;
+    Ok(State::Sum(sum, count))
+}
+
+/// The next one of some different values of a column of this type.
+#[tactic(auto, unfolding(crate::specs::Reading::different_at))]
+fn next_different<S: Source>(
+    source: &mut S,
+    kind: Kind,
+    last: Option<&Value>,
+) -> Result<Value, GroupRefusal>
+    ensures known { S.known source.old → OnOk result (S.known source.new) }
+    ensures read { S.known source.old → Gives (λ value. (datum_of value, S.stream source.new))
+        result (different_at kind (option_map datum_of (option_copied last.entry))
+        (S.stream source.old)) }
+{
+    let value = next_held(source, kind)?;
+    check(
+        source,
+        !matches!(value, Value::Null),
+        GroupFaultKind::UnexpectedValue,
+    )?;
+    check(
+        source,
+        is_value_above(last, &value),
+        GroupFaultKind::OutOfOrder,
+    )?;
+    Ok(value)
+}
+
+/// So many different values of a column of this type, ascending. No memory is taken for a count before its values have come.
+fn next_ascending<S: Source>(
+    alloc: Global,
+    source: &mut S,
+    kind: Kind,
+    count: u64,
+) -> Result<Vec<Value>, GroupRefusal>
+    ensures known { S.known source.old → OnOk result (S.known source.new) }
+    ensures read { S.known source.old
+        → Gives (λ values. (data_of values.items, S.stream source.new)) result
+        (ascending_at kind count None (S.stream source.old)) }
+{
+    let mut values = Vec::new(alloc);
+    for _ in 0..count {
+        let value = next_different(source, kind, values.last())?;
+        values.push(value)?;
+    }
+    Ok(values)
+}
+
+/// How many different values of a column of this type there are, of at most so many members, and these.
+#[tactic(auto, unfolding(crate::specs::Reading::collected_at))]
+fn next_collected<S: Source>(
+    alloc: Global,
+    source: &mut S,
+    kind: Kind,
+    members: u64,
+) -> Result<State, GroupRefusal>
+    ensures known { S.known source.old → OnOk result (S.known source.new) }
+    ensures read { S.known source.old → Gives (λ state. (state_of state, S.stream source.new))
+        result (collected_at kind members (S.stream source.old)) }
+{
+    let count = next_count_within(source, members)?;
+    let values = next_ascending(alloc, source, kind, count)?;
+    Ok(State::Distinct(values))
+}
+
+/// The next state, of this kind, of a group of so many members.
+fn next_state<S: Source>(
+    alloc: Global,
+    source: &mut S,
+    kind: StateKind,
+    members: u64,
+) -> Result<State, GroupRefusal>
+    ensures known { S.known source.old → OnOk result (S.known source.new) }
+    ensures read { S.known source.old → Gives (λ state. (state_of state, S.stream source.new))
+        result (state_at members kind (S.stream source.old)) }
+{
+    match kind {
+        StateKind::Rows => Ok(State::Rows),
+        StateKind::Count => Ok(State::Count(next_count_within(source, members)?)),
+        StateKind::Sum => next_sum(source, members),
+        StateKind::Extreme(kind) => Ok(State::Extreme(next_held(source, kind)?)),
+        StateKind::Distinct(kind) => next_collected(alloc, source, kind, members),
+    }
+}
+
+/// The next states, one of each of these kinds, of a group of so many members.
+pub(crate) fn next_states<S: Source>(
+    alloc: Global,
+    source: &mut S,
+    kinds: &[StateKind],
+    members: u64,
+) -> Result<Vec<State>, GroupRefusal>
+    ensures known { S.known source.old → OnOk result (S.known source.new) }
+    ensures read { S.known source.old
+        → Gives (λ states. (states_of states.items, S.stream source.new)) result
+        (each_at (state_at members) kinds.now (S.stream source.old)) }
+{
+    let mut states = Vec::new(alloc);
+    for kind in kinds {
+        let state = next_state(alloc, source, *kind, members)?;
+        states.push(state)?;
+    }
+    Ok(states)
+}
