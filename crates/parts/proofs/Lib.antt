@@ -1,1 +1,3 @@
 mod Examples
+mod Places
+mod Taking

@@ -1,2 +1,5 @@
 pub mod Contents
 pub mod Parts
+pub mod Faults
+pub mod Reader
+pub mod ReadingParts

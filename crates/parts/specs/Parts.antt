@@ -13,7 +13,8 @@ use Rattle.semantics.specs.declared.kind.Kind.{Kind}
 use Rattle.semantics.specs.declared.kind.Kind.TheVariants as kind
 use Rattle.semantics.specs.declared.line_fault.LineFault.{LineFault}
 use Rattle.part_text.specs.Texts.{line_of, text_of}
-use Rattle.parts.specs.Contents.{ContentsForm, contents_over, groups_values}
+use Rattle.part_groups.specs.Groups.{groups_values}
+use Rattle.parts.specs.Contents.{ContentsForm, contents_over}
 
 -- ---- the first lines
 
