@@ -1,3 +1,4 @@
 mod Examples
+mod Fronts
 mod Places
 mod Taking

@@ -93,6 +93,16 @@ refusal_of_groups (of_groups.Fault fault) = refusal.Fault (record { line = fault
 refusal_of_groups of_groups.Reading = refusal.Reading
 refusal_of_groups of_groups.OutOfMemory = refusal.OutOfMemory
 
+-- the fault of this kind at a line
+abbrev pub fault_at_line : ℕ → PartsFaultKind → PartRefusal
+fault_at_line line kind = refusal.Fault (record { line = line; kind = kind })
+
+-- a refusal at the mark of a part, of which each fault is that it is no part
+abbrev pub refusal_of_mark : GroupRefusal → PartRefusal
+refusal_of_mark (of_groups.Fault fault) = refusal.Fault (record { line = fault.line; kind = kind.NotAPart })
+refusal_of_mark of_groups.Reading = refusal.Reading
+refusal_of_mark of_groups.OutOfMemory = refusal.OutOfMemory
+
 -- ---- what a call says of a reading
 
 -- Where a call is refused, the reading has that fault; where a read failed, or without memory, nothing

@@ -2,4 +2,5 @@ pub mod Contents
 pub mod Parts
 pub mod Faults
 pub mod Reader
+pub mod Texts
 pub mod ReadingParts

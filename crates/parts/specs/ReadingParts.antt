@@ -1,6 +1,7 @@
 -- Reading parts from the front, line by line, as far as the first fault.
-use Rattle.std.specs.Prelude.{◌==◌, ◌-◌, ◌^◌, ◌+◌, ◌&&◌, not, ℕ, zero, suc, nat_lt, nat_le, Bool, true, List, [], ◌∷◌, ◌++◌, codes, length, map, position, option_map, unwrap_or, Option, Some, None, Result, Ok, Err, if◌then◌else◌}
-use Rattle.std.specs.List.{list_all}
+use Rattle.std.specs.Prelude.{◌==◌, ◌-◌, ◌^◌, ◌+◌, ◌&&◌, not, ℕ, zero, suc, nat_eq, nat_lt, nat_le, Bool, true, List, [], ◌∷◌, ◌++◌, codes, length, map, position, option_and_then, option_map, unwrap_or, drop, Option, Some, None, Result, Ok, Err, if◌then◌else◌}
+use Rattle.std.specs.Char.{is_ascii_digit}
+use Rattle.std.specs.List.{list_all, starts_with}
 use Rattle.std.specs.Str.{bytes_eq}
 use Rattle.json.specs.Print.{quoted}
 use Rattle.hex.specs.Hex.{encode_lower}
@@ -67,12 +68,27 @@ text_at s = do
   t ← text_in d.0 d.1
   Ok (t, d.1)
 
--- The text that has to stand here. Of another one the fault shows the line.
-unfoldable pub said_at : List ℕ → (List ℕ → FaultKind) → Stream → Result (Unit {0} × Stream) Fault
-said_at wanted other s = do
+-- Nothing where a text is this one, and else how the line shows it.
+abbrev pub other_text : List ℕ → List ℕ → Option (List ℕ)
+other_text wanted t = if bytes_eq t wanted then None else Some (quoted t)
+
+-- A text, if it is another one than this.
+unfoldable pub other_at : List ℕ → Stream → Result (Option (List ℕ) × Stream) Fault
+other_at wanted s = do
   t ← text_at s
-  same ← passed (bytes_eq t.0 wanted) (other (quoted t.0)) t.1
-  Ok (tt, t.1)
+  Ok (other_text wanted t.0, t.1)
+
+-- Nothing, and else the fault of another text, which shows it.
+abbrev pub none_other : Option (List ℕ) → (List ℕ → FaultKind) → Stream → Result (Unit {0}) Fault
+none_other None kind s = Ok tt
+none_other (Some other) kind s = Err (fault_at (kind other) s)
+
+-- The text that has to stand here.
+unfoldable pub said_at : List ℕ → (List ℕ → FaultKind) → Stream → Result (Unit {0} × Stream) Fault
+said_at wanted kind s = do
+  o ← other_at wanted s
+  same ← none_other o.0 kind o.1
+  Ok (tt, o.1)
 
 -- ---- the mark
 
@@ -82,13 +98,11 @@ mark_front = codes "jlreport part "
 
 -- What is left of a text behind a front, where it has that.
 abbrev pub behind_front : List ℕ → List ℕ → Option (List ℕ)
-behind_front [] t = Some t
-behind_front (b ∷ front) [] = None
-behind_front (b ∷ front) (c ∷ t) = if b == c then behind_front front t else None
+behind_front front t = if starts_with nat_eq t front then Some (drop (length front) t) else None
 
 -- Whether a text is a whole number, of one digit or more.
 abbrev pub is_version : List ℕ → Bool
-is_version t = not (length t == 0) && list_all (λ c. nat_le 48 c && nat_le c 57) t
+is_version t = not (length t == 0) && list_all is_ascii_digit t
 
 -- What is wrong with another text than the mark: it is the mark of another version, or of no part.
 abbrev pub kind_of_version : Option (List ℕ) → FaultKind
@@ -119,9 +133,9 @@ lines_at before s = do
   few ← passed (nat_lt (before + n.0) (2 ^ 63)) too_many_lines n.1
   Ok n
 
--- The place of the column whose bad value a text names.
+-- The place of the column whose name stands behind these words.
 abbrev pub bad_column : List Field → List ℕ → Option ℕ
-bad_column fields t = position (λ name. bytes_eq t (codes "bad value in column " ++ name)) (names_of fields)
+bad_column fields t = option_and_then (λ name. position (bytes_eq name) (names_of fields)) (behind_front (codes "bad value in column ") t)
 
 -- The fault of a line that a text names.
 abbrev pub fault_named : List Field → List ℕ → Option LineFault
@@ -199,12 +213,16 @@ all_groups_at shape good s = do
 
 -- ---- parts
 
--- The first lines of a part: its mark, its columns and its query.
-unfoldable pub header_at : List Field → TreeForm → Stream → Result (Unit {0} × Stream) Fault
-header_at fields q s = do
+-- The first lines of a part: its mark, and the texts of its columns and of its query.
+unfoldable pub header_of : (columns query : List ℕ) → Stream → Result (Unit {0} × Stream) Fault
+header_of columns query s = do
   m ← mark_at s
-  c ← said_at (columns_text fields) other_columns m.1
-  said_at (canonical_text q) other_query c.1
+  c ← said_at columns other_columns m.1
+  said_at query other_query c.1
+
+-- Those of a part under columns and a query.
+abbrev pub header_at : List Field → TreeForm → Stream → Result (Unit {0} × Stream) Fault
+header_at fields q s = header_of (columns_text fields) (canonical_text q) s
 
 -- The contents of a part, which has fewer than 2^63 lines with those before it.
 unfoldable pub contents_at : List Field → TreeForm → ℕ → Stream → Result (ContentsForm × Stream) Fault

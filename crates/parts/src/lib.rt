@@ -5,6 +5,8 @@
 #![tactic(auto)]
 
 mod fault;
+mod header;
 mod reader;
+mod texts;
 
 pub use fault::{PartsFault, PartsFaultKind, PartsRefusal};
