@@ -1,6 +1,6 @@
 -- The groups of a part, and the values that stand for them.
 use Rattle.std.specs.List.{AllByRecursion, AllZip, flat_map}
-use Rattle.std.specs.Prelude.{◌≡◌, ⊤, ℕ, ℤ, pos, List, [], ◌∷◌, ◌++◌, length}
+use Rattle.std.specs.Prelude.{◌≡◌, ⊤, ℕ, pos, List, [], ◌∷◌, ◌++◌, length}
 use Rattle.semantics.specs.Values.{Datum, whole}
 use Rattle.semantics.specs.declared.kind.Kind.{Kind}
 use Rattle.group_states.specs.States.{EntryForm, FunctionState, rows, counted, summed, extreme, collected}

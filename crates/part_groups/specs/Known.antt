@@ -1,6 +1,6 @@
--- What is known of groups that were read, whoever wrote them.
+-- What is known of groups that were read, whoever wrote their lines.
 use Rattle.std.specs.List.{AllByRecursion, AllZip}
-use Rattle.std.specs.Prelude.{◌≡◌, ◌≢◌, ◌*◌, ◌^◌, ◌≤◌, ⊤, ℕ, ℤ, pos, ◌-ℤ◌, ◌≤ℤ◌, List, [], ◌∷◌, ◌++◌, length, Option, IfOk, IfSome, map}
+use Rattle.std.specs.Prelude.{◌≡◌, ◌≢◌, ◌*◌, ◌^◌, ◌≤◌, ⊤, ℕ, ℤ, pos, ◌-ℤ◌, ◌≤ℤ◌, List, [], ◌∷◌, ◌++◌, length, Option, IfOk, IfSome}
 use Rattle.std.specs.declared.cmp.Ordering.{Ordering}
 use Rattle.std.specs.declared.cmp.Ordering.TheVariants.{Less}
 use Rattle.semantics.specs.Groups.{Key, key_order}
@@ -8,11 +8,10 @@ use Rattle.semantics.specs.Records.{Holds}
 use Rattle.semantics.specs.Values.{Datum, null, value_order}
 use Rattle.semantics.specs.declared.kind.Kind.{Kind}
 use Rattle.group_states.specs.States.{EntryForm, FunctionState, rows, counted, summed, extreme, collected}
-use Rattle.part_text.specs.Texts.{value_text}
 use Rattle.part_groups.specs.declared.shape.StateKind.{StateKind}
 use Rattle.part_groups.specs.declared.shape.StateKind.TheVariants as kind
-use Rattle.part_groups.specs.Groups.{ShapeForm, HaveShape, groups_values}
-use Rattle.part_groups.specs.Reading.{Stream, behind, groups_at}
+use Rattle.part_groups.specs.Groups.{ShapeForm, groups_values}
+use Rattle.part_groups.specs.Reading.{Stream, groups_at, reading_of}
 
 -- The sum of so many numbers of 64 bits.
 abbrev pub IsSumOf : ℕ → ℤ → Type 0
@@ -24,7 +23,17 @@ IsAscending order [] = ⊤
 IsAscending order (x ∷ []) = ⊤
 IsAscending order (x ∷ y ∷ more) = (order x y ≡ Less) × IsAscending order (y ∷ more)
 
--- The different values of a column of this type: not NULL, and each before the next one.
+-- A thing is above the last one, where there is one.
+abbrev pub IsAbove : {X : Type 0} → (X → X → Ordering) → Option X → X → Type 0
+IsAbove order last x = IfSome last (λ l. order l x ≡ Less)
+
+-- A value of a column of this type that is not NULL and above the last one.
+pub record IsDifferentOf (k : Kind) (last : Option Datum) (d : Datum) : Type 0 where
+  pub held : Holds k d
+  pub known : d ≢ null
+  pub above : IsAbove value_order last d
+
+-- Different values of a column of this type: not NULL, and each before the next one.
 pub record AreDifferentOf (k : Kind) (ds : List Datum) : Type 0 where
   pub held : AllByRecursion (Holds k) ds
   pub known : AllByRecursion (λ d. d ≢ null) ds
@@ -40,17 +49,29 @@ IsStateFor members (kind.Extreme k) (extreme d) = Holds k d
 IsStateFor members (kind.Distinct k) (collected ds) = (length ds ≤ members) × AreDifferentOf k ds
 IsStateFor members k s = ⊥
 
+-- So are states of these kinds, one of each.
+abbrev pub AreStatesFor : ℕ → List StateKind → List FunctionState → Type 0
+AreStatesFor members kinds states = AllZip (IsStateFor members) kinds states
+
+-- A key that has for each of these columns a value that the column holds.
+abbrev pub IsKeyFor : List Kind → Key → Type 0
+IsKeyFor columns key = AllZip Holds columns key
+
 -- A group of this shape behind the last one, of no more members than are left.
 pub record IsGroupFor (shape : ShapeForm) (last : Option Key) (left : ℕ) (g : EntryForm) : Type 0 where
-  pub key : AllZip Holds shape.columns g.key
-  pub above : IfSome last (λ k. key_order k g.key ≡ Less)
+  pub key : IsKeyFor shape.columns g.key
+  pub above : IsAbove key_order last g.key
   pub members : g.members ≤ left
-  pub states : AllZip (IsStateFor g.members) shape.states g.states
+  pub states : AreStatesFor g.members shape.states g.states
 
--- Where the next lines are those of these groups, and so many groups are read, it is these, and the
--- stream behind them.
+-- Lines are read as these values, one of each, those that are read at all.
+abbrev pub AreReadAs : List (List ℕ) → List Datum → Type 0
+AreReadAs ls ds = AllZip (λ line d. IfSome (reading_of line) (λ e. e ≡ d)) ls ds
+
+-- Where the next lines are read as those of these groups, and so many groups are read, it is these, and
+-- the lines behind them are left.
 abbrev pub AreReadAgain : ShapeForm → List EntryForm → Type 0
 AreReadAgain shape gs =
-    (last : Option Key) (left : ℕ) (s : Stream) (rest : List (List ℕ))
-    → s.left ≡ map value_text (groups_values gs) ++ rest
-    → IfOk (groups_at shape (length gs) last left s) (λ read. read ≡ (gs, behind (groups_values gs) rest s))
+    (last : Option Key) (left : ℕ) (s : Stream) (ls rest : List (List ℕ)) → AreReadAs ls (groups_values gs)
+    → s.left ≡ ls ++ rest
+    → IfOk (groups_at shape (length gs) last left s) (λ read. (read.0 ≡ gs) × (read.1.left ≡ rest))

@@ -1,16 +1,18 @@
 -- Reading groups from the front, line by line, as far as the first fault.
+use Rattle.std.specs.Borrow.{Bor}
+use Rattle.std.specs.Option.{option_copied}
 use Rattle.std.specs.Ordering.{is_lt}
-use Rattle.std.specs.Prelude.{◌≡◌, ◌+◌, ◌-◌, ◌*◌, ◌^◌, ⊤, ℕ, zero, suc, ℤ, pos, negsuc, Bool, true, false, not, nat_le, nat_lt, List, [], ◌∷◌, ◌++◌, length, Option, Some, None, Result, Ok, Err, unsigned_abs, if◌then◌else◌}
+use Rattle.std.specs.Prelude.{◌≡◌, ◌+◌, ◌-◌, ◌*◌, ◌^◌, ⊤, ℕ, zero, suc, ℤ, pos, negsuc, Bool, true, false, not, nat_le, nat_lt, List, [], ◌∷◌, length, Option, Some, None, option_map, Result, Ok, Err, unsigned_abs, if◌then◌else◌}
 use Rattle.std.specs.declared.cmp.Ordering.{Ordering}
 use Rattle.semantics.specs.Groups.{Key, key_order}
-use Rattle.semantics.specs.Lines.{line_feed}
-use Rattle.semantics.specs.Records.{is_int64}
+use Rattle.semantics.specs.Records.{is_int64, max_line_len}
 use Rattle.semantics.specs.Values.{Datum, boolean, whole, text, null, is_null, value_order}
 use Rattle.semantics.specs.declared.kind.Kind.{Kind}
 use Rattle.semantics.specs.declared.kind.Kind.TheVariants as type
+use Rattle.values.specs.Datum.{data_of, datum_of}
+use Rattle.values.specs.declared.value.Value.{Value}
 use Rattle.group_states.specs.States.{EntryForm, FunctionState, rows, counted, summed, extreme, collected}
 use Rattle.part_text.specs.Reading.{line_value}
-use Rattle.part_text.specs.Texts.{text_of}
 use Rattle.part_groups.specs.declared.fault.GroupFault.{GroupFault}
 use Rattle.part_groups.specs.declared.fault.GroupFaultKind.{GroupFaultKind}
 use Rattle.part_groups.specs.declared.fault.GroupFaultKind.TheVariants.{NotAValue, UnexpectedValue, OutOfOrder, OutOfRange, EndsTooEarly}
@@ -40,32 +42,29 @@ Gives view (Err why) read = Refuses why read
 
 -- ---- the lines
 
--- The lines that are to come, how many were read before, and the bytes of the lines of this part so
--- far, each with its line feed.
+-- The lines that are to come, and how many were read before.
 pub record Stream : Type 0 where
   pub left : List (List ℕ)
   pub place : ℕ
-  pub text : List ℕ
 
 -- The fault of this kind at the line that was read last. Lines have numbers from 1 on.
 abbrev pub fault_at : GroupFaultKind → Stream → GroupFault
 fault_at kind s = record { line = s.place; kind = kind }
 
--- The first of these lines, behind so many that were read, and with this text before it. Behind the
--- last one it ends too early.
-abbrev pub first_line : List (List ℕ) → ℕ → List ℕ → Result (List ℕ × Stream) GroupFault
-first_line [] place before = Err (record { line = place + 1; kind = EndsTooEarly })
-first_line (line ∷ more) place before = Ok (line, record { left = more; place = place + 1; text = before ++ line ++ line_feed ∷ [] })
+-- The first of these lines, behind so many that were read. Behind the last one it ends too early.
+abbrev pub first_line : List (List ℕ) → ℕ → Result (List ℕ × Stream) GroupFault
+first_line [] place = Err (record { line = place + 1; kind = EndsTooEarly })
+first_line (line ∷ more) place = Ok (line, record { left = more; place = place + 1 })
 
 -- The next line.
 abbrev pub line_at : Stream → Result (List ℕ × Stream) GroupFault
-line_at s = first_line s.left s.place s.text
-
--- The stream behind the lines of these values, where these lines are left.
-abbrev pub behind : List Datum → List (List ℕ) → Stream → Stream
-behind ds rest s = record { left = rest; place = s.place + length ds; text = s.text ++ text_of ds }
+line_at s = first_line s.left s.place
 
 -- ---- values
+
+-- The value of a line, if it has one and is not longer than a line of an input may be.
+abbrev pub reading_of : List ℕ → Option Datum
+reading_of line = if nat_lt max_line_len (length line) then None else line_value line
 
 -- Nothing where a test is passed, and else a fault of this kind at the line that was read last.
 abbrev pub passed : Bool → GroupFaultKind → Stream → Result (Unit {0}) GroupFault
@@ -80,7 +79,7 @@ value_or_fault (Some d) s = Ok d
 unfoldable pub value_at : Stream → Result (Datum × Stream) GroupFault
 value_at s = do
   line ← line_at s
-  d ← value_or_fault (line_value line.0) line.1
+  d ← value_or_fault (reading_of line.0) line.1
   Ok (d, line.1)
 
 -- Whether a column of this type holds a value: NULL, or a value of the type, a whole number in 64 bits.
@@ -153,6 +152,13 @@ abbrev pub is_above : {X : Type 0} → (X → X → Ordering) → Option X → X
 is_above order None x = true
 is_above order (Some last) x = is_lt (order last x)
 
+-- The last value and the last key, as a call has them.
+abbrev pub last_value : Option (Bor Value) → Option Datum
+last_value last = option_map datum_of (option_copied last)
+
+abbrev pub last_key : Option (Bor (List Value)) → Option Key
+last_key last = option_map data_of (option_copied last)
+
 -- ---- states
 
 -- A count of members.
@@ -212,11 +218,17 @@ state_at members (kind.Distinct k) s = collected_at k members s
 abbrev pub key_at : List Kind → Stream → Result (Key × Stream) GroupFault
 key_at columns s = each_at held_at columns s
 
+-- A key that is above the last one.
+unfoldable pub next_key_at : List Kind → Option Key → Stream → Result (Key × Stream) GroupFault
+next_key_at columns last s = do
+  key ← key_at columns s
+  above ← passed (is_above key_order last key.0) OutOfOrder key.1
+  Ok key
+
 -- A group of this shape, its key above the last one, of no more members than are left.
 unfoldable pub group_at : ShapeForm → Option Key → ℕ → Stream → Result (EntryForm × Stream) GroupFault
 group_at shape last left s = do
-  key ← key_at shape.columns s
-  above ← passed (is_above key_order last key.0) OutOfOrder key.1
+  key ← next_key_at shape.columns last s
   members ← count_within left key.1
   states ← each_at (state_at members.0) shape.states members.1
   Ok (record { key = key.0; members = members.0; states = states.0 }, states.1)

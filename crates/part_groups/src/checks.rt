@@ -1,10 +1,11 @@
 //! What is checked of values where they come.
-ghost use Rattle.std.specs.Prelude.{◌≡◌, option_map};
-ghost use Rattle.std.specs.Option.{option_copied};
+ghost use Rattle.std.specs.Prelude.{◌≡◌, ◌≢◌, IsTrue, OnOk, not};
 ghost use Rattle.semantics.specs.Groups.{key_order};
-ghost use Rattle.semantics.specs.Values.{value_order};
+ghost use Rattle.semantics.specs.Records.{Holds};
+ghost use Rattle.semantics.specs.Values.{is_null, null, value_order};
 ghost use Rattle.values.specs.Datum.{data_of, datum_of};
-ghost use Rattle.part_groups.specs.Reading.{Gives, fault_at, is_above, is_held, is_sum_of, passed};
+ghost use Rattle.part_groups.specs.Known.{IsAbove, IsSumOf};
+ghost use Rattle.part_groups.specs.Reading.{Gives, fault_at, is_above, is_held, is_sum_of, last_key, last_value, passed};
 
 use crate::fault::{GroupFault, GroupFaultKind, GroupRefusal};
 use crate::source::Source;
@@ -30,7 +31,9 @@ pub(crate) fn fault<S: Source>(source: &S, kind: GroupFaultKind) -> GroupFault
 ///
 /// The fault, where the test is not passed.
 pub fn check<S: Source>(source: &S, test: bool, kind: GroupFaultKind) -> Result<(), GroupRefusal>
-    ensures { S.known source.now → Gives (λ _. tt) result (passed test kind (S.stream source.now)) }
+    ensures test { OnOk result (IsTrue test) }
+    ensures read { S.known source.now
+        → Gives (λ _. tt) result (passed test kind (S.stream source.now)) }
 {
     if test {
         Ok(())
@@ -41,7 +44,8 @@ pub fn check<S: Source>(source: &S, test: bool, kind: GroupFaultKind) -> Result<
 
 /// Whether a column of this type holds a value: NULL, or a value of the type, a whole number in 64 bits.
 pub(crate) fn is_held(kind: Kind, value: &Value) -> bool
-    ensures { result ≡ is_held kind (datum_of value.now) }
+    ensures test { result ≡ is_held kind (datum_of value.now) }
+    ensures held { IsTrue result → Holds kind (datum_of value.now) }
 {
     match (kind, value) {
         (_, Value::Null) => true,
@@ -53,17 +57,31 @@ pub(crate) fn is_held(kind: Kind, value: &Value) -> bool
     }
 }
 
+/// Whether a value is not NULL.
+pub(crate) fn is_known(value: &Value) -> bool
+    ensures test { result ≡ not (is_null (datum_of value.now)) }
+    ensures known { IsTrue result → datum_of value.now ≢ null }
+{
+    match value {
+        Value::Bool(_) | Value::Int(_) | Value::Text(_) => true,
+        Value::Null => false,
+    }
+}
+
 /// Whether so many whole numbers of 64 bits can have this sum.
 pub(crate) fn is_sum_of(count: u64, sum: i128) -> bool
-    ensures { result ≡ is_sum_of count sum }
+    ensures test { result ≡ is_sum_of count sum }
+    ensures sum { IsTrue result → IsSumOf count sum }
 {
     sum.unsigned_abs() <= u128::from(count) << 63
 }
 
 /// Whether a value is above the last one, where there is one.
 pub(crate) fn is_value_above(last: Option<&Value>, value: &Value) -> bool
-    ensures { result ≡ is_above value_order (option_map datum_of (option_copied last.entry))
+    ensures test { result ≡ is_above value_order (last_value last.entry)
         (datum_of value.now) }
+    ensures above { IsTrue result
+        → IsAbove value_order (last_value last.entry) (datum_of value.now) }
 {
     match last {
         Some(last) => last.order(value).is_lt(),
@@ -73,8 +91,10 @@ pub(crate) fn is_value_above(last: Option<&Value>, value: &Value) -> bool
 
 /// Whether a key is above the last one, where there is one.
 pub(crate) fn is_key_above(last: Option<&[Value]>, key: &[Value]) -> bool
-    ensures { result ≡ is_above key_order (option_map data_of (option_copied last.entry))
+    ensures test { result ≡ is_above key_order (last_key last.entry)
         (data_of key.now) }
+    ensures above { IsTrue result
+        → IsAbove key_order (last_key last.entry) (data_of key.now) }
 {
     match last {
         Some(last) => last.cmp(key).is_lt(),

@@ -17,7 +17,7 @@ mod writing;
 
 pub use checks::check;
 pub use fault::{GroupFault, GroupFaultKind, GroupRefusal};
-pub use laws::{groups_law, known_law};
+pub use laws::groups_law;
 pub use numbers::{next_count, next_count_within};
 pub use reading::next_group;
 pub use shape::{GroupShape, StateKind};

@@ -1,5 +1,6 @@
 //! Values of columns and numbers, read one by one.
-ghost use Rattle.std.specs.Prelude.{OnOk};
+ghost use Rattle.std.specs.Prelude.{◌≤◌, IfOk, OnOk};
+ghost use Rattle.semantics.specs.Records.{Holds};
 ghost use Rattle.values.specs.Datum.{datum_of};
 ghost use Rattle.part_groups.specs.Reading.{Gives, count_at, count_within, held_at, number_at};
 
@@ -15,6 +16,7 @@ pub(crate) fn next_held<S: Source>(source: &mut S, kind: Kind) -> Result<Value, 
     ensures known { S.known source.old → OnOk result (S.known source.new) }
     ensures read { S.known source.old → Gives (λ value. (datum_of value, S.stream source.new))
         result (held_at kind (S.stream source.old)) }
+    ensures held { IfOk result (λ value. Holds kind (datum_of value)) }
 {
     let value = source.next()?;
     check(
@@ -73,6 +75,7 @@ pub fn next_count_within<S: Source>(source: &mut S, most: u64) -> Result<u64, Gr
     ensures known { S.known source.old → OnOk result (S.known source.new) }
     ensures read { S.known source.old → Gives (λ n. (n, S.stream source.new)) result
         (count_within most (S.stream source.old)) }
+    ensures within { IfOk result (λ n. n ≤ most) }
 {
     let count = next_count(source)?;
     check(source, count <= most, GroupFaultKind::OutOfRange)?;

@@ -1,10 +1,11 @@
 //! Groups, read value by value.
-ghost use Rattle.std.specs.Prelude.{OnOk, option_map};
-ghost use Rattle.std.specs.Option.{option_copied};
+ghost use Rattle.std.specs.Prelude.{IfOk, OnOk};
+ghost use Rattle.semantics.specs.Groups.{key_order};
 ghost use Rattle.values.specs.Datum.{data_of};
 ghost use Rattle.group_states.specs.States.{entry_of};
+ghost use Rattle.part_groups.specs.Known.{IsAbove, IsGroupFor, IsKeyFor};
 ghost use Rattle.part_groups.specs.Groups.{shape_of};
-ghost use Rattle.part_groups.specs.Reading.{Gives, group_at, key_at};
+ghost use Rattle.part_groups.specs.Reading.{Gives, group_at, key_at, last_key, next_key_at};
 
 use crate::checks::{check, is_key_above};
 use crate::fault::{GroupFaultKind, GroupRefusal};
@@ -17,8 +18,8 @@ use semantics::Kind;
 use std::alloc::Global;
 use values::Value;
 
-/// The next key: a value for each of these columns.
-fn next_key<S: Source>(
+/// The values of the next key, one for each of these columns.
+fn next_values<S: Source>(
     alloc: Global,
     source: &mut S,
     columns: &[Kind],
@@ -27,6 +28,7 @@ fn next_key<S: Source>(
     ensures read { S.known source.old
         → Gives (λ values. (data_of values.items, S.stream source.new)) result
         (key_at columns.now (S.stream source.old)) }
+    ensures held { IfOk result (λ values. IsKeyFor columns.now (data_of values.items)) }
 {
     let mut values = Vec::new(alloc);
     for kind in columns {
@@ -34,6 +36,29 @@ fn next_key<S: Source>(
         values.push(value)?;
     }
     Ok(values)
+}
+
+/// The next key: a value for each of these columns, above the last key, where there is one.
+#[tactic(auto, unfolding(crate::specs::Reading::next_key_at))]
+fn next_key<S: Source>(
+    alloc: Global,
+    source: &mut S,
+    columns: &[Kind],
+    last: Option<&[Value]>,
+) -> Result<Vec<Value>, GroupRefusal>
+    ensures known { S.known source.old → OnOk result (S.known source.new) }
+    ensures read { S.known source.old
+        → Gives (λ key. (data_of key.items, S.stream source.new)) result
+        (next_key_at columns.now (last_key last.entry)
+        (S.stream source.old)) }
+    ensures held { IfOk result (λ key. IsKeyFor columns.now (data_of key.items)) }
+    ensures above { IfOk result (λ key. IsAbove key_order
+        (last_key last.entry) (data_of key.items)) }
+{
+    let key = next_values(alloc, source, columns)?;
+    let above = is_key_above(last, key.as_slice());
+    check(source, above, GroupFaultKind::OutOfOrder)?;
+    Ok(key)
 }
 
 /// The next group, of this shape, its key above the last one, where there is one, and of no more members than are left.
@@ -54,15 +79,12 @@ pub fn next_group<S: Source>(
 ) -> Result<GroupEntry, GroupRefusal>
     ensures known { S.known source.old → OnOk result (S.known source.new) }
     ensures read { S.known source.old → Gives (λ group. (entry_of group, S.stream source.new))
-        result (group_at (shape_of shape.now) (option_map data_of (option_copied last.entry)) left
+        result (group_at (shape_of shape.now) (last_key last.entry) left
         (S.stream source.old)) }
+    ensures fits { IfOk result
+        (λ group. IsGroupFor (shape_of shape.now) (last_key last.entry) left (entry_of group)) }
 {
-    let key = next_key(alloc, source, shape.columns.as_slice())?;
-    check(
-        source,
-        is_key_above(last, key.as_slice()),
-        GroupFaultKind::OutOfOrder,
-    )?;
+    let key = next_key(alloc, source, shape.columns.as_slice(), last)?;
     let members = next_count_within(source, left)?;
     let states = next_states(alloc, source, shape.states.as_slice(), members)?;
     Ok(GroupEntry {

@@ -1,11 +1,11 @@
 //! States of set functions, read value by value.
-ghost use Rattle.std.specs.Prelude.{OnOk, Option, Some, None, option_map};
-ghost use Rattle.std.specs.Option.{option_copied};
+ghost use Rattle.std.specs.Prelude.{◌≡◌, IfOk, OnOk, None, vec_len};
 ghost use Rattle.values.specs.Datum.{data_of, datum_of};
 ghost use Rattle.group_states.specs.States.{state_of, states_of};
-ghost use Rattle.part_groups.specs.Reading.{Gives, ascending_at, collected_at, different_at, each_at, state_at, summed_at};
+ghost use Rattle.part_groups.specs.Known.{AreDifferentOf, AreStatesFor, IsDifferentOf, IsStateFor};
+ghost use Rattle.part_groups.specs.Reading.{Gives, ascending_at, collected_at, different_at, each_at, last_value, state_at, summed_at};
 
-use crate::checks::{check, is_sum_of, is_value_above};
+use crate::checks::{check, is_known, is_sum_of, is_value_above};
 use crate::fault::{GroupFaultKind, GroupRefusal};
 use crate::numbers::{next_count_within, next_held, next_number};
 use crate::shape::StateKind;
@@ -21,6 +21,7 @@ fn next_sum<S: Source>(source: &mut S, members: u64) -> Result<State, GroupRefus
     ensures known { S.known source.old → OnOk result (S.known source.new) }
     ensures read { S.known source.old → Gives (λ state. (state_of state, S.stream source.new))
         result (summed_at members (S.stream source.old)) }
+    ensures state { IfOk result (λ state. IsStateFor members StateKind.Sum (state_of state)) }
 {
     let sum = next_number(source)?;
     let count = next_count_within(source, members)?;
@@ -37,15 +38,13 @@ fn next_different<S: Source>(
 ) -> Result<Value, GroupRefusal>
     ensures known { S.known source.old → OnOk result (S.known source.new) }
     ensures read { S.known source.old → Gives (λ value. (datum_of value, S.stream source.new))
-        result (different_at kind (option_map datum_of (option_copied last.entry))
+        result (different_at kind (last_value last.entry)
         (S.stream source.old)) }
+    ensures value { IfOk result
+        (λ value. IsDifferentOf kind (last_value last.entry) (datum_of value)) }
 {
     let value = next_held(source, kind)?;
-    check(
-        source,
-        !matches!(value, Value::Null),
-        GroupFaultKind::UnexpectedValue,
-    )?;
+    check(source, is_known(&value), GroupFaultKind::UnexpectedValue)?;
     check(
         source,
         is_value_above(last, &value),
@@ -65,6 +64,8 @@ fn next_ascending<S: Source>(
     ensures read { S.known source.old
         → Gives (λ values. (data_of values.items, S.stream source.new)) result
         (ascending_at kind count None (S.stream source.old)) }
+    ensures count { IfOk result (λ values. vec_len values ≡ count) }
+    ensures values { IfOk result (λ values. AreDifferentOf kind (data_of values.items)) }
 {
     let mut values = Vec::new(alloc);
     for _ in 0..count {
@@ -85,6 +86,8 @@ fn next_collected<S: Source>(
     ensures known { S.known source.old → OnOk result (S.known source.new) }
     ensures read { S.known source.old → Gives (λ state. (state_of state, S.stream source.new))
         result (collected_at kind members (S.stream source.old)) }
+    ensures state { IfOk result
+        (λ state. IsStateFor members (StateKind.Distinct kind) (state_of state)) }
 {
     let count = next_count_within(source, members)?;
     let values = next_ascending(alloc, source, kind, count)?;
@@ -101,6 +104,7 @@ fn next_state<S: Source>(
     ensures known { S.known source.old → OnOk result (S.known source.new) }
     ensures read { S.known source.old → Gives (λ state. (state_of state, S.stream source.new))
         result (state_at members kind (S.stream source.old)) }
+    ensures state { IfOk result (λ state. IsStateFor members kind (state_of state)) }
 {
     match kind {
         StateKind::Rows => Ok(State::Rows),
@@ -122,6 +126,8 @@ pub(crate) fn next_states<S: Source>(
     ensures read { S.known source.old
         → Gives (λ states. (states_of states.items, S.stream source.new)) result
         (each_at (state_at members) kinds.now (S.stream source.old)) }
+    ensures states { IfOk result
+        (λ states. AreStatesFor members kinds.now (states_of states.items)) }
 {
     let mut states = Vec::new(alloc);
     for kind in kinds {

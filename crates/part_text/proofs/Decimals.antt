@@ -1,5 +1,5 @@
 -- The digits of whole numbers of any size: the definition has 64 digits at most, so that of a longer number the last 64 are written.
-use Rattle.std.proofs.Common.{◌≡◌, ℕ, ℤ, pos, negsuc, zero, suc, ◌+◌, ◌*◌, ◌/◌, ◌%◌, ◌^◌, ◌<◌, ◌≤◌, ◌==◌, true, false, cond, List, [], ◌∷◌, length, drop, decimal, refl, sym, ap, subst, ◌∙◌, arith, inl, inr}
+use Rattle.std.proofs.Common.{◌≡◌, ℕ, ℤ, pos, negsuc, zero, suc, ◌+◌, ◌/◌, ◌%◌, ◌^◌, ◌<◌, ◌≤◌, ◌==◌, true, false, cond, List, [], ◌∷◌, length, drop, decimal, sym, ap, subst, ◌∙◌, arith, inl, inr}
 use Rattle.std.proofs.Math.Nat.{pow-suc}
 use Rattle.std.proofs.lemmas.Bool.{cases_lt, lt-ltb, ltb-true, ne_eqb}
 use Rattle.std.proofs.lemmas.Fmt.{decimal_is_IsNumeral_wide, length-decimal-le_wide}
@@ -7,9 +7,10 @@ use Rattle.std.proofs.lemmas.Str.{digit_value_digit}
 use Rattle.std.proofs.lemmas.Str.Parse.{digit_from_value}
 use Rattle.std.specs.Char.{digit_value}
 use Rattle.std.specs.Fmt.{digit_glyph, digits, digits_onto, signed_decimal}
-use Rattle.std.specs.Prelude.{IsTrue, nat_lt, slice_index}
+use Rattle.std.specs.Prelude.{IsTrue, slice_index}
 use Rattle.std.specs.Str.Parse.{AllDigits, IsNumeral, digits_value}
 use Rattle.part_text.specs.Texts.{fits_128_bits}
+use Rattle.part_text.proofs.Numerals.{HasNoControl, digits-no_control}
 
 -- ---- so many digits at most
 
@@ -65,6 +66,10 @@ first-bounds (d ∷ ds) h = let k = digit_from_value d h.1.0 in (omega (arith, k
 pub signed-bounds : (n : ℤ) → (45 ≤ slice_index (signed_decimal n) 0) × (slice_index (signed_decimal n) 0 ≤ 57)
 signed-bounds (pos n) = first-bounds (decimal n) (decimal-numeral n)
 signed-bounds (negsuc n) = (omega arith, omega arith)
+
+pub signed-no_control : (n : ℤ) → HasNoControl (signed_decimal n)
+signed-no_control (pos n) = digits-no_control (decimal n) (decimal-numeral n).1
+signed-no_control (negsuc n) = (omega arith, digits-no_control (decimal (suc n)) (decimal-numeral (suc n)).1)
 
 -- ---- a decimal of 128 bits is that of one number only
 

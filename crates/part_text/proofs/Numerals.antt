@@ -97,13 +97,9 @@ number-signed (negsuc n) h =
 abbrev pub HasNoControl : List ℕ → Type 0
 HasNoControl s = AllByRecursion (λ b. 32 ≤ b) s
 
-digits-no_control : (ds : List ℕ) → AllDigits 10 ds → HasNoControl ds
+pub digits-no_control : (ds : List ℕ) → AllDigits 10 ds → HasNoControl ds
 digits-no_control [] h = tt
 digits-no_control (d ∷ ds) h = (omega (arith, digit_from_value d h.0), digits-no_control ds h.1)
-
-pub signed-no_control : (n : ℤ) → IsTrue (fits_128_bits n) → HasNoControl (signed_decimal n)
-signed-no_control (pos n) h = digits-no_control (decimal n) (decimal-read n (omega (arith, ltb-true n (2 ^ 127) h))).0.1
-signed-no_control (negsuc n) h = (omega arith, digits-no_control (decimal (suc n)) (decimal-read (suc n) (omega (arith, ltb-true n (2 ^ 127) h))).0.1)
 
 pub signed-IsUtf8 : (n : ℤ) → IsTrue (fits_128_bits n) → IsUtf8 (signed_decimal n)
 signed-IsUtf8 (pos n) h = IsUtf8-from_ascii (decimal n) (IsAscii-decimal_wide n (omega (arith, ltb-true n (2 ^ 127) h)))

@@ -3,20 +3,21 @@ use Rattle.std.proofs.Common.{◌≡◌, ◌<◌, ℕ, ◌==◌, cond, List, [],
 use Rattle.std.proofs.lemmas.Bool.{ne_eqb}
 use Rattle.std.proofs.lemmas.List.Concat.{flat_map-cons}
 use Rattle.std.proofs.lemmas.List.Splits.{length-slice_split}
-use Rattle.std.specs.List.{AllByRecursion, onto_first, slice_split}
-use Rattle.std.specs.Prelude.{IsTrue, true, false}
+use Rattle.std.specs.List.{onto_first, slice_split}
+use Rattle.std.specs.Prelude.{true, false}
 use Rattle.semantics.specs.Lines.{line_feed, lines, without_empty_last}
 use Rattle.semantics.specs.Values.{Datum, boolean, whole, text, null}
-use Rattle.part_text.specs.Texts.{is_storable, line_of, text_of, value_text}
-use Rattle.part_text.proofs.Numerals.{HasNoControl, signed-no_control}
+use Rattle.part_text.specs.Texts.{line_of, text_of, value_text}
+use Rattle.part_text.proofs.Decimals.{signed-no_control}
+use Rattle.part_text.proofs.Numerals.{HasNoControl}
 use Rattle.part_text.proofs.Escapes.{quoted-no_control}
 
-pub text-no_control : (d : Datum) → IsTrue (is_storable d) → HasNoControl (value_text d)
-text-no_control (boolean true) h = (omega arith, (omega arith, (omega arith, (omega arith, tt))))
-text-no_control (boolean false) h = (omega arith, (omega arith, (omega arith, (omega arith, (omega arith, tt)))))
-text-no_control (whole n) h = signed-no_control n h
-text-no_control (text s) h = quoted-no_control s
-text-no_control null h = (omega arith, (omega arith, (omega arith, (omega arith, tt))))
+pub text-no_control : (d : Datum) → HasNoControl (value_text d)
+text-no_control (boolean true) = (omega arith, (omega arith, (omega arith, (omega arith, tt))))
+text-no_control (boolean false) = (omega arith, (omega arith, (omega arith, (omega arith, (omega arith, tt)))))
+text-no_control (whole n) = signed-no_control n
+text-no_control (text s) = quoted-no_control s
+text-no_control null = (omega arith, (omega arith, (omega arith, (omega arith, tt))))
 
 -- ---- one line in front of others
 
@@ -40,9 +41,9 @@ lines-line xs rest h =
 
 -- ---- all lines
 
-pub lines-text_of : (values : List Datum) → AllByRecursion (λ d. IsTrue (is_storable d)) values → lines (text_of values) ≡ map value_text values
-lines-text_of [] h = refl
-lines-text_of (d ∷ values) h =
+pub lines-text_of : (values : List Datum) → lines (text_of values) ≡ map value_text values
+lines-text_of [] = refl
+lines-text_of (d ∷ values) =
     ap lines (flat_map-cons line_of d values ∙ append_assoc (value_text d) (line_feed ∷ []) (text_of values))
-    ∙ lines-line (value_text d) (text_of values) (text-no_control d h.0)
-    ∙ ap (λ ls. value_text d ∷ ls) (lines-text_of values h.1)
+    ∙ lines-line (value_text d) (text_of values) (text-no_control d)
+    ∙ ap (λ ls. value_text d ∷ ls) (lines-text_of values)

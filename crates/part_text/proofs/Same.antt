@@ -1,7 +1,7 @@
 -- Of the text of a value no other value is read, whether or not a program can hold it.
-use Rattle.std.proofs.Common.{◌≡◌, ◌≤◌, ℕ, ℤ, Bool, true, false, cond, ◌&&◌, List, Option, Some, None, option_and_then, bytes_eq, refl, sym, ap, subst, ◌∙◌, arith}
+use Rattle.std.proofs.Common.{◌≡◌, ℤ, Bool, true, false, cond, ◌&&◌, Option, Some, None, option_and_then, bytes_eq, refl, sym, ap, subst, arith}
 use Rattle.std.specs.Fmt.{signed_decimal}
-use Rattle.std.specs.Prelude.{IfSome, IsTrue, slice_index}
+use Rattle.std.specs.Prelude.{IfSome, slice_index}
 use Rattle.json.specs.Lex.{tokens}
 use Rattle.semantics.specs.Values.{Datum, boolean, whole, text, null}
 use Rattle.part_text.specs.Reading.{IsTextOf, if_spelled, line_value, tokens_value}

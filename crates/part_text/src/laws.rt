@@ -14,8 +14,6 @@ pub fn text_law()
     ensures again { (d : Datum) → IsTrue (is_storable d) → line_value (value_text d) ≡ Some d }
     ensures same { (d : Datum) → IfSome (line_value (value_text d)) (λ e. e ≡ d) }
     ensures alone { (line : List ℕ) (d : Datum) → line_value line ≡ Some d → IsTextOf line d }
-    ensures lines { (values : List Datum) → AllByRecursion (λ d. IsTrue (is_storable d)) values
-        → lines (text_of values) ≡ map value_text values }
-    ensures no_control { (d : Datum) → IsTrue (is_storable d)
-        → AllByRecursion (λ b. 32 ≤ b) (value_text d) }
+    ensures lines { (values : List Datum) → lines (text_of values) ≡ map value_text values }
+    ensures no_control { (d : Datum) → AllByRecursion (λ b. 32 ≤ b) (value_text d) }
 {}
