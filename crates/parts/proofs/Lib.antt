@@ -1,4 +1,6 @@
 mod Examples
 mod Fronts
+mod Names
 mod Places
+mod Refusing
 mod Taking

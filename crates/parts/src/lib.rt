@@ -6,7 +6,9 @@
 
 mod fault;
 mod header;
+mod line_faults;
 mod reader;
+mod refused;
 mod texts;
 
 pub use fault::{PartsFault, PartsFaultKind, PartsRefusal};
