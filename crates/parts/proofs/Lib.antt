@@ -4,3 +4,4 @@ mod Names
 mod Places
 mod Refusing
 mod Taking
+mod Joined

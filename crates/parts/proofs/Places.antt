@@ -73,9 +73,9 @@ line-ended round place i h =
       later = omega arith;
       within = omega (arith, below, size);
       is_first = λ rest ends.
-        first-followed (drop place round) rest i is ends
-        ∙ ap (λ n. take n (drop place round) ∷ lines (drop (i + 1) (drop place round) ++ rest)) (let e : i - 0 ≡ place + i - place = omega arith in e)
-        ∙ ap (λ xs. take (place + i - place) (drop place round) ∷ lines (xs ++ rest)) (drop-drop (i + 1) place round ∙ ap (λ n. drop n round) (let e : place + (i + 1) ≡ place + i + 1 = omega arith in e));
+          first-followed (drop place round) rest i is ends
+          ∙ ap (λ n. take n (drop place round) ∷ lines (drop (i + 1) (drop place round) ++ rest)) (let e : i - 0 ≡ place + i - place = omega arith in e)
+          ∙ ap (λ xs. take (place + i - place) (drop place round) ∷ lines (xs ++ rest)) (drop-drop (i + 1) place round ∙ ap (λ n. drop n round) (let e : place + (i + 1) ≡ place + i + 1 = omega arith in e));
     }
 
 pub line-unended : (round : List ℕ) (place : ℕ) → place < length round → IsFirstByte (is_byte line_feed) (take (length round - place) (drop place round)) None
@@ -86,9 +86,9 @@ line-unended round place some h =
       later = omega arith;
       within = omega arith;
       is_first = λ rest ends.
-        last-followed (drop place round) rest (omega (arith, length-drop place round)) is ends
-        ∙ ap (λ xs. xs ∷ lines ([] ++ rest)) (sym (range_to_end place round))
-        ∙ ap (λ xs. slice_range round place (length round) ∷ lines (xs ++ rest)) (sym (drop_all (length round + 1) round (omega arith)));
+          last-followed (drop place round) rest (omega (arith, length-drop place round)) is ends
+          ∙ ap (λ xs. xs ∷ lines ([] ++ rest)) (sym (range_to_end place round))
+          ∙ ap (λ xs. slice_range round place (length round) ∷ lines (xs ++ rest)) (sym (drop_all (length round + 1) round (omega arith)));
     }
 
 -- ---- a round more

@@ -37,8 +37,8 @@ abbrev pub columns_text : List Field → List ℕ
 columns_text fields = separated_texts (codes ",") (map column_text fields)
 
 -- A part begins with the mark, the columns, and the canonical text of the query.
-abbrev pub header_values : List Field → TreeForm → List Datum
-header_values fields q = text mark ∷ text (columns_text fields) ∷ text (canonical_text q) ∷ []
+abbrev pub header_of : (columns query : List ℕ) → List Datum
+header_of columns query = text mark ∷ text columns ∷ text query ∷ []
 
 -- ---- the partial result
 
@@ -46,22 +46,32 @@ header_values fields q = text mark ∷ text (columns_text fields) ∷ text (cano
 abbrev pub number : ℕ → Datum
 number n = whole (pos n)
 
+-- Of a refused line its number and what is wrong with it.
+abbrev pub refused_line_values : List Field → ℕ × LineFault → List Datum
+refused_line_values fields line = number line.0 ∷ text (fault_text fields line.1) ∷ []
+
 -- Of each refused line its number and what is wrong with it.
 abbrev pub refused_values : List Field → List (ℕ × LineFault) → List Datum
-refused_values fields refused = flat_map (λ line. number line.0 ∷ text (fault_text fields line.1) ∷ []) refused
+refused_values fields refused = flat_map (refused_line_values fields) refused
 
--- The number of the lines, the refused ones of them behind their number, and the groups behind theirs.
-abbrev pub contents_values : List Field → ContentsForm → List Datum
-contents_values fields contents =
-    number contents.lines
-    ∷ number (length contents.refused)
-    ∷ refused_values fields contents.refused
-    ++ number (length contents.groups)
-    ∷ groups_values contents.groups
+-- What stands before the groups of a part: behind its first lines the number of all lines, the number of
+-- the refused ones and these, and the number of the groups.
+abbrev pub front_of : (columns query : List ℕ) → List Field → (lines : ℕ) → List (ℕ × LineFault) → (groups : ℕ) → List Datum
+front_of columns query fields lines refused groups =
+    header_of columns query
+    ++ number lines
+    ∷ number (length refused)
+    ∷ refused_values fields refused
+    ++ number groups
+    ∷ []
 
--- The values of a part, but for the last one.
+-- So it is under columns and a query.
+abbrev pub front_values : List Field → TreeForm → (lines : ℕ) → List (ℕ × LineFault) → (groups : ℕ) → List Datum
+front_values fields q lines refused groups = front_of (columns_text fields) (canonical_text q) fields lines refused groups
+
+-- The values of a part with these contents, but for the last one.
 abbrev pub values_with : List Field → TreeForm → ContentsForm → List Datum
-values_with fields q contents = header_values fields q ++ contents_values fields contents
+values_with fields q contents = front_values fields q contents.lines contents.refused (length contents.groups) ++ groups_values contents.groups
 
 -- Those of the part of an input.
 abbrev pub part_values : List Field → TreeForm → List ℕ → List Datum

@@ -1,5 +1,5 @@
 -- Reading parts from the front, line by line, as far as the first fault.
-use Rattle.std.specs.Prelude.{◌==◌, ◌-◌, ◌^◌, ◌+◌, ◌&&◌, not, ℕ, zero, suc, nat_eq, nat_lt, nat_le, Bool, true, List, [], ◌∷◌, ◌++◌, codes, length, map, position, option_and_then, option_map, unwrap_or, drop, Option, Some, None, Result, Ok, Err, if◌then◌else◌}
+use Rattle.std.specs.Prelude.{◌==◌, ◌-◌, ◌^◌, ◌+◌, ◌&&◌, not, ℕ, zero, suc, nat_eq, nat_lt, Bool, true, List, [], ◌∷◌, codes, length, map, position, option_and_then, option_map, unwrap_or, drop, Option, Some, None, Result, Ok, Err, if◌then◌else◌}
 use Rattle.std.specs.Char.{is_ascii_digit}
 use Rattle.std.specs.List.{list_all, starts_with}
 use Rattle.std.specs.Str.{bytes_eq}
@@ -178,26 +178,31 @@ all_refused_at fields lines s = do
 abbrev pub type_at : List Field → ℕ → Kind
 type_at fields place = unwrap_or (kind_at fields place) type.Int
 
--- Which state a set function has: of COUNT(*) without FILTER none, since the number of members says it.
-abbrev pub state_kind_over : List Field → ColumnFunction → StateKind
-state_kind_over fields function.CountRows = kind.Count
-state_kind_over fields (function.Count place) = kind.Count
-state_kind_over fields (function.CountDistinct place) = kind.Distinct (type_at fields place)
-state_kind_over fields (function.Sum place) = kind.Sum
-state_kind_over fields (function.Min place) = kind.Extreme (type_at fields place)
-state_kind_over fields (function.Max place) = kind.Extreme (type_at fields place)
-state_kind_over fields (function.Avg place) = kind.Sum
+-- Which state COUNT(*) has: without FILTER none, since the number of members says it.
+abbrev pub rows_kind : Option ℕ → StateKind
+rows_kind None = kind.Rows
+rows_kind (Some index) = kind.Count
 
+-- Which state a set function has, with the FILTER of this index or with none.
 abbrev pub state_kind_by : List Field → Option ℕ → ColumnFunction → StateKind
-state_kind_by fields None function.CountRows = kind.Rows
-state_kind_by fields filter f = state_kind_over fields f
+state_kind_by fields filter function.CountRows = rows_kind filter
+state_kind_by fields filter (function.Count place) = kind.Count
+state_kind_by fields filter (function.CountDistinct place) = kind.Distinct (type_at fields place)
+state_kind_by fields filter (function.Sum place) = kind.Sum
+state_kind_by fields filter (function.Min place) = kind.Extreme (type_at fields place)
+state_kind_by fields filter (function.Max place) = kind.Extreme (type_at fields place)
+state_kind_by fields filter (function.Avg place) = kind.Sum
 
 abbrev pub state_kind : List Field → FilteredFunction → StateKind
 state_kind fields f = state_kind_by fields f.filter f.function
 
--- The shape of the groups of a query.
+-- The shape of groups under grouping columns and with these set functions.
+abbrev pub shape_over : List Field → List ℕ → List FilteredFunction → ShapeForm
+shape_over fields places functions = record { columns = map (type_at fields) places; states = map (state_kind fields) functions }
+
+-- That of the groups of a query.
 abbrev pub shape_under : List Field → TreeForm → ShapeForm
-shape_under fields q = record { columns = map (type_at fields) (grouping_places fields q); states = map (state_kind fields) (indexed_functions fields q) }
+shape_under fields q = shape_over fields (grouping_places fields q) (indexed_functions fields q)
 
 -- Without grouping columns there is exactly one group.
 abbrev pub can_have : List Kind → ℕ → Bool

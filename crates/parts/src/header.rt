@@ -50,9 +50,7 @@ fn kind_of_mark(alloc: Global, text: &str) -> Result<PartsFaultKind, AllocError>
     if !is_version(version) {
         return Ok(PartsFaultKind::NotAPart);
     }
-    Ok(PartsFaultKind::OtherVersion(String::from_str(
-        alloc, version,
-    )?))
+    Ok(PartsFaultKind::OtherVersion(String::from_str(alloc, version)?))
 }
 
 /// Nothing where a text is the mark, and else what is wrong with it.
@@ -98,11 +96,7 @@ fn next_mark<S: Source>(alloc: Global, source: &mut S) -> Result<(), PartRefusal
 
 /// The columns, whose text has to be this one.
 #[tactic(auto, unfolding(crate::specs::ReadingParts::said_at))]
-fn next_columns<S: Source>(
-    alloc: Global,
-    source: &mut S,
-    columns: &str,
-) -> Result<(), PartRefusal>
+fn next_columns<S: Source>(alloc: Global, source: &mut S, columns: &str) -> Result<(), PartRefusal>
     ensures known { S.known source.old → OnOk result (S.known source.new) }
     ensures read { S.known source.old → Gives (λ _. (tt, S.stream source.new)) result
         (said_at columns.now other_columns (S.stream source.old)) }

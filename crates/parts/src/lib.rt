@@ -4,11 +4,15 @@
 //! The parts of several inputs, one behind the other, are read as the partial result of all of them.
 #![tactic(auto)]
 
+mod checksum;
+mod columns;
 mod fault;
 mod header;
 mod line_faults;
 mod reader;
 mod refused;
+mod shape;
 mod texts;
+mod writing;
 
 pub use fault::{PartsFault, PartsFaultKind, PartsRefusal};

@@ -80,5 +80,7 @@ fn bad_column(columns: &[Column], text: &str) -> Option<usize>
 fn place_of(columns: &[Column], name: &str) -> Option<usize>
     ensures { result ≡ position (λ column. bytes_eq name.now (string_bytes column.name)) columns.now }
 {
-    columns.iter().position(|column| name == column.name.as_str())
+    columns
+        .iter()
+        .position(|column| name == column.name.as_str())
 }

@@ -1,7 +1,7 @@
 use Rattle.std.proofs.Common.{arith}
 use Rattle.std.proofs.lemmas.Bool.Decides.{nat_tests}
 use Rattle.std.proofs.lemmas.Option.{slice_get_past, slice_get_read}
-use Rattle.std.proofs.Common.{◌≤◌, ◌<◌, length, refl}
+use Rattle.std.proofs.Common.{◌≤◌, length, refl}
 use Rattle.parts.proofs.Names.{name-missing, name-there}
 use Rattle.parts.proofs.line_faults.column_name.Goals as goal
 
