@@ -31,7 +31,7 @@ use Rattle.sort_keys.proofs.Values.{values-tell, Stands, stands, lower, under, o
 
 -- ---- no two values have one code, and no code is the beginning of another one
 
-codable : (d : Datum) → IsStorable d → IsCodable d
+pub codable : (d : Datum) → IsStorable d → IsCodable d
 codable (boolean b) h = tt
 codable (whole n) h = h
 codable (text s) h = text-below s (IsUtf8-had s h)

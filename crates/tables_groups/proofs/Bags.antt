@@ -1,5 +1,8 @@
 -- What lists weigh, and lists that are the same bag.
 use Rattle.std.proofs.Common.{◌≡◌, ◌+◌, ℕ, Bool, true, false, cond, List, [], ◌∷◌, ◌++◌, map, filter, length, refl, sym, ap, ◌∙◌, arith}
+use Rattle.std.proofs.lemmas.List.Recursion.{is_sum_by}
+use Rattle.std.proofs.lemmas.List.Sorted.{sum_by-IsPermutation}
+use Rattle.std.specs.List.Sorted.{IsPermutation}
 use Rattle.tables_groups.specs.Bags.{SameBag, weigh}
 
 pub weigh-append : {X : Type 0} (w : X → ℕ) (xs ys : List X) → weigh w (xs ++ ys) ≡ weigh w xs + weigh w ys
@@ -27,3 +30,8 @@ weigh-filter w p (x ∷ xs) = elim (p x) as (λ b. weigh w (cond b (x ∷ filter
 
 pub bag-filter : {X : Type 0} (p : X → Bool) (xs ys : List X) → SameBag xs ys → SameBag (filter p xs) (filter p ys)
 bag-filter p xs ys s = λ w. weigh-filter w p xs ∙ s (λ x. cond (p x) (w x) 0) ∙ sym (weigh-filter w p ys)
+
+-- a list and its permutation are the same bag
+pub bag-permutation : {X : Type 0} (xs ys : List X) → IsPermutation xs ys → SameBag xs ys
+bag-permutation xs ys moved w =
+    is_sum_by (weigh w) w refl (λ _ _. refl) xs ∙ sym (sum_by-IsPermutation w xs ys moved) ∙ sym (is_sum_by (weigh w) w refl (λ _ _. refl) ys)

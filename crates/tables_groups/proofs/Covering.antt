@@ -15,21 +15,21 @@ use Rattle.tables_groups.proofs.GroupsLaw.{keys-distinct}
 abbrev pub spread : List ℕ → List Row → List Key → List Row
 spread set rows ks = flat_map (λ k. members set k rows) ks
 
-spread-none : (w : Row → ℕ) (set : List ℕ) (ks : List Key) → weigh w (spread set [] ks) ≡ 0
+pub spread-none : (w : Row → ℕ) (set : List ℕ) (ks : List Key) → weigh w (spread set [] ks) ≡ 0
 spread-none w set [] = refl
 spread-none w set (k ∷ ks) = spread-none w set ks
 
 swapped : (k q : Key) → same_key k q ≡ true → same_key q k ≡ true
 swapped k q e = (same_key-Decides q k).1 (sym ((same_key-Decides k q).0 e))
 
-not_swapped : (k q : Key) → same_key k q ≡ false → same_key q k ≡ false
+pub not_swapped : (k q : Key) → same_key k q ≡ false → same_key q k ≡ false
 not_swapped k q e = elim (same_key q k) as (λ b. same_key q k ≡ b → b ≡ false) [
   | true ↦ λ h. let s = swapped q k h in cc
   | false ↦ λ h. refl
 ] refl
 
 -- a record whose key is none of these is no member of theirs
-missed : (w : Row → ℕ) (set : List ℕ) (row : Row) (rows : List Row) (ks : List Key) → AllByRecursion (λ k. same_key k (project set row) ≡ false) ks
+pub missed : (w : Row → ℕ) (set : List ℕ) (row : Row) (rows : List Row) (ks : List Key) → AllByRecursion (λ k. same_key k (project set row) ≡ false) ks
     → weigh w (spread set (row ∷ rows) ks) ≡ weigh w (spread set rows ks)
 missed w set row rows [] h = refl
 missed w set row rows (k ∷ ks) h =
@@ -40,7 +40,8 @@ missed w set row rows (k ∷ ks) h =
     let z = ap (weigh w) this in
     omega (arith, x, y, z, rest)
 
-others : (k q : Key) (ks : List Key) → same_key k q ≡ true → AllByRecursion (λ y. same_key k y ≡ false) ks → AllByRecursion (λ y. same_key y q ≡ false) ks
+-- of different keys that which is the same as another one is none of the rest
+pub others : (k q : Key) (ks : List Key) → same_key k q ≡ true → AllByRecursion (λ y. same_key k y ≡ false) ks → AllByRecursion (λ y. same_key y q ≡ false) ks
 others k q [] e h = tt
 others k q (y ∷ ys) e h = (
   elim (same_key y q) as (λ b. same_key y q ≡ b → b ≡ false) [
@@ -51,7 +52,7 @@ others k q (y ∷ ys) e h = (
 )
 
 -- of different keys, among which is the record's, exactly one has it
-hit : (w : Row → ℕ) (set : List ℕ) (row : Row) (rows : List Row) (ks : List Key) → IsDistinct same_key ks → list_any (same_key (project set row)) ks ≡ true
+pub hit : (w : Row → ℕ) (set : List ℕ) (row : Row) (rows : List Row) (ks : List Key) → IsDistinct same_key ks → list_any (same_key (project set row)) ks ≡ true
     → weigh w (spread set (row ∷ rows) ks) ≡ w row + weigh w (spread set rows ks)
 unfolding IsDistinct
 hit w set row rows [] d h = cc

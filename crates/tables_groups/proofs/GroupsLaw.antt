@@ -80,7 +80,7 @@ put-bag f k a (e ∷ es) none =
       | Greater ↦ λ n. let h = put-bag f k a es n in omega (arith, h)
     ] none
 
-none-found : (k : Key) (es : List (Key × GroupState)) → AllByRecursion (λ y. same_key k y ≡ false) (map (λ e. e.0) es) → fin.find key_order k es ≡ None
+pub none-found : (k : Key) (es : List (Key × GroupState)) → AllByRecursion (λ y. same_key k y ≡ false) (map (λ e. e.0) es) → fin.find key_order k es ≡ None
 none-found k [] h = refl
 none-found k (e ∷ es) h = ap (λ b. cond b (Some e.1) (fin.find key_order k es)) h.0 ∙ none-found k es h.1
 

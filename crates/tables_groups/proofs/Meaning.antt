@@ -313,16 +313,16 @@ pub table-within : (set : List ℕ) (functions : List FilteredFunction) (fs : Li
 table-within set functions fs t l n e a few k = subst (λ (o : Option GroupState). IfSome o (IsGroupWithin n functions)) (sym (a k))
     (within-at functions fs n (has_key set k l) (members set k l) e (omega (arith, few, filter-le (λ r. same_key k (project set r)) l)))
 
-joint_states-length : (ks ls : List AccumulatorState) → length ks ≡ length ls → length (joint_states ks ls) ≡ length ks
-joint_states-length [] ls h = refl
-joint_states-length (k ∷ ks) [] h = refl
-joint_states-length (k ∷ ks) (l ∷ ls) h = ap suc (joint_states-length ks ls (omega (arith, h)))
+pub joint_states-length : (ks ls : List AccumulatorState) → length (joint_states ks ls) ≡ length ks
+joint_states-length [] ls = refl
+joint_states-length (k ∷ ks) [] = refl
+joint_states-length (k ∷ ks) (l ∷ ls) = ap suc (joint_states-length ks ls)
 
 within-join : (fs : List FilteredFunction) (m n : ℕ) (a b : Option GroupState) → IfSome a (IsGroupWithin m fs) → IfSome b (IsGroupWithin n fs) → IfSome (joint_option a b) (IsGroupWithin (m + n) fs)
 within-join fs m n None None p q = tt
 within-join fs m n None (Some b) p q = (omega (arith, q.0), q.1)
 within-join fs m n (Some a) None p q = (omega (arith, p.0), p.1)
-within-join fs m n (Some a) (Some b) p q = (omega (arith, p.0, q.0), joint_states-length a.parts b.parts (p.1 ∙ sym q.1) ∙ p.1)
+within-join fs m n (Some a) (Some b) p q = (omega (arith, p.0, q.0), joint_states-length a.parts b.parts ∙ p.1)
 
 -- two tables put together are within both numbers of records
 pub tables-within : (fs : List FilteredFunction) (m n : ℕ) (t u v : Contents) → AreGroupsWithin m fs t → AreGroupsWithin n fs u → ((k : Key) → IsJoined t u v k) → AreGroupsWithin (m + n) fs v

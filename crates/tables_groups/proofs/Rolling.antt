@@ -1,9 +1,7 @@
 -- A table of another set, made of the groups of a finer table.
 use Rattle.tables_groups.specs.declared.packed_key.PackedKey.{PackedKey}
 use Rattle.tables_groups.specs.Inside.Keys.{key_in}
-use Rattle.std.proofs.Common.{◌≡◌, ◌+◌, ◌<◌, ◌^◌, ℕ, Bool, filter, true, false, ◌||◌, ◌&&◌, cond, List, [], ◌∷◌, ◌++◌, map, length, Option, Some, None, unwrap_or, refl, sym, ap, subst, ◌∙◌, arith, append_assoc, length-append}
-use Rattle.std.proofs.Props.{props}
-use Rattle.std.proofs.lemmas.List.{length-map}
+use Rattle.std.proofs.Common.{◌≡◌, ℕ, Bool, filter, true, false, ◌||◌, ◌&&◌, cond, List, [], ◌∷◌, ◌++◌, map, Option, Some, None, IsSome, unwrap_or, refl, sym, ap, subst, ◌∙◌, append_assoc}
 use Rattle.std.specs.List.{list_any, IsDistinct, AllByRecursion}
 use Rattle.std.specs.Map.{keys_of}
 use Rattle.std.specs.FinMap as fin
@@ -11,17 +9,15 @@ use Rattle.query_resolve.specs.declared.function.FilteredFunction.{FilteredFunct
 use Rattle.semantics.specs.Groups.{Row, Key, project, key_order, same_key, members}
 use Rattle.semantics.specs.Aggregates.{AggregateFunction}
 use Rattle.tables_groups.specs.Functions.{aggregate_of}
-use Rattle.tables_groups.specs.Inside.Accumulator.{accumulator_state}
 use Rattle.tables_groups.specs.Inside.Group.{GroupState, group_state, no_group, joint_group}
 use Rattle.tables_groups.specs.Bags.{SameBag}
 use Rattle.tables_groups.specs.Rolled.{rolled_key, AreAmong, finer_keys, finer_members}
-use Rattle.tables_groups.specs.Inside.Table.{Contents, IsTableOf, IsEnlarged, IsFittingNew, IsPut, TakesEach, group_with_members, joint_option, group_with_entries, group_of_keys, entries_by_key, contents_of}
+use Rattle.tables_groups.specs.Inside.Table.{Contents, IsTableOf, IsEnlarged, IsPut, TakesEach, group_with_members, joint_option, group_with_entries, group_of_keys, entries_by_key, contents_of}
 use Rattle.tables_groups.proofs.Order.{key_total, same_key-Decides, key_eq-ties}
 use Rattle.tables_groups.proofs.Entries.{Entries, key_eq, find-first}
 use Rattle.tables_groups.proofs.Distinct.{distinct-shown}
-use Rattle.tables_groups.proofs.Meaning.{has_key, group_at, group_at-append, group_state-at, group_state-append, no_group-is, no_members, filter-le, append-nil, any-key}
+use Rattle.tables_groups.proofs.Meaning.{has_key, group_at, group_at-append, group_state-at, group_state-append, no_group-is, no_members, append-nil, any-key}
 use Rattle.tables_groups.proofs.AnyOrder.{group_at-bag, table-same}
-use Rattle.tables_groups.proofs.Bags.{length-bag}
 use Rattle.tables_groups.proofs.Covering.{spread, spread-bag, own-key}
 use Rattle.tables_groups.proofs.Rolled.{rolled_key-project, members-rolled, members-partition}
 
@@ -106,26 +102,6 @@ table-group_with_members finer set functions filters t old new rows done q h a i
     ∙ ap (joint_option (group_at set fs k done)) (sym (group_at-rolled finer set fs k q rows a g.0))
     ∙ sym (group_at-append set fs k done m)
 
-fitting-at : (functions : List FilteredFunction) (fs : List AggregateFunction) (b : Bool) (x m : List Row) → length fs ≡ length functions → length x + length m < 2 ^ 63
-    → IsFittingNew functions (group_state fs m) (cond b (Some (group_state fs x)) None)
-fitting-at functions fs true x m e few = ((few, length-map fs (λ f. accumulator_state f m) ∙ sym (length-map fs (λ f. accumulator_state f x))), omega (arith, few), length-map fs (λ f. accumulator_state f m) ∙ e)
-fitting-at functions fs false x m e few = (tt, omega (arith, few), length-map fs (λ f. accumulator_state f m) ∙ e)
-
-pub fitting-prop : (fs : List FilteredFunction) (part : GroupState) (g : Option GroupState) → IsProp (IsFittingNew fs part g)
-fitting-prop fs part g = Prim.hlevel props
-
--- it fits, since all records are few
-pub table-fitting : (finer set : List ℕ) (functions : List FilteredFunction) (filters : List (Row → Bool)) (t old : Contents) (rows done : List Row) (q p : Key) (h : GroupState)
-    → IsTableOf finer (map (aggregate_of filters) functions) t rows → fin.get t q ≡ Some h → IsTableOf set (map (aggregate_of filters) functions) old done
-    → length done + length (members finer q rows) < 2 ^ 63 → IsFittingNew functions h (fin.get old p)
-table-fitting finer set functions filters t old rows done q p h is e b few =
-    let fs = map (aggregate_of filters) functions in
-    let g = group-of finer fs t rows q h is e in
-    subst (λ (x : GroupState). IsFittingNew functions x (fin.get old p)) g.1
-    (subst (λ (o : Option GroupState). IsFittingNew functions (group_state fs (members finer q rows)) o) (sym (b p))
-    (fitting-at functions fs (has_key set p done) (members set p done) (members finer q rows) (length-map functions (aggregate_of filters))
-    (omega (arith, few, filter-le (λ r. same_key p (project set r)) done))))
-
 -- ---- the entries of the finer table
 
 abbrev pub firsts : Entries → List Key
@@ -200,16 +176,6 @@ rolled-step finer set functions filters t old new e left all rows a is g j r = r
   whole = append_assoc r.done (members finer (key_in e.0) rows) (spread finer rows (firsts left)) ∙ r.whole;
 }
 
-pub rolled-fitting : (finer set : List ℕ) (functions : List FilteredFunction) (filters : List (Row → Bool)) (t old : Contents) (e : PackedKey × GroupState) (left all : Entries) (rows : List Row) (p : Key)
-    → contents_of all ≡ t → IsDistinct key_eq (keys_of all) → length rows < 2 ^ 63 → IsTableOf finer (map (aggregate_of filters) functions) t rows
-    → fin.get t (key_in e.0) ≡ Some e.1 → IsRolled finer set (map (aggregate_of filters) functions) old (e ∷ left) all rows → IsFittingNew functions e.1 (fin.get old p)
-rolled-fitting finer set functions filters t old e left all rows p v d few is g r =
-    let m = members finer (key_in e.0) rows in
-    let rest = spread finer rows (firsts left) in
-    let whole : length (r.done ++ (m ++ rest)) ≡ length rows = ap length r.whole ∙ length-bag (spread finer rows (firsts all)) rows (spread-entries finer (map (aggregate_of filters) functions) all t rows v d is) in
-    table-fitting finer set functions filters t old rows r.done (key_in e.0) p e.1 is g r.is_table
-    (omega (arith, few, whole, length-append r.done (m ++ rest), length-append m rest))
-
 pub rolled-all : (finer set : List ℕ) (fs : List AggregateFunction) (t table : Contents) (left all : Entries) (rows : List Row) → contents_of all ≡ t → IsDistinct key_eq (keys_of all) → left ≡ []
     → IsTableOf finer fs t rows → IsRolled finer set fs table left all rows → IsTableOf set fs table rows
 rolled-all finer set fs t table left all rows v d none is r =
@@ -240,33 +206,6 @@ joined-spread finer fs t rows done (e ∷ es) is each =
     ∙ joined-spread finer fs t rows (done ++ m) es is each.1
     ∙ ap (group_state fs) (append_assoc done m (spread finer rows (firsts es)))
 
-takes-spread : (finer : List ℕ) (fs : List AggregateFunction) (t : Contents) (rows done : List Row) (es : Entries) → IsTableOf finer fs t rows
-    → AllByRecursion (λ e. fin.get t (key_in e.0) ≡ Some e.1) es → length done + length (spread finer rows (firsts es)) < 2 ^ 63 → TakesEach (group_state fs done) es
-takes-spread finer fs t rows done [] is each few = tt
-takes-spread finer fs t rows done (e ∷ es) is each few =
-    let m = members finer (key_in e.0) rows in
-    let rest = spread finer rows (firsts es) in
-    let a = length-append m rest in
-    let b = length-append done m in
-    let g = group-of finer fs t rows (key_in e.0) e.1 is each.0 in
-    subst (λ (h : GroupState). (length done + h.lines < 2 ^ 63) × (length h.parts ≡ length (map (λ f. accumulator_state f done) fs)) × TakesEach (joint_group (group_state fs done) h) es) g.1 (
-      omega (arith, few, a),
-      length-map fs (λ f. accumulator_state f m) ∙ sym (length-map fs (λ f. accumulator_state f done)),
-      subst (λ (h : GroupState). TakesEach h es) (group_state-append fs done m) (takes-spread finer fs t rows (done ++ m) es is each.1 (omega (arith, few, a, b))),
-    )
-
-pub takes-prop : (g : GroupState) (es : Entries) → IsProp (TakesEach g es)
-takes-prop g [] = Prim.hlevel props
-takes-prop g (e ∷ es) = let p = takes-prop (joint_group g e.1) es in Prim.hlevel (props, p)
-
--- a group without members takes the groups of a table of few records
-pub takes-all : (finer : List ℕ) (functions : List FilteredFunction) (filters : List (Row → Bool)) (t : Contents) (es : Entries) (rows : List Row) → contents_of es ≡ t → IsDistinct key_eq (keys_of es)
-    → length rows < 2 ^ 63 → IsTableOf finer (map (aggregate_of filters) functions) t rows → TakesEach (no_group functions) es
-takes-all finer functions filters t es rows v d few is =
-    let fs = map (aggregate_of filters) functions in
-    let whole = length-bag (spread finer rows (firsts es)) rows (spread-entries finer fs es t rows v d is) in
-    subst (λ (g : GroupState). TakesEach g es) (sym (no_group-is filters functions)) (takes-spread finer fs t rows [] es is (get-each es t v d) (omega (arith, few, whole)))
-
 pub group_with_entries-append : (g : GroupState) (xs ys : Entries) → group_with_entries g (xs ++ ys) ≡ group_with_entries (group_with_entries g xs) ys
 group_with_entries-append g [] ys = refl
 group_with_entries-append g (x ∷ xs) ys = group_with_entries-append (joint_group g x.1) xs ys
@@ -290,6 +229,18 @@ table-of_one fs t group rows is h k =
     h k
     ∙ ap (λ (o : Option GroupState). cond (same_key k []) (joint_option o (Some group)) o) (fin.get-empty key_order k)
     ∙ one-at fs (same_key k []) group rows is
+
+put-there : (o : Option GroupState) (group : GroupState) → IsSome (joint_option o (Some group))
+put-there None group = refl
+put-there (Some g) group = refl
+
+-- it has that group
+pub whole-one : (t : Contents) (group : GroupState) → ((k : Key) → IsPut fin.empty t [] group k) → IsSome (fin.get t [])
+whole-one t group h =
+    let none : Option GroupState = fin.get (fin.empty {X = GroupState} {R = key_order}) [] in
+    let at : fin.get t [] ≡ joint_option none (Some group) =
+    h [] ∙ ap (λ b. cond b (joint_option none (Some group)) none) ((same_key-Decides [] []).1 refl) in
+    subst (λ (o : Option GroupState). IsSome o) (sym at) (put-there none group)
 
 -- what all groups of a table come to is the one group of the empty set
 pub rolled-to_one : (finer : List ℕ) (functions : List FilteredFunction) (filters : List (Row → Bool)) (t table : Contents) (es : Entries) (rows : List Row) → contents_of es ≡ t → IsDistinct key_eq (keys_of es)

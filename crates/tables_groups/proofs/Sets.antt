@@ -139,7 +139,7 @@ others-data : (w : Value) (vs : List Value) → AllByRecursion (λ y. value_eq w
 others-data w [] h = tt
 others-data w (x ∷ vs) h = (sym (value_eq-ties w x) ∙ h.0, others-data w vs h.1)
 
-data-distinct : (vs : List Value) → IsDistinct value_eq vs → IsDistinct same_value (data_of vs)
+pub data-distinct : (vs : List Value) → IsDistinct value_eq vs → IsDistinct same_value (data_of vs)
 unfolding IsDistinct
 data-distinct [] d = tt
 data-distinct (w ∷ vs) d = (others-data w vs d.0, data-distinct vs d.1)

@@ -10,6 +10,7 @@ use crate::cell::Cell;
 use crate::distinct_values::DistinctValues;
 use crate::extreme::{is_greater, is_less};
 use crate::total::Total;
+use group_states::State;
 use query_resolve::{ColumnFunction, FilteredFunction};
 use std::alloc::{AllocError, Global};
 use values::Value;
@@ -37,6 +38,8 @@ impl Accumulator {
     ghost use Rattle.std.specs.Prelude.{[], IfOk, OnOk, OnErr};
     ghost use Rattle.tables_groups.specs.Inside.Accumulator.{is_marked, no_state, state_in, state_counted, state_over, with_count, with_member, with_record, with_value, joint_state, summary, HasRoom, IsUnbounded};
     ghost use Rattle.semantics.specs.Groups.{value_at};
+    ghost use Rattle.group_states.specs.States.{state_of};
+    ghost use Rattle.tables_groups.specs.Inside.Entries.{kept_extreme, kept_state, kept_sum, plain_state};
     ghost use Rattle.tables_groups.specs.Cells.{summary_of};
 
     /// What is kept of no record.
@@ -79,6 +82,56 @@ impl Accumulator {
             ColumnFunction::Min(_) => Ok(Accumulator::Min(Value::Null)),
             ColumnFunction::Max(_) => Ok(Accumulator::Max(Value::Null)),
             ColumnFunction::Avg(_) => Ok(Accumulator::Average(Total::NONE)),
+        }
+    }
+
+    /// What a set function keeps of a state. A state that it does not have is kept as it is.
+    pub(crate) fn of_state(
+        alloc: Global,
+        function: ColumnFunction,
+        state: State,
+    ) -> Result<Accumulator, AllocError>
+        ensures { IfOk result (λ accumulator.
+            state_in accumulator ≡ kept_state function (state_of state)) }
+    {
+        match state {
+            State::Rows => Ok(Accumulator::Rows),
+            State::Count(count) => Ok(Accumulator::Count(count)),
+            State::Sum(sum, count) => Ok(Accumulator::of_sum(function, Total { sum, count })),
+            State::Extreme(value) => Ok(Accumulator::of_extreme(function, value)),
+            State::Distinct(values) => Ok(Accumulator::Distinct(DistinctValues::of_values(
+                alloc, values,
+            )?)),
+        }
+    }
+
+    /// What SUM or AVG keeps of a sum.
+    fn of_sum(function: ColumnFunction, total: Total) -> Accumulator
+        ensures { state_in result ≡ kept_sum function total.sum total.count }
+    {
+        match function {
+            ColumnFunction::Avg(_) => Accumulator::Average(total),
+            ColumnFunction::CountRows
+            | ColumnFunction::Count(_)
+            | ColumnFunction::CountDistinct(_)
+            | ColumnFunction::Sum(_)
+            | ColumnFunction::Min(_)
+            | ColumnFunction::Max(_) => Accumulator::Sum(total),
+        }
+    }
+
+    /// What MIN or MAX keeps of a value.
+    fn of_extreme(function: ColumnFunction, value: Value) -> Accumulator
+        ensures { state_in result ≡ kept_extreme function (datum_of value) }
+    {
+        match function {
+            ColumnFunction::Max(_) => Accumulator::Max(value),
+            ColumnFunction::CountRows
+            | ColumnFunction::Count(_)
+            | ColumnFunction::CountDistinct(_)
+            | ColumnFunction::Sum(_)
+            | ColumnFunction::Min(_)
+            | ColumnFunction::Avg(_) => Accumulator::Min(value),
         }
     }
 
@@ -251,6 +304,21 @@ impl Accumulator {
             ) => {}
         }
         Ok(())
+    }
+
+    /// What is kept, as a plain value.
+    pub(crate) fn into_state(self, alloc: Global) -> Result<State, AllocError>
+        ensures { IfOk result (λ state. state_of state ≡ plain_state (state_in self)) }
+    {
+        match self {
+            Accumulator::Rows => Ok(State::Rows),
+            Accumulator::Count(count) => Ok(State::Count(count)),
+            Accumulator::Distinct(values) => Ok(State::Distinct(values.into_values(alloc)?)),
+            Accumulator::Sum(total) | Accumulator::Average(total) => {
+                Ok(State::Sum(total.sum, total.count))
+            }
+            Accumulator::Min(value) | Accumulator::Max(value) => Ok(State::Extreme(value)),
+        }
     }
 
     /// The value of the function over a group of so many records.

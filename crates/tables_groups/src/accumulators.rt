@@ -2,9 +2,12 @@
 ghost use Rattle.std.specs.Prelude.{◌≡◌, IfOk, map};
 ghost use Rattle.tables_groups.specs.Inside.Accumulator.{state_in, summary};
 ghost use Rattle.tables_groups.specs.Cells.{summary_of};
+ghost use Rattle.tables_groups.specs.Inside.Entries.{plain_state};
+ghost use Rattle.group_states.specs.States.{states_of};
 
 use crate::accumulator::Accumulator;
 use crate::cell::Cell;
+use group_states::State;
 use query_resolve::FilteredFunction;
 use std::alloc::{AllocError, Global};
 use std::marker::Model;
@@ -37,6 +40,8 @@ impl Accumulators {
     ghost use Rattle.tables_groups.specs.Inside.Accumulator.{summary};
     ghost use Rattle.tables_groups.specs.Inside.Group.{no_group, with_row, joint_group};
     ghost use Rattle.tables_groups.specs.Rows.{IsNarrowRow};
+    ghost use Rattle.group_states.specs.States.{states_of};
+    ghost use Rattle.tables_groups.specs.Inside.Entries.{AreStatesFor, kept_states, plain_state};
     ghost use Rattle.tables_groups.specs.Cells.{summary_of};
 
     /// What is kept of a group without members.
@@ -51,6 +56,28 @@ impl Accumulators {
             parts.push(Accumulator::new(alloc, *function)?)?;
         }
         Ok(Accumulators { lines: 0, parts })
+    }
+
+    /// What is kept of a group of so many members, by a state for each function.
+    pub(crate) fn of_states(
+        alloc: Global,
+        functions: &[FilteredFunction],
+        members: u64,
+        states: Vec<State>,
+    ) -> Result<Accumulators, AllocError>
+        requires { AreStatesFor functions.now members (states_of states.items) }
+        ensures lines { IfOk result (λ group. group.lines ≡ members) }
+        ensures parts { IfOk result (λ group.
+            group.parts ≡ kept_states functions.now (states_of states.items)) }
+    {
+        let mut parts = Vec::with_capacity(alloc, functions.len())?;
+        for (function, state) in functions.iter().zip(states) {
+            parts.push(Accumulator::of_state(alloc, function.function, state)?)?;
+        }
+        Ok(Accumulators {
+            lines: members,
+            parts,
+        })
     }
 
     /// Takes one more member, by its values, of which the marks say which filters keep it. After an error the group is
@@ -101,6 +128,16 @@ impl Accumulators {
         Ok(())
     }
 
+    /// The number of members, and the states of the functions over them.
+    pub(crate) fn into_states(self, alloc: Global) -> Result<(u64, Vec<State>), AllocError>
+        ensures lines { IfOk result (λ r. r.0 ≡ self.lines) }
+        ensures states { IfOk result (λ r. states_of r.1.items ≡ map plain_state self.parts) }
+    {
+        let Accumulators { lines, parts } = self;
+        let states = plain_states(alloc, parts)?;
+        Ok((lines, states))
+    }
+
     /// The number of members, and the values of the functions over them.
     pub(crate) fn finish(self, alloc: Global) -> Result<(u64, Vec<Cell>), AllocError>
         ensures lines { IfOk result (λ r. r.0 ≡ self.lines) }
@@ -123,4 +160,16 @@ fn cells_of(alloc: Global, lines: u64, parts: Vec<Accumulator>) -> Result<Vec<Ce
         cells.push(part.finish(lines))?;
     }
     Ok(cells)
+}
+
+/// The states that accumulators keep.
+fn plain_states(alloc: Global, parts: Vec<Accumulator>) -> Result<Vec<State>, AllocError>
+    ensures { IfOk result (λ states.
+        states_of states.items ≡ map (λ part. plain_state (state_in part)) parts.items) }
+{
+    let mut states = Vec::with_capacity(alloc, parts.len())?;
+    for part in parts {
+        states.push(part.into_state(alloc)?)?;
+    }
+    Ok(states)
 }

@@ -1,11 +1,17 @@
 //! The different values that `COUNT(DISTINCT x)` counts.
-ghost use Rattle.std.specs.Prelude.{◌≡◌, OnOk};
+ghost use Rattle.std.specs.Prelude.{◌≡◌, IfOk, OnOk, map};
 ghost use Rattle.std.specs.FinSet as set;
-ghost use Rattle.values.specs.Datum.{datum_of};
+ghost use Rattle.std.specs.List.{AllByRecursion, IsDistinct};
+ghost use Rattle.semantics.specs.Aggregates.{same_value};
+ghost use Rattle.sort_keys.specs.Codes.{IsCodable};
+ghost use Rattle.values.specs.Datum.{data_of, datum_of};
+ghost use Rattle.tables_groups.specs.Inside.Keyed.{keyed_datum, keyed_value};
 ghost use Rattle.tables_groups.specs.Inside.Values.{values_in};
 
 use crate::accumulator::is_present;
 use crate::copy::copy_of;
+use crate::keyed::{Keyed, sort_keyed, things_of};
+use sort_keys::{SortKey, put_value};
 use std::alloc::{AllocError, Global};
 use std::collections::HashSet;
 use std::marker::Model;
@@ -34,8 +40,9 @@ impl Model for DistinctValues {
 impl DistinctValues {
     ghost use Rattle.std.specs.Prelude.{◌≡◌, [], ◌∷◌, IfOk, OnOk};
     ghost use Rattle.std.specs.FinSet as set;
-    ghost use Rattle.values.specs.Datum.{datum_of};
+    ghost use Rattle.values.specs.Datum.{data_of, datum_of};
     ghost use Rattle.semantics.specs.Aggregates.{present};
+    ghost use Rattle.tables_groups.specs.Inside.Entries.{ascending_values};
     ghost use Rattle.tables_groups.specs.Inside.Values.{set_of};
 
     /// No value.
@@ -43,6 +50,18 @@ impl DistinctValues {
         ensures { IfOk result (λ values. values ≡ set.empty) }
     {
         let values = Box::new(alloc, HashSet::new(alloc))?;
+        Ok(DistinctValues { values })
+    }
+
+    /// These values.
+    pub(crate) fn of_values(alloc: Global, values: Vec<Value>) -> Result<DistinctValues, AllocError>
+        ensures { IfOk result (λ set. set ≡ set_of (data_of values.items)) }
+    {
+        let mut set = HashSet::new(alloc);
+        for value in values {
+            set.insert(value)?;
+        }
+        let values = Box::new(alloc, set)?;
         Ok(DistinctValues { values })
     }
 
@@ -78,6 +97,15 @@ impl DistinctValues {
         Ok(())
     }
 
+    /// The values, ascending.
+    pub(crate) fn into_values(self, alloc: Global) -> Result<Vec<Value>, AllocError>
+        ensures { IfOk result (λ values. data_of values.items ≡ ascending_values self) }
+    {
+        let DistinctValues { values } = self;
+        let keyed = keyed_values(alloc, Box::into_inner(values))?;
+        things_of(alloc, sort_keyed(keyed))
+    }
+
     /// How many they are.
     pub(crate) fn count(self) -> u64
         ensures { result ≡ set.len self }
@@ -97,4 +125,22 @@ fn insert_copy(values: &mut HashSet<Value>, value: &Value) -> Result<(), AllocEr
     let copy = copy_of(value)?;
     values.insert(copy)?;
     Ok(())
+}
+
+/// The values of a set, each beside its sort key.
+fn keyed_values(alloc: Global, values: HashSet<Value>) -> Result<Vec<Keyed<Value>>, AllocError>
+    ensures values { IfOk result (λ keyed.
+        map keyed_value keyed.items ≡ map keyed_datum (data_of values.keys)) }
+    ensures codable { OnOk result (AllByRecursion IsCodable (data_of values.keys)) }
+    ensures distinct { OnOk result (IsDistinct same_value (data_of values.keys)) }
+{
+    let mut code = Vec::new(alloc);
+    let mut keyed = Vec::with_capacity(alloc, values.len())?;
+    for thing in values {
+        code.clear();
+        put_value(&mut code, &thing)?;
+        let key = SortKey::new(alloc, code.as_slice())?;
+        keyed.push(Keyed { key, thing })?;
+    }
+    Ok(keyed)
 }

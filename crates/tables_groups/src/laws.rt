@@ -1,12 +1,18 @@
 //! Laws of tables and of their groups, which have no work to do.
-ghost use Rattle.std.specs.Prelude.{◌≡◌, ℕ, List, length};
+ghost use Rattle.std.specs.Prelude.{◌≡◌, ◌≤◌, ◌+◌, ℕ, Bool, List, length};
 ghost use Rattle.std.specs.List.{flat_map};
 ghost use Rattle.semantics.specs.Groups.{Key, keys, members, Row};
 ghost use Rattle.tables_groups.specs.Rolled.{AreAmong, finer_members};
 ghost use Rattle.tables_groups.specs.GroupSummaries.{group_summaries};
 ghost use Rattle.tables_groups.specs.Bags.{SameBag, weigh};
 ghost use Rattle.semantics.specs.Aggregates.{AggregateFunction};
-ghost use Rattle.tables_groups.specs.Inside.Table.{Contents, HasGroupsOfFiner, IsTableOf};
+ghost use Rattle.query_resolve.specs.declared.function.FilteredFunction.{FilteredFunction};
+ghost use Rattle.semantics.specs.Columns.{Field};
+ghost use Rattle.group_states.specs.Entries.{entries_over};
+ghost use Rattle.tables_groups.specs.Functions.{aggregates_of};
+ghost use Rattle.tables_groups.specs.Inside.Entries.{table_entries};
+ghost use Rattle.tables_groups.specs.Inside.Table.{Contents, HasGroupsOfBoth, HasGroupsOfFiner, IsCounted, IsTableOf, IsTableUnder};
+ghost use Rattle.tables_groups.specs.Inside.Typed.{AllFit, AreColumns, HaveColumns, IsTypedTable};
 
 /// A table of records is that of the same records in any other order.
 pub fn order_law()
@@ -45,4 +51,44 @@ pub fn roll_law()
     ensures groups { (finer set : List ℕ) (functions : List AggregateFunction)
         (table rolled : Contents)
         → AreAmong set finer → HasGroupsOfFiner finer functions table set rolled }
+{}
+
+/// The groups of a table have no more records together than the table is of. Those of the groups of two tables, put
+/// together, have no more than those of both.
+pub fn counted_law()
+    ensures records { (most : ℕ) (set : List ℕ) (functions : List FilteredFunction)
+        (filters : List (Row → Bool)) (table : Contents) (rows : List Row)
+        → IsTableUnder set functions filters table rows → length rows ≤ most
+        → IsCounted most functions table }
+    ensures joined { (m n : ℕ) (functions : List FilteredFunction) (a b c : Contents)
+        → IsCounted m functions a → IsCounted n functions b → HasGroupsOfBoth a b c
+        → IsCounted (m + n) functions c }
+{}
+
+/// The groups of a table of records that fit the columns are of the types of these and of the set functions. So are
+/// those of two tables that are, put together.
+pub fn typed_law()
+    ensures records { (fields : List Field) (set : List ℕ) (functions : List FilteredFunction)
+        (filters : List (Row → Bool)) (table : Contents) (rows : List Row)
+        → IsTableUnder set functions filters table rows → AllFit fields rows
+        → AreColumns fields set → HaveColumns fields functions
+        → IsTypedTable fields set functions table }
+    ensures joined { (fields : List Field) (set : List ℕ) (functions : List FilteredFunction)
+        (a b c : Contents) → IsTypedTable fields set functions a
+        → IsTypedTable fields set functions b → HasGroupsOfBoth a b c
+        → IsTypedTable fields set functions c }
+{}
+
+/// The list of the groups of a table of records is that of the groups of these records, by ascending keys. And a table of
+/// the types of columns and set functions whose list this is, is that of these records.
+pub fn entries_law()
+    ensures of_records { (set : List ℕ) (functions : List AggregateFunction)
+        (table : Contents) (rows : List Row)
+        → IsTableOf set functions table rows
+        → table_entries table ≡ entries_over set functions rows }
+    ensures is_table { (fields : List Field) (set : List ℕ) (functions : List FilteredFunction)
+        (filters : List (Row → Bool)) (table : Contents) (rows : List Row)
+        → IsTypedTable fields set functions table
+        → table_entries table ≡ entries_over set (aggregates_of filters functions) rows
+        → IsTableUnder set functions filters table rows }
 {}

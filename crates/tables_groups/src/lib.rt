@@ -14,11 +14,13 @@ mod extreme;
 mod finishing;
 mod group;
 mod key;
+mod keyed;
 mod laws;
 mod packed_key;
 mod pairs;
 mod part;
 mod place;
+mod plain_entries;
 mod shard;
 mod table;
 mod total;
@@ -26,5 +28,7 @@ mod walk;
 
 pub use cell::Cell;
 pub use group::Group;
-pub use laws::{members_law, order_law, records_law, roll_law};
+pub use laws::{
+    counted_law, entries_law, members_law, order_law, records_law, roll_law, typed_law,
+};
 pub use table::Table;

@@ -7,7 +7,7 @@ ghost use Rattle.sort_keys.specs.Codes.{value_code};
 ghost use Rattle.sort_keys.specs.Decoding.{IsStorable, KeyOf};
 ghost use Rattle.sort_keys.proofs.Decoding.{KeyOf-prop};
 
-use sort_keys::{put_value, split_code, values_of};
+use sort_keys::{put_value, put_values, split_code, values_of};
 use std::alloc::{AllocError, Global};
 use std::hash::{Hash, Hasher};
 use values::Value;
@@ -50,6 +50,15 @@ impl PackedKey {
         PackedKey {
             code: Vec::new(alloc),
         }
+    }
+
+    /// The key that has these values.
+    pub(crate) fn of_values(alloc: Global, values: &[Value]) -> Result<PackedKey, AllocError>
+        ensures { IfOk result (λ key. key_in key ≡ data_of values.now) }
+    {
+        let mut code = Vec::new(alloc);
+        put_values(&mut code, values)?;
+        Ok(PackedKey { code })
     }
 
     /// Its memory, with no byte in it.

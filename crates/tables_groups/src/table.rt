@@ -11,8 +11,10 @@ use crate::packed_key::PackedKey;
 use crate::pairs::join_shards_among;
 use crate::part::Part;
 use crate::place::{SHARDS, place_of};
+use crate::plain_entries::entries_of;
 use crate::shard::Shard;
 use crate::walk::{put_next_of_each, put_rest, smallest_shard_len, walks_over};
+use group_states::GroupEntry;
 use query_resolve::FilteredFunction;
 use std::alloc::{AllocError, Global};
 use std::marker::{Model, Sync};
@@ -71,7 +73,7 @@ impl Model for Table {
 }
 
 impl Table {
-    ghost use Rattle.std.specs.Prelude.{◌≡◌, ◌<◌, ◌≤◌, ℕ, [], OnOk, IfOk, List};
+    ghost use Rattle.std.specs.Prelude.{◌≡◌, ◌<◌, ◌≤◌, ◌∷◌, ◌++◌, ℕ, [], OnOk, IfOk, IsSome, List};
     ghost use Rattle.semantics.specs.Groups.{Key, project};
     ghost use Rattle.tables_groups.specs.Rows.{IsNarrowRow};
     ghost use Rattle.std.specs.FinMap as fin;
@@ -79,7 +81,10 @@ impl Table {
     ghost use Rattle.tables_groups.specs.Inside.Group.{no_group};
     ghost use Rattle.tables_groups.specs.Inside.Keys.{key_in};
     ghost use Rattle.tables_groups.specs.Inside.Shards.{contents_in};
-    ghost use Rattle.tables_groups.specs.Inside.Table.{AreGroupsOfTable, CanJoin, HasGroupsOfBoth, HasOneMore, IsFitting, IsOfFew, IsOfNone, IsPut, IsRollOf, IsTaken, IsUnionOf, IsWithPart, TakesOne};
+    ghost use Rattle.tables_groups.specs.Inside.Table.{AreGroupsOfTable, CanJoin, HasEmptyKey, HasFewRecords, HasGroupsOfBoth, HasOneMore, IsFitting, IsOfNone, IsPut, IsRollOf, IsTaken, IsUnionOf, IsWithPart, KeepsCount, TakesOne};
+    ghost use Rattle.group_states.specs.States.{entries_of, entry_of};
+    ghost use Rattle.tables_groups.specs.Inside.Entries.{CountsEntry, IsBehind, IsEntryFor, TypesEntry, table_entries};
+    ghost use Rattle.tables_groups.specs.Inside.Typed.{HaveTypesOfTable, KeepsTypes};
     ghost use Rattle.tables_groups.specs.Rolled.{AreAmong};
 
     /// The table of no records under a grouping set, for these set functions, whatever their filters keep. The set has
@@ -155,6 +160,19 @@ impl Table {
         let group = Accumulators::new(alloc, functions)?;
         table.put_to_group(PackedKey::empty(alloc), group)?;
         Ok(table)
+    }
+
+    /// The table without any group, kept as `for_hands` does. Groups may be put into it (`put_entry`).
+    ///
+    /// Example: `Table::for_entries(alloc, 4)` answers a table whose `len()` is 0.
+    ///
+    /// # Errors
+    ///
+    /// `AllocError` where there is no memory for it.
+    pub fn for_entries(alloc: Global, hands: usize) -> Result<Table, AllocError>
+        ensures { IfOk result (λ table. table ≡ fin.empty) }
+    {
+        Table::without_groups(alloc, hands.clamp(1, SHARDS))
     }
 
     /// Takes one more record into the group of its key. `row` has the values of the record, and `marks` says of each
@@ -241,8 +259,8 @@ impl Table {
     /// The table of the same records under another set, made of the groups of this one, which stays as it is. So it may
     /// be made of a table that was rolled before.
     ///
-    /// This is a table under the set `finer` for these functions, of fewer than 2^63 records, and each column of `set`
-    /// is one of `finer`, in whatever order.
+    /// The groups of this one have fewer than 2^63 records together, whatever these are, and what is kept for these
+    /// functions; and each column of `set` is one of `finer`, the set of this table, in whatever order.
     ///
     /// Example: a table with 2 members of the key `('Quay', 'sale')` and 1 of `('Quay', 'refund')` gives, rolled to its
     /// first column, one with 3 members of `'Quay'`.
@@ -257,8 +275,11 @@ impl Table {
         functions: &[FilteredFunction],
     ) -> Result<Table, AllocError>
         requires among { AreAmong set.now finer.now }
-        requires few { ∥ IsOfFew finer.now functions.now self.now ∥₁ }
+        requires few { HasFewRecords functions.now self.now }
         ensures rolled { IfOk result (IsRollOf finer.now functions.now self.now set.now) }
+        ensures counted { IfOk result (KeepsCount functions.now self.now) }
+        ensures typed { IfOk result (KeepsTypes finer.now functions.now self.now set.now) }
+        ensures whole { IfOk result (HasEmptyKey set.now) }
     {
         if set.is_empty() {
             return self.roll_to_one(functions);
@@ -279,9 +300,13 @@ impl Table {
 
     /// The table under the empty set. Its one group takes what is kept of each group, and no key is searched.
     fn roll_to_one(&self, functions: &[FilteredFunction]) -> Result<Table, AllocError>
-        requires few { ∥ ((finer : List ℕ) × IsOfFew finer functions.now self.now) ∥₁ }
+        requires few { HasFewRecords functions.now self.now }
         ensures rolled { IfOk result (λ table.
             (finer : List ℕ) → IsRollOf finer functions.now self.now [] table) }
+        ensures counted { IfOk result (KeepsCount functions.now self.now) }
+        ensures typed { IfOk result (λ table.
+            (finer : List ℕ) → KeepsTypes finer functions.now self.now [] table) }
+        ensures whole { IfOk result (λ table. IsSome (fin.get table [])) }
     {
         let mut group = Accumulators::new(self.alloc, functions)?;
         for shard in &self.shards {
@@ -314,6 +339,7 @@ impl Table {
     /// `AllocError` where there is no memory for the groups; the table is given up then.
     pub fn finish(self) -> Result<Vec<Group>, AllocError>
         ensures groups { IfOk result (λ groups. AreGroupsOfTable self groups.items) }
+        ensures typed { IfOk result (λ groups. HaveTypesOfTable self groups.items) }
     {
         let count = self.len();
         let Table {
@@ -345,6 +371,7 @@ impl Table {
         hands: usize,
     ) -> Result<Vec<Group>, AllocError>
         ensures groups { IfOk result (λ groups. AreGroupsOfTable self groups.items) }
+        ensures typed { IfOk result (λ groups. HaveTypesOfTable self groups.items) }
     {
         let count = self.len();
         if hands < self.shards.len() || count < PARALLEL_MIN_GROUPS {
@@ -357,6 +384,61 @@ impl Table {
         } = self;
         drop(scratch);
         groups_among(rt, alloc, count, shards)
+    }
+
+    /// Its groups as plain values, by ascending keys: of each the key, the number of its members, and the state of each set
+    /// function over them.
+    ///
+    /// Example: of the records `'y', 3`, `'x', 5` and `'x', 2`, grouped by their first column with SUM of the second one, it
+    /// gives the group of `'x'` with 2 members and the state `Sum(7, 2)`, and then that of `'y'`.
+    ///
+    /// # Errors
+    ///
+    /// `AllocError` where there is no memory for the groups; the table is given up then.
+    pub fn into_entries(self) -> Result<Vec<GroupEntry>, AllocError>
+        ensures { IfOk result (λ entries. entries_of entries.items ≡ table_entries self) }
+    {
+        let count = self.len();
+        let Table {
+            alloc,
+            shards,
+            scratch,
+        } = self;
+        drop(scratch);
+        entries_of(alloc, count, shards)
+    }
+
+    /// Puts a group behind all that are there. These are for the same functions.
+    ///
+    /// Its key is above all that are there (`key_order`: values as ORDER BY has them, NULL last), and it has a state of its
+    /// form for each set function, over its members.
+    ///
+    /// Example: a table that has the group of `'x'` and takes that of `'y'` gives these two with `into_entries`.
+    ///
+    /// # Errors
+    ///
+    /// `AllocError` where there is no memory for it; the table is of no use then.
+    pub fn put_entry(
+        &mut self,
+        functions: &[FilteredFunction],
+        entry: GroupEntry,
+    ) -> Result<(), AllocError>
+        requires behind { IsBehind (data_of entry.key.items) (table_entries self.old) }
+        requires states { IsEntryFor functions.now (entry_of entry) }
+        ensures entries { OnOk result
+            (table_entries self.new ≡ table_entries self.old ++ entry_of entry ∷ []) }
+        ensures counted { OnOk result
+            (CountsEntry functions.now (entry_of entry) self.old self.new) }
+        ensures typed { OnOk result (TypesEntry functions.now (entry_of entry) self.old self.new) }
+    {
+        let GroupEntry {
+            key,
+            members,
+            states,
+        } = entry;
+        let group = Accumulators::of_states(self.alloc, functions, members, states)?;
+        let key = PackedKey::of_values(self.alloc, key.as_slice())?;
+        self.put_to_group(key, group)
     }
 
     /// Puts one more part to the group of a record's key.

@@ -1,6 +1,6 @@
 //! The groups of shards, taken one of each shard in turn.
 ghost use Rattle.std.specs.Prelude.{◌≡◌, IfOk, OnOk, map};
-ghost use Rattle.tables_groups.specs.Bags.{SameBag};
+ghost use Rattle.std.specs.List.Sorted.{IsPermutation};
 ghost use Rattle.tables_groups.specs.GroupSummaries.{group_summary_in};
 ghost use Rattle.tables_groups.specs.Inside.Shards.{all_entries, entries_in};
 ghost use Rattle.tables_groups.specs.Inside.Summaries.{summaries_with};
@@ -56,9 +56,9 @@ pub(crate) fn put_next_of_each(
     groups: &mut Vec<Group>,
     walks: &mut Vec<Walk>,
 ) -> Result<(), AllocError>
-    ensures { OnOk result (SameBag
-        (summaries_with groups.new.items (entries_left walks.new.items))
-        (summaries_with groups.old.items (entries_left walks.old.items))) }
+    ensures { OnOk result (IsPermutation
+        (summaries_with groups.old.items (entries_left walks.old.items))
+        (summaries_with groups.new.items (entries_left walks.new.items))) }
 {
     for place in 0..walks.len() {
         put_next(alloc, groups, &mut walks[place])?;

@@ -1,10 +1,10 @@
 -- A table of groups, apart from where it lies in memory, and what it is for a table to be that of a list of records.
 use Rattle.tables_groups.specs.declared.packed_key.PackedKey.{PackedKey}
 use Rattle.tables_groups.specs.Inside.Keys.{key_in}
-use Rattle.std.specs.Prelude.{⊤, ◌≡◌, ◌+◌, ◌<◌, ◌≤◌, ◌^◌, ℕ, Bool, cond, List, map, length, [], ◌∷◌, ◌++◌, Option, Some, None, IfSome, unwrap_or, if◌then◌else◌}
+use Rattle.std.specs.Prelude.{⊤, ◌≡◌, ◌+◌, ◌-◌, ◌<◌, ◌≤◌, ◌^◌, ℕ, Bool, cond, List, map, length, [], ◌∷◌, ◌++◌, Option, Some, None, IfSome, IsSome, unwrap_or, if◌then◌else◌}
 use Rattle.std.specs.Coded.{Coded}
 use Rattle.std.specs.FinMap as fin
-use Rattle.std.specs.List.{list_any}
+use Rattle.std.specs.List.{IsDistinct, list_any}
 use Rattle.values.specs.Datum.{data_of}
 use Rattle.query_resolve.specs.declared.function.FilteredFunction.{FilteredFunction}
 use Rattle.tables_groups.specs.Inside.Coding.{coded_key}
@@ -14,7 +14,7 @@ use Rattle.tables_groups.specs.Rolled.{finer_keys}
 use Rattle.semantics.specs.Aggregates.{AggregateFunction}
 use Rattle.tables_groups.specs.Functions.{aggregates_of}
 use Rattle.tables_groups.specs.Inside.Group.{GroupState, coded_group, group_state, no_group, with_row, joint_group}
-use Rattle.tables_groups.specs.Bags.{SameBag}
+use Rattle.tables_groups.specs.Bags.{SameBag, weigh}
 use Rattle.tables_groups.specs.GroupSummaries.{group_summaries, group_summary_in}
 use Rattle.tables_groups.specs.declared.group.Group.{Group}
 use Rattle.tables_groups.specs.declared.part.Part.{Part}
@@ -95,6 +95,30 @@ HasGroupsOfFiner finer functions table set rolled =
     (key : Key) (group : GroupState) (rows : List Row)
     → IsTableOf finer functions table rows → IsTableOf set functions rolled rows
     → fin.get rolled key ≡ Some group → group ≡ group_of_keys functions table (finer_keys finer set key rows)
+
+-- a table under the empty set has the group of the empty key
+abbrev pub HasEmptyKey : List ℕ → Contents → Type 0
+HasEmptyKey set table = set ≡ [] → IsSome (fin.get table [])
+
+-- ---- how many records, whatever they are
+
+-- how many records a group has; where there is no group, none
+abbrev pub lines_of : Option GroupState → ℕ
+lines_of None = 0
+lines_of (Some group) = group.lines
+
+-- Of whatever different keys, the groups of a table have at most so many records together; and each group has one accumulator for each function.
+pub record IsCounted (most : ℕ) (functions : List FilteredFunction) (table : Contents) : Type 0 where
+  pub lines : (ks : List Key) → IsDistinct same_key ks → weigh (λ k. lines_of (fin.get table k)) ks ≤ most
+  pub parts : (k : Key) → IfSome (fin.get table k) (λ group. length group.parts ≡ length functions)
+
+-- the groups of a table have fewer than 2^63 records together
+abbrev pub HasFewRecords : List FilteredFunction → Contents → Type 0
+HasFewRecords functions table = IsCounted (2 ^ 63 - 1) functions table
+
+-- the groups of a table that is made of another one have no more records together than those of that one
+abbrev pub KeepsCount : List FilteredFunction → Contents → Contents → Type 0
+KeepsCount functions table rolled = (most : ℕ) → IsCounted most functions table → IsCounted most functions rolled
 
 -- ---- steps
 

@@ -1,20 +1,25 @@
-use Rattle.std.proofs.Common.{◌≡◌, ◌+◌, ◌++◌, Bool, List, Some, drop, map}
+use Rattle.std.proofs.Common.{◌≡◌, ◌+◌, ◌++◌, ℕ, Bool, List, Some, drop, map}
 use Rattle.tables_groups.specs.Inside.Keys.{key_in}
 use Rattle.std.specs.List.{AllByRecursion}
 use Rattle.std.specs.FinMap as fin
 use Rattle.semantics.specs.Groups.{Row}
 use Rattle.tables_groups.specs.Functions.{aggregate_of}
 use Rattle.tables_groups.specs.Inside.Shards.{all_entries}
-use Rattle.tables_groups.specs.Inside.Table.{IsTableOf}
+use Rattle.semantics.specs.Columns.{Field}
+use Rattle.tables_groups.specs.Inside.Table.{IsCounted, IsTableOf}
+use Rattle.tables_groups.specs.Inside.Typed.{HaveColumns, IsTypedTable}
+use Rattle.tables_groups.proofs.Counted.{IsCountedWith}
 use Rattle.tables_groups.proofs.Rolling.{IsRolled}
 use Rattle.tables_groups.proofs.table.Table.roll.Given as goal
 
--- the groups so far are those of the members of the keys so far, and those that are left are groups of this table
+-- the groups so far are those of the members of the keys so far, and those that are left are groups of this table; with these they have no more records, and they are of the types of this table
 abbrev pub invariant-loop-shard : goal.invariant-loop-shard
 invariant-loop-shard l = record {
   rolled : (filters : List (Row → Bool)) (rows : List Row) → IsTableOf l.finer (map (aggregate_of filters) l.functions) l.self rows
       → IsRolled l.finer l.set (map (aggregate_of filters) l.functions) l.rolled (all_entries (drop l.shard-index l.shard-items)) (all_entries l.shard-items) rows;
   each : AllByRecursion (λ e. fin.get l.self (key_in e.0) ≡ Some e.1) (all_entries (drop l.shard-index l.shard-items));
+  counted : (most : ℕ) → IsCounted most l.functions l.self → IsCountedWith most l.functions l.rolled (all_entries (drop l.shard-index l.shard-items));
+  typed : (fields : List Field) → HaveColumns fields l.functions → IsTypedTable fields l.finer l.functions l.self → IsTypedTable fields l.set l.functions l.rolled;
 }
 
 -- the same, where the rest of a shard is left too
@@ -23,4 +28,6 @@ invariant-loop-key l = record {
   rolled : (filters : List (Row → Bool)) (rows : List Row) → IsTableOf l.finer (map (aggregate_of filters) l.functions) l.self rows
       → IsRolled l.finer l.set (map (aggregate_of filters) l.functions) l.rolled (l.key-iterator ++ all_entries (drop (l.shard-index + 1) l.shard-items)) (all_entries l.shard-items) rows;
   each : AllByRecursion (λ e. fin.get l.self (key_in e.0) ≡ Some e.1) (l.key-iterator ++ all_entries (drop (l.shard-index + 1) l.shard-items));
+  counted : (most : ℕ) → IsCounted most l.functions l.self → IsCountedWith most l.functions l.rolled (l.key-iterator ++ all_entries (drop (l.shard-index + 1) l.shard-items));
+  typed : (fields : List Field) → HaveColumns fields l.functions → IsTypedTable fields l.finer l.functions l.self → IsTypedTable fields l.set l.functions l.rolled;
 }

@@ -1,5 +1,4 @@
-use Rattle.std.proofs.Common.{◌≡◌, ◌+◌, ◌++◌, [], List, Option, drop, sym, ap, subst, ◌∙◌}
-use Rattle.std.proofs.Math.Logic.{∥∥₁_elim}
+use Rattle.std.proofs.Common.{◌≡◌, ◌+◌, ◌++◌, [], List, Option, drop, arith, sym, ap, subst, ◌∙◌}
 use Rattle.std.proofs.lemmas.List.{drop_more, drop_all}
 use Rattle.std.specs.List.{IsDistinct}
 use Rattle.std.specs.Map.{keys_of}
@@ -11,8 +10,10 @@ use Rattle.tables_groups.specs.Inside.Shards.{AreApart, all_entries, contents_of
 use Rattle.tables_groups.specs.Inside.Table.{Contents, IsFitting, IsPut, TakesEach, contents_of, group_with_entries}
 use Rattle.tables_groups.specs.declared.shard.Shard.{Shard}
 use Rattle.tables_groups.proofs.Entries.{Entries, key_eq}
-use Rattle.tables_groups.proofs.Rolling.{group_with_entries-append, rolled-to_one, takes-all, takes-append, takes-prop}
+use Rattle.tables_groups.proofs.Counted.{counted-one, takes-few}
+use Rattle.tables_groups.proofs.Rolling.{group_with_entries-append, rolled-to_one, takes-append, whole-one}
 use Rattle.tables_groups.proofs.Shards.{distinct-all}
+use Rattle.tables_groups.proofs.Typed.{one-typed}
 use Rattle.tables_groups.proofs.table.Table.roll_to_one.Goals as goal
 
 distinct-read : (shards inside : List Shard) → shards ≡ inside → AreApart inside → IsDistinct key_eq (keys_of (all_entries shards))
@@ -28,7 +29,7 @@ loop-shard-init c =
     let distinct : IsDistinct key_eq (keys_of es) = distinct-read shards c.self.inside.shards.items is c.self.inside.apart in
     record {
       takes = subst (λ (g : GroupState). TakesEach g es) (sym c.in_ok-group.ensures)
-          (∥∥₁_elim c.requires.few (takes-prop (no_group fs) es) (λ few. takes-all few.0 fs few.1.filters c.args.self.now es few.1.rows view distinct few.1.few few.1.is_table));
+          (takes-few 9223372036854775807 fs c.args.self.now es (omega arith) view distinct c.requires.few);
       joined = ap (λ (g : GroupState). group_with_entries g es) c.in_ok-group.ensures;
     }
 
@@ -74,6 +75,8 @@ returns c =
     let group = c.loop-shard.group in
     let old = c.in_ok-one.one in
     let new = c.put_to_group.new.self in
+    let view : contents_of es ≡ c.args.self.now = ap contents_of_shards is ∙ c.self.view_is in
+    let distinct : IsDistinct key_eq (keys_of es) = distinct-read shards c.self.inside.shards.items is c.self.inside.apart in
     let none : all_entries (drop c.loop-shard.shard-index shards) ≡ [] = ap all_entries (drop_all c.loop-shard.shard-index shards c.loop-shard-test.false) in
     let whole : group ≡ group_with_entries (no_group fs) es = ap (group_with_entries group) (sym none) ∙ c.loop-shard.invariant.joined in
     let put : (k : Key) → IsPut fin.empty new [] (group_with_entries (no_group fs) es) k =
@@ -81,6 +84,8 @@ returns c =
     (subst (λ (key : Key). IsPut old new key (group_with_entries (no_group fs) es) k) c.empty.ensures
     (subst (λ (g : GroupState). IsPut old new (key_in c.empty.result) g k) whole (c.in_ok-put_to_group.ensures k))) in
     record {
-      rolled = λ finer filters rows table. rolled-to_one finer fs filters c.args.self.now new es rows
-          (ap contents_of_shards is ∙ c.self.view_is) (distinct-read shards c.self.inside.shards.items is c.self.inside.apart) table put;
+      rolled = λ finer filters rows table. rolled-to_one finer fs filters c.args.self.now new es rows view distinct table put;
+      counted = counted-one fs c.args.self.now new es view distinct put;
+      typed = λ finer. one-typed finer fs c.args.self.now new es view distinct put;
+      whole = whole-one new (group_with_entries (no_group fs) es) put;
     }
