@@ -1,7 +1,10 @@
 mod Examples
 mod Fronts
+mod Holding
 mod Names
+mod OfGroups
 mod Places
 mod Refusing
+mod Shaped
 mod Taking
 mod Joined

@@ -1,6 +1,6 @@
-pub mod Contents
 pub mod Parts
 pub mod Faults
 pub mod Reader
 pub mod Texts
 pub mod ReadingParts
+pub mod Gathering

@@ -14,7 +14,7 @@ use Rattle.semantics.specs.declared.kind.Kind.TheVariants as kind
 use Rattle.semantics.specs.declared.line_fault.LineFault.{LineFault}
 use Rattle.part_text.specs.Texts.{line_of, text_of}
 use Rattle.part_groups.specs.Groups.{groups_values}
-use Rattle.parts.specs.Contents.{ContentsForm, contents_over}
+use Rattle.tables.specs.Contents.{ContentsForm, contents_over}
 
 -- ---- the first lines
 

@@ -27,7 +27,7 @@ use Rattle.part_groups.specs.Reading.{Stream, count_at, count_within, groups_at,
 use Rattle.part_text.specs.Texts.{text_of}
 use Rattle.query_resolve.specs.Functions.{indexed_functions}
 use Rattle.query_resolve.specs.declared.function.FilteredFunction.{FilteredFunction}
-use Rattle.parts.specs.Contents.{ContentsForm}
+use Rattle.tables.specs.Contents.{ContentsForm}
 use Rattle.parts.specs.Faults.{Fault, FaultKind, PartedFault, in_part, group_fault, no_part, not_a_part, other_version, other_columns, other_query, unexpected_value, out_of_order, out_of_range, wrong_checksum, too_many_lines}
 use Rattle.parts.specs.Parts.{columns_text, mark, values_with}
 

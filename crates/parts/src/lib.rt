@@ -7,8 +7,11 @@
 mod checksum;
 mod columns;
 mod fault;
+mod gathering;
+mod groups;
 mod header;
 mod line_faults;
+mod putting;
 mod reader;
 mod refused;
 mod shape;
