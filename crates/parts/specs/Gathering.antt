@@ -5,7 +5,9 @@ use Rattle.group_states.specs.declared.entry.GroupEntry.{GroupEntry}
 use Rattle.query_plan.specs.Planned.{PlannedQuery}
 use Rattle.query_resolve.specs.Functions.{indexed_functions}
 use Rattle.semantics.specs.Groups.{Key}
-use Rattle.tables.specs.Contents.{HasMembersWithin, IsTypedEntryUnder, groups_in}
+use Rattle.semantics.specs.declared.line_fault.LineFault.{LineFault}
+use Rattle.tables.specs.Contents.{ContentsForm, HasMembersWithin, HasRefusals, IsTypedEntryUnder, groups_in}
+use Rattle.tables.specs.Notes.{Noted}
 use Rattle.tables.specs.Sound.{IsSoundUnder}
 use Rattle.tables.specs.States.{PartialState}
 use Rattle.tables_groups.specs.Inside.Entries.{IsBehind, IsEntryFor}
@@ -51,3 +53,25 @@ pub record CanHold (plan : PlannedQuery) (partial : PartialState) (last : Option
 pub record IsGathering (plan : PlannedQuery) (so_far : Gathering) : Type 0 where
   pub can : CanHold plan so_far.partial so_far.last so_far.left
   pub first : so_far.last ≡ None → groups_in so_far.partial ≡ []
+
+-- ---- what a result of one piece contains
+
+-- the refused lines of the first note
+abbrev pub first_refused : List Noted → List (ℕ × LineFault)
+first_refused [] = []
+first_refused (note ∷ notes) = note.refused
+
+abbrev pub refused_in : PartialState → List (ℕ × LineFault)
+refused_in partial = first_refused partial.notes
+
+-- so many lines, these refused ones, and these groups
+abbrev pub contents_in : PartialState → ContentsForm
+contents_in partial = record { lines = partial.lines; refused = refused_in partial; groups = groups_in partial }
+
+-- a result of one piece, as a part gives it
+abbrev pub IsOfOnePiece : PartialState → Type 0
+IsOfOnePiece partial = HasRefusals partial.lines (refused_in partial) partial
+
+-- what was gathered so far, with the last group
+abbrev pub contents_of : Gathering → ContentsForm
+contents_of so_far = record { lines = so_far.partial.lines; refused = refused_in so_far.partial; groups = groups_of so_far }

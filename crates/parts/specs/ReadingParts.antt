@@ -209,12 +209,12 @@ abbrev pub can_have : List Kind → ℕ → Bool
 can_have [] count = count == 1
 can_have (k ∷ ks) count = true
 
--- The groups behind their number, of no more members together than there are good lines.
-unfoldable pub all_groups_at : ShapeForm → ℕ → Stream → Result (List EntryForm × Stream) Fault
-all_groups_at shape good s = do
+-- How many groups there are.
+unfoldable pub group_count_at : ShapeForm → Stream → Result (ℕ × Stream) Fault
+group_count_at shape s = do
   n ← of_part (count_at s)
   possible ← passed (can_have shape.columns n.0) out_of_range n.1
-  of_part (groups_at shape n.0 None good n.1)
+  Ok n
 
 -- ---- parts
 
@@ -229,12 +229,14 @@ header_of columns query s = do
 abbrev pub header_at : List Field → TreeForm → Stream → Result (Unit {0} × Stream) Fault
 header_at fields q s = header_of (columns_text fields) (canonical_text q) s
 
--- The contents of a part, which has fewer than 2^63 lines with those before it.
+-- The contents of a part, which has fewer than 2^63 lines with those before it: its lines, the refused
+-- ones of them, and the groups, of no more members together than there are good lines.
 unfoldable pub contents_at : List Field → TreeForm → ℕ → Stream → Result (ContentsForm × Stream) Fault
 contents_at fields q before s = do
   n ← lines_at before s
   refused ← all_refused_at fields n.0 n.1
-  groups ← all_groups_at (shape_under fields q) (n.0 - length refused.0) refused.1
+  count ← group_count_at (shape_under fields q) refused.1
+  groups ← of_part (groups_at (shape_under fields q) count.0 None (n.0 - length refused.0) count.1)
   Ok (record { lines = n.0; refused = refused.0; groups = groups.0 }, groups.1)
 
 -- The checksum of these lines.

@@ -1,5 +1,5 @@
 //! The groups of a part.
-ghost use Rattle.std.specs.Prelude.{◌≡◌, ◌++◌, ℕ, IfOk, List, None, OnOk};
+ghost use Rattle.std.specs.Prelude.{◌≡◌, ◌++◌, ℕ, IfOk, List, None, OnOk, length};
 ghost use Rattle.part_groups.specs.Groups.{groups_values, shape_of};
 ghost use Rattle.part_groups.specs.Reading.{groups_at};
 ghost use Rattle.part_text.specs.Texts.{text_of};
@@ -31,6 +31,7 @@ pub(crate) fn next_groups<S: Source>(
     ensures read { S.known source.old
         → Gives (λ next. (groups_of next, S.stream source.new)) result
         (of_part (groups_at (shape_of shape.now) count None start.left (S.stream source.old))) }
+    ensures count { IfOk result (λ next. length (groups_of next) ≡ count) }
     ensures gathering { IfOk result (IsGathering plan.now) }
     ensures hashed { IfOk result (λ next. (bytes : List ℕ) → Holds256 start.hasher bytes
         → Holds256 next.hasher (bytes ++ text_of (groups_values (groups_of next)))) }

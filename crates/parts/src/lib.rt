@@ -6,6 +6,7 @@
 
 mod checksum;
 mod columns;
+mod contents;
 mod fault;
 mod gathering;
 mod groups;

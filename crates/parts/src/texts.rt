@@ -1,5 +1,5 @@
 //! Texts of a part, read one by one.
-ghost use Rattle.std.specs.Prelude.{◌≡◌, IfOk, OnOk, option_map, string_bytes};
+ghost use Rattle.std.specs.Prelude.{◌≡◌, IfOk, IsTrue, OnOk, option_map, string_bytes};
 ghost use Rattle.json.specs.Print.{quoted};
 ghost use Rattle.parts.specs.Faults.{Gives, fault_at_line, kind_of};
 ghost use Rattle.parts.specs.ReadingParts.{other_at, other_text, passed, text_at};
@@ -26,7 +26,8 @@ pub(crate) fn check<S: Source>(
     test: bool,
     kind: PartsFaultKind,
 ) -> Result<(), PartRefusal>
-    ensures { S.known source.now
+    ensures test { OnOk result (IsTrue test) }
+    ensures read { S.known source.now
         → Gives (λ _. tt) result (passed test (kind_of kind) (S.stream source.now)) }
 {
     if test {

@@ -1,4 +1,4 @@
-use Rattle.std.proofs.Common.{◌++◌, None, ap, option_map}
+use Rattle.std.proofs.Common.{◌++◌, ◌∷◌, [], None, ap, option_map, arith, length-append}
 use Rattle.std.proofs.lemmas.Result.{err_from_is_err_and}
 use Rattle.group_states.specs.States.{entry_of}
 use Rattle.part_groups.specs.Groups.{groups_values, shape_of}
@@ -36,6 +36,7 @@ loop-preserved g c =
             rw (next.groups, next.last, next.left)
             (groups_go_on shape (groups_of c.loop.so_far) c.args.count c.loop.counter last c.loop.so_far.left (g.S.Source.stream c.loop.source) group (g.S.Source.stream c.next_group.new.source) total c.loop-test.true here so_far.1),
           );
+      count = rw next.groups (omega (arith, c.loop.invariant.count, length-append (groups_of c.loop.so_far) (group ∷ [])));
       gathering = next.gathering;
       hashed = λ bytes holds.
           rw next.groups
