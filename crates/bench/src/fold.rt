@@ -20,7 +20,7 @@ use std::sync::Wait;
 use std::thread::Threads;
 use std::time::{Clock, Instant};
 use std::{fs, io};
-use tables::{Job, JobBy, Parallel, Partial, job_law};
+use tables::{Job, JobBy, Parallel, Partial, job_law, sound_law};
 use values::Schema;
 
 /// The least bytes of a piece, but perhaps of the last one.
@@ -87,6 +87,7 @@ fn work<R: Threads + Wait + Clock + Print + Eprint + Sync>(
         return Ok(());
     };
     let (lines, refused) = (result.lines(), result.refused());
+    sound_law();
     let Ok(groups) = result.finish_by(&Parallel { rt, workers: hands }, plan) else {
         return Ok(());
     };

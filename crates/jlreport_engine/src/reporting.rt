@@ -1,7 +1,8 @@
 //! Who finishes the groups of a report and writes its rows: the calling thread alone, or several.
 ghost use Rattle.std.specs.Prelude.{◌≡◌, ◌<◌, ℕ, IfOk, List};
 ghost use Rattle.tables.specs.Pieces.{IndexedPiece, IsCutInto};
-ghost use Rattle.tables.specs.Planned.{AreFittingUnder, IsPartialUnder, IsResultUnder, StandsForUnder};
+ghost use Rattle.tables.specs.Planned.{AreFittingUnder, IsResultUnder, StandsForUnder};
+ghost use Rattle.tables.specs.Sound.{IsSoundUnder};
 ghost use Rattle.report.specs.Report.{report_of};
 
 use query::Plan;
@@ -23,10 +24,10 @@ pub(crate) trait ReportExecutor {
         ensures { IfOk result (λ text.
             text.items ≡ report_of plan.now.fields plan.now.query groups.now.found) };
 
-    /// The groups and the refused lines of a result over some pieces, whoever finishes them.
+    /// The groups and the refused lines of a result that the plan can finish, whoever finishes them.
     fn groups(&self, plan: &Plan, whole: Partial) -> Result<Groups, AllocError>
         requires ready { Self.ready self.now }
-        requires of_plan { IsPartialUnder plan.now whole }
+        requires sound { IsSoundUnder plan.now whole }
         ensures fit { IfOk result (λ groups. AreFittingUnder plan.now groups.found) }
         ensures whole { IfOk result (λ groups. (input : List ℕ) (pieces : List IndexedPiece)
             → StandsForUnder plan.now whole pieces → IsCutInto input pieces

@@ -17,7 +17,7 @@ use std::io::{Read, Write};
 use std::marker::{Send, Sync};
 use std::sync::Wait;
 use std::thread::Threads;
-use tables::{Groups, Parallel, Partial, Serial};
+use tables::{Groups, Parallel, Partial, Serial, sound_law};
 
 /// What is written of an input, and what that is made of.
 #[derive(Drop)]
@@ -166,6 +166,7 @@ fn texts_of<X: ReportExecutor>(
         → StandsForInput plan.now.fields plan.now.query partial input
         → texts.refused.items ≡ refusals plan.now.fields input) }
 {
+    sound_law();
     let groups = executor.groups(plan, partial)?;
     let report = executor.report(alloc, &groups, plan)?;
     let refused = refused_text(alloc, &groups, plan.schema())?;

@@ -3,10 +3,11 @@ use Rattle.std.proofs.Common.{◌≡◌, ◌+◌, ◌++◌, ◌⊎◌, ℕ, List
 use Rattle.std.specs.FinMap as fin
 use Rattle.semantics.specs.Aggregates.{AggregateFunction}
 use Rattle.tables_groups.specs.Inside.Group.{GroupState}
-use Rattle.tables_groups.specs.Inside.Table.{AreGroupsWithin, CanJoin, Contents, IsFitting, IsTableOf}
+use Rattle.tables_groups.specs.Inside.Table.{AreGroupsWithin, CanJoin, Contents, HasGroupsOfBoth, IsFitting, IsTableOf}
 use Rattle.semantics.specs.Groups.{Row}
 use Rattle.query_resolve.specs.declared.function.FilteredFunction.{FilteredFunction}
 use Rattle.tables_groups.proofs.AnyOrder.{table-same}
+use Rattle.tables.specs.Sound.{HasGroupsOfEither}
 use Rattle.tables.proofs.Bags.{weigh-append}
 
 fits-flip : (a b : Option GroupState) → IfSome b (λ part. IsFitting part a) → IfSome a (λ part. IsFitting part b)
@@ -44,3 +45,8 @@ within-either_way first second pair table (inl e) joins = subst (λ (p : Content
 within-either_way first second pair table (inr e) joins =
     λ functions m n p q.
     subst (λ lines. AreGroupsWithin lines functions table) (plus-flip n m) (subst (λ (p : Contents × Contents). JoinsWithin p.0 p.1 table) e joins functions n m q p)
+
+pub groups-either_way : (first second : Contents) (pair : Contents × Contents) (table : Contents) → (pair ≡ (first, second)) ⊎ (pair ≡ (second, first))
+    → HasGroupsOfBoth pair.0 pair.1 table → HasGroupsOfEither first second table
+groups-either_way first second pair table (inl e) both = inl (subst (λ (p : Contents × Contents). HasGroupsOfBoth p.0 p.1 table) e both)
+groups-either_way first second pair table (inr e) both = inr (subst (λ (p : Contents × Contents). HasGroupsOfBoth p.0 p.1 table) e both)

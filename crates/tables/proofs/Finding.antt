@@ -1,7 +1,7 @@
 -- The rows of the groups of all grouping sets.
 use Rattle.std.proofs.Common.{◌≡◌, ◌+◌, ℕ, List, [], ◌∷◌, map, Vec, Global, refl, sym, ap, ◌∙◌, arith}
 use Rattle.std.proofs.lemmas.List.{map-append}
-use Rattle.std.specs.List.{enumerate_from, flat_map}
+use Rattle.std.specs.List.{AllZip, enumerate_from, flat_map}
 use Rattle.semantics.specs.Aggregates.{AggregateFunction}
 use Rattle.tables_groups.specs.declared.group.Group.{Group}
 use Rattle.semantics.specs.Groups.{Row, SetGroup, keys, members}
@@ -10,7 +10,7 @@ use Rattle.tables_groups.specs.GroupSummaries.{group_summaries, group_summary_in
 use Rattle.tables_groups.specs.Bags.{SameBag, weigh}
 use Rattle.tables.proofs.Bags.{weigh-append, weigh-map}
 use Rattle.tables_groups.specs.Found.{rows_from}
-use Rattle.tables.specs.Sets.{AreGroupsOf}
+use Rattle.tables.specs.Sets.{AreGroupsOfSet}
 
 -- the groups of one grouping set, whose index in the list of sets is this one
 abbrev pub set_groups : List Row → ℕ × List ℕ → List SetGroup
@@ -32,7 +32,11 @@ one-set f n set fs gs rows same =
     ∙ same (λ r. f (n, r))
     ∙ sym (weigh-set f n set fs rows)
 
-found-from : (f : Found → ℕ) (n : ℕ) (sets : List (List ℕ)) (fs : List AggregateFunction) (groups : List (Vec Group Global)) (rows : List Row) → AreGroupsOf sets fs groups rows
+-- for each set of a list there are its groups of the records
+abbrev pub AreGroupsOfRecords : List AggregateFunction → List Row → List (List ℕ) → List (Vec Group Global) → Type 0
+AreGroupsOfRecords fs rows sets groups = AllZip (λ set (of_set : Vec Group Global). AreGroupsOfSet set fs of_set.items rows) sets groups
+
+found-from : (f : Found → ℕ) (n : ℕ) (sets : List (List ℕ)) (fs : List AggregateFunction) (groups : List (Vec Group Global)) (rows : List Row) → AreGroupsOfRecords fs rows sets groups
     → weigh f (rows_from n groups) ≡ weigh f (map (found_group fs) (flat_map (set_groups rows) (enumerate_from n sets)))
 found-from f n [] fs [] rows h = refl
 found-from f n [] fs (g ∷ groups) rows h = absurd h
@@ -47,7 +51,7 @@ found-from f n (s ∷ sets) fs (g ∷ groups) rows h =
     omega (arith, a, b, c, d)
 
 -- the rows of the groups of each set are those of all groups
-pub all-found : (sets : List (List ℕ)) (fs : List AggregateFunction) (groups : List (Vec Group Global)) (rows : List Row) → AreGroupsOf sets fs groups rows
+pub all-found : (sets : List (List ℕ)) (fs : List AggregateFunction) (groups : List (Vec Group Global)) (rows : List Row) → AreGroupsOfRecords fs rows sets groups
     → SameBag (rows_from 0 groups) (all_found sets fs rows)
 all-found sets fs groups rows h = λ f. found-from f 0 sets fs groups rows h
 

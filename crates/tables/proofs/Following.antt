@@ -107,7 +107,7 @@ behind-within most before notes front all well low are few =
 
 -- ---- the pieces of an input come to what the input comes to
 
-count-lines : (input : List ℕ) (pieces : List IndexedPiece) → IsCutInto input pieces → length (all_lines pieces) ≡ length (lines input)
+pub count-lines : (input : List ℕ) (pieces : List IndexedPiece) → IsCutInto input pieces → length (all_lines pieces) ≡ length (lines input)
 count-lines input pieces c = ap length (cut-lines pieces c.feeds ∙ ap lines c.joined)
 
 count-numbered : (fields : List Field) (before : ℕ) (pieces : List IndexedPiece) → length (refused_lines_from before (map (note_of fields) pieces)) ≡ length (refused_lines_within fields pieces)

@@ -1,6 +1,7 @@
 mod Examples
 pub mod SetTables
 pub mod Telling
+pub mod Once
 pub mod Orders
 pub mod Reading
 pub mod Narrow
@@ -8,8 +9,10 @@ pub mod EitherWay
 pub mod Merging
 pub mod Finding
 pub mod Members
+pub mod Columns
 pub mod Fitting
-pub mod OneFit
+pub mod OneSound
+pub mod Sound
 pub mod Cutting
 pub mod SameBags
 pub mod Numbered
@@ -18,8 +21,6 @@ pub mod Bags
 pub mod Bound
 pub mod Taken
 pub mod Following
-pub mod Types
-pub mod TypeTests
 pub mod Growing
 pub mod Denotations
 pub mod Sharing

@@ -10,7 +10,7 @@ use Rattle.std.proofs.lemmas.Bool.Decides.{Decides-eqb, nat_tests}
 use Rattle.std.proofs.lemmas.Map.Keys.{IsStrictlyIncreasing-from_distinct, sorted_from_strictly_increasing, below_from_sorted}
 use Rattle.tables_groups.specs.Bags.{SameBag, weigh}
 use Rattle.tables.proofs.Bags.{bag-map}
-use Rattle.tables.proofs.Fitting.{distinct-same}
+use Rattle.tables.proofs.Once.{distinct-same}
 
 abbrev In : {X : Type 0} → X → List X → Type 0
 In x [] = ⊥

@@ -1,30 +1,29 @@
 -- Tables of grouping sets, rolled out of one another.
-use Rattle.std.proofs.Common.{◌≡◌, ◌≢◌, ◌==◌, ◌<◌, ◌≤◌, ℕ, zero, suc, IfOk, IfSome, Result, Ok, Err, Option, Some, map, take, Bool, true, false, ◌||◌, not, List, [], ◌∷◌, ◌++◌, All, Vec, Global, length, slice_index_or, get_or, nat_eq, nat_lt, refl, sym, ap, subst, ◌∙◌, arith, append_assoc}
+use Rattle.std.proofs.Common.{◌≡◌, ◌≢◌, ◌==◌, ◌<◌, ◌≤◌, ◌-◌, ◌^◌, ℕ, zero, suc, IfOk, IfSome, Result, Ok, Err, Option, Some, take, Bool, true, false, ◌||◌, not, List, [], ◌∷◌, ◌++◌, All, Vec, Global, length, slice_index_or, get_or, nat_eq, nat_lt, refl, sym, ap, subst, ◌∙◌, arith, append_assoc}
 use Rattle.std.proofs.lemmas.Bool.Decides.{Decides-eqb}
 use Rattle.std.proofs.lemmas.List.Elements.{All-cons, All-from_recursion, All-map, recursion_from_All}
 use Rattle.std.proofs.lemmas.Slice.Eq.{slice_eq-Decides}
 use Rattle.std.specs.Bool.{Decides}
 use Rattle.std.specs.Cmp.Lexicographic.{pointwise}
-use Rattle.std.specs.List.{AllByRecursion, list_any, remove}
+use Rattle.std.specs.List.{AllByRecursion, AllZip, list_any, remove}
 use Rattle.std.specs.List.Sorted.{IsPermutation}
 use Rattle.std.specs.Result.{result_ok}
 use Rattle.semantics.specs.Columns.{Field}
 use Rattle.semantics.specs.Syntax.{TreeForm}
-use Rattle.semantics.specs.Aggregates.{AggregateFunction}
-use Rattle.tables_groups.specs.Functions.{aggregate_of}
+use Rattle.tables_groups.specs.Functions.{aggregates_of}
 use Rattle.semantics.specs.Names.{places_of}
 use Rattle.query_resolve.specs.Resolution.{contents}
 use Rattle.semantics.specs.Sets.{grouping_places, sets_of}
 use Rattle.query_resolve.proofs.DistinctSets.{names_kept, set_of_names, sets_by_names}
 use Rattle.tables_groups.specs.declared.group.Group.{Group}
 use Rattle.tables_groups.specs.Rolled.{AreAmong}
-use Rattle.semantics.specs.Groups.{Row}
-use Rattle.tables_groups.specs.Inside.Table.{Contents, IsTableOf}
+use Rattle.tables_groups.specs.Inside.Table.{AreGroupsOfTable, Contents, IsRollOf, KeepsCount}
+use Rattle.tables_groups.specs.Inside.Typed.{HaveTypesOfTable, KeepsTypes}
 use Rattle.query_resolve.specs.declared.function.FilteredFunction.{FilteredFunction}
 use Rattle.tables.specs.declared.rolling.Roll.{Roll}
 use Rattle.tables.specs.declared.rolling.SetTable.{SetTable}
-use Rattle.tables.specs.SetTables.{AreRolled, AreTablesOf, HasFiner, IsMade, IsMadeOrRolled}
-use Rattle.tables.specs.Sets.{AreGroupsOf, AreGroupsOfSet}
+use Rattle.tables.specs.Properties.{AreGroupsWith, HasProperty, Property, of_at_most, of_records, of_types}
+use Rattle.tables.specs.SetTables.{AreRolled, HasFiner, IsMade, IsMadeOrRolled, IsOfSameRecords}
 use Rattle.tables.proofs.Bags.{all-everywhere, all-filter, all-map}
 
 -- ---- columns that are among others
@@ -155,11 +154,9 @@ others-left P [] (suc i) h = tt
 others-left P (x ∷ xs) zero h = h.1
 others-left P (x ∷ xs) (suc i) h = (h.0, others-left P xs i h.1)
 
--- tables of the records, but for one, are such tables
-pub tables-left : (fs : List AggregateFunction) (tables : List SetTable) (i : ℕ) (rows : List Row) → AreTablesOf fs tables rows → AreTablesOf fs (remove tables i) rows
-tables-left fs tables i rows h =
-    let P : SetTable → Type 0 = λ table. IsTableOf table.set.items fs table.table rows in
-    All-from_recursion P (remove tables i) (others-left P tables i (recursion_from_All P tables h))
+-- what holds of all tables holds of all but one
+pub all-left : (P : SetTable → Type 0) (tables : List SetTable) (i : ℕ) → All P tables → All P (remove tables i)
+all-left P tables i h = All-from_recursion P (remove tables i) (others-left P tables i (recursion_from_All P tables h))
 
 -- ---- a table that has the columns of a set
 
@@ -169,12 +166,11 @@ finer-there set grouping tables among made h = made (λ k d l e. h k d l (subst 
 
 -- ---- the groups of the sets so far
 
-pub groups-more : (sets : List (List ℕ)) (fs : List AggregateFunction) (groups : List (Vec Group Global)) (rows : List Row) (set : List ℕ) (more : Vec Group Global)
-    → AreGroupsOf sets fs groups rows → AreGroupsOfSet set fs more.items rows → AreGroupsOf (sets ++ set ∷ []) fs (groups ++ more ∷ []) rows
-groups-more [] fs [] rows set more h g = (g, tt)
-groups-more [] fs (x ∷ groups) rows set more h g = absurd h
-groups-more (s ∷ sets) fs [] rows set more h g = absurd h
-groups-more (s ∷ sets) fs (x ∷ groups) rows set more h g = (h.0, groups-more sets fs groups rows set more h.1 g)
+pub groups-more : {A B : Type 0} (R : A → B → Type 0) (xs : List A) (ys : List B) (x : A) (y : B) → AllZip R xs ys → R x y → AllZip R (xs ++ x ∷ []) (ys ++ y ∷ [])
+groups-more R [] [] x y h g = (g, tt)
+groups-more R [] (b ∷ ys) x y h g = absurd h
+groups-more R (a ∷ xs) [] x y h g = absurd h
+groups-more R (a ∷ xs) (b ∷ ys) x y h g = (h.0, groups-more R xs ys x y h.1 g)
 
 -- ---- a table at its place
 
@@ -187,16 +183,42 @@ placed-at set tables found place e within there none made =
     let lt : place < length found = placed set found place within none (subst (IsMade set) (sym e) made) in
     subst (λ (ts : List SetTable). (place < length ts) × ((d : SetTable) → (slice_index_or ts place d).set.items ≡ set)) e (lt, there lt)
 
--- a table of the records, by its own set
-pub table-at : (fs : List AggregateFunction) (tables : List SetTable) (place : ℕ) (item : SetTable) (rows : List Row) → place < length tables → item ≡ get_or tables place item
-    → AreTablesOf fs tables rows → IsTableOf item.set.items fs item.table rows
-table-at fs tables place item rows lt is h = subst (λ (t : SetTable). IsTableOf t.set.items fs t.table rows) (sym is) (h place item lt)
+-- what holds of all tables under their sets holds of a table under its own set
+pub table-at : (P : List ℕ → Contents → Type 0) (tables : List SetTable) (place : ℕ) (item : SetTable) → place < length tables → item ≡ get_or tables place item
+    → All (λ (table : SetTable). P table.set.items table.table) tables → P item.set.items item.table
+table-at P tables place item lt is h = subst (λ (t : SetTable). P t.set.items t.table) (sym is) (h place item lt)
 
--- the same by the set for which it stands there
-pub table-of : (fs : List AggregateFunction) (tables : List SetTable) (place : ℕ) (item : SetTable) (set : List ℕ) (rows : List Row) → place < length tables → item ≡ get_or tables place item
-    → ((d : SetTable) → (slice_index_or tables place d).set.items ≡ set) → AreTablesOf fs tables rows → IsTableOf set fs item.table rows
-table-of fs tables place item set rows lt is at h =
-    subst (λ (s : List ℕ). IsTableOf s fs item.table rows) (ap (λ (t : SetTable). t.set.items) is ∙ at item) (table-at fs tables place item rows lt is h)
+-- and under the set for which it stands there
+pub table-of : (P : List ℕ → Contents → Type 0) (tables : List SetTable) (place : ℕ) (item : SetTable) (set : List ℕ) → place < length tables → item ≡ get_or tables place item
+    → ((d : SetTable) → (slice_index_or tables place d).set.items ≡ set) → All (λ (table : SetTable). P table.set.items table.table) tables → P set item.table
+table-of P tables place item set lt is at h =
+    subst (λ (s : List ℕ). P s item.table) (ap (λ (t : SetTable). t.set.items) is ∙ at item) (table-at P tables place item lt is h)
+
+-- ---- what rolling up and finishing keep
+
+kept : (finer set : List ℕ) (functions : List FilteredFunction) (table rolled : Contents) → IsRollOf finer functions table set rolled → KeepsCount functions table rolled
+    → KeepsTypes finer functions table set rolled → (property : Property) → HasProperty property finer functions table → HasProperty property set functions rolled
+kept finer set functions table rolled records count types (of_records filters rows) h = records filters rows h
+kept finer set functions table rolled records count types (of_types fields) h = (h.0, types fields h.0 h.1)
+kept finer set functions table rolled records count types (of_at_most most) h = count most h
+
+-- a table that is rolled up, where that was done, has the properties of the one that it is made of
+pub roll-kept : {E : Type 0} (finer set : List ℕ) (functions : List FilteredFunction) (table : Contents) (r : Result Contents E)
+    → IfOk r (IsRollOf finer functions table set) → IfOk r (KeepsCount functions table) → IfOk r (KeepsTypes finer functions table set)
+    → IfOk r (λ rolled. (property : Property) → HasProperty property finer functions table → HasProperty property set functions rolled)
+roll-kept finer set functions table (Ok rolled) records count types = kept finer set functions table rolled records count types
+roll-kept finer set functions table (Err e) records count types = tt
+
+-- so have the groups of a table
+pub groups-kept : (set : List ℕ) (functions : List FilteredFunction) (table : Contents) (groups : List Group) → AreGroupsOfTable table groups → HaveTypesOfTable table groups
+    → (property : Property) → HasProperty property set functions table → AreGroupsWith property functions set groups
+groups-kept set functions table groups records types (of_records filters rows) h = records set (aggregates_of filters functions) rows h
+groups-kept set functions table groups records types (of_types fields) h = types fields set functions h.1
+groups-kept set functions table groups records types (of_at_most most) h = tt
+
+-- tables of fewer than 2^63 records, as a property
+abbrev pub of_few : Property
+of_few = of_at_most (2 ^ 63 - 1)
 
 -- ---- sets in another order
 
@@ -209,10 +231,9 @@ first-made set tables table is same none = (subst (λ (ts : List SetTable). All 
 
 -- ---- rolls
 
--- what is to become of a roll: where it has a table, that is the table of its set over the records whose tables the others are
+-- what is to become of a roll: where it has a table, that has under its set the properties that the others have
 abbrev pub IsRolledOutOf : List FilteredFunction → List SetTable → Roll → Type 0
-IsRolledOutOf functions tables roll = IfSome roll.table (λ table. (filters : List (Row → Bool)) (rows : List Row)
-    → AreTablesOf (map (aggregate_of filters) functions) tables rows → IsTableOf roll.set.items (map (aggregate_of filters) functions) table rows)
+IsRolledOutOf functions tables roll = IfSome roll.table (IsOfSameRecords functions tables roll.set.items)
 
 abbrev IsOther : List ℕ → Roll → Type 0
 IsOther set roll = roll.set.items ≢ set
@@ -256,14 +277,12 @@ pub made-at : (set : List ℕ) (tables : List SetTable) (place : ℕ) → place 
 made-at set [] place lt at none = omega (arith, lt)
 made-at set (table ∷ tables) place lt at none = none place table lt (at table)
 
--- the table of a roll is that of the records
+-- the table of a roll has the properties of the others
 pub rolled-table : (functions : List FilteredFunction) (tables : List SetTable) (roll : Roll) (made : SetTable) → made.set.items ≡ roll.set.items → roll.table ≡ Some made.table
-    → IsRolledOutOf functions tables roll → (filters : List (Row → Bool)) (rows : List Row) → AreTablesOf (map (aggregate_of filters) functions) tables rows
-    → IsTableOf made.set.items (map (aggregate_of filters) functions) made.table rows
-rolled-table functions tables roll made set table is filters rows h =
-    subst (λ (s : List ℕ). IsTableOf s (map (aggregate_of filters) functions) made.table rows) (sym set)
-    (subst (λ (o : Option Contents). IfSome o (λ table. (filters : List (Row → Bool)) (rows : List Row)
-    → AreTablesOf (map (aggregate_of filters) functions) tables rows → IsTableOf roll.set.items (map (aggregate_of filters) functions) table rows)) table is filters rows h)
+    → IsRolledOutOf functions tables roll → IsOfSameRecords functions tables made.set.items made.table
+rolled-table functions tables roll made set table is =
+    subst (λ (s : List ℕ). IsOfSameRecords functions tables s made.table) (sym set)
+    (subst (λ (o : Option Contents). IfSome o (IsOfSameRecords functions tables roll.set.items)) table is)
 
 -- what holds of a value that may not have been made holds where it is kept
 pub some-of_ok : {A E : Type 0} (P : A → Type 0) (r : Result A E) → IfOk r P → IfSome (result_ok r) P
@@ -287,5 +306,4 @@ pub rolled-each : (functions : List FilteredFunction) (tables : List SetTable) (
     → All (IsRolledOutOf functions tables) news
 rolled-each functions tables olds news n each = λ i d l.
     let roll = each i d (omega (arith, l, n)) in
-    subst (λ (s : List ℕ). IfSome (slice_index_or news i d).table (λ table. (filters : List (Row → Bool)) (rows : List Row)
-    → AreTablesOf (map (aggregate_of filters) functions) tables rows → IsTableOf s (map (aggregate_of filters) functions) table rows)) (sym roll.0) roll.1
+    subst (λ (s : List ℕ). IfSome (slice_index_or news i d).table (IsOfSameRecords functions tables s)) (sym roll.0) roll.1

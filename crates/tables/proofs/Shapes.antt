@@ -1,6 +1,6 @@
 -- Grouping sets, set functions and texts that are the same.
 use Rattle.std.proofs.Common.{◌≡◌, Bool, false, ◌&&◌, List, [], ◌∷◌, map, Option, Some, None, Vec, Global, ℕ, nat_eq, string_bytes, refl, ap, ◌∙◌, arith}
-use Rattle.std.proofs.lemmas.Bool.Decides.{Decides-eqb}
+use Rattle.std.proofs.lemmas.Bool.Decides.{Decides-and, Decides-eqb}
 use Rattle.std.proofs.lemmas.Slice.Eq.{slice_eq-Decides}
 use Rattle.std.specs.Bool.{Decides}
 use Rattle.std.specs.Cmp.Lexicographic.{pointwise}
@@ -13,7 +13,6 @@ use Rattle.semantics.specs.declared.function.ColumnFunction.{ColumnFunction}
 use Rattle.semantics.specs.declared.function.ColumnFunction.TheVariants as at
 use Rattle.query_resolve.specs.declared.function.FilteredFunction.{FilteredFunction}
 use Rattle.query_resolve.specs.Resolution.{contents}
-use Rattle.tables.proofs.TypeTests.{both-Decides}
 
 pointwise-contents : (test : List ℕ → List ℕ → Bool) (xs ys : List (Vec ℕ Global)) → pointwise (λ x y. test x.items y.items) xs ys ≡ pointwise test (contents xs) (contents ys)
 pointwise-contents test [] [] = refl
@@ -110,7 +109,7 @@ index-Decides (Some m) (Some n) = (λ h. ap Some ((Decides-eqb m n).0 h), λ h. 
 -- `==` of two set functions with the indexes of their filters is true exactly where they are the same
 filtered-Decides : (f g : FilteredFunction) → Decides (filtered.eq-value.it f g) (f ≡ g)
 filtered-Decides f g =
-    let h = both-Decides _ _ (function-Decides f.function g.function) (index-Decides f.filter g.filter) in
+    let h = Decides-and _ _ (function-Decides f.function g.function) (index-Decides f.filter g.filter) in
     (λ e. let p = h.0 e in λ i. record { function = p.0 i; filter = p.1 i }, λ e. h.1 (ap (λ (x : FilteredFunction). x.function) e, ap (λ (x : FilteredFunction). x.filter) e))
 
 -- what `==` says of two lists of set functions

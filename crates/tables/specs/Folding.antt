@@ -10,7 +10,7 @@ use Rattle.semantics.specs.Sets.{grouping_places}
 use Rattle.query_resolve.specs.Functions.{indexed_functions}
 use Rattle.semantics.specs.Conditions.{kept_records}
 use Rattle.semantics.specs.Groups.{Row}
-use Rattle.tables_groups.specs.Inside.Table.{Contents, IsOfFew, IsTableOf, TakesOne}
+use Rattle.tables_groups.specs.Inside.Table.{Contents, IsTableOf, TakesOne}
 use Rattle.query_plan.specs.Planned.{PlannedQuery}
 use Rattle.semantics.specs.Found.{aggregate_functions}
 use Rattle.tables.specs.declared.folding.Folding.{Folding}
@@ -65,7 +65,3 @@ HasRoomUnder plan table more = ∥ HasRoom plan.fields plan.query table more ∥
 abbrev pub TakesRecordUnder : PlannedQuery → Folding → Type 0
 TakesRecordUnder plan folding =
     ∥ TakesOne (grouping_places plan.fields plan.query) (indexed_functions plan.fields plan.query) folding.table ∥₁
-
--- the table is that of some list of fewer than 2^63 records
-abbrev pub IsOfFewUnder : PlannedQuery → Contents → Type 0
-IsOfFewUnder plan table = ∥ IsOfFew (grouping_places plan.fields plan.query) (indexed_functions plan.fields plan.query) table ∥₁

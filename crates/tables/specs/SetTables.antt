@@ -1,47 +1,34 @@
 -- Tables of grouping sets, rolled out of one another.
-use Rattle.std.specs.Prelude.{◌≡◌, ◌≢◌, ◌<◌, ◌^◌, Bool, ℕ, List, All, IfSome, length, slice_index_or}
+use Rattle.std.specs.Prelude.{◌≡◌, ◌≢◌, ◌<◌, ℕ, List, All, IfSome, length, slice_index_or}
 use Rattle.std.specs.declared.alloc.Global.{Global}
 use Rattle.std.specs.declared.vec.Vec.{Vec}
 use Rattle.query_resolve.specs.declared.function.FilteredFunction.{FilteredFunction}
-use Rattle.semantics.specs.Aggregates.{AggregateFunction}
-use Rattle.tables_groups.specs.Functions.{aggregates_of}
 use Rattle.tables_groups.specs.declared.group.Group.{Group}
 use Rattle.tables_groups.specs.Rolled.{AreAmong}
-use Rattle.semantics.specs.Groups.{Row}
-use Rattle.tables_groups.specs.Inside.Table.{Contents, IsTableOf, IsTableUnder}
+use Rattle.tables_groups.specs.Inside.Table.{Contents, HasFewRecords}
 use Rattle.tables.specs.declared.rolling.Roll.{Roll}
 use Rattle.tables.specs.declared.rolling.SetTable.{SetTable}
-use Rattle.tables.specs.Sets.{AreGroupsOf}
+use Rattle.tables.specs.Properties.{AreGroupsOf, HasProperty, Property}
 
--- each table is that of the records under its set
-abbrev pub AreTablesOf : List AggregateFunction → List SetTable → List Row → Type 0
-AreTablesOf functions tables rows = All (λ (table : SetTable). IsTableOf table.set.items functions table.table rows) tables
+-- each table has a property, under its set
+abbrev pub HaveProperty : Property → List FilteredFunction → List SetTable → Type 0
+HaveProperty property functions tables = All (λ (table : SetTable). HasProperty property table.set.items functions table.table) tables
 
--- so it is for set functions whose FILTERs are given by their indexes, where the filters keep this
-abbrev pub AreTablesUnder : List FilteredFunction → List (Row → Bool) → List SetTable → List Row → Type 0
-AreTablesUnder functions filters tables rows = AreTablesOf (aggregates_of filters functions) tables rows
+-- the groups of each table have fewer than 2^63 records together
+abbrev pub AreOfFew : List FilteredFunction → List SetTable → Type 0
+AreOfFew functions tables = All (λ (table : SetTable). HasFewRecords functions table.table) tables
 
--- the tables are those of some list of fewer than 2^63 records, whatever the filters keep
-pub record AreOfFew (functions : List FilteredFunction) (tables : List SetTable) : Type 0 where
-  pub filters : List (Row → Bool)
-  pub rows : List Row
-  pub are_tables : AreTablesUnder functions filters tables rows
-  pub few : length rows < 2 ^ 63
-
--- tables are of the records that others are of: whatever records those are, and whatever the filters keep
+-- Tables are of the records that others are of: whatever records those are, and whatever the filters keep. So they are of the types and of the number of records of these.
 abbrev pub AreOfSameRecords : List FilteredFunction → List SetTable → List SetTable → Type 0
-AreOfSameRecords functions others tables =
-    (filters : List (Row → Bool)) (rows : List Row) → AreTablesUnder functions filters others rows → AreTablesUnder functions filters tables rows
+AreOfSameRecords functions others tables = (property : Property) → HaveProperty property functions others → HaveProperty property functions tables
 
 -- so is one table, under a set
 abbrev pub IsOfSameRecords : List FilteredFunction → List SetTable → List ℕ → Contents → Type 0
-IsOfSameRecords functions others set table =
-    (filters : List (Row → Bool)) (rows : List Row) → AreTablesUnder functions filters others rows → IsTableUnder set functions filters table rows
+IsOfSameRecords functions others set table = (property : Property) → HaveProperty property functions others → HasProperty property set functions table
 
--- tables are of the records that one table is of, which is under a finer set
+-- tables are of the records, of the types and of the number of records that one table is of, which is under a finer set
 abbrev pub AreRollsOf : List ℕ → List FilteredFunction → Contents → List SetTable → Type 0
-AreRollsOf finer functions table tables =
-    (filters : List (Row → Bool)) (rows : List Row) → IsTableUnder finer functions filters table rows → AreTablesUnder functions filters tables rows
+AreRollsOf finer functions table tables = (property : Property) → HasProperty property finer functions table → HaveProperty property functions tables
 
 -- one of the tables is that of the set
 abbrev pub IsMade : List ℕ → List SetTable → Type 0
@@ -71,12 +58,11 @@ IsMadeOrRolled set tables rolls = All (λ (table : SetTable). table.set.items �
 
 -- ---- groups
 
--- for each set of a list there are its groups of the records that tables are of
+-- for each set of a list there are its groups of the records that tables are of, and they have the types that these have
 abbrev pub AreGroupsOfSets : List FilteredFunction → List SetTable → List (List ℕ) → List (Vec Group Global) → Type 0
-AreGroupsOfSets functions tables sets groups =
-    (filters : List (Row → Bool)) (rows : List Row) → AreTablesUnder functions filters tables rows → AreGroupsOf sets (aggregates_of filters functions) groups rows
+AreGroupsOfSets functions tables sets groups = (property : Property) → HaveProperty property functions tables → AreGroupsOf property functions sets groups
 
--- for each set of a list there are its groups of the records that one table is of, which is under a finer set
+-- so are those of one table, which is under a finer set
 abbrev pub AreGroupsOfRolls : List ℕ → List FilteredFunction → Contents → List (List ℕ) → List (Vec Group Global) → Type 0
 AreGroupsOfRolls finer functions table sets groups =
-    (filters : List (Row → Bool)) (rows : List Row) → IsTableUnder finer functions filters table rows → AreGroupsOf sets (aggregates_of filters functions) groups rows
+    (property : Property) → HasProperty property finer functions table → AreGroupsOf property functions sets groups

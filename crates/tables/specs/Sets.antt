@@ -1,7 +1,5 @@
--- The groups of a list of grouping sets.
-use Rattle.std.specs.Prelude.{⊤, ℕ, List, [], ◌∷◌, map}
-use Rattle.std.specs.declared.alloc.Global.{Global}
-use Rattle.std.specs.declared.vec.Vec.{Vec}
+-- The groups of a grouping set.
+use Rattle.std.specs.Prelude.{ℕ, List, map}
 use Rattle.tables_groups.specs.declared.group.Group.{Group}
 use Rattle.semantics.specs.Aggregates.{AggregateFunction}
 use Rattle.tables_groups.specs.GroupSummaries.{group_summary_in, group_summaries}
@@ -11,9 +9,3 @@ use Rattle.semantics.specs.Groups.{Row}
 -- the groups are those of a grouping set over the records: one for each key, and no other
 abbrev pub AreGroupsOfSet : List ℕ → List AggregateFunction → List Group → List Row → Type 0
 AreGroupsOfSet set functions groups rows = SameBag (map group_summary_in groups) (group_summaries set functions rows)
-
--- for each set of the list there are its groups of the records
-abbrev pub AreGroupsOf : List (List ℕ) → List AggregateFunction → List (Vec Group Global) → List Row → Type 0
-AreGroupsOf [] functions [] rows = ⊤
-AreGroupsOf (set ∷ sets) functions (groups ∷ more) rows = AreGroupsOfSet set functions groups.items rows × AreGroupsOf sets functions more rows
-AreGroupsOf sets functions groups rows = ⊥

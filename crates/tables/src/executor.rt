@@ -1,7 +1,10 @@
 //! Who begins, merges, rolls up and finishes tables of groups.
 ghost use Rattle.std.specs.Prelude.{◌≡◌, ◌<◌, ◌⊎◌, ◌+◌, All, ℕ, IfOk, List};
+ghost use Rattle.std.specs.FinMap as fin;
 ghost use Rattle.tables_groups.specs.Inside.Table.{AreGroupsOfTable, AreGroupsWithin, CanJoin, IsOfNone, IsUnionOf};
+ghost use Rattle.tables_groups.specs.Inside.Typed.{HaveTypesOfTable};
 ghost use Rattle.tables.specs.SetTables.{AreOfFew, AreRolled, HasFiner, HasRolled, set_of_roll};
+ghost use Rattle.tables.specs.Sound.{HasGroupsOfEither};
 ghost use Rattle.query_resolve.specs.declared.function.FilteredFunction.{FilteredFunction};
 
 use crate::rolling::{Roll, SetTable};
@@ -38,6 +41,16 @@ pub trait Executor {
     ) -> Result<Table, AllocError>
         ensures empty { IfOk result (IsOfNone set.now functions.now) };
 
+    /// The table without any group, laid out as `empty_table` lays it out, to which groups are put one by one.
+    ///
+    /// Example: `executor.table_without_groups(alloc)?` has the `len()` 0.
+    ///
+    /// # Errors
+    ///
+    /// `AllocError` where there is no memory for it.
+    fn table_without_groups(&self, alloc: Global) -> Result<Table, AllocError>
+        ensures none { IfOk result (λ table. table ≡ fin.empty) };
+
     /// The table of the records of two, which are under one grouping set and for the same set functions.
     ///
     /// Where both have a group of one key, the two have fewer than 2^63 members together, and are for as many
@@ -55,18 +68,19 @@ pub trait Executor {
         ensures merged { IfOk result (IsUnionOf first second) }
         ensures within { IfOk result (λ table. (functions : List FilteredFunction) (m n : ℕ)
             → AreGroupsWithin m functions first → AreGroupsWithin n functions second
-            → AreGroupsWithin (m + n) functions table) };
+            → AreGroupsWithin (m + n) functions table) }
+        ensures groups { IfOk result (HasGroupsOfEither first second) };
 
     /// Makes the tables of some rolls, each out of one of these tables, and leaves no table in a roll where there was no
     /// memory for it.
     ///
-    /// These are tables of one list of fewer than 2^63 records for these set functions, and of each roll one of them has the
+    /// These are tables for these set functions, each of fewer than 2^63 records, and of each roll one of them has the
     /// columns of its set.
     ///
     /// Example: out of the table of the set of two columns come, by two rolls, those of the one and of the other.
     fn roll_each(&self, tables: &[SetTable], rolls: &mut [Roll], functions: &[FilteredFunction])
         requires ready { Self.ready self.now }
-        requires few { ∥ AreOfFew functions.now tables.now ∥₁ }
+        requires few { AreOfFew functions.now tables.now }
         requires finer { All (λ roll. HasFiner (set_of_roll roll) tables.now) rolls.old }
         ensures rolled { AreRolled functions.now tables.now rolls.old rolls.new };
 
@@ -79,7 +93,8 @@ pub trait Executor {
     /// `AllocError` where there is no memory for the groups; the table is given up then.
     fn finish(&self, table: Table) -> Result<Vec<Group>, AllocError>
         requires ready { Self.ready self.now }
-        ensures groups { IfOk result (λ groups. AreGroupsOfTable table groups.items) };
+        ensures groups { IfOk result (λ groups. AreGroupsOfTable table groups.items) }
+        ensures typed { IfOk result (λ groups. HaveTypesOfTable table groups.items) };
 }
 
 /// The calling thread alone.
@@ -101,6 +116,10 @@ impl Executor for Serial {
         functions: &[FilteredFunction],
     ) -> Result<Table, AllocError> {
         Table::new(alloc, set, functions)
+    }
+
+    fn table_without_groups(&self, alloc: Global) -> Result<Table, AllocError> {
+        Table::for_entries(alloc, 1)
     }
 
     fn merge_tables(&self, first: Table, second: Table) -> Result<Table, AllocError> {
@@ -150,6 +169,10 @@ impl<'a, H: Threads + Sync> Executor for Parallel<'a, H> {
         Table::for_hands(alloc, self.workers, set, functions)
     }
 
+    fn table_without_groups(&self, alloc: Global) -> Result<Table, AllocError> {
+        Table::for_entries(alloc, self.workers)
+    }
+
     fn merge_tables(&self, first: Table, second: Table) -> Result<Table, AllocError> {
         let (mut larger, smaller) = put_larger_first(first, second);
         larger.absorb_among(self.rt, self.workers, smaller)?;
@@ -162,7 +185,7 @@ impl<'a, H: Threads + Sync> Executor for Parallel<'a, H> {
             rolls,
             self.workers,
             &|_place: usize, roll: &mut Roll|
-                requires { ∥ AreOfFew functions.now tables.now ∥₁
+                requires { AreOfFew functions.now tables.now
                     × HasFiner roll.now.set.items tables.now }
                 ensures { HasRolled functions.entry.now tables.entry.now roll.entry.now
                     roll.exit.now }

@@ -8,7 +8,11 @@ ghost use Rattle.tables_groups.specs.Bags.{SameBag};
 ghost use Rattle.tables.specs.declared.grouped.Groups.{Groups};
 ghost use Rattle.tables.specs.declared.partial.Partial.{Partial};
 ghost use Rattle.tables.specs.Members.{HasEachRecordOnce};
-ghost use Rattle.tables.specs.Partials.{GivesGroups, StandsFor};
+ghost use Rattle.query_plan.specs.Planned.{PlannedQuery};
+ghost use Rattle.tables.specs.Contents.{HasContents, contents_over};
+ghost use Rattle.tables.specs.Partials.{GivesGroups, StandsFor, StandsForInput};
+ghost use Rattle.tables.specs.Planned.{IsPartialUnder};
+ghost use Rattle.tables.specs.Sound.{IsSoundUnder};
 ghost use Rattle.tables.specs.Denotations.{TotalStandsBehind, TotalStandsForAll, TotalStandsForAllFrom, denotation, indexed_pieces, meaning, total_lines, total_refused};
 ghost use Rattle.tables.specs.Pieces.{IndexedPiece, all_lines, refused_lines_within};
 ghost use Rattle.semantics.specs.Found.{query_found};
@@ -44,6 +48,22 @@ pub fn meaning_law()
     ensures { (fields : List Field) (q : TreeForm) (partial : Partial) (pieces : List IndexedPiece)
         → StandsFor fields q partial pieces ↔ (meaning partial ≡ denotation fields q pieces) }
 {}
+
+/// A law, with no work to do: a plan can finish each result of its own over some pieces.
+pub fn sound_law()
+    ensures { (plan : PlannedQuery) (partial : Partial)
+        → IsPartialUnder plan partial → IsSoundUnder plan partial }
+{}
+
+/// A law: a result that a plan can finish, and that has the contents of an input, as one piece, stands for the input.
+pub fn contents_law()
+    ensures { (plan : PlannedQuery) (partial : Partial) (input : List ℕ)
+        → IsSoundUnder plan partial
+        → HasContents partial (contents_over plan.fields plan.query input)
+        → StandsForInput plan.fields plan.query partial input }
+{
+    tables_groups::entries_law();
+}
 
 /// A law, with no work to do: what means the total of a job's pieces stands for all of them, and the weights and
 /// the loads of these are the numbers of their refused lines and of their lines.

@@ -3,6 +3,7 @@
 //! A result is made of each piece apart, in any order and on any thread; results are merged in any order, and finished.
 #![tactic(auto)]
 
+mod contents;
 mod executor;
 mod folding;
 mod grouped;
@@ -15,10 +16,13 @@ mod rolling;
 mod rows;
 mod shape;
 
+pub use contents::PartialContents;
 pub use executor::{Executor, Parallel, Serial};
 pub use grouped::Groups;
 pub use job::{Job, JobBy};
-pub use laws::{job_law, meaning_law, members_law, order_law, records_law};
+pub use laws::{
+    contents_law, job_law, meaning_law, members_law, order_law, records_law, sound_law,
+};
 pub use partial::Partial;
 pub use rolling::{Roll, SetTable};
 pub use tables_groups::{Cell, Group};

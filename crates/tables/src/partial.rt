@@ -3,8 +3,9 @@ ghost use Rattle.std.specs.Prelude.{◌≡◌, ◌<◌, ◌≤◌, ◌^◌, ◌�
 ghost use Rattle.tables.specs.declared.piece_refusals.PieceRefusals.{PieceRefusals};
 ghost use Rattle.std.proofs.Props.{props};
 ghost use Rattle.tables.specs.Notes.{IsWellNumbered, line_count, notes_in};
-ghost use Rattle.tables_groups.specs.Inside.Table.{AreGroupsWithin};
+ghost use Rattle.tables_groups.specs.Inside.Table.{IsCounted};
 
+use crate::contents::PartialContents;
 use crate::executor::{Executor, Serial};
 use crate::folding::{Folding, empty_table, read_onto};
 use crate::grouped::Groups;
@@ -13,11 +14,12 @@ use crate::numbering::{number, number_behind, put_behind};
 use crate::piece_refusals::PieceRefusals;
 use crate::rows::rows_of;
 use crate::shape::Shape;
+use group_states::GroupEntry;
 use lines::LineFault;
 use query_plan::Plan;
 use std::alloc::{AllocError, Global};
 use std::marker::Model;
-use tables_groups::{Group, Table, roll_law};
+use tables_groups::{Group, Table, entries_law, roll_law};
 
 /// The result of a query over some pieces of an input: the groups of their valid records that are kept, the counts
 /// of their lines, and their refused lines.
@@ -35,7 +37,7 @@ pub struct Partial {
     notes: Vec<PieceRefusals>,
     ghost few: { lines < 2 ^ 63 },
     ghost fewer: { refused ≤ lines },
-    ghost within: { AreGroupsWithin lines shape.functions.items table } by { Prim.hlevel props },
+    ghost within: { IsCounted lines shape.functions.items table } by { Prim.hlevel props },
     ghost counted: { line_count (notes_in notes) ≡ lines },
     ghost numbered: { All IsWellNumbered (notes_in notes) } by { Prim.hlevel props },
 }
@@ -84,13 +86,19 @@ impl Model for Partial {
 }
 
 impl Partial {
-    ghost use Rattle.std.specs.Prelude.{[], ◌∷◌, ◌+◌, ◌↔◌, List, IfOk, OnOk, IsTrue};
+    ghost use Rattle.std.specs.Prelude.{[], ◌∷◌, ◌+◌, ◌↔◌, ℕ, List, IfOk, OnOk, IsTrue};
     ghost use Rattle.semantics.specs.Columns.{Field};
     ghost use Rattle.semantics.specs.Lines.{lines};
     ghost use Rattle.semantics.specs.Syntax.{TreeForm};
     ghost use Rattle.semantics.specs.Groups.{Key, Row};
-    ghost use Rattle.tables.specs.Partials.{HaveOneShape, IsConcatenationOf, IsInOnePiece, IsMergeOf, IsOfSharedQueries, StandsFor};
+    ghost use Rattle.tables.specs.Partials.{HaveOneShape, IsConcatenationOf, IsInOnePiece, IsMergeOf, IsOfSharedQueries, StandsFor, StandsForInput};
     ghost use Rattle.tables.specs.Planned.{AreGroupingColumns, GivesGroupsOfSet, HasMembersOfFiner, HasOneMorePiece, HasRestBehind, IsFinishOf, IsPartialUnder, StandsForNone, StandsForUnder};
+    ghost use Rattle.group_states.specs.States.{entry_of};
+    ghost use Rattle.query_plan.specs.Planned.{PlannedQuery};
+    ghost use Rattle.tables_groups.specs.Inside.Entries.{IsBehind, IsEntryFor};
+    ghost use Rattle.tables.specs.Contents.{DiffersInGroups, HasGroupBehind, HasMembersWithin, HasRefusals, HasRoomFor, IsTypedEntryUnder, contents_of, contents_over, groups_in};
+    ghost use Rattle.tables.specs.Sound.{IsSoundUnder, IsSoundWhere, IsSoundWhereBoth};
+    ghost use Rattle.values.specs.Datum.{data_of};
     ghost use Rattle.tables.specs.Pieces.{IndexedPiece, all_lines, records_of, refused_lines_within};
 
     /// The result over no pieces, so of no lines: merged with another one of the plan, it adds nothing to that.
@@ -272,6 +280,7 @@ impl Partial {
         requires few { self.lines + other.lines < 2 ^ 63 }
         ensures stands { IfOk result (IsMergeOf self other) }
         ensures of_plan { IfOk result (IsOfSharedQueries self other) }
+        ensures sound { IfOk result (IsSoundWhereBoth self other) }
     {
         self.merge_by(&Serial, other)
     }
@@ -290,6 +299,7 @@ impl Partial {
         requires few { self.lines + other.lines < 2 ^ 63 }
         ensures stands { IfOk result (IsMergeOf self other) }
         ensures of_plan { IfOk result (IsOfSharedQueries self other) }
+        ensures sound { IfOk result (IsSoundWhereBoth self other) }
     {
         let Partial {
             alloc,
@@ -336,6 +346,7 @@ impl Partial {
         requires one_shape { HaveOneShape self rest }
         requires few { self.lines + rest.lines < 2 ^ 63 }
         ensures stands { IfOk result (IsConcatenationOf self rest) }
+        ensures sound { IfOk result (IsSoundWhereBoth self rest) }
     {
         self.follow_by(&Serial, rest)
     }
@@ -353,6 +364,7 @@ impl Partial {
         requires one_shape { HaveOneShape self rest }
         requires few { self.lines + rest.lines < 2 ^ 63 }
         ensures stands { IfOk result (IsConcatenationOf self rest) }
+        ensures sound { IfOk result (IsSoundWhereBoth self rest) }
     {
         let Partial {
             alloc,
@@ -455,6 +467,7 @@ impl Partial {
         ensures lines { IfOk result (λ partial. partial.lines ≡ self.lines) }
         ensures refused { IfOk result (λ partial. partial.refused ≡ self.refused) }
         ensures fewer { IfOk result (λ partial. partial.refused ≤ partial.lines) }
+        ensures sound { IfOk result (IsSoundWhere self) }
     {
         let Partial {
             alloc,
@@ -482,7 +495,7 @@ impl Partial {
     /// have one index, each refused line is there once, by its number in the input, from 1: the lines of the pieces
     /// with a smaller index stand before its own.
     ///
-    /// This is a result of the plan, over some pieces.
+    /// This is a result that the plan can finish, as each one of the plan over some pieces is (`sound_law`).
     ///
     /// Example: of the lines `{"shop":"Quay","cents":250}` and `{"shop":"Quay","cents":50}`, the plan of
     /// `SELECT shop, SUM(cents) FROM lines GROUP BY shop` finds one group: the key `'Quay'`, 2 members and the cell
@@ -492,7 +505,7 @@ impl Partial {
     ///
     /// `AllocError` where there is no memory for them; the result is given up then.
     pub fn finish(self, plan: &Plan) -> Result<Groups, AllocError>
-        requires of_plan { IsPartialUnder plan.now self }
+        requires sound { IsSoundUnder plan.now self }
         ensures { IfOk result (IsFinishOf plan.now self) }
     {
         self.finish_by(&Serial, plan)
@@ -500,7 +513,7 @@ impl Partial {
 
     /// What `finish` gives, where the executor finishes the groups. It can do so.
     ///
-    /// This is a result of the plan, over some pieces.
+    /// This is a result that the plan can finish, as each one of the plan over some pieces is (`sound_law`).
     ///
     /// Example: `partial.finish_by(&Parallel { rt: &rt, workers: 4 }, &plan)?` gives the groups and the refused lines that
     /// `partial.finish(&plan)?` gives.
@@ -510,7 +523,7 @@ impl Partial {
     /// `AllocError` where there is no memory for them; the result is given up then.
     pub fn finish_by<E: Executor>(self, executor: &E, plan: &Plan) -> Result<Groups, AllocError>
         requires ready { E.ready executor.now }
-        requires of_plan { IsPartialUnder plan.now self }
+        requires sound { IsSoundUnder plan.now self }
         ensures { IfOk result (IsFinishOf plan.now self) }
     {
         let Partial {
@@ -532,8 +545,8 @@ impl Partial {
     /// each key of the records that WHERE keeps and no other, its values in the order of the set. They come in no order
     /// that is said, and this result stays as it is.
     ///
-    /// This is a result of the plan, over some pieces. The set has places of columns, from 0, all among those of
-    /// `Plan::grouping`.
+    /// This is a result that the plan can finish, as each one of the plan over some pieces is (`sound_law`). The set has
+    /// places of columns, from 0, all among those of `Plan::grouping`.
     ///
     /// Example: `partial.roll(&plan, &[])?` is one group with the empty key, whose members are all records that WHERE
     /// keeps, also where there are none.
@@ -542,7 +555,7 @@ impl Partial {
     ///
     /// `AllocError` where there is no memory for them.
     pub fn roll(&self, plan: &Plan, set: &[usize]) -> Result<Vec<Group>, AllocError>
-        requires of_plan { IsPartialUnder plan.now self.now }
+        requires sound { IsSoundUnder plan.now self.now }
         requires among { AreGroupingColumns plan.now set.now }
         ensures groups { IfOk result (λ groups. (pieces : List IndexedPiece)
             → StandsForUnder plan.now self.now pieces
@@ -554,6 +567,128 @@ impl Partial {
         let table = self.table.roll(plan.grouping(), set, plan.set_functions())?;
         roll_law();
         table.finish()
+    }
+
+    /// What the result contains. Of a result over the pieces of an input, its refused lines are numbered in the input, and
+    /// its groups are those of the good records that WHERE keeps, under all grouping columns.
+    ///
+    /// Example: of a result over 3 good lines of one key there are 3 lines, no refused line, and one group with 3 members.
+    ///
+    /// # Errors
+    ///
+    /// `AllocError` where there is no memory for it; the result is given up then.
+    pub fn into_contents(self) -> Result<PartialContents, AllocError>
+        ensures { IfOk result (λ contents. (fields : List Field) (q : TreeForm) (input : List ℕ)
+            → StandsForInput fields q self input
+            → contents_of contents ≡ contents_over fields q input) }
+    {
+        let Partial {
+            alloc,
+            shape,
+            table,
+            lines,
+            refused: _,
+            notes,
+        } = self;
+        drop(shape);
+        let refused_lines = number(alloc, notes)?;
+        let groups = table.into_entries()?;
+        entries_law();
+        Ok(PartialContents {
+            lines,
+            refused: refused_lines,
+            groups,
+        })
+    }
+
+    /// The result of a plan with so many lines, fewer than 2^63, and these refused ones, by their numbers from 1, as one
+    /// piece of index 0, but without any group yet. It is laid out so that the executor is fast in merging other results
+    /// into it.
+    ///
+    /// There are at most as many refused lines as lines, and none has a number above theirs.
+    ///
+    /// Example: `lines()` of `Partial::without_groups(alloc, &plan, &Serial, 3, Vec::new(alloc))?` is 3.
+    ///
+    /// # Errors
+    ///
+    /// `AllocError` where there is no memory for it.
+    pub fn without_groups<E: Executor>(
+        alloc: Global,
+        plan: &Plan,
+        executor: &E,
+        lines: u64,
+        refused: Vec<(u64, LineFault)>,
+    ) -> Result<Partial, AllocError>
+        requires few { lines < 2 ^ 63 }
+        requires fewer { length refused.items ≤ lines }
+        requires numbered { All (λ line. line.0 ≤ lines) refused.items }
+        ensures sound { IfOk result (IsSoundUnder plan.now) }
+        ensures refusals { IfOk result (HasRefusals lines refused.items) }
+        ensures groups { IfOk result (λ partial. groups_in partial ≡ []) }
+        ensures within { IfOk result (HasMembersWithin 0) }
+    {
+        let shape = Shape::of(alloc, plan)?;
+        let table = executor.table_without_groups(alloc)?;
+        let count = refused.len() as u64;
+        let notes = one_note(
+            alloc,
+            PieceRefusals {
+                index: 0,
+                lines,
+                refused,
+            },
+        )?;
+        Ok(Partial {
+            alloc,
+            shape,
+            table,
+            lines,
+            refused: count,
+            notes,
+        })
+    }
+
+    /// The result with one more group, whose key is above those of all its groups. The lines and the refused ones stay as
+    /// they are.
+    ///
+    /// The states are of the forms that the set functions of the result keep, over at most as many members as the group has:
+    /// counts and sums of no more, and different values ascending. With the group's members the groups have at most as many
+    /// together as there are lines.
+    ///
+    /// Example: groups that `into_contents` gives can be put, one after the other, to a result of the same plan and as many
+    /// lines that has none; it stands for the same input then (`contents_law`).
+    ///
+    /// # Errors
+    ///
+    /// `AllocError` where there is no memory for it; what was there is given up then.
+    pub fn put_group(self, group: GroupEntry) -> Result<Partial, AllocError>
+        requires behind { IsBehind (data_of group.key.items) (groups_in self) }
+        requires states { IsEntryFor self.functions (entry_of group) }
+        requires room { HasRoomFor group.members self }
+        ensures groups { IfOk result (HasGroupBehind self (entry_of group)) }
+        ensures within { IfOk result (λ partial. (most : ℕ) → HasMembersWithin most self
+            → HasMembersWithin (most + group.members) partial) }
+        ensures sound { IfOk result (λ partial. (plan : PlannedQuery) → IsSoundUnder plan self
+            → IsTypedEntryUnder plan (entry_of group) → IsSoundUnder plan partial) }
+        ensures others { IfOk result (DiffersInGroups self) }
+    {
+        let Partial {
+            alloc,
+            shape,
+            mut table,
+            lines,
+            refused,
+            notes,
+        } = self;
+        table.put_entry(shape.functions.as_slice(), group)?;
+        Ok(Partial {
+            alloc,
+            shape,
+            table,
+            lines,
+            refused,
+            notes,
+        })
     }
 }
 

@@ -4,11 +4,10 @@ ghost use Rattle.std.specs.Cmp.Lexicographic.{pointwise};
 ghost use Rattle.std.specs.List.{list_any};
 ghost use Rattle.std.specs.List.Sorted.{IsPermutation};
 ghost use Rattle.query_resolve.specs.Resolution.{contents};
-ghost use Rattle.semantics.specs.Aggregates.{AggregateFunction};
-ghost use Rattle.semantics.specs.Groups.{Row};
+ghost use Rattle.query_resolve.specs.declared.function.FilteredFunction.{FilteredFunction};
 ghost use Rattle.tables_groups.specs.Rolled.{AreAmong};
-ghost use Rattle.tables_groups.specs.Inside.Table.{IsOfFew, IsTableOf};
-ghost use Rattle.tables.specs.SetTables.{AreGroupsOfRolls, AreGroupsOfSets, AreOfFew, AreOfSameRecords, AreRollsOf, AreTablesOf, HasFiner, HasRolled, IsMade, IsMadeOrRolled, IsOfSameRecords, set_of_roll};
+ghost use Rattle.tables_groups.specs.Inside.Table.{HasFewRecords};
+ghost use Rattle.tables.specs.SetTables.{AreGroupsOfRolls, AreGroupsOfSets, AreOfFew, AreOfSameRecords, AreRollsOf, HasFiner, HasRolled, IsMade, IsMadeOrRolled, IsOfSameRecords, set_of_roll};
 
 use crate::executor::Executor;
 use crate::shape::copy_sets;
@@ -40,12 +39,12 @@ pub struct Roll {
 impl Roll {
     /// Makes the table, out of the one with the fewest groups that has the columns of the set.
     ///
-    /// These are tables of one list of fewer than 2^63 records for these set functions, and one of them has the columns of
-    /// the set.
+    /// These are tables for these set functions, each of fewer than 2^63 records, and one of them has the columns of the
+    /// set.
     ///
     /// Example: an executor that works alone calls it for one roll after the other.
     pub fn roll(&mut self, tables: &[SetTable], functions: &[FilteredFunction])
-        requires few { ∥ AreOfFew functions.now tables.now ∥₁ }
+        requires few { AreOfFew functions.now tables.now }
         requires finer { HasFiner (set_of_roll self.old) tables.now }
         ensures rolled { HasRolled functions.now tables.now self.old self.new }
     {
@@ -55,7 +54,8 @@ impl Roll {
 
 /// The groups of each grouping set of a list, in the order of the list; those of one set in no order that is said.
 ///
-/// They are made of the table of all grouping columns, among which the columns of each set are, and finished by the executor.
+/// They are made of the table of all grouping columns, among which the columns of each set are, and finished by the
+/// executor.
 pub(crate) fn groups_of_sets<E: Executor>(
     alloc: Global,
     executor: &E,
@@ -66,7 +66,7 @@ pub(crate) fn groups_of_sets<E: Executor>(
 ) -> Result<Vec<Vec<Group>>, AllocError>
     requires ready { E.ready executor.now }
     requires among { All (λ set. AreAmong set grouping.now) (contents sets.now) }
-    requires few { ∥ IsOfFew grouping.now functions.now finest ∥₁ }
+    requires few { HasFewRecords functions.now finest }
     ensures { IfOk result (λ groups.
         AreGroupsOfRolls grouping.now functions.now finest (contents sets.now) groups.items) }
 {
@@ -94,7 +94,7 @@ fn tables_of_sets<E: Executor>(
 ) -> Result<Vec<SetTable>, AllocError>
     requires ready { E.ready executor.now }
     requires among { All (λ set. AreAmong set.items grouping.now) sets.now }
-    requires few { ∥ IsOfFew grouping.now functions.now finest ∥₁ }
+    requires few { HasFewRecords functions.now finest }
     ensures tables { IfOk result (λ tables.
         AreRollsOf grouping.now functions.now finest tables.items) }
     ensures sets { IfOk result (λ tables. All (λ set. IsMade set.items tables.items) sets.now) }
@@ -116,8 +116,8 @@ fn first_table(
     finest: Table,
 ) -> Result<Vec<SetTable>, AllocError>
     ensures made { IfOk result (λ tables. IsMade grouping.now tables.items) }
-    ensures tables { IfOk result (λ tables. (functions : List AggregateFunction) (rows : List Row)
-        → IsTableOf grouping.now functions finest rows → AreTablesOf functions tables.items rows) }
+    ensures tables { IfOk result (λ tables. (functions : List FilteredFunction)
+        → AreRollsOf grouping.now functions finest tables.items) }
 {
     let set = Vec::from_slice(alloc, grouping)?;
     let mut tables = Vec::with_capacity(alloc, 1)?;
@@ -144,7 +144,7 @@ fn roll_sets<E: Executor>(
     functions: &[FilteredFunction],
 ) -> Result<(), AllocError>
     requires ready { E.ready executor.now }
-    requires few { ∥ AreOfFew functions.now tables.old.items ∥₁ }
+    requires few { AreOfFew functions.now tables.old.items }
     requires finer { All (λ set. HasFiner set.items tables.old.items) sets.now }
     ensures tables { OnOk result
         (AreOfSameRecords functions.now tables.old.items tables.new.items) }
@@ -231,7 +231,7 @@ fn roll_from_finer(
     set: &[usize],
     functions: &[FilteredFunction],
 ) -> Result<Table, AllocError>
-    requires few { ∥ AreOfFew functions.now tables.now ∥₁ }
+    requires few { AreOfFew functions.now tables.now }
     requires finer { HasFiner set.now tables.now }
     ensures rolled { IfOk result (IsOfSameRecords functions.now tables.now set.now) }
 {
@@ -305,7 +305,7 @@ fn finish_sets<E: Executor>(
     tables: Vec<SetTable>,
 ) -> Result<Vec<Vec<Group>>, AllocError>
     requires ready { E.ready executor.now }
-    requires few { ∥ AreOfFew functions.now tables.items ∥₁ }
+    requires few { AreOfFew functions.now tables.items }
     requires made { All (λ set. IsMade set.items tables.items) sets.now }
     ensures { IfOk result (λ groups.
         AreGroupsOfSets functions.now tables.items (contents sets.now) groups.items) }
@@ -336,7 +336,7 @@ fn take_table(
     functions: &[FilteredFunction],
     is_last: bool,
 ) -> Result<Table, AllocError>
-    requires few { ∥ AreOfFew functions.now tables.old.items ∥₁ }
+    requires few { AreOfFew functions.now tables.old.items }
     requires made { IsMade set.now tables.old.items }
     ensures table { IfOk result (IsOfSameRecords functions.now tables.old.items set.now) }
     ensures tables { OnOk result

@@ -4,7 +4,11 @@ ghost use Rattle.semantics.specs.Groups.{Row};
 ghost use Rattle.tables_groups.specs.GroupSummaries.{group_summary_in};
 ghost use Rattle.tables_groups.specs.Bags.{SameBag};
 ghost use Rattle.tables_groups.specs.Found.{row_of, rows_from};
-ghost use Rattle.tables.specs.Folding.{IsOfFewUnder, IsTableOfKept};
+ghost use Rattle.tables_groups.specs.Inside.Table.{HasFewRecords};
+ghost use Rattle.query_resolve.specs.Functions.{indexed_functions};
+ghost use Rattle.tables.specs.Folding.{IsTableOfKept};
+ghost use Rattle.tables.specs.Planned.{AreFittingUnder};
+ghost use Rattle.tables.specs.Sound.{IsTypedTableUnder};
 ghost use Rattle.semantics.specs.Found.{query_found};
 
 use crate::executor::Executor;
@@ -22,9 +26,11 @@ pub(crate) fn rows_of<E: Executor>(
     finest: Table,
 ) -> Result<Vec<(usize, Group)>, AllocError>
     requires ready { E.ready executor.now }
-    requires few { IsOfFewUnder plan.now finest }
-    ensures { IfOk result (λ rows. (records : List Row) → IsTableOfKept plan.now finest records
+    requires few { HasFewRecords (indexed_functions plan.now.fields plan.now.query) finest }
+    ensures rows { IfOk result (λ rows. (records : List Row) → IsTableOfKept plan.now finest records
         → SameBag (map row_of rows.items) (query_found plan.now.fields plan.now.query records)) }
+    ensures fit { IfOk result (λ rows. IsTypedTableUnder plan.now finest
+        → AreFittingUnder plan.now (map row_of rows.items)) }
 {
     let groups = groups_of_sets(
         alloc,

@@ -12,7 +12,7 @@ use std::marker::Sync;
 use std::process::Abort;
 use std::test::Fail;
 use std::thread::Threads;
-use tables::{Groups, Partial};
+use tables::{Groups, Partial, sound_law};
 use values::Schema;
 
 /// The plan of a query that takes an average of each group, where memory is granted.
@@ -68,6 +68,7 @@ struct Texts {
 /// What is written of the lines: the report, and the list if all columns that it is to name are in the schema.
 fn write_texts<H: Threads + Sync>(rt: &H, alloc: Global, plan: &Plan) -> Result<Texts, AllocError> {
     let partial = Partial::fold_piece(alloc, plan, 0, LINES)?;
+    sound_law();
     let groups = partial.finish(plan)?;
     let report = report_on(alloc, &groups, plan)?;
     let report_by_hands = report_among(rt, alloc, &groups, plan, 3)?;

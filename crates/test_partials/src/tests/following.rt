@@ -14,7 +14,7 @@ use std::alloc::{AllocError, Global};
 use std::marker::Sync;
 use std::process::Abort;
 use std::thread::Threads;
-use tables::{Parallel, Partial};
+use tables::{Parallel, Partial, sound_law};
 
 /// An input in two parts, how many lines it has, and its refused lines.
 #[derive(Clone, Copy)]
@@ -205,6 +205,7 @@ fn assert_found(
 {
     assert_eq!(rt; partial.lines(), parted.lines);
     assert_eq!(rt; partial.refused(), parted.refused.len() as u64);
+    sound_law();
     let groups = partial.finish(plan).expect(rt, "memory");
     assert_eq!(rt; groups.refused(), parted.refused);
     assert_groups(rt, alloc, &groups, wanted);
@@ -249,6 +250,7 @@ fn assert_both_or_refused(rt: &impl Abort, plan: &Plan, both: Result<Partial, Al
 {
     if let Ok(both) = both {
         assert!(rt; both.lines() == 5 && both.refused() == 2);
+        sound_law();
         if let Ok(groups) = both.finish(plan) {
             assert_two_found(rt, &groups, IN_BOTH.refused);
         }

@@ -9,7 +9,7 @@ use std::alloc::{AllocError, Global};
 use std::marker::Sync;
 use std::process::Abort;
 use std::thread::Threads;
-use tables::{Group, Groups, Parallel, Partial};
+use tables::{Group, Groups, Parallel, Partial, sound_law};
 
 /// A line for each number from the first one to before the last one, which stands in two columns.
 fn numbered_lines(alloc: Global, first: u32, last: u32) -> Result<String, AllocError> {
@@ -84,6 +84,7 @@ fn assert_finds<H: Abort + Threads + Sync>(
     requires partial { IsPartialOf plan.now.fields plan.now.query partial }
     requires hands { 0 < count }
 {
+    sound_law();
     let groups = partial
         .finish_by(&Parallel { rt, workers: count }, plan)
         .expect(rt, "memory");
@@ -135,6 +136,7 @@ fn joined_by_hands_like_the_whole(rt: HostRuntime) {
     input.push_str(rest.as_str()).expect(&rt, "memory");
     let plan = plan_of(&rt, alloc, BY_D);
     let whole = Partial::fold_piece(alloc, &plan, 0, input.as_bytes()).expect(&rt, "memory");
+    sound_law();
     let wanted = whole.finish(&plan).expect(&rt, "memory");
     assert_eq!(rt; wanted.rows().len(), 9000);
     let (front, rest) = (front.as_bytes(), rest.as_bytes());

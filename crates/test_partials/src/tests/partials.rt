@@ -10,7 +10,7 @@ use std::alloc::{AllocError, Global};
 use std::marker::Sync;
 use std::process::Abort;
 use std::thread::Threads;
-use tables::{Cell, Group, Groups, Parallel, Partial};
+use tables::{Cell, Group, Groups, Parallel, Partial, sound_law};
 use values::{Record, Schema, SchemaFault, Value};
 
 const COLUMNS: &str = "d:text,r:text,q:int";
@@ -216,6 +216,7 @@ fn assert_found(rt: &impl Abort, alloc: Global, plan: &Plan, input: &[u8], wante
             let partial = merge_pieces(rt, alloc, plan, input, pieces.as_slice(), 0, parting);
             assert_eq!(rt; partial.lines(), wanted.lines);
             assert_eq!(rt; partial.refused(), wanted.refused.len() as u64);
+            sound_law();
             let groups = partial.finish(plan).expect(rt, "memory");
             assert_groups(rt, alloc, &groups, wanted);
         }
@@ -579,6 +580,7 @@ fn assert_four_or_refused(rt: &impl Abort, plan: &Plan, partial: Result<Partial,
         return;
     };
     assert_four_counted(rt, &partial);
+    sound_law();
     if let Ok(groups) = partial.finish(plan) {
         let refused = [(3, LineFault::NoObject)];
         assert_two_found(rt, &groups, refused.as_slice());
@@ -670,6 +672,7 @@ fn assert_four_by_hands<H: Abort + Threads + Sync>(
         return;
     };
     assert_four_counted(rt, &partial);
+    sound_law();
     if let Ok(groups) = partial.finish_by(&Parallel { rt, workers: 3 }, plan) {
         let refused = [(3, LineFault::NoObject)];
         assert_two_found(rt, &groups, refused.as_slice());
@@ -709,6 +712,7 @@ fn refusal_of_fold_onto(rt: HostRuntime) {
 /// The groups of no line, or want of memory.
 fn finished_or_refused(alloc: Global, plan: &Plan) -> Option<Groups> {
     let none = Partial::empty(alloc, plan).ok()?;
+    sound_law();
     none.finish(plan).ok()
 }
 

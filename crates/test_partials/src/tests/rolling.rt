@@ -11,7 +11,7 @@ use super::reference::{Row, rows_under};
 use query::Plan;
 use std::alloc::Global;
 use std::process::Abort;
-use tables::{Cell, Group, Partial};
+use tables::{Cell, Group, Partial, sound_law};
 use values::Value;
 
 /// Three good lines.
@@ -25,6 +25,7 @@ fn rolled_to_a_set_that_is_not_listed(rt: HostRuntime) {
     let text = "SELECT COUNT(DISTINCT d) FROM lines GROUP BY GROUPING SETS ((r), (d))";
     let plan = plan_of(&rt, alloc, text);
     let partial = Partial::fold_piece(alloc, &plan, 0, THREE).expect(&rt, "memory");
+    sound_law();
     let groups = partial.roll(&plan, &[]).expect(&rt, "memory");
     assert_eq!(rt; groups.len(), 1);
     for group in &groups {
@@ -67,6 +68,7 @@ fn assert_rolled(
     requires { IsPartialOf plan.now.fields plan.now.query partial.now }
 {
     assert!(rt; are_grouping_columns(plan, set));
+    sound_law();
     let groups = sort_groups(partial.roll(plan, set).expect(rt, "memory"));
     assert_eq!(rt; groups.len(), wanted.len());
     for (group, wanted) in groups.into_iter().zip(wanted.iter()) {
@@ -105,6 +107,7 @@ fn rolled_like_reference(rt: HostRuntime) {
 fn refusal_of_roll(rt: HostRuntime) {
     if let Some(plan) = plan_or_refused(&rt, rt.alloc(), BY_D) {
         if let Ok(partial) = Partial::fold_piece(rt.alloc(), &plan, 0, FOUR) {
+            sound_law();
             if let Ok(groups) = partial.roll(&plan, &[]) {
                 let [group] = groups.as_slice() else {
                     panic!(rt; "not one group");

@@ -1,11 +1,10 @@
-use Rattle.std.proofs.Common.{ℕ, List, map, sym, subst}
-use Rattle.std.proofs.Math.Logic.{∥∥₁_map}
+use Rattle.std.proofs.Common.{ℕ, List, sym, subst}
 use Rattle.std.proofs.lemmas.Result.{IfOk-weaker}
-use Rattle.tables_groups.specs.Functions.{aggregate_of}
-use Rattle.tables_groups.specs.Inside.Table.{IsTableOf}
+use Rattle.tables_groups.specs.Inside.Table.{HasFewRecords}
 use Rattle.tables_groups.specs.Rolled.{AreAmong}
 use Rattle.tables.specs.declared.rolling.SetTable.{SetTable}
-use Rattle.tables.proofs.SetTables.{table-at}
+use Rattle.tables.specs.Properties.{HasProperty}
+use Rattle.tables.proofs.SetTables.{roll-kept, table-at}
 use Rattle.tables.proofs.rolling.roll_from_finer.Goals as goal
 
 pub roll-requires-clause-among : goal.roll-requires-clause-among
@@ -17,19 +16,15 @@ roll-requires-clause-among c =
 pub roll-requires-clause-few : goal.roll-requires-clause-few
 roll-requires-clause-few c =
     let finer = c.index-tables-place_of_finer in
-    ∥∥₁_map c.requires.few (λ p. record {
-      filters = p.filters;
-      rows = p.rows;
-      is_table = subst (λ (s : List ℕ). IsTableOf s (map (aggregate_of p.filters) c.args.functions.now) finer.result.table p.rows) (sym c.as_slice.ensures.value)
-          (table-at (map (aggregate_of p.filters) c.args.functions.now) c.args.tables.now c.place_of_finer.result finer.result p.rows c.place_of_finer.ensures.within finer.is p.are_tables);
-      few = p.few;
-    })
+    table-at (λ set table. HasFewRecords c.args.functions.now table) c.args.tables.now c.place_of_finer.result finer.result c.place_of_finer.ensures.within finer.is c.requires.few
 
 pub returns : goal.returns
 returns c =
+    let fs = c.args.functions.now in
     let finer = c.index-tables-place_of_finer in
+    let kept = roll-kept c.as_slice.result.now c.args.set.now fs finer.result.table c.roll.result c.roll.ensures.rolled c.roll.ensures.counted c.roll.ensures.typed in
     record {
-      rolled = IfOk-weaker c.roll.result _ _ (λ table rolled filters rows h.
-          rolled filters rows (subst (λ (s : List ℕ). IsTableOf s (map (aggregate_of filters) c.args.functions.now) finer.result.table rows) (sym c.as_slice.ensures.value)
-          (table-at (map (aggregate_of filters) c.args.functions.now) c.args.tables.now c.place_of_finer.result finer.result rows c.place_of_finer.ensures.within finer.is h))) c.roll.ensures.rolled;
+      rolled = IfOk-weaker c.roll.result _ _ (λ table rolled property h.
+          rolled property (subst (λ (s : List ℕ). HasProperty property s fs finer.result.table) (sym c.as_slice.ensures.value)
+          (table-at (λ s t. HasProperty property s fs t) c.args.tables.now c.place_of_finer.result finer.result c.place_of_finer.ensures.within finer.is h))) kept;
     }

@@ -1,11 +1,10 @@
-use Rattle.std.proofs.Common.{◌≡◌, ◌∙◌, ◌∷◌, [], All, List, slice_index_or, drop, length, map, ap, sym, subst, arith}
+use Rattle.std.proofs.Common.{◌≡◌, ◌∙◌, ◌∷◌, [], All, List, slice_index_or, drop, length, ap, sym, subst, arith}
 use Rattle.std.proofs.lemmas.List.{nil_from_length}
 use Rattle.std.proofs.lemmas.List.Elements.{All-head, All-push, All-tail}
-use Rattle.tables_groups.specs.Functions.{aggregate_of}
-use Rattle.tables_groups.specs.Inside.Table.{IsTableOf}
 use Rattle.tables.specs.declared.rolling.Roll.{Roll}
 use Rattle.tables.specs.declared.rolling.SetTable.{SetTable}
-use Rattle.tables.specs.SetTables.{AreRolled, AreTablesOf, HasFiner, IsMadeOrRolled}
+use Rattle.tables.specs.Properties.{HasProperty}
+use Rattle.tables.specs.SetTables.{AreRolled, HasFiner, HaveProperty, IsMadeOrRolled}
 use Rattle.tables.proofs.SetTables.{IsRolledOutOf, made-all, made-next, rolled-each, rolled-same, rolled-table, take-front}
 use Rattle.tables.proofs.rolling.roll_sets.Given.{Over}
 use Rattle.tables.proofs.rolling.roll_sets.Goals as goal
@@ -29,7 +28,7 @@ loop-roll-init g c =
     let fs = c.args.functions.now in
     let tables = c.args.tables.now.items in
     record {
-      tables = λ filters rows h. h;
+      tables = λ property h. h;
       left = subst (All (IsRolledOutOf fs tables)) (sym (come g c))
           (rolled-each fs tables c.as_mut_slice.result.now c.roll_each.new.rolls c.roll_each.auto.rolls
           (subst (λ (ts : List SetTable). AreRolled fs ts c.as_mut_slice.result.now c.roll_each.new.rolls) c.as_slice-2.ensures.value c.roll_each.ensures.rolled));
@@ -46,11 +45,10 @@ loop-roll-preserved g c =
     let before = c.loop-roll.tables.items in
     let left = subst (All (IsRolledOutOf fs c.args.tables.now.items)) is c.loop-roll.invariant.left in
     record {
-      tables = λ filters rows h.
-          let functions = map (aggregate_of filters) fs in
-          subst (λ (ts : List SetTable). AreTablesOf functions ts rows) (sym made.3)
-          (All-push (λ (table : SetTable). IsTableOf table.set.items functions table.table rows) before made.0 (c.loop-roll.invariant.tables filters rows h)
-          (rolled-table fs c.args.tables.now.items roll made.0 made.1 made.2 (All-head (IsRolledOutOf fs c.args.tables.now.items) roll rest left) filters rows h));
+      tables = λ property h.
+          subst (HaveProperty property fs) (sym made.3)
+          (All-push (λ (table : SetTable). HasProperty property table.set.items fs table.table) before made.0 (c.loop-roll.invariant.tables property h)
+          (rolled-table fs c.args.tables.now.items roll made.0 made.1 made.2 (All-head (IsRolledOutOf fs c.args.tables.now.items) roll rest left) property h));
       left = All-tail (IsRolledOutOf fs c.args.tables.now.items) roll rest left;
       there = λ set h. subst (λ (ts : List SetTable). IsMadeOrRolled set ts rest) (sym made.3)
           (made-next set before made.0 roll rest made.1 (subst (λ (rolls : List Roll). IsMadeOrRolled set before rolls) is (c.loop-roll.invariant.there set h)));

@@ -1,20 +1,23 @@
 use Rattle.std.proofs.Common.{All, List, ◌≡◌, map, ap, sym, subst, ◌∙◌}
-use Rattle.std.proofs.Math.Logic.{∥∥₁_map}
 use Rattle.std.proofs.lemmas.Result.{IfOk-weaker}
 use Rattle.query_resolve.specs.declared.function.FilteredFunction.{FilteredFunction}
+use Rattle.query_resolve.specs.Functions.{indexed_functions}
 use Rattle.query_resolve.specs.Resolution.{contents}
 use Rattle.semantics.specs.Sets.{grouping_places, sets_of}
 use Rattle.semantics.specs.Conditions.{kept_records}
 use Rattle.tables_groups.specs.Bags.{SameBag}
 use Rattle.semantics.specs.Aggregates.{AggregateFunction}
 use Rattle.tables_groups.specs.Functions.{aggregate_of}
-use Rattle.tables_groups.specs.Inside.Table.{IsOfFew, IsTableOf}
+use Rattle.tables_groups.specs.Fitting.{AreFitting}
+use Rattle.tables_groups.specs.Inside.Table.{HasFewRecords, IsTableOf}
 use Rattle.tables_groups.specs.Rolled.{AreAmong}
 use Rattle.semantics.specs.Found.{aggregate_functions, query_found}
 use Rattle.tables.specs.Functions.{filter_tests}
-use Rattle.tables.specs.Sets.{AreGroupsOf}
+use Rattle.tables.specs.Properties.{AreGroupsOf, HasProperty, of_records, of_types}
 use Rattle.tables.proofs.Bound.{bound-functions}
-use Rattle.tables.proofs.Finding.{all-found}
+use Rattle.tables.proofs.Columns.{functions-columns}
+use Rattle.tables.proofs.Finding.{AreGroupsOfRecords, all-found}
+use Rattle.tables.proofs.Fitting.{fitting-from_types}
 use Rattle.tables.proofs.SetTables.{sets-among}
 use Rattle.tables.proofs.rows.rows_of.Goals as goal
 
@@ -27,12 +30,10 @@ groups_of_sets-requires-clause-among g c =
 
 pub groups_of_sets-requires-clause-few : goal.groups_of_sets-requires-clause-few
 groups_of_sets-requires-clause-few g c =
-    ∥∥₁_map c.requires.few (λ (p : IsOfFew _ _ _).
-    subst (λ grouping. IsOfFew grouping c.set_functions.result.now c.args.finest) (sym c.grouping.ensures.grouping)
-    (subst (λ (fs : List FilteredFunction). IsOfFew (grouping_places c.args.plan.now.fields c.args.plan.now.query) fs c.args.finest) (sym c.set_functions.ensures.functions) p))
+    subst (λ (fs : List FilteredFunction). HasFewRecords fs c.args.finest) (sym c.set_functions.ensures.functions) c.requires.few
 
-pub returns : goal.returns
-returns g c = IfOk-weaker c.flatten_groups.result _ _ (λ rows is records table.
+pub returns-clause-rows : goal.returns-clause-rows
+returns-clause-rows g c = IfOk-weaker c.flatten_groups.result _ _ (λ rows is records table.
     let fields = c.args.plan.now.fields in
     let q = c.args.plan.now.query in
     let fs = aggregate_functions fields q in
@@ -42,7 +43,24 @@ returns g c = IfOk-weaker c.flatten_groups.result _ _ (λ rows is records table.
     let bound_are : map (aggregate_of filters) c.set_functions.result.now ≡ fs = ap (map (aggregate_of filters)) c.set_functions.ensures.functions ∙ bound-functions fields q in
     let finest = subst (λ grouping. IsTableOf grouping (map (aggregate_of filters) c.set_functions.result.now) c.args.finest members) (sym c.grouping.ensures.grouping)
     (subst (λ (gs : List AggregateFunction). IsTableOf (grouping_places fields q) gs c.args.finest members) (sym bound_are) table) in
-    let of_sets : AreGroupsOf (sets_of fields q) fs groups members =
-    subst (λ (gs : List AggregateFunction). AreGroupsOf (sets_of fields q) gs groups members) bound_are
-    (subst (λ sets. AreGroupsOf sets (map (aggregate_of filters) c.set_functions.result.now) groups members) c.sets.ensures.sets (c.in_ok-groups.ensures filters members finest)) in
+    let of_sets : AreGroupsOfRecords fs members (sets_of fields q) groups =
+    subst (λ (gs : List AggregateFunction). AreGroupsOfRecords gs members (sets_of fields q) groups) bound_are
+    (subst (λ sets. AreGroupsOfRecords (map (aggregate_of filters) c.set_functions.result.now) members sets groups) c.sets.ensures.sets
+    (c.in_ok-groups.ensures (of_records filters members) finest)) in
     subst (λ found. SameBag found (query_found fields q records)) (sym is) (all-found (sets_of fields q) fs groups members of_sets)) c.flatten_groups.ensures
+
+pub returns-clause-fit : goal.returns-clause-fit
+returns-clause-fit g c = IfOk-weaker c.flatten_groups.result _ _ (λ rows is typed.
+    let fields = c.args.plan.now.fields in
+    let q = c.args.plan.now.query in
+    let fs = indexed_functions fields q in
+    let types = of_types fields in
+    let groups = c.in_ok-groups.groups.items in
+    let finest : HasProperty types c.grouping.result.now c.set_functions.result.now c.args.finest =
+    subst (λ grouping. HasProperty types grouping c.set_functions.result.now c.args.finest) (sym c.grouping.ensures.grouping)
+    (subst (λ (gs : List FilteredFunction). HasProperty types (grouping_places fields q) gs c.args.finest) (sym c.set_functions.ensures.functions)
+    (functions-columns fields q, typed)) in
+    let of_sets : AreGroupsOf types fs (sets_of fields q) groups =
+    subst (λ (gs : List FilteredFunction). AreGroupsOf types gs (sets_of fields q) groups) c.set_functions.ensures.functions
+    (subst (λ sets. AreGroupsOf types c.set_functions.result.now sets groups) c.sets.ensures.sets (c.in_ok-groups.ensures types finest)) in
+    subst (AreFitting fields q) (sym is) (fitting-from_types fields q groups of_sets)) c.flatten_groups.ensures

@@ -1,12 +1,8 @@
 use Rattle.std.proofs.Common.{List, [], sym, subst, arith}
-use Rattle.query_resolve.specs.Functions.{indexed_functions}
-use Rattle.semantics.specs.Sets.{grouping_places}
 use Rattle.query_resolve.specs.declared.function.FilteredFunction.{FilteredFunction}
-use Rattle.tables_groups.specs.Inside.Table.{AreGroupsWithin}
-use Rattle.tables_groups.proofs.Meaning.{table-within}
-use Rattle.semantics.specs.Found.{aggregate_functions}
-use Rattle.tables.proofs.Bound.{as-many}
+use Rattle.tables_groups.specs.Inside.Table.{IsCounted}
 use Rattle.tables.proofs.Merging.{no-notes}
+use Rattle.tables.proofs.Sound.{table-counted}
 use Rattle.tables.proofs.partial.Partial.empty_by.Goals as goal
 
 pub invariant_of-result : goal.invariant_of-result
@@ -20,8 +16,8 @@ invariant_of-result g c =
       (
         omega arith,
         (
-          subst (λ (fs : List FilteredFunction). AreGroupsWithin 0 fs table) (sym c.in_ok-shape.ensures.functions)
-              (table-within (grouping_places fields q) (indexed_functions fields q) (aggregate_functions fields q) table [] 0 (as-many fields q) c.in_ok-table.ensures (omega arith)),
+          subst (λ (fs : List FilteredFunction). IsCounted 0 fs table) (sym c.in_ok-shape.ensures.functions)
+              (table-counted fields q table [] 0 c.in_ok-table.ensures (omega arith)),
           (
             none.0,
             (none.1, tt),

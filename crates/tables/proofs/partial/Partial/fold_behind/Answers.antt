@@ -4,10 +4,8 @@ use Rattle.std.proofs.Props.{props}
 use Rattle.std.proofs.lemmas.List.Elements.{All-same}
 use Rattle.semantics.specs.Lines.{lines}
 use Rattle.semantics.specs.Groups.{Row}
-use Rattle.tables_groups.specs.Inside.Table.{AreGroupsWithin, IsTableOf}
-use Rattle.tables_groups.proofs.Meaning.{table-within}
+use Rattle.tables_groups.specs.Inside.Table.{IsCounted, IsTableOf}
 use Rattle.query_resolve.specs.declared.function.FilteredFunction.{FilteredFunction}
-use Rattle.query_resolve.specs.Functions.{indexed_functions}
 use Rattle.semantics.specs.Sets.{grouping_places}
 use Rattle.semantics.specs.Conditions.{kept_records}
 use Rattle.tables.specs.Folding.{valid_records_of}
@@ -16,7 +14,7 @@ use Rattle.tables.specs.Partials.{StandsFor}
 use Rattle.tables.specs.Pieces.{records_of}
 use Rattle.tables.specs.States.{PartialState}
 use Rattle.semantics.specs.Found.{aggregate_functions}
-use Rattle.tables.proofs.Bound.{as-many}
+use Rattle.tables.proofs.Sound.{table-counted}
 use Rattle.tables.proofs.Following.{count-behind, followed-note, lines-behind, lines-within, numbers-behind, records-behind, refused-behind, whole-lines}
 use Rattle.tables.proofs.Growing.{few-records}
 use Rattle.tables.proofs.Merging.{one-note}
@@ -77,8 +75,8 @@ invariant_of-result c =
         (
           ∥∥₁_elim c.requires.of_plan (hlevel props) (λ s.
               let p = subst (λ (v : PartialState). StandsFor fields q v s.0) (sym c.self.view_is) s.1 in
-              subst (λ (fs : List FilteredFunction). AreGroupsWithin (self.lines + folding.lines) fs folding.table) (sym p.functions)
-              (table-within (grouping_places fields q) (indexed_functions fields q) (aggregate_functions fields q) folding.table (kept_records fields q (records_of fields s.0 ++ valid_records_of fields ls)) (self.lines + folding.lines) (as-many fields q) (read.read (records_of fields s.0) p.table).table
+              subst (λ (fs : List FilteredFunction). IsCounted (self.lines + folding.lines) fs folding.table) (sym p.functions)
+              (table-counted fields q folding.table (kept_records fields q (records_of fields s.0 ++ valid_records_of fields ls)) (self.lines + folding.lines) (read.read (records_of fields s.0) p.table).table
               (let few = length-kept_behind fields q (records_of fields s.0) ls in let records = few-records fields s.0 in let before = p.lines in omega (arith, few, records, before, count)))),
           (
             notes.0,

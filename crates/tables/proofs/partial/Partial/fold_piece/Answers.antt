@@ -1,20 +1,18 @@
 use Rattle.std.proofs.Common.{◌∷◌, [], List, length, map, refl, sym, ap, subst, arith}
 use Rattle.semantics.specs.Lines.{lines}
-use Rattle.query_resolve.specs.Functions.{indexed_functions}
 use Rattle.semantics.specs.Sets.{grouping_places}
 use Rattle.semantics.specs.Conditions.{kept_records}
 use Rattle.tables.specs.Folding.{valid_records_of}
 use Rattle.tables_groups.specs.Bags.{SameBag}
 use Rattle.semantics.specs.Groups.{Row}
-use Rattle.tables_groups.specs.Inside.Table.{AreGroupsWithin, IsTableOf}
-use Rattle.tables_groups.proofs.Meaning.{table-within}
+use Rattle.tables_groups.specs.Inside.Table.{IsCounted, IsTableOf}
 use Rattle.query_resolve.specs.declared.function.FilteredFunction.{FilteredFunction}
 use Rattle.tables.specs.Notes.{Noted, note_in, note_of}
 use Rattle.semantics.specs.Found.{aggregate_functions}
-use Rattle.tables.proofs.Bound.{as-many}
 use Rattle.tables.proofs.Growing.{lines-more, notes-more, records-more, refused-more}
 use Rattle.tables.proofs.Merging.{one-note}
 use Rattle.tables.proofs.Reading.{length-valid_of, length-kept, length-lines, length-refused_of}
+use Rattle.tables.proofs.Sound.{table-counted}
 use Rattle.tables.proofs.partial.Partial.fold_piece.Goals as goal
 
 pub read_onto-requires : goal.read_onto-requires
@@ -41,8 +39,8 @@ invariant_of-result c =
       (
         (let n = c.len-count.ensures in let r = c.in_ok-table.ensures.refused in let m = length-refused_of fields ls in let ok = folding.refused.ok in grind (arith, n, r, m, count, ok)),
         (
-          subst (λ (fs : List FilteredFunction). AreGroupsWithin folding.lines fs folding.table) (sym c.in_ok-shape.ensures.functions)
-              (table-within (grouping_places fields q) (indexed_functions fields q) (aggregate_functions fields q) folding.table (kept_records fields q (valid_records_of fields ls)) folding.lines (as-many fields q) read.table (omega (arith, valid, few, count))),
+          subst (λ (fs : List FilteredFunction). IsCounted folding.lines fs folding.table) (sym c.in_ok-shape.ensures.functions)
+              (table-counted fields q folding.table (kept_records fields q (valid_records_of fields ls)) folding.lines read.table (omega (arith, valid, few, count))),
           (
             notes.0,
             (notes.1, tt),

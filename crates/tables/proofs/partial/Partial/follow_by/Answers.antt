@@ -1,9 +1,8 @@
 use Rattle.std.proofs.Common.{◌≡◌, ◌+◌, ◌<◌, ◌≤◌, ◌^◌, ◌++◌, List, All, sym, ap, subst, ◌∙◌, arith}
 use Rattle.semantics.specs.Groups.{Row}
 use Rattle.semantics.specs.Sets.{grouping_places}
-use Rattle.query_resolve.specs.declared.function.FilteredFunction.{FilteredFunction}
-use Rattle.tables_groups.specs.Inside.Table.{AreGroupsWithin, IsTableOf}
-use Rattle.tables_groups.proofs.Meaning.{within-can_join}
+use Rattle.query_resolve.specs.Functions.{indexed_functions}
+use Rattle.tables_groups.specs.Inside.Table.{IsTableOf}
 use Rattle.semantics.specs.Found.{aggregate_functions}
 use Rattle.tables.specs.Notes.{notes_in}
 use Rattle.tables.specs.Pieces.{records_of}
@@ -13,6 +12,8 @@ use Rattle.semantics.specs.Conditions.{kept_records}
 use Rattle.tables.proofs.Following.{behind-within, followed-count, followed-lines, followed-note, followed-records, followed-refused, lines-within, whole-lines}
 use Rattle.tables.proofs.Merging.{one-note}
 use Rattle.tables.proofs.Reading.{kept-append}
+use Rattle.tables.proofs.Sound.{counted-can_join, counted-either, typed-either}
+use Rattle.tables.specs.Sound.{IsSoundUnder}
 use Rattle.tables.proofs.partial.Partial.follow_by.Goals as goal
 
 pub merge_tables-requires-clause-mergeable : goal.merge_tables-requires-clause-mergeable
@@ -24,8 +25,7 @@ merge_tables-requires-clause-mergeable g c =
     let first : a.lines ≡ c.args.self.lines = ap (λ (v : PartialState). v.lines) c.self.view_is in
     let second : b.lines ≡ c.args.rest.lines = ap (λ (v : PartialState). v.lines) c.rest.view_is in
     let few : a.lines + b.lines < 2 ^ 63 = omega (arith, first, second, c.requires.few) in
-    within-can_join a.shape.functions.items a.lines b.lines a.table b.table few a.within
-    (subst (λ (fs : List FilteredFunction). AreGroupsWithin b.lines fs b.table) (sym functions) b.within)
+    counted-can_join a.shape.functions.items b.shape.functions.items a.lines b.lines a.table b.table functions a.within b.within few
 
 pub number-requires-clause-few : goal.number-requires-clause-few
 number-requires-clause-few g c = let a = c.self.inside in let counted = a.counted in let few = a.few in omega (arith, counted, few)
@@ -62,8 +62,7 @@ invariant_of-result g c =
       (
         (let x = a.fewer in let y = b.fewer in omega (arith, x, y)),
         (
-          c.in_ok-merged.ensures.within a.shape.functions.items a.lines b.lines a.within
-              (subst (λ (fs : List FilteredFunction). AreGroupsWithin b.lines fs b.table) (sym functions) b.within),
+          counted-either a.shape.functions.items b.shape.functions.items a.lines b.lines a.table b.table functions a.within b.within c.in_ok-merged.merged c.in_ok-merged.ensures.groups,
           (
             notes.0,
             (notes.1, tt),
@@ -72,27 +71,39 @@ invariant_of-result g c =
       ),
     )
 
-pub returns : goal.returns
-returns g c = record {
-  stands = λ fields q front back given other whole.
-      let a = c.self.inside in
-      let b = c.rest.inside in
-      let p = subst (λ (v : PartialState). StandsFor fields q v given.pieces) (sym c.self.view_is) given.stands in
-      let m = subst (λ (v : PartialState). StandsFor fields q v other.pieces) (sym c.rest.view_is) other.stands in
-      let found = c.in_ok-numbered.numbered.items in
-      let all = c.number_behind.new.numbered.items in
-      let count = followed-lines front back given.pieces other.pieces whole given.cut other.cut in
-      let refused = followed-refused fields front back given.pieces other.pieces (notes_in a.notes) (notes_in b.notes) _ found all whole given.cut other.cut p.notes m.notes c.in_ok-numbered.ensures c.in_ok-number_behind.ensures
-      (let x = p.lines in omega (arith, x)) in
-      record {
-        sets = p.sets;
-        functions = p.functions;
-        filters = p.filters;
-        table = subst (λ (rows : List Row). IsTableOf (grouping_places fields q) (aggregate_functions fields q) c.in_ok-merged.merged rows)
-            (sym (ap (kept_records fields q) (followed-records fields front back given.pieces other.pieces whole given.cut other.cut) ∙ kept-append fields q (records_of fields given.pieces) (records_of fields other.pieces)))
-            (c.in_ok-merged.ensures.merged (grouping_places fields q) (aggregate_functions fields q) (kept_records fields q (records_of fields given.pieces)) (kept_records fields q (records_of fields other.pieces)) p.table m.table);
-        lines = (let x = p.lines in let y = m.lines in let z = whole-lines (front ++ back) in omega (arith, x, y, z, count));
-        refused = (let x = p.refused in let y = m.refused in let z = followed-count fields front back given.pieces other.pieces whole given.cut other.cut in omega (arith, x, y, z));
-        notes = followed-note fields (front ++ back) c.in_ok-notes.notes.items _ c.in_ok-notes.ensures (omega arith) (let x = p.lines in let y = m.lines in omega (arith, x, y, count)) refused;
-      };
-}
+pub returns-clause-stands : goal.returns-clause-stands
+returns-clause-stands g c = λ fields q front back given other whole.
+    let a = c.self.inside in
+    let b = c.rest.inside in
+    let p = subst (λ (v : PartialState). StandsFor fields q v given.pieces) (sym c.self.view_is) given.stands in
+    let m = subst (λ (v : PartialState). StandsFor fields q v other.pieces) (sym c.rest.view_is) other.stands in
+    let found = c.in_ok-numbered.numbered.items in
+    let all = c.number_behind.new.numbered.items in
+    let count = followed-lines front back given.pieces other.pieces whole given.cut other.cut in
+    let refused = followed-refused fields front back given.pieces other.pieces (notes_in a.notes) (notes_in b.notes) _ found all whole given.cut other.cut p.notes m.notes c.in_ok-numbered.ensures c.in_ok-number_behind.ensures
+    (let x = p.lines in omega (arith, x)) in
+    record {
+      sets = p.sets;
+      functions = p.functions;
+      filters = p.filters;
+      table = subst (λ (rows : List Row). IsTableOf (grouping_places fields q) (aggregate_functions fields q) c.in_ok-merged.merged rows)
+          (sym (ap (kept_records fields q) (followed-records fields front back given.pieces other.pieces whole given.cut other.cut) ∙ kept-append fields q (records_of fields given.pieces) (records_of fields other.pieces)))
+          (c.in_ok-merged.ensures.merged (grouping_places fields q) (aggregate_functions fields q) (kept_records fields q (records_of fields given.pieces)) (kept_records fields q (records_of fields other.pieces)) p.table m.table);
+      lines = (let x = p.lines in let y = m.lines in let z = whole-lines (front ++ back) in omega (arith, x, y, z, count));
+      refused = (let x = p.refused in let y = m.refused in let z = followed-count fields front back given.pieces other.pieces whole given.cut other.cut in omega (arith, x, y, z));
+      notes = followed-note fields (front ++ back) c.in_ok-notes.notes.items _ c.in_ok-notes.ensures (omega arith) (let x = p.lines in let y = m.lines in omega (arith, x, y, count)) refused;
+    }
+
+pub returns-clause-sound : goal.returns-clause-sound
+returns-clause-sound g c = λ plan given other.
+    let a = c.self.inside in
+    let b = c.rest.inside in
+    let p = subst (IsSoundUnder plan) (sym c.self.view_is) given in
+    let m = subst (IsSoundUnder plan) (sym c.rest.view_is) other in
+    record {
+      sets = p.sets;
+      functions = p.functions;
+      filters = p.filters;
+      typed = typed-either plan.fields (grouping_places plan.fields plan.query) (indexed_functions plan.fields plan.query) a.table b.table c.in_ok-merged.merged p.typed m.typed
+          c.in_ok-merged.ensures.groups;
+    }

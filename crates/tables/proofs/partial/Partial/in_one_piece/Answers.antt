@@ -6,6 +6,7 @@ use Rattle.semantics.specs.Conditions.{kept_records}
 use Rattle.semantics.specs.Found.{aggregate_functions}
 use Rattle.tables.specs.Notes.{notes_in}
 use Rattle.tables.specs.Partials.{StandsFor}
+use Rattle.tables.specs.Sound.{IsSoundUnder}
 use Rattle.tables.specs.States.{PartialState}
 use Rattle.tables.proofs.Following.{lines-within, one-lines, one-noted, one-records, one-refused, one-sound, refused-in_order}
 use Rattle.tables.proofs.partial.Partial.in_one_piece.Goals as goal
@@ -44,3 +45,8 @@ returns-clause-stands c = λ fields q input given.
       notes = one-noted fields input pieces self.lines found c.in_ok-notes.notes.items given.cut (omega (arith, counted)) (refused-in_order fields input pieces (notes_in self.notes) found given.cut p.notes c.in_ok-numbered.ensures)
           (c.in_ok-notes.ensures.none, c.in_ok-notes.ensures.some);
     }
+
+pub returns-clause-sound : goal.returns-clause-sound
+returns-clause-sound c = λ plan given.
+    let p = subst (IsSoundUnder plan) (sym c.self.view_is) given in
+    record { sets = p.sets; functions = p.functions; filters = p.filters; typed = p.typed }

@@ -1,11 +1,8 @@
 use Rattle.std.proofs.Common.{◌≡◌, List, map, ap, sym, subst, ◌∙◌}
-use Rattle.std.proofs.Math.Logic.{∥∥₁_map}
 use Rattle.std.proofs.lemmas.Result.{IfOk-weaker}
 use Rattle.semantics.specs.Aggregates.{AggregateFunction}
 use Rattle.tables_groups.specs.Functions.{aggregate_of}
-use Rattle.tables_groups.specs.Inside.Table.{IsOfFew, IsTableOf}
-use Rattle.query_resolve.specs.declared.function.FilteredFunction.{FilteredFunction}
-use Rattle.query_resolve.specs.Functions.{indexed_functions}
+use Rattle.tables_groups.specs.Inside.Table.{IsTableOf}
 use Rattle.semantics.specs.Sets.{grouping_places}
 use Rattle.semantics.specs.Conditions.{kept_records}
 use Rattle.semantics.specs.Found.{aggregate_functions}
@@ -15,24 +12,14 @@ use Rattle.tables.specs.Pieces.{records_of}
 use Rattle.tables.specs.Sets.{AreGroupsOfSet}
 use Rattle.tables.specs.States.{PartialState}
 use Rattle.tables.proofs.Bound.{bound-functions}
-use Rattle.tables.proofs.Growing.{few-kept}
+use Rattle.tables.proofs.Sound.{counted-few}
 use Rattle.tables.proofs.partial.Partial.roll.Goals as goal
 
 pub roll-requires-clause-few : goal.roll-requires-clause-few
 roll-requires-clause-few c =
-    let fields = c.args.plan.now.fields in
-    let q = c.args.plan.now.query in
     let self = c.self.inside in
-    ∥∥₁_map c.requires.of_plan (λ s.
-    let p = subst (λ (v : PartialState). StandsFor fields q v s.0) (sym c.self.view_is) s.1 in
-    let of_few : IsOfFew (grouping_places fields q) (indexed_functions fields q) self.table = record {
-      filters = filter_tests fields q;
-      rows = kept_records fields q (records_of fields s.0);
-      is_table = subst (λ (fs : List AggregateFunction). IsTableOf (grouping_places fields q) fs self.table (kept_records fields q (records_of fields s.0))) (sym (bound-functions fields q)) p.table;
-      few = few-kept fields q s.0 self.lines p.lines self.few;
-    } in
-    subst (λ grouping. IsOfFew grouping c.set_functions.result.now self.table) (sym c.grouping.ensures.grouping)
-    (subst (λ (fs : List FilteredFunction). IsOfFew (grouping_places fields q) fs self.table) (sym c.set_functions.ensures.functions) of_few))
+    counted-few self.shape.functions.items c.set_functions.result.now self.lines self.table
+    (ap (λ (v : PartialState). v.functions) c.self.view_is ∙ c.requires.sound.functions ∙ sym c.set_functions.ensures.functions) self.few self.within
 
 pub returns-clause-groups : goal.returns-clause-groups
 returns-clause-groups c = IfOk-weaker c.finish.result _ _ (λ (groups : _) given pieces s.

@@ -1,9 +1,6 @@
-use Rattle.std.proofs.Common.{IfSome, List, ℕ, Bool, Option, map, refl, sym, subst}
-use Rattle.std.proofs.lemmas.Result.{IfOk-weaker}
-use Rattle.tables_groups.specs.Functions.{aggregate_of}
-use Rattle.tables_groups.specs.Inside.Table.{Contents, IsTableOf}
-use Rattle.semantics.specs.Groups.{Row}
-use Rattle.tables.specs.SetTables.{AreTablesOf, HasFiner}
+use Rattle.std.proofs.Common.{IfOk, IfSome, List, ℕ, Option, refl, sym, subst}
+use Rattle.tables_groups.specs.Inside.Table.{Contents}
+use Rattle.tables.specs.SetTables.{HasFiner, IsOfSameRecords}
 use Rattle.tables.proofs.SetTables.{some-of_ok}
 use Rattle.tables.proofs.rolling.Roll.roll.Goals as goal
 
@@ -18,10 +15,8 @@ returns c =
     record {
       rolled = (
         refl,
-        subst (λ (o : Option Contents). IfSome o (λ table. (filters : List (Row → Bool)) (rows : List Row)
-            → AreTablesOf (map (aggregate_of filters) fs) tables rows → IsTableOf set (map (aggregate_of filters) fs) table rows)) (sym c.ok.ensures.value)
-            (some-of_ok _ c.roll_from_finer.result
-            (IfOk-weaker c.roll_from_finer.result _ _ (λ table rolled filters rows h.
-            subst (λ (s : List ℕ). IsTableOf s (map (aggregate_of filters) fs) table rows) c.as_slice.ensures.value (rolled filters rows h)) c.roll_from_finer.ensures.rolled)),
+        subst (λ (o : Option Contents). IfSome o (IsOfSameRecords fs tables set)) (sym c.ok.ensures.value)
+            (some-of_ok (IsOfSameRecords fs tables set) c.roll_from_finer.result
+            (subst (λ (s : List ℕ). IfOk c.roll_from_finer.result (IsOfSameRecords fs tables s)) c.as_slice.ensures.value c.roll_from_finer.ensures.rolled)),
       );
     }

@@ -1,0 +1,99 @@
+-- How many records the groups of a partial result have, and of which types they are.
+use Rattle.std.proofs.Common.{◌≡◌, ◌+◌, ◌-◌, ◌<◌, ◌≤◌, ◌^◌, ℕ, List, [], ◌∷◌, length, map, Option, IfSome, inl, inr, refl, sym, ap, subst, ◌∙◌, arith}
+use Rattle.std.proofs.lemmas.List.{nil_from_length}
+use Rattle.std.specs.FinMap as fin
+use Rattle.query_resolve.specs.declared.function.FilteredFunction.{FilteredFunction}
+use Rattle.query_resolve.specs.Functions.{indexed_functions}
+use Rattle.semantics.specs.Aggregates.{AggregateFunction}
+use Rattle.semantics.specs.Columns.{Field}
+use Rattle.semantics.specs.Found.{aggregate_functions}
+use Rattle.semantics.specs.Groups.{Key, Row, key_order}
+use Rattle.semantics.specs.Sets.{grouping_places}
+use Rattle.semantics.specs.Syntax.{TreeForm}
+use Rattle.tables_groups.specs.Bags.{weigh}
+use Rattle.tables_groups.specs.Inside.Entries.{entry_at, table_entries}
+use Rattle.tables_groups.specs.Inside.Group.{GroupState}
+use Rattle.tables_groups.specs.Inside.Table.{CanJoin, Contents, HasFewRecords, IsCounted, IsTableOf, lines_of}
+use Rattle.tables_groups.specs.Inside.Typed.{AllFit, IsTypedTable}
+use Rattle.tables_groups.proofs.Counted.{both-counted, counted-within, records-counted}
+use Rattle.tables_groups.proofs.Meaning.{within-can_join}
+use Rattle.tables_groups.proofs.Typed.{both-typed, none-typed, records-typed}
+use Rattle.tables.specs.Functions.{filter_tests}
+use Rattle.tables.specs.Sound.{HasGroupsOfEither}
+use Rattle.tables.proofs.Bound.{bound-functions}
+use Rattle.tables.proofs.Columns.{functions-columns, grouping-columns}
+use Rattle.tables.proofs.EitherWay.{plus-flip}
+
+-- ---- of records
+
+-- the groups of a query's table have no more records than the table is of
+pub table-counted : (fields : List Field) (q : TreeForm) (table : Contents) (rows : List Row) (most : ℕ)
+    → IsTableOf (grouping_places fields q) (aggregate_functions fields q) table rows → length rows ≤ most → IsCounted most (indexed_functions fields q) table
+table-counted fields q table rows most is few =
+    records-counted most (grouping_places fields q) (indexed_functions fields q) (filter_tests fields q) table rows
+    (subst (λ (fs : List AggregateFunction). IsTableOf (grouping_places fields q) fs table rows) (sym (bound-functions fields q)) is) few
+
+-- and have the types of its columns and set functions, where the records fit the columns
+pub table-typed : (fields : List Field) (q : TreeForm) (table : Contents) (rows : List Row)
+    → IsTableOf (grouping_places fields q) (aggregate_functions fields q) table rows → AllFit fields rows
+    → IsTypedTable fields (grouping_places fields q) (indexed_functions fields q) table
+table-typed fields q table rows is fit =
+    records-typed fields (grouping_places fields q) (indexed_functions fields q) (filter_tests fields q) table rows
+    (subst (λ (fs : List AggregateFunction). IsTableOf (grouping_places fields q) fs table rows) (sym (bound-functions fields q)) is) fit
+    (grouping-columns fields q) (functions-columns fields q)
+
+-- ---- whatever the records are
+
+pub counted-more : (functions : List FilteredFunction) (m n : ℕ) (table : Contents) → m ≤ n → IsCounted m functions table → IsCounted n functions table
+counted-more functions m n table more counted = record { lines = λ ks distinct. (let a = counted.lines ks distinct in omega (arith, a, more)); parts = counted.parts }
+
+pub counted-few : (functions others : List FilteredFunction) (lines : ℕ) (table : Contents) → functions ≡ others → lines < 2 ^ 63 → IsCounted lines functions table
+    → HasFewRecords others table
+counted-few functions others lines table e few counted =
+    subst (λ (fs : List FilteredFunction). HasFewRecords fs table) e (counted-more functions lines (2 ^ 63 - 1) table (omega (arith, few)) counted)
+
+-- ---- of a table without groups
+
+empty-lines : (ks : List Key) → weigh (λ k. lines_of (fin.get (fin.empty {X = GroupState} {R = key_order}) k)) ks ≡ 0
+empty-lines [] = refl
+empty-lines (k ∷ ks) =
+    let here = ap lines_of (fin.get-empty {X = GroupState} key_order k) in
+    let rest = empty-lines ks in
+    omega (arith, here, rest)
+
+pub empty-counted : (functions : List FilteredFunction) (table : Contents) → table ≡ fin.empty → IsCounted 0 functions table
+empty-counted functions table e = subst (IsCounted 0 functions) (sym e) (record {
+  lines = λ ks distinct. (let a = empty-lines ks in omega (arith, a));
+  parts = λ k. subst (λ (o : Option GroupState). IfSome o (λ group. length group.parts ≡ length functions)) (sym (fin.get-empty key_order k)) tt;
+})
+
+pub empty-typed : (fields : List Field) (set : List ℕ) (functions : List FilteredFunction) (table : Contents) → table ≡ fin.empty → IsTypedTable fields set functions table
+empty-typed fields set functions table e = subst (IsTypedTable fields set functions) (sym e) (none-typed fields set functions fin.empty (λ k. fin.get-empty key_order k))
+
+pub empty-entries : (table : Contents) → table ≡ fin.empty → table_entries table ≡ []
+empty-entries table e =
+    ap table_entries e
+    ∙ ap (map entry_at) (nil_from_length (fin.entries (fin.empty {X = GroupState} {R = key_order}))
+    (sym (fin.len-entries (fin.empty {X = GroupState} {R = key_order})) ∙ fin.len-empty key_order GroupState))
+
+-- ---- of two tables, put together
+
+module _ (functions others : List FilteredFunction) (m n : ℕ) (first second : Contents) (same : functions ≡ others)
+    (a : IsCounted m functions first) (b : IsCounted n others second) where
+  moved : IsCounted n functions second
+  moved = subst (λ (fs : List FilteredFunction). IsCounted n fs second) (sym same) b
+
+  pub counted-can_join : m + n < 2 ^ 63 → CanJoin first second
+  counted-can_join few =
+      within-can_join functions m n first second few (counted-within m functions first a) (counted-within n functions second moved)
+
+  pub counted-either : (table : Contents) → HasGroupsOfEither first second table → IsCounted (m + n) functions table
+  counted-either table (inl both) = both-counted m n functions first second table a moved both
+  counted-either table (inr both) =
+      subst (λ k. IsCounted k functions table) (plus-flip n m) (both-counted n m functions second first table moved a both)
+
+pub typed-either : (fields : List Field) (set : List ℕ) (functions : List FilteredFunction) (first second table : Contents)
+    → IsTypedTable fields set functions first → IsTypedTable fields set functions second → HasGroupsOfEither first second table
+    → IsTypedTable fields set functions table
+typed-either fields set functions first second table a b (inl both) = both-typed fields set functions first second table a b both
+typed-either fields set functions first second table a b (inr both) = both-typed fields set functions second first table b a both

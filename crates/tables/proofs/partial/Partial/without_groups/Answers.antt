@@ -1,0 +1,49 @@
+use Rattle.std.proofs.Common.{ap, map, refl, arith}
+use Rattle.query_resolve.specs.Functions.{indexed_functions}
+use Rattle.semantics.specs.Sets.{grouping_places}
+use Rattle.tables.specs.Notes.{note_in}
+use Rattle.tables.proofs.Merging.{one-note}
+use Rattle.tables.proofs.Sound.{counted-more, empty-counted, empty-entries, empty-typed}
+use Rattle.tables.proofs.partial.Partial.without_groups.Goals as goal
+
+pub invariant_of-result : goal.invariant_of-result
+invariant_of-result g c =
+    let table = c.in_ok-table.table in
+    let functions = c.in_ok-shape.shape.functions.items in
+    let notes = one-note c.in_ok-notes.notes.items _ c.in_ok-notes.ensures c.requires.numbered in (
+      c.requires.few,
+      (
+        (let n = c.len-count.ensures in let fewer = c.requires.fewer in let ok = c.args.refused.ok in grind (arith, n, fewer, ok)),
+        (
+          counted-more functions 0 c.args.lines table (omega arith) (empty-counted functions table c.in_ok-table.ensures.none),
+          (
+            notes.0,
+            (notes.1, tt),
+          ),
+        ),
+      ),
+    )
+
+pub returns-clause-sound : goal.returns-clause-sound
+returns-clause-sound g c =
+    let fields = c.args.plan.now.fields in
+    let q = c.args.plan.now.query in
+    record {
+      sets = c.in_ok-shape.ensures.sets;
+      functions = c.in_ok-shape.ensures.functions;
+      filters = c.in_ok-shape.ensures.filters;
+      typed = empty-typed fields (grouping_places fields q) (indexed_functions fields q) c.in_ok-table.table c.in_ok-table.ensures.none;
+    }
+
+pub returns-clause-refusals : goal.returns-clause-refusals
+returns-clause-refusals g c = record {
+  lines = refl;
+  refused = (let n = c.len-count.ensures in let ok = c.args.refused.ok in omega (arith, n, ok));
+  notes = ap (map note_in) c.in_ok-notes.ensures;
+}
+
+pub returns-clause-groups : goal.returns-clause-groups
+returns-clause-groups g c = empty-entries c.in_ok-table.table c.in_ok-table.ensures.none
+
+pub returns-clause-within : goal.returns-clause-within
+returns-clause-within g c = empty-counted c.in_ok-shape.shape.functions.items c.in_ok-table.table c.in_ok-table.ensures.none
