@@ -347,6 +347,7 @@ impl Partial {
         requires few { self.lines + rest.lines < 2 ^ 63 }
         ensures stands { IfOk result (IsConcatenationOf self rest) }
         ensures sound { IfOk result (IsSoundWhereBoth self rest) }
+        ensures lines { IfOk result (λ whole. whole.lines ≡ self.lines + rest.lines) }
     {
         self.follow_by(&Serial, rest)
     }
@@ -365,6 +366,7 @@ impl Partial {
         requires few { self.lines + rest.lines < 2 ^ 63 }
         ensures stands { IfOk result (IsConcatenationOf self rest) }
         ensures sound { IfOk result (IsSoundWhereBoth self rest) }
+        ensures lines { IfOk result (λ whole. whole.lines ≡ self.lines + rest.lines) }
     {
         let Partial {
             alloc,
