@@ -1,10 +1,13 @@
 mod Examples
+mod Closing
 mod Fronts
 mod Holding
+mod Joins
 mod Names
 mod OfGroups
 mod Places
 mod Refusing
 mod Shaped
 mod Taking
+mod Written
 mod Joined

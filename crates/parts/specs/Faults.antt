@@ -117,8 +117,18 @@ abbrev pub Gives : {X Y : Type 0} → (X → Y) → Result X PartRefusal → Res
 Gives view (Ok x) read = read ≡ Ok (view x)
 Gives view (Err why) read = Refuses why read
 
+-- a refusal of the part of this number
+abbrev pub refusal_in : ℕ → PartRefusal → PartsRefusal
+refusal_in part (refusal.Fault fault) = of_parts.Fault (record { part = part; line = fault.line; kind = fault.kind })
+refusal_in part refusal.Reading = of_parts.Reading
+refusal_in part refusal.OutOfMemory = of_parts.OutOfMemory
+
 -- The same of all parts.
 abbrev pub RefusesParts : {Y : Type 0} → PartsRefusal → Result Y PartedFault → Type 0
 RefusesParts (of_parts.Fault fault) read = read ≡ Err (parted_of fault)
 RefusesParts of_parts.Reading read = ⊤
 RefusesParts of_parts.OutOfMemory read = ⊤
+
+abbrev pub GivesParts : {X Y : Type 0} → (X → Y) → Result X PartsRefusal → Result Y PartedFault → Type 0
+GivesParts view (Ok x) read = read ≡ Ok (view x)
+GivesParts view (Err why) read = RefusesParts why read

@@ -4,3 +4,4 @@ pub mod Reader
 pub mod Texts
 pub mod ReadingParts
 pub mod Gathering
+pub mod Joining

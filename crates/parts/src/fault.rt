@@ -3,7 +3,9 @@
 ghost use Rattle.std.specs.Prelude.{◌≡◌};
 ghost use Rattle.parts.specs.Faults.{kind_of_groups, refusal_of_groups};
 ghost use Rattle.parts.specs.declared.fault.PartRefusal.TheVariants.{OutOfMemory};
+ghost use Rattle.parts.specs.declared.fault.PartsRefusal.TheVariants as of_parts;
 
+use lines::ReadFault;
 use part_groups::{GroupFaultKind, GroupRefusal};
 use std::alloc::{AllocError, AllocFailed};
 use thiserror::Error;
@@ -80,6 +82,22 @@ pub enum PartsRefusal {
     /// Memory ran out.
     #[error("out of memory")]
     OutOfMemory,
+}
+
+impl From<AllocError> for PartsRefusal {
+    ghost from_gives = { λ _ refusal. refusal ≡ of_parts.OutOfMemory };
+
+    fn from(_error: AllocError) -> PartsRefusal {
+        PartsRefusal::OutOfMemory
+    }
+}
+
+impl From<ReadFault> for PartsRefusal {
+    ghost from_gives = { λ _ refusal. refusal ≡ of_parts.Reading };
+
+    fn from(_fault: ReadFault) -> PartsRefusal {
+        PartsRefusal::Reading
+    }
 }
 
 /// The first fault of a part.
