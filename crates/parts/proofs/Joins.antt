@@ -87,16 +87,16 @@ behind-one : (all : List ContentsForm) (c : ContentsForm) (answer : Result (List
 behind-one all c (Ok more) = ap (λ (cs : List ContentsForm). Ok cs) (sym (append_assoc all (c ∷ []) more))
 behind-one all c (Err fault) = refl
 
-read-Ok : {A E F : Type 0} (view : E → F) (read : Result A E) (a : A) → with_fault view read ≡ Ok a → read ≡ Ok a
+pub read-Ok : {A E F : Type 0} (view : E → F) (read : Result A E) (a : A) → with_fault view read ≡ Ok a → read ≡ Ok a
 read-Ok view (Ok x) a e = ap Ok cc
 read-Ok view (Err fault) a e = absurd cc
 
-record IsFaultOf {A E F : Type 0} (view : E → F) (read : Result A E) (g : F) : Type 0 where
-  fault : E
-  is : read ≡ Err fault
-  seen : view fault ≡ g
+pub record IsFaultOf {A E F : Type 0} (view : E → F) (read : Result A E) (g : F) : Type 0 where
+  pub fault : E
+  pub is : read ≡ Err fault
+  pub seen : view fault ≡ g
 
-read-Err : {A E F : Type 0} (view : E → F) (read : Result A E) (g : F) → with_fault view read ≡ Err g → IsFaultOf view read g
+pub read-Err : {A E F : Type 0} (view : E → F) (read : Result A E) (g : F) → with_fault view read ≡ Err g → IsFaultOf view read g
 read-Err view (Ok x) g e = absurd cc
 read-Err view (Err fault) g e = record { fault = fault; is = refl; seen = cc }
 

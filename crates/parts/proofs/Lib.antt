@@ -1,5 +1,9 @@
 mod Examples
+mod AllBack
+mod Answering
+mod Back
 mod Closing
+mod FaultNames
 mod Fronts
 mod Holding
 mod Joins

@@ -128,6 +128,7 @@ pub fn read_parts<R: Read + Drop, E: Executor>(
         → IfOk result (λ partial. StandsForInput plan.now.fields plan.now.query partial
         (concatenated inputs))) }
 {
+    contents_law();
     let columns = plan.schema().columns();
     let header = header_of(alloc, plan)?;
     let shape = shape_over(alloc, columns, plan.grouping(), plan.set_functions())?;
