@@ -9,6 +9,7 @@ mod Holding
 mod Joins
 mod Names
 mod OfGroups
+mod Parted
 mod Places
 mod Refusing
 mod Shaped

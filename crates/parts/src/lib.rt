@@ -19,6 +19,9 @@ mod reader;
 mod refused;
 mod shape;
 mod texts;
+mod whole;
 mod writing;
 
 pub use fault::{PartsFault, PartsFaultKind, PartsRefusal};
+pub use joining::read_parts;
+pub use whole::write_part;
