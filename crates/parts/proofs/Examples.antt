@@ -1,0 +1,104 @@
+-- The text of a part, computed on examples.
+use Rattle.std.proofs.Common.{◌≡◌, ℕ, pos, false, List, [], ◌∷◌, codes, refl, None, Some}
+use Rattle.std.specs.Fmt.{digits}
+use Rattle.std.specs.Str.{is_utf8, chars}
+use Rattle.json.proofs.OnLiterals.{json_on_literals}
+use Rattle.serde_json.proofs.OnLiterals.{serde_json_on_literals}
+use Rattle.semantics.specs.Columns.{Field}
+use Rattle.semantics.specs.Syntax.{TreeForm, ElementForm, FunctionForm, name, function, over_all, over_filtered, rollup, expression, literal, compare}
+use Rattle.semantics.specs.Words.{reserved_word}
+use Rattle.semantics.specs.declared.aggregate.Aggregate.TheVariants as aggregate
+use Rattle.semantics.specs.declared.comparison.Op.TheVariants.{Gt}
+use Rattle.semantics.specs.declared.kind.Kind.TheVariants as kind
+use Rattle.semantics.specs.declared.literal.Literal.TheVariants as constant
+use Rattle.part_text.specs.Texts.{text_of}
+use Rattle.parts.specs.Parts.{closed, columns_text, concatenated, part_values}
+
+-- shop:text,cents:int
+abbrev fields : List Field
+fields = record { name = codes "shop"; kind = kind.Text } ∷ record { name = codes "cents"; kind = kind.Int } ∷ []
+
+columns : columns_text fields ≡ codes "shop:text,cents:int"
+columns = refl
+
+-- SUM(cents), and SUM(cents) FILTER (WHERE cents > 2)
+abbrev sum : FunctionForm
+sum = over_all (aggregate.Sum (codes "cents"))
+
+abbrev sum_above_2 : FunctionForm
+sum_above_2 = over_filtered (aggregate.Sum (codes "cents")) (compare (expression (name (codes "cents"))) Gt (literal (constant.Integer (pos 2))))
+
+-- SELECT shop, f AS s FROM lines, with or without GROUP BY
+abbrev query : FunctionForm → List ElementForm → TreeForm
+query f groups = record {
+  items = record { expression = name (codes "shop"); alias = None } ∷ record { expression = function f; alias = Some (codes "s") } ∷ [];
+  where_condition = None;
+  distinct_sets = false;
+  groups = groups;
+  having_condition = None;
+  keys = [];
+}
+
+-- SELECT f AS s FROM lines
+abbrev query_of_one : FunctionForm → TreeForm
+query_of_one f = record {
+  items = record { expression = function f; alias = Some (codes "s") } ∷ [];
+  where_condition = None;
+  distinct_sets = false;
+  groups = [];
+  having_condition = None;
+  keys = [];
+}
+
+-- GROUP BY ROLLUP (shop)
+abbrev by_shop : List ElementForm
+by_shop = rollup ((codes "shop" ∷ []) ∷ []) ∷ []
+
+-- ---- four lines, of which the second is refused
+
+four : List ℕ
+four = codes "{\"shop\":\"Harbour\",\"cents\":5}\nnot JSON\n{\"shop\":\"Harbour\",\"cents\":2}\n{\"cents\":1}\n"
+
+-- the text of their part but for its last line, of which the test `worked_example` of `test_parts` says that it is the SHA-256 that other programs compute
+four_text : text_of (part_values fields (query sum by_shop) four) ≡ codes "\"jlreport part 1\"\n\"shop:text,cents:int\"\n\"SELECT shop, SUM(cents) AS s FROM lines GROUP BY ROLLUP (shop)\"\n4\n1\n2\n\"not JSON\"\n2\n\"Harbour\"\n2\n7\n2\nnull\n1\n1\n1\n"
+unfolding serde_json_on_literals json_on_literals is_utf8 chars digits reserved_word four
+four_text = refl
+
+-- ---- other inputs
+
+-- no lines: under GROUP BY there is no group
+none_text : text_of (part_values fields (query sum by_shop) []) ≡ codes "\"jlreport part 1\"\n\"shop:text,cents:int\"\n\"SELECT shop, SUM(cents) AS s FROM lines GROUP BY ROLLUP (shop)\"\n0\n0\n0\n"
+unfolding serde_json_on_literals json_on_literals is_utf8 chars digits reserved_word
+none_text = refl
+
+-- without GROUP BY there is one, with no key, over no records too
+none_of_all : text_of (part_values fields (query_of_one sum) []) ≡ codes "\"jlreport part 1\"\n\"shop:text,cents:int\"\n\"SELECT SUM(cents) AS s FROM lines\"\n0\n0\n1\n0\n0\n0\n"
+unfolding serde_json_on_literals json_on_literals is_utf8 chars digits reserved_word
+none_of_all = refl
+
+-- FILTER: the members are all records, and the sum is over those that it keeps
+filtered : text_of (part_values fields (query_of_one sum_above_2) four) ≡ codes "\"jlreport part 1\"\n\"shop:text,cents:int\"\n\"SELECT SUM(cents) FILTER (WHERE cents > 2) AS s FROM lines\"\n4\n1\n2\n\"not JSON\"\n1\n3\n5\n1\n"
+unfolding serde_json_on_literals json_on_literals is_utf8 chars digits reserved_word four
+filtered = refl
+
+-- a line without a line feed, of which the value of a column is bad
+bad_value : List ℕ
+bad_value = codes "{\"cents\":\"5\"}"
+
+refused : text_of (part_values fields (query_of_one sum) bad_value) ≡ codes "\"jlreport part 1\"\n\"shop:text,cents:int\"\n\"SELECT SUM(cents) AS s FROM lines\"\n1\n1\n1\n\"bad value in column cents\"\n1\n0\n0\n0\n"
+unfolding serde_json_on_literals json_on_literals is_utf8 chars digits reserved_word bad_value
+refused = refl
+
+-- ---- inputs, one behind the other
+
+closed_none : closed [] ≡ []
+closed_none = refl
+
+closed_ended : closed (codes "ab\n") ≡ codes "ab\n"
+closed_ended = refl
+
+closed_open : closed (codes "ab\n\nc") ≡ codes "ab\n\nc\n"
+closed_open = refl
+
+three : concatenated (codes "a" ∷ [] ∷ codes "b\nc\n" ∷ []) ≡ codes "a\nb\nc\n"
+three = refl

@@ -1,0 +1,30 @@
+use Rattle.std.proofs.Common.{◌≡◌, ◌≢◌, [], subst, ◌∙◌}
+use Rattle.std.proofs.lemmas.Result.{err_from_is_err_and}
+use Rattle.semantics.specs.Columns.{Field}
+use Rattle.std.specs.Prelude.{List}
+use Rattle.values.specs.Schema.{IsSchema}
+use Rattle.parts.specs.Reader.{IsKnown, stream_of}
+use Rattle.parts.proofs.Answering.{known-all, known-fault, known-stands}
+use Rattle.parts.proofs.joining.read_parts.Goals as goal
+
+pub returns-in_err-first-clause-answers : goal.returns-in_err-first-clause-answers
+returns-in_err-first-clause-answers g c =
+    let reader = c.in_ok-reader.reader in
+    let p = err_from_is_err_and c.from_residual-in_err-first.result c.from_residual-in_err-first.ensures.1 in
+    let some : IsKnown reader → (stream_of reader).left ≢ [] = λ known e. let none = (c.in_ok-has_line.ensures.none known).1 e in absurd cc in
+    rw (p.1, p.2)
+    (known-fault c.args.plan.now reader c.has_line.new.self c.in_ok-has_line.ensures.same some (g.R.Read.remaining c.args.reader) c.in_err-first.field-0.0 c.in_ok-reader.ensures.left c.in_ok-reader.ensures.line
+    (λ known. c.in_err-first.ensures.read (c.in_ok-has_line.ensures.known known)))
+
+pub returns-clause-answers : goal.returns-clause-answers
+returns-clause-answers g c =
+    let reader = c.in_ok-reader.reader in
+    let first = c.in_ok-first.ensures in
+    let some : IsKnown reader → (stream_of reader).left ≢ [] = λ known e. let none = (c.in_ok-has_line.ensures.none known).1 e in absurd cc in
+    known-all c.args.plan.now reader c.has_line.new.self c.in_ok-has_line.ensures.same some c.contents_law.ensures (g.R.Read.remaining c.args.reader) c.in_ok-first.first c.next_numbered.new.reader c.join_rest.result c.in_ok-reader.ensures.left c.in_ok-reader.ensures.line
+    first.sound first.one (λ known. first.read (c.in_ok-has_line.ensures.known known)) (λ known. c.join_rest.ensures.joins (first.known (c.in_ok-has_line.ensures.known known)))
+
+pub returns-clause-stands : goal.returns-clause-stands
+returns-clause-stands g c =
+    let schema : IsSchema c.args.plan.now.fields = subst (λ (fields : List Field). IsSchema fields) c.schema.ensures.schema c.columns-columns.ensures.schema in
+    known-stands c.args.plan.now (g.R.Read.remaining c.args.reader) c.join_rest.result schema (returns-clause-answers g c)

@@ -1,0 +1,134 @@
+-- The faults of parts, and what they are in the code.
+use Rattle.std.specs.Prelude.{◌≡◌, ⊤, ℕ, List, Result, Ok, Err, string_bytes}
+use Rattle.part_groups.specs.declared.fault.GroupFault.{GroupFault}
+use Rattle.part_groups.specs.declared.fault.GroupFaultKind.{GroupFaultKind}
+use Rattle.part_groups.specs.declared.fault.GroupFaultKind.TheVariants as groups
+use Rattle.part_groups.specs.declared.fault.GroupRefusal.{GroupRefusal}
+use Rattle.part_groups.specs.declared.fault.GroupRefusal.TheVariants as of_groups
+use Rattle.parts.specs.declared.fault.PartFault.{PartFault}
+use Rattle.parts.specs.declared.fault.PartRefusal.{PartRefusal}
+use Rattle.parts.specs.declared.fault.PartRefusal.TheVariants as refusal
+use Rattle.parts.specs.declared.fault.PartsFault.{PartsFault}
+use Rattle.parts.specs.declared.fault.PartsFaultKind.{PartsFaultKind}
+use Rattle.parts.specs.declared.fault.PartsFaultKind.TheVariants as kind
+use Rattle.parts.specs.declared.fault.PartsRefusal.{PartsRefusal}
+use Rattle.parts.specs.declared.fault.PartsRefusal.TheVariants as of_parts
+
+-- What is wrong with a line.
+pub data FaultKind : Type 0 where
+  no_part : FaultKind
+  not_a_part : FaultKind
+  other_version : List ℕ → FaultKind
+  other_columns : List ℕ → FaultKind
+  other_query : List ℕ → FaultKind
+  not_a_value : FaultKind
+  unexpected_value : FaultKind
+  out_of_order : FaultKind
+  out_of_range : FaultKind
+  ends_too_early : FaultKind
+  wrong_checksum : FaultKind
+  too_many_lines : FaultKind
+
+-- The first fault of a part, with the number of its line.
+pub record Fault : Type 0 where
+  pub line : ℕ
+  pub kind : FaultKind
+
+-- The first fault of parts, with the numbers of its part and its line, both from 1 on.
+pub record PartedFault : Type 0 where
+  pub part : ℕ
+  pub line : ℕ
+  pub kind : FaultKind
+
+-- The same fault, said to be in a part.
+abbrev pub in_part : ℕ → Fault → PartedFault
+in_part part fault = record { part = part; line = fault.line; kind = fault.kind }
+
+-- ---- of groups
+
+abbrev pub group_kind : GroupFaultKind → FaultKind
+group_kind groups.NotAValue = not_a_value
+group_kind groups.UnexpectedValue = unexpected_value
+group_kind groups.OutOfOrder = out_of_order
+group_kind groups.OutOfRange = out_of_range
+group_kind groups.EndsTooEarly = ends_too_early
+
+-- A fault of groups is one of their part.
+abbrev pub group_fault : GroupFault → Fault
+group_fault fault = record { line = fault.line; kind = group_kind fault.kind }
+
+-- ---- in the code
+
+-- What the kind of a fault says.
+abbrev pub kind_of : PartsFaultKind → FaultKind
+kind_of kind.NoPart = no_part
+kind_of kind.NotAPart = not_a_part
+kind_of (kind.OtherVersion version) = other_version (string_bytes version)
+kind_of (kind.OtherColumns columns) = other_columns (string_bytes columns)
+kind_of (kind.OtherQuery query) = other_query (string_bytes query)
+kind_of kind.NotAValue = not_a_value
+kind_of kind.UnexpectedValue = unexpected_value
+kind_of kind.OutOfOrder = out_of_order
+kind_of kind.OutOfRange = out_of_range
+kind_of kind.EndsTooEarly = ends_too_early
+kind_of kind.WrongChecksum = wrong_checksum
+kind_of kind.TooManyLines = too_many_lines
+
+abbrev pub fault_of : PartFault → Fault
+fault_of fault = record { line = fault.line; kind = kind_of fault.kind }
+
+abbrev pub parted_of : PartsFault → PartedFault
+parted_of fault = record { part = fault.part; line = fault.line; kind = kind_of fault.kind }
+
+-- the refusal that one of groups is
+abbrev pub kind_of_groups : GroupFaultKind → PartsFaultKind
+kind_of_groups groups.NotAValue = kind.NotAValue
+kind_of_groups groups.UnexpectedValue = kind.UnexpectedValue
+kind_of_groups groups.OutOfOrder = kind.OutOfOrder
+kind_of_groups groups.OutOfRange = kind.OutOfRange
+kind_of_groups groups.EndsTooEarly = kind.EndsTooEarly
+
+abbrev pub refusal_of_groups : GroupRefusal → PartRefusal
+refusal_of_groups (of_groups.Fault fault) = refusal.Fault (record { line = fault.line; kind = kind_of_groups fault.kind })
+refusal_of_groups of_groups.Reading = refusal.Reading
+refusal_of_groups of_groups.OutOfMemory = refusal.OutOfMemory
+
+-- the fault of this kind at a line
+abbrev pub fault_at_line : ℕ → PartsFaultKind → PartRefusal
+fault_at_line line kind = refusal.Fault (record { line = line; kind = kind })
+
+-- a refusal at the mark of a part, of which each fault is that it is no part
+abbrev pub refusal_of_mark : GroupRefusal → PartRefusal
+refusal_of_mark (of_groups.Fault fault) = refusal.Fault (record { line = fault.line; kind = kind.NotAPart })
+refusal_of_mark of_groups.Reading = refusal.Reading
+refusal_of_mark of_groups.OutOfMemory = refusal.OutOfMemory
+
+-- ---- what a call says of a reading
+
+-- Where a call is refused, the reading has that fault; where a read failed, or without memory, nothing
+-- is known of it.
+abbrev pub Refuses : {Y : Type 0} → PartRefusal → Result Y Fault → Type 0
+Refuses (refusal.Fault fault) read = read ≡ Err (fault_of fault)
+Refuses refusal.Reading read = ⊤
+Refuses refusal.OutOfMemory read = ⊤
+
+-- What a call answers, seen by `view`, is what the reading gives.
+abbrev pub Gives : {X Y : Type 0} → (X → Y) → Result X PartRefusal → Result Y Fault → Type 0
+Gives view (Ok x) read = read ≡ Ok (view x)
+Gives view (Err why) read = Refuses why read
+
+-- a refusal of the part of this number
+abbrev pub refusal_in : ℕ → PartRefusal → PartsRefusal
+refusal_in part (refusal.Fault fault) = of_parts.Fault (record { part = part; line = fault.line; kind = fault.kind })
+refusal_in part refusal.Reading = of_parts.Reading
+refusal_in part refusal.OutOfMemory = of_parts.OutOfMemory
+
+-- The same of all parts.
+abbrev pub RefusesParts : {Y : Type 0} → PartsRefusal → Result Y PartedFault → Type 0
+RefusesParts (of_parts.Fault fault) read = read ≡ Err (parted_of fault)
+RefusesParts of_parts.Reading read = ⊤
+RefusesParts of_parts.OutOfMemory read = ⊤
+
+abbrev pub GivesParts : {X Y : Type 0} → (X → Y) → Result X PartsRefusal → Result Y PartedFault → Type 0
+GivesParts view (Ok x) read = read ≡ Ok (view x)
+GivesParts view (Err why) read = RefusesParts why read

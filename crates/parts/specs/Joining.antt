@@ -1,0 +1,43 @@
+-- What the result of all parts is.
+use Rattle.std.specs.Prelude.{◌≡◌, ◌++◌, ⊤, ℕ, List, [], map, Result, Ok, Err}
+use Rattle.part_groups.specs.Reading.{Stream}
+use Rattle.query_plan.specs.Planned.{PlannedQuery}
+use Rattle.tables.specs.Contents.{ContentsForm, contents_over}
+use Rattle.tables.specs.Partials.{StandsForInput}
+use Rattle.tables.specs.States.{PartialState}
+use Rattle.parts.specs.declared.fault.PartsRefusal.{PartsRefusal}
+use Rattle.parts.specs.declared.fault.PartsRefusal.TheVariants as refusal
+use Rattle.parts.specs.Faults.{parted_of}
+use Rattle.parts.specs.Parts.{concatenated}
+use Rattle.parts.specs.ReadingParts.{AreParts, ArePartsFrom}
+
+-- A result is that of these contents, one behind the other: whatever inputs they are the contents of, it
+-- stands for these, one behind the other.
+abbrev pub StandsForAll : PlannedQuery → List ContentsForm → PartialState → Type 0
+StandsForAll plan all partial =
+    (inputs : List (List ℕ)) → all ≡ map (contents_over plan.fields plan.query) inputs
+    → StandsForInput plan.fields plan.query partial (concatenated inputs)
+
+-- A result is that of all parts that lines are read as.
+pub record IsJoin (plan : PlannedQuery) (ls : List (List ℕ)) (partial : PartialState) : Type 0 where
+  pub contents : List ContentsForm
+  pub read : AreParts plan.fields plan.query ls (Ok contents)
+  pub stands : StandsForAll plan contents partial
+
+-- Behind parts whose result is this one, a call joins those that are numbered from `part` on: it answers
+-- the result of all, or the first fault of these.
+abbrev pub JoinsBehind : PlannedQuery → PartialState → ℕ → Stream → Result PartialState PartsRefusal → Type 0
+JoinsBehind plan first part s (Ok whole) =
+    (more : List ContentsForm) × ArePartsFrom plan.fields plan.query part first.lines s (Ok more)
+    × ((all : List ContentsForm) → StandsForAll plan all first → StandsForAll plan (all ++ more) whole)
+JoinsBehind plan first part s (Err (refusal.Fault fault)) = ArePartsFrom plan.fields plan.query part first.lines s (Err (parted_of fault))
+JoinsBehind plan first part s (Err refusal.Reading) = ⊤
+JoinsBehind plan first part s (Err refusal.OutOfMemory) = ⊤
+
+-- A call that reads lines answers the result of the parts that they are, or their first fault; where a
+-- read failed, or without memory, nothing is known of them.
+abbrev pub AnswersParts : PlannedQuery → List (List ℕ) → Result PartialState PartsRefusal → Type 0
+AnswersParts plan ls (Ok partial) = IsJoin plan ls partial
+AnswersParts plan ls (Err (refusal.Fault fault)) = AreParts plan.fields plan.query ls (Err (parted_of fault))
+AnswersParts plan ls (Err refusal.Reading) = ⊤
+AnswersParts plan ls (Err refusal.OutOfMemory) = ⊤

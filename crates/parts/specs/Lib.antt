@@ -1,0 +1,7 @@
+pub mod Parts
+pub mod Faults
+pub mod Reader
+pub mod Texts
+pub mod ReadingParts
+pub mod Gathering
+pub mod Joining

@@ -1,0 +1,46 @@
+//! The groups of a part.
+ghost use Rattle.std.specs.Prelude.{◌≡◌, ◌++◌, ℕ, IfOk, List, None, OnOk, length};
+ghost use Rattle.part_groups.specs.Groups.{groups_values, shape_of};
+ghost use Rattle.part_groups.specs.Reading.{groups_at};
+ghost use Rattle.part_text.specs.Texts.{text_of};
+ghost use Rattle.sha2.specs.Hashers.{Holds256};
+ghost use Rattle.tables.specs.Contents.{DiffersInGroups};
+ghost use Rattle.parts.specs.Faults.{Gives};
+ghost use Rattle.parts.specs.Gathering.{IsGathering, groups_of};
+ghost use Rattle.parts.specs.ReadingParts.{of_part, shape_under};
+
+use crate::fault::PartRefusal;
+use crate::gathering::Gathering;
+use part_groups::{GroupShape, Source, next_group};
+use query_plan::Plan;
+use std::alloc::Global;
+
+/// The next groups, as many as are asked for. No memory is taken for a count before its groups have come.
+pub(crate) fn next_groups<S: Source>(
+    alloc: Global,
+    plan: &Plan,
+    source: &mut S,
+    shape: &GroupShape,
+    start: Gathering,
+    count: u64,
+) -> Result<Gathering, PartRefusal>
+    requires gathering { IsGathering plan.now start }
+    requires none { start.last ≡ None }
+    requires shape { shape_of shape.now ≡ shape_under plan.now.fields plan.now.query }
+    ensures known { S.known source.old → OnOk result (S.known source.new) }
+    ensures read { S.known source.old
+        → Gives (λ next. (groups_of next, S.stream source.new)) result
+        (of_part (groups_at (shape_of shape.now) count None start.left (S.stream source.old))) }
+    ensures count { IfOk result (λ next. length (groups_of next) ≡ count) }
+    ensures gathering { IfOk result (IsGathering plan.now) }
+    ensures hashed { IfOk result (λ next. (bytes : List ℕ) → Holds256 start.hasher bytes
+        → Holds256 next.hasher (bytes ++ text_of (groups_values (groups_of next)))) }
+    ensures others { IfOk result (λ next. DiffersInGroups start.partial next.partial) }
+{
+    let mut so_far = start;
+    for _ in 0..count {
+        let group = next_group(alloc, source, shape, so_far.last_key(), so_far.left)?;
+        so_far = so_far.with_group(alloc, plan, group)?;
+    }
+    Ok(so_far)
+}

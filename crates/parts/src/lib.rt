@@ -1,0 +1,27 @@
+//! Parts: partial results as texts, and back.
+//!
+//! A part is the partial result of a query over an input, as a text that can be kept in a file, or sent to another machine.
+//! The parts of several inputs, one behind the other, are read as the partial result of all of them.
+#![tactic(auto)]
+
+mod checksum;
+mod columns;
+mod contents;
+mod fault;
+mod gathering;
+mod groups;
+mod header;
+mod joining;
+mod line_faults;
+mod part;
+mod putting;
+mod reader;
+mod refused;
+mod shape;
+mod texts;
+mod whole;
+mod writing;
+
+pub use fault::{PartsFault, PartsFaultKind, PartsRefusal};
+pub use joining::read_parts;
+pub use whole::write_part;
