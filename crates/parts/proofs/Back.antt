@@ -161,9 +161,9 @@ refused_line-again fields lines last line alone =
     (λ n. passed (nat_lt last n.0) out_of_order n.1 >>= λ u. text_at n.1 >>= λ t. line_fault_in (fault_named fields t.0) t.1 >>= λ f. Ok ((n.0, f), t.1))
     (text (fault_text fields line.1) ∷ []) line (of-part (count_within lines) (number line.0 ∷ []) line.0 (within-again lines line.0))
     (λ s ls rest reads stands.
-        then-passed (nat_lt last line.0) out_of_order s (λ u. text_at s >>= λ t. line_fault_in (fault_named fields t.0) t.1 >>= λ f. Ok ((line.0, f), t.1)) (IsRead line rest)
-        (no-more text_at (text (fault_text fields line.1) ∷ []) (fault_text fields line.1) (λ t. line_fault_in (fault_named fields t.0) t.1 >>= λ f. Ok ((line.0, f), t.1)) line (text-again (fault_text fields line.1))
-        (λ t. named (fault_named fields (fault_text fields line.1)) line.1 line.0 t (alone line.1)) s ls rest reads stands))
+    then-passed (nat_lt last line.0) out_of_order s (λ u. text_at s >>= λ t. line_fault_in (fault_named fields t.0) t.1 >>= λ f. Ok ((line.0, f), t.1)) (IsRead line rest)
+    (no-more text_at (text (fault_text fields line.1) ∷ []) (fault_text fields line.1) (λ t. line_fault_in (fault_named fields t.0) t.1 >>= λ f. Ok ((line.0, f), t.1)) line (text-again (fault_text fields line.1))
+    (λ t. named (fault_named fields (fault_text fields line.1)) line.1 line.0 t (alone line.1)) s ls rest reads stands))
 
 refused-again : (fields : List Field) (lines last : ℕ) (refused : List (ℕ × LineFault)) → NamesAlone fields → ReadsBack (refused_at fields lines (length refused) last) (refused_values fields refused) refused
 unfolding refused_at

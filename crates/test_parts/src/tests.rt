@@ -1,5 +1,6 @@
 //! Values as lines and groups as values, and back.
 
 mod groups;
+mod joins;
 mod lines;
 mod scalars;
