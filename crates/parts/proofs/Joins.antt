@@ -11,7 +11,7 @@ use Rattle.tables.specs.Sound.{IsSoundUnder}
 use Rattle.tables.specs.States.{PartialState}
 use Rattle.parts.specs.declared.fault.PartsRefusal.{PartsRefusal}
 use Rattle.parts.specs.declared.fault.PartsRefusal.TheVariants as refusal
-use Rattle.parts.specs.Faults.{Fault, GivesParts, PartedFault, RefusesParts, in_part, parted_of}
+use Rattle.parts.specs.Faults.{PartedFault, RefusesParts, in_part, parted_of}
 use Rattle.parts.specs.Gathering.{IsOfOnePiece, contents_in}
 use Rattle.parts.specs.Joining.{JoinsBehind, StandsForAll}
 use Rattle.parts.specs.Parts.{closed, concatenated}
@@ -157,9 +157,9 @@ module _ (plan : PlannedQuery) (start : ReaderState) (first : PartialState) (rea
         let here = (j.read known).0 in (
           still here,
           λ answer others.
-          let is = read-Ok (in_part part) (part_at plan.fields plan.query whole.lines s) (contents_in rest, stream_of after) (read here) in
-          let behind = subst (λ (n : ℕ). From (part + 1) n (stream_of after) answer) lines others in
-          let all = at_part part whole.lines s (contents_in rest) (stream_of after) answer (some here) is behind in
-          subst (From 2 first.lines (stream_of start)) (behind-one j.more (contents_in rest) answer) ((j.read known).1 (behind_part (contents_in rest) answer) (subst (λ (t : Stream). From part whole.lines t (behind_part (contents_in rest) answer)) (sym (same here)) all)),
+              let is = read-Ok (in_part part) (part_at plan.fields plan.query whole.lines s) (contents_in rest, stream_of after) (read here) in
+              let behind = subst (λ (n : ℕ). From (part + 1) n (stream_of after) answer) lines others in
+              let all = at_part part whole.lines s (contents_in rest) (stream_of after) answer (some here) is behind in
+              subst (From 2 first.lines (stream_of start)) (behind-one j.more (contents_in rest) answer) ((j.read known).1 (behind_part (contents_in rest) answer) (subst (λ (t : Stream). From part whole.lines t (behind_part (contents_in rest) answer)) (sym (same here)) all)),
         );
   }

@@ -140,23 +140,6 @@ pub fn read_parts<R: Read + Drop, E: Executor>(
             kind: PartsFaultKind::NoPart,
         }));
     }
-    let first = next_numbered(
-        alloc,
-        plan,
-        executor,
-        &mut reader,
-        &header,
-        &shape,
-        1,
-        0,
-    )?;
-    join_rest(
-        alloc,
-        plan,
-        executor,
-        &mut reader,
-        &header,
-        &shape,
-        first,
-    )
+    let first = next_numbered(alloc, plan, executor, &mut reader, &header, &shape, 1, 0)?;
+    join_rest(alloc, plan, executor, &mut reader, &header, &shape, first)
 }

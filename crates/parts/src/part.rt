@@ -50,7 +50,9 @@ pub(crate) fn next_part<S: Source, E: Executor>(
     )?;
     let so_far = next_contents(alloc, plan, executor, source, header, shape, before)?;
     let Gathering {
-        partial, hasher, ..
+        partial,
+        hasher,
+        ..
     } = so_far.closed(plan)?;
     next_checksum(alloc, source, hasher)?;
     Ok(partial)

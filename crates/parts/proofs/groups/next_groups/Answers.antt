@@ -3,7 +3,7 @@ use Rattle.std.proofs.lemmas.Result.{err_from_is_err_and}
 use Rattle.group_states.specs.States.{entry_of}
 use Rattle.part_groups.specs.Groups.{groups_values, shape_of}
 use Rattle.part_text.specs.Texts.{text_of}
-use Rattle.part_groups.specs.Reading.{group_at, groups_at}
+use Rattle.part_groups.specs.Reading.{groups_at}
 use Rattle.part_groups.proofs.Loop.{groups_are_done, groups_end, groups_go_on}
 use Rattle.parts.specs.Gathering.{groups_of, key_of}
 use Rattle.parts.specs.ReadingParts.{of_part}
@@ -34,7 +34,7 @@ loop-preserved g c =
           let here = rw c.last_key.ensures at (c.in_ok-group.ensures.read so_far.0) in (
             c.in_ok-group.ensures.known so_far.0,
             rw (next.groups, next.last, next.left)
-            (groups_go_on shape (groups_of c.loop.so_far) c.args.count c.loop.counter last c.loop.so_far.left (g.S.Source.stream c.loop.source) group (g.S.Source.stream c.next_group.new.source) total c.loop-test.true here so_far.1),
+                (groups_go_on shape (groups_of c.loop.so_far) c.args.count c.loop.counter last c.loop.so_far.left (g.S.Source.stream c.loop.source) group (g.S.Source.stream c.next_group.new.source) total c.loop-test.true here so_far.1),
           );
       count = rw next.groups (omega (arith, c.loop.invariant.count, length-append (groups_of c.loop.so_far) (group ∷ [])));
       gathering = next.gathering;
