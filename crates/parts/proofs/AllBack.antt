@@ -1,5 +1,5 @@
 -- The parts of inputs, one behind the other, if they are read at all, are read as the contents of these inputs.
-use Rattle.std.proofs.Common.{◌≡◌, ◌≢◌, ◌<◌, ◌≤◌, ◌+◌, ℕ, Bool, true, false, cond, List, [], ◌∷◌, ◌++◌, length, map, take, inl, inr, Option, Some, None, Result, Ok, Err, refl, sym, ap, subst, ◌∙◌, append_assoc, arith}
+use Rattle.std.proofs.Common.{◌≡◌, ◌≢◌, ◌<◌, ◌≤◌, ◌+◌, ℕ, true, false, cond, List, [], ◌∷◌, ◌++◌, length, map, take, inl, inr, None, Result, Ok, Err, refl, sym, ap, subst, ◌∙◌, append_assoc, arith}
 use Rattle.std.proofs.lemmas.Bool.{cases_lt}
 use Rattle.std.proofs.lemmas.Bool.Decides.{nat_tests}
 use Rattle.std.proofs.lemmas.List.{length-take, map-append, take_all}
@@ -8,13 +8,13 @@ use Rattle.std.specs.Prelude.{IfOk, IfSome, flat_map, nat_lt}
 use Rattle.lines.proofs.Clips.{lines-clip}
 use Rattle.lines.proofs.Fronts.{lines-whole_lines}
 use Rattle.lines.specs.Clip.{clip_lines, clipped_len}
-use Rattle.lines.specs.Pieces.{AreWholeLines, EndsInFeed}
+use Rattle.lines.specs.Pieces.{EndsInFeed}
 use Rattle.part_groups.specs.Known.{AreReadAs}
 use Rattle.part_groups.specs.Reading.{Stream, reading_of}
 use Rattle.part_text.proofs.Rows.{lines-text_of}
 use Rattle.part_text.proofs.Same.{line_value-same}
 use Rattle.part_text.specs.Reading.{line_value}
-use Rattle.part_text.specs.Texts.{line_of, text_of, value_text}
+use Rattle.part_text.specs.Texts.{text_of, value_text}
 use Rattle.semantics.specs.Columns.{Field}
 use Rattle.semantics.specs.Lines.{line_feed, lines}
 use Rattle.semantics.specs.Records.{max_line_len, valid_records}

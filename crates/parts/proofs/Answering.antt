@@ -1,5 +1,5 @@
 -- What reading all parts answers.
-use Rattle.std.proofs.Common.{◌≡◌, ◌≢◌, ◌+◌, ℕ, List, [], ◌∷◌, Option, Some, None, Result, Ok, Err, refl, sym, ap, subst, ◌∙◌, arith}
+use Rattle.std.proofs.Common.{◌≡◌, ◌≢◌, ◌+◌, ℕ, List, [], ◌∷◌, Option, Some, None, Result, Ok, Err, refl, ap, subst, ◌∙◌, arith}
 use Rattle.std.specs.Prelude.{IfOk, IfSome, flat_map, is_some, option_map, unwrap_or}
 use Rattle.lines.specs.Clip.{clip_lines}
 use Rattle.part_groups.specs.Reading.{Stream}

@@ -1,9 +1,7 @@
 -- The lines of a part, if they are read at all, are read as its contents.
-use Rattle.std.proofs.Common.{◌≡◌, ◌<◌, ◌≤◌, ◌+◌, ◌-◌, ℕ, zero, suc, Bool, true, false, cond, pos, List, [], ◌∷◌, ◌++◌, length, map, take, drop, Option, Some, None, Result, Ok, Err, refl, sym, ap, subst, ◌∙◌, append_assoc, append-nil, arith}
+use Rattle.std.proofs.Common.{◌≡◌, ◌+◌, ◌-◌, ℕ, suc, Bool, true, false, List, [], ◌∷◌, ◌++◌, length, take, drop, Option, Some, None, Result, Ok, Err, refl, sym, ap, subst, ◌∙◌, append_assoc}
 use Rattle.std.proofs.lemmas.List.Concat.{flat_map-cons}
-use Rattle.std.specs.List.{AllZip}
-use Rattle.std.specs.Prelude.{◌^◌, IfOk, IfSome, flat_map, nat_lt}
-use Rattle.group_states.specs.States.{EntryForm}
+use Rattle.std.specs.Prelude.{◌^◌, IfOk, IfSome, nat_lt}
 use Rattle.part_groups.proofs.Again.{count-again, groups_at-again, value-again, within-again}
 use Rattle.part_groups.proofs.ReadAs as groups
 use Rattle.part_groups.specs.Groups.{HaveShape, ShapeForm, groups_values}
@@ -24,7 +22,6 @@ use Rattle.sha2.specs.Sha256.{sha256}
 use Rattle.std.specs.Str.{bytes_eq}
 use Rattle.parts.specs.Parts.{columns_text, mark, number, refused_line_values, refused_values, values_with}
 use Rattle.parts.specs.ReadingParts.{◌>>=◌, all_refused_at, checksum_at, contents_at, fault_named, can_have, group_count_at, header_at, header_of, kind_of_mark, line_fault_in, lines_at, mark_at, mark_in, none_other, of_part, other_at, other_text, part_at, passed, refused_at, refused_line_at, said_at, shape_under, text_at, text_in, with_fault}
-use Rattle.parts.specs.ReadingParts as reading
 
 -- ---- one reading and then another one
 

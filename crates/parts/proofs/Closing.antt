@@ -1,10 +1,10 @@
 -- An input with a line feed behind it has the same lines.
-use Rattle.std.proofs.Common.{◌≡◌, ◌==◌, ◌<◌, ℕ, zero, suc, Bool, true, false, cond, List, [], ◌∷◌, ◌++◌, inl, inr, length, refl, sym, ap, subst, ◌∙◌, arith, append-nil, append_assoc}
+use Rattle.std.proofs.Common.{◌≡◌, ◌==◌, ◌<◌, ℕ, Bool, true, false, cond, List, [], ◌∷◌, ◌++◌, inl, inr, length, refl, sym, ap, subst, ◌∙◌, arith, append-nil, append_assoc}
 use Rattle.std.proofs.lemmas.Bool.{eqb-true}
 use Rattle.std.proofs.lemmas.Bool.Decides.{nat_tests}
 use Rattle.std.proofs.lemmas.List.Concat.{flat_map-cons}
 use Rattle.std.proofs.lemmas.List.Splits.{length-slice_split}
-use Rattle.std.specs.List.{flat_map, onto_first, slice_split}
+use Rattle.std.specs.List.{onto_first, slice_split}
 use Rattle.lines.specs.Pieces.{AreWholeLines, EndsInFeed}
 use Rattle.semantics.specs.Columns.{Field}
 use Rattle.semantics.specs.Lines.{line_feed, lines, without_empty_last}

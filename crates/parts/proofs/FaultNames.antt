@@ -1,20 +1,18 @@
 -- The text of a fault names that fault alone.
-use Rattle.std.proofs.Common.{◌≡◌, ◌<◌, ℕ, true, inl, inr, List, [], ◌∷◌, ◌++◌, codes, length, Option, Some, None, get_or, refl, sym, ap, subst, ◌∙◌, arith}
+use Rattle.std.proofs.Common.{◌≡◌, ◌<◌, ℕ, true, inl, inr, List, [], length, Option, Some, None, get_or, refl, sym, ap, subst, ◌∙◌, arith}
 use Rattle.std.proofs.lemmas.Bool.{cases_lt, cases_order, eq-eqb, eqb-true}
 use Rattle.std.proofs.lemmas.List.{get_or-map, length-map}
 use Rattle.std.proofs.lemmas.List.Quantifiers.{position-Some}
 use Rattle.std.proofs.lemmas.Option.{slice_get_past, unwrap_or-slice_get}
 use Rattle.std.proofs.lemmas.Slice.Eq.{slice_eq-Decides}
-use Rattle.std.specs.Prelude.{IfSome, IsTrue, option_map, position, slice_get, unwrap_or}
+use Rattle.std.specs.Prelude.{IfSome, IsTrue, option_map, position, unwrap_or}
 use Rattle.std.specs.Str.{bytes_eq}
 use Rattle.semantics.specs.Canonical.{name_at}
 use Rattle.semantics.specs.Columns.{Field, names_of}
 use Rattle.semantics.specs.Words.{is_word}
 use Rattle.semantics.specs.declared.kind.Kind.TheVariants as type
-use Rattle.semantics.specs.declared.line_fault.LineFault.{LineFault}
 use Rattle.semantics.specs.declared.line_fault.LineFault.TheVariants.{TooLong, NoJson, NoObject, BadValue}
 use Rattle.values.specs.Schema.{IsSchema}
-use Rattle.parts.specs.ReadingParts.{bad_column, behind_front, fault_named}
 use Rattle.parts.proofs.Back.{NamesAlone}
 
 -- ---- names

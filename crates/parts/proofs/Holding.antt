@@ -1,5 +1,5 @@
 -- A group put to a result that can hold it.
-use Rattle.std.proofs.Common.{◌≡◌, ◌+◌, ◌≤◌, ℕ, None, Some, Option, Result, Ok, Err, arith}
+use Rattle.std.proofs.Common.{◌+◌, ℕ, None, Some, Result, Ok, Err, arith}
 use Rattle.std.specs.Prelude.{IfOk}
 use Rattle.group_states.specs.States.{entry_of}
 use Rattle.group_states.specs.declared.entry.GroupEntry.{GroupEntry}

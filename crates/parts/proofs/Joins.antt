@@ -11,7 +11,7 @@ use Rattle.tables.specs.Sound.{IsSoundUnder}
 use Rattle.tables.specs.States.{PartialState}
 use Rattle.parts.specs.declared.fault.PartsRefusal.{PartsRefusal}
 use Rattle.parts.specs.declared.fault.PartsRefusal.TheVariants as refusal
-use Rattle.parts.specs.Faults.{Fault, GivesParts, PartedFault, RefusesParts, in_part, parted_of}
+use Rattle.parts.specs.Faults.{PartedFault, RefusesParts, in_part, parted_of}
 use Rattle.parts.specs.Gathering.{IsOfOnePiece, contents_in}
 use Rattle.parts.specs.Joining.{JoinsBehind, StandsForAll}
 use Rattle.parts.specs.Parts.{closed, concatenated}

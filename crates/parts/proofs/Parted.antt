@@ -4,7 +4,7 @@ use Rattle.std.proofs.lemmas.Grind.{flat_map-append}
 use Rattle.std.proofs.lemmas.List.{length-map}
 use Rattle.std.specs.Global.{Vec}
 use Rattle.std.specs.Prelude.{IfOk}
-use Rattle.group_states.specs.States.{EntryForm, entries_of, entry_of}
+use Rattle.group_states.specs.States.{entries_of, entry_of}
 use Rattle.group_states.specs.declared.entry.GroupEntry.{GroupEntry}
 use Rattle.part_groups.specs.Groups.{groups_values}
 use Rattle.part_text.specs.Texts.{line_of, text_of}

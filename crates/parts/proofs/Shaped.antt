@@ -1,5 +1,5 @@
 -- Groups of the shape of a query: of the forms and the types that its plan asks.
-use Rattle.std.proofs.Common.{◌≡◌, ◌<◌, ◌≤◌, ◌-◌, ◌+◌, ℕ, zero, suc, List, [], ◌∷◌, ◌++◌, append-nil, length, map, Option, Some, None, refl, sym, ap, subst, ◌∙◌, arith}
+use Rattle.std.proofs.Common.{◌≡◌, ◌<◌, ◌-◌, ℕ, zero, suc, List, [], ◌∷◌, ◌++◌, append-nil, length, map, Option, Some, None, refl, sym, subst, ◌∙◌, arith}
 use Rattle.std.proofs.lemmas.List.Elements.{All-nil, All-push, All-weaker}
 use Rattle.std.specs.List.{AllZip}
 use Rattle.std.specs.declared.cmp.Ordering.TheVariants.{Less}
@@ -8,7 +8,6 @@ use Rattle.group_states.specs.States.{EntryForm, FunctionState, entry_of}
 use Rattle.group_states.specs.declared.entry.GroupEntry.{GroupEntry}
 use Rattle.group_states.specs.States as state
 use Rattle.part_groups.specs.Known as known
-use Rattle.part_groups.specs.declared.shape.StateKind.{StateKind}
 use Rattle.part_groups.specs.declared.shape.StateKind.TheVariants as kind
 use Rattle.query_plan.specs.Planned.{PlannedQuery}
 use Rattle.query_resolve.specs.Functions.{indexed_functions}

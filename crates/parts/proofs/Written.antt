@@ -1,12 +1,11 @@
 -- The groups of records have the shape that a query asks of its groups.
-use Rattle.std.proofs.Common.{◌≡◌, ℕ, List, [], ◌∷◌, length, map, Option, Some, None, Bool, true, false, cond, refl, sym, ap, subst, ◌∙◌}
+use Rattle.std.proofs.Common.{◌≡◌, ℕ, List, [], ◌∷◌, length, map, Option, Some, None, Bool, true, false, cond, refl, sym, subst, ◌∙◌}
 use Rattle.std.proofs.lemmas.List.{length-map}
 use Rattle.std.specs.List.{AllByRecursion, AllZip}
 use Rattle.std.specs.Ordering.{is_gt}
 use Rattle.std.specs.Prelude.{option_map}
 use Rattle.std.specs.declared.cmp.Ordering.{Ordering}
 use Rattle.group_states.specs.Entries.{entries_over, entry_over, function_state, state_by}
-use Rattle.group_states.specs.States.{FunctionState}
 use Rattle.part_groups.specs.Groups.{HasKind, HasShape, HaveShape}
 use Rattle.query_resolve.specs.Functions.{indexed_functions}
 use Rattle.query_resolve.specs.declared.function.FilteredFunction.{FilteredFunction}
@@ -22,7 +21,7 @@ use Rattle.semantics.specs.declared.function.ColumnFunction.TheVariants as funct
 use Rattle.tables.proofs.Bags.{all-distinct, all-everywhere, all-map}
 use Rattle.tables.proofs.Bound.{bound-functions}
 use Rattle.tables.specs.Functions.{filter_tests}
-use Rattle.tables_groups.specs.Functions.{aggregate_of, aggregates_of, filter_at}
+use Rattle.tables_groups.specs.Functions.{aggregates_of, filter_at}
 use Rattle.parts.specs.ReadingParts.{shape_under, state_kind, state_kind_by, type_at}
 
 -- ---- what holds of each thing holds of each in order

@@ -1,5 +1,5 @@
 -- The groups of a part, put to a partial result as they come. Private calls alone speak of it.
-use Rattle.std.specs.Prelude.{◌≡◌, ◌+◌, ◌≤◌, ⊤, ℕ, List, [], ◌∷◌, ◌++◌, Option, Some, None, option_map}
+use Rattle.std.specs.Prelude.{◌≡◌, ◌+◌, ◌≤◌, ⊤, ℕ, List, [], ◌∷◌, ◌++◌, Option, Some, None}
 use Rattle.group_states.specs.States.{EntryForm, entry_of}
 use Rattle.group_states.specs.declared.entry.GroupEntry.{GroupEntry}
 use Rattle.query_plan.specs.Planned.{PlannedQuery}

@@ -1,5 +1,5 @@
 -- What the result of all parts is.
-use Rattle.std.specs.Prelude.{◌≡◌, ◌++◌, ⊤, ℕ, List, [], map, Result, Ok, Err}
+use Rattle.std.specs.Prelude.{◌≡◌, ◌++◌, ⊤, ℕ, List, map, Result, Ok, Err}
 use Rattle.part_groups.specs.Reading.{Stream}
 use Rattle.query_plan.specs.Planned.{PlannedQuery}
 use Rattle.tables.specs.Contents.{ContentsForm, contents_over}

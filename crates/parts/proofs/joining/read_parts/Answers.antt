@@ -1,4 +1,4 @@
-use Rattle.std.proofs.Common.{◌≡◌, ◌≢◌, [], subst, ◌∙◌}
+use Rattle.std.proofs.Common.{◌≢◌, [], subst}
 use Rattle.std.proofs.lemmas.Result.{err_from_is_err_and}
 use Rattle.semantics.specs.Columns.{Field}
 use Rattle.std.specs.Prelude.{List}
