@@ -2,5 +2,5 @@
 
 mod groups;
 mod joins;
-mod lines;
+mod line_source;
 mod scalars;

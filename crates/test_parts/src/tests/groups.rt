@@ -1,6 +1,6 @@
 //! Groups and their lines.
 
-use super::lines::Lines;
+use super::line_source::Lines;
 use super::scalars::{Scalar, check_scalars, push_line};
 use group_states::{GroupEntry, State};
 use part_groups::{

@@ -3,7 +3,7 @@ use Rattle.part_groups.specs.Reading.{reading_of}
 use Rattle.part_text.specs.Reading.{Tells}
 use Rattle.values.specs.Datum.{datum_of}
 use Rattle.test_parts.proofs.Lines.{good_line, bad_line, past_lines}
-use Rattle.test_parts.proofs.tests.lines.LinesSource.next.Goals as goal
+use Rattle.test_parts.proofs.tests.line_source.LinesSource.next.Goals as goal
 
 pub returns-in_default-clause-read : goal.returns-in_default-clause-read
 returns-in_default-clause-read c = λ known. rw c.fault.ensures (past_lines c.args.self.now.lines.now c.args.self.now.place c.in_default.ensures.lookup.3)
