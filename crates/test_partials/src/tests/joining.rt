@@ -3,7 +3,7 @@ ghost use Rattle.std.specs.Prelude.{◌<◌, IfOk};
 ghost use Rattle.tables.specs.Partials.{IsPartialOf};
 
 use super::following::{are_whole_lines, follow_by_hands, has_few_lines};
-use super::partials::{BY_D, merge_by_hands, plan_of, sorted_rows};
+use super::partials::{BY_D, finish, merge_by_hands, plan_of, sorted_rows};
 use query::Plan;
 use std::alloc::{AllocError, Global};
 use std::marker::Sync;
@@ -136,8 +136,7 @@ fn joined_by_hands_like_the_whole(rt: HostRuntime) {
     input.push_str(rest.as_str()).expect(&rt, "memory");
     let plan = plan_of(&rt, alloc, BY_D);
     let whole = Partial::fold_piece(alloc, &plan, 0, input.as_bytes()).expect(&rt, "memory");
-    sound_law();
-    let wanted = whole.finish(&plan).expect(&rt, "memory");
+    let wanted = finish(&plan, whole).expect(&rt, "memory");
     assert_eq!(rt; wanted.rows().len(), 9000);
     let (front, rest) = (front.as_bytes(), rest.as_bytes());
     assert_joined(&rt, alloc, &plan, front, rest, 1, 1, &wanted);

@@ -712,8 +712,15 @@ fn refusal_of_fold_onto(rt: HostRuntime) {
 /// The groups of no line, or want of memory.
 fn finished_or_refused(alloc: Global, plan: &Plan) -> Option<Groups> {
     let none = Partial::empty(alloc, plan).ok()?;
+    finish(plan, none).ok()
+}
+
+/// The groups of a result of the plan over some pieces.
+pub fn finish(plan: &Plan, partial: Partial) -> Result<Groups, AllocError>
+    requires { IsPartialOf plan.now.fields plan.now.query partial }
+{
     sound_law();
-    none.finish(plan).ok()
+    partial.finish(plan)
 }
 
 /// Asserts that there is one group, of no line. It takes no memory.

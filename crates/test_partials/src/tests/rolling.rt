@@ -9,7 +9,7 @@ use super::partials::{
 };
 use super::reference::{Row, rows_under};
 use query::Plan;
-use std::alloc::Global;
+use std::alloc::{AllocError, Global};
 use std::process::Abort;
 use tables::{Cell, Group, Partial, sound_law};
 use values::Value;
@@ -18,6 +18,14 @@ use values::Value;
 const THREE: &[u8] =
     b"{\"d\":\"x\",\"r\":\"n\",\"q\":5}\n{\"d\":\"x\",\"r\":null,\"q\":2}\n{\"d\":\"y\",\"r\":\"n\"}\n";
 
+/// The groups of a result of the plan over some pieces, rolled to the empty set.
+fn roll_to_one(plan: &Plan, partial: &Partial) -> Result<Vec<Group>, AllocError>
+    requires { IsPartialOf plan.now.fields plan.now.query partial.now }
+{
+    sound_law();
+    partial.roll(plan, &[])
+}
+
 /// The empty set is not listed, and the different values of the groups of `r` overlap.
 #[test]
 fn rolled_to_a_set_that_is_not_listed(rt: HostRuntime) {
@@ -25,8 +33,7 @@ fn rolled_to_a_set_that_is_not_listed(rt: HostRuntime) {
     let text = "SELECT COUNT(DISTINCT d) FROM lines GROUP BY GROUPING SETS ((r), (d))";
     let plan = plan_of(&rt, alloc, text);
     let partial = Partial::fold_piece(alloc, &plan, 0, THREE).expect(&rt, "memory");
-    sound_law();
-    let groups = partial.roll(&plan, &[]).expect(&rt, "memory");
+    let groups = roll_to_one(&plan, &partial).expect(&rt, "memory");
     assert_eq!(rt; groups.len(), 1);
     for group in &groups {
         let cells = [Cell::Plain(Value::Int(2))];
@@ -107,8 +114,7 @@ fn rolled_like_reference(rt: HostRuntime) {
 fn refusal_of_roll(rt: HostRuntime) {
     if let Some(plan) = plan_or_refused(&rt, rt.alloc(), BY_D) {
         if let Ok(partial) = Partial::fold_piece(rt.alloc(), &plan, 0, FOUR) {
-            sound_law();
-            if let Ok(groups) = partial.roll(&plan, &[]) {
+            if let Ok(groups) = roll_to_one(&plan, &partial) {
                 let [group] = groups.as_slice() else {
                     panic!(rt; "not one group");
                 };
