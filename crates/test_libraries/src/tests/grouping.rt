@@ -5,7 +5,7 @@ ghost use Rattle.tables_groups.specs.Functions.{aggregate_of};
 ghost use Rattle.semantics.specs.Groups.{Row, value_at};
 ghost use Rattle.tables_groups.specs.Rows.{IsNarrow, IsNarrowRow};
 ghost use Rattle.semantics.specs.Aggregates.{is_present};
-ghost use Rattle.tables_groups.specs.Inside.Table.{IsTableOf};
+ghost use Rattle.tables_groups.specs.Inside.Table.{HasFewRecords, IsTableOf};
 
 use query_resolve::{ColumnFunction, FilteredFunction};
 use std::alloc::{AllocError, Global};
@@ -145,6 +145,20 @@ fn parted_groups(alloc: Global) -> Result<Vec<Group>, AllocError> {
     joined_groups(alloc, &[0], &FUNCTIONS, &left, &right)
 }
 
+/// The same table, of which it is said that its records are few.
+fn table_of_few(
+    alloc: Global,
+    set: &[usize],
+    functions: &[FilteredFunction],
+    records: &[&[Field]],
+) -> Result<Table, AllocError>
+    requires { length records.now < 2 ^ 62 }
+    ensures { IfOk result (HasFewRecords functions.now) }
+{
+    let table = table_of(alloc, set, functions, records)?;
+    Ok(table)
+}
+
 /// The groups of three records by their first column, by way of those by their third and their first one.
 fn rolled_groups(alloc: Global) -> Result<Vec<Group>, AllocError> {
     let records: [&[Field]; 3] = [
@@ -156,14 +170,14 @@ fn rolled_groups(alloc: Global) -> Result<Vec<Group>, AllocError> {
         ],
         &[Field::Nothing, Field::Nothing, Field::Nothing],
     ];
-    let finest = table_of(alloc, &[0, 2], &FUNCTIONS, &records)?;
+    let finest = table_of_few(alloc, &[0, 2], &FUNCTIONS, &records)?;
     let finer = finest.roll(&[0, 2], &[2, 0], &FUNCTIONS)?;
     finer.roll(&[2, 0], &[0], &FUNCTIONS)?.finish()
 }
 
 /// The groups of no records under the empty set, by way of those by a column.
 fn rolled_of_none(alloc: Global) -> Result<Vec<Group>, AllocError> {
-    let none = table_of(alloc, &[0], &FUNCTIONS, &[])?;
+    let none = table_of_few(alloc, &[0], &FUNCTIONS, &[])?;
     none.roll(&[0], &[], &FUNCTIONS)?.finish()
 }
 

@@ -1,6 +1,8 @@
 //! The report and the refused list of one input, and the laws.
-ghost use Rattle.std.specs.Prelude.{All, IsTrue};
+ghost use Rattle.std.specs.Prelude.{All, IfOk, IsTrue};
 ghost use Rattle.report.specs.Report.{NamesColumn};
+ghost use Rattle.tables.specs.Partials.{IsPartialOf};
+ghost use Rattle.tables.specs.Planned.{IsFinishOf};
 
 use lines::LineFault;
 use query::{Plan, check, parse};
@@ -65,11 +67,19 @@ struct Texts {
     list: Vec<u8>,
 }
 
+/// The groups of a result of the plan over some pieces.
+fn finish(plan: &Plan, partial: Partial) -> Result<Groups, AllocError>
+    requires { IsPartialOf plan.now.fields plan.now.query partial }
+    ensures { IfOk result (IsFinishOf plan.now partial) }
+{
+    sound_law();
+    partial.finish(plan)
+}
+
 /// What is written of the lines: the report, and the list if all columns that it is to name are in the schema.
 fn write_texts<H: Threads + Sync>(rt: &H, alloc: Global, plan: &Plan) -> Result<Texts, AllocError> {
     let partial = Partial::fold_piece(alloc, plan, 0, LINES)?;
-    sound_law();
-    let groups = partial.finish(plan)?;
+    let groups = finish(plan, partial)?;
     let report = report_on(alloc, &groups, plan)?;
     let report_by_hands = report_among(rt, alloc, &groups, plan, 3)?;
     let rows = arrange(alloc, &groups, plan)?;
