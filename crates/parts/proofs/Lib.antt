@@ -4,11 +4,13 @@ mod Answering
 mod Back
 mod Closing
 mod FaultNames
+mod Forward
 mod Fronts
 mod Holding
 mod Joins
 mod Names
 mod OfGroups
+mod Onward
 mod Parted
 mod Places
 mod Refusing
