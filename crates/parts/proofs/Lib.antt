@@ -13,6 +13,7 @@ mod OfGroups
 mod Onward
 mod Parted
 mod Places
+mod ReadExamples
 mod Refusing
 mod Shaped
 mod Taking
