@@ -4,3 +4,4 @@ pub mod Facts
 pub mod Last
 pub mod ReadAs
 pub mod Again
+pub mod Read

@@ -2,12 +2,12 @@
 use Rattle.std.proofs.Common.{◌≡◌, ℕ, suc, Bool, true, false, List, [], ◌∷◌, ◌++◌, length, take, drop, Result, Ok, Err, refl, sym, ap, subst, ◌∙◌, append_assoc}
 use Rattle.std.proofs.lemmas.List.Concat.{flat_map-cons}
 use Rattle.std.specs.List.{AllByRecursion, AllZip}
-use Rattle.std.specs.Prelude.{IfOk, flat_map}
+use Rattle.std.specs.Prelude.{IfOk, IfSome, flat_map}
 use Rattle.semantics.specs.Values.{Datum}
 use Rattle.part_groups.specs.declared.fault.GroupFault.{GroupFault}
 use Rattle.part_groups.specs.declared.fault.GroupFaultKind.{GroupFaultKind}
 use Rattle.part_groups.specs.Known.{AreReadAs}
-use Rattle.part_groups.specs.Reading.{◌>>=◌, Stream, each_at, in_turn, passed}
+use Rattle.part_groups.specs.Reading.{◌>>=◌, Stream, each_at, in_turn, passed, reading_of}
 
 -- ---- one reading and then another one
 
@@ -42,16 +42,17 @@ and_no_more one ds a f b h k s ls rest reads stands =
     (λ x is. subst (λ y. IfOk (f (y, x.1)) (IsRead b rest)) (sym is.0) (k x.1 rest is.1))
 
 -- lines of some values and more values are lines of the first and lines of the others
-lines-first : (ds es : List Datum) (ls : List (List ℕ)) → AreReadAs ls (ds ++ es) → AreReadAs (take (length ds) ls) ds × AreReadAs (drop (length ds) ls) es × (ls ≡ take (length ds) ls ++ drop (length ds) ls)
-lines-first [] es ls h = (tt, h, refl)
-lines-first (d ∷ ds) es [] h = absurd h
-lines-first (d ∷ ds) es (l ∷ ls) h = let more = lines-first ds es ls h.1 in ((h.0, more.0), more.1, ap (λ (m : List (List ℕ)). l ∷ m) more.2)
+pub lines-first : (R : List ℕ → Datum → Type 0) (ds es : List Datum) (ls : List (List ℕ)) → AllZip R ls (ds ++ es)
+    → AllZip R (take (length ds) ls) ds × AllZip R (drop (length ds) ls) es × (ls ≡ take (length ds) ls ++ drop (length ds) ls)
+lines-first R [] es ls h = (tt, h, refl)
+lines-first R (d ∷ ds) es [] h = absurd h
+lines-first R (d ∷ ds) es (l ∷ ls) h = let more = lines-first R ds es ls h.1 in ((h.0, more.0), more.1, ap (λ (m : List (List ℕ)). l ∷ m) more.2)
 
 -- what follows reads more
 pub and_more : {A B : Type 0} (one : Stream → Result (A × Stream) GroupFault) (ds : List Datum) (a : A) (f : A × Stream → Result (B × Stream) GroupFault) (es : List Datum) (b : B)
     → ReadsBack one ds a → ReadsBack (λ s. f (a, s)) es b → ReadsBack (λ s. one s >>= f) (ds ++ es) b
 and_more one ds a f es b h k s ls rest reads stands =
-    let parts = lines-first ds es ls reads in
+    let parts = lines-first (λ line d. IfSome (reading_of line) (λ e. e ≡ d)) ds es ls reads in
     let first : List (List ℕ) = take (length ds) ls in
     let others : List (List ℕ) = drop (length ds) ls in
     let here : s.left ≡ first ++ (others ++ rest) = stands ∙ ap (λ (m : List (List ℕ)). m ++ rest) parts.2 ∙ append_assoc first others rest in

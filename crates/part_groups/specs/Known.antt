@@ -1,17 +1,18 @@
 -- What is known of groups that were read, whoever wrote their lines.
 use Rattle.std.specs.List.{AllByRecursion, AllZip}
-use Rattle.std.specs.Prelude.{◌≡◌, ◌≢◌, ◌*◌, ◌^◌, ◌≤◌, ⊤, ℕ, ℤ, pos, ◌-ℤ◌, ◌≤ℤ◌, List, [], ◌∷◌, ◌++◌, length, Option, IfOk, IfSome}
+use Rattle.std.specs.Prelude.{◌≡◌, ◌≢◌, ◌*◌, ◌^◌, ◌≤◌, ⊤, ℕ, ℤ, pos, ◌-ℤ◌, ◌≤ℤ◌, List, [], ◌∷◌, ◌++◌, length, Option, Some, Ok, IfOk, IfSome, IsTrue}
 use Rattle.std.specs.declared.cmp.Ordering.{Ordering}
 use Rattle.std.specs.declared.cmp.Ordering.TheVariants.{Less}
 use Rattle.semantics.specs.Groups.{Key, key_order}
-use Rattle.semantics.specs.Records.{Holds}
+use Rattle.semantics.specs.Records.{Holds, max_line_len}
 use Rattle.semantics.specs.Values.{Datum, null, value_order}
 use Rattle.semantics.specs.declared.kind.Kind.{Kind}
 use Rattle.group_states.specs.States.{EntryForm, FunctionState, rows, counted, summed, extreme, collected}
+use Rattle.part_text.specs.Texts.{is_storable, value_text}
 use Rattle.part_groups.specs.declared.shape.StateKind.{StateKind}
 use Rattle.part_groups.specs.declared.shape.StateKind.TheVariants as kind
 use Rattle.part_groups.specs.Groups.{ShapeForm, groups_values}
-use Rattle.part_groups.specs.Reading.{Stream, groups_at, reading_of}
+use Rattle.part_groups.specs.Reading.{Before, Stream, after, behind, groups_at, reading_of}
 
 -- The sum of so many numbers of 64 bits.
 abbrev pub IsSumOf : ℕ → ℤ → Type 0
@@ -64,6 +65,8 @@ pub record IsGroupFor (shape : ShapeForm) (last : Option Key) (left : ℕ) (g : 
   pub members : g.members ≤ left
   pub states : AreStatesFor g.members shape.states g.states
 
+-- ---- what was written
+
 -- Lines are read as these values, one of each, those that are read at all.
 abbrev pub AreReadAs : List (List ℕ) → List Datum → Type 0
 AreReadAs ls ds = AllZip (λ line d. IfSome (reading_of line) (λ e. e ≡ d)) ls ds
@@ -75,3 +78,23 @@ AreReadAgain shape gs =
     (last : Option Key) (left : ℕ) (s : Stream) (ls rest : List (List ℕ)) → AreReadAs ls (groups_values gs)
     → s.left ≡ ls ++ rest
     → IfOk (groups_at shape (length gs) last left s) (λ read. (read.0 ≡ gs) × (read.1.left ≡ rest))
+
+-- Lines have these values, one of each.
+abbrev pub HaveValues : List (List ℕ) → List Datum → Type 0
+HaveValues ls ds = AllZip (λ line d. reading_of line ≡ Some d) ls ds
+
+-- A value that a program can hold, and whose text is not longer than a line of an input may be.
+abbrev pub IsWritable : Datum → Type 0
+IsWritable d = IsTrue (is_storable d) × (length (value_text d) ≤ max_line_len)
+
+-- Groups of this shape, each behind the one before, and of no more members together than are left.
+abbrev pub AreGroupsFor : ShapeForm → Before → List EntryForm → Type 0
+AreGroupsFor shape before [] = ⊤
+AreGroupsFor shape before (g ∷ gs) = IsGroupFor shape before.last before.left g × AreGroupsFor shape (after before g) gs
+
+-- Where the next lines have the values of these groups, these are read, and the lines behind them are
+-- left.
+abbrev pub AreRead : ShapeForm → Before → List EntryForm → Type 0
+AreRead shape before gs =
+    (s : Stream) (ls rest : List (List ℕ)) → HaveValues ls (groups_values gs) → s.left ≡ ls ++ rest
+    → groups_at shape (length gs) before.last before.left s ≡ Ok (gs, behind (groups_values gs) rest s)

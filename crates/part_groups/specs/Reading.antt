@@ -60,6 +60,10 @@ first_line (line ∷ more) place = Ok (line, record { left = more; place = place
 abbrev pub line_at : Stream → Result (List ℕ × Stream) GroupFault
 line_at s = first_line s.left s.place
 
+-- The stream behind the lines of these values, where these lines are left.
+abbrev pub behind : List Datum → List (List ℕ) → Stream → Stream
+behind ds rest s = record { left = rest; place = s.place + length ds }
+
 -- ---- values
 
 -- The value of a line, if it has one and is not longer than a line of an input may be.

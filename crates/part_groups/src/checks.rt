@@ -1,5 +1,5 @@
 //! What is checked of values where they come.
-ghost use Rattle.std.specs.Prelude.{◌≡◌, ◌≢◌, IsTrue, OnOk, not};
+ghost use Rattle.std.specs.Prelude.{◌≡◌, ◌≢◌, IsOk, IsTrue, OnOk, not};
 ghost use Rattle.semantics.specs.Groups.{key_order};
 ghost use Rattle.semantics.specs.Records.{Holds};
 ghost use Rattle.semantics.specs.Values.{is_null, null, value_order};
@@ -24,14 +24,15 @@ pub(crate) fn fault<S: Source>(source: &S, kind: GroupFaultKind) -> GroupFault
 
 /// Nothing where a test is passed, and else a fault of this kind at the line that was read last.
 ///
-/// Example: where the second line was read last, `check(&source, 3 <= 2, GroupFaultKind::OutOfRange)` answers the fault `OutOfRange`
-/// at the line 2.
+/// Example: where the second line was read last, `check(&source, 3 <= 2, GroupFaultKind::OutOfRange)` answers the fault
+/// `OutOfRange` at the line 2.
 ///
 /// # Errors
 ///
 /// The fault, where the test is not passed.
 pub fn check<S: Source>(source: &S, test: bool, kind: GroupFaultKind) -> Result<(), GroupRefusal>
     ensures test { OnOk result (IsTrue test) }
+    ensures ok { IsTrue test → IsOk result }
     ensures read { S.known source.now
         → Gives (λ _. tt) result (passed test kind (S.stream source.now)) }
 {

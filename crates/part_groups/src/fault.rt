@@ -24,7 +24,8 @@ pub enum GroupFaultKind {
 
 /// The first fault of some lines, from the front.
 ///
-/// Example: of the lines `"Harbour"`, `-2` and `7`, read as a key of one text and two counts, it is `UnexpectedValue` at the line 2.
+/// Example: of the lines `"Harbour"`, `-2` and `7`, read as a key of one text and two counts, it is `UnexpectedValue` at
+/// the line 2.
 #[derive(Clone, Copy, Debug, PartialEq, Eq)]
 pub struct GroupFault {
     /// The number of the line, from 1. Where the lines end too early it is the number that the next one would have.

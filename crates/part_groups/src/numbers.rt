@@ -45,7 +45,8 @@ pub(crate) fn next_number<S: Source>(source: &mut S) -> Result<i128, GroupRefusa
 
 /// The next value, which is a count of 64 bits.
 ///
-/// Example: of the lines `2` and `-1` the first call answers 2, and the second one that the value is unexpected, at the line 2.
+/// Example: of the lines `2` and `-1` the first call answers 2, and the second one that the value is unexpected, at the
+/// line 2.
 ///
 /// # Errors
 ///

@@ -49,11 +49,10 @@ fn next_key<S: Source>(
     ensures known { S.known source.old → OnOk result (S.known source.new) }
     ensures read { S.known source.old
         → Gives (λ key. (data_of key.items, S.stream source.new)) result
-        (next_key_at columns.now (last_key last.entry)
-        (S.stream source.old)) }
+        (next_key_at columns.now (last_key last.entry) (S.stream source.old)) }
     ensures held { IfOk result (λ key. IsKeyFor columns.now (data_of key.items)) }
-    ensures above { IfOk result (λ key. IsAbove key_order
-        (last_key last.entry) (data_of key.items)) }
+    ensures above { IfOk result
+        (λ key. IsAbove key_order (last_key last.entry) (data_of key.items)) }
 {
     let key = next_values(alloc, source, columns)?;
     let above = is_key_above(last, key.as_slice());
@@ -63,12 +62,14 @@ fn next_key<S: Source>(
 
 /// The next group, of this shape, its key above the last one, where there is one, and of no more members than are left.
 ///
-/// Example: of the lines `"Harbour"`, `2`, `7` and `2` it is, for one column of texts and one sum, the group of `Harbour` with 2
-/// members and `State::Sum(7, 2)`. Behind the key `Quay` its key is out of order, and where 1 member is left `2` is out of range.
+/// Example: of the lines `"Harbour"`, `2`, `7` and `2` it is, for one column of texts and one sum, the group of `Harbour`
+/// with 2 members and `State::Sum(7, 2)`. Behind the key `Quay` its key is out of order, and where 1 member is left `2`
+/// is out of range.
 ///
 /// # Errors
 ///
-/// The first fault of the lines, a read that failed, or want of memory. A fault that is met at a value names that value's line.
+/// The first fault of the lines, a read that failed, or want of memory. A fault that is met at a value names that value's
+/// line.
 #[tactic(auto, unfolding(crate::specs::Reading::group_at))]
 pub fn next_group<S: Source>(
     alloc: Global,
@@ -79,8 +80,7 @@ pub fn next_group<S: Source>(
 ) -> Result<GroupEntry, GroupRefusal>
     ensures known { S.known source.old → OnOk result (S.known source.new) }
     ensures read { S.known source.old → Gives (λ group. (entry_of group, S.stream source.new))
-        result (group_at (shape_of shape.now) (last_key last.entry) left
-        (S.stream source.old)) }
+        result (group_at (shape_of shape.now) (last_key last.entry) left (S.stream source.old)) }
     ensures fits { IfOk result
         (λ group. IsGroupFor (shape_of shape.now) (last_key last.entry) left (entry_of group)) }
 {

@@ -21,8 +21,8 @@ pub enum StateKind {
 
 /// What a query asks of the groups of a part.
 ///
-/// Example: of `SELECT shop, SUM(cents) AS s FROM lines GROUP BY shop`, `shop` being a column of texts, there is one column, of the
-/// type `Text`, and one state, of the kind `Sum`.
+/// Example: of `SELECT shop, SUM(cents) AS s FROM lines GROUP BY shop`, `shop` being a column of texts, there is one
+/// column, of the type `Text`, and one state, of the kind `Sum`.
 #[derive(Drop)]
 pub struct GroupShape {
     /// The type of each grouping column, in the order of the values of a key.

@@ -8,7 +8,8 @@ use values::Value;
 
 /// The values of a part, one after the other.
 ///
-/// Example: of the lines `"Harbour"` and `2` the first call of `next` answers the text `Harbour`, after which `line` answers 1.
+/// Example: of the lines `"Harbour"` and `2` the first call of `next` answers the text `Harbour`, after which `line`
+/// answers 1.
 pub trait Source {
     /// The lines are known. Where they are not, nothing is said of what is read.
     ghost known: { Self → Type 0 };

@@ -38,8 +38,7 @@ fn next_different<S: Source>(
 ) -> Result<Value, GroupRefusal>
     ensures known { S.known source.old → OnOk result (S.known source.new) }
     ensures read { S.known source.old → Gives (λ value. (datum_of value, S.stream source.new))
-        result (different_at kind (last_value last.entry)
-        (S.stream source.old)) }
+        result (different_at kind (last_value last.entry) (S.stream source.old)) }
     ensures value { IfOk result
         (λ value. IsDifferentOf kind (last_value last.entry) (datum_of value)) }
 {

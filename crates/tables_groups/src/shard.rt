@@ -7,7 +7,7 @@ ghost use Rattle.std.specs.Map.{keys_of};
 ghost use Rattle.tables_groups.specs.Inside.Keys.{key_eq};
 
 use crate::accumulators::Accumulators;
-use crate::packed_key::PackedKey;
+use crate::packed_key::{FixedState, PackedKey};
 use crate::part::Part;
 use query_resolve::FilteredFunction;
 use std::alloc::{AllocError, Global};
@@ -19,7 +19,7 @@ const MOST: usize = 576_460_752_303_423_488;
 /// Some groups of a table, each by its key.
 #[derive(Drop)]
 pub(crate) struct Shard {
-    pub(crate) groups: HashMap<PackedKey, Accumulators>,
+    pub(crate) groups: HashMap<PackedKey, Accumulators, FixedState>,
     ghost few: { hash_map_len groups ≤ 2 ^ 59 },
     ghost distinct: { IsDistinct key_eq (keys_of groups.entries) } by { Prim.hlevel props },
 }
@@ -37,7 +37,7 @@ impl Shard {
         ensures { entries_in result ≡ [] }
     {
         Shard {
-            groups: HashMap::new(alloc),
+            groups: HashMap::with_hasher(alloc, FixedState),
         }
     }
 

@@ -259,8 +259,8 @@ impl Table {
     /// The table of the same records under another set, made of the groups of this one, which stays as it is. So it may
     /// be made of a table that was rolled before.
     ///
-    /// The groups of this one have fewer than 2^63 records together, whatever these are, and what is kept for these
-    /// functions; and each column of `set` is one of `finer`, the set of this table, in whatever order.
+    /// The groups of this one have fewer than 2^63 records together, whichever these are, and are kept for these functions;
+    /// each column of `set` is one of `finer`, the set of this table, in whatever order.
     ///
     /// Example: a table with 2 members of the key `('Quay', 'sale')` and 1 of `('Quay', 'refund')` gives, rolled to its
     /// first column, one with 3 members of `'Quay'`.

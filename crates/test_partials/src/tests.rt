@@ -1,5 +1,6 @@
 //! A module for each subject.
 
+mod contents;
 mod following;
 mod joining;
 mod partials;

@@ -77,13 +77,6 @@ pub record TakesOne (set : List ℕ) (functions : List FilteredFunction) (table 
   pub is_table : IsTableUnder set functions filters table rows
   pub few : length rows + 1 < 2 ^ 63
 
--- the table of some list of fewer than 2^63 records, whatever the filters keep
-pub record IsOfFew (set : List ℕ) (functions : List FilteredFunction) (table : Contents) : Type 0 where
-  pub filters : List (Row → Bool)
-  pub rows : List Row
-  pub is_table : IsTableUnder set functions filters table rows
-  pub few : length rows < 2 ^ 63
-
 -- what a table keeps of some keys, put together
 abbrev pub group_of_keys : List AggregateFunction → Contents → List Key → GroupState
 group_of_keys functions table [] = group_state functions []

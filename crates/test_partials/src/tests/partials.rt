@@ -605,7 +605,7 @@ fn first_folded(alloc: Global, plan: &Plan) -> Result<Partial, AllocError>
 }
 
 /// Two pieces of the four lines merged.
-fn two_merged(rt: &impl Abort, alloc: Global, plan: &Plan) -> Result<Partial, AllocError>
+pub fn two_merged(rt: &impl Abort, alloc: Global, plan: &Plan) -> Result<Partial, AllocError>
     ensures { IfOk result (IsPartialOf plan.now.fields plan.now.query) }
 {
     let second = Partial::fold_piece(alloc, plan, 1, &FOUR[FIRST_LEN..])?;

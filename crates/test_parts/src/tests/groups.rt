@@ -1,14 +1,12 @@
 //! Groups and their lines.
 
-ghost use Rattle.std.specs.Prelude.{map};
-ghost use Rattle.part_groups.specs.declared.fault.PartFault.TheVariants as fault;
-
+use super::lines::Lines;
 use super::scalars::{Scalar, check_scalars, push_line};
+use group_states::{GroupEntry, State};
 use part_groups::{
-    Group, PartFault, PartRefusal, Source, State, StateKind, next_group, next_groups, push_group,
-    push_groups,
+    GroupFaultKind, GroupRefusal, GroupShape, StateKind, next_group, push_group, push_groups,
 };
-use part_text::{Scratch, ValueFault, read_value};
+use semantics::Kind;
 use std::alloc::{AllocError, Global};
 use std::process::Abort;
 use values::Value;
@@ -19,52 +17,26 @@ const SHOPS: &[&[u8]] = &[b"\"Harbour\"", b"2", b"7", b"2", b"null", b"1", b"1",
 /// The group of no column, with `COUNT(*)`, `COUNT(x)`, `SUM(x)`, `MIN(y)` and `COUNT(DISTINCT x)`.
 const WHOLE: &[&[u8]] = &[b"3", b"2", b"-7", b"2", b"\"a\"", b"2", b"-8", b"1"];
 
-const WHOLE_KINDS: &[StateKind] = &[
-    StateKind::Rows,
-    StateKind::Count,
-    StateKind::Sum,
-    StateKind::Extreme,
-    StateKind::Distinct,
-];
-
-/// Lines, read one after the other.
-#[derive(Drop)]
-struct Lines {
-    alloc: Global,
-    scratch: Scratch,
-    lines: &'static [&'static [u8]],
-    place: usize,
+/// The shape of the groups of a shop with a sum.
+fn shop_shape(alloc: Global) -> Result<GroupShape, AllocError> {
+    Ok(GroupShape {
+        columns: vec![in alloc; Kind::Text]?,
+        states: vec![in alloc; StateKind::Sum]?,
+    })
 }
 
-impl Lines {
-    fn new(alloc: Global, lines: &'static [&'static [u8]]) -> Lines {
-        Lines {
-            alloc,
-            scratch: Scratch::new(alloc),
-            lines,
-            place: 0,
-        }
-    }
-}
-
-impl Source for Lines {
-    ghost stream = { λ inside. record {
-      lines = map (λ line. line.now) inside.lines.now;
-      place = inside.place;
-      end = fault.EndsTooEarly;
-    } };
-
-    fn next(&mut self) -> Result<Value, PartRefusal> {
-        let Some(line) = self.lines.get(self.place) else {
-            return Err(PartRefusal::Fault(PartFault::EndsTooEarly));
-        };
-        self.place += 1;
-        match read_value(self.alloc, &mut self.scratch, line) {
-            Ok(value) => Ok(value),
-            Err(ValueFault::NotAValue) => Err(PartRefusal::Fault(PartFault::NotAValue)),
-            Err(ValueFault::OutOfMemory) => Err(PartRefusal::OutOfMemory),
-        }
-    }
+/// The shape of a group of no column with a state of each kind.
+fn whole_shape(alloc: Global) -> Result<GroupShape, AllocError> {
+    Ok(GroupShape {
+        columns: Vec::new(alloc),
+        states: vec![in alloc;
+            StateKind::Rows,
+            StateKind::Count,
+            StateKind::Sum,
+            StateKind::Extreme(Kind::Text),
+            StateKind::Distinct(Kind::Int),
+        ]?,
+    })
 }
 
 fn shop(
@@ -73,24 +45,24 @@ fn shop(
     members: u64,
     sum: i128,
     count: u64,
-) -> Result<Group, AllocError> {
-    Ok(Group {
+) -> Result<GroupEntry, AllocError> {
+    Ok(GroupEntry {
         key: vec![in alloc; name.value(alloc)?]?,
         members,
         states: vec![in alloc; State::Sum(sum, count)]?,
     })
 }
 
-fn shops(alloc: Global) -> Result<Vec<Group>, AllocError> {
+fn shops(alloc: Global) -> Result<Vec<GroupEntry>, AllocError> {
     let harbour = shop(alloc, Scalar::Text("Harbour"), 2, 7, 2)?;
     let none = shop(alloc, Scalar::Null, 1, 1, 1)?;
     Ok(vec![in alloc; harbour, none]?)
 }
 
-fn whole(alloc: Global) -> Result<Group, AllocError> {
+fn whole(alloc: Global) -> Result<GroupEntry, AllocError> {
     let least = Scalar::Text("a").value(alloc)?;
     let different = vec![in alloc; Value::Int(-8), Value::Int(1)]?;
-    Ok(Group {
+    Ok(GroupEntry {
         key: Vec::new(alloc),
         members: 3,
         states: vec![in alloc;
@@ -121,7 +93,7 @@ fn is_same_state(left: &State, right: &State) -> bool {
     }
 }
 
-fn is_same_group(left: &Group, right: &Group) -> bool {
+fn is_same_group(left: &GroupEntry, right: &GroupEntry) -> bool {
     left.key == right.key
         && left.members == right.members
         && left.states.len() == right.states.len()
@@ -141,69 +113,207 @@ fn text_of(alloc: Global, lines: &[&[u8]]) -> Result<Vec<u8>, AllocError> {
     Ok(text)
 }
 
-/// Lines that are not two groups of a shop with a sum, each with the first fault.
-const FAULTS: &[(&[&[u8]], PartFault)] = &[
-    (&[b"'Harbour'", b"2", b"7", b"2"], PartFault::NotAValue),
-    (&[b"\"Harbour\"", b"2.0", b"7", b"2"], PartFault::NotAValue),
+/// The key of a group, where there is one.
+fn key_of(group: Option<&GroupEntry>) -> Option<&[Value]> {
+    match group {
+        Some(group) => Some(group.key.as_slice()),
+        None => None,
+    }
+}
+
+/// So many groups of this shape, of 3 members at most together.
+fn read_groups(
+    alloc: Global,
+    lines: &'static [&'static [u8]],
+    shape: &GroupShape,
+    count: u64,
+) -> Result<Vec<GroupEntry>, GroupRefusal> {
+    let mut source = Lines::new(alloc, lines);
+    let mut groups = Vec::new(alloc);
+    let mut left = 3;
+    for _ in 0..count {
+        let group = next_group(alloc, &mut source, shape, key_of(groups.last()), left)?;
+        left -= group.members;
+        groups.push(group)?;
+    }
+    Ok(groups)
+}
+
+/// Lines that are not two groups of a shop with a sum, of 3 members at most, each with the first fault and the number of its
+/// line. Numbers of 64 bits are from -9223372036854775808 to 9223372036854775807.
+const SHOP_FAULTS: &[(&[&[u8]], u64, GroupFaultKind)] = &[
+    (&[b"'Harbour'", b"2"], 1, GroupFaultKind::NotAValue),
+    (&[b"\"Harbour\"", b"2.0"], 2, GroupFaultKind::NotAValue),
+    (&[b"7", b"2"], 1, GroupFaultKind::UnexpectedValue),
+    (&[b"\"Harbour\"", b"-2"], 2, GroupFaultKind::UnexpectedValue),
     (
-        &[b"\"Harbour\"", b"-2", b"7", b"2"],
-        PartFault::UnexpectedValue,
-    ),
-    (&[b"\"Harbour\"", b"null", b"7"], PartFault::UnexpectedValue),
-    (
-        &[b"\"Harbour\"", b"2", b"\"7\"", b"2"],
-        PartFault::UnexpectedValue,
+        &[b"\"Harbour\"", b"null"],
+        2,
+        GroupFaultKind::UnexpectedValue,
     ),
     (
         &[b"\"Harbour\"", b"18446744073709551616"],
-        PartFault::UnexpectedValue,
+        2,
+        GroupFaultKind::UnexpectedValue,
     ),
     (
         &[b"\"Harbour\"", b"18446744073709551615"],
-        PartFault::EndsTooEarly,
+        2,
+        GroupFaultKind::OutOfRange,
+    ),
+    (&[b"\"Harbour\"", b"4"], 2, GroupFaultKind::OutOfRange),
+    (
+        &[b"\"Harbour\"", b"2", b"\"7\""],
+        3,
+        GroupFaultKind::UnexpectedValue,
+    ),
+    (
+        &[b"\"Harbour\"", b"2", b"7", b"3"],
+        4,
+        GroupFaultKind::OutOfRange,
+    ),
+    (
+        &[b"\"Harbour\"", b"2", b"1", b"0"],
+        4,
+        GroupFaultKind::OutOfRange,
+    ),
+    (
+        &[b"\"Harbour\"", b"2", b"9223372036854775809", b"1"],
+        4,
+        GroupFaultKind::OutOfRange,
+    ),
+    (
+        &[b"\"Harbour\"", b"2", b"-9223372036854775809", b"1"],
+        4,
+        GroupFaultKind::OutOfRange,
+    ),
+    (
+        &[b"\"Harbour\"", b"2", b"-9223372036854775808", b"1"],
+        5,
+        GroupFaultKind::EndsTooEarly,
+    ),
+    (
+        &[b"\"Harbour\"", b"2", b"7", b"2", b"\"Harbour\""],
+        5,
+        GroupFaultKind::OutOfOrder,
+    ),
+    (
+        &[b"\"Harbour\"", b"2", b"7", b"2", b"\"Dock\""],
+        5,
+        GroupFaultKind::OutOfOrder,
+    ),
+    (
+        &[b"\"Harbour\"", b"2", b"7", b"2", b"\"Quay\"", b"2"],
+        6,
+        GroupFaultKind::OutOfRange,
     ),
 ];
 
-/// Checks that lines are not read as two groups of a shop with a sum, for this fault.
+/// Lines that are not one group of no column with a state of each kind, in the same way.
+const WHOLE_FAULTS: &[(&[&[u8]], u64, GroupFaultKind)] = &[
+    (&[b"3", b"4"], 2, GroupFaultKind::OutOfRange),
+    (
+        &[b"3", b"2", b"-7", b"2", b"5"],
+        5,
+        GroupFaultKind::UnexpectedValue,
+    ),
+    (
+        &[b"3", b"2", b"-7", b"2", b"null", b"4"],
+        6,
+        GroupFaultKind::OutOfRange,
+    ),
+    (
+        &[b"3", b"2", b"-7", b"2", b"null", b"1", b"null"],
+        7,
+        GroupFaultKind::UnexpectedValue,
+    ),
+    (
+        &[b"3", b"2", b"-7", b"2", b"null", b"1", b"\"a\""],
+        7,
+        GroupFaultKind::UnexpectedValue,
+    ),
+    (
+        &[
+            b"3",
+            b"2",
+            b"-7",
+            b"2",
+            b"null",
+            b"1",
+            b"9223372036854775808",
+        ],
+        7,
+        GroupFaultKind::UnexpectedValue,
+    ),
+    (
+        &[b"3", b"2", b"-7", b"2", b"null", b"2", b"1", b"-8"],
+        8,
+        GroupFaultKind::OutOfOrder,
+    ),
+    (
+        &[b"3", b"2", b"-7", b"2", b"null", b"2", b"1", b"1"],
+        8,
+        GroupFaultKind::OutOfOrder,
+    ),
+    (
+        &[b"3", b"2", b"-7", b"2", b"null", b"2", b"1"],
+        8,
+        GroupFaultKind::EndsTooEarly,
+    ),
+];
+
+/// Checks that lines are not read as so many groups of this shape, for this fault at this line.
 fn check_fault(
     rt: &impl Abort,
     alloc: Global,
+    shape: &GroupShape,
+    count: u64,
     lines: &'static [&'static [u8]],
-    fault: PartFault,
-) -> Result<(), PartRefusal> {
-    match next_groups(
-        alloc,
-        &mut Lines::new(alloc, lines),
-        1,
-        &[StateKind::Sum],
-        2,
-    ) {
-        Ok(_) => panic!(rt; "{lines:?}"),
-        Err(PartRefusal::Fault(met)) => assert!(rt; met == fault, "{lines:?}"),
-        Err(PartRefusal::OutOfMemory) => return Err(PartRefusal::OutOfMemory),
+    line: u64,
+    kind: GroupFaultKind,
+) -> Result<(), GroupRefusal> {
+    match read_groups(alloc, lines, shape, count) {
+        Err(GroupRefusal::Fault(fault)) => {
+            assert_eq!(rt; fault.line, line, "{lines:?}");
+            assert_eq!(rt; fault.kind, kind, "{lines:?}");
+        }
+        Err(GroupRefusal::OutOfMemory) => return Err(GroupRefusal::OutOfMemory),
+        Ok(_) | Err(GroupRefusal::Reading) => panic!(rt; "{lines:?}"),
     }
     Ok(())
 }
 
-/// Checks that each front of the lines of two groups ends too early, and the other faults.
-fn check_faults(rt: &impl Abort, alloc: Global) -> Result<(), PartRefusal> {
+/// Checks that each front of the lines of two groups ends too early, and their other faults.
+fn check_shop_faults(rt: &impl Abort, alloc: Global) -> Result<(), GroupRefusal> {
+    let shape = shop_shape(alloc)?;
     for (count, _) in SHOPS.iter().enumerate() {
-        check_fault(rt, alloc, &SHOPS[..count], PartFault::EndsTooEarly)?;
+        let line = count as u64 + 1;
+        let kind = GroupFaultKind::EndsTooEarly;
+        check_fault(rt, alloc, &shape, 2, &SHOPS[..count], line, kind)?;
     }
-    for (lines, fault) in FAULTS {
-        check_fault(rt, alloc, lines, *fault)?;
+    for (lines, line, kind) in SHOP_FAULTS {
+        check_fault(rt, alloc, &shape, 2, lines, *line, *kind)?;
     }
     Ok(())
+}
+
+/// Checks the faults of a group of no column, and that there are no two of them: the key of the second one, which no line
+/// stands for, is not above that of the first one.
+fn check_whole_faults(rt: &impl Abort, alloc: Global) -> Result<(), GroupRefusal> {
+    let shape = whole_shape(alloc)?;
+    for (lines, line, kind) in WHOLE_FAULTS {
+        check_fault(rt, alloc, &shape, 1, lines, *line, *kind)?;
+    }
+    check_fault(rt, alloc, &shape, 2, WHOLE, 8, GroupFaultKind::OutOfOrder)
 }
 
 /// Checks what is written of two groups, and what their lines are read as.
-fn check_shops(rt: &impl Abort, alloc: Global) -> Result<(), PartRefusal> {
+fn check_shops(rt: &impl Abort, alloc: Global) -> Result<(), GroupRefusal> {
     let groups = shops(alloc)?;
     let mut text = Vec::new(alloc);
     push_groups(alloc, &mut text, groups.as_slice())?;
     assert!(rt; text == text_of(alloc, SHOPS)?, "{text:?}");
-    let mut lines = Lines::new(alloc, SHOPS);
-    let read = next_groups(alloc, &mut lines, 1, &[StateKind::Sum], 2)?;
+    let read = read_groups(alloc, SHOPS, &shop_shape(alloc)?, 2)?;
     assert_eq!(rt; read.len(), groups.len());
     for (left, right) in read.iter().zip(&groups) {
         assert!(rt; is_same_group(left, right));
@@ -212,22 +322,23 @@ fn check_shops(rt: &impl Abort, alloc: Global) -> Result<(), PartRefusal> {
 }
 
 /// Checks the same of one group with a state of each kind.
-fn check_whole(rt: &impl Abort, alloc: Global) -> Result<(), PartRefusal> {
+fn check_whole(rt: &impl Abort, alloc: Global) -> Result<(), GroupRefusal> {
     let group = whole(alloc)?;
     let mut text = Vec::new(alloc);
     push_group(alloc, &mut text, &group)?;
     assert!(rt; text == text_of(alloc, WHOLE)?, "{text:?}");
-    let mut lines = Lines::new(alloc, WHOLE);
-    let read = next_group(alloc, &mut lines, 0, WHOLE_KINDS)?;
+    let shape = whole_shape(alloc)?;
+    let read = next_group(alloc, &mut Lines::new(alloc, WHOLE), &shape, None, 3)?;
     assert!(rt; is_same_group(&read, &group));
     Ok(())
 }
 
 /// Checks all of these. It fails for want of memory alone.
-fn check_groups(rt: &impl Abort, alloc: Global) -> Result<(), PartRefusal> {
+fn check_groups(rt: &impl Abort, alloc: Global) -> Result<(), GroupRefusal> {
     check_shops(rt, alloc)?;
     check_whole(rt, alloc)?;
-    check_faults(rt, alloc)
+    check_shop_faults(rt, alloc)?;
+    check_whole_faults(rt, alloc)
 }
 
 /// Where memory is ample, all values and groups are as the tables have them.
@@ -241,7 +352,9 @@ fn worked_examples(rt: HostRuntime) {
 #[test]
 fn refusal_of_groups(rt: HostRuntime) {
     match check_groups(&rt, rt.alloc()) {
-        Ok(()) | Err(PartRefusal::OutOfMemory) => {}
-        Err(PartRefusal::Fault(_)) => panic!(rt; "a good group is refused"),
+        Ok(()) | Err(GroupRefusal::OutOfMemory) => {}
+        Err(GroupRefusal::Fault(_) | GroupRefusal::Reading) => {
+            panic!(rt; "a good group is refused");
+        }
     }
 }

@@ -8,6 +8,11 @@ use Rattle.semantics.specs.Texts.{report_bytes}
 use Rattle.jlreport_engine.proofs.Named.{refused-named}
 use Rattle.jlreport_engine.proofs.running.texts_of.Goals as goal
 
+pub groups-requires-clause-sound : goal.groups-requires-clause-sound
+groups-requires-clause-sound g c =
+    let whole = c.requires.of_input.1 in
+    c.sound_law.ensures c.args.plan.now c.args.partial ∣ (whole.pieces, whole.stands) ∣₁
+
 pub refused_text-requires : goal.refused_text-requires
 refused_text-requires g c =
     let plan = c.args.plan.now in
