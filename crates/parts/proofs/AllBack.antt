@@ -1,5 +1,5 @@
 -- The parts of inputs, one behind the other, if they are read at all, are read as the contents of these inputs.
-use Rattle.std.proofs.Common.{◌≡◌, ◌≢◌, ◌<◌, ◌≤◌, ◌+◌, ℕ, true, false, cond, List, [], ◌∷◌, ◌++◌, length, map, take, inl, inr, None, Result, Ok, Err, refl, sym, ap, subst, ◌∙◌, append_assoc, arith}
+use Rattle.std.proofs.Common.{◌≡◌, ◌≢◌, ◌<◌, ◌≤◌, ◌+◌, ℕ, true, false, cond, List, [], ◌∷◌, ◌++◌, length, map, take, inl, inr, None, Result, Ok, Err, refl, sym, ap, subst, ◌∙◌, append_assoc, arith, zero, suc}
 use Rattle.std.proofs.lemmas.Bool.{cases_lt}
 use Rattle.std.proofs.lemmas.Bool.Decides.{nat_tests}
 use Rattle.std.proofs.lemmas.List.{length-take, map-append, take_all}
@@ -23,11 +23,12 @@ use Rattle.semantics.specs.Syntax.{TreeForm}
 use Rattle.semantics.specs.Values.{Datum}
 use Rattle.tables.specs.Contents.{ContentsForm, contents_over}
 use Rattle.values.specs.Schema.{IsSchema}
-use Rattle.parts.specs.Faults.{PartedFault}
+use Rattle.parts.specs.Faults.{Fault, PartedFault, in_part}
 use Rattle.hex.specs.Hex.{encode_lower}
 use Rattle.sha2.specs.Sha256.{sha256}
 use Rattle.parts.specs.Parts.{checksum, part_text, part_values}
-use Rattle.parts.specs.ReadingParts.{AreParts, ArePartsFrom, at_end, at_fault, at_part, behind_part, part_at}
+use Rattle.parts.specs.ReadingParts.{◌>>=◌, behind_part, part_at, parts_at, parts_from, with_fault}
+use Rattle.parts.proofs.Onward.{at_end, no-lines, one, part-below}
 use Rattle.parts.proofs.Back.{IsRead, part-again}
 use Rattle.parts.proofs.FaultNames.{names-alone}
 use Rattle.parts.proofs.Joined.{text-push}
@@ -93,29 +94,33 @@ module _ (fields : List Field) (q : TreeForm) where
     some-lines : (input : List ℕ) (inputs : List (List ℕ)) → cut (flat_map text (input ∷ inputs)) ≢ []
     some-lines input inputs e = let wrong : map (take clipped_len) (map value_text (all-values input)) ++ cut (flat_map text inputs) ≡ [] = sym (first-part input inputs) ∙ e in absurd cc
 
-    one-more : (before : ℕ) (s : Stream) (input : List ℕ) (inputs : List (List ℕ)) (c : ContentsForm) (next : Stream) → part_at fields q before s ≡ Ok (c, next) → s.left ≡ cut (flat_map text (input ∷ inputs))
-        → IsRead (over input) (cut (flat_map text inputs)) (c, next)
-    one-more before s input inputs c next is stands = subst (λ r. IfOk r (IsRead (over input) (cut (flat_map text inputs)))) is (one-back before s input inputs stands)
-
     first-and-others : (c : ContentsForm) (others : Result (List ContentsForm) PartedFault) (input : List ℕ) (inputs : List (List ℕ)) → c ≡ over input → IfOk others (λ cs. cs ≡ map over inputs)
         → IfOk (behind_part c others) (λ cs. cs ≡ map over (input ∷ inputs))
     first-and-others c (Ok cs) input inputs is more = λ i. is i ∷ more i
     first-and-others c (Err fault) input inputs is more = tt
 
-    parts-back : (inputs : List (List ℕ)) (part before : ℕ) (s : Stream) (answer : Result (List ContentsForm) PartedFault) → ArePartsFrom fields q part before s answer → s.left ≡ cut (flat_map text inputs) → IfOk answer (λ cs. cs ≡ map over inputs)
-    parts-back [] part before s answer (at_end _ _ _ none) stands = refl
-    parts-back [] part before s answer (at_fault _ _ _ fault some is) stands = tt
-    parts-back [] part before s answer (at_part _ _ _ c next others some is more) stands = absurd (some stands)
-    parts-back (input ∷ inputs) part before s answer (at_end _ _ _ none) stands = absurd (some-lines input inputs (sym stands ∙ none))
-    parts-back (input ∷ inputs) part before s answer (at_fault _ _ _ fault some is) stands = tt
-    parts-back (input ∷ inputs) part before s answer (at_part _ _ _ c next others some is more) stands =
-        let read = one-more before s input inputs c next is stands in
-        first-and-others c others input inputs read.0 (parts-back inputs (part + 1) (before + c.lines) next others more read.1)
+    -- so many parts at most, which are all of them
+    abbrev AreBack : (inputs : List (List ℕ)) (most : ℕ) → Type 0
+    AreBack inputs most = (part before : ℕ) (s : Stream) → length s.left ≤ most → s.left ≡ cut (flat_map text inputs) → IfOk (parts_from fields q most part before s) (λ cs. cs ≡ map over inputs)
 
-    all-lines : (inputs : List (List ℕ)) (ls : List (List ℕ)) (answer : Result (List ContentsForm) PartedFault) → ls ≡ cut (flat_map text inputs) → AreParts fields q ls answer → IfOk answer (λ cs. cs ≡ map over inputs)
-    all-lines inputs [] answer is read = subst (λ a. IfOk a (λ cs. cs ≡ map over inputs)) (sym read) tt
-    all-lines inputs (line ∷ more) answer is read = parts-back inputs 1 0 (record { left = line ∷ more; place = 0 }) answer read is
+    others-back : (input : List ℕ) (inputs : List (List ℕ)) (most part before count : ℕ) → AreBack inputs most → count ≤ suc most → (read : Result (ContentsForm × Stream) Fault) → IfOk read (λ r. length r.1.left + 1 ≤ count)
+        → IfOk read (IsRead (over input) (cut (flat_map text inputs)))
+        → IfOk (with_fault (in_part part) read >>= λ x. behind_part x.0 (parts_from fields q most (part + 1) (before + x.0.lines) x.1)) (λ cs. cs ≡ map over (input ∷ inputs))
+    others-back input inputs most part before count more l (Ok x) fewer is =
+        first-and-others x.0 (parts_from fields q most (part + 1) (before + x.0.lines) x.1) input inputs is.0 (more (part + 1) (before + x.0.lines) x.1 (omega (arith, fewer, l)) is.1)
+    others-back input inputs most part before count more l (Err fault) fewer is = tt
 
-    pub all-back : (inputs : List (List ℕ)) (answer : Result (List ContentsForm) PartedFault) → AreParts fields q (lines (clip_lines (flat_map (part_text fields q) inputs))) answer
-        → IfOk answer (λ cs. cs ≡ map (contents_over fields q) inputs)
-    all-back inputs answer read = all-lines inputs (lines (clip_lines (flat_map text inputs))) answer (lines-clip (flat_map text inputs)) read
+    parts-back : (inputs : List (List ℕ)) (most : ℕ) → AreBack inputs most
+    parts-back [] most part before s l stands = rw (at_end fields q part before s stands most l) refl
+    parts-back (input ∷ inputs) zero part before s l stands = absurd (some-lines input inputs (sym stands ∙ no-lines s.left l))
+    parts-back (input ∷ inputs) (suc most) part before s l stands =
+        rw (one fields q most part before s.left s.place (λ none. some-lines input inputs (sym stands ∙ none)))
+        (others-back input inputs most part before (length s.left) (parts-back inputs most) l (part_at fields q before s) (part-below fields q before s) (one-back before s input inputs stands))
+
+    all-lines : (inputs : List (List ℕ)) (ls : List (List ℕ)) → ls ≡ cut (flat_map text inputs) → IfOk (parts_at fields q ls) (λ cs. cs ≡ map over inputs)
+    all-lines inputs [] is = tt
+    all-lines inputs (line ∷ more) is = parts-back inputs (length (line ∷ more)) 1 0 (record { left = line ∷ more; place = 0 }) (omega arith) is
+
+    -- where parts are read at all, they are read as the contents of their inputs
+    pub all-back : (inputs : List (List ℕ)) → IfOk (parts_at fields q (lines (clip_lines (flat_map (part_text fields q) inputs)))) (λ cs. cs ≡ map (contents_over fields q) inputs)
+    all-back inputs = all-lines inputs (lines (clip_lines (flat_map text inputs))) (lines-clip (flat_map text inputs))

@@ -1,5 +1,5 @@
 -- What reading all parts answers.
-use Rattle.std.proofs.Common.{◌≡◌, ◌≢◌, ◌+◌, ℕ, List, [], ◌∷◌, Option, Some, None, Result, Ok, Err, refl, ap, subst, ◌∙◌, arith}
+use Rattle.std.proofs.Common.{◌≡◌, ◌≢◌, ◌+◌, ℕ, List, [], ◌∷◌, length, map, Option, Some, None, Result, Ok, Err, refl, sym, ap, subst, ◌∙◌, arith}
 use Rattle.std.specs.Prelude.{IfOk, IfSome, flat_map, is_some, option_map, unwrap_or}
 use Rattle.lines.specs.Clip.{clip_lines}
 use Rattle.part_groups.specs.Reading.{Stream}
@@ -7,7 +7,7 @@ use Rattle.query_plan.specs.Planned.{PlannedQuery}
 use Rattle.semantics.specs.Columns.{Field}
 use Rattle.semantics.specs.Lines.{lines}
 use Rattle.semantics.specs.Syntax.{TreeForm}
-use Rattle.tables.specs.Contents.{ContentsForm}
+use Rattle.tables.specs.Contents.{ContentsForm, contents_over}
 use Rattle.tables.specs.Partials.{StandsForInput}
 use Rattle.tables.specs.Sound.{IsSoundUnder}
 use Rattle.tables.specs.States.{PartialState}
@@ -16,17 +16,18 @@ use Rattle.parts.specs.declared.fault.PartsRefusal.{PartsRefusal}
 use Rattle.parts.specs.declared.fault.PartsRefusal.TheVariants as refusal
 use Rattle.parts.specs.Faults.{PartedFault, RefusesParts, in_part, parted_of}
 use Rattle.parts.specs.Gathering.{IsOfOnePiece, contents_in}
-use Rattle.parts.specs.Joining.{AnswersParts, JoinsBehind}
+use Rattle.parts.specs.Joining.{AnswersParts, ArePartsFrom, JoinsBehind}
 use Rattle.parts.specs.Parts.{concatenated, part_text}
 use Rattle.parts.specs.Reader.{IsKnown, ReaderState, stream_of}
-use Rattle.parts.specs.ReadingParts.{AreParts, ArePartsFrom, at_fault, at_part, behind_part, part_at, with_fault}
+use Rattle.parts.specs.ReadingParts.{behind_part, part_at, parts_at, with_fault}
 use Rattle.parts.proofs.AllBack.{all-back}
 use Rattle.parts.proofs.Joins.{ContentsLaw, first-stands, read-Err, read-Ok}
+use Rattle.parts.proofs.Onward.{at_fault, at_part}
 
 -- the parts of lines, of which there are some
-are-parts : (fields : List Field) (q : TreeForm) (ls : List (List ℕ)) (answer : Result (List ContentsForm) PartedFault) → ls ≢ [] → ArePartsFrom fields q 1 0 (record { left = ls; place = 0 }) answer → AreParts fields q ls answer
+are-parts : (fields : List Field) (q : TreeForm) (ls : List (List ℕ)) (answer : Result (List ContentsForm) PartedFault) → ls ≢ [] → ArePartsFrom fields q 1 0 (record { left = ls; place = 0 }) answer → parts_at fields q ls ≡ answer
 are-parts fields q [] answer some read = absurd (some refl)
-are-parts fields q (line ∷ more) answer some read = read
+are-parts fields q (line ∷ more) answer some read = read (length (line ∷ more)) (omega arith)
 
 module _ (plan : PlannedQuery) (ls : List (List ℕ)) (some : ls ≢ []) where
   abbrev start : Stream
@@ -38,15 +39,15 @@ module _ (plan : PlannedQuery) (ls : List (List ℕ)) (some : ls ≢ []) where
   fault-first refusal.OutOfMemory h = tt
   fault-first (refusal.Fault f) h =
       let w = read-Err (in_part 1) (part_at plan.fields plan.query 0 start) (parted_of f) h in
-      subst (λ (g : PartedFault). AreParts plan.fields plan.query ls (Err g)) w.seen (are-parts plan.fields plan.query ls (Err (in_part 1 w.fault)) some (at_fault 1 0 start w.fault some w.is))
+      subst (λ (g : PartedFault). parts_at plan.fields plan.query ls ≡ Err g) w.seen (are-parts plan.fields plan.query ls (Err (in_part 1 w.fault)) some (at_fault plan.fields plan.query 1 0 start w.fault some w.is))
 
   -- the first part was read, and those behind it
   behind-first : (first : PartialState) (next : Stream) (others answer : Result (List ContentsForm) PartedFault) → with_fault (in_part 1) (part_at plan.fields plan.query 0 start) ≡ Ok (contents_in first, next)
-      → ArePartsFrom plan.fields plan.query 2 first.lines next others → AreParts plan.fields plan.query ls (behind_part (contents_in first) others)
+      → ArePartsFrom plan.fields plan.query 2 first.lines next others → parts_at plan.fields plan.query ls ≡ behind_part (contents_in first) others
   behind-first first next others answer is read =
       let lines : first.lines ≡ 0 + first.lines = omega arith in
       are-parts plan.fields plan.query ls (behind_part (contents_in first) others) some
-      (at_part 1 0 start (contents_in first) next others some (read-Ok (in_part 1) (part_at plan.fields plan.query 0 start) (contents_in first, next) is) (subst (λ n. ArePartsFrom plan.fields plan.query 2 n next others) lines read))
+      (at_part plan.fields plan.query 1 0 start (contents_in first) next others some (read-Ok (in_part 1) (part_at plan.fields plan.query 0 start) (contents_in first, next) is) (subst (λ n. ArePartsFrom plan.fields plan.query 2 n next others) lines read))
 
   all-read : ContentsLaw → (first : PartialState) (next : Stream) (r : Result PartialState PartsRefusal) → IsSoundUnder plan first → IsOfOnePiece first → with_fault (in_part 1) (part_at plan.fields plan.query 0 start) ≡ Ok (contents_in first, next)
       → JoinsBehind plan first 2 next r → AnswersParts plan ls r
@@ -66,7 +67,7 @@ written-stands : (plan : PlannedQuery) (bytes : List ℕ) (r : Result PartialSta
 written-stands plan bytes (Err e) schema answers inputs is = tt
 written-stands plan bytes (Ok partial) schema answers inputs is =
     answers.stands inputs
-    (all-back plan.fields plan.query schema inputs (Ok answers.contents) (subst (λ (bs : List ℕ). AreParts plan.fields plan.query (lines (clip_lines bs)) (Ok answers.contents)) is answers.read))
+    (subst (λ r. IfOk r (λ cs. cs ≡ map (contents_over plan.fields plan.query) inputs)) (sym (ap (λ (bs : List ℕ). parts_at plan.fields plan.query (lines (clip_lines bs))) is) ∙ answers.read) (all-back plan.fields plan.query schema inputs))
 
 -- ---- of a reader whose bytes are known
 

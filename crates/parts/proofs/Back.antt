@@ -41,7 +41,7 @@ of-part {A} one ds a h s ls rest reads stands = kept (one s) (h s ls rest reads 
     kept (Ok x) k = k
     kept (Err fault) k = tt
 
-then-known : {A B : Type 0} (read : Result A Fault) (f : A → Result B Fault) (P : A → Type 0) (Q : B → Type 0) → IfOk read P → ((a : A) → P a → IfOk (f a) Q) → IfOk (read >>= f) Q
+pub then-known : {A B : Type 0} (read : Result A Fault) (f : A → Result B Fault) (P : A → Type 0) (Q : B → Type 0) → IfOk read P → ((a : A) → P a → IfOk (f a) Q) → IfOk (read >>= f) Q
 then-known (Ok a) f P Q h k = k a h
 then-known (Err fault) f P Q h k = tt
 
@@ -102,7 +102,7 @@ said-again wanted t kind =
     same (Some t) s = tt
 
 -- a fault seen in another way is one
-seen : {A E F : Type 0} (view : E → F) (read : Result A E) (P : A → Type 0) → IfOk read P → IfOk (with_fault view read) P
+pub seen : {A E F : Type 0} (view : E → F) (read : Result A E) (P : A → Type 0) → IfOk read P → IfOk (with_fault view read) P
 seen view (Ok a) P h = h
 seen view (Err fault) P h = tt
 

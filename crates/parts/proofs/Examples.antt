@@ -11,8 +11,10 @@ use Rattle.semantics.specs.declared.aggregate.Aggregate.TheVariants as aggregate
 use Rattle.semantics.specs.declared.comparison.Op.TheVariants.{Gt}
 use Rattle.semantics.specs.declared.kind.Kind.TheVariants as kind
 use Rattle.semantics.specs.declared.literal.Literal.TheVariants as constant
+use Rattle.hex.specs.Hex.{encode_with}
 use Rattle.part_text.specs.Texts.{text_of}
-use Rattle.parts.specs.Parts.{closed, columns_text, concatenated, part_values}
+use Rattle.sha2.specs.Sha256.{sha256, digest_bytes, hash_after, compress, rounds, schedule, first_words}
+use Rattle.parts.specs.Parts.{closed, columns_text, concatenated, part_text, part_values}
 
 -- shop:text,cents:int
 abbrev fields : List Field
@@ -59,9 +61,9 @@ by_shop = rollup ((codes "shop" ∷ []) ∷ []) ∷ []
 four : List ℕ
 four = codes "{\"shop\":\"Harbour\",\"cents\":5}\nnot JSON\n{\"shop\":\"Harbour\",\"cents\":2}\n{\"cents\":1}\n"
 
--- the text of their part but for its last line, of which the test `worked_example` of `test_parts` says that it is the SHA-256 that other programs compute
-four_text : text_of (part_values fields (query sum by_shop) four) ≡ codes "\"jlreport part 1\"\n\"shop:text,cents:int\"\n\"SELECT shop, SUM(cents) AS s FROM lines GROUP BY ROLLUP (shop)\"\n4\n1\n2\n\"not JSON\"\n2\n\"Harbour\"\n2\n7\n2\nnull\n1\n1\n1\n"
-unfolding serde_json_on_literals json_on_literals is_utf8 chars digits reserved_word four
+-- the text of their part; its last line is the SHA-256 that other programs compute
+four_text : part_text fields (query sum by_shop) four ≡ codes "\"jlreport part 1\"\n\"shop:text,cents:int\"\n\"SELECT shop, SUM(cents) AS s FROM lines GROUP BY ROLLUP (shop)\"\n4\n1\n2\n\"not JSON\"\n2\n\"Harbour\"\n2\n7\n2\nnull\n1\n1\n1\n\"d6c42a35f77c6ec05dcafd798ea7477daf5fa4a8203bcdc3801bef5c84155bee\"\n"
+unfolding serde_json_on_literals json_on_literals is_utf8 chars digits reserved_word four encode_with sha256 digest_bytes hash_after compress rounds schedule first_words
 four_text = refl
 
 -- ---- other inputs

@@ -13,11 +13,12 @@ use Rattle.parts.specs.declared.fault.PartsRefusal.{PartsRefusal}
 use Rattle.parts.specs.declared.fault.PartsRefusal.TheVariants as refusal
 use Rattle.parts.specs.Faults.{PartedFault, RefusesParts, in_part, parted_of}
 use Rattle.parts.specs.Gathering.{IsOfOnePiece, contents_in}
-use Rattle.parts.specs.Joining.{JoinsBehind, StandsForAll}
+use Rattle.parts.specs.Joining.{ArePartsFrom, JoinsBehind, StandsForAll}
 use Rattle.parts.specs.Parts.{closed, concatenated}
 use Rattle.parts.specs.Reader.{IsKnown, ReaderState, stream_of}
-use Rattle.parts.specs.ReadingParts.{◌>>=◌, ArePartsFrom, at_end, at_fault, at_part, behind_part, part_at, with_fault}
+use Rattle.parts.specs.ReadingParts.{◌>>=◌, behind_part, part_at, with_fault}
 use Rattle.parts.proofs.Closing.{closed-contents, concatenated-whole}
+use Rattle.parts.proofs.Onward.{at_end, at_fault, at_part}
 
 -- ---- what a result stands for
 
@@ -129,7 +130,7 @@ module _ (plan : PlannedQuery) (start : ReaderState) (first : PartialState) (rea
   -- where no line is left, these are all
   pub no-more : IsKnown start → (stream_of reader).left ≡ [] → JoinsBehind plan first 2 (stream_of start) (Ok whole)
   no-more known none =
-      let all = (j.read known).1 (Ok []) (at_end part whole.lines (stream_of reader) none) in
+      let all = (j.read known).1 (Ok []) (at_end plan.fields plan.query part whole.lines (stream_of reader) none) in
       (j.more, subst (From 2 first.lines (stream_of start)) (ap Ok (append-nil j.more)) all, j.stands)
 
   -- where a line is left that begins no good part, there is a fault
@@ -139,7 +140,7 @@ module _ (plan : PlannedQuery) (start : ReaderState) (first : PartialState) (rea
   a-fault s refusal.OutOfMemory same some known h = tt
   a-fault s (refusal.Fault f) same some known h =
       let w = read-Err (in_part part) (part_at plan.fields plan.query whole.lines s) (parted_of f) h in
-      let here = subst (λ (t : Stream). From part whole.lines t (Err (in_part part w.fault))) (sym same) (at_fault part whole.lines s w.fault some w.is) in
+      let here = subst (λ (t : Stream). From part whole.lines t (Err (in_part part w.fault))) (sym same) (at_fault plan.fields plan.query part whole.lines s w.fault some w.is) in
       subst (λ (g : PartedFault). From 2 first.lines (stream_of start) (Err g)) w.seen ((j.read known).1 (Err (in_part part w.fault)) here)
 
   -- where a part was read, there is one more
@@ -159,7 +160,7 @@ module _ (plan : PlannedQuery) (start : ReaderState) (first : PartialState) (rea
           λ answer others.
               let is = read-Ok (in_part part) (part_at plan.fields plan.query whole.lines s) (contents_in rest, stream_of after) (read here) in
               let behind = subst (λ (n : ℕ). From (part + 1) n (stream_of after) answer) lines others in
-              let all = at_part part whole.lines s (contents_in rest) (stream_of after) answer (some here) is behind in
+              let all = at_part plan.fields plan.query part whole.lines s (contents_in rest) (stream_of after) answer (some here) is behind in
               subst (From 2 first.lines (stream_of start)) (behind-one j.more (contents_in rest) answer) ((j.read known).1 (behind_part (contents_in rest) answer) (subst (λ (t : Stream). From part whole.lines t (behind_part (contents_in rest) answer)) (sym (same here)) all)),
         );
   }

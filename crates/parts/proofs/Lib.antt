@@ -4,13 +4,16 @@ mod Answering
 mod Back
 mod Closing
 mod FaultNames
+mod Forward
 mod Fronts
 mod Holding
 mod Joins
 mod Names
 mod OfGroups
+mod Onward
 mod Parted
 mod Places
+mod ReadExamples
 mod Refusing
 mod Shaped
 mod Taking

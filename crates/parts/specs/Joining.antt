@@ -1,15 +1,17 @@
 -- What the result of all parts is.
-use Rattle.std.specs.Prelude.{◌≡◌, ◌++◌, ⊤, ℕ, List, map, Result, Ok, Err}
+use Rattle.std.specs.Prelude.{◌≡◌, ◌≤◌, ◌++◌, ⊤, ℕ, List, length, map, Result, Ok, Err}
 use Rattle.part_groups.specs.Reading.{Stream}
 use Rattle.query_plan.specs.Planned.{PlannedQuery}
+use Rattle.semantics.specs.Columns.{Field}
+use Rattle.semantics.specs.Syntax.{TreeForm}
 use Rattle.tables.specs.Contents.{ContentsForm, contents_over}
 use Rattle.tables.specs.Partials.{StandsForInput}
 use Rattle.tables.specs.States.{PartialState}
 use Rattle.parts.specs.declared.fault.PartsRefusal.{PartsRefusal}
 use Rattle.parts.specs.declared.fault.PartsRefusal.TheVariants as refusal
-use Rattle.parts.specs.Faults.{parted_of}
+use Rattle.parts.specs.Faults.{PartedFault, parted_of}
 use Rattle.parts.specs.Parts.{concatenated}
-use Rattle.parts.specs.ReadingParts.{AreParts, ArePartsFrom}
+use Rattle.parts.specs.ReadingParts.{parts_at, parts_from}
 
 -- A result is that of these contents, one behind the other: whatever inputs they are the contents of, it
 -- stands for these, one behind the other.
@@ -21,8 +23,13 @@ StandsForAll plan all partial =
 -- A result is that of all parts that lines are read as.
 pub record IsJoin (plan : PlannedQuery) (ls : List (List ℕ)) (partial : PartialState) : Type 0 where
   pub contents : List ContentsForm
-  pub read : AreParts plan.fields plan.query ls (Ok contents)
+  pub read : parts_at plan.fields plan.query ls ≡ Ok contents
   pub stands : StandsForAll plan contents partial
+
+-- What the parts are read as that are numbered from `part` on and stand behind parts of so many lines, if
+-- there may be as many of them as there are lines.
+abbrev pub ArePartsFrom : List Field → TreeForm → (part before : ℕ) → Stream → Result (List ContentsForm) PartedFault → Type 0
+ArePartsFrom fields q part before s answer = (most : ℕ) → length s.left ≤ most → parts_from fields q most part before s ≡ answer
 
 -- Behind parts whose result is this one, a call joins those that are numbered from `part` on: it answers
 -- the result of all, or the first fault of these.
@@ -38,6 +45,6 @@ JoinsBehind plan first part s (Err refusal.OutOfMemory) = ⊤
 -- read failed, or without memory, nothing is known of them.
 abbrev pub AnswersParts : PlannedQuery → List (List ℕ) → Result PartialState PartsRefusal → Type 0
 AnswersParts plan ls (Ok partial) = IsJoin plan ls partial
-AnswersParts plan ls (Err (refusal.Fault fault)) = AreParts plan.fields plan.query ls (Err (parted_of fault))
+AnswersParts plan ls (Err (refusal.Fault fault)) = parts_at plan.fields plan.query ls ≡ Err (parted_of fault)
 AnswersParts plan ls (Err refusal.Reading) = ⊤
 AnswersParts plan ls (Err refusal.OutOfMemory) = ⊤

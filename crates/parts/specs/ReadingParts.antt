@@ -1,5 +1,5 @@
 -- Reading parts from the front, line by line, as far as the first fault.
-use Rattle.std.specs.Prelude.{◌≡◌, ◌≢◌, ◌==◌, ◌-◌, ◌^◌, ◌+◌, ◌&&◌, not, ℕ, zero, suc, nat_eq, nat_lt, Bool, true, List, [], ◌∷◌, codes, length, map, position, option_and_then, option_map, unwrap_or, drop, Option, Some, None, Result, Ok, Err, if◌then◌else◌}
+use Rattle.std.specs.Prelude.{◌==◌, ◌-◌, ◌^◌, ◌+◌, ◌&&◌, not, ℕ, zero, suc, nat_eq, nat_lt, Bool, true, List, [], ◌∷◌, codes, length, map, position, option_and_then, option_map, unwrap_or, drop, Option, Some, None, Result, Ok, Err, if◌then◌else◌}
 use Rattle.std.specs.Char.{is_ascii_digit}
 use Rattle.std.specs.List.{list_all, starts_with}
 use Rattle.std.specs.Str.{bytes_eq}
@@ -258,16 +258,21 @@ part_at fields q before s = do
 abbrev pub behind_part : ContentsForm → Result (List ContentsForm) PartedFault → Result (List ContentsForm) PartedFault
 behind_part contents others = others >>= λ more. Ok (contents ∷ more)
 
--- What parts are read as, that are numbered from `part` on and stand behind parts of so many lines: none
--- where there is no line; where there is one, the contents of the first part and of those behind it, or
--- the first fault.
-pub data ArePartsFrom (fields : List Field) (q : TreeForm) : (part before : ℕ) → Stream → Result (List ContentsForm) PartedFault → Type 0 where
-  at_end : (part before : ℕ) (s : Stream) → s.left ≡ [] → ArePartsFrom fields q part before s (Ok [])
-  at_fault : (part before : ℕ) (s : Stream) (fault : Fault) → s.left ≢ [] → part_at fields q before s ≡ Err fault → ArePartsFrom fields q part before s (Err (in_part part fault))
-  at_part : (part before : ℕ) (s : Stream) (contents : ContentsForm) (next : Stream) (others : Result (List ContentsForm) PartedFault) → s.left ≢ [] → part_at fields q before s ≡ Ok (contents, next)
-      → ArePartsFrom fields q (part + 1) (before + contents.lines) next others → ArePartsFrom fields q part before s (behind_part contents others)
+-- No part where no line is left, and else what is read.
+abbrev pub where_lines : List (List ℕ) → Result (List ContentsForm) PartedFault → Result (List ContentsForm) PartedFault
+where_lines [] read = Ok []
+where_lines (line ∷ more) read = read
 
--- What these lines are read as. There is one part at least.
-abbrev pub AreParts : List Field → TreeForm → List (List ℕ) → Result (List ContentsForm) PartedFault → Type 0
-AreParts fields q [] answer = answer ≡ Err (record { part = 1; line = 1; kind = no_part })
-AreParts fields q (line ∷ more) answer = ArePartsFrom fields q 1 0 (record { left = line ∷ more; place = 0 }) answer
+-- Parts up to the last line, but so many at most, that are numbered from `part` on and stand behind
+-- parts of so many lines.
+unfoldable pub parts_from : List Field → TreeForm → (most part before : ℕ) → Stream → Result (List ContentsForm) PartedFault
+parts_from fields q zero part before s = Ok []
+parts_from fields q (suc most) part before s = where_lines s.left (do
+  x ← with_fault (in_part part) (part_at fields q before s)
+  behind_part x.0 (parts_from fields q most (part + 1) (before + x.0.lines) x.1))
+
+-- The parts that these lines are, of which there is one at least. A part has more than one line, so that
+-- there are no more parts than lines.
+abbrev pub parts_at : List Field → TreeForm → List (List ℕ) → Result (List ContentsForm) PartedFault
+parts_at fields q [] = Err (record { part = 1; line = 1; kind = no_part })
+parts_at fields q (line ∷ more) = parts_from fields q (length (line ∷ more)) 1 0 (record { left = line ∷ more; place = 0 })
